@@ -1,1 +1,4 @@
+pub mod Lists
+pub mod Real
 pub mod Draw
+pub mod Numbers
