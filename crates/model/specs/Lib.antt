@@ -2,3 +2,17 @@ pub mod Lists
 pub mod Real
 pub mod Draw
 pub mod Numbers
+pub mod Plan
+pub mod Row
+pub mod Front
+pub mod Reference
+pub mod Association
+pub mod Kept
+pub mod Papers
+pub mod Demand3
+pub mod Setting
+pub mod Session
+pub mod PoolFile
+pub mod Refusal
+pub mod Property
+pub mod Calls

@@ -70,3 +70,79 @@ pub enum Distribution {
 pub struct DimensionInfo {
     pub distribution: Distribution,
 }
+
+// Whether a session still learns its dimensions from the first plan's calls.
+pub enum Phase {
+    Discovery,
+    Active,
+}
+
+// What a session was opened with and what follows from it: it never changes.
+// Of directions the first n_obj count: 0 minimise, 1 maximise.
+pub struct Config {
+    pub n_obj: usize,
+    pub directions: [u8; 8],
+    pub divisions: usize,
+    pub population_size: usize,
+    pub crossover_prob: f64,
+    pub crossover_eta: f64,
+    pub mutation_eta: f64,
+}
+
+// How far a session is: its dimensions, the candidates and the plans of the present generation, and the generation's number.
+pub struct Progress {
+    pub n_dims: usize,
+    pub n_candidates: usize,
+    pub n_plans: usize,
+    pub generation: u64,
+}
+
+// A session's state that goes by value. Beside it the caller lends the candidates, the plan numbers and the next dimensions.
+pub struct Session {
+    pub config: Config,
+    pub phase: Phase,
+    pub discovery_trial_id: OptionU64,
+    pub rng: Rng,
+    pub dimensions: [DimensionInfo; 32],
+    pub ideal_point: [f64; 8],
+    pub progress: Progress,
+}
+
+// What a selection or a generation step answers: how many plans its kept list has, or why it was turned down.
+pub enum Outcome {
+    Kept(usize),
+    Refused(u8),
+}
+
+pub struct Selection {
+    pub outcome: Outcome,
+    pub rng: Rng,
+}
+
+// What opening answers. The session of a refused opening is a blank one.
+pub enum Opening {
+    Ready,
+    Refused(u8),
+}
+
+pub struct Opened {
+    pub outcome: Opening,
+    pub session: Session,
+}
+
+// What a session call answers.
+pub enum Sampling {
+    Setting(ParamValue),
+    Refused(u8),
+}
+
+pub struct Sampled {
+    pub outcome: Sampling,
+    pub session: Session,
+}
+
+// What `choose` answers: the length of the text that it wrote, or why it was turned down.
+pub enum Chosen {
+    Written(usize),
+    Refused(u8),
+}

@@ -1,0 +1,118 @@
+-- Document 01, "Association": the ideal, the intercepts, the normalised rows, the distances and the nearest lines of a pool.
+use Prim.Native.Nat.{ℕ, zero, suc}
+use mathlib.Core.Bool.{Bool, true, cond}
+use mathlib.Core.List.{List, []}
+use lib.Ieee.{Float, nan, inf, binary64, lt, ofBits}
+use lib.ListN.{length, getD}
+use Rattle.model.specs.Real.{_⊖_, _⊗_, _⊘_, unit, infinity, sumTo}
+use Rattle.model.specs.Numbers.{sqrtOf, square}
+use Rattle.model.specs.Plan.{Plan}
+use Rattle.model.specs.Row.{rowOf, beats}
+use Rattle.model.specs.Reference.{dasDennis, pointCount}
+
+-- what a selection is given
+pub record Request : Type 0 where
+  -- the directions' marks, one an objective
+  pub marks : List ℕ
+  -- H
+  pub divisions : ℕ
+  -- how many plans are wanted
+  pub size : ℕ
+  -- the pool: how many plans it has, and each of them
+  pub count : ℕ
+  pub plans : ℕ → Plan
+  -- the ideal that it starts from, an entry an objective
+  pub ideal : List Float
+  -- where the generator stands
+  pub state : ℕ
+
+abbrev pub objectives : Request → ℕ
+objectives r = length (r .marks)
+
+abbrev pub lineCount : Request → ℕ
+lineCount r = pointCount (objectives r) (r .divisions)
+
+-- plan p's value at objective j, in minimise-space
+abbrev pub valueOf : Request → ℕ → ℕ → Float
+valueOf r p j = rowOf (r .marks) (r .plans p) j
+
+-- plan p dominates plan q under the constraint rule
+abbrev pub dominance : Request → ℕ → ℕ → Bool
+dominance r = beats (r .marks) (r .plans)
+
+-- ---- the scale
+
+-- the smaller of b and the least of f 0 .. f (n - 1); b stands where they are equal, and else the first met
+unfoldable pub leastFrom : Float → (ℕ → Float) → ℕ → Float
+leastFrom b f zero = b
+leastFrom b f (suc n) = let l = leastFrom b f n in cond (lt (f n) l) (f n) l
+
+-- the greatest of f 0 .. f (n - 1)
+unfoldable pub greatest : (ℕ → Float) → ℕ → Float
+greatest f zero = inf true
+greatest f (suc n) = let g = greatest f n in cond (lt g (f n)) (f n) g
+
+-- "the ideal becomes, per objective, the smaller of itself and the pool's least"
+unfoldable pub idealOf : Request → ℕ → Float
+idealOf r j = leastFrom (getD (r .ideal) j nan) (λ p. valueOf r p j) (r .count)
+
+-- 1e-10 and 1e-30
+abbrev pub smallSpan : Float
+smallSpan = ofBits binary64 0x3ddb_7cdf_d9d7_bdbb
+
+abbrev pub smallNorm : Float
+smallNorm = ofBits binary64 0x39b4_484b_feeb_c2a0
+
+-- "intercept = greatest - ideal if above 1e-10, else 1.0"
+abbrev pub interceptFrom : Float → Float
+interceptFrom span = cond (lt smallSpan span) span unit
+
+unfoldable pub interceptOf : Request → ℕ → Float
+interceptOf r j = interceptFrom (greatest (λ p. valueOf r p j) (r .count) ⊖ idealOf r j)
+
+-- "the row becomes (value - ideal) / intercept"
+unfoldable pub normalised : Request → ℕ → ℕ → Float
+normalised r p j = (valueOf r p j ⊖ idealOf r j) ⊘ interceptOf r j
+
+-- ---- the lines
+
+-- coordinate j of line l
+unfoldable pub coordinate : Request → ℕ → ℕ → Float
+coordinate r l j = getD (getD (dasDennis (objectives r) (r .divisions)) l []) j nan
+
+-- p·r over m coordinates
+abbrev pub dot : ℕ → (ℕ → Float) → (ℕ → Float) → Float
+dot m p r = sumTo (λ j. p j ⊗ r j) m
+
+-- "p minus (p·r / r·r) times r, squares summed": the sum of squares, for a projection t
+abbrev pub offSquares : ℕ → (ℕ → Float) → (ℕ → Float) → Float → Float
+offSquares m p r t = sumTo (λ j. square (p j ⊖ (t ⊗ r j))) m
+
+-- ".. root taken; r·r below 1e-30 gives infinity"
+unfoldable pub distance : ℕ → (ℕ → Float) → (ℕ → Float) → Float
+distance m p r = cond (lt (dot m r r) smallNorm) infinity (sqrtOf (offSquares m p r (dot m p r ⊘ dot m r r)))
+
+-- plan p's distance from line l
+unfoldable pub distanceTo : Request → ℕ → ℕ → Float
+distanceTo r p l = distance (objectives r) (normalised r p) (coordinate r l)
+
+-- ---- the nearest line
+
+pub record Near : Type 0 where
+  pub line : ℕ
+  pub distance : Float
+
+abbrev pub near : ℕ → Float → Near
+near l d = record { line = l; distance = d }
+
+-- "First strictly smaller distance wins, from line 0", among the first n lines
+unfoldable pub nearestOf : (ℕ → Float) → ℕ → Near
+nearestOf d zero = near 0 infinity
+nearestOf d (suc n) = let b = nearestOf d n in let here = d n in cond (lt here (b .distance)) (near n here) b
+
+-- the line that plan p is associated with, and its distance from it
+unfoldable pub association : Request → ℕ → Near
+association r p = nearestOf (distanceTo r p) (lineCount r)
+
+abbrev pub lineOf : Request → ℕ → ℕ
+lineOf r p = association r p .line

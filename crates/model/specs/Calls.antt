@@ -1,0 +1,221 @@
+-- The public calls: what each answers, and what every lent slice holds at exit, refusals too.
+-- "the answer is the number alone, with nothing written and no word drawn": a refusal leaves state, generator and slices as they were found.
+use Prim.Native.Nat.{ℕ, _≤_}
+use mathlib.Core.Path.{_≡_}
+use mathlib.Core.Bool.{Bool, true}
+use mathlib.Core.List.{List}
+use mathlib.Core.Option.{Option, none, some}
+use lib.Ieee.{Float}
+use lib.ListN.{length, getD, take}
+use Rattle.model.specs.declared.DimensionInfo.{DimensionInfo}
+use Rattle.model.specs.declared.Distribution.{Distribution}
+use Rattle.model.specs.declared.OptionUsize.{OptionUsize}
+use Rattle.model.specs.declared.Rng.{Rng}
+use Rattle.model.specs.declared.Outcome.{Outcome}
+use Rattle.model.specs.declared.Outcome.the-variants as outcome
+use Rattle.model.specs.declared.Selection.{Selection}
+use Rattle.model.specs.declared.Session.{Session}
+use Rattle.model.specs.declared.Opening.the-variants as opening
+use Rattle.model.specs.declared.Opened.{Opened}
+use Rattle.model.specs.declared.Sampling.{Sampling}
+use Rattle.model.specs.declared.Sampling.the-variants as sampling
+use Rattle.model.specs.declared.Chosen.{Chosen}
+use Rattle.model.specs.declared.Chosen.the-variants as chosen
+use Rattle.model.specs.Lists.{over}
+use Rattle.model.specs.Plan.{planAt, planCount}
+use Rattle.model.specs.Association.{Request}
+use Rattle.model.specs.Kept.{Selected, selected}
+use Rattle.model.specs.Demand3.{Demand3}
+use Rattle.model.specs.Setting.{Operators, Generation, generation, wordsOf}
+use Rattle.model.specs.Session.{State, Answered, noDimension, given, opened, blank, accepted, state, breeds, requestOf, operatorsOf}
+use Rattle.model.specs.PoolFile.{PoolFile, parse, fileRequest, fileText, refusedText}
+use Rattle.model.specs.Refusal.{Room, selectRefusal, stepRefusal, openRefusal, sampleRefusal, chooseRefusal}
+use Rattle.model.specs.Property.{SessionOk}
+
+-- ---- the answers' cases: the number of a refusal, or none
+
+abbrev pub refusedBy : Outcome → Option ℕ
+refusedBy (outcome.Kept n) = none
+refusedBy (outcome.Refused n) = some n
+
+abbrev pub samplingRefusedBy : Sampling → Option ℕ
+samplingRefusedBy (sampling.Setting v) = none
+samplingRefusedBy (sampling.Refused n) = some n
+
+abbrev pub chosenRefusedBy : Chosen → Option ℕ
+chosenRefusedBy (chosen.Written n) = none
+chosenRefusedBy (chosen.Refused n) = some n
+
+-- the list that an answer hands out of a lent slice
+abbrev pub handedOut : Outcome → List ℕ → List ℕ
+handedOut (outcome.Kept n) kept = take n kept
+handedOut (outcome.Refused n) kept = take 0 kept
+
+-- ---- `nsga3_select`
+
+-- what the call is given, as a request: the pool is the whole plans of a slice of words
+abbrev pub wordRequest : List ℕ → List ℕ → ℕ → ℕ → Rng → List Float → Request
+wordRequest pool directions divisions size rng ideal = record {
+  marks = directions;
+  divisions = divisions;
+  size = size;
+  count = planCount pool;
+  plans = planAt pool;
+  ideal = ideal;
+  state = rng .s;
+}
+
+-- the lent slices of a selection beside the ideal
+pub record Lent : Type 0 where
+  pub kept : List ℕ
+  pub fronts : List ℕ
+  pub lines : List ℕ
+
+abbrev pub lent : List ℕ → List ℕ → List ℕ → Lent
+lent k f l = record { kept = k; fronts = f; lines = l }
+
+abbrev pub roomOf : Lent → Room
+roomOf at = record { kept = length (at .kept); fronts = length (at .fronts); lines = length (at .lines) }
+
+pub record SelectExit : Type 0 where
+  pub answer : Selection
+  pub ideal : List Float
+  pub slices : Lent
+
+abbrev pub answered : Outcome → ℕ → Selection
+answered o s = record { outcome = o; rng = record { s = s } }
+
+unfoldable pub selectAccepted : Request → Lent → SelectExit
+selectAccepted r at =
+    let sel = selected r in
+    record {
+      answer = answered (outcome.Kept (r .size)) (sel .state);
+      ideal = sel .ideal;
+      slices = lent (over (sel .kept) (at .kept)) (over (sel .fronts) (at .fronts)) (over (sel .lines) (at .lines));
+    }
+
+abbrev pub selectBy : Option ℕ → Request → Lent → SelectExit
+selectBy none r at = selectAccepted r at
+selectBy (some n) r at = record { answer = answered (outcome.Refused n) (r .state); ideal = r .ideal; slices = at }
+
+unfoldable pub selectOf : Request → Lent → SelectExit
+selectOf r at = selectBy (selectRefusal r (roomOf at)) r at
+
+-- THE PROMISE of `nsga3_select`
+pub record Selects (r : Request) (entry : Lent) (exit : SelectExit) : Type 0 where
+  pub whole : exit ≡ selectOf r entry
+  pub demand3 : selectRefusal r (roomOf entry) ≡ none → r .size ≤ r .count → Demand3 r (handedOut (exit .answer .outcome) (exit .slices .kept))
+
+-- ---- `nsga3_generate_offspring`
+
+abbrev pub operators : List DimensionInfo → ℕ → Float → Float → Float → Operators
+operators infos n probability crossoverEta mutationEta = record {
+  dims = λ d. getD infos d noDimension .distribution;
+  dimCount = n;
+  probability = probability;
+  crossoverEta = crossoverEta;
+  mutationEta = mutationEta;
+}
+
+pub record StepExit : Type 0 where
+  pub answer : Selection
+  pub ideal : List Float
+  pub slices : Lent
+  pub offspring : List ℕ
+
+unfoldable pub stepAccepted : Operators → Request → Lent → List ℕ → StepExit
+stepAccepted o r at offspring =
+    let g = generation o r in
+    record {
+      answer = answered (outcome.Kept (length (g .kept))) (g .state);
+      ideal = g .ideal;
+      slices = lent (over (g .kept) (at .kept)) (over (g .fronts) (at .fronts)) (over (g .lines) (at .lines));
+      offspring = over (wordsOf (g .offspring)) offspring;
+    }
+
+abbrev pub stepBy : Option ℕ → Operators → Request → Lent → List ℕ → StepExit
+stepBy none o r at offspring = stepAccepted o r at offspring
+stepBy (some n) o r at offspring =
+    record { answer = answered (outcome.Refused n) (r .state); ideal = r .ideal; slices = at; offspring = offspring }
+
+unfoldable pub stepOf : Operators → Request → Lent → List ℕ → StepExit
+stepOf o r at offspring = stepBy (stepRefusal o r (roomOf at) (length offspring)) o r at offspring
+
+-- THE PROMISE of `nsga3_generate_offspring`; it selects from a pool of two plans on
+pub record Steps (o : Operators) (r : Request) (entry : Lent) (offspring : List ℕ) (exit : StepExit) : Type 0 where
+  pub whole : exit ≡ stepOf o r entry offspring
+  pub demand3 : stepRefusal o r (roomOf entry) (length offspring) ≡ none → 2 ≤ r .count → r .size ≤ r .count
+      → Demand3 r (handedOut (exit .answer .outcome) (exit .slices .kept))
+
+-- ---- `open`
+
+abbrev pub openBy : Option ℕ → Session → Opened
+openBy none s = record { outcome = opening.Ready; session = s }
+openBy (some n) s = record { outcome = opening.Refused n; session = blank }
+
+unfoldable pub openOf : List ℕ → ℕ → OptionUsize → OptionUsize → Float → Float → Float → Opened
+openOf directions seed size divisions probability crossoverEta mutationEta =
+    openBy (openRefusal directions (given size) (given divisions) probability crossoverEta mutationEta)
+    (opened directions seed (given size) (given divisions) probability crossoverEta mutationEta)
+
+-- THE PROMISE of `open`: a session that is opened has the session property, whatever the slices hold that are lent with it
+pub record Opens (directions : List ℕ) (seed : ℕ) (size divisions : OptionUsize) (probability crossoverEta mutationEta : Float) (r : Opened) : Type 0 where
+  pub whole : r ≡ openOf directions seed size divisions probability crossoverEta mutationEta
+  pub gives : openRefusal directions (given size) (given divisions) probability crossoverEta mutationEta ≡ none
+      → (candidates plans nextDims : List ℕ) → SessionOk (state (r .session) candidates plans nextDims)
+
+-- ---- `sample`
+
+pub record SampleExit : Type 0 where
+  pub answer : Sampling
+  pub after : State
+
+abbrev pub sampleBy : Option ℕ → State → Answered → SampleExit
+sampleBy none st a = record { answer = sampling.Setting (a .setting); after = a .after }
+sampleBy (some n) st a = record { answer = sampling.Refused n; after = st }
+
+unfoldable pub sampleOf : State → Distribution → ℕ → List ℕ → SampleExit
+sampleOf st d plan history = sampleBy (sampleRefusal st d plan history) st (accepted st d plan history)
+
+-- THE PROMISE of `sample`, for a state with the session property. Where it breeds, its list is selection's.
+pub record Samples (st : State) (d : Distribution) (plan : ℕ) (history : List ℕ) (exit : SampleExit) : Type 0 where
+  pub whole : exit ≡ sampleOf st d plan history
+  pub keeps : SessionOk (exit .after)
+  pub demand3 : sampleRefusal st d plan history ≡ none → breeds st history ≡ true
+      → Demand3 (requestOf st history) (generation (operatorsOf (st .session)) (requestOf st history) .kept)
+
+-- ---- `choose`
+
+pub record ChooseExit : Type 0 where
+  pub answer : Chosen
+  pub out : List ℕ
+
+-- the text that is printed for a file: the listing, or `refused N`
+abbrev pub textOf : Option PoolFile → List ℕ
+textOf none = refusedText 1
+textOf (some f) = fileText f
+
+abbrev pub chooseBy : Option ℕ → List ℕ → List ℕ → ChooseExit
+chooseBy none text out = record { answer = chosen.Written (length text); out = over text out }
+chooseBy (some n) text out = record { answer = chosen.Refused n; out = out }
+
+unfoldable pub chooseOf : List ℕ → List ℕ → ChooseExit
+chooseOf bytes out = chooseBy (chooseRefusal bytes (length out)) (textOf (parse bytes)) out
+
+-- what the program prints, with room for any text: the listing, or the refusal's number
+abbrev pub printedBy : Option ℕ → List ℕ → List ℕ
+printedBy none text = text
+printedBy (some n) text = refusedText n
+
+-- no listing is longer than a header of 21 bytes and 1,024 lines of 20 bytes
+abbrev pub maxText : ℕ
+maxText = 20501
+
+unfoldable pub printed : List ℕ → List ℕ
+printed bytes = printedBy (chooseRefusal bytes maxText) (textOf (parse bytes))
+
+-- THE PROMISE of `choose`
+pub record Chooses (bytes entry : List ℕ) (exit : ChooseExit) : Type 0 where
+  pub whole : exit ≡ chooseOf bytes entry
+  pub demand3 : chooseRefusal bytes (length entry) ≡ none → (f : PoolFile) → parse bytes ≡ some f → f .size ≤ f .count
+      → Demand3 (fileRequest f) (selected (fileRequest f) .kept)

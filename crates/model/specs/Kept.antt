@@ -1,0 +1,137 @@
+-- Document 01, "Kept list".
+use Prim.Native.Nat.{ℕ, zero, suc, _-_, _^_}
+use mathlib.Core.Bool.{Bool, true, false, cond, not, _&&_}
+use mathlib.Core.List.{List, [], _∷_, _++_, map}
+use lib.Dec.{eqb, leb, ltb}
+use lib.Ieee.{Float, lt}
+use lib.ListN.{length, getD, replicate}
+use Rattle.model.specs.Lists.{listBelow, keepBelow, firstBelow, allIn, has, keep, tally}
+use Rattle.model.specs.Draw.{Drawn, drawn, drawUsize}
+use Rattle.model.specs.Front.{front, listing, frontList}
+use Rattle.model.specs.Association.{Request, objectives, lineCount, dominance, idealOf, association, lineOf}
+
+-- ---- one open place
+-- `line` gives each plan its line and `distance` its distance from that line.
+
+-- "A line's niche count is the number of plans listed so far that are associated with it."
+abbrev pub nicheCount : (ℕ → ℕ) → List ℕ → ℕ → ℕ
+nicheCount line listed l = tally (λ p. eqb (line p) l) listed
+
+-- the members of the split front that wait, in listed order
+abbrev pub waiting : List ℕ → List ℕ → List ℕ
+waiting split picked = keep (λ p. not (has picked p)) split
+
+-- the lines with waiting members, rising, of `lines` lines
+abbrev pub openLines : (ℕ → ℕ) → ℕ → List ℕ → List ℕ
+openLines line lines waits = keepBelow (has (map line waits)) lines
+
+-- those of them with the least niche count
+abbrev pub leastLines : (ℕ → ℕ) → List ℕ → List ℕ
+leastLines counts candidates = keep (λ l. allIn (λ k. leb (counts l) (counts k)) candidates) candidates
+
+-- the entry of a list that one word chooses: "Each takes one word, also where one outcome is possible."
+unfoldable pub drawFrom : List ℕ → ℕ → Drawn ℕ
+drawFrom list s = let d = drawUsize (length list) s in drawn (getD list (d .value) 0) (d .state)
+
+-- the nearest of `best` and the plans after it, the first listed on a tie
+unfoldable pub nearestFrom : (ℕ → Float) → ℕ → List ℕ → ℕ
+nearestFrom distance best [] = best
+nearestFrom distance best (p ∷ ps) = nearestFrom distance (cond (lt (distance p) (distance best)) p best) ps
+
+unfoldable pub nearest : (ℕ → Float) → List ℕ → ℕ
+nearest distance [] = 0
+nearest distance (p ∷ ps) = nearestFrom distance p ps
+
+-- "at count 0 take the nearest member, first listed on a tie, else draw a member in listed order"
+unfoldable pub drawMember : (ℕ → Float) → ℕ → List ℕ → ℕ → Drawn ℕ
+drawMember distance zero members s = drawn (nearest distance members) s
+drawMember distance (suc count) members s = drawFrom members s
+
+-- "among lines with waiting members of the split front take the least niche count, draw one line among those in rising order"
+unfoldable pub pickOne : (ℕ → ℕ) → (ℕ → Float) → ℕ → List ℕ → List ℕ → List ℕ → ℕ → Drawn ℕ
+pickOne line distance lines before split picked s =
+    let counts = nicheCount line (before ++ picked) in
+    let waits = waiting split picked in
+    let l = drawFrom (leastLines counts (openLines line lines waits)) s in
+    drawMember distance (counts (l .value)) (keep (λ p. eqb (line p) (l .value)) waits) (l .state)
+
+-- the plans picked for n open places, one after the other
+unfoldable pub picks : (ℕ → ℕ) → (ℕ → Float) → ℕ → List ℕ → List ℕ → ℕ → ℕ → Drawn (List ℕ)
+picks line distance lines before split zero s = drawn [] s
+picks line distance lines before split (suc n) s =
+    let so-far = picks line distance lines before split n s in
+    let p = pickOne line distance lines before split (so-far .value) (so-far .state) in
+    drawn (so-far .value ++ (p .value ∷ [])) (p .state)
+
+-- ---- the list
+
+-- "Whole fronts joined while they fit.": how many, and their plans
+unfoldable pub wholeFronts : Request → ℕ
+wholeFronts r = firstBelow (λ k. ltb (r .size) (length (listing (dominance r) (r .count) (suc k)))) (r .count)
+
+unfoldable pub before : Request → List ℕ
+before r = listing (dominance r) (r .count) (wholeFronts r)
+
+-- the front after them is split where there is one and they fall short of the size
+unfoldable pub isSplit : Request → Bool
+isSplit r = ltb (wholeFronts r) (r .count) && ltb (length (before r)) (r .size)
+
+unfoldable pub splitFront : Request → List ℕ
+splitFront r = front (dominance r) (r .count) (wholeFronts r)
+
+-- the places that the whole fronts leave open, filled from the split front
+unfoldable pub filled : Request → Drawn (List ℕ)
+filled r =
+    picks (lineOf r) (λ p. association r p .distance) (lineCount r) (before r) (splitFront r) (r .size - length (before r)) (r .state)
+
+-- "A pool smaller than the size is padded with `usize(0..n)`.": k draws
+unfoldable pub padding : ℕ → ℕ → ℕ → Drawn (List ℕ)
+padding n zero s = drawn [] s
+padding n (suc k) s =
+    let so-far = padding n k s in
+    let p = drawUsize n (so-far .state) in
+    drawn (so-far .value ++ (p .value ∷ [])) (p .state)
+
+-- the mark for "no line" in the list of lines: the greatest word
+abbrev pub noLine : ℕ
+noLine = 2 ^ 64 - 1
+
+-- what a selection hands out: the kept list, the front and the line of each plan, the ideal and the generator's state
+pub record Selected : Type 0 where
+  pub kept : List ℕ
+  pub fronts : List ℕ
+  pub lines : List ℕ
+  pub ideal : List Float
+  pub state : ℕ
+
+-- where a front is split, its open places are filled, the ideal moves and every plan has a line
+unfoldable pub selectedSplit : Request → Selected
+selectedSplit r =
+    let f = filled r in
+    record {
+      kept = before r ++ f .value;
+      fronts = frontList (dominance r) (r .count);
+      lines = listBelow (lineOf r) (r .count);
+      ideal = listBelow (idealOf r) (objectives r);
+      state = f .state;
+    }
+
+-- where none is, the whole fronts fill the size, or the pool is smaller and the list is padded
+unfoldable pub selectedWhole : Request → Selected
+selectedWhole r =
+    let p = padding (r .count) (r .size - length (before r)) (r .state) in
+    record {
+      kept = before r ++ p .value;
+      fronts = frontList (dominance r) (r .count);
+      lines = replicate (r .count) noLine;
+      ideal = r .ideal;
+      state = p .state;
+    }
+
+abbrev pub bySplit : Bool → Request → Selected
+bySplit true r = selectedSplit r
+bySplit false r = selectedWhole r
+
+-- THE KEPT LIST, with all that is handed out beside it
+unfoldable pub selected : Request → Selected
+selected r = bySplit (isSplit r) r

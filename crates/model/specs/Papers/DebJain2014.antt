@@ -1,0 +1,45 @@
+-- Deb and Jain 2014, "An Evolutionary Many-Objective Optimization Algorithm Using Reference-Point-Based Nondominated Sorting Approach, Part I":
+-- association with reference lines, and the niching procedure as a relation that leaves its random choices open.
+use Prim.Native.Nat.{ℕ, _≤_, _<_}
+use mathlib.Core.Path.{_≡_}
+use mathlib.Core.Bool.{false}
+use mathlib.Core.List.{List, [], _∷_, _++_}
+use lib.Dec.{eqb}
+use lib.Ieee.{Float, lt}
+use Rattle.model.specs.Lists.{In, tally}
+
+-- Association: a member belongs to the line, of `lines`, from which its distance is least; d p l is the distance of member p from line l.
+pub record Associated (d : ℕ → ℕ → Float) (lines p l : ℕ) : Type 0 where
+  pub inside : l < lines
+  pub least : (j : ℕ) → j < lines → lt (d p j) (d p l) ≡ false
+
+-- ---- niching
+-- `before` are the members accepted from the fronts before, `last` is the front from which the rest is picked, `line` gives each member its line and
+-- `distance` its distance from it.
+module _ (before last : List ℕ) (line : ℕ → ℕ) (distance : ℕ → Float) (lines : ℕ) where
+  -- a line's niche count, with the members picked so far
+  abbrev pub niche : List ℕ → ℕ → ℕ
+  niche picked l = tally (λ p. eqb (line p) l) (before ++ picked)
+
+  -- p is a member of the last front that is associated with line j and not yet picked
+  pub record Candidate (picked : List ℕ) (j p : ℕ) : Type 0 where
+    pub member : In p last
+    pub unpicked : In p picked → ⊥
+    pub onLine : line p ≡ j
+
+  -- line j is still considered, and has the least niche count of the lines that are
+  pub record Least (excluded picked : List ℕ) (j : ℕ) : Type 0 where
+    pub inside : j < lines
+    pub considered : In j excluded → ⊥
+    pub least : (i : ℕ) → i < lines → (In i excluded → ⊥) → niche picked j ≤ niche picked i
+
+  -- The states that the procedure can reach: the lines that it no longer considers, and the members picked, in order. A line of least niche count is
+  -- chosen at random. If it has no candidate, it is not considered further. If its niche count is 0, its nearest candidate is picked, else any.
+  pub data Reached : List ℕ → List ℕ → Type 0 where
+    start : Reached [] []
+    exclude : {excluded picked : List ℕ} {j : ℕ} → Reached excluded picked → Least excluded picked j
+        → ((p : ℕ) → Candidate picked j p → ⊥) → Reached (j ∷ excluded) picked
+    pickNearest : {excluded picked : List ℕ} {j p : ℕ} → Reached excluded picked → Least excluded picked j → niche picked j ≡ 0
+        → Candidate picked j p → ((q : ℕ) → Candidate picked j q → lt (distance q) (distance p) ≡ false) → Reached excluded (picked ++ (p ∷ []))
+    pickAny : {excluded picked : List ℕ} {j p : ℕ} → Reached excluded picked → Least excluded picked j → 1 ≤ niche picked j
+        → Candidate picked j p → Reached excluded (picked ++ (p ∷ []))

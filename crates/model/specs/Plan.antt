@@ -1,0 +1,57 @@
+-- A plan (a trial) and a setting of it, and how both lie in a lent slice of words (document 01, "From heap and trait to lent slices").
+use Prim.Native.Nat.{ℕ, _+_, _*_, _/_, min}
+use mathlib.Core.List.{List}
+use lib.Ieee.{Float}
+use lib.ListN.{length, getD}
+use Rattle.model.specs.Lists.{listBelow}
+use Rattle.model.specs.Real.{real}
+
+-- A setting as a plan carries it: its parameter's number, its kind (0 Float, 1 Int, 2 Categorical) and its value, coded as `ofWord` of `Setting` says.
+pub record Setting : Type 0 where
+  pub param : ℕ
+  pub kind : ℕ
+  pub value : ℕ
+
+-- The three counts are what the plan claims, and the lists what it has room for: they agree in every plan that is accepted.
+pub record Plan : Type 0 where
+  pub number : ℕ
+  pub rowLength : ℕ
+  pub row : List Float
+  pub constraintCount : ℕ
+  pub constraints : List Float
+  pub settingCount : ℕ
+  pub settings : List Setting
+
+-- what a plan has room for: 8 values, 16 constraints, 32 settings
+abbrev pub maxValues : ℕ
+maxValues = 8
+
+abbrev pub maxConstraints : ℕ
+maxConstraints = 16
+
+abbrev pub maxSettings : ℕ
+maxSettings = 32
+
+-- A plan is 124 words: its number, its row length, 8 values, its constraint count, 16 constraints, its setting count, and 32 settings of three words.
+-- What stands past a count is not looked at.
+abbrev pub planWords : ℕ
+planWords = 124
+
+-- the plan whose word j is `word j`
+unfoldable pub planOf : (ℕ → ℕ) → Plan
+planOf word = record {
+  number = word 0;
+  rowLength = word 1;
+  row = listBelow (λ j. real (word (2 + j))) (min (word 1) maxValues);
+  constraintCount = word 10;
+  constraints = listBelow (λ j. real (word (11 + j))) (min (word 10) maxConstraints);
+  settingCount = word 27;
+  settings = listBelow (λ j. record { param = word (28 + 3 * j); kind = word (29 + 3 * j); value = word (30 + 3 * j) }) (min (word 27) maxSettings);
+}
+
+-- plan i of a slice, and how many plans a slice holds: those that are there whole
+abbrev pub planAt : List ℕ → ℕ → Plan
+planAt words i = planOf (λ j. getD words (i * planWords + j) 0)
+
+abbrev pub planCount : List ℕ → ℕ
+planCount words = length words / planWords

@@ -1,0 +1,178 @@
+-- Document 01, "Pool file": the form of the file that `choose` reads, and the text that it prints.
+use Prim.Native.Nat.{ℕ, zero, suc, _+_, _*_, _/_, _%_, _^_}
+use Prim.Native.Char.{code}
+use Prim.Native.String.{String, len, charAt}
+use mathlib.Core.Bool.{Bool, true, false, cond, _&&_, _||_}
+use mathlib.Core.List.{List, [], _∷_, _++_, map}
+use mathlib.Core.Option.{Option, none, some}
+use lib.Dec.{eqb, leb, ltb}
+use lib.ListN.{length, getD, replicate}
+use Rattle.model.specs.Lists.{firstBelow, listBelow, joinBelow}
+use Rattle.model.specs.Real.{real, infinity}
+use Rattle.model.specs.Plan.{Plan}
+use Rattle.model.specs.Association.{Request}
+use Rattle.model.specs.Kept.{Selected, selected, noLine}
+
+-- ---- reading
+
+-- A reader takes the bytes that are left, and gives what it read with the bytes after it, or nothing where they break the form or end early.
+pub record Parsed (A : Type 0) : Type 0 where
+  pub value : A
+  pub rest : List ℕ
+
+abbrev pub Reader : Type 0 → Type 0
+Reader A = List ℕ → Option (Parsed A)
+
+module _ {A : Type 0} where
+  abbrev pub pure : A → Reader A
+  pure a bytes = some (record { value = a; rest = bytes })
+
+-- one reader after the other; the second may use what the first read
+module _ {A B : Type 0} where
+  abbrev pub onward : Option (Parsed A) → (A → Reader B) → Option (Parsed B)
+  onward none f = none
+  onward (some p) f = f (p .value) (p .rest)
+
+  abbrev pub _>>=_ : Reader A → (A → Reader B) → Reader B
+  _>>=_ r f = λ bytes. onward (r bytes) f
+
+-- "Unsigned numbers in groups of seven bits, lowest first, top bit set on all but the last byte, shortest form, each below 2^64": the groups so far have k bits
+-- and form n. The shortest form has no last group of nothing but zeros, unless it is the only one.
+unfoldable pub numberFrom : ℕ → ℕ → Reader ℕ
+numberFrom k n [] = none
+numberFrom k n (b ∷ bytes) =
+    let v = n + b % 128 * 2 ^ k in
+    let more = numberFrom (k + 7) v bytes in
+    cond (leb 128 b) more (cond (ltb v (2 ^ 64) && (leb 1 b || eqb k 0)) (some (record { value = v; rest = bytes })) none)
+
+abbrev pub number : Reader ℕ
+number = numberFrom 0 0
+
+-- the form as it is written: the groups of n, for an n of at most 7 × `groups` bits; 10 groups hold every word
+unfoldable pub groupsOf : ℕ → ℕ → List ℕ
+groupsOf zero n = []
+groupsOf (suc groups) n = let more = (n % 128 + 128) ∷ groupsOf groups (n / 128) in cond (ltb n 128) (n ∷ []) more
+
+abbrev pub written : ℕ → List ℕ
+written n = groupsOf 10 n
+
+-- so many of the same, one after the other
+module _ {A : Type 0} where
+  unfoldable pub many : ℕ → Reader A → Reader (List A)
+  many zero r = pure []
+  many (suc n) r = do
+    a ← r
+    l ← many n r
+    pure (a ∷ l)
+
+-- "m, H, size, plan count, seed, m directions (0 minimise, 1 maximise); per plan m values, constraint count, constraints, a real as the number its 64 IEEE
+-- bits form"
+pub record PoolFile : Type 0 where
+  pub objectives : ℕ
+  pub divisions : ℕ
+  pub size : ℕ
+  pub count : ℕ
+  pub seed : ℕ
+  pub marks : List ℕ
+  pub plans : List Plan
+
+unfoldable pub plan : ℕ → Reader Plan
+plan m = do
+  values ← many m number
+  c ← number
+  constraints ← many c number
+  pure (record {
+    number = 0;
+    rowLength = m;
+    row = map real values;
+    constraintCount = c;
+    constraints = map real constraints;
+    settingCount = 0;
+    settings = [];
+  })
+
+unfoldable pub poolFile : Reader PoolFile
+poolFile = do
+  m ← number
+  h ← number
+  size ← number
+  count ← number
+  seed ← number
+  marks ← many m number
+  plans ← many count (plan m)
+  pure (record { objectives = m; divisions = h; size = size; count = count; seed = seed; marks = marks; plans = plans })
+
+-- refusal 1: "A pool file breaks its form, ends early, runs on or is too long."
+abbrev pub maxFile : ℕ
+maxFile = 65536
+
+-- a file with bytes after its last plan runs on
+abbrev pub ifNoneLeft : List ℕ → PoolFile → Option PoolFile
+ifNoneLeft [] f = some f
+ifNoneLeft (b ∷ bytes) f = none
+
+abbrev pub wholly : Option (Parsed PoolFile) → Option PoolFile
+wholly none = none
+wholly (some p) = ifNoneLeft (p .rest) (p .value)
+
+unfoldable pub parse : List ℕ → Option PoolFile
+parse bytes = cond (leb (length bytes) maxFile) (wholly (poolFile bytes)) none
+
+-- ---- the selection that a pool file asks for
+
+abbrev pub noPlan : Plan
+noPlan = record { number = 0; rowLength = 0; row = []; constraintCount = 0; constraints = []; settingCount = 0; settings = [] }
+
+-- "The ideal starts at infinity."
+abbrev pub fileRequest : PoolFile → Request
+fileRequest f = record {
+  marks = f .marks;
+  divisions = f .divisions;
+  size = f .size;
+  count = f .count;
+  plans = λ p. getD (f .plans) p noPlan;
+  ideal = replicate (f .objectives) infinity;
+  state = f .seed;
+}
+
+-- ---- printing
+
+-- the bytes of a text in ASCII
+unfoldable pub ascii : String → List ℕ
+ascii s = listBelow (λ i. code (charAt s i)) (len s)
+
+-- a number in decimal, of at most so many digits; 20 digits hold every word
+unfoldable pub digitsOf : ℕ → ℕ → List ℕ
+digitsOf zero n = []
+digitsOf (suc digits) n = let more = digitsOf digits (n / 10) ++ ((48 + n % 10) ∷ []) in cond (ltb n 10) ((48 + n) ∷ []) more
+
+abbrev pub decimal : ℕ → List ℕ
+decimal n = digitsOf 20 n
+
+-- "line (`-` if no front was split)"
+unfoldable pub lineText : ℕ → List ℕ
+lineText l = cond (eqb l noLine) (ascii "-") (decimal l)
+
+-- "place of first keeping from 1 (0 if dropped)"
+unfoldable pub placeOf : List ℕ → ℕ → ℕ
+placeOf kept p = let i = firstBelow (λ i. eqb (getD kept i 0) p) (length kept) in cond (ltb i (length kept)) (suc i) 0
+
+-- "a header with the plan count and the kept list's length, then per plan its index, front, line, place"; each line ends in one newline
+unfoldable pub headerText : ℕ → ℕ → List ℕ
+headerText count kept = ascii "plans " ++ (decimal count ++ (ascii " kept " ++ (decimal kept ++ ascii "\n")))
+
+unfoldable pub planText : Selected → ℕ → List ℕ
+planText sel p =
+    decimal p ++ (ascii " " ++ (decimal (getD (sel .fronts) p 0) ++ (ascii " " ++ (lineText (getD (sel .lines) p 0)
+    ++ (ascii " " ++ (decimal (placeOf (sel .kept) p) ++ ascii "\n"))))))
+
+unfoldable pub listingText : ℕ → Selected → List ℕ
+listingText count sel = headerText count (length (sel .kept)) ++ joinBelow (planText sel) count
+
+-- the listing for a pool file in good form
+abbrev pub fileText : PoolFile → List ℕ
+fileText f = listingText (f .count) (selected (fileRequest f))
+
+-- "A refusal prints `refused N` alone."
+unfoldable pub refusedText : ℕ → List ℕ
+refusedText n = ascii "refused " ++ (decimal n ++ ascii "\n")

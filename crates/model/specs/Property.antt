@@ -1,0 +1,67 @@
+-- The session property: "a contract may ask of it a property that opening is proved to give and every call to keep, refused or not, and nothing more".
+use Prim.Native.Nat.{ℕ, _+_, _*_, _≤_, _<_, max}
+use mathlib.Core.Path.{_≡_}
+use mathlib.Core.Bool.{Bool, true, false}
+use mathlib.Core.List.{List}
+use lib.Dec.{T}
+use lib.ListN.{length, getD, take}
+use Rattle.model.specs.declared.OptionU64.{OptionU64}
+use Rattle.model.specs.declared.OptionU64.the-variants as optU64
+use Rattle.model.specs.declared.Phase.{Phase}
+use Rattle.model.specs.declared.Phase.the-variants.{Discovery, Active}
+use Rattle.model.specs.declared.Config.{Config}
+use Rattle.model.specs.declared.Session.{Session}
+use Rattle.model.specs.Plan.{maxSettings}
+use Rattle.model.specs.Setting.{kindOfDimension, ofWord, validDimension, inBounds}
+use Rattle.model.specs.Session.{State, dimensionOf, longEnough, maxPlans}
+use Rattle.model.specs.Refusal.{badDirections, badDivisions, badOperators, goodIdeal, maxSize}
+
+-- what opening settled is within document 01's limits
+pub record ConfigOk (c : Config) : Type 0 where
+  pub directions : badDirections (take (c .«n_obj») (c .directions)) ≡ false
+  pub objectives : c .«n_obj» ≤ length (c .directions)
+  pub divisions : badDivisions (c .«n_obj») (c .divisions) ≡ false
+  pub atLeast4 : 4 ≤ c .«population_size»
+  pub atMost : c .«population_size» ≤ maxSize
+  pub operators : badOperators (c .«crossover_prob») (c .«crossover_eta») (c .«mutation_eta») ≡ false
+
+-- at most 32 dimensions are entered, each within its limits
+pub record DimensionsOk (s : Session) : Type 0 where
+  pub few : s .progress .«n_dims» ≤ maxSettings
+  pub valid : (d : ℕ) → d < s .progress .«n_dims» → validDimension (dimensionOf s d) ≡ true
+
+-- in discovery a first plan is known exactly if a dimension is entered, and there is neither a candidate nor a plan
+abbrev pub KnownBy : OptionU64 → ℕ → Type 0
+KnownBy optU64.None dims = dims ≡ 0
+KnownBy (optU64.Some plan) dims = 1 ≤ dims
+
+pub record DiscoveryOk (s : Session) : Type 0 where
+  pub first : KnownBy (s .«discovery_trial_id») (s .progress .«n_dims»)
+  pub noCandidates : s .progress .«n_candidates» ≡ 0
+  pub noPlans : s .progress .«n_plans» ≡ 0
+
+-- afterwards there is a dimension, and a candidate for each of the size and of the plans that have come
+pub record ActiveOk (s : Session) : Type 0 where
+  pub someDimension : 1 ≤ s .progress .«n_dims»
+  pub candidates : s .progress .«n_candidates» ≡ max (s .config .«population_size») (s .progress .«n_plans»)
+  pub room : s .progress .«n_plans» ≤ maxPlans
+
+abbrev pub PhaseOk : Phase → Session → Type 0
+PhaseOk Discovery s = DiscoveryOk s
+PhaseOk Active s = ActiveOk s
+
+-- what the lent slices hold: plan numbers that differ, no plan past the last dimension, and settings within their dimensions' bounds
+pub record LentOk (st : State) : Type 0 where
+  pub different : (i j : ℕ) → i < j → j < st .session .progress .«n_plans» → getD (st .plans) i 0 ≡ getD (st .plans) j 0 → ⊥
+  pub next : (i : ℕ) → i < st .session .progress .«n_plans» → getD (st .nextDims) i 0 ≤ st .session .progress .«n_dims»
+  pub settings : (i d : ℕ) → i < st .session .progress .«n_candidates» → d < st .session .progress .«n_dims»
+      → inBounds (dimensionOf (st .session) d)
+      (ofWord (kindOfDimension (dimensionOf (st .session) d)) (getD (st .candidates) (i * st .session .progress .«n_dims» + d) 0)) ≡ true
+
+-- Slices that are too short hold nothing that can be spoken of: they meet refusal 10, and the property asks nothing of them.
+pub record SessionOk (st : State) : Type 0 where
+  pub config : ConfigOk (st .session .config)
+  pub dimensions : DimensionsOk (st .session)
+  pub phase : PhaseOk (st .session .phase) (st .session)
+  pub ideal : goodIdeal (st .session .config .«n_obj») (take (st .session .config .«n_obj») (st .session .«ideal_point»)) ≡ true
+  pub lent : longEnough st ≡ true → LentOk st

@@ -1,0 +1,206 @@
+-- Document 01, "Why a call is turned down": for each public call the first number that applies, or none.
+use Prim.Native.Nat.{ℕ, zero, suc, _*_, _^_}
+use mathlib.Core.Bool.{Bool, true, false, cond, not, _&&_, _||_}
+use mathlib.Core.List.{List, [], _∷_}
+use mathlib.Core.Option.{Option, none, some}
+use lib.Dec.{eqb, leb, ltb}
+use lib.Ieee.{Float, inf, binary64, eq, ofBits, ofInt, toUnsigned}
+use lib.IntN.{pos}
+use lib.ListN.{length, getD}
+use Rattle.model.specs.declared.Distribution.{Distribution}
+use Rattle.model.specs.Lists.{allBelow, allIn}
+use Rattle.model.specs.Real.{nought, unit, within}
+use Rattle.model.specs.Plan.{Plan, Setting, planCount, maxConstraints, maxSettings}
+use Rattle.model.specs.Reference.{pointCount, divisionsOf}
+use Rattle.model.specs.Association.{Request, objectives}
+use Rattle.model.specs.Setting.{kindOfDimension, ofWord, validDimension, inBounds, sortByParam, noSetting, Operators}
+use Rattle.model.specs.Session.{State, discovers, breeds, longEnough, isNew, maxPlans, requestOf, operatorsOf}
+use Rattle.model.specs.PoolFile.{PoolFile, parse, fileRequest, fileText}
+
+-- ---- the first that applies
+
+pub record Check : Type 0 where
+  pub number : ℕ
+  pub applies : Bool
+
+abbrev pub check : ℕ → Bool → Check
+check n b = record { number = n; applies = b }
+
+-- "The first that applies is answered, and where none applies the call goes through"
+unfoldable pub firstOf : List Check → Option ℕ
+firstOf [] = none
+firstOf (c ∷ cs) = cond (c .applies) (some (c .number)) (firstOf cs)
+
+-- ---- what each number asks
+
+-- the limits: plans in a pool and in a selection, lines, records of a history
+abbrev pub maxSize : ℕ
+maxSize = 1024
+
+abbrev pub maxLines : ℕ
+maxLines = 1024
+
+abbrev pub maxHistory : ℕ
+maxHistory = 4096
+
+-- 2. "Objectives are not 1 to 8, or a direction mark is neither 0 nor 1."
+unfoldable pub badDirections : List ℕ → Bool
+badDirections marks = not (leb 1 (length marks) && leb (length marks) 8) || not (allIn (λ k. leb k 1) marks)
+
+-- 3. "A session's size is above 1,024, or a selection's or generation step's is 0 or above 1,024."
+abbrev pub badSize : ℕ → Bool
+badSize size = eqb size 0 || ltb maxSize size
+
+abbrev pub badSessionSize : Option ℕ → Bool
+badSessionSize none = false
+badSessionSize (some size) = ltb maxSize size
+
+-- 4. "Divisions given are not 1 to 199, or there would be more than 1,024 lines."
+abbrev pub outsideDivisions : ℕ → Bool
+outsideDivisions h = not (leb 1 h && leb h 199)
+
+unfoldable pub badDivisions : ℕ → ℕ → Bool
+badDivisions m h = outsideDivisions h || ltb maxLines (pointCount m h)
+
+abbrev pub badGivenDivisions : Option ℕ → Bool
+badGivenDivisions none = false
+badGivenDivisions (some h) = outsideDivisions h
+
+unfoldable pub badSessionDivisions : ℕ → Option ℕ → Option ℕ → Bool
+badSessionDivisions m size divisions = badGivenDivisions divisions || ltb maxLines (pointCount m (divisionsOf m size divisions))
+
+-- 5. "An eta is not a whole number 0 to 99, or the crossover probability is not within 0..1."
+abbrev pub ninetyNine : Float
+ninetyNine = ofBits binary64 0x4058_c000_0000_0000
+
+unfoldable pub wholeEta : Float → Bool
+wholeEta x = within nought ninetyNine x && eq (ofInt binary64 (pos (toUnsigned 64 x))) x
+
+unfoldable pub badOperators : Float → Float → Float → Bool
+badOperators probability crossoverEta mutationEta = not (within nought unit probability && (wholeEta crossoverEta && wholeEta mutationEta))
+
+-- 6. what `validDimension` asks, ".. or is the 33rd"
+unfoldable pub badDimensions : (ℕ → Distribution) → ℕ → Bool
+badDimensions dims n = ltb maxSettings n || not (allBelow (λ d. validDimension (dims d)) n)
+
+-- 7. "A pool is empty or above 1,024 plans, or a history is above 4,096."
+abbrev pub badCount : ℕ → Bool
+badCount count = eqb count 0 || ltb maxSize count
+
+-- 8. "A plan's row length isn't m, it has over 16 constraints, or a value or constraint is NaN or beyond 2^1000 in magnitude; likewise the ideal, where plus
+-- infinity is allowed."
+unfoldable pub measurable : Float → Bool
+measurable x = within (ofBits binary64 0xfe70_0000_0000_0000) (ofBits binary64 0x7e70_0000_0000_0000) x
+
+abbrev pub isInfinity : Float → Bool
+isInfinity x = eq x (inf false)
+
+unfoldable pub goodPlan : ℕ → Plan → Bool
+goodPlan m p = eqb (p .rowLength) m && (leb (p .constraintCount) maxConstraints && (allIn measurable (p .row) && allIn measurable (p .constraints)))
+
+unfoldable pub goodIdeal : ℕ → List Float → Bool
+goodIdeal m ideal = eqb (length ideal) m && allIn (λ x. measurable x || isInfinity x) ideal
+
+unfoldable pub badPool : Request → Bool
+badPool r = not (allBelow (λ p. goodPlan (objectives r) (r .plans p)) (r .count) && goodIdeal (objectives r) (r .ideal))
+
+-- 9. "A plan to be bred from has over 32 settings, a parameter number twice, or a setting of another kind than its dimension or not within its bounds (a NaN
+-- isn't). Settings past the last dimension are looked at for count and repeats only."
+unfoldable pub namedOnce : List Setting → Bool
+namedOnce [] = true
+namedOnce (x ∷ xs) = allIn (λ y. not (eqb (x .param) (y .param))) xs && namedOnce xs
+
+unfoldable pub fitsDimension : Distribution → Setting → Bool
+fitsDimension d x = eqb (x .kind) (kindOfDimension d) && inBounds d (ofWord (x .kind) (x .value))
+
+unfoldable pub breedable : (ℕ → Distribution) → ℕ → Plan → Bool
+breedable dims n p =
+    let sorted = sortByParam (p .settings) in
+    leb (p .settingCount) maxSettings && (namedOnce (p .settings)
+    && allBelow (λ i. leb (length sorted) i || fitsDimension (dims i) (getD sorted i noSetting)) n)
+
+unfoldable pub badParents : Operators → Request → Bool
+badParents o r = not (allBelow (λ p. breedable (o .dims) (o .dimCount) (r .plans p)) (r .count))
+
+-- ---- the calls
+
+-- the lengths of a selection's lent slices, beside the ideal's
+pub record Room : Type 0 where
+  pub kept : ℕ
+  pub fronts : ℕ
+  pub lines : ℕ
+
+-- 10. "A lent slice is shorter than the call's full answer."
+unfoldable pub noRoom : Request → Room → Bool
+noRoom r room = ltb (room .kept) (r .size) || (ltb (room .fronts) (r .count) || ltb (room .lines) (r .count))
+
+-- `nsga3_select`
+unfoldable pub selectRefusal : Request → Room → Option ℕ
+selectRefusal r room = firstOf (
+    check 2 (badDirections (r .marks))
+    ∷ check 3 (badSize (r .size))
+    ∷ check 4 (badDivisions (objectives r) (r .divisions))
+    ∷ check 7 (badCount (r .count))
+    ∷ check 8 (badPool r)
+    ∷ check 10 (noRoom r room)
+    ∷ [])
+
+-- `nsga3_generate_offspring`: where it selects, it hands out what a selection does; a pool of one has no kept list, no fronts and no lines
+unfoldable pub noStepRoom : Operators → Request → Room → ℕ → Bool
+noStepRoom o r room offspring = (leb 2 (r .count) && noRoom r room) || ltb offspring (r .size * o .dimCount)
+
+unfoldable pub stepRefusal : Operators → Request → Room → ℕ → Option ℕ
+stepRefusal o r room offspring = firstOf (
+    check 2 (badDirections (r .marks))
+    ∷ check 3 (badSize (r .size))
+    ∷ check 4 (badDivisions (objectives r) (r .divisions))
+    ∷ check 5 (badOperators (o .probability) (o .crossoverEta) (o .mutationEta))
+    ∷ check 6 (badDimensions (o .dims) (o .dimCount))
+    ∷ check 7 (badCount (r .count))
+    ∷ check 8 (badPool r)
+    ∷ check 9 (badParents o r)
+    ∷ check 10 (noStepRoom o r room offspring)
+    ∷ [])
+
+-- `open`
+unfoldable pub openRefusal : List ℕ → Option ℕ → Option ℕ → Float → Float → Float → Option ℕ
+openRefusal marks size divisions probability crossoverEta mutationEta = firstOf (
+    check 2 (badDirections marks)
+    ∷ check 3 (badSessionSize size)
+    ∷ check 4 (badSessionDivisions (length marks) size divisions)
+    ∷ check 5 (badOperators probability crossoverEta mutationEta)
+    ∷ [])
+
+-- `sample`: "A session call looks at 6 only when it adds a dimension, and at 8 and 9 only when it breeds, for the plans bred from."
+-- 11. "A new plan number comes while the generation has 2,048 and this call doesn't breed"; a call in discovery finds no plan in its generation
+unfoldable pub sampleRefusal : State → Distribution → ℕ → List ℕ → Option ℕ
+sampleRefusal st d plan history =
+    let bred = breeds st history in
+    firstOf (
+    check 6 (discovers st plan && (leb maxSettings (st .session .progress .«n_dims») || not (validDimension d)))
+    ∷ check 7 (ltb maxHistory (planCount history))
+    ∷ check 8 (bred && badPool (requestOf st history))
+    ∷ check 9 (bred && badParents (operatorsOf (st .session)) (requestOf st history))
+    ∷ check 10 (not (longEnough st))
+    ∷ check 11 (leb maxPlans (st .session .progress .«n_plans») && (isNew st plan && not bred))
+    ∷ [])
+
+-- `choose`: "what breaks the form anywhere in the file is refusal 1 before any other number"
+unfoldable pub fileRefusal : PoolFile → ℕ → Option ℕ
+fileRefusal f out =
+    let r = fileRequest f in
+    firstOf (
+    check 2 (badDirections (r .marks))
+    ∷ check 3 (badSize (r .size))
+    ∷ check 4 (badDivisions (objectives r) (r .divisions))
+    ∷ check 7 (badCount (r .count))
+    ∷ check 8 (badPool r)
+    ∷ check 10 (ltb out (length (fileText f)))
+    ∷ [])
+
+abbrev pub refusalOfParsed : Option PoolFile → ℕ → Option ℕ
+refusalOfParsed none out = some 1
+refusalOfParsed (some f) out = fileRefusal f out
+
+unfoldable pub chooseRefusal : List ℕ → ℕ → Option ℕ
+chooseRefusal bytes out = refusalOfParsed (parse bytes) out

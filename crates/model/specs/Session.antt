@@ -1,0 +1,315 @@
+-- Document 01, "Session": the state, what opening answers, and what an accepted call does.
+use Prim.Native.Nat.{ℕ, zero, suc, _+_, _-_, _*_, _%_, _^_, _≤_, _<_}
+use mathlib.Core.Path.{_≡_}
+use mathlib.Core.Bool.{Bool, true, false, cond, not, _&&_}
+use mathlib.Core.List.{List, [], _∷_, _++_, map}
+use mathlib.Core.Option.{Option, none, some}
+use lib.Dec.{eqb, leb, ltb}
+use lib.Ieee.{Float, nan}
+use lib.ListN.{length, getD, set, take, drop, replicate}
+use Rattle.model.specs.declared.ParamValue.{ParamValue}
+use Rattle.model.specs.declared.Distribution.{Distribution}
+use Rattle.model.specs.declared.Distribution.the-variants as dist
+use Rattle.model.specs.declared.OptionF64.the-variants as optF64
+use Rattle.model.specs.declared.OptionU64.{OptionU64}
+use Rattle.model.specs.declared.OptionU64.the-variants as optU64
+use Rattle.model.specs.declared.OptionUsize.{OptionUsize}
+use Rattle.model.specs.declared.OptionUsize.the-variants as optUsize
+use Rattle.model.specs.declared.DimensionInfo.{DimensionInfo}
+use Rattle.model.specs.declared.Phase.{Phase}
+use Rattle.model.specs.declared.Phase.the-variants.{Discovery, Active}
+use Rattle.model.specs.declared.Rng.{Rng}
+use Rattle.model.specs.declared.Config.{Config}
+use Rattle.model.specs.declared.Progress.{Progress}
+use Rattle.model.specs.declared.Session.{Session}
+use Rattle.model.specs.Lists.{allBelow, lastBelow, has, over}
+use Rattle.model.specs.Real.{nought, infinity}
+use Rattle.model.specs.Draw.{Drawn}
+use Rattle.model.specs.Plan.{Plan, planAt, planCount, maxValues, maxSettings}
+use Rattle.model.specs.Reference.{divisionsOf, populationSize}
+use Rattle.model.specs.Association.{Request}
+use Rattle.model.specs.Setting.{kindOfDimension, toWord, ofWord, sampleRandom, sampleAll, sampleCandidates, Operators, Generation, generation, wordsOf}
+
+-- ---- the state
+
+-- What a session call is given and leaves: the session by value, and what the three lent slices hold. `plans` has the numbers of the generation's plans in the
+-- order in which they came, `nextDims` the dimension that each asks for next, and `candidates` the candidates' settings, candidate after candidate, a word
+-- each. Plan i has candidate i.
+pub record State : Type 0 where
+  pub session : Session
+  pub candidates : List ℕ
+  pub plans : List ℕ
+  pub nextDims : List ℕ
+
+-- what the lent slices have to have room for: 2,048 plans, of 32 settings each
+abbrev pub maxPlans : ℕ
+maxPlans = 2048
+
+abbrev pub maxWords : ℕ
+maxWords = 65536
+
+-- what the array of dimensions holds where none is entered
+abbrev pub blankDimension : DimensionInfo
+blankDimension = record { distribution = dist.Categorical (record { «n_choices» = 1 }) }
+
+-- a dimension; `noDimension` is what the logic reads past an array's end, which nothing here does
+abbrev pub noDimension : DimensionInfo
+noDimension = record { distribution = dist.Float (record { low = nan; high = nan; «log_scale» = false; step = optF64.None }) }
+
+abbrev pub dimensionOf : Session → ℕ → Distribution
+dimensionOf s d = getD (s .dimensions) d noDimension .distribution
+
+-- a session with another generator state, and with another progress
+abbrev pub withRng : Session → ℕ → Session
+withRng s g = record {
+  config = s .config;
+  phase = s .phase;
+  «discovery_trial_id» = s .«discovery_trial_id»;
+  rng = record { s = g };
+  dimensions = s .dimensions;
+  «ideal_point» = s .«ideal_point»;
+  progress = s .progress;
+}
+
+abbrev pub withProgress : Session → Progress → Session
+withProgress s p = record {
+  config = s .config;
+  phase = s .phase;
+  «discovery_trial_id» = s .«discovery_trial_id»;
+  rng = s .rng;
+  dimensions = s .dimensions;
+  «ideal_point» = s .«ideal_point»;
+  progress = p;
+}
+
+abbrev pub progress : ℕ → ℕ → ℕ → ℕ → Progress
+progress dims candidates plans gen = record { «n_dims» = dims; «n_candidates» = candidates; «n_plans» = plans; generation = gen }
+
+abbrev pub state : Session → List ℕ → List ℕ → List ℕ → State
+state s cs ps ns = record { session = s; candidates = cs; plans = ps; nextDims = ns }
+
+-- ---- opening
+
+-- an optional size or number of divisions, as the definitions take it
+abbrev pub given : OptionUsize → Option ℕ
+given optUsize.None = none
+given (optUsize.Some n) = some n
+
+-- The session that an accepted opening answers. "Directions are given at opening (added), with the seed."
+unfoldable pub opened : List ℕ → ℕ → Option ℕ → Option ℕ → Float → Float → Float → Session
+opened marks seed size divisions probability crossoverEta mutationEta = record {
+  config = record {
+    «n_obj» = length marks;
+    directions = over marks (replicate maxValues 0);
+    divisions = divisionsOf (length marks) size divisions;
+    «population_size» = populationSize (length marks) size divisions;
+    «crossover_prob» = probability;
+    «crossover_eta» = crossoverEta;
+    «mutation_eta» = mutationEta;
+  };
+  phase = Discovery;
+  «discovery_trial_id» = optU64.None;
+  rng = record { s = seed };
+  dimensions = replicate maxSettings blankDimension;
+  «ideal_point» = replicate maxValues infinity;
+  progress = progress 0 0 0 0;
+}
+
+-- the session beside a refusal: nothing of what was given is in it
+abbrev pub blank : Session
+blank = record {
+  config = record {
+    «n_obj» = 0;
+    directions = replicate maxValues 0;
+    divisions = 0;
+    «population_size» = 0;
+    «crossover_prob» = nought;
+    «crossover_eta» = nought;
+    «mutation_eta» = nought;
+  };
+  phase = Discovery;
+  «discovery_trial_id» = optU64.None;
+  rng = record { s = 0 };
+  dimensions = replicate maxSettings blankDimension;
+  «ideal_point» = replicate maxValues infinity;
+  progress = progress 0 0 0 0;
+}
+
+-- ---- an accepted call
+
+-- what it answers, and the state that it leaves
+pub record Answered : Type 0 where
+  pub setting : ParamValue
+  pub after : State
+
+-- "The first plan's calls add dimensions": the dimension is entered, and a setting drawn from it
+unfoldable pub discover : State → Distribution → ℕ → Answered
+discover st d plan =
+    let s = st .session in
+    let v = sampleRandom d (s .rng .s) in
+    let entered : Session = record {
+      config = s .config;
+      phase = Discovery;
+      «discovery_trial_id» = optU64.Some plan;
+      rng = record { s = v .state };
+      dimensions = set (s .dimensions) (s .progress .«n_dims») (record { distribution = d });
+      «ideal_point» = s .«ideal_point»;
+      progress = progress (s .progress .«n_dims» + 1) (s .progress .«n_candidates») (s .progress .«n_plans») (s .progress .generation);
+    } in
+    record { setting = v .value; after = state entered (st .candidates) (st .plans) (st .nextDims) }
+
+-- "another plan number ends discovery": as many candidates as the size are drawn
+unfoldable pub activate : State → State
+activate st =
+    let s = st .session in
+    let n = s .progress .«n_dims» in
+    let cs = sampleCandidates (dimensionOf s) n (s .config .«population_size») (s .rng .s) in
+    let active : Session = record {
+      config = s .config;
+      phase = Active;
+      «discovery_trial_id» = s .«discovery_trial_id»;
+      rng = record { s = cs .state };
+      dimensions = s .dimensions;
+      «ideal_point» = s .«ideal_point»;
+      progress = progress n (s .config .«population_size») 0 (s .progress .generation);
+    } in
+    state active (over (wordsOf (cs .value)) (st .candidates)) (st .plans) (st .nextDims)
+
+-- entries put into a list from place `at` on
+abbrev pub overAt : ℕ → List ℕ → List ℕ → List ℕ
+overAt at new old = take at old ++ over new (drop at old)
+
+-- a candidate more, drawn, where every candidate has its plan
+unfoldable pub overflow : State → State
+overflow st =
+    let s = st .session in
+    let n = s .progress .«n_dims» in
+    let k = s .progress .«n_candidates» in
+    let c = sampleAll (dimensionOf s) n (s .rng .s) in
+    let more = progress n (k + 1) (s .progress .«n_plans») (s .progress .generation) in
+    state (withProgress (withRng s (c .state)) more) (overAt (k * n) (map toWord (c .value)) (st .candidates)) (st .plans) (st .nextDims)
+
+-- the plan is entered as the generation's next, at its first dimension
+unfoldable pub enter : State → ℕ → State
+enter st plan =
+    let s = st .session in
+    let i = s .progress .«n_plans» in
+    let more = progress (s .progress .«n_dims») (s .progress .«n_candidates») (i + 1) (s .progress .generation) in
+    state (withProgress s more) (st .candidates) (set (st .plans) i plan) (set (st .nextDims) i 0)
+
+-- a new plan takes the next candidate
+unfoldable pub enlist : State → ℕ → State
+enlist st plan = enter (cond (ltb (st .session .progress .«n_plans») (st .session .progress .«n_candidates»)) st (overflow st)) plan
+
+-- Plan i is answered its candidate's setting at its next dimension. "Beyond the last dimension, `sample_random` of the last one."
+unfoldable pub answer : State → ℕ → Answered
+answer st i =
+    let s = st .session in
+    let n = s .progress .«n_dims» in
+    let d = getD (st .nextDims) i 0 in
+    let stored = ofWord (kindOfDimension (dimensionOf s d)) (getD (st .candidates) (i * n + d) 0) in
+    let fresh = sampleRandom (dimensionOf s (n - 1)) (s .rng .s) in
+    cond (ltb d n)
+    (record { setting = stored; after = state s (st .candidates) (st .plans) (set (st .nextDims) i (d + 1)) })
+    (record { setting = fresh .value; after = state (withRng s (fresh .state)) (st .candidates) (st .plans) (st .nextDims) })
+
+-- the numbers of the generation's plans, and the place of a number among them; it is new where it stands nowhere
+abbrev pub plansOf : State → List ℕ
+plansOf st = take (st .session .progress .«n_plans») (st .plans)
+
+unfoldable pub placeIn : List ℕ → ℕ → ℕ
+placeIn [] plan = 0
+placeIn (x ∷ xs) plan = cond (eqb x plan) 0 (suc (placeIn xs plan))
+
+abbrev pub isNew : State → ℕ → Bool
+isNew st plan = not (has (plansOf st) plan)
+
+-- `sample_from_candidate`
+unfoldable pub sampleFromCandidate : State → ℕ → Answered
+sampleFromCandidate st plan =
+    cond (isNew st plan) (answer (enlist st plan) (st .session .progress .«n_plans»)) (answer st (placeIn (plansOf st) plan))
+
+-- ---- breeding
+
+-- "the last record of a number counts": its place in the history, or the number of records where it has none
+unfoldable pub recordOf : List ℕ → ℕ → ℕ
+recordOf history plan = lastBelow (λ k. eqb (planAt history k .number) plan) (planCount history)
+
+-- "When the first size plans of the generation all stand in history"
+unfoldable pub evaluated : State → List ℕ → Bool
+evaluated st history =
+    let size = st .session .config .«population_size» in
+    leb size (st .session .progress .«n_plans») && allBelow (λ i. ltb (recordOf history (getD (st .plans) i 0)) (planCount history)) size
+
+-- the plans bred from: the first size plans of the generation, as history has them
+abbrev pub bredFrom : State → List ℕ → ℕ → Plan
+bredFrom st history i = planAt history (recordOf history (getD (st .plans) i 0))
+
+-- the selection that a session's breeding makes, and its operators
+abbrev pub requestOf : State → List ℕ → Request
+requestOf st history = record {
+  marks = take (st .session .config .«n_obj») (st .session .config .directions);
+  divisions = st .session .config .divisions;
+  size = st .session .config .«population_size»;
+  count = st .session .config .«population_size»;
+  plans = bredFrom st history;
+  ideal = take (st .session .config .«n_obj») (st .session .«ideal_point»);
+  state = st .session .rng .s;
+}
+
+abbrev pub operatorsOf : Session → Operators
+operatorsOf s = record {
+  dims = dimensionOf s;
+  dimCount = s .progress .«n_dims»;
+  probability = s .config .«crossover_prob»;
+  crossoverEta = s .config .«crossover_eta»;
+  mutationEta = s .config .«mutation_eta»;
+}
+
+-- "a new generation is bred": its candidates take the place of the old ones, and no plan has come yet. The generation's number wraps at 2^64.
+unfoldable pub breed : State → List ℕ → State
+breed st history =
+    let s = st .session in
+    let g = generation (operatorsOf s) (requestOf st history) in
+    let bred : Session = record {
+      config = s .config;
+      phase = Active;
+      «discovery_trial_id» = s .«discovery_trial_id»;
+      rng = record { s = g .state };
+      dimensions = s .dimensions;
+      «ideal_point» = over (g .ideal) (s .«ideal_point»);
+      progress = progress (s .progress .«n_dims») (s .config .«population_size») 0 ((s .progress .generation + 1) % 2 ^ 64);
+    } in
+    state bred (over (wordsOf (g .offspring)) (st .candidates)) (st .plans) (st .nextDims)
+
+-- ---- which of these a call does
+
+abbrev pub pastDiscovery : Phase → Bool
+pastDiscovery Discovery = false
+pastDiscovery Active = true
+
+abbrev pub isActive : Session → Bool
+isActive s = pastDiscovery (s .phase)
+
+-- the plan whose calls add dimensions: the first that came
+abbrev pub discoversFor : OptionU64 → ℕ → Bool
+discoversFor optU64.None plan = true
+discoversFor (optU64.Some first) plan = eqb first plan
+
+-- the call adds a dimension
+unfoldable pub discovers : State → ℕ → Bool
+discovers st plan = not (isActive (st .session)) && discoversFor (st .session .«discovery_trial_id») plan
+
+-- the lent slices have room for what they must hold
+unfoldable pub longEnough : State → Bool
+longEnough st = leb maxWords (length (st .candidates)) && (leb maxPlans (length (st .plans)) && leb maxPlans (length (st .nextDims)))
+
+-- the call breeds
+unfoldable pub breeds : State → List ℕ → Bool
+breeds st history = isActive (st .session) && (longEnough st && evaluated st history)
+
+-- AN ACCEPTED CALL. "Afterwards the distribution passed is ignored."
+unfoldable pub accepted : State → Distribution → ℕ → List ℕ → Answered
+accepted st d plan history =
+    cond (discovers st plan) (discover st d plan)
+    (sampleFromCandidate (cond (isActive (st .session)) (cond (breeds st history) (breed st history) st) (activate st)) plan)

@@ -1,0 +1,420 @@
+-- Document 01, "Setting and dimension": settings, bounds, sampling, extraction, crossover, mutation and the generation step.
+use Prim.Native.Nat.{ℕ, zero, suc, _+_, _*_, _/_, _%_, _^_, min}
+use mathlib.Core.Bool.{Bool, true, false, cond, not, _&&_}
+use mathlib.Core.List.{List, [], _∷_, _++_, map}
+use lib.IntN.{ℤ, pos, negsuc, _+ℤ_, _-ℤ_, _*ℤ_}
+use lib.Signed.{leZ, ltZ, quotZ}
+use lib.Dec.{eqb, leb, ltb}
+use lib.Ieee.{Float, nan, binary64, lt, le, ofBits, ofInt, toSigned, toUnsigned}
+use lib.ListN.{length, getD, take}
+use Rattle.model.specs.declared.ParamValue.{ParamValue}
+use Rattle.model.specs.declared.ParamValue.the-variants as value
+use Rattle.model.specs.declared.Distribution.{Distribution}
+use Rattle.model.specs.declared.Distribution.the-variants as dist
+use Rattle.model.specs.declared.FloatDistribution.{FloatDistribution}
+use Rattle.model.specs.declared.IntDistribution.{IntDistribution}
+use Rattle.model.specs.declared.OptionF64.{OptionF64}
+use Rattle.model.specs.declared.OptionF64.the-variants as optF64
+use Rattle.model.specs.declared.OptionI64.{OptionI64}
+use Rattle.model.specs.declared.OptionI64.the-variants as optI64
+use Rattle.model.specs.Lists.{allBelow, listBelow, allIn}
+use Rattle.model.specs.Real.{_⊕_, _⊖_, _⊗_, _⊘_, real, bits, nought, half, unit, two, absolute, within, clamp}
+use Rattle.model.specs.Draw.{Drawn, drawn, drawUsize, drawI64, f64Range}
+use Rattle.model.specs.Numbers.{roundOf, midpoint, P, R}
+use Rattle.model.specs.Plan.{Plan, Setting}
+use Rattle.model.specs.Row.{rowBeats}
+use Rattle.model.specs.Front.{frontOf}
+use Rattle.model.specs.Association.{Request}
+use Rattle.model.specs.Kept.{Selected, selected}
+
+-- ---- settings as words
+
+-- "A setting is a Float, an Int or a Categorical value": the number of each kind
+abbrev pub kindOf : ParamValue → ℕ
+kindOf (value.Float x) = 0
+kindOf (value.Int n) = 1
+kindOf (value.Categorical c) = 2
+
+abbrev pub kindOfDimension : Distribution → ℕ
+kindOfDimension (dist.Float d) = 0
+kindOfDimension (dist.Int d) = 1
+kindOfDimension (dist.Categorical d) = 2
+
+-- an Int n is 2n from zero up and -2n - 1 below
+abbrev pub wordOfInt : ℤ → ℕ
+wordOfInt (pos n) = 2 * n
+wordOfInt (negsuc n) = 2 * n + 1
+
+unfoldable pub intOfWord : ℕ → ℤ
+intOfWord w = cond (eqb (w % 2) 0) (pos (w / 2)) (negsuc (w / 2))
+
+-- a Float is its bits, a Categorical its number
+abbrev pub toWord : ParamValue → ℕ
+toWord (value.Float x) = bits x
+toWord (value.Int n) = wordOfInt n
+toWord (value.Categorical c) = c
+
+abbrev pub ofWord : ℕ → ℕ → ParamValue
+ofWord zero w = value.Float (real w)
+ofWord (suc zero) w = value.Int (intOfWord w)
+ofWord (suc (suc k)) w = value.Categorical w
+
+-- ---- bounds
+
+-- 2^53 and -2^53, as doubles and as whole numbers
+abbrev pub maxBound : Float
+maxBound = ofBits binary64 0x4340_0000_0000_0000
+
+abbrev pub minBound : Float
+minBound = ofBits binary64 0xc340_0000_0000_0000
+
+abbrev pub maxWhole : ℤ
+maxWhole = pos (2 ^ 53)
+
+abbrev pub minWhole : ℤ
+minWhole = negsuc 9007199254740991
+
+abbrev pub noStep : OptionF64 → Bool
+noStep optF64.None = true
+noStep (optF64.Some x) = false
+
+abbrev pub stepAbove0 : OptionI64 → Bool
+stepAbove0 optI64.None = true
+stepAbove0 (optI64.Some n) = leZ (pos 1) n
+
+-- What refusal 6 asks of a dimension: low not above high, bounds finite and within 2^53 in magnitude, no log scale, no Float step, an Int step from 1 on,
+-- 1 to 65,536 choices.
+unfoldable pub validDimension : Distribution → Bool
+validDimension (dist.Float d) =
+    le (d .low) (d .high) && (within minBound maxBound (d .low) && (within minBound maxBound (d .high) && (not (d .«log_scale») && noStep (d .step))))
+validDimension (dist.Int d) =
+    leZ (d .low) (d .high) && (leZ minWhole (d .low) && (leZ (d .high) maxWhole && (not (d .«log_scale») && stepAbove0 (d .step))))
+validDimension (dist.Categorical d) = leb 1 (d .«n_choices») && leb (d .«n_choices») 65536
+
+-- a setting is of its dimension's kind and within its bounds
+unfoldable pub inBounds : Distribution → ParamValue → Bool
+inBounds (dist.Float d) (value.Float x) = within (d .low) (d .high) x
+inBounds (dist.Float d) (value.Int n) = false
+inBounds (dist.Float d) (value.Categorical c) = false
+inBounds (dist.Int d) (value.Float x) = false
+inBounds (dist.Int d) (value.Int n) = leZ (d .low) n && leZ n (d .high)
+inBounds (dist.Int d) (value.Categorical c) = false
+inBounds (dist.Categorical d) (value.Float x) = false
+inBounds (dist.Categorical d) (value.Int n) = false
+inBounds (dist.Categorical d) (value.Categorical c) = ltb c (d .«n_choices»)
+
+-- ---- sampling
+
+-- an Int without a step is drawn from low..=high; with one, k is drawn from 0..=(high - low) / step and the value is low + k × step
+unfoldable pub sampleInt : ℤ → ℤ → OptionI64 → ℕ → Drawn ℤ
+sampleInt low high optI64.None s = drawI64 low high s
+sampleInt low high (optI64.Some n) s = let k = drawI64 (pos 0) (quotZ (high -ℤ low) n) s in drawn (low +ℤ k .value *ℤ n) (k .state)
+
+-- `sample_random`
+unfoldable pub sampleRandom : Distribution → ℕ → Drawn ParamValue
+sampleRandom (dist.Float d) s = let x = f64Range (d .low) (d .high) s in drawn (value.Float (x .value)) (x .state)
+sampleRandom (dist.Int d) s = let n = sampleInt (d .low) (d .high) (d .step) s in drawn (value.Int (n .value)) (n .state)
+sampleRandom (dist.Categorical d) s = let c = drawUsize (d .«n_choices») s in drawn (value.Categorical (c .value)) (c .state)
+
+-- a candidate: a setting for each of n dimensions, drawn in their order
+unfoldable pub sampleAll : (ℕ → Distribution) → ℕ → ℕ → Drawn (List ParamValue)
+sampleAll dims zero s = drawn [] s
+sampleAll dims (suc n) s =
+    let c = sampleAll dims n s in
+    let v = sampleRandom (dims n) (c .state) in
+    drawn (c .value ++ (v .value ∷ [])) (v .state)
+
+-- so many candidates, one after the other
+unfoldable pub sampleCandidates : (ℕ → Distribution) → ℕ → ℕ → ℕ → Drawn (List (List ParamValue))
+sampleCandidates dims n zero s = drawn [] s
+sampleCandidates dims n (suc k) s =
+    let cs = sampleCandidates dims n k s in
+    let c = sampleAll dims n (cs .state) in
+    drawn (cs .value ++ (c .value ∷ [])) (c .state)
+
+-- ---- extraction
+
+-- "`extract_trial_params` sorts by `ParamId`": a setting put before the first whose parameter number is not smaller
+unfoldable pub insert : Setting → List Setting → List Setting
+insert x [] = x ∷ []
+insert x (y ∷ ys) = cond (leb (x .param) (y .param)) (x ∷ y ∷ ys) (y ∷ insert x ys)
+
+unfoldable pub sortByParam : List Setting → List Setting
+sortByParam [] = []
+sortByParam (x ∷ xs) = insert x (sortByParam xs)
+
+abbrev pub noSetting : Setting
+noSetting = record { param = 0; kind = 0; value = 0 }
+
+-- "matches by position; missing ones are drawn, extra ones ignored"
+unfoldable pub extractOne : Distribution → List Setting → ℕ → ℕ → Drawn ParamValue
+extractOne d sorted i s =
+    let x = getD sorted i noSetting in
+    cond (ltb i (length sorted)) (drawn (ofWord (x .kind) (x .value)) s) (sampleRandom d s)
+
+unfoldable pub extract : (ℕ → Distribution) → ℕ → List Setting → ℕ → Drawn (List ParamValue)
+extract dims zero sorted s = drawn [] s
+extract dims (suc n) sorted s =
+    let c = extract dims n sorted s in
+    let v = extractOne (dims n) sorted n (c .state) in
+    drawn (c .value ++ (v .value ∷ [])) (v .state)
+
+-- the parents: the settings of each kept plan, in the kept list's order
+unfoldable pub parentsOf : (ℕ → Distribution) → ℕ → (ℕ → Plan) → List ℕ → ℕ → Drawn (List (List ParamValue))
+parentsOf dims n plans [] s = drawn [] s
+parentsOf dims n plans (p ∷ ps) s =
+    let c = extract dims n (sortByParam (plans p .settings)) s in
+    let cs = parentsOf dims n plans ps (c .state) in
+    drawn (c .value ∷ cs .value) (cs .state)
+
+-- ---- crossover; k is eta + 1
+
+-- the exponent of an eta that is a whole number from 0 to 99
+abbrev pub exponentOf : Float → ℕ
+exponentOf eta = suc (toUnsigned 64 eta)
+
+pub record Pair : Type 0 where
+  pub first : ParamValue
+  pub second : ParamValue
+
+abbrev pub pair : ParamValue → ParamValue → Pair
+pair a b = record { first = a; second = b }
+
+-- 1e-14
+abbrev pub smallGap : Float
+smallGap = ofBits binary64 0x3d06_849b_86a1_2b9b
+
+-- a draw from 0.0..1.0
+abbrev pub drawUnit : ℕ → Drawn Float
+drawUnit s = f64Range nought unit s
+
+-- the spread of `sbx_crossover_f64`: (2u)^(1/k) up to one half, and (1 / (2 (1 - u)))^(1/k) above
+unfoldable pub spread : Float → ℕ → Float
+spread u k = R (cond (le u half) (two ⊗ u) (unit ⊘ (two ⊗ (unit ⊖ u)))) k
+
+-- the child nearer to p: the midpoint of (1 + beta) p and (1 - beta) q, held within the bounds
+abbrev pub sbxFirst : Float → Float → Float → Float → Float → Float
+sbxFirst low high beta p q = clamp low high (midpoint ((unit ⊕ beta) ⊗ p) ((unit ⊖ beta) ⊗ q))
+
+-- the child nearer to q
+abbrev pub sbxSecond : Float → Float → Float → Float → Float → Float
+sbxSecond low high beta p q = clamp low high (midpoint ((unit ⊖ beta) ⊗ p) ((unit ⊕ beta) ⊗ q))
+
+-- a double as an Int of a dimension: rounded, and held within the bounds
+abbrev pub clampInt : ℤ → ℤ → ℤ → ℤ
+clampInt low high n = cond (ltZ n low) low (cond (ltZ high n) high n)
+
+abbrev pub toInt : ℤ → ℤ → Float → ℤ
+toInt low high x = clampInt low high (toSigned 63 (roundOf x))
+
+abbrev pub ofWhole : ℤ → Float
+ofWhole n = ofInt binary64 n
+
+-- "Floats closer than 1e-14 and equal Ints are skipped without a draw; Categorical pairs always take one."
+unfoldable pub crossFloat : FloatDistribution → Float → Float → ℕ → ℕ → Drawn Pair
+crossFloat d p q k s =
+    let u = drawUnit s in
+    let beta = spread (u .value) k in
+    let crossed = pair (value.Float (sbxFirst (d .low) (d .high) beta p q)) (value.Float (sbxSecond (d .low) (d .high) beta p q)) in
+    cond (lt (absolute (p ⊖ q)) smallGap) (drawn (pair (value.Float p) (value.Float q)) s) (drawn crossed (u .state))
+
+unfoldable pub crossInt : IntDistribution → ℤ → ℤ → ℕ → ℕ → Drawn Pair
+crossInt d p q k s =
+    let u = drawUnit s in
+    let beta = spread (u .value) k in
+    let low = ofWhole (d .low) in
+    let high = ofWhole (d .high) in
+    let first = toInt (d .low) (d .high) (sbxFirst low high beta (ofWhole p) (ofWhole q)) in
+    let second = toInt (d .low) (d .high) (sbxSecond low high beta (ofWhole p) (ofWhole q)) in
+    cond (leZ p q && leZ q p) (drawn (pair (value.Int p) (value.Int q)) s) (drawn (pair (value.Int first) (value.Int second)) (u .state))
+
+unfoldable pub crossCategorical : ℕ → ℕ → ℕ → Drawn Pair
+crossCategorical p q s =
+    let u = drawUnit s in
+    drawn (cond (lt (u .value) half) (pair (value.Categorical q) (value.Categorical p)) (pair (value.Categorical p) (value.Categorical q))) (u .state)
+
+-- one dimension, by cases on the two settings; settings of different kinds, which no accepted plan has, stand as they are
+abbrev pub crossFloats : Distribution → Float → Float → ℕ → ℕ → Drawn Pair
+crossFloats (dist.Float d) p q k s = crossFloat d p q k s
+crossFloats (dist.Int d) p q k s = drawn (pair (value.Float p) (value.Float q)) s
+crossFloats (dist.Categorical d) p q k s = drawn (pair (value.Float p) (value.Float q)) s
+
+abbrev pub crossInts : Distribution → ℤ → ℤ → ℕ → ℕ → Drawn Pair
+crossInts (dist.Float d) p q k s = drawn (pair (value.Int p) (value.Int q)) s
+crossInts (dist.Int d) p q k s = crossInt d p q k s
+crossInts (dist.Categorical d) p q k s = drawn (pair (value.Int p) (value.Int q)) s
+
+abbrev pub crossOne : Distribution → ParamValue → ParamValue → ℕ → ℕ → Drawn Pair
+crossOne d (value.Float p) (value.Float q) k s = crossFloats d p q k s
+crossOne d (value.Float p) (value.Int q) k s = drawn (pair (value.Float p) (value.Int q)) s
+crossOne d (value.Float p) (value.Categorical q) k s = drawn (pair (value.Float p) (value.Categorical q)) s
+crossOne d (value.Int p) (value.Float q) k s = drawn (pair (value.Int p) (value.Float q)) s
+crossOne d (value.Int p) (value.Int q) k s = crossInts d p q k s
+crossOne d (value.Int p) (value.Categorical q) k s = drawn (pair (value.Int p) (value.Categorical q)) s
+crossOne d (value.Categorical p) (value.Float q) k s = drawn (pair (value.Categorical p) (value.Float q)) s
+crossOne d (value.Categorical p) (value.Int q) k s = drawn (pair (value.Categorical p) (value.Int q)) s
+crossOne d (value.Categorical p) (value.Categorical q) k s = crossCategorical p q s
+
+pub record Children : Type 0 where
+  pub first : List ParamValue
+  pub second : List ParamValue
+
+abbrev pub children : List ParamValue → List ParamValue → Children
+children a b = record { first = a; second = b }
+
+abbrev pub noValue : ParamValue
+noValue = value.Float nan
+
+abbrev pub settingOf : List ParamValue → ℕ → ParamValue
+settingOf settings i = getD settings i noValue
+
+-- dimension after dimension
+unfoldable pub crossAll : (ℕ → Distribution) → ℕ → List ParamValue → List ParamValue → ℕ → ℕ → Drawn Children
+crossAll dims zero p q k s = drawn (children [] []) s
+crossAll dims (suc n) p q k s =
+    let c = crossAll dims n p q k s in
+    let v = crossOne (dims n) (settingOf p n) (settingOf q n) k (c .state) in
+    drawn (children (c .value .first ++ (v .value .first ∷ [])) (c .value .second ++ (v .value .second ∷ []))) (v .state)
+
+-- "`crossover` runs unless its draw exceeds the probability"
+abbrev pub crossoverRuns : Float → Float → Bool
+crossoverRuns probability u = not (lt probability u)
+
+unfoldable pub crossover : (ℕ → Distribution) → ℕ → Float → ℕ → List ParamValue → List ParamValue → ℕ → Drawn Children
+crossover dims n probability k p q s =
+    let u = drawUnit s in
+    cond (crossoverRuns probability (u .value)) (crossAll dims n p q k (u .state)) (drawn (children p q) (u .state))
+
+-- ---- mutation; k is eta + 1
+
+-- how far `polynomial_mutation_f64` moves x, as a share of the range
+unfoldable pub mutationShift : Float → Float → Float → Float → ℕ → Float → Float
+mutationShift x low high range k u =
+    let below = R ((two ⊗ u) ⊕ ((unit ⊖ (two ⊗ u)) ⊗ P (unit ⊖ ((x ⊖ low) ⊘ range)) k)) k ⊖ unit in
+    let above = unit ⊖ R ((two ⊗ (unit ⊖ u)) ⊕ ((two ⊗ (u ⊖ half)) ⊗ P (unit ⊖ ((high ⊖ x) ⊘ range)) k)) k in
+    cond (lt u half) below above
+
+-- "`polynomial_mutation_f64` draws before it looks at the range."
+unfoldable pub polynomialMutation : Float → Float → Float → ℕ → ℕ → Drawn Float
+polynomialMutation x low high k s =
+    let u = drawUnit s in
+    let range = high ⊖ low in
+    let moved = clamp low high (x ⊕ (mutationShift x low high range k (u .value) ⊗ range)) in
+    drawn (cond (le range nought) x moved) (u .state)
+
+abbrev pub mutateFloat : Distribution → Float → ℕ → ℕ → Drawn ParamValue
+mutateFloat (dist.Float d) x k s = let y = polynomialMutation x (d .low) (d .high) k s in drawn (value.Float (y .value)) (y .state)
+mutateFloat (dist.Int d) x k s = drawn (value.Float x) s
+mutateFloat (dist.Categorical d) x k s = drawn (value.Float x) s
+
+abbrev pub mutateInt : Distribution → ℤ → ℕ → ℕ → Drawn ParamValue
+mutateInt (dist.Float d) n k s = drawn (value.Int n) s
+mutateInt (dist.Int d) n k s =
+    let y = polynomialMutation (ofWhole n) (ofWhole (d .low)) (ofWhole (d .high)) k s in
+    drawn (value.Int (toInt (d .low) (d .high) (y .value))) (y .state)
+mutateInt (dist.Categorical d) n k s = drawn (value.Int n) s
+
+abbrev pub mutateCategorical : Distribution → ℕ → ℕ → Drawn ParamValue
+mutateCategorical (dist.Float d) c s = drawn (value.Categorical c) s
+mutateCategorical (dist.Int d) c s = drawn (value.Categorical c) s
+mutateCategorical (dist.Categorical d) c s = let y = drawUsize (d .«n_choices») s in drawn (value.Categorical (y .value)) (y .state)
+
+abbrev pub mutateOne : Distribution → ParamValue → ℕ → ℕ → Drawn ParamValue
+mutateOne d (value.Float x) k s = mutateFloat d x k s
+mutateOne d (value.Int n) k s = mutateInt d n k s
+mutateOne d (value.Categorical c) k s = mutateCategorical d c s
+
+-- each dimension mutates where its own draw is below 1 / n
+unfoldable pub mutateMaybe : Float → Distribution → ParamValue → ℕ → ℕ → Drawn ParamValue
+mutateMaybe probability d v k s =
+    let u = drawUnit s in
+    cond (le probability (u .value)) (drawn v (u .state)) (mutateOne d v k (u .state))
+
+-- the first j of n dimensions
+unfoldable pub mutateFirst : (ℕ → Distribution) → ℕ → ℕ → List ParamValue → ℕ → ℕ → Drawn (List ParamValue)
+mutateFirst dims n zero c k s = drawn [] s
+mutateFirst dims n (suc j) c k s =
+    let b = mutateFirst dims n j c k s in
+    let v = mutateMaybe (unit ⊘ ofWhole (pos n)) (dims j) (settingOf c j) k (b .state) in
+    drawn (b .value ++ (v .value ∷ [])) (v .state)
+
+abbrev pub mutate : (ℕ → Distribution) → ℕ → List ParamValue → ℕ → ℕ → Drawn (List ParamValue)
+mutate dims n c k s = mutateFirst dims n n c k s
+
+-- ---- the generation step
+
+-- what breeding is given beside the pool
+pub record Operators : Type 0 where
+  pub dims : ℕ → Distribution
+  pub dimCount : ℕ
+  pub probability : Float
+  pub crossoverEta : Float
+  pub mutationEta : Float
+
+-- two parents are drawn, and the one of smaller rank wins, the first on a tie
+unfoldable pub tournament : (ℕ → ℕ) → ℕ → ℕ → Drawn ℕ
+tournament ranks n s =
+    let a = drawUsize n s in
+    let b = drawUsize n (a .state) in
+    drawn (cond (leb (ranks (a .value)) (ranks (b .value))) (a .value) (b .value)) (b .state)
+
+-- two winners are crossed, and both children mutated
+unfoldable pub brood : Operators → List (List ParamValue) → (ℕ → ℕ) → ℕ → Drawn Children
+brood o parents ranks s =
+    let p = tournament ranks (length parents) s in
+    let q = tournament ranks (length parents) (p .state) in
+    let c = crossover (o .dims) (o .dimCount) (o .probability) (exponentOf (o .crossoverEta)) (getD parents (p .value) []) (getD parents (q .value) []) (q .state) in
+    let a = mutate (o .dims) (o .dimCount) (c .value .first) (exponentOf (o .mutationEta)) (c .state) in
+    let b = mutate (o .dims) (o .dimCount) (c .value .second) (exponentOf (o .mutationEta)) (a .state) in
+    drawn (children (a .value) (b .value)) (b .state)
+
+-- the children of so many broods, one after the other
+unfoldable pub broods : Operators → List (List ParamValue) → (ℕ → ℕ) → ℕ → ℕ → Drawn (List (List ParamValue))
+broods o parents ranks zero s = drawn [] s
+broods o parents ranks (suc k) s =
+    let so-far = broods o parents ranks k s in
+    let c = brood o parents ranks (so-far .state) in
+    drawn (so-far .value ++ (c .value .first ∷ c .value .second ∷ [])) (c .state)
+
+-- "An odd size drops the last second child after its mutation."
+unfoldable pub offspringOf : Operators → List (List ParamValue) → (ℕ → ℕ) → ℕ → ℕ → Drawn (List (List ParamValue))
+offspringOf o parents ranks size s = let b = broods o parents ranks ((size + 1) / 2) s in drawn (take size (b .value)) (b .state)
+
+-- what a generation step hands out: a selection's lists and ideal, and the new candidates
+pub record Generation : Type 0 where
+  pub kept : List ℕ
+  pub fronts : List ℕ
+  pub lines : List ℕ
+  pub ideal : List Float
+  pub offspring : List (List ParamValue)
+  pub state : ℕ
+
+-- "`nsga3_generate_offspring` ranks by rows only": the rank of the i-th kept plan is its front in the pool by rows
+unfoldable pub rankOf : Request → List ℕ → ℕ → ℕ
+rankOf r kept i = frontOf (rowBeats (r .marks) (r .plans)) (r .count) (getD kept i 0)
+
+unfoldable pub generationOf : Operators → Request → Generation
+generationOf o r =
+    let sel = selected r in
+    let parents = parentsOf (o .dims) (o .dimCount) (r .plans) (sel .kept) (sel .state) in
+    let off = offspringOf o (parents .value) (rankOf r (sel .kept)) (r .size) (parents .state) in
+    record { kept = sel .kept; fronts = sel .fronts; lines = sel .lines; ideal = sel .ideal; offspring = off .value; state = off .state }
+
+-- "A pool of one plan breeds nothing: every setting of the size new candidates is drawn." It selects nothing either.
+unfoldable pub generationOfOne : Operators → Request → Generation
+generationOfOne o r =
+    let off = sampleCandidates (o .dims) (o .dimCount) (r .size) (r .state) in
+    record { kept = []; fronts = []; lines = []; ideal = r .ideal; offspring = off .value; state = off .state }
+
+abbrev pub byPool : Bool → Operators → Request → Generation
+byPool true o r = generationOfOne o r
+byPool false o r = generationOf o r
+
+-- THE GENERATION STEP
+unfoldable pub generation : Operators → Request → Generation
+generation o r = byPool (ltb (r .count) 2) o r
+
+-- candidates as they lie in a lent slice: candidate after candidate, a word a setting
+unfoldable pub wordsOf : List (List ParamValue) → List ℕ
+wordsOf [] = []
+wordsOf (c ∷ cs) = map toWord c ++ wordsOf cs
