@@ -16,3 +16,4 @@ pub mod PoolFile
 pub mod Refusal
 pub mod Property
 pub mod Calls
+pub mod Cases
