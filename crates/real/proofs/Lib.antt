@@ -1,1 +1,4 @@
+pub mod Nan
+pub mod Ints
+pub mod Casts
 pub mod Roots

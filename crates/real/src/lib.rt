@@ -5,8 +5,99 @@ ghost use mathlib.Core.Path.{_≡_};
 ghost use mathlib.Core.Bool.{cond};
 ghost use Prim.Native.Nat.{_*_, _^_, _<_, _≤_};
 ghost use lib.Dec.{leb};
-ghost use lib.Ieee.{binary64, ofBits};
-ghost use Rattle.model.specs.Numbers.{nearRoot, rooted, sqrtOf};
+ghost use lib.Ieee.{binary64, ofBits, toBits, toSigned, ofInt};
+ghost use Rattle.model.specs.Real.{clamp};
+ghost use Rattle.model.specs.Numbers.{midpoint, nearRoot, rooted, sqrtOf};
+ghost use Rattle.real.specs.IntCode.{wordOfInt, intOfWord};
+
+// ---- words
+
+// The real whose 64 IEEE bits form w. Every NaN pattern gives the one NaN.
+pub fn real_of_word(w: u64) -> f64
+    ensures { λ r. ⌜ r ≡ ofBits binary64 w ⌝ }
+{
+    if w % 0x8000_0000_0000_0000 > 0x7ff0_0000_0000_0000 {
+        0.0 / 0.0
+    } else {
+        f64::from_bits(w)
+    }
+}
+
+// The number that the 64 IEEE bits of x form; of a NaN, the pattern with the highest digit alone, whichever the machine has.
+pub fn word_of_real(x: f64) -> u64
+    ensures { λ r. ⌜ r ≡ toBits binary64 x ⌝ }
+{
+    if x != x {
+        0x7ff8_0000_0000_0000
+    } else {
+        f64::to_bits(x)
+    }
+}
+
+// The whole number that a word stands for.
+pub fn int_of_word(w: u64) -> i64
+    ensures { λ r. ⌜ r ≡ intOfWord w ⌝ }
+{
+    let half = (w / 2) as i64;
+    if w % 2 == 0 { half } else { -1 - half }
+}
+
+// The word that stands for a whole number.
+pub fn word_of_int(n: i64) -> u64
+    ensures { λ r. ⌜ r ≡ wordOfInt n ⌝ }
+{
+    if n >= 0 {
+        2 * (n as u64)
+    } else {
+        2 * ((-1 - n) as u64) + 1
+    }
+}
+
+// ---- whole numbers and reals
+
+// Rust's `x as i64`: the fraction is dropped, what is out of range goes to the nearer end, and a NaN to 0.
+pub fn int_of_real(x: f64) -> i64
+    ensures { λ r. ⌜ r ≡ toSigned 63 x ⌝ }
+{
+    if x >= -9223372036854775808.0 {
+        if x < 9223372036854775808.0 {
+            std::num::truncating_f64_to_i64(x)
+        } else {
+            9223372036854775807
+        }
+    } else {
+        if x != x { 0 } else { -9223372036854775808 }
+    }
+}
+
+// Rust's `n as f64`: the nearest double, which is n itself up to 2^53 in magnitude.
+pub fn real_of_int(n: i64) -> f64
+    ensures { λ r. ⌜ r ≡ ofInt binary64 n ⌝ }
+{
+    std::num::nearest_i64_to_f64(n)
+}
+
+// ---- clamp and midpoint
+
+// x held within low..high.
+pub fn clamp(x: f64, low: f64, high: f64) -> f64
+    ensures { λ r. ⌜ r ≡ clamp low high x ⌝ }
+{
+    if x < low {
+        return low;
+    }
+    if x > high {
+        return high;
+    }
+    x
+}
+
+// Half the rounded sum.
+pub fn midpoint(a: f64, b: f64) -> f64
+    ensures { λ r. ⌜ r ≡ midpoint a b ⌝ }
+{
+    (a + b) / 2.0
+}
 
 // ---- the square root
 // It takes the bits apart, shifts the significand up by its leading zeros, evens out the exponent, takes the root of the significand
