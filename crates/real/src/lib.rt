@@ -2,12 +2,13 @@
 // Every function is total: a NaN, an infinity or any word goes in.
 
 ghost use mathlib.Core.Path.{_≡_};
-ghost use mathlib.Core.Bool.{cond};
+ghost use mathlib.Core.Bool.{false, cond};
 ghost use Prim.Native.Nat.{_*_, _^_, _<_, _≤_};
-ghost use lib.Dec.{leb};
-ghost use lib.Ieee.{binary64, ofBits, toBits, toSigned, ofInt};
-ghost use Rattle.model.specs.Real.{clamp};
-ghost use Rattle.model.specs.Numbers.{midpoint, nearRoot, rooted, sqrtOf};
+ghost use lib.Dec.{T, leb};
+ghost use lib.IntN.{pos};
+ghost use lib.Ieee.{fin, binary64, lt, ofBits, toBits, toSigned, ofInt};
+ghost use Rattle.model.specs.Real.{nought, clamp};
+ghost use Rattle.model.specs.Numbers.{roundOf, midpoint, nearRoot, rooted, sqrtOf};
 ghost use Rattle.real.specs.IntCode.{wordOfInt, intOfWord};
 
 // ---- words
@@ -97,6 +98,39 @@ pub fn midpoint(a: f64, b: f64) -> f64
     ensures { λ r. ⌜ r ≡ midpoint a b ⌝ }
 {
     (a + b) / 2.0
+}
+
+// ---- round
+
+// x above zero, to the nearest whole number, halves up: of the whole part of twice x, and one, half.
+fn round_above_zero(x: f64) -> f64
+    requires { ⌜ T (lt nought x) × T (lt x (fin false 1 (pos 52))) ⌝ }
+    ensures { λ r. ⌜ r ≡ roundOf x ⌝ }
+{
+    let t = std::num::truncating_f64_to_u64(x + x);
+    std::num::nearest_u64_to_f64((t + 1) / 2)
+}
+
+// The nearest whole number, halves away from zero. The sign stands, also where the result is zero. From 2^52 on every double is whole.
+pub fn round(x: f64) -> f64
+    ensures { λ r. ⌜ r ≡ roundOf x ⌝ }
+{
+    if x > 0.0 {
+        if x < 4503599627370496.0 {
+            round_above_zero(x)
+        } else {
+            x
+        }
+    } else if x < 0.0 {
+        let y = -x;
+        if y < 4503599627370496.0 {
+            -round_above_zero(y)
+        } else {
+            x
+        }
+    } else {
+        x
+    }
 }
 
 // ---- the square root
