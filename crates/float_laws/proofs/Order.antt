@@ -7,7 +7,7 @@ use native.Mathlib.Omega.{arith}
 use mathlib.Core.Bool.{Bool, true, false, not, _&&_, _||_}
 use lib.IntN.{ℤ}
 use lib.Dec.{T, ltb, ltb→lt, lt→ltb, nltb→le}
-use lib.Ieee.{Float, nan, inf, fin, up, down, below, level, le, lt, isNan}
+use lib.Ieee.{Float, nan, inf, fin, up, down, below, level, le, lt, eq, isNan}
 use lib.Ieee.Fits.{down-pos}
 use lib.Ieee.Exact.{HasValue}
 use Rattle.float_laws.proofs.Units.{SLe, SLt, sle→, →sle, slt→, →slt, le→sle, sle→le}
@@ -76,6 +76,14 @@ or-l false b t = absurd t
 pub lt→le : (x y : Float) → T (lt x y) → T (le x y)
 unfolding le
 lt→le x y h = or-l (lt x y) _ h
+
+or-r : (a b : Bool) → T b → T (a || b)
+or-r true b t = tt
+or-r false b t = t
+
+pub eq→le : (x y : Float) → T (eq x y) → T (le x y)
+unfolding le
+eq→le x y h = or-r (lt x y) (eq x y) h
 
 slt-clash : (s t : Bool) (a b : ℕ) → SLt s a t b → SLe t b s a → ⊥
 slt-clash false false a b h k = omega arith

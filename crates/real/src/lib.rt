@@ -8,7 +8,7 @@ ghost use lib.Dec.{T, leb};
 ghost use lib.IntN.{pos};
 ghost use lib.Ieee.{fin, binary64, lt, ofBits, toBits, toSigned, ofInt};
 ghost use Rattle.model.specs.Real.{nought, clamp};
-ghost use Rattle.model.specs.Numbers.{roundOf, midpoint, nearRoot, rooted, sqrtOf};
+ghost use Rattle.model.specs.Numbers.{roundOf, midpoint, nearRoot, rooted, sqrtOf, P, R};
 ghost use Rattle.real.specs.IntCode.{wordOfInt, intOfWord};
 
 // ---- words
@@ -208,4 +208,39 @@ pub fn sqrt(x: f64) -> f64
     } else {
         if x == 0.0 { x } else { 0.0 / 0.0 }
     }
+}
+
+// ---- powers and roots
+
+// P(y, k): k factors y, each product rounded.
+pub fn power(y: f64, k: u64) -> f64
+    ensures { λ r. ⌜ r ≡ P y k ⌝ }
+{
+    let mut p = y;
+    let mut j: u64 = 1;
+    while j < k {
+        p = p * y;
+        j += 1;
+    }
+    p
+}
+
+// R(v, k): the greatest double of 0..2^52 whose kth power is at most v, found by halving over bit patterns.
+pub fn root(v: f64, k: u64) -> f64
+    ensures { λ r. ⌜ r ≡ R v k ⌝ }
+{
+    if v == 0.0 {
+        return 0.0;
+    }
+    let mut lower: u64 = 0;
+    let mut upper: u64 = 0x4330_0000_0000_0000;
+    while lower + 1 < upper {
+        let middle = (lower + upper) / 2;
+        if power(real_of_word(middle), k) <= v {
+            lower = middle;
+        } else {
+            upper = middle;
+        }
+    }
+    real_of_word(lower)
 }

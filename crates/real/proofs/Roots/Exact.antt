@@ -44,7 +44,7 @@ sqrtOf-fits (fin false (suc m) e) X =
     (lt-of-lt-of-le (shl-lt 53 k (f .root-high)) (pow-mono (field-lt j (leadingZeros 64 (suc m)) (shift-lt (suc m) e X (zero-lt-suc m))))))
 
 -- ---- the root of a square is exact
-has-sign : (v : Float) (a c : ℕ) → HasValue v false a c → T (nonneg v) × T (not (isNan v)) × T (finite v)
+pub has-sign : (v : Float) (a c : ℕ) → HasValue v false a c → T (nonneg v) × T (not (isNan v)) × T (finite v)
 unfolding isNan
 has-sign nan a c h = absurd h
 has-sign (inf s) a c h = absurd h
