@@ -1,52 +1,26 @@
--- `round` by whole numbers: twice x is exact, and of its whole part and one, half is the nearest whole number to x, halves up.
+-- `round` by whole numbers: of x above zero, with the whole part n, the nearest whole number is n, or n + 1 where twice x, which is exact, is 2n + 1 or more.
 -- From 2^52 on a double is whole, and is its own rounding. Assumes nothing.
 use mathlib.Core.Path.{_≡_, refl, sym, ap, _∙_, subst}
-use mathlib.Core.Logic.{_⊎_, inl, inr}
 use Prim.Native.Nat.{ℕ, zero, suc, _+_, _-_, _*_, _/_, _^_, _≤_, _<_, min}
-use native.Mathlib.Nat.{le-trans, le-of-eq, lt-of-le-of-lt, not-le-of-lt, zero-div, one-mul, two-mul, mul-one, mul-comm, mul-assoc, mul-left-comm, mul-right-comm, mul-pos, add-mul, mul-le-mul-left, mul-le-mul-right, mul-lt-mul-of-pos-right, le-of-mul-le-mul-right, zero-lt-suc, pow-succ', div-lt-iff-lt-mul, div-div-eq-div-mul, add-div-right}
+use native.Mathlib.Nat.{le-trans, le-of-eq, le-of-lt, le-antisymm, le-of-suc-le-suc, lt-of-le-of-lt, lt-of-not-le, zero-lt-suc, suc-mul, one-mul, mul-one, mul-comm, mul-assoc, mul-left-comm, mul-right-comm, mul-pos, add-mul, mul-le-mul-right, mul-lt-mul-of-pos-right, le-of-mul-le-mul-right, pow-succ', div-lt-iff-lt-mul, le-div-iff-mul-le, div-mul-le-self}
+use native.Mathlib.Numerals.{add-one}
 use native.Mathlib.Omega.{arith}
-use mathlib.Core.Bool.{Bool, true, false, not, cond, true≢false}
-use lib.IntN.{ℤ, pos, negsuc}
+use mathlib.Core.Bool.{Bool, true, false}
 use borrow.Author.Tests.{ltb-false}
+use lib.IntN.{ℤ, pos, negsuc}
 use lib.Dec.{T, lit<, eqb→eq}
-use lib.Pow.{pow-add, pow-pos, pow-mono}
-use lib.Ieee.{Float, nan, inf, fin, binary64, prec, emax, low, up, down, add, sum, round, le, lt, fits, toUnsigned, neg, ofInt}
+use lib.Pow.{pow-pos}
+use lib.Ieee.{Float, nan, inf, fin, binary64, up, down, add, round, le, lt, fits, toUnsigned, neg, ofInt}
 use lib.Ieee.Fits.{up-pos, down-pos, round-fits}
 use lib.Ieee.Exact.{HasValue, round-exact}
-use lib.Ieee.Back.{whole-unique}
-use lib.Ieee.Nearest.{div-same}
-use lib.Ieee.Scale.{finite}
-use Rattle.float_laws.proofs.Units.{Is, le→dif, →sle, →slt, slt→, own, placed, plain}
-use Rattle.float_laws.proofs.Order.{lt→le, lt-le-trans, le-lt-trans}
-use Rattle.float_laws.proofs.Rounding.{add-rnd, rnd-le, le-rnd, between-finite, round-neg}
-use Rattle.float_laws.proofs.Normalised.{nought, nought-is, nought-fits, power, power-is, scaled}
+use lib.Ieee.Back.{round-whole, whole-unique}
+use lib.Ieee.Order.{le-of-values}
+use lib.Ieee.Positive.{positive-of-value, values-of-le}
+use Rattle.float_laws.proofs.Units.{→sle, →slt, slt→, placed, plain}
+use Rattle.float_laws.proofs.Order.{lt-trans}
+use Rattle.float_laws.proofs.Rounding.{round-neg}
+use Rattle.float_laws.proofs.Normalised.{nought, power}
 use Rattle.model.specs.Numbers.{roundOf}
-
-twice : (a n B C : ℕ) → C ≡ B + B → a + 0 ≤ B + n → a + a + 0 ≤ C + (n + n)
-twice a n B C e h = omega arith
-
-twice' : (a n : ℕ) → 0 + n ≤ a + 0 → 0 + (n + n) ≤ a + a + 0
-twice' a n h = omega arith
-
-module _ (x : Float) (X : T (fits binary64 x)) (h : T (le nought x)) (k : T (le x (power 52))) where
-  fine : T (finite x)
-  fine = between-finite nought x (power 52) tt tt h k
-
-  pub double-in : T (lt (fin true 1 (pos 0)) (add binary64 x x)) × T (lt (add binary64 x x) (fin false 1 (pos 64)))
-  unfolding lt fits
-  double-in =
-      let o = own binary64 x X fine in
-      let p = o .0 in
-      let n = o .1 in
-      let r = add-rnd binary64 x x p n p n (o .2) (o .2) in
-      let d1 = le→dif binary64 nought x 0 0 p n (nought-is binary64) (o .2) h in
-      let d2 = le→dif binary64 x (power 52) p n (2 ^ 52 * 2 ^ 1074) 0 (o .2) (power-is 52) k in (
-        lt-le-trans (fin true 1 (pos 0)) nought (add binary64 x x) tt
-            (le-rnd binary64 (add binary64 x x) nought (p + p) (n + n) (2 ^ 1074) 0 0 (pow-pos 1074) r (nought-fits binary64) (nought-is binary64) (scaled 0 (n + n) (p + p) 0 (2 ^ 1074) (twice' p n d1))),
-        le-lt-trans (add binary64 x x) (power 53) (fin false 1 (pos 64))
-            (rnd-le binary64 (add binary64 x x) (power 53) (p + p) (n + n) (2 ^ 1074) (2 ^ 53 * 2 ^ 1074) 0 (pow-pos 1074) r tt (power-is 53) (scaled (p + p) 0 (2 ^ 53 * 2 ^ 1074) (n + n) (2 ^ 1074) (twice p n (2 ^ 52 * 2 ^ 1074) (2 ^ 53 * 2 ^ 1074) refl d2)))
-            tt,
-      )
 
 -- ---- twice x as a fraction
 sum-same : (s : Bool) (m : ℕ) (e : ℤ) → add binary64 (fin s m e) (fin s m e) ≡ round binary64 s (m * up e * down e + m * up e * down e) (down e * down e)
@@ -75,88 +49,109 @@ double-val s m e X b =
     (round-exact binary64 s (A * d + A * d) (d * d) m (suc (j .0)) (mul-pos (down-pos e) (down-pos e)) (j .2) small
     (units-twice A d (2 ^ 1074) m (2 ^ (j .0)) (2 ^ suc (j .0)) (j .1) (pow-succ' 2 (j .0))))
 
--- ---- the whole part of a value
-capped : (a c : ℕ) → a < c → min a (c - 1) ≡ a
-capped a c h = omega arith
+-- ---- x above zero, below 2^52, is A / d with the whole part w
+quotient : (n D q : ℕ) → 0 < D → q * D ≤ n → n < suc q * D → n / D ≡ q
+quotient n D q P a b = le-antisymm (le-of-suc-le-suc (div-lt-iff-lt-mul P .1 b)) (le-div-iff-mul-le P .1 a)
 
-toUnsigned-val : (w : ℕ) (x : Float) (a c : ℕ) → 0 < c → HasValue x false a c → a / c < 2 ^ w → toUnsigned w x ≡ a / c
-unfolding toUnsigned
-toUnsigned-val w nan a c C h l = absurd h
-toUnsigned-val w (inf t) a c C h l = absurd h
-toUnsigned-val w (fin true m e) a c C h l = absurd (true≢false (h .0))
-toUnsigned-val w (fin false m e) a c C h l =
-    let q : m * up e / down e ≡ a / c = div-same (m * up e) (down e) a c (down-pos e) C (h .1) in
-    capped (m * up e / down e) (2 ^ w) (subst (λ (z : ℕ). z < 2 ^ w) (sym q) l) ∙ q
+-- what the test compares, over one denominator
+scaled-up : (w A d : ℕ) → 0 < d → (2 * w + 1) * (d * d) ≤ (A * d + A * d) * 1 → (2 * w + 1) * d ≤ A + A
+scaled-up w A d D h =
+    let e : (A * d + A * d) * 1 ≡ (A + A) * d = mul-one (A * d + A * d) ∙ sym (add-mul A A d) in
+    le-of-mul-le-mul-right (le-trans (le-of-eq (mul-assoc (2 * w + 1) d d)) (le-trans h (le-of-eq e))) D
 
-toUnsigned-neg : (w : ℕ) (x : Float) (a c : ℕ) → HasValue x true a c → toUnsigned w x ≡ 0
-unfolding toUnsigned
-toUnsigned-neg w nan a c h = absurd h
-toUnsigned-neg w (inf t) a c h = absurd h
-toUnsigned-neg w (fin true m e) a c h = refl
-toUnsigned-neg w (fin false m e) a c h = absurd (true≢false (sym (h .0)))
+scaled-back : (w A d : ℕ) → (2 * w + 1) * d ≤ A + A → (2 * w + 1) * (d * d) ≤ (A * d + A * d) * 1
+scaled-back w A d h =
+    let e : (A * d + A * d) * 1 ≡ (A + A) * d = mul-one (A * d + A * d) ∙ sym (add-mul A A d) in
+    le-trans (le-of-eq (sym (mul-assoc (2 * w + 1) d d))) (le-trans (mul-le-mul-right d h) (le-of-eq (sym e)))
 
--- the fraction in lowest reach: (A * d + A * d) / (d * d) is 2 * A / d
-reduce : (A d : ℕ) → 0 < d → (A * d + A * d) / (d * d) ≡ 2 * A / d
-reduce A d D = div-same (A * d + A * d) (d * d) (2 * A) d (mul-pos D D) D (ap (λ (z : ℕ). z * d) (sym (two-mul (A * d)) ∙ sym (mul-assoc 2 A d)) ∙ mul-assoc (2 * A) d d)
+module _ (A d : ℕ) (D : 0 < d) where
+  abbrev part : ℕ
+  part = A / d
 
-under : (A d : ℕ) → 0 < d → A ≤ 2 ^ 52 * d → 2 * A < 2 ^ 64 * d
-under A d D h = omega arith
+  from : part * d ≤ A
+  from = div-mul-le-self A d
 
-bound : (A d : ℕ) → A * 1 ≤ 1 * 2 ^ 52 * d → A ≤ 2 ^ 52 * d
+  to : A < part * d + d
+  to = subst (λ (z : ℕ). A < z) (suc-mul part d) (div-lt-iff-lt-mul D .0 (omega arith))
+
+  odd-times : (2 * part + 1) * d ≡ 2 * (part * d) + d
+  odd-times = add-mul (2 * part) 1 d ∙ ap (λ (z : ℕ). z + 1 * d) (mul-assoc 2 part d) ∙ ap (λ (z : ℕ). 2 * (part * d) + z) (one-mul d)
+
+  times : (q : ℕ) → q * (2 * d) ≡ 2 * (q * d)
+  times q = mul-left-comm q 2 d
+
+  -- half a unit and more above the whole part, or less
+  pub up-to : (2 * part + 1) * d ≤ A + A → (2 * A + d) / (2 * d) ≡ part + 1
+  up-to h =
+      let a = from in
+      let b = to in
+      let c = odd-times in
+      let e = times part in
+      let f = suc-mul part (2 * d) in
+      let g = suc-mul (suc part) (2 * d) in
+      quotient (2 * A + d) (2 * d) (suc part) (omega arith) (omega arith) (omega arith) ∙ sym (add-one part)
+
+  pub down-to : A + A < (2 * part + 1) * d → (2 * A + d) / (2 * d) ≡ part
+  down-to h =
+      let a = from in
+      let c = odd-times in
+      let e = times part in
+      let f = suc-mul part (2 * d) in
+      quotient (2 * A + d) (2 * d) part (omega arith) (omega arith) (omega arith)
+
+-- ---- what the code asks and makes of it
+bound : (A d : ℕ) → A * 1 < 1 * 2 ^ 52 * d → A < 2 ^ 52 * d
 bound A d h = omega arith
 
-nil : (A d : ℕ) → 0 * d + A * 1 ≤ 0 → A ≡ 0
-nil A d h = omega arith
+sides : T (lt (fin true 1 (pos 0)) nought) × T (lt (power 52) (fin false 1 (pos 64)))
+unfolding lt
+sides = (tt, tt)
 
--- the whole part of twice x
-double-whole : (s : Bool) (m : ℕ) (e : ℤ) → T (fits binary64 (fin s m e)) → T (le nought (fin s m e)) → T (le (fin s m e) (power 52)) → toUnsigned 64 (add binary64 (fin s m e) (fin s m e)) ≡ 2 * (m * up e) / down e
-unfolding le
-double-whole false m e X h k =
-    let b : m * up e ≤ 2 ^ 52 * down e = bound (m * up e) (down e) (→sle false (m * up e * 1) false (1 * 2 ^ 52 * down e) k) in
-    let q = reduce (m * up e) (down e) (down-pos e) in
-    toUnsigned-val 64 (add binary64 (fin false m e) (fin false m e)) (m * up e * down e + m * up e * down e) (down e * down e) (mul-pos (down-pos e) (down-pos e)) (double-val false m e X b)
-    (subst (λ (z : ℕ). z < 2 ^ 64) (sym q) (div-lt-iff-lt-mul (down-pos e) .1 (under (m * up e) (down e) (down-pos e) b)))
-    ∙ q
-double-whole true m e X h k =
-    let z : m * up e ≡ 0 = nil (m * up e) (down e) (→sle false (0 * down e) true (m * up e * 1) h) in
-    let b : m * up e ≤ 2 ^ 52 * down e = omega arith in
-    toUnsigned-neg 64 (add binary64 (fin true m e) (fin true m e)) (m * up e * down e + m * up e * down e) (down e * down e) (double-val true m e X b)
-    ∙ sym (zero-div (down e)) ∙ ap (λ (w : ℕ). w / down e) (omega arith)
+pub castable : (x : Float) → T (lt nought x) → T (lt x (power 52)) → T (lt (fin true 1 (pos 0)) x) × T (lt x (fin false 1 (pos 64)))
+castable x h k = (lt-trans (fin true 1 (pos 0)) nought x (sides .0) h, lt-trans x (power 52) (fin false 1 (pos 64)) k (sides .1))
 
--- t + 1 fits
-pub one-more : (x : Float) → T (fits binary64 x) → T (le nought x) → T (le x (power 52)) → toUnsigned 64 (add binary64 x x) + 1 < 2 ^ 64
-unfolding le
-one-more nan X h k = absurd h
-one-more (inf true) X h k = absurd h
-one-more (inf false) X h k = absurd k
-one-more (fin true m e) X h k =
-    let z : m * up e ≡ 0 = nil (m * up e) (down e) (→sle false (0 * down e) true (m * up e * 1) h) in
-    let b : m * up e ≤ 2 ^ 52 * down e = omega arith in
-    let q = toUnsigned-neg 64 (add binary64 (fin true m e) (fin true m e)) (m * up e * down e + m * up e * down e) (down e * down e) (double-val true m e X b) in
-    subst (λ (w : ℕ). w + 1 < 2 ^ 64) (sym q) (lit< tt)
-one-more (fin false m e) X h k =
-    let b : m * up e ≤ 2 ^ 52 * down e = bound (m * up e) (down e) (→sle false (m * up e * 1) false (1 * 2 ^ 52 * down e) k) in
-    let q = double-whole false m e X h k in
-    let w : 2 * (m * up e) / down e < 2 ^ 60 = div-lt-iff-lt-mul (down-pos e) .1 (small (m * up e) (down e) (down-pos e) b) in
-    omega arith
+num-pos : (m : ℕ) (e : ℤ) → T (lt nought (fin false m e)) → 0 < m * up e
+unfolding lt
+num-pos m e h = let l = →slt false (0 * 1 * down e) false (m * up e * 1) h in omega arith
+
+-- the whole part n of x: it is the answer, or the next number where twice x is at least 2n + 1
+pub record Parted (x : Float) (n : ℕ) : Type 0 where
+  pub small : n < 2 ^ 52
+  pub up : le (ofInt binary64 (pos (2 * n + 1))) (add binary64 x x) ≡ true → ofInt binary64 (pos (n + 1)) ≡ roundOf x
+  pub down : le (ofInt binary64 (pos (2 * n + 1))) (add binary64 x x) ≡ false → ofInt binary64 (pos n) ≡ roundOf x
+
+pub parted : (x : Float) → T (fits binary64 x) → T (lt nought x) → T (lt x (power 52)) → Parted x (toUnsigned 64 x)
+unfolding lt toUnsigned ofInt roundOf
+parted nan X h k = absurd h
+parted (inf true) X h k = absurd h
+parted (inf false) X h k = absurd k
+parted (fin true m e) X h k = absurd h
+parted (fin false m e) X h k =
+    let x = fin false m e in
+    let A = m * up e in
+    let d = down e in
+    let D = down-pos e in
+    let n = A / d in
+    let b : A < 2 ^ 52 * d = bound A d (→slt false (A * 1) false (1 * 2 ^ 52 * d) k) in
+    let s : n < 2 ^ 52 = div-lt-iff-lt-mul D .1 b in
+    let odd = round binary64 false (2 * n + 1) 1 in
+    let v : HasValue odd false (2 * n + 1) 1 = round-whole binary64 false (2 * n + 1) (omega arith) in
+    let u : HasValue (add binary64 x x) false (A * d + A * d) (d * d) = double-val false m e X (le-of-lt b) in
+    let p : 0 < A = num-pos m e h in
+    let q : 0 < A * d + A * d = let r = mul-pos p D in omega arith in
+    subst (Parted x) (sym (capped n s))
+    (record {
+      small = s;
+      up = λ t.
+          ap (λ (z : ℕ). round binary64 false z 1)
+          (sym (up-to A d D (scaled-up n A d D (values-of-le odd (add binary64 x x) (2 * n + 1) 1 (A * d + A * d) (d * d) (positive-of-value odd (2 * n + 1) 1 v (omega arith)) (positive-of-value (add binary64 x x) (A * d + A * d) (d * d) u q) v u (subst T (sym t) tt)))));
+      down = λ t.
+          ap (λ (z : ℕ). round binary64 false z 1)
+          (sym (down-to A d D (lt-of-not-le (λ (g : (2 * n + 1) * d ≤ A + A). subst T t (le-of-values odd (add binary64 x x) (2 * n + 1) 1 (A * d + A * d) (d * d) (lit< tt) (mul-pos D D) v u (scaled-back n A d g))))));
+    })
   where
-    small : (A d : ℕ) → 0 < d → A ≤ 2 ^ 52 * d → 2 * A < 2 ^ 60 * d
-    small A d D h = omega arith
-
--- ---- x above zero, below 2^52
-nearest : (A d : ℕ) → 0 < d → (2 * A / d + 1) / 2 ≡ (2 * A + d) / (2 * d)
-nearest A d D =
-    ap (λ (z : ℕ). z / 2) (sym (add-div-right (2 * A) D)) ∙ div-div-eq-div-mul (2 * A + d) d 2 ∙ ap (λ (z : ℕ). (2 * A + d) / z) (mul-comm d 2)
-
-pub half-up : (x : Float) → T (fits binary64 x) → T (lt nought x) → T (lt x (power 52)) → ofInt binary64 (pos ((toUnsigned 64 (add binary64 x x) + 1) / 2)) ≡ roundOf x
-unfolding roundOf ofInt lt
-half-up nan X h k = absurd h
-half-up (inf true) X h k = absurd h
-half-up (inf false) X h k = absurd k
-half-up (fin true m e) X h k = absurd h
-half-up (fin false m e) X h k =
-    ap (λ (z : ℕ). round binary64 false ((z + 1) / 2) 1) (double-whole false m e X (lt→le nought (fin false m e) h) (lt→le (fin false m e) (power 52) k))
-    ∙ ap (λ (z : ℕ). round binary64 false z 1) (nearest (m * up e) (down e) (down-pos e))
+    capped : (n : ℕ) → n < 2 ^ 52 → min n (2 ^ 64 - 1) ≡ n
+    capped n h = omega arith
 
 -- ---- from 2^52 on
 room : (A q : ℕ) → A * 2 ^ 1074 ≡ q * 1 → A < 2 ^ 1024 * 1 → q < 2 ^ (1074 + 1024)

@@ -102,13 +102,17 @@ pub fn midpoint(a: f64, b: f64) -> f64
 
 // ---- round
 
-// x above zero, to the nearest whole number, halves up: of the whole part of twice x, and one, half.
+// x above zero, to the nearest whole number, halves up.
 fn round_above_zero(x: f64) -> f64
     requires { ⌜ T (lt nought x) × T (lt x (fin false 1 (pos 52))) ⌝ }
     ensures { λ r. ⌜ r ≡ roundOf x ⌝ }
 {
-    let t = std::num::truncating_f64_to_u64(x + x);
-    std::num::nearest_u64_to_f64((t + 1) / 2)
+    let n = std::num::truncating_f64_to_u64(x);
+    if x + x >= std::num::nearest_u64_to_f64(2 * n + 1) {
+        std::num::nearest_u64_to_f64(n + 1)
+    } else {
+        std::num::nearest_u64_to_f64(n)
+    }
 }
 
 // The nearest whole number, halves away from zero. The sign stands, also where the result is zero. From 2^52 on every double is whole.
