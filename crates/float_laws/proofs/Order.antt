@@ -1,4 +1,5 @@
--- `le` and `lt` are a total order on every float but `nan`, whatever its format, with -0 level with +0. Assumes nothing.
+-- The order of all floats: `le` and `lt` are a total order on every float but NaN, whatever its format, with -0 level with +0. State facts by `T (le x y)`,
+-- not by `≡`, since the two zeros differ as data. A test of the code gives `le x y ≡ true`: `subst T (sym e) tt` makes the fact of it. Assumes nothing.
 use mathlib.Core.Path.{_≡_, refl, sym, ap, _∙_, subst}
 use mathlib.Core.Logic.{_⊎_, inl, inr}
 use Prim.Native.Nat.{ℕ, _+_, _*_, _≤_, _<_}

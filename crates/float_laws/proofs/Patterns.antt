@@ -1,4 +1,4 @@
--- Values with the sign clear, no NaN, are in the order of their bit patterns. Assumes nothing.
+-- Bit patterns: floats with the sign clear, no NaN among them, are in the order of their patterns, and two that are level are one. Assumes nothing.
 use mathlib.Core.Path.{_≡_, refl, sym, ap, _∙_, subst}
 use mathlib.Core.Logic.{_⊎_, inl, inr}
 use Prim.Native.Nat.{ℕ, zero, suc, _+_, _-_, _*_, _/_, _^_, _≤_, _<_, zero-le}
@@ -13,9 +13,9 @@ use lib.Ieee.Digits.{size-lt, size-le, size-reaches}
 use lib.Ieee.Fits.{down-pos, kept-lt, two, reach}
 use lib.Ieee.Bits.{ofBits-toBits}
 use lib.Ieee.Nearest.{div-mono}
-use Rattle.float_laws.proofs.Units.{Is, le→dif, placed}
+use Rattle.float_laws.proofs.Units.{Counts, le→counts, placed}
 use Rattle.float_laws.proofs.Order as total
-use Rattle.float_laws.proofs.Rounding.{nonneg}
+use Rattle.float_laws.proofs.Rounding.{unsigned}
 
 -- the pattern of g units
 abbrev enc : ℕ → ℕ → ℕ
@@ -93,7 +93,7 @@ inf-bits : (f : Format) → ones f * hid f ≤ toBits f (inf false)
 unfolding toBits
 inf-bits f = le-of-eq (sym (zero-add (ones f * hid f)))
 
-pub le→bits : (f : Format) (x y : Float) → T (fits f x) → T (fits f y) → T (nonneg x) → T (nonneg y) → T (le x y) → toBits f x ≤ toBits f y
+pub le→bits : (f : Format) (x y : Float) → T (fits f x) → T (fits f y) → T (unsigned x) → T (unsigned y) → T (le x y) → toBits f x ≤ toBits f y
 le→bits f nan y X Y a b h = absurd a
 le→bits f (inf true) y X Y a b h = absurd a
 le→bits f (inf false) nan X Y a b h = absurd b
@@ -112,16 +112,16 @@ le→bits f (fin false m e) (fin false n d) X Y a b h =
     let j = placed f false n d Y in
     let g = m * 2 ^ (i .0) in
     let k = n * 2 ^ (j .0) in
-    let l : g + 0 ≤ k + 0 = le→dif f (fin false m e) (fin false n d) g 0 k 0 (g, i .1, sym (zero-add g)) (k, j .1, sym (zero-add k)) h in
+    let l : g + 0 ≤ k + 0 = le→counts f (fin false m e) (fin false n d) g 0 k 0 (g, i .1, sym (zero-add g)) (k, j .1, sym (zero-add k)) h in
     le-trans (le-of-eq (bits-is f m e g (i .1))) (le-trans (enc-mono (prec f) g k (prec-pos f) (omega arith)) (le-of-eq (sym (bits-is f n d k (j .1)))))
 
-not-nan : (x : Float) → T (nonneg x) → T (not (isNan x))
+not-nan : (x : Float) → T (unsigned x) → T (not (isNan x))
 unfolding isNan
 not-nan nan h = absurd h
 not-nan (inf s) h = tt
 not-nan (fin s m e) h = tt
 
-pub bits→le : (f : Format) (x y : Float) → T (fits f x) → T (fits f y) → T (nonneg x) → T (nonneg y) → toBits f x ≤ toBits f y → T (le x y)
+pub bits→le : (f : Format) (x y : Float) → T (fits f x) → T (fits f y) → T (unsigned x) → T (unsigned y) → toBits f x ≤ toBits f y → T (le x y)
 bits→le f x y X Y a b h = elim (total.le-total x y (not-nan x a) (not-nan y b)) [
   | inl l ↦ l
   | inr r ↦
@@ -130,13 +130,13 @@ bits→le f x y X Y a b h = elim (total.le-total x y (not-nan x a) (not-nan y b)
       subst (λ (z : Float). T (le x z)) same (total.le-refl x (not-nan x a))
 ]
 
-pub lt→bits : (f : Format) (x y : Float) → T (fits f x) → T (fits f y) → T (nonneg x) → T (nonneg y) → T (lt x y) → toBits f x < toBits f y
+pub lt→bits : (f : Format) (x y : Float) → T (fits f x) → T (fits f y) → T (unsigned x) → T (unsigned y) → T (lt x y) → toBits f x < toBits f y
 lt→bits f x y X Y a b h = lt-of-not-le (λ (g : toBits f y ≤ toBits f x). total.lt→nle x y h (bits→le f y x Y X b a g))
 
-pub bits→lt : (f : Format) (x y : Float) → T (fits f x) → T (fits f y) → T (nonneg x) → T (nonneg y) → toBits f x < toBits f y → T (lt x y)
+pub bits→lt : (f : Format) (x y : Float) → T (fits f x) → T (fits f y) → T (unsigned x) → T (unsigned y) → toBits f x < toBits f y → T (lt x y)
 bits→lt f x y X Y a b h = elim (total.lt-or-le x y (not-nan x a) (not-nan y b)) [ inl l ↦ l | inr g ↦ absurd (native.Mathlib.Nat.not-le-of-lt h (le→bits f y x Y X b a g)) ]
 
 -- two values with the sign clear that are level are one
-pub le-antisym : (f : Format) (x y : Float) → T (fits f x) → T (fits f y) → T (nonneg x) → T (nonneg y) → T (le x y) → T (le y x) → x ≡ y
+pub le-antisym : (f : Format) (x y : Float) → T (fits f x) → T (fits f y) → T (unsigned x) → T (unsigned y) → T (le x y) → T (le y x) → x ≡ y
 le-antisym f x y X Y a b h k =
     sym (ofBits-toBits f x X) ∙ ap (λ (z : ℕ). ofBits f z) (le-antisymm (le→bits f x y X Y a b h) (le→bits f y x Y X b a k)) ∙ ofBits-toBits f y Y

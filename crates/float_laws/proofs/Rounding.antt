@@ -1,4 +1,6 @@
--- `Rnd f x p n c`: x is what `round` makes of (p - n) / c, of either sign. It keeps the order, and sums, differences, products and quotients are such roundings. Assumes nothing.
+-- One rounding. `Rounded f x p n c` says that x is what `round` makes of (p - n) / c. Sums, differences and quotients of counted floats are such roundings
+-- (`add-rounded`, `sub-rounded`, `div-rounded`; products in `Arithmetic`). Rounding keeps the order (`rounded-mono`), does not pass a value that the format
+-- holds (`rounded-le`, `le-rounded`) and is exact where it can be (`rounded-exact`). Assumes nothing.
 use mathlib.Core.Path.{_≡_, refl, sym, ap, _∙_, subst}
 use mathlib.Core.Logic.{_⊎_, inl, inr}
 use Prim.Native.Nat.{ℕ, zero, suc, _+_, _-_, _*_, _/_, _%_, _^_, _≤_, _<_, zero-le, compare}
@@ -14,7 +16,7 @@ use lib.Ieee.Exact.{HasValue, round-exact}
 use lib.Ieee.Order.{round-mono}
 use lib.Ieee.Scale.{finite, round-same}
 use Rattle.float_laws.proofs.Order.{le-trans as le-trans-float}
-use Rattle.float_laws.proofs.Units.{Sgn, Is, SLe, SLt, sle→, →sle, dif→sle, le→dif, dif→le, lt→dif, dif→lt, Place, placed, own}
+use Rattle.float_laws.proofs.Units.{Sgn, Counts, SLe, SLt, sle→, →sle, dif→sle, le→counts, counts→le, lt→counts, counts→lt, Place, placed, Number, counts-of, counts-finite, counts-same}
 
 -- ---- negation turns the order round
 pub le-neg : (x y : Float) → T (le x y) → T (le (neg y) (neg x))
@@ -59,30 +61,30 @@ pub round-neg : (f : Format) (a b : ℕ) → round f true a b ≡ neg (round f f
 unfolding round
 round-neg f a b = units-neg f _ _
 
--- ---- no NaN and no sign
-abbrev pub nonneg : Float → Bool
-nonneg nan = false
-nonneg (inf s) = not s
-nonneg (fin s m e) = not s
+-- ---- no NaN, and the sign clear: -0 is not among these, and what `le` has from 0 up includes it
+abbrev pub unsigned : Float → Bool
+unsigned nan = false
+unsigned (inf s) = not s
+unsigned (fin s m e) = not s
 
-odd-nonneg : (d q k l : ℕ) → T (nonneg (odd d false q k l))
+odd-unsigned : (d q k l : ℕ) → T (unsigned (odd d false q k l))
 unfolding odd
-odd-nonneg d zero k l = tt
-odd-nonneg d (suc q) k l = tt
+odd-unsigned d zero k l = tt
+odd-unsigned d (suc q) k l = tt
 
-cond-nonneg : (b : Bool) (x y : Float) → T (nonneg x) → T (nonneg y) → T (nonneg (cond b x y))
-cond-nonneg true x y p q = p
-cond-nonneg false x y p q = q
+cond-unsigned : (b : Bool) (x y : Float) → T (unsigned x) → T (unsigned y) → T (unsigned (cond b x y))
+cond-unsigned true x y p q = p
+cond-unsigned false x y p q = q
 
-units-nonneg : (f : Format) (q k : ℕ) → T (nonneg (units f false q k))
+units-unsigned : (f : Format) (q k : ℕ) → T (unsigned (units f false q k))
 unfolding units
-units-nonneg f q k = cond-nonneg (ltb (q * 2 ^ k) (2 ^ (low f + suc (emax f)))) (odd (suc (prec f)) false q k (low f)) (inf false) (odd-nonneg (suc (prec f)) q k (low f)) tt
+units-unsigned f q k = cond-unsigned (ltb (q * 2 ^ k) (2 ^ (low f + suc (emax f)))) (odd (suc (prec f)) false q k (low f)) (inf false) (odd-unsigned (suc (prec f)) q k (low f)) tt
 
-pub round-nonneg : (f : Format) (a b : ℕ) → T (nonneg (round f false a b))
+pub round-unsigned : (f : Format) (a b : ℕ) → T (unsigned (round f false a b))
 unfolding round
-round-nonneg f a b = units-nonneg f _ _
+round-unsigned f a b = units-unsigned f _ _
 
-minus-below : (x y : Float) → T (nonneg x) → T (nonneg y) → T (le (neg x) y)
+minus-below : (x y : Float) → T (unsigned x) → T (unsigned y) → T (le (neg x) y)
 unfolding le neg
 minus-below nan y p q = absurd p
 minus-below (inf true) y p q = absurd p
@@ -139,28 +141,28 @@ round-sle f false a b true c d B D h =
     (subst (λ (z : ℕ). T (le (round f false 0 b) (round f true z d))) (sym y)
     (zero-le-zero (round f false 0 b) (round f true 0 d) false true b d B D (round-zero f false b B) (round-zero f true d D)))
 round-sle f true a b false c d B D h =
-    subst (λ (z : Float). T (le z (round f false c d))) (sym (round-neg f a b)) (minus-below (round f false a b) (round f false c d) (round-nonneg f a b) (round-nonneg f c d))
+    subst (λ (z : Float). T (le z (round f false c d))) (sym (round-neg f a b)) (minus-below (round f false a b) (round f false c d) (round-unsigned f a b) (round-unsigned f c d))
 round-sle f true a b true c d B D h =
     subst (λ (z : Float). T (le z (round f true c d))) (sym (round-neg f a b))
     (subst (λ (z : Float). T (le (neg (round f false a b)) z)) (sym (round-neg f c d))
     (le-neg (round f false c d) (round f false a b) (round-mono f c d a b D B h)))
 
 -- ---- x is (p - n) / c rounded
-abbrev pub Rnd : Format → Float → ℕ → ℕ → ℕ → Type 0
-Rnd f x p n c = (r : Bool) × (g : ℕ) × (x ≡ round f r g c) × Sgn r g p n
+abbrev pub Rounded : Format → Float → ℕ → ℕ → ℕ → Type 0
+Rounded f x p n c = (r : Bool) × (g : ℕ) × (x ≡ round f r g c) × Sgn r g p n
 
 scale-sgn : (r : Bool) (g p n k : ℕ) → Sgn r g p n → Sgn r (g * k) (p * k) (n * k)
 scale-sgn false g p n k e = ap (λ (z : ℕ). z * k) e ∙ add-mul n g k
 scale-sgn true g p n k e = ap (λ (z : ℕ). z * k) e ∙ add-mul p g k
 
-pub rnd-mono : (f : Format) (x y : Float) (p n c p' n' c' : ℕ) → 0 < c → 0 < c' → Rnd f x p n c → Rnd f y p' n' c' → p * c' + n' * c ≤ p' * c + n * c' → T (le x y)
-rnd-mono f x y p n c p' n' c' C C' a b h =
+pub rounded-mono : (f : Format) (x y : Float) (p n c p' n' c' : ℕ) → 0 < c → 0 < c' → Rounded f x p n c → Rounded f y p' n' c' → p * c' + n' * c ≤ p' * c + n * c' → T (le x y)
+rounded-mono f x y p n c p' n' c' C C' a b h =
     subst (λ (z : Float). T (le z y)) (sym (a .2))
     (subst (λ (z : Float). T (le (round f (a .0) (a .1) c) z)) (sym (b .2))
     (round-sle f (a .0) (a .1) c (b .0) (b .1) c' C C'
     (dif→sle (a .0) (b .0) (a .1 * c') (b .1 * c) (p * c') (n * c') (p' * c) (n' * c) (scale-sgn (a .0) (a .1) p n c' (a .3)) (scale-sgn (b .0) (b .1) p' n' c (b .3)) h)))
 
--- ---- `Rnd` turns only on the value (p - n) / c
+-- ---- `Rounded` turns only on the value (p - n) / c
 part : (G g p n L c A B : ℕ) → 0 < c → 0 < L → A ≡ B + G → A * L + n * c ≡ p * c + B * L → g ≡ p - n → (G * L ≡ g * c) × (p ≡ n + g)
 part G g p n L c A B C P e h k =
     let a : A * L ≡ B * L + G * L = ap (λ (z : ℕ). z * L) e ∙ add-mul B G L in
@@ -169,11 +171,11 @@ part G g p n L c A B C P e h k =
     let y : p * c ≡ n * c + g * c = ap (λ (z : ℕ). z * c) x ∙ add-mul n g c in
     (omega arith, x)
 
-pub rnd-same : (f : Format) (x : Float) (P N c p n L : ℕ) → 0 < c → 0 < L → Rnd f x P N c → P * L + n * c ≡ p * c + N * L → Rnd f x p n L
-rnd-same f x P N c p n L C D (false, G, e, k) h =
+pub rounded-same : (f : Format) (x : Float) (P N c p n L : ℕ) → 0 < c → 0 < L → Rounded f x P N c → P * L + n * c ≡ p * c + N * L → Rounded f x p n L
+rounded-same f x P N c p n L C D (false, G, e, k) h =
     let z = part G (p - n) p n L c P N C D k h refl in
     (false, p - n, e ∙ round-same f false G c (p - n) L C D (z .0), z .1)
-rnd-same f x P N c p n L C D (true, G, e, k) h =
+rounded-same f x P N c p n L C D (true, G, e, k) h =
     let z = part G (n - p) n p L c N P C D k (omega arith) refl in
     (true, n - p, e ∙ round-same f true G c (n - p) L C D (z .0), z .1)
 
@@ -184,18 +186,18 @@ ps s a = cond s 0 a
 abbrev ns : Bool → ℕ → ℕ
 ns s a = cond s a 0
 
-sum-rnd : (f : Format) (s : Bool) (a : ℕ) (t : Bool) (b c : ℕ) → Rnd f (sum f s a t b c) (ps s a + ps t b) (ns s a + ns t b) c
+sum-rounded : (f : Format) (s : Bool) (a : ℕ) (t : Bool) (b c : ℕ) → Rounded f (sum f s a t b c) (ps s a + ps t b) (ns s a + ns t b) c
 unfolding sum
-sum-rnd f false a false b c = (false, a + b, refl, omega arith)
-sum-rnd f true a true b c = (true, a + b, refl, omega arith)
-sum-rnd f false a true b c = go (ltb a b) (ltb→lt a b) (nltb→le a b)
+sum-rounded f false a false b c = (false, a + b, refl, omega arith)
+sum-rounded f true a true b c = (true, a + b, refl, omega arith)
+sum-rounded f false a true b c = go (ltb a b) (ltb→lt a b) (nltb→le a b)
   where
-    go : (q : Bool) → (T q → a < b) → (T (not q) → b ≤ a) → Rnd f (cond q (round f true (b - a) c) (round f false (a - b) c)) (a + 0) (0 + b) c
+    go : (q : Bool) → (T q → a < b) → (T (not q) → b ≤ a) → Rounded f (cond q (round f true (b - a) c) (round f false (a - b) c)) (a + 0) (0 + b) c
     go true x y = (true, b - a, refl, let z = x tt in omega arith)
     go false x y = (false, a - b, refl, let z = y tt in omega arith)
-sum-rnd f true a false b c = go (ltb a b) (ltb b a) (ltb→lt a b) (nltb→le a b) (ltb→lt b a) (nltb→le b a)
+sum-rounded f true a false b c = go (ltb a b) (ltb b a) (ltb→lt a b) (nltb→le a b) (ltb→lt b a) (nltb→le b a)
   where
-    go : (q r : Bool) → (T q → a < b) → (T (not q) → b ≤ a) → (T r → b < a) → (T (not r) → a ≤ b) → Rnd f (cond q (round f false (b - a) c) (round f r (a - b) c)) (0 + b) (a + 0) c
+    go : (q r : Bool) → (T q → a < b) → (T (not q) → b ≤ a) → (T r → b < a) → (T (not r) → a ≤ b) → Rounded f (cond q (round f false (b - a) c) (round f r (a - b) c)) (0 + b) (a + 0) c
     go true r x y u v = (false, b - a, refl, let z = x tt in omega arith)
     go false true x y u v = (true, a - b, refl, let z = y tt in omega arith)
     go false false x y u v = (false, a - b, refl, let z = y tt in let w = v tt in omega arith)
@@ -221,33 +223,33 @@ both P P' N N' p p' n n' L c h k =
     let e = add-mul N N' L in
     omega arith
 
-pub add-rnd : (f : Format) (x y : Float) (p n p' n' : ℕ) → Is f x p n → Is f y p' n' → Rnd f (add f x y) (p + p') (n + n') (2 ^ low f)
+pub add-rounded : (f : Format) (x y : Float) (p n p' n' : ℕ) → Counts f x p n → Counts f y p' n' → Rounded f (add f x y) (p + p') (n + n') (2 ^ low f)
 unfolding add
-add-rnd f nan y p n p' n' a b = absurd a
-add-rnd f (inf s) y p n p' n' a b = absurd a
-add-rnd f (fin s m e) nan p n p' n' a b = absurd b
-add-rnd f (fin s m e) (inf t) p n p' n' a b = absurd b
-add-rnd f (fin s m e) (fin t k d) p n p' n' a b =
+add-rounded f nan y p n p' n' a b = absurd a
+add-rounded f (inf s) y p n p' n' a b = absurd a
+add-rounded f (fin s m e) nan p n p' n' a b = absurd b
+add-rounded f (fin s m e) (inf t) p n p' n' a b = absurd b
+add-rounded f (fin s m e) (fin t k d) p n p' n' a b =
     let A = m * up e in
     let B = k * up d in
     let L = 2 ^ low f in
     let c = down e * down d in
-    rnd-same f (sum f s (A * down d) t (B * down e) c) (ps s (A * down d) + ps t (B * down e)) (ns s (A * down d) + ns t (B * down e)) c (p + p') (n + n') L (mul-pos (down-pos e) (down-pos d)) (pow-pos (low f))
-    (sum-rnd f s (A * down d) t (B * down e) c)
+    rounded-same f (sum f s (A * down d) t (B * down e) c) (ps s (A * down d) + ps t (B * down e)) (ns s (A * down d) + ns t (B * down e)) c (p + p') (n + n') L (mul-pos (down-pos e) (down-pos d)) (pow-pos (low f))
+    (sum-rounded f s (A * down d) t (B * down e) c)
     (both (ps s (A * down d)) (ps t (B * down e)) (ns s (A * down d)) (ns t (B * down e)) p p' n n' L c
     (over s A L (a .0) (down e) (down d) p n (a .1) (a .2))
     (subst (λ (z : ℕ). ps t (B * down e) * L + n' * z ≡ p' * z + ns t (B * down e) * L) (mul-comm (down d) (down e)) (over t B L (b .0) (down d) (down e) p' n' (b .1) (b .2))))
 
-pub neg-is : (f : Format) (x : Float) (p n : ℕ) → Is f x p n → Is f (neg x) n p
+pub neg-counts : (f : Format) (x : Float) (p n : ℕ) → Counts f x p n → Counts f (neg x) n p
 unfolding neg
-neg-is f nan p n a = absurd a
-neg-is f (inf s) p n a = absurd a
-neg-is f (fin true m e) p n a = a
-neg-is f (fin false m e) p n a = a
+neg-counts f nan p n a = absurd a
+neg-counts f (inf s) p n a = absurd a
+neg-counts f (fin true m e) p n a = a
+neg-counts f (fin false m e) p n a = a
 
-pub sub-rnd : (f : Format) (x y : Float) (p n p' n' : ℕ) → Is f x p n → Is f y p' n' → Rnd f (sub f x y) (p + n') (n + p') (2 ^ low f)
+pub sub-rounded : (f : Format) (x y : Float) (p n p' n' : ℕ) → Counts f x p n → Counts f y p' n' → Rounded f (sub f x y) (p + n') (n + p') (2 ^ low f)
 unfolding sub
-sub-rnd f x y p n p' n' a b = add-rnd f x (neg y) p n n' p' a (neg-is f y p' n' b)
+sub-rounded f x y p n p' n' a b = add-rounded f x (neg y) p n n' p' a (neg-counts f y p' n' b)
 
 -- ---- the quotient by a divisor above zero
 pub div-is : (f : Format) (s : Bool) (m : ℕ) (e : ℤ) (k : ℕ) (d : ℤ) → 0 < k → div f (fin s m e) (fin false k d) ≡ round f s (m * up e * down d) (k * up d * down e)
@@ -272,13 +274,13 @@ cross a b c d g j L u v =
     x ∙ ap (λ (z : ℕ). z * (j * d)) u ∙ ap (λ (z : ℕ). g * c * z) (sym v) ∙ y
 
 -- x / y for y = (p' - n') units above zero
-pub div-rnd : (f : Format) (x y : Float) (p n p' n' : ℕ) → n' < p' → Is f x p n → Is f y p' n' → Rnd f (div f x y) p n (p' - n')
-div-rnd f nan y p n p' n' h a b = absurd a
-div-rnd f (inf s) y p n p' n' h a b = absurd a
-div-rnd f (fin s m e) nan p n p' n' h a b = absurd b
-div-rnd f (fin s m e) (inf t) p n p' n' h a b = absurd b
-div-rnd f (fin s m e) (fin true k d) p n p' n' h a b = absurd (gap (b .0) p' n' (b .2) h)
-div-rnd f (fin s m e) (fin false k d) p n p' n' h (g, u, x) (j, v, y) =
+pub div-rounded : (f : Format) (x y : Float) (p n p' n' : ℕ) → n' < p' → Counts f x p n → Counts f y p' n' → Rounded f (div f x y) p n (p' - n')
+div-rounded f nan y p n p' n' h a b = absurd a
+div-rounded f (inf s) y p n p' n' h a b = absurd a
+div-rounded f (fin s m e) nan p n p' n' h a b = absurd b
+div-rounded f (fin s m e) (inf t) p n p' n' h a b = absurd b
+div-rounded f (fin s m e) (fin true k d) p n p' n' h a b = absurd (gap (b .0) p' n' (b .2) h)
+div-rounded f (fin s m e) (fin false k d) p n p' n' h (g, u, x) (j, v, y) =
     let J : 0 < j = grow j p' n' y h in
     let L = 2 ^ low f in
     let K : 0 < k = first-pos k (up d) (first-pos (k * up d) L (subst (λ (z : ℕ). 0 < z) (sym v) (mul-pos J (down-pos d)))) in
@@ -294,10 +296,10 @@ div-rnd f (fin s m e) (fin false k d) p n p' n' h (g, u, x) (j, v, y) =
     )
 
 -- ---- a value of the format is its own rounding
-pub value-is : (f : Format) (x : Float) (s : Bool) (g p n : ℕ) → HasValue x s g (2 ^ low f) → Sgn s g p n → Is f x p n
-value-is f nan s g p n h k = absurd h
-value-is f (inf t) s g p n h k = absurd h
-value-is f (fin t m e) s g p n h k = (g, h .1, subst (λ (b : Bool). Sgn b g p n) (sym (h .0)) k)
+pub value-counts : (f : Format) (x : Float) (s : Bool) (g p n : ℕ) → HasValue x s g (2 ^ low f) → Sgn s g p n → Counts f x p n
+value-counts f nan s g p n h k = absurd h
+value-counts f (inf t) s g p n h k = absurd h
+value-counts f (fin t m e) s g p n h k = (g, h .1, subst (λ (b : Bool). Sgn b g p n) (sym (h .0)) k)
 
 round-self : (f : Format) (s : Bool) (m : ℕ) (e : ℤ) (g : ℕ) → T (fits f (fin s m e)) → m * up e * 2 ^ low f ≡ g * down e → HasValue (round f s g (2 ^ low f)) s g (2 ^ low f)
 round-self f s m e g h u =
@@ -311,26 +313,27 @@ round-self f s m e g h u =
     (mul-lt-mul-of-pos-right (j .3) (pow-pos (low f)))) in
     round-exact f s g L m (j .0) (pow-pos (low f)) (j .2) (lt-of-mul-lt-mul-right (down e) bound) (ap (λ (z : ℕ). z * L) same)
 
-pub self : (f : Format) (y : Float) (p n : ℕ) → T (fits f y) → Is f y p n → (w : Float) × Rnd f w p n (2 ^ low f) × Is f w p n
+pub self : (f : Format) (y : Float) (p n : ℕ) → T (fits f y) → Counts f y p n → (w : Float) × Rounded f w p n (2 ^ low f) × Counts f w p n
 self f nan p n h a = absurd a
 self f (inf t) p n h a = absurd a
-self f (fin t m e) p n h (g, u, k) = (round f t g (2 ^ low f), (t, g, refl, k), value-is f (round f t g (2 ^ low f)) t g p n (round-self f t m e g h u) k)
+self f (fin t m e) p n h (g, u, k) = (round f t g (2 ^ low f), (t, g, refl, k), value-counts f (round f t g (2 ^ low f)) t g p n (round-self f t m e g h u) k)
 
-module _ (f : Format) (x y : Float) (p n c p' n' : ℕ) (C : 0 < c) (a : Rnd f x p n c) (h : T (fits f y)) (b : Is f y p' n') where
+module _ (f : Format) (x y : Float) (p n c p' n' : ℕ) (C : 0 < c) (a : Rounded f x p n c) (h : T (fits f y)) (b : Counts f y p' n') where
   -- a bound that the format holds survives the rounding
-  pub rnd-le : p * 2 ^ low f + n' * c ≤ p' * c + n * 2 ^ low f → T (le x y)
-  rnd-le l =
+  pub rounded-le : p * 2 ^ low f + n' * c ≤ p' * c + n * 2 ^ low f → T (le x y)
+  rounded-le l =
       let w = self f y p' n' h b in
-      le-trans-float x (w .0) y (rnd-mono f x (w .0) p n c p' n' (2 ^ low f) C (pow-pos (low f)) a (w .1) l) (dif→le f (w .0) y p' n' p' n' (w .2) b (omega arith))
+      le-trans-float x (w .0) y (rounded-mono f x (w .0) p n c p' n' (2 ^ low f) C (pow-pos (low f)) a (w .1) l) (counts→le f (w .0) y p' n' p' n' (w .2) b (omega arith))
 
-  pub le-rnd : p' * c + n * 2 ^ low f ≤ p * 2 ^ low f + n' * c → T (le y x)
-  le-rnd l =
+  pub le-rounded : p' * c + n * 2 ^ low f ≤ p * 2 ^ low f + n' * c → T (le y x)
+  le-rounded l =
       let w = self f y p' n' h b in
-      le-trans-float y (w .0) x (dif→le f y (w .0) p' n' p' n' b (w .2) (omega arith)) (rnd-mono f (w .0) x p' n' (2 ^ low f) p n c (pow-pos (low f)) C (w .1) a l)
+      le-trans-float y (w .0) x (counts→le f y (w .0) p' n' p' n' b (w .2) (omega arith)) (rounded-mono f (w .0) x p' n' (2 ^ low f) p n c (pow-pos (low f)) C (w .1) a l)
 
-pub rnd-fits : (f : Format) (x : Float) (p n c : ℕ) → Rnd f x p n c → T (fits f x)
-rnd-fits f x p n c a = subst (λ (z : Float). T (fits f z)) (sym (a .2)) (round-fits f (a .0) (a .1) c)
+pub rounded-fits : (f : Format) (x : Float) (p n c : ℕ) → Rounded f x p n c → T (fits f x)
+rounded-fits f x p n c a = subst (λ (z : Float). T (fits f z)) (sym (a .2)) (round-fits f (a .0) (a .1) c)
 
+-- what lies between two finite floats is finite
 pub between-finite : (x y z : Float) → T (finite x) → T (finite z) → T (le x y) → T (le y z) → T (finite y)
 unfolding le
 between-finite nan y z p q h k = absurd p
@@ -341,3 +344,14 @@ between-finite (fin s m e) (inf false) nan p q h k = absurd q
 between-finite (fin s m e) (inf false) (inf t) p q h k = absurd q
 between-finite (fin s m e) (inf false) (fin t n d) p q h k = absurd k
 between-finite (fin s m e) (fin u n d) z p q h k = tt
+
+-- where the exact result is a value of the format, the rounded one is it
+pub rounded-exact : (f : Format) (x y : Float) (p n c p' n' : ℕ) → 0 < c → Rounded f x p n c → T (fits f y) → Counts f y p' n' → p * 2 ^ low f + n' * c ≡ p' * c + n * 2 ^ low f → Counts f x p' n'
+rounded-exact f x y p n c p' n' C r Y i e =
+    let a : T (le x y) = rounded-le f x y p n c p' n' C r Y i (le-of-eq e) in
+    let b : T (le y x) = le-rounded f x y p n c p' n' C r Y i (le-of-eq (sym e)) in
+    let F = counts-finite f y p' n' i in
+    let o = counts-of f x (record { held = rounded-fits f x p n c r; finite = between-finite y x y F F b a }) in
+    let u = le→counts f x y (o .0) (o .1) p' n' (o .2) i a in
+    let w = le→counts f y x p' n' (o .0) (o .1) i (o .2) b in
+    counts-same f x (o .0) (o .1) p' n' (o .2) (omega arith)

@@ -13,12 +13,12 @@ use lib.Ieee.{Float, nan, inf, fin, binary64, le, lt, mul, fits, isNan, eq, ofBi
 use lib.Ieee.Bits.{ofBits-fits, toBits-ofBits}
 use lib.Ieee.Exact.{HasValue, odd-sign}
 use lib.Ieee.Scale.{finite}
-use Rattle.float_laws.proofs.Units.{Is, dif→le, dif→lt}
+use Rattle.float_laws.proofs.Units.{Number, Counts, counts→le, counts→lt}
 use Rattle.float_laws.proofs.Order.{le-trans, le-not-nan, lt→le, lt→nle, eq→le, lt-or-le, le-lt-trans, lt-le-trans}
-use Rattle.float_laws.proofs.Rounding.{nonneg, value-is}
+use Rattle.float_laws.proofs.Rounding.{unsigned, value-counts}
 use Rattle.float_laws.proofs.Patterns.{bits→le}
-use Rattle.float_laws.proofs.Normalised.{nought, nought-is, one, power}
-use Rattle.float_laws.proofs.Products.{mul-mono}
+use Rattle.float_laws.proofs.Constants.{nought, nought-counts, nought-le-one, one, one-number, exp2}
+use Rattle.float_laws.proofs.Arithmetic.{mul-mono}
 use Rattle.model.specs.Real.{real, nought as origin}
 use Rattle.model.specs.Numbers.{powerUp, P, Ends, ends, halved, halvings, R}
 use Rattle.real.proofs.Roots.Exact.{has-sign}
@@ -48,7 +48,7 @@ pattern b t = go (eqb (b / 2 ^ 52) 0) refl
 
 pub record FromZero (b : ℕ) : Type 0 where
   pub finite : T (finite (real b))
-  pub clear : T (nonneg (real b))
+  pub clear : T (unsigned (real b))
   pub from : T (le nought (real b))
   pub above : 0 < b → T (lt nought (real b))
   pub own : toBits binary64 (real b) ≡ b
@@ -56,13 +56,13 @@ pub record FromZero (b : ℕ) : Type 0 where
 pub from-zero : (b : ℕ) → b ≤ Top → FromZero b
 from-zero b t =
     let c = pattern b t in
-    let i : Is binary64 (real b) (c .0) 0 = value-is binary64 (real b) false (c .0) (c .0) 0 (c .1) (sym (zero-add (c .0))) in
+    let i : Counts binary64 (real b) (c .0) 0 = value-counts binary64 (real b) false (c .0) (c .0) 0 (c .1) (sym (zero-add (c .0))) in
     let s = has-sign (real b) (c .0) (2 ^ 1074) (c .1) in
     record {
       finite = s .2;
       clear = s .0;
-      from = dif→le binary64 nought (real b) 0 0 (c .0) 0 (nought-is binary64) i (omega arith);
-      above = λ h. dif→lt binary64 nought (real b) 0 0 (c .0) 0 (nought-is binary64) i (let p = c .2 h in omega arith);
+      from = counts→le binary64 nought (real b) 0 0 (c .0) 0 (nought-counts binary64) i (omega arith);
+      above = λ h. counts→lt binary64 nought (real b) 0 0 (c .0) 0 (nought-counts binary64) i (let p = c .2 h in omega arith);
       own = toBits-ofBits binary64 b (omega arith) (s .1);
     }
 
@@ -79,44 +79,45 @@ unfolding powerUp mul
 zero-power zero = refl
 zero-power (suc j) = ap (λ (p : Float). mul binary64 p nought) (zero-power j)
 
-top-is : real Top ≡ power 52
+top-is : real Top ≡ exp2 52
 unfolding ofBits
 top-is = refl
 
-one-top : mul binary64 one (power 52) ≡ power 52
+one-top : mul binary64 one (exp2 52) ≡ exp2 52
 unfolding mul
 one-top = refl
 
 -- what is known of 0, 1, 2^51 and 2^52 by computing
 record Orders : Type 0 where
-  nought-one : T (le nought one)
-  one-top : T (le one (power 52))
-  half-top : T (lt (power 51) (power 52))
-  nought-top : T (lt nought (power 52))
-  top-top : T (le (power 52) (power 52))
-  top-fits : T (fits binary64 (power 52))
-  one-fits : T (fits binary64 one)
-  top-real : T (not (isNan (power 52)))
+  one-top : T (le one (exp2 52))
+  half-top : T (lt (exp2 51) (exp2 52))
+  nought-top : T (lt nought (exp2 52))
+  top-top : T (le (exp2 52) (exp2 52))
+  top-fits : T (fits binary64 (exp2 52))
+  top-real : T (not (isNan (exp2 52)))
 
 orders : Orders
 unfolding le lt fits isNan
-orders = record { nought-one = tt; one-top = tt; half-top = tt; nought-top = tt; top-top = tt; top-fits = tt; one-fits = tt; top-real = tt }
+orders = record { one-top = tt; half-top = tt; nought-top = tt; top-top = tt; top-fits = tt; top-real = tt }
+
+top-number : Number binary64 (exp2 52)
+top-number = record { held = orders .top-fits; finite = tt }
 
 -- no power of 2^52 is below it
-top-power : (j : ℕ) → T (le (power 52) (powerUp (power 52) j))
+top-power : (j : ℕ) → T (le (exp2 52) (powerUp (exp2 52) j))
 unfolding powerUp
 top-power zero = orders .top-top
 top-power (suc j) =
-    let p = powerUp (power 52) j in
+    let p = powerUp (exp2 52) j in
     let h = top-power j in
-    elim (rise p (le-trans nought (power 52) p (lt→le nought (power 52) (orders .nought-top)) h)) [
+    elim (rise p (le-trans nought (exp2 52) p (lt→le nought (exp2 52) (orders .nought-top)) h)) [
       | inl e ↦
-          subst (λ (x : Float). T (le (power 52) (mul binary64 x (power 52)))) (sym e)
-          (subst (λ (x : Float). T (le (power 52) x)) (sym (inf-mul (power 52) (orders .nought-top))) (below-inf (power 52) (orders .top-real)))
+          subst (λ (x : Float). T (le (exp2 52) (mul binary64 x (exp2 52)))) (sym e)
+          (subst (λ (x : Float). T (le (exp2 52) x)) (sym (inf-mul (exp2 52) (orders .nought-top))) (below-inf (exp2 52) (orders .top-real)))
       | inr G ↦
-          subst (λ (x : Float). T (le x (mul binary64 p (power 52)))) one-top
-          (mul-mono binary64 one p (power 52) (power 52) (orders .one-fits) tt (orders .nought-one) (fits-power (power 52) (orders .top-fits) j) G
-          (orders .top-fits) tt (lt→le nought (power 52) (orders .nought-top)) (orders .top-fits) tt (le-trans one (power 52) p (orders .one-top) h) (orders .top-top))
+          subst (λ (x : Float). T (le x (mul binary64 p (exp2 52)))) one-top
+          (mul-mono binary64 one p (exp2 52) (exp2 52) (one-number binary64) (record { held = fits-power (exp2 52) (orders .top-fits) j; finite = G }) top-number top-number
+          nought-le-one (lt→le nought (exp2 52) (orders .nought-top)) (le-trans one (exp2 52) p (orders .one-top) h) (orders .top-top))
     ]
 
 not-zero : (v : Float) → T (lt nought v) → eq v origin ≡ false
@@ -128,7 +129,7 @@ not-zero v h = go (eq v origin) refl
     go true e = absurd (lt→nle nought v h (eq→le v nought (subst T (sym e) tt)))
 
 -- ---- every halving
-module _ (v : Float) (k : ℕ) (above : T (lt nought v)) (small : T (le v (power 51))) where
+module _ (v : Float) (k : ℕ) (above : T (lt nought v)) (small : T (le v (exp2 51))) where
   pub record Kept (e : Ends) : Type 0 where
     pub under : T (le (P (real (e .lower)) k) v)
     pub over : T (lt v (P (real (e .upper)) k))
@@ -138,7 +139,7 @@ module _ (v : Float) (k : ℕ) (above : T (lt nought v)) (small : T (le v (power
   first =
       record {
         under = subst (λ (x : Float). T (le x v)) (sym (zero-power (k - 1))) (lt→le nought v above);
-        over = le-lt-trans v (power 51) (powerUp (power 52) (k - 1)) small (lt-le-trans (power 51) (power 52) (powerUp (power 52) (k - 1)) (orders .half-top) (top-power (k - 1)));
+        over = le-lt-trans v (exp2 51) (powerUp (exp2 52) (k - 1)) small (lt-le-trans (exp2 51) (exp2 52) (powerUp (exp2 52) (k - 1)) (orders .half-top) (top-power (k - 1)));
       }
 
   -- the middle parts them: its power is at most v, or beyond it
@@ -175,7 +176,7 @@ module _ (v : Float) (k : ℕ) (above : T (lt nought v)) (small : T (le v (power
   next-over = subst (λ (u : ℕ). T (lt v (P (real u) k))) (adjacent v k) (kept 63 .over)
 
   -- no double from zero up that is greater has a power of at most v
-  pub root-greatest : (y : Float) → T (fits binary64 y) → T (nonneg y) → T (le (P y k) v) → T (le y (R v k))
+  pub root-greatest : (y : Float) → T (fits binary64 y) → T (unsigned y) → T (le (P y k) v) → T (le y (R v k))
   root-greatest y Y N h =
       let l = halvings v k 63 .lower in
       let g = gap v k 63 in
@@ -197,13 +198,13 @@ module _ (v : Float) (k : ℕ) (above : T (lt nought v)) (small : T (le v (power
 
 -- ---- of any v and k: R lies within 0..2^52
 abbrev Within : Float → Type 0
-Within x = T (fits binary64 x) × T (le nought x) × T (le x (power 52))
+Within x = T (fits binary64 x) × T (le nought x) × T (le x (exp2 52))
 
 real-within : (b : ℕ) → b ≤ Top → Within (real b)
 unfolding toBits
 real-within b t =
     let f = from-zero b t in
-    (ofBits-fits binary64 b, f .from, bits→le binary64 (real b) (power 52) (ofBits-fits binary64 b) (orders .top-fits) (f .clear) tt (le-trans-ℕ (le-of-eq (f .own)) t))
+    (ofBits-fits binary64 b, f .from, bits→le binary64 (real b) (exp2 52) (ofBits-fits binary64 b) (orders .top-fits) (f .clear) tt (le-trans-ℕ (le-of-eq (f .own)) t))
 
 pub root-within : (v : Float) (k : ℕ) → Within (R v k)
 unfolding R

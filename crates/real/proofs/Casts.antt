@@ -11,7 +11,7 @@ use lib.Ieee.{Float, nan, inf, fin, up, down, le, lt, isNan, toSigned}
 use lib.Ieee.Fits.{down-pos}
 use Rattle.float_laws.proofs.Units.{→sle, →slt}
 use Rattle.float_laws.proofs.Order.{nlt→le, lt-or-le, le-not-nan}
-use Rattle.float_laws.proofs.Normalised.{power}
+use Rattle.float_laws.proofs.Constants.{exp2}
 
 -- 2^63 and -(2^63)
 abbrev pub bottom : Float
@@ -23,7 +23,7 @@ whole a d D h = le-div-iff-mul-le D .1 (omega arith)
 none : (a d : ℕ) → 0 < d → 1 * 2 ^ 63 * d + a * 1 ≤ 0 → ⊥
 none a d D h = omega arith
 
-at-top : (x : Float) → T (le (power 63) x) → pos (2 ^ 63 - 1) ≡ toSigned 63 x
+at-top : (x : Float) → T (le (exp2 63) x) → pos (2 ^ 63 - 1) ≡ toSigned 63 x
 unfolding toSigned le
 at-top nan h = absurd h
 at-top (inf true) h = absurd h
@@ -58,8 +58,8 @@ unfolding isNan
 real s m e = tt
 
 -- by the tests that the code makes
-pub above-range : (x : Float) → le bottom x ≡ true → lt x (power 63) ≡ false → pos (2 ^ 63 - 1) ≡ toSigned 63 x
-above-range x h k = at-top x (nlt→le x (power 63) (le-not-nan bottom x (is _ h) .1) (real false 1 (pos 63)) (is-not _ k))
+pub above-range : (x : Float) → le bottom x ≡ true → lt x (exp2 63) ≡ false → pos (2 ^ 63 - 1) ≡ toSigned 63 x
+above-range x h k = at-top x (nlt→le x (exp2 63) (le-not-nan bottom x (is _ h) .1) (real false 1 (pos 63)) (is-not _ k))
 
 pub below-range : (x : Float) → le bottom x ≡ false → T (not (isNan x)) → negsuc (2 ^ 63 - 1) ≡ toSigned 63 x
 below-range x h k = elim (lt-or-le x bottom k (real true 1 (pos 63))) [ inl l ↦ at-bottom x l | inr g ↦ absurd (subst T h g) ]

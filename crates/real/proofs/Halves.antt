@@ -16,10 +16,10 @@ use lib.Ieee.Exact.{HasValue, round-exact}
 use lib.Ieee.Back.{round-whole, whole-unique}
 use lib.Ieee.Order.{le-of-values}
 use lib.Ieee.Positive.{positive-of-value, values-of-le}
-use Rattle.float_laws.proofs.Units.{→sle, →slt, slt→, placed, plain}
+use Rattle.float_laws.proofs.Units.{→sle, →slt, slt→, placed, zero-exponent}
 use Rattle.float_laws.proofs.Order.{lt-trans}
 use Rattle.float_laws.proofs.Rounding.{round-neg}
-use Rattle.float_laws.proofs.Normalised.{nought, power}
+use Rattle.float_laws.proofs.Constants.{nought, exp2}
 use Rattle.model.specs.Numbers.{roundOf}
 
 -- ---- twice x as a fraction
@@ -103,12 +103,12 @@ module _ (A d : ℕ) (D : 0 < d) where
 bound : (A d : ℕ) → A * 1 < 1 * 2 ^ 52 * d → A < 2 ^ 52 * d
 bound A d h = omega arith
 
-sides : T (lt (fin true 1 (pos 0)) nought) × T (lt (power 52) (fin false 1 (pos 64)))
+sides : T (lt (fin true 1 (pos 0)) nought) × T (lt (exp2 52) (fin false 1 (pos 64)))
 unfolding lt
 sides = (tt, tt)
 
-pub castable : (x : Float) → T (lt nought x) → T (lt x (power 52)) → T (lt (fin true 1 (pos 0)) x) × T (lt x (fin false 1 (pos 64)))
-castable x h k = (lt-trans (fin true 1 (pos 0)) nought x (sides .0) h, lt-trans x (power 52) (fin false 1 (pos 64)) k (sides .1))
+pub castable : (x : Float) → T (lt nought x) → T (lt x (exp2 52)) → T (lt (fin true 1 (pos 0)) x) × T (lt x (fin false 1 (pos 64)))
+castable x h k = (lt-trans (fin true 1 (pos 0)) nought x (sides .0) h, lt-trans x (exp2 52) (fin false 1 (pos 64)) k (sides .1))
 
 num-pos : (m : ℕ) (e : ℤ) → T (lt nought (fin false m e)) → 0 < m * up e
 unfolding lt
@@ -120,7 +120,7 @@ pub record Parted (x : Float) (n : ℕ) : Type 0 where
   pub up : le (ofInt binary64 (pos (2 * n + 1))) (add binary64 x x) ≡ true → ofInt binary64 (pos (n + 1)) ≡ roundOf x
   pub down : le (ofInt binary64 (pos (2 * n + 1))) (add binary64 x x) ≡ false → ofInt binary64 (pos n) ≡ roundOf x
 
-pub parted : (x : Float) → T (fits binary64 x) → T (lt nought x) → T (lt x (power 52)) → Parted x (toUnsigned 64 x)
+pub parted : (x : Float) → T (fits binary64 x) → T (lt nought x) → T (lt x (exp2 52)) → Parted x (toUnsigned 64 x)
 unfolding lt toUnsigned ofInt roundOf
 parted nan X h k = absurd h
 parted (inf true) X h k = absurd h
@@ -165,7 +165,7 @@ whole-own m k X =
     (refl, refl)
 
 -- a fraction would take more than 53 digits
-no-fraction : (m k : ℕ) → T (fits binary64 (fin false m (negsuc k))) → T (le (power 52) (fin false m (negsuc k))) → ⊥
+no-fraction : (m k : ℕ) → T (fits binary64 (fin false m (negsuc k))) → T (le (exp2 52) (fin false m (negsuc k))) → ⊥
 unfolding le
 no-fraction m k X h =
     let j = placed binary64 false m (negsuc k) X in
@@ -175,7 +175,7 @@ no-fraction m k X h =
     over : (m p q : ℕ) → p ≡ 2 * q → 0 < q → 1 * 2 ^ 52 * p ≤ m * 1 * 1 → m < 2 ^ 53 → ⊥
     over m p q e h l k = omega arith
 
-pub from-whole : (x : Float) → T (fits binary64 x) → T (le (power 52) x) → x ≡ roundOf x
+pub from-whole : (x : Float) → T (fits binary64 x) → T (le (exp2 52) x) → x ≡ roundOf x
 unfolding roundOf le
 from-whole nan X h = refl
 from-whole (inf s) X h = refl
@@ -222,7 +222,7 @@ above-zero (fin false m e) h = absurd (none (m * up e * 1) (down e) (→slt fals
     none : (a d : ℕ) → a < 0 * 1 * d → ⊥
     none a d h = omega arith
 
-pub from-whole-neg : (x : Float) → T (fits binary64 (neg x)) → T (le (power 52) (neg x)) → x ≡ roundOf x
+pub from-whole-neg : (x : Float) → T (fits binary64 (neg x)) → T (le (exp2 52) (neg x)) → x ≡ roundOf x
 from-whole-neg x X h = sym (neg-neg x) ∙ ap neg (from-whole (neg x) X h) ∙ round-by-neg x
 
 -- ---- neither above zero nor below it: a zero, with its sign, or a NaN
@@ -231,7 +231,7 @@ unfolding roundOf fits lt
 zero-or-nan nan X h k = refl
 zero-or-nan (inf s) X h k = refl
 zero-or-nan (fin s zero e) X h k =
-    let z = plain e (eqb→eq (up e * down e) 1 X) in
+    let z = zero-exponent e (eqb→eq (up e * down e) 1 X) in
     subst (λ (d : ℤ). fin s 0 d ≡ roundOf (fin s 0 d)) (sym z) refl
 zero-or-nan (fin true (suc m) e) X h k =
     absurd (none (suc m * up e * 1) (0 * 1 * down e) (mul-pos (mul-pos (zero-lt-suc m) (up-pos e)) (zero-lt-suc 0)) (ltb-false 0 (suc m * up e * 1 + 0 * 1 * down e) k))

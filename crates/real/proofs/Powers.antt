@@ -12,11 +12,11 @@ use lib.IntN.{ℤ}
 use lib.Ieee.{Float, nan, inf, fin, binary64, up, down, le, lt, mul, fits, isNan}
 use lib.Ieee.Fits.{mul-fits}
 use lib.Ieee.Scale.{finite}
-use Rattle.float_laws.proofs.Units.{Is, own, le→dif, dif→le, →slt}
+use Rattle.float_laws.proofs.Units.{Number, Counts, counts-of, counts-same, le→counts, counts→le, →slt}
 use Rattle.float_laws.proofs.Order.{le-trans, le-not-nan, lt→le, lt-or-le}
-use Rattle.float_laws.proofs.Rounding.{between-finite}
-use Rattle.float_laws.proofs.Normalised.{nought, nought-is, nought-fits, one, one-fits}
-use Rattle.float_laws.proofs.Products.{mul-mono, mul-nonneg, mul-rnd, rnd-exact, is-same}
+use Rattle.float_laws.proofs.Rounding.{between-finite, rounded-exact}
+use Rattle.float_laws.proofs.Constants.{nought, nought-counts, nought-fits, nought-not-nan, one, one-fits}
+use Rattle.float_laws.proofs.Arithmetic.{mul-mono, mul-from-zero, mul-rounded}
 use Rattle.model.specs.Numbers.{powerUp}
 
 -- ---- what is from zero up is an infinity, or finite
@@ -38,10 +38,6 @@ below-inf (fin s m e) h = tt
 nought-inf : T (le nought (inf false))
 unfolding le
 nought-inf = tt
-
-nought-real : T (not (isNan nought))
-unfolding isNan
-nought-real = tt
 
 -- the infinity times what is above zero
 pub inf-mul : (z : Float) → T (lt nought z) → mul binary64 (inf false) z ≡ inf false
@@ -68,22 +64,22 @@ module _ (z : Float) (Z : T (fits binary64 z)) (F : T (finite z)) (h : T (lt nou
   above-power zero = lt→le nought z h
   above-power (suc j) = elim (rise (powerUp z j) (above-power j)) [
     | inl e ↦ subst (λ (p : Float). T (le nought (mul binary64 p z))) (sym e) (subst (λ (x : Float). T (le nought x)) (sym (inf-mul z h)) nought-inf)
-    | inr G ↦ mul-nonneg binary64 z Z F (lt→le nought z h) (powerUp z j) (fits-power z Z j) G (above-power j)
+    | inr G ↦ mul-from-zero binary64 (powerUp z j) z (record { held = fits-power z Z j; finite = G }) (record { held = Z; finite = F }) (above-power j) (lt→le nought z h)
   ]
 
 -- ---- powers of a zero
-level : (y : Float) → T (fits binary64 y) → T (le nought y) → T (le y nought) → Is binary64 y 0 0
+level : (y : Float) → T (fits binary64 y) → T (le nought y) → T (le y nought) → Counts binary64 y 0 0
 level y Y h k =
-    let o = own binary64 y Y (between-finite nought y nought tt tt h k) in
-    let a = le→dif binary64 nought y 0 0 (o .0) (o .1) (nought-is binary64) (o .2) h in
-    let b = le→dif binary64 y nought (o .0) (o .1) 0 0 (o .2) (nought-is binary64) k in
-    is-same binary64 y (o .0) (o .1) 0 0 (o .2) (omega arith)
+    let o = counts-of binary64 y (record { held = Y; finite = between-finite nought y nought tt tt h k }) in
+    let a = le→counts binary64 nought y 0 0 (o .0) (o .1) (nought-counts binary64) (o .2) h in
+    let b = le→counts binary64 y nought (o .0) (o .1) 0 0 (o .2) (nought-counts binary64) k in
+    counts-same binary64 y (o .0) (o .1) 0 0 (o .2) (omega arith)
 
-zero-power : (y : Float) → Is binary64 y 0 0 → (j : ℕ) → Is binary64 (powerUp y j) 0 0
+zero-power : (y : Float) → Counts binary64 y 0 0 → (j : ℕ) → Counts binary64 (powerUp y j) 0 0
 unfolding powerUp
 zero-power y i zero = i
 zero-power y i (suc j) =
-    rnd-exact binary64 (mul binary64 (powerUp y j) y) nought 0 0 (2 ^ 1074 * 2 ^ 1074) 0 0 (lit< tt) (mul-rnd binary64 (powerUp y j) y 0 0 0 0 (zero-power y i j) i) (nought-fits binary64) (nought-is binary64) refl
+    rounded-exact binary64 (mul binary64 (powerUp y j) y) nought 0 0 (2 ^ 1074 * 2 ^ 1074) 0 0 (lit< tt) (mul-rounded binary64 (powerUp y j) y 0 0 0 0 (zero-power y i j) i) (nought-fits binary64) (nought-counts binary64) refl
 
 -- ---- powers of the infinity
 inf-power : (j : ℕ) → powerUp (inf false) j ≡ inf false
@@ -95,9 +91,9 @@ inf-power (suc j) = ap (λ (p : Float). mul binary64 p (inf false)) (inf-power j
 pub power-from : (y : Float) → T (fits binary64 y) → T (le nought y) → (j : ℕ) → T (le nought (powerUp y j))
 power-from y Y h j = elim (rise y h) [
   | inl e ↦ subst (λ (x : Float). T (le nought (powerUp x j))) (sym e) (subst (λ (x : Float). T (le nought x)) (sym (inf-power j)) nought-inf)
-  | inr F ↦ elim (lt-or-le nought y nought-real (le-not-nan nought y h .1)) [
+  | inr F ↦ elim (lt-or-le nought y nought-not-nan (le-not-nan nought y h .1)) [
     | inl l ↦ above-power y Y F l j
-    | inr k ↦ dif→le binary64 nought (powerUp y j) 0 0 0 0 (nought-is binary64) (zero-power y (level y Y h k) j) (omega arith)
+    | inr k ↦ counts→le binary64 nought (powerUp y j) 0 0 0 0 (nought-counts binary64) (zero-power y (level y Y h k) j) (omega arith)
   ]
 ]
 
@@ -114,8 +110,8 @@ module _ (y z : Float) (Y : T (fits binary64 y)) (Z : T (fits binary64 z)) (h : 
     | inr G ↦
         let n = power-from y Y h j in
         let i = rises F l j in
-        mul-mono binary64 (powerUp y j) (powerUp z j) y z (fits-power y Y j) (between-finite nought (powerUp y j) (powerUp z j) tt G n i) n (fits-power z Z j) G
-        Y (between-finite nought y z tt F h k) h Z F i k
+        mul-mono binary64 (powerUp y j) (powerUp z j) y z (record { held = fits-power y Y j; finite = between-finite nought (powerUp y j) (powerUp z j) tt G n i }) (record { held = fits-power z Z j; finite = G })
+        (record { held = Y; finite = between-finite nought y z tt F h k }) (record { held = Z; finite = F }) n h i k
   ]
 
   -- "P monotone in y"
@@ -124,10 +120,10 @@ module _ (y z : Float) (Y : T (fits binary64 y)) (Z : T (fits binary64 z)) (h : 
     | inl e ↦
         subst (λ (x : Float). T (le (powerUp y j) (powerUp x j))) (sym e)
         (subst (λ (x : Float). T (le (powerUp y j) x)) (sym (inf-power j)) (below-inf (powerUp y j) (le-not-nan nought (powerUp y j) (power-from y Y h j) .1)))
-    | inr F ↦ elim (lt-or-le nought z nought-real (le-not-nan y z k .1)) [
+    | inr F ↦ elim (lt-or-le nought z nought-not-nan (le-not-nan y z k .1)) [
       | inl l ↦ rises F l j
       | inr m ↦
-          dif→le binary64 (powerUp y j) (powerUp z j) 0 0 0 0 (zero-power y (level y Y h (le-trans y z nought k m)) j) (zero-power z (level z Z (le-trans nought y z h k) m) j) (omega arith)
+          counts→le binary64 (powerUp y j) (powerUp z j) 0 0 0 0 (zero-power y (level y Y h (le-trans y z nought k m)) j) (zero-power z (level z Z (le-trans nought y z h k) m) j) (omega arith)
     ]
   ]
 

@@ -7,18 +7,16 @@ use native.Mathlib.Omega.{arith}
 use lib.IntN.{ℤ, pos, negsuc}
 use lib.Signed.{_≤ℤ_}
 use lib.Dec.{T}
-use lib.Ieee.{Float, fin, binary64, le, fits, add, mul, sub}
-use lib.Ieee.Fits.{round-fits}
+use lib.Ieee.{Float, binary64, le, fits}
 use mir.Syntax.{w64}
 use mir.Val.{SFits}
 use Rattle.float_laws.proofs.Order.{le-trans}
-use Rattle.float_laws.proofs.Rounding.{between-finite}
-use Rattle.float_laws.proofs.Normalised.{power}
+use Rattle.float_laws.proofs.Constants.{exp2, minus-exp2, bounded}
 use Rattle.float_laws.proofs.InRange as in-range
 use Rattle.model.specs.Real.{within}
 use Rattle.model.specs.Draw.{step, wordOf, drawWord, unitOf, drawF64, drawUsize, drawI64, f64Range}
 use Rattle.rng_util.proofs.Xor.{xorLow-below}
-use Rattle.rng_util.proofs.Unit.{upper-below, unit-is}
+use Rattle.rng_util.proofs.Unit.{upper-below, unit-counts}
 use Rattle.rng_util.proofs.Span.{pick-low, pick-high}
 
 pub step-below : (s : ℕ) → step s < 2 ^ 64
@@ -42,25 +40,20 @@ both : (a b : Bool) → T a → T b → T (a && b)
 both true b h k = k
 both false b h k = h
 
--- -(2 ^ k)
-abbrev minus-power : ℕ → Float
-minus-power k = fin true 1 (pos k)
-
-wider : T (le (minus-power 1000) (minus-power 53)) × T (le (power 53) (power 1000))
+wider : T (le (minus-exp2 1000) (minus-exp2 53)) × T (le (exp2 53) (exp2 1000))
 unfolding le
 wider = (tt, tt)
 
 -- "The result lies in low..high", for bounds of at most 2^53 in magnitude
-pub f64Range-within : (low high : Float) (s : ℕ) → T (fits binary64 low) → T (fits binary64 high) → T (le low high) → T (le (minus-power 53) low) → T (le high (power 53))
+pub f64Range-within : (low high : Float) (s : ℕ) → T (fits binary64 low) → T (fits binary64 high) → T (le low high) → T (le (minus-exp2 53) low) → T (le high (exp2 53))
     → T (within low high (f64Range low high s .value))
 unfolding f64Range drawF64 drawWord unitOf
 f64Range-within low high s fl fh h kl kh =
     let w = wordOf (step s) in
     let b = word-below (step s) in
-    let bottom = minus-power 53 in
-    let top = power 53 in
+    let bottom = minus-exp2 53 in
+    let top = exp2 53 in
     let d =
-    in-range.drawn low high (unitOf w) (w / 2 ^ 12) fl (between-finite bottom low top tt tt kl (le-trans low high top h kh)) fh
-    (between-finite bottom high top tt tt (le-trans bottom low high kl h) kh) (round-fits binary64 false (w / 2 ^ 12) (2 ^ 52)) h
-    (le-trans (minus-power 1000) bottom low (wider .0) kl) (le-trans high top (power 1000) kh (wider .1)) (upper-below w b) (unit-is w b) in
+    in-range.drawn low high (unitOf w) (w / 2 ^ 12) (bounded binary64 low 53 53 fl kl (le-trans low high top h kh)) (bounded binary64 high 53 53 fh (le-trans bottom low high kl h) kh) h
+    (le-trans (minus-exp2 1000) bottom low (wider .0) kl) (le-trans high top (exp2 1000) kh (wider .1)) (upper-below w b) (unit-counts w b) in
     both (le low _) (le _ high) (d .0) (d .1)

@@ -12,14 +12,14 @@ use lib.Ieee.Fits.{down-pos}
 use lib.Ieee.Exact.{HasValue}
 use lib.Ieee.Back.{round-whole}
 use lib.Ieee.Scale.{round-same}
-use Rattle.float_laws.proofs.Units.{Is}
+use Rattle.float_laws.proofs.Units.{Counts}
 use Rattle.float_laws.proofs.Rounding.{div-is}
-use Rattle.float_laws.proofs.InRange.{draw-is}
-use Rattle.float_laws.proofs.Normalised.{power}
+use Rattle.float_laws.proofs.InRange.{draw-counts}
+use Rattle.float_laws.proofs.Constants.{exp2}
 use Rattle.model.specs.Draw.{unitOf}
 
 -- a whole number over a power of two
-over : (x : Float) (k j : ℕ) → HasValue x false k 1 → div binary64 x (power j) ≡ round binary64 false k (2 ^ j)
+over : (x : Float) (k j : ℕ) → HasValue x false k 1 → div binary64 x (exp2 j) ≡ round binary64 false k (2 ^ j)
 over nan k j h = absurd h
 over (inf s) k j h = absurd h
 over (fin true m e) k j h = absurd (true≢false (h .0))
@@ -31,7 +31,7 @@ over (fin false m e) k j h =
     cross : (k d p : ℕ) → k * d * p ≡ k * (1 * p * d)
     cross k d p = simp (mul-assoc, mul-comm, one-mul)
 
-pub quotient : (k : ℕ) → k < 2 ^ 52 → div binary64 (ofInt binary64 (pos k)) (power 52) ≡ round binary64 false k (2 ^ 52)
+pub quotient : (k : ℕ) → k < 2 ^ 52 → div binary64 (ofInt binary64 (pos k)) (exp2 52) ≡ round binary64 false k (2 ^ 52)
 unfolding ofInt
 quotient k h = over (round binary64 false k 1) k 52 (round-whole binary64 false k (le-trans (le-of-lt h) (lit≤ tt)))
 
@@ -40,6 +40,6 @@ pub upper-below : (w : ℕ) → w < 2 ^ 64 → w / 2 ^ 12 < 2 ^ 52
 upper-below w h = omega arith
 
 -- the draw in units of 2^-1074
-pub unit-is : (w : ℕ) → w < 2 ^ 64 → Is binary64 (unitOf w) (w / 2 ^ 12 * 2 ^ 1022) 0
+pub unit-counts : (w : ℕ) → w < 2 ^ 64 → Counts binary64 (unitOf w) (w / 2 ^ 12 * 2 ^ 1022) 0
 unfolding unitOf
-unit-is w h = subst (λ (x : Float). Is binary64 x (w / 2 ^ 12 * 2 ^ 1022) 0) (quotient (w / 2 ^ 12) (upper-below w h)) (draw-is (w / 2 ^ 12) (upper-below w h))
+unit-counts w h = draw-counts (w / 2 ^ 12) (upper-below w h)

@@ -14,7 +14,7 @@ use lib.Ieee.Fits.{odd-fits}
 use lib.Ieee.Exact.{HasValue}
 use lib.Ieee.Scale.{finite}
 use lib.Ieee.Positive.{positive, positive-of-value}
-use Rattle.float_laws.proofs.Rounding.{nonneg}
+use Rattle.float_laws.proofs.Rounding.{unsigned}
 use Rattle.float_laws.proofs.Order.{lt-or-le}
 use Rattle.float_laws.proofs.Patterns.{le-antisym}
 use Rattle.model.specs.Numbers.{nearRoot, sqrtOf}
@@ -44,21 +44,21 @@ sqrtOf-fits (fin false (suc m) e) X =
     (lt-of-lt-of-le (shl-lt 53 k (f .root-high)) (pow-mono (field-lt j (leadingZeros 64 (suc m)) (shift-lt (suc m) e X (zero-lt-suc m))))))
 
 -- ---- the root of a square is exact
-pub has-sign : (v : Float) (a c : ℕ) → HasValue v false a c → T (nonneg v) × T (not (isNan v)) × T (finite v)
+pub has-sign : (v : Float) (a c : ℕ) → HasValue v false a c → T (unsigned v) × T (not (isNan v)) × T (finite v)
 unfolding isNan
 has-sign nan a c h = absurd h
 has-sign (inf s) a c h = absurd h
 has-sign (fin true m e) a c h = absurd (true≢false (h .0))
 has-sign (fin false m e) a c h = (tt, tt, tt)
 
-pub positive-sign : (x : Float) → T (positive x) → T (nonneg x)
+pub positive-sign : (x : Float) → T (positive x) → T (unsigned x)
 positive-sign nan P = absurd P
 positive-sign (inf s) P = absurd P
 positive-sign (fin true m e) P = absurd P
 positive-sign (fin false m e) P = tt
 
 -- the root of a double above 0 is finite, with the sign clear, and is above 0
-pub sqrtOf-finite : (x : Float) → T (fits binary64 x) → T (positive x) → T (finite (sqrtOf x)) × T (nonneg (sqrtOf x)) × T (positive (sqrtOf x))
+pub sqrtOf-finite : (x : Float) → T (fits binary64 x) → T (positive x) → T (finite (sqrtOf x)) × T (unsigned (sqrtOf x)) × T (positive (sqrtOf x))
 sqrtOf-finite nan X P = absurd P
 sqrtOf-finite (inf s) X P = absurd P
 sqrtOf-finite (fin true m e) X P = absurd P

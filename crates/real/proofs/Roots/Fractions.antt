@@ -8,7 +8,7 @@ use lib.Pow.{pow-pos}
 use lib.Ieee.{Float, binary64, fits, lt}
 use lib.Ieee.Scale.{finite}
 use lib.Ieee.Positive.{num, den, positive, positive-finite, value→cross}
-use Rattle.float_laws.proofs.Rounding.{nonneg}
+use Rattle.float_laws.proofs.Rounding.{unsigned}
 use Rattle.model.specs.Numbers.{sqrtOf}
 use Rattle.real.proofs.Roots.Nearest.{inUnits, inUnits-exact, sqrt-nearest}
 use Rattle.real.proofs.Roots.Exact.{sqrtOf-fits, sqrtOf-finite, positive-sign}
@@ -45,7 +45,7 @@ module _ (a b c d f h X R Y L : ℕ) (p : a * L ≡ X * b) (q : c * L ≡ R * d)
   down : 0 < L → (R + Y) * (R + Y) ≤ 4 * (X * L) → b * ((c * h + f * d) * (c * h + f * d)) ≤ 4 * (a * (d * h * (d * h)))
   down P l = le-of-mul-le-mul-right (le-trans (le-of-eq right) (le-trans (mul-le-mul-left (b * (d * h * (d * h))) l) (le-of-eq (sym left)))) (mul-pos P P)
 
-module _ (x y : Float) (X : T (fits binary64 x)) (P : T (positive x)) (Y : T (fits binary64 y)) (F : T (finite y)) (N : T (nonneg y)) where
+module _ (x y : Float) (X : T (fits binary64 x)) (P : T (positive x)) (Y : T (fits binary64 y)) (F : T (finite y)) (N : T (unsigned y)) where
   of-x : num x * 2 ^ 1074 ≡ inUnits x * den x
   of-x = value→cross x (inUnits x) (2 ^ 1074) (inUnits-exact x X (positive-finite x P) (positive-sign x P))
 

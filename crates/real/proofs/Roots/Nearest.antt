@@ -16,7 +16,7 @@ use lib.Ieee.Scale.{finite}
 use lib.Ieee.Positive.{positive}
 use Rattle.float_laws.proofs.Units.{sle→le}
 use Rattle.float_laws.proofs.Order.{lt→nle}
-use Rattle.float_laws.proofs.Rounding.{nonneg}
+use Rattle.float_laws.proofs.Rounding.{unsigned}
 use Rattle.model.specs.Numbers.{nearRoot, unitsOf, sqrtOf}
 use Rattle.real.proofs.Roots.Whole.{IsNear, nearRoot-near, square-suc, square-twice, square-mono}
 use Rattle.real.proofs.Roots.Scaled.{parts, exponent, moved, dropped-is, cut-is}
@@ -155,7 +155,7 @@ inUnits nan = 0
 inUnits (inf s) = 0
 inUnits (fin s m e) = unitsOf m e
 
-pub inUnits-exact : (v : Float) → T (fits binary64 v) → T (finite v) → T (nonneg v) → HasValue v false (inUnits v) (2 ^ 1074)
+pub inUnits-exact : (v : Float) → T (fits binary64 v) → T (finite v) → T (unsigned v) → HasValue v false (inUnits v) (2 ^ 1074)
 inUnits-exact nan X f h = absurd f
 inUnits-exact (inf s) X f h = absurd f
 inUnits-exact (fin true m e) X f h = absurd h
@@ -182,7 +182,7 @@ Above x r y = 4 * (x * 2 ^ 1074) ≤ (r + y) * (r + y)
 abbrev pub Below : ℕ → ℕ → ℕ → Type 0
 Below x r y = (r + y) * (r + y) ≤ 4 * (x * 2 ^ 1074)
 
-pub sqrt-nearest : (x y : Float) → T (fits binary64 x) → T (positive x) → T (fits binary64 y) → T (finite y) → T (nonneg y)
+pub sqrt-nearest : (x y : Float) → T (fits binary64 x) → T (positive x) → T (fits binary64 y) → T (finite y) → T (unsigned y)
     → (T (lt (sqrtOf x) y) → Above (inUnits x) (inUnits (sqrtOf x)) (inUnits y)) × (T (lt y (sqrtOf x)) → Below (inUnits x) (inUnits (sqrtOf x)) (inUnits y))
 sqrt-nearest nan y X P Y F N = absurd P
 sqrt-nearest (inf s) y X P Y F N = absurd P

@@ -7,7 +7,7 @@ use lib.IntN.{pos}
 use lib.Ieee.{Float, fin, binary64, ofBits, fits, neg, lt, isNan}
 use lib.Ieee.Fits.{neg-fits}
 use Rattle.float_laws.proofs.Order.{lt→le, nlt→le, le-not-nan}
-use Rattle.float_laws.proofs.Normalised.{nought, power}
+use Rattle.float_laws.proofs.Constants.{nought, exp2}
 use Rattle.real.proofs.Halves.{round-by-neg, above-zero, from-whole, from-whole-neg, zero-or-nan}
 use Rattle.real.proofs.round.Statement.{statement}
 use Rattle.real.proofs.round.Tie as tie
@@ -22,9 +22,9 @@ is-not : (b : Bool) → b ≡ false → T (not b)
 is-not b e = subst (λ (z : Bool). T (not z)) (sym e) tt
 
 -- above zero, and not below 2^52
-far : (x : Float) → T (lt nought x) → lt x (power 52) ≡ false → T (lib.Ieee.le (power 52) x)
+far : (x : Float) → T (lt nought x) → lt x (exp2 52) ≡ false → T (lib.Ieee.le (exp2 52) x)
 unfolding isNan
-far x h k = nlt→le x (power 52) (le-not-nan nought x (lt→le nought x h) .1) tt (is-not (lt x (power 52)) k)
+far x h k = nlt→le x (exp2 52) (le-not-nan nought x (lt→le nought x h) .1) tt (is-not (lt x (exp2 52)) k)
 
 round-above-zero-requires : tie.Need-round-above-zero-requires
 unfolding ofBits

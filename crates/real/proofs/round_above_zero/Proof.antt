@@ -7,7 +7,7 @@ use native.Mathlib.Omega.{arith}
 use lib.Dec.{T}
 use lib.IntN.{pos}
 use lib.Ieee.{Float, fits, binary64, le, lt, add, ofInt, ofBits, toUnsigned}
-use Rattle.float_laws.proofs.Normalised.{nought, power}
+use Rattle.float_laws.proofs.Constants.{nought, exp2}
 use Rattle.real.proofs.Halves.{castable, Parted, parted}
 use Rattle.real.proofs.round_above_zero.Statement.{statement}
 use Rattle.real.proofs.round_above_zero.Tie as tie

@@ -10,7 +10,7 @@ use lib.Dec.{T, eqb, ltb, eqb→eq}
 use lib.Ieee.{Float, nan, inf, fin, binary64, up, down, level as levelled, lt, eq, div, fits, isNan, ofBits, toBits}
 use lib.Ieee.Fits.{up-pos, and-l}
 use lib.Ieee.Bits.{ofBits-toBits}
-use Rattle.float_laws.proofs.Rounding.{nonneg}
+use Rattle.float_laws.proofs.Rounding.{unsigned}
 use Rattle.float_laws.proofs.Patterns.{lt→bits}
 use Rattle.model.specs.Numbers.{sqrtOf}
 use Rattle.real.proofs.sqrt.Statement.{statement}
@@ -26,7 +26,7 @@ not-nan nan h = absurd (true≢false (sym h))
 not-nan (inf s) h = tt
 not-nan (fin s m e) h = tt
 
-clear : (x : Float) → lt nought x ≡ true → T (nonneg x)
+clear : (x : Float) → lt nought x ≡ true → T (unsigned x)
 unfolding lt
 clear nan h = absurd (true≢false (sym h))
 clear (inf true) h = absurd (true≢false (sym h))
