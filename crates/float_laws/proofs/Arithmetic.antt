@@ -1,12 +1,11 @@
 -- The four operations, each rounded once, and the order: sums and products of numbers from 0 up grow with each part, differences and quotients with the
 -- first, and a quotient x / a for 0 ≤ x ≤ a lies within 0..1. Assumes nothing.
-use mathlib.Core.Path.{_≡_, refl, sym, ap, _∙_}
+use mathlib.Core.Path.{_≡_, refl, ap, _∙_}
 use Prim.Native.Nat.{ℕ, _+_, _-_, _*_, _^_, _≤_, _<_}
 use native.Mathlib.Nat.{zero-mul, mul-comm, mul-pos, mul-le-mul, mul-le-mul-right, add-mul, mul-add, mul-mul-mul-comm}
 use native.Mathlib.Omega.{arith}
 use mathlib.Core.Bool.{Bool, true, false}
 use lib.Dec.{T}
-use lib.IntN.{ℤ}
 use lib.Pow.{pow-pos}
 use lib.Ieee.{Float, nan, inf, fin, Format, binary64, low, up, down, le, lt, add, sub, mul, div, unlike, fits}
 use lib.Ieee.Fits.{down-pos, sub-fits}

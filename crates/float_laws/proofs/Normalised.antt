@@ -1,5 +1,4 @@
 -- "(value - ideal) / intercept, within 0..1; each subtraction and division rounded once". Assumes nothing.
-use Prim.Native.Nat.{ℕ}
 use lib.Dec.{T}
 use lib.Ieee.{Float, Format, binary64, le, lt, sub, div, ofBits}
 use lib.Ieee.Fits.{sub-fits}

@@ -1,17 +1,17 @@
 -- The order of all floats: `le` and `lt` are a total order on every float but NaN, whatever its format, with -0 level with +0. State facts by `T (le x y)`,
 -- not by `≡`, since the two zeros differ as data. A test of the code gives `le x y ≡ true`: `subst T (sym e) tt` makes the fact of it. Assumes nothing.
-use mathlib.Core.Path.{_≡_, refl, sym, ap, _∙_, subst}
+use mathlib.Core.Path.{refl}
 use mathlib.Core.Logic.{_⊎_, inl, inr}
-use Prim.Native.Nat.{ℕ, _+_, _*_, _≤_, _<_}
+use Prim.Native.Nat.{ℕ, _+_, _*_, _<_}
 use native.Mathlib.Nat.{mul-assoc, mul-comm, mul-left-comm, mul-pos}
 use native.Mathlib.Omega.{arith}
-use mathlib.Core.Bool.{Bool, true, false, not, _&&_, _||_}
+use mathlib.Core.Bool.{Bool, true, false, not, _||_}
 use lib.IntN.{ℤ}
-use lib.Dec.{T, ltb, ltb→lt, lt→ltb, nltb→le}
-use lib.Ieee.{Float, nan, inf, fin, up, down, below, level, le, lt, eq, isNan}
+use lib.Dec.{T, nltb→le}
+use lib.Ieee.{Float, nan, inf, fin, up, down, below, le, lt, eq, isNan}
 use lib.Ieee.Fits.{down-pos}
 use lib.Ieee.Exact.{HasValue}
-use Rattle.float_laws.proofs.Units.{SLe, SLt, sle→, →sle, slt→, →slt, le→sle, sle→le}
+use Rattle.float_laws.proofs.Units.{SLe, SLt, sle→, →sle, →slt, le→sle, sle→le}
 
 sle-trans : (s t u : Bool) (a b c : ℕ) → SLe s a t b → SLe t b u c → SLe s a u c
 sle-trans false false false a b c h k = omega arith

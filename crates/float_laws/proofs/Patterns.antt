@@ -1,19 +1,19 @@
 -- Bit patterns: floats with the sign clear, no NaN among them, are in the order of their patterns, and two that are level are one. Assumes nothing.
 use mathlib.Core.Path.{_≡_, refl, sym, ap, _∙_, subst}
-use mathlib.Core.Logic.{_⊎_, inl, inr}
-use Prim.Native.Nat.{ℕ, zero, suc, _+_, _-_, _*_, _/_, _^_, _≤_, _<_, zero-le}
-use native.Mathlib.Nat.{le-trans, le-of-eq, le-of-lt, lt-of-le-of-lt, lt-of-lt-of-le, le-antisymm, eq-or-lt-of-le, lt-of-not-le, zero-add, mul-one, mul-comm, mul-assoc, mul-right-comm, add-mul, mul-le-mul-right, mul-lt-mul-of-pos-right, lt-of-mul-lt-mul-right, mul-div-cancel, le-div-iff-mul-le, div-lt-iff-lt-mul, div-mul-le-self, pow-succ'}
+use mathlib.Core.Logic.{inl, inr}
+use Prim.Native.Nat.{ℕ, suc, _+_, _-_, _*_, _/_, _^_, _≤_, _<_, zero-le}
+use native.Mathlib.Nat.{le-trans, le-of-eq, le-of-lt, lt-of-le-of-lt, lt-of-lt-of-le, le-antisymm, eq-or-lt-of-le, lt-of-not-le, zero-add, mul-comm, mul-right-comm, add-mul, mul-le-mul-right, mul-lt-mul-of-pos-right, lt-of-mul-lt-mul-right, mul-div-cancel, le-div-iff-mul-le, pow-succ'}
 use native.Mathlib.Omega.{arith}
-use mathlib.Core.Bool.{Bool, true, false, not, cond}
-use lib.IntN.{ℤ, pos}
+use mathlib.Core.Bool.{Bool, true, false, not}
+use lib.IntN.{ℤ}
 use lib.Dec.{T}
-use lib.Pow.{pow-pos, pow-add, pow-lt}
-use lib.Ieee.{Float, nan, inf, fin, Format, prec, emax, low, up, down, size, le, lt, fits, isNan, hid, ones, top, toBits, ofBits}
+use lib.Pow.{pow-pos, pow-add}
+use lib.Ieee.{Float, nan, inf, fin, Format, prec, emax, low, up, down, size, le, lt, fits, isNan, hid, ones, toBits, ofBits}
 use lib.Ieee.Digits.{size-lt, size-le, size-reaches}
 use lib.Ieee.Fits.{down-pos, kept-lt, two, reach}
 use lib.Ieee.Bits.{ofBits-toBits}
 use lib.Ieee.Nearest.{div-mono}
-use Rattle.float_laws.proofs.Units.{Counts, le→counts, placed}
+use Rattle.float_laws.proofs.Units.{le→counts, placed}
 use Rattle.float_laws.proofs.Order as total
 use Rattle.float_laws.proofs.Rounding.{unsigned}
 

@@ -2,21 +2,21 @@
 -- (`add-rounded`, `sub-rounded`, `div-rounded`; products in `Arithmetic`). Rounding keeps the order (`rounded-mono`), does not pass a value that the format
 -- holds (`rounded-le`, `le-rounded`) and is exact where it can be (`rounded-exact`). Assumes nothing.
 use mathlib.Core.Path.{_≡_, refl, sym, ap, _∙_, subst}
-use mathlib.Core.Logic.{_⊎_, inl, inr}
-use Prim.Native.Nat.{ℕ, zero, suc, _+_, _-_, _*_, _/_, _%_, _^_, _≤_, _<_, zero-le, compare}
-use native.Mathlib.Nat.{le-refl, le-trans, le-of-eq, le-of-lt, lt-of-lt-of-le, lt-of-not-le, not-le-of-lt, lt-irrefl, eq-zero-or-pos, zero-mul, one-mul, mul-one, mul-comm, mul-assoc, mul-left-comm, mul-right-comm, mul-pos, add-mul, mul-add, mul-le-mul-right, mul-lt-mul-of-pos-right, lt-of-mul-lt-mul-right, le-of-mul-le-mul-right, eq-of-mul-eq-mul-right, mul-mul-mul-comm}
+use mathlib.Core.Logic.{inl, inr}
+use Prim.Native.Nat.{ℕ, zero, suc, _+_, _-_, _*_, _^_, _≤_, _<_}
+use native.Mathlib.Nat.{le-of-eq, lt-irrefl, eq-zero-or-pos, zero-mul, mul-comm, mul-assoc, mul-left-comm, mul-right-comm, mul-pos, add-mul, mul-lt-mul-of-pos-right, lt-of-mul-lt-mul-right, le-of-mul-le-mul-right, eq-of-mul-eq-mul-right}
 use native.Mathlib.Omega.{arith}
-use mathlib.Core.Bool.{Bool, true, false, not, _&&_, _||_, Bool·beq, cond}
-use lib.IntN.{ℤ, pos, negsuc}
-use lib.Dec.{T, leb, ltb, eqb, eqb→eq, ltb→lt, lt→ltb, nltb→le}
+use mathlib.Core.Bool.{Bool, true, false, not, cond}
+use lib.IntN.{ℤ}
+use lib.Dec.{T, ltb, eqb, ltb→lt, nltb→le}
 use lib.Pow.{pow-add, pow-pos}
-use lib.Ieee.{Float, nan, inf, fin, Format, prec, emax, low, up, down, fits, below, level, le, lt, neg, round, units, odd, sum, add, sub, mul, div, unlike, nearest}
-use lib.Ieee.Fits.{up-pos, down-pos, round-is, round-fits}
+use lib.Ieee.{Float, nan, inf, fin, Format, prec, emax, low, up, down, fits, le, neg, round, units, odd, sum, add, sub, div}
+use lib.Ieee.Fits.{up-pos, down-pos, round-fits}
 use lib.Ieee.Exact.{HasValue, round-exact}
 use lib.Ieee.Order.{round-mono}
 use lib.Ieee.Scale.{finite, round-same}
 use Rattle.float_laws.proofs.Order.{le-trans as le-trans-float}
-use Rattle.float_laws.proofs.Units.{Sgn, Counts, SLe, SLt, sle→, →sle, dif→sle, le→counts, counts→le, lt→counts, counts→lt, Place, placed, Number, counts-of, counts-finite, counts-same}
+use Rattle.float_laws.proofs.Units.{Sgn, Counts, SLe, sle→, →sle, dif→sle, le→counts, counts→le, placed, counts-of, counts-finite, counts-same}
 
 -- ---- negation turns the order round
 pub le-neg : (x y : Float) → T (le x y) → T (le (neg y) (neg x))

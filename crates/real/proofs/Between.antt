@@ -1,5 +1,5 @@
 -- "keeping P(lower) <= v < P(upper)": true of the ends from the first halving to the last, for 0 < v ≤ 2^51. Assumes nothing.
-use mathlib.Core.Path.{_≡_, refl, sym, ap, _∙_, subst}
+use mathlib.Core.Path.{_≡_, refl, sym, ap, subst}
 use mathlib.Core.Logic.{_⊎_, inl, inr}
 use mathlib.Core.Bool.{Bool, true, false, not, cond}
 use Prim.Native.Nat.{ℕ, zero, suc, _+_, _-_, _*_, _/_, _%_, _^_, _≤_, _<_}
@@ -7,9 +7,8 @@ use native.Mathlib.Nat.{mul-pos, zero-add, le-of-eq, le-trans as le-trans-ℕ}
 use native.Mathlib.Omega.{arith}
 use borrow.Author.Tests.{leb-true, leb-false, eqb-true, eqb-false}
 use lib.Dec.{T, leb, eqb}
-use lib.IntN.{pos}
 use lib.Pow.{pow-pos}
-use lib.Ieee.{Float, nan, inf, fin, binary64, le, lt, mul, fits, isNan, eq, ofBits, toBits, odd}
+use lib.Ieee.{Float, binary64, le, lt, mul, fits, isNan, eq, ofBits, toBits, odd}
 use lib.Ieee.Bits.{ofBits-fits, toBits-ofBits}
 use lib.Ieee.Exact.{HasValue, odd-sign}
 use lib.Ieee.Scale.{finite}

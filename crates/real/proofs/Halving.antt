@@ -7,7 +7,7 @@ use native.Mathlib.Omega.{arith}
 use borrow.Author.Tests.{le-leb, lt-leb, leb-true, leb-false}
 use lib.Dec.{leb}
 use lib.Pow.{pow-mono}
-use lib.Ieee.{Float, le, eq, binary64, ofBits}
+use lib.Ieee.{Float, le, eq}
 use Rattle.model.specs.Real.{real, nought}
 use Rattle.model.specs.Numbers.{P, Ends, ends, halfBy, halved, halvings, R}
 

@@ -1,9 +1,9 @@
 -- Powers of a double from zero up, by repeated rounded products: they are from zero up, and grow with the double, also where they overflow.
 -- Assumes nothing.
-use mathlib.Core.Path.{_≡_, refl, sym, ap, _∙_, subst}
+use mathlib.Core.Path.{_≡_, refl, sym, ap, subst}
 use mathlib.Core.Logic.{_⊎_, inl, inr}
 use mathlib.Core.Bool.{Bool, true, false, not, cond}
-use Prim.Native.Nat.{ℕ, zero, suc, _+_, _-_, _*_, _^_, _≤_, _<_}
+use Prim.Native.Nat.{ℕ, zero, suc, _*_, _^_, _<_}
 use native.Mathlib.Nat.{zero-mul}
 use native.Mathlib.Omega.{arith}
 use borrow.Author.Tests.{ne-eqb}
@@ -12,7 +12,7 @@ use lib.IntN.{ℤ}
 use lib.Ieee.{Float, nan, inf, fin, binary64, up, down, le, lt, mul, fits, isNan}
 use lib.Ieee.Fits.{mul-fits}
 use lib.Ieee.Scale.{finite}
-use Rattle.float_laws.proofs.Units.{Number, Counts, counts-of, counts-same, le→counts, counts→le, →slt}
+use Rattle.float_laws.proofs.Units.{Counts, counts-of, counts-same, le→counts, counts→le, →slt}
 use Rattle.float_laws.proofs.Order.{le-trans, le-not-nan, lt→le, lt-or-le}
 use Rattle.float_laws.proofs.Rounding.{between-finite, rounded-exact}
 use Rattle.float_laws.proofs.Constants.{nought, nought-counts, nought-fits, nought-not-nan, one, one-fits}

@@ -1,14 +1,14 @@
 -- The numbers from a to b, both within 2^53 of 0, and how many there are. Assumes nothing.
-use mathlib.Core.Path.{_≡_, refl, sym, ap, _∙_, subst}
-use Prim.Native.Nat.{ℕ, suc, _+_, _-_, _%_, _^_, _<_, _≤_}
+use mathlib.Core.Path.{_≡_}
+use Prim.Native.Nat.{ℕ, _+_, _-_, _%_, _^_, _<_, _≤_}
 use native.Mathlib.Nat.{mod-lt}
 use native.Mathlib.Omega.{arith}
 use lib.Dec.{T}
 use lib.IntN.{ℤ, pos, negsuc, negℤ, natAbs, _+ℤ_, _-ℤ_}
-use lib.Signed.{mag, nonNeg, _≤ℤ_}
+use lib.Signed.{nonNeg, _≤ℤ_}
 use mir.Syntax.{w64}
 use mir.Val.{SFits, Fits}
-use Rattle.rng_util.proofs.Up.{up, up-in, in-up, le-up, up-le, up-add, up-neg, up-nonNeg, up-abs}
+use Rattle.rng_util.proofs.Up.{up, in-up, le-up, up-le, up-add, up-neg, up-nonNeg, up-abs}
 
 module _ (a b : ℤ) (fa : SFits w64 a) (fb : SFits w64 b) (h : (a ≤ℤ b) × (negsuc 9007199254740991 ≤ℤ a) × (b ≤ℤ pos 9007199254740992)) where
   ord : up a ≤ up b

@@ -1,8 +1,8 @@
 -- Within the range the fraction is dropped; beyond it the cast is known (`Casts`). Assumes nothing.
 use borrow.Author.Needs.{needs}
-use mathlib.Core.Path.{_≡_, sym, ap, _∙_, subst}
+use mathlib.Core.Path.{sym, ap, subst}
 use lib.Dec.{T}
-use lib.Ieee.{ofBits, neg, nan, toSigned}
+use lib.Ieee.{ofBits, neg, toSigned}
 use Rattle.real.proofs.Nan.{ne-nan, eq-not-nan}
 use Rattle.real.proofs.Casts.{above-range, below-range}
 use Rattle.real.proofs.int_of_real.Statement.{statement}

@@ -1,12 +1,12 @@
 -- The invariant: the ends are those that some halvings lead to. The measure is what lies between them. Assumes nothing.
 use borrow.Author.Needs.{needs}
-use mathlib.Core.Path.{_≡_, refl, sym, ap, _∙_}
+use mathlib.Core.Path.{_≡_, sym, ap, _∙_}
 use mathlib.Core.Bool.{Bool}
 use Prim.Native.Nat.{ℕ, _+_, _-_, _/_, _≤_, _<_}
 use native.Mathlib.Omega.{arith}
-use lib.Ieee.{Float, le, binary64, ofBits}
+use lib.Ieee.{Float, le}
 use Rattle.model.specs.Real.{real}
-use Rattle.model.specs.Numbers.{powerUp, P}
+use Rattle.model.specs.Numbers.{P}
 use Rattle.real.proofs.Halving.{Top, Reached, shape, start, on-upper, on-lower, root-zero, root-is}
 use Rattle.real.proofs.root.Statement.{statement}
 use Rattle.real.proofs.root.Tie as tie

@@ -3,8 +3,7 @@ use borrow.Author.Needs.{needs}
 use mathlib.Core.Path.{_≡_, sym, ap, _∙_, subst}
 use mathlib.Core.Bool.{Bool, true, false, not}
 use lib.Dec.{T}
-use lib.IntN.{pos}
-use lib.Ieee.{Float, fin, binary64, ofBits, fits, neg, lt, isNan}
+use lib.Ieee.{Float, binary64, ofBits, fits, neg, lt, isNan}
 use lib.Ieee.Fits.{neg-fits}
 use Rattle.float_laws.proofs.Order.{lt→le, nlt→le, le-not-nan}
 use Rattle.float_laws.proofs.Constants.{nought, exp2}

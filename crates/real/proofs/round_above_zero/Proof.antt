@@ -2,12 +2,12 @@
 use borrow.Author.Needs.{needs}
 use mathlib.Core.Path.{_≡_, sym, ap, _∙_, subst}
 use mathlib.Core.Bool.{Bool}
-use Prim.Native.Nat.{ℕ, _+_, _*_, _^_, _<_}
+use Prim.Native.Nat.{ℕ, _+_, _*_}
 use native.Mathlib.Omega.{arith}
 use lib.Dec.{T}
 use lib.IntN.{pos}
-use lib.Ieee.{Float, fits, binary64, le, lt, add, ofInt, ofBits, toUnsigned}
-use Rattle.float_laws.proofs.Constants.{nought, exp2}
+use lib.Ieee.{Float, binary64, le, lt, add, ofInt, ofBits}
+use Rattle.float_laws.proofs.Constants.{nought}
 use Rattle.real.proofs.Halves.{castable, Parted, parted}
 use Rattle.real.proofs.round_above_zero.Statement.{statement}
 use Rattle.real.proofs.round_above_zero.Tie as tie

@@ -1,6 +1,6 @@
 -- A NaN is told by differing from itself. Assumes nothing.
 use borrow.Author.Needs.{needs}
-use mathlib.Core.Path.{_≡_, sym, ap, _∙_}
+use mathlib.Core.Path.{sym, ap}
 use lib.Ieee.{binary64, toBits}
 use Rattle.real.proofs.Nan.{ne-nan, eq-not-nan}
 use Rattle.real.proofs.word_of_real.Statement.{statement}

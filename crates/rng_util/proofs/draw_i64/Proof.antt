@@ -1,9 +1,9 @@
 -- a and the word's remainder by how many numbers there are from a to b: nothing on the way leaves 64 bits. Assumes nothing.
 use borrow.Author.Needs.{needs}
-use mathlib.Core.Path.{_≡_, refl, sym, ap, _∙_, subst}
+use mathlib.Core.Path.{_≡_, ap}
 use lib.IntN.{ℤ, pos, natAbs, _+ℤ_, _-ℤ_}
 use mir.Syntax.{w64}
-use mir.Val.{SFits, toZ, ofZ}
+use mir.Val.{toZ, ofZ}
 use mir.ValLaws.{toZ-ofZ}
 use Prim.Native.Nat.{ℕ, _%_}
 use Rattle.model.specs.Draw.{Drawn, drawn, drawWord, drawI64}

@@ -1,6 +1,6 @@
 -- The word's remainder. Assumes nothing.
 use borrow.Author.Needs.{needs}
-use mathlib.Core.Path.{_≡_, refl, sym, ap, _∙_, subst}
+use mathlib.Core.Path.{_≡_, ap}
 use Prim.Native.Nat.{ℕ, _%_}
 use Rattle.model.specs.Draw.{Drawn, drawn, drawWord, drawUsize}
 use Rattle.rng_util.proofs.draw_usize.Statement.{statement}

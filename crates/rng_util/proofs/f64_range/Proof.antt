@@ -1,6 +1,6 @@
 -- The draw of 0..1, stretched and moved. Assumes nothing.
 use borrow.Author.Needs.{needs}
-use mathlib.Core.Path.{_≡_, refl, sym, ap, _∙_, subst}
+use mathlib.Core.Path.{_≡_, ap}
 use Prim.Native.Nat.{ℕ}
 use lib.Ieee.{Float, binary64, add, sub, mul}
 use Rattle.model.specs.Draw.{Drawn, drawn, drawF64, f64Range}

@@ -1,10 +1,10 @@
 -- The word: the code's `^` is the definition's exclusive or. Assumes nothing.
 use borrow.Author.Needs.{needs}
-use mathlib.Core.Path.{_≡_, refl, sym, ap, _∙_, subst}
+use mathlib.Core.Path.{_≡_, sym, ap, _∙_}
 use Prim.Native.Nat.{ℕ, _/_, _^_, _<_}
 use native.Mathlib.Omega.{arith}
 use lib.Bits.{bitXor}
-use Rattle.model.specs.Draw.{Drawn, drawn, step, wordOf, drawWord}
+use Rattle.model.specs.Draw.{drawn, step, wordOf, drawWord}
 use Rattle.rng_util.proofs.Xor.{xorLow-is}
 use Rattle.rng_util.proofs.Draws.{step-below}
 use Rattle.rng_util.proofs.next.Statement.{statement}
