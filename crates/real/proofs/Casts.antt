@@ -1,13 +1,14 @@
--- A double beyond the range of 64 bits, cast to a whole number. Assumes nothing.
+-- Casts: a double beyond the range of 64 bits, and a whole number of at most 2^53 in magnitude, which comes back. Assumes nothing.
 use mathlib.Core.Path.{_≡_, refl, sym, ap, subst}
 use mathlib.Core.Logic.{inl, inr}
 use mathlib.Core.Bool.{Bool, true, false, not}
 use Prim.Native.Nat.{ℕ, _+_, _-_, _*_, _/_, _^_, _≤_, _<_, min}
 use native.Mathlib.Nat.{le-div-iff-mul-le}
 use native.Mathlib.Omega.{arith}
-use lib.Dec.{T}
+use lib.Dec.{T, leb→le, ltb→lt}
 use lib.IntN.{ℤ, pos, negsuc, negℤ}
-use lib.Ieee.{Float, nan, inf, fin, up, down, le, lt, isNan, toSigned}
+use lib.Ieee.{Float, nan, inf, fin, up, down, le, lt, isNan, binary64, ofInt, inFloat, toSigned}
+use lib.Ieee.Back.{positive-back, negative-back}
 use lib.Ieee.Fits.{down-pos}
 use Rattle.float_laws.proofs.Units.{→sle, →slt}
 use Rattle.float_laws.proofs.Order.{nlt→le, lt-or-le, le-not-nan}
@@ -63,3 +64,16 @@ above-range x h k = at-top x (nlt→le x (exp2 63) (le-not-nan bottom x (is _ h)
 
 pub below-range : (x : Float) → le bottom x ≡ false → T (not (isNan x)) → negsuc (2 ^ 63 - 1) ≡ toSigned 63 x
 below-range x h k = elim (lt-or-le x bottom k (real true 1 (pos 63))) [ inl l ↦ at-bottom x l | inr g ↦ absurd (subst T h g) ]
+
+small : (n : ℕ) → T (inFloat binary64 (pos n)) → n ≤ 2 ^ 53
+unfolding inFloat
+small n h = leb→le n (2 ^ 53) h
+
+small-below : (n : ℕ) → T (inFloat binary64 (negsuc n)) → n < 2 ^ 53
+unfolding inFloat
+small-below n h = ltb→lt n (2 ^ 53) h
+
+-- ---- up to 2^53 a whole number is a double, and comes back
+pub there-and-back : (n : ℤ) → T (inFloat binary64 n) → toSigned 63 (ofInt binary64 n) ≡ n
+there-and-back (pos n) h = positive-back binary64 63 n h (let l = small n h in omega arith) .1
+there-and-back (negsuc n) h = negative-back binary64 63 n h (let l = small-below n h in omega arith) .1

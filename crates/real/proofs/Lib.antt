@@ -1,6 +1,7 @@
 pub mod Nan
 pub mod Ints
 pub mod Casts
+pub mod Clamped
 pub mod Halves
 pub mod Roots
 pub mod Powers

@@ -1,5 +1,5 @@
 pub mod Xor
-pub mod Up
+pub mod Shifted
 pub mod Span
 pub mod Unit
 pub mod Draws

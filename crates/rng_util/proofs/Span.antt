@@ -8,9 +8,9 @@ use lib.IntN.{ℤ, pos, negsuc, negℤ, natAbs, _+ℤ_, _-ℤ_}
 use lib.Signed.{nonNeg, _≤ℤ_}
 use mir.Syntax.{w64}
 use mir.Val.{SFits, Fits}
-use Rattle.rng_util.proofs.Up.{up, in-up, le-up, up-le, up-add, up-neg, up-nonNeg, up-abs}
+use Rattle.rng_util.proofs.Shifted.{up, in-up, le-up, up-le, up-add, up-neg, up-nonNeg, up-abs}
 
-module _ (a b : ℤ) (fa : SFits w64 a) (fb : SFits w64 b) (h : (a ≤ℤ b) × (negsuc 9007199254740991 ≤ℤ a) × (b ≤ℤ pos 9007199254740992)) where
+module _ (a b : ℤ) (fa : SFits w64 a) (fb : SFits w64 b) (h : (a ≤ℤ b) × (negℤ (pos (2 ^ 53)) ≤ℤ a) × (b ≤ℤ pos (2 ^ 53))) where
   ord : up a ≤ up b
   ord = le-up a b (h .0)
 
