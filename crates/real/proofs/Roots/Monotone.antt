@@ -13,9 +13,10 @@ use lib.Ieee.Digits.{size-lt, size-le, size-reaches}
 use lib.Ieee.Exact.{HasValue}
 use Rattle.float_laws.proofs.Units.{SLe, le→sle, sle→le}
 use Rattle.float_laws.proofs.Order.{le-trans as le-trans-float}
+use Rattle.float_laws.proofs.Constants.{nought, one}
 use Rattle.model.specs.Numbers.{nearRoot, dropped, sqrtOf}
 use Rattle.real.proofs.Roots.Whole.{nearRoot-near, near-mono, near-ge, near-lt}
-use Rattle.real.proofs.Roots.Units.{nought, shiftOf, counted, rootUnits, rootUnits-zero, root-counted}
+use Rattle.real.proofs.Roots.Units.{shiftOf, counted, rootUnits, rootUnits-zero, root-counted}
 
 -- ---- the whole number nearest to a root
 pub nearRoot-mono : (a b : ℕ) → a ≤ b → nearRoot a ≤ nearRoot b
@@ -103,9 +104,6 @@ sqrt-mono (fin s m e) (fin t n d) X Y h l =
     (signed s t g k (le→sle (2 ^ 1074) (fin s m e) (fin t n d) s t g k (pow-pos 1074) (counted s m e X) (counted t n d Y) l))
 
 -- ---- so the root of a double from 0 on is from 0 on, and that of one up to 1 is up to 1
-abbrev pub one : Float
-one = fin false 1 (pos 0)
-
 root-of-nought : sqrtOf nought ≡ nought
 unfolding sqrtOf
 root-of-nought = refl

@@ -17,10 +17,11 @@ use lib.Ieee.Positive.{positive}
 use Rattle.float_laws.proofs.Units.{sle→le}
 use Rattle.float_laws.proofs.Order.{lt→nle}
 use Rattle.float_laws.proofs.Rounding.{unsigned}
+use Rattle.float_laws.proofs.Constants.{nought}
 use Rattle.model.specs.Numbers.{nearRoot, unitsOf, sqrtOf}
 use Rattle.real.proofs.Roots.Whole.{IsNear, nearRoot-near, square-suc, square-twice, square-mono}
 use Rattle.real.proofs.Roots.Scaled.{parts, exponent, moved, dropped-is, cut-is}
-use Rattle.real.proofs.Roots.Units.{nought, shiftOf, counted, digits-lt, unitsOf-is, rootUnits, root-counted}
+use Rattle.real.proofs.Roots.Units.{shiftOf, counted, digits-lt, unitsOf-is, rootUnits, root-counted}
 
 -- ---- a number of at most 53 digits, moved up, that is 2 ^ 52 * 2 ^ k at least is a multiple of 2 ^ k
 reaches : (p j k : ℕ) → p < 2 ^ 53 → 2 ^ 52 * 2 ^ k ≤ p * 2 ^ j → k ≤ j

@@ -11,10 +11,8 @@ use lib.Ieee.{Float, nan, inf, fin, binary64, up, down, size, fits, le}
 use lib.Ieee.Fits.{down-pos}
 use lib.Ieee.Exact.{HasValue, odd-sign}
 use Rattle.float_laws.proofs.Units.{placed, le→sle}
+use Rattle.float_laws.proofs.Constants.{nought}
 use Rattle.model.specs.Numbers.{nearRoot, dropped, rooted, unitsOf, sqrtOf}
-
-abbrev pub nought : Float
-nought = fin false 0 (pos 0)
 
 -- ---- the count of a double that is finite: m * 2 ^ j, for a j that its exponent gives
 pub shiftOf : (s : Bool) (m : ℕ) (e : ℤ) → T (fits binary64 (fin s m e)) → ℕ

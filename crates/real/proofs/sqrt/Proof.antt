@@ -12,12 +12,10 @@ use lib.Ieee.Fits.{up-pos, and-l}
 use lib.Ieee.Bits.{ofBits-toBits}
 use Rattle.float_laws.proofs.Rounding.{unsigned}
 use Rattle.float_laws.proofs.Patterns.{lt→bits}
+use Rattle.float_laws.proofs.Constants.{nought}
 use Rattle.model.specs.Numbers.{sqrtOf}
 use Rattle.real.proofs.sqrt.Statement.{statement}
 use Rattle.real.proofs.sqrt.Tie as tie
-
-abbrev nought : Float
-nought = fin false 0 (pos 0)
 
 -- ---- x is above 0
 not-nan : (x : Float) → lt nought x ≡ true → T (not (isNan x))
