@@ -1,0 +1,9 @@
+-- From the order of all floats to what the product says of draws, normalised rows and bit patterns.
+pub mod Units
+pub mod Order
+pub mod Rounding
+pub mod Constants
+pub mod Arithmetic
+pub mod Normalised
+pub mod InRange
+pub mod Patterns

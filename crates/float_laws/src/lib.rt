@@ -1,0 +1,1 @@
+// Laws of the doubles' order and rounding, for the proofs of other crates.

@@ -1,0 +1,129 @@
+-- The root R by halving: how the ends go on, that they become neighbours, and that further halvings leave neighbours alone. Assumes nothing.
+use mathlib.Core.Path.{_≡_, refl, sym, ap, _∙_, subst}
+use mathlib.Core.Bool.{Bool, true, false, cond}
+use Prim.Native.Nat.{ℕ, zero, suc, _+_, _-_, _*_, _/_, _^_, _≤_, _<_}
+use native.Mathlib.Nat.{pow-suc, mul-assoc, mul-comm, mul-le-mul-right, add-zero, add-suc, lt-of-not-le}
+use native.Mathlib.Omega.{arith}
+use borrow.Author.Tests.{le-leb, lt-leb, leb-true, leb-false}
+use lib.Dec.{leb}
+use lib.Pow.{pow-mono}
+use lib.Ieee.{Float, le, eq}
+use Rattle.model.specs.Real.{real, nought}
+use Rattle.model.specs.Numbers.{P, Ends, ends, halfBy, halved, halvings, R}
+
+-- the upper end at the start: the pattern of 2^52
+abbrev pub Top : ℕ
+Top = 0x4330_0000_0000_0000
+
+module _ (v : Float) (k : ℕ) where
+  -- ---- one halving
+  pub neighbours : (l u : ℕ) → u ≤ suc l → halved v k (ends l u) ≡ ends l u
+  unfolding halved
+  neighbours l u h = ap (λ (b : Bool). cond b (ends l u) (halfBy v k (ends l u) ((l + u) / 2))) (le-leb u (suc l) h)
+
+  parted : (l u : ℕ) → suc l < u → halved v k (ends l u) ≡ halfBy v k (ends l u) ((l + u) / 2)
+  unfolding halved
+  parted l u h = ap (λ (b : Bool). cond b (ends l u) (halfBy v k (ends l u) ((l + u) / 2))) (lt-leb u (suc l) h)
+
+  pub upper-half : (l u : ℕ) → suc l < u → le (P (real ((l + u) / 2)) k) v ≡ true → halved v k (ends l u) ≡ ends ((l + u) / 2) u
+  unfolding halfBy
+  upper-half l u h t = parted l u h ∙ ap (λ (b : Bool). cond b (ends ((l + u) / 2) u) (ends l ((l + u) / 2))) t
+
+  pub lower-half : (l u : ℕ) → suc l < u → le (P (real ((l + u) / 2)) k) v ≡ false → halved v k (ends l u) ≡ ends l ((l + u) / 2)
+  unfolding halfBy
+  lower-half l u h t = parted l u h ∙ ap (λ (b : Bool). cond b (ends ((l + u) / 2) u) (ends l ((l + u) / 2))) t
+
+  -- ---- the numbers between the ends become half as many with each halving
+  pub record Gap (n : ℕ) (e : Ends) : Type 0 where
+    pub order : e .lower < e .upper
+    pub top : e .upper ≤ Top
+    pub left : (e .upper - e .lower - 1) * 2 ^ n < 2 ^ 63
+
+  less : (g g' p q : ℕ) → g' * 2 ≤ g → q ≡ p * 2 → g * p < 2 ^ 63 → g' * q < 2 ^ 63
+  less g g' p q h e l =
+      let a : g' * q ≡ g' * 2 * p = ap (λ (x : ℕ). g' * x) (e ∙ mul-comm p 2) ∙ sym (mul-assoc g' 2 p) in
+      let b : g' * 2 * p ≤ g * p = mul-le-mul-right p h in
+      omega arith
+
+  -- from l, u to l', u'
+  narrower : (n l u l' u' : ℕ) → Gap n (ends l u) → l' < u' → u' ≤ u → (u' - l' - 1) * 2 ≤ u - l - 1 → Gap (suc n) (ends l' u')
+  narrower n l u l' u' g o t h =
+      record { order = o; top = let s = g .top in omega arith; left = less (u - l - 1) (u' - l' - 1) (2 ^ n) (2 ^ suc n) h (pow-suc 2 n) (g .left) }
+
+  gap-step : (n l u : ℕ) → Gap n (ends l u) → Gap (suc n) (halved v k (ends l u))
+  gap-step n l u g = go (leb u (suc l)) refl (le (P (real ((l + u) / 2)) k) v) refl
+    where
+      go : (p : Bool) → leb u (suc l) ≡ p → (q : Bool) → le (P (real ((l + u) / 2)) k) v ≡ q → Gap (suc n) (halved v k (ends l u))
+      go true a q b =
+          let h = leb-true u (suc l) a in
+          let o = g .order in
+          subst (Gap (suc n)) (sym (neighbours l u h)) (narrower n l u l u g o (omega arith) (omega arith))
+      go false a true b =
+          let h = leb-false u (suc l) a in
+          subst (Gap (suc n)) (sym (upper-half l u h b)) (narrower n l u ((l + u) / 2) u g (omega arith) (omega arith) (omega arith))
+      go false a false b =
+          let h = leb-false u (suc l) a in
+          subst (Gap (suc n)) (sym (lower-half l u h b)) (narrower n l u l ((l + u) / 2) g (omega arith) (omega arith) (omega arith))
+
+  pub gap : (n : ℕ) → Gap n (halvings v k n)
+  unfolding halvings
+  gap zero = record { order = omega arith; top = omega arith; left = omega arith }
+  gap (suc n) = let e = halvings v k n in gap-step n (e .lower) (e .upper) (gap n)
+
+  -- "until the ends are neighbours"
+  pub adjacent : halvings v k 63 .upper ≡ suc (halvings v k 63 .lower)
+  adjacent = let g = gap 63 in let o = g .order in let l = g .left in omega arith
+
+  -- ---- ends that some halvings lead to
+  pub record Reached (l u : ℕ) : Type 0 where
+    pub turns : ℕ
+    pub few : turns ≤ 63
+    pub are : ends l u ≡ halvings v k turns
+
+  pub start : Reached 0 Top
+  unfolding halvings
+  start = record { turns = 0; few = omega arith; are = refl }
+
+  pub shape : (l u : ℕ) (r : Reached l u) → Gap (r .turns) (ends l u)
+  shape l u r = subst (Gap (r .turns)) (sym (r .are)) (gap (r .turns))
+
+  -- ends that are no neighbours have not been halved 63 times
+  some : (l u : ℕ) (r : Reached l u) → l + 1 < u → r .turns < 63
+  some l u r h = lt-of-not-le (λ (q : 63 ≤ r .turns). none (u - l - 1) (2 ^ r .turns) (omega arith) (pow-mono q) (shape l u r .left))
+    where
+      none : (g p : ℕ) → 0 < g → 2 ^ 63 ≤ p → g * p < 2 ^ 63 → ⊥
+      none g p G h l = let b : 1 * p ≤ g * p = mul-le-mul-right p G in omega arith
+
+  -- one halving further
+  further : (l u l' u' : ℕ) → Reached l u → l + 1 < u → halved v k (ends l u) ≡ ends l' u' → Reached l' u'
+  unfolding halvings
+  further l u l' u' r h e = record { turns = suc (r .turns); few = some l u r h; are = sym e ∙ ap (halved v k) (r .are) }
+
+  pub on-upper : (l u : ℕ) → Reached l u → l + 1 < u → le (P (real ((l + u) / 2)) k) v ≡ true → Reached ((l + u) / 2) u
+  on-upper l u r h t = further l u ((l + u) / 2) u r h (upper-half l u (omega arith) t)
+
+  pub on-lower : (l u : ℕ) → Reached l u → l + 1 < u → le (P (real ((l + u) / 2)) k) v ≡ false → Reached l ((l + u) / 2)
+  on-lower l u r h t = further l u l ((l + u) / 2) r h (lower-half l u (omega arith) t)
+
+  -- ---- neighbours stay
+  stay : (l u n d : ℕ) → u ≤ suc l → ends l u ≡ halvings v k n → ends l u ≡ halvings v k (n + d)
+  unfolding halvings
+  stay l u n zero h e = e ∙ ap (halvings v k) (sym (add-zero n))
+  stay l u n (suc d) h e =
+      sym (neighbours l u h) ∙ ap (halved v k) (stay l u n d h e) ∙ ap (halvings v k) (sym (add-suc n d))
+
+  pub finished : (l u : ℕ) → Reached l u → u ≤ l + 1 → ends l u ≡ halvings v k 63
+  finished l u r h =
+      let few = r .few in
+      stay l u (r .turns) (63 - r .turns) (omega arith) (r .are) ∙ ap (halvings v k) (omega arith)
+
+  -- ---- R
+  pub root-zero : eq v nought ≡ true → R v k ≡ nought
+  unfolding R
+  root-zero e = ap (λ (b : Bool). cond b nought (real (halvings v k 63 .lower))) e
+
+  pub root-is : (l u : ℕ) → eq v nought ≡ false → Reached l u → u ≤ l + 1 → real l ≡ R v k
+  unfolding R
+  root-is l u e r h =
+      ap (λ (d : Ends). real (d .lower)) (finished l u r h)
+      ∙ sym (ap (λ (b : Bool). cond b nought (real (halvings v k 63 .lower))) e)

@@ -1,0 +1,86 @@
+-- Whole numbers as words, and the machine's arithmetic that codes them. Assumes nothing.
+use mathlib.Core.Path.{_≡_, refl, sym, ap, _∙_}
+use mathlib.Core.Bool.{Bool, true, false, cond, true≢false}
+use Prim.Native.Nat.{ℕ, zero, suc, _+_, _-_, _*_, _/_, _%_, _^_, _<_}
+use native.Mathlib.Nat.{zero-add}
+use native.Mathlib.Omega.{arith}
+use borrow.Author.Tests.{eqb-true, eqb-false, eq-eqb, ne-eqb, le-ltb}
+use lib.Dec.{T, eqb, leb·zero}
+use lib.IntN.{ℤ, pos, negsuc, natAbs, _-ℤ_}
+use lib.Signed.{nonNeg, leZ}
+use mir.Syntax.{w64}
+use mir.Val.{Fits, SFits}
+use Rattle.real.specs.IntCode.{wordOfInt, intOfWord}
+
+-- ---- there and back
+pub int-of-word-of : (z : ℤ) → intOfWord (wordOfInt z) ≡ z
+unfolding intOfWord wordOfInt
+int-of-word-of (pos n) =
+    ap (λ (b : Bool). cond b (pos (2 * n / 2)) (negsuc (2 * n / 2))) (eq-eqb (2 * n % 2) 0 (omega arith)) ∙ ap pos (omega arith)
+int-of-word-of (negsuc n) =
+    ap (λ (b : Bool). cond b (pos ((2 * n + 1) / 2)) (negsuc ((2 * n + 1) / 2))) (ne-eqb ((2 * n + 1) % 2) 0 (λ e. odd n e)) ∙ ap negsuc (omega arith)
+  where
+    odd : (n : ℕ) → (2 * n + 1) % 2 ≡ 0 → ⊥
+    odd n e = omega arith
+
+pub intOfWord-even : (w : ℕ) → w % 2 ≡ 0 → intOfWord w ≡ pos (w / 2)
+unfolding intOfWord
+intOfWord-even w h = ap (λ (b : Bool). cond b (pos (w / 2)) (negsuc (w / 2))) (eq-eqb (w % 2) 0 h)
+
+pub intOfWord-odd : (w : ℕ) → (w % 2 ≡ 0 → ⊥) → intOfWord w ≡ negsuc (w / 2)
+unfolding intOfWord
+intOfWord-odd w h = ap (λ (b : Bool). cond b (pos (w / 2)) (negsuc (w / 2))) (ne-eqb (w % 2) 0 h)
+
+pub word-of-int-of : (w : ℕ) → wordOfInt (intOfWord w) ≡ w
+unfolding intOfWord wordOfInt
+word-of-int-of w = go (eqb (w % 2) 0) refl
+  where
+    go : (b : Bool) → eqb (w % 2) 0 ≡ b → wordOfInt (cond b (pos (w / 2)) (negsuc (w / 2))) ≡ w
+    go true h = let e = eqb-true (w % 2) 0 h in omega arith
+    go false h = let e = eqb-false (w % 2) 0 h in omega arith
+
+-- a word's number fits 64 bits, and a 64-bit number's word is one
+pub intOfWord-fits : (w : ℕ) → w < 2 ^ 64 → SFits w64 (intOfWord w)
+unfolding intOfWord
+intOfWord-fits w h = go (eqb (w % 2) 0)
+  where
+    go : (b : Bool) → SFits w64 (cond b (pos (w / 2)) (negsuc (w / 2)))
+    go true = record { sfits = omega arith }
+    go false = record { sfits = omega arith }
+
+pub wordOfInt-below : (z : ℤ) → SFits w64 z → wordOfInt z < 2 ^ 64
+unfolding wordOfInt
+wordOfInt-below (pos n) f = let g : n < 2 ^ 63 = f .sfits in omega arith
+wordOfInt-below (negsuc n) f = let g : n < 2 ^ 63 = f .sfits in omega arith
+
+-- ---- -1 - z, which turns the numbers from zero up into those below, and back
+pub other : (k : ℕ) → negsuc 0 -ℤ pos k ≡ negsuc k
+other zero = refl
+other (suc k) = ap (λ (x : ℕ). negsuc (suc x)) (zero-add k)
+
+pub other-back : (k : ℕ) → negsuc 0 -ℤ negsuc k ≡ pos k
+other-back k = ap (λ (b : Bool). cond b (negsuc (1 - suc (suc k))) (pos (suc k - 1))) (le-ltb (suc k) 1 (omega arith)) ∙ ap pos (omega arith)
+
+-- a number from zero up
+pub record Up (n : ℤ) : Type 0 where
+  pub from : T (nonNeg n)
+  pub fits : Fits w64 (natAbs n)
+  pub twice : Fits w64 (2 * natAbs n)
+  pub is : 2 * natAbs n ≡ wordOfInt n
+
+pub up : (n : ℤ) → SFits w64 n → leZ (pos 0) n ≡ true → Up n
+unfolding wordOfInt
+up (pos n) f h = let g : n < 2 ^ 63 = f .sfits in record { from = tt; fits = record { fits = omega arith }; twice = record { fits = omega arith }; is = refl }
+up (negsuc n) f h = absurd (true≢false (sym h))
+
+-- a number below
+pub record Down (n : ℤ) : Type 0 where
+  pub some : ℕ
+  pub is : negsuc 0 -ℤ n ≡ pos some
+  pub small : some < 2 ^ 63
+  pub word : 2 * some + 1 ≡ wordOfInt n
+
+pub down : (n : ℤ) → SFits w64 n → leZ (pos 0) n ≡ false → Down n
+unfolding wordOfInt
+down (pos n) f h = absurd (true≢false (sym (leb·zero n) ∙ h))
+down (negsuc n) f h = record { some = n; is = other-back n; small = f .sfits; word = refl }

@@ -1,0 +1,9 @@
+pub mod Nan
+pub mod Ints
+pub mod Casts
+pub mod Clamped
+pub mod Halves
+pub mod Roots
+pub mod Powers
+pub mod Halving
+pub mod Between

@@ -1,0 +1,138 @@
+-- Powers of a double from zero up, by repeated rounded products: they are from zero up, and grow with the double, also where they overflow.
+-- Assumes nothing.
+use mathlib.Core.Path.{_≡_, refl, sym, ap, subst}
+use mathlib.Core.Logic.{_⊎_, inl, inr}
+use mathlib.Core.Bool.{Bool, true, false, not, cond}
+use Prim.Native.Nat.{ℕ, zero, suc, _*_, _^_, _<_}
+use native.Mathlib.Nat.{zero-mul}
+use native.Mathlib.Omega.{arith}
+use borrow.Author.Tests.{ne-eqb}
+use lib.Dec.{T, lit<}
+use lib.IntN.{ℤ}
+use lib.Ieee.{Float, nan, inf, fin, binary64, up, down, le, lt, mul, fits, isNan}
+use lib.Ieee.Fits.{mul-fits}
+use lib.Ieee.Scale.{finite}
+use Rattle.float_laws.proofs.Units.{Counts, counts-of, counts-same, le→counts, counts→le, →slt}
+use Rattle.float_laws.proofs.Order.{le-trans, le-not-nan, lt→le, lt-or-le}
+use Rattle.float_laws.proofs.Rounding.{between-finite, rounded-exact}
+use Rattle.float_laws.proofs.Constants.{nought, nought-counts, nought-fits, nought-not-nan, one, one-fits}
+use Rattle.float_laws.proofs.Arithmetic.{mul-mono, mul-from-zero, mul-rounded}
+use Rattle.model.specs.Numbers.{powerUp}
+
+-- ---- what is from zero up is an infinity, or finite
+pub rise : (x : Float) → T (le nought x) → (x ≡ inf false) ⊎ T (finite x)
+unfolding le
+rise nan h = absurd h
+rise (inf true) h = absurd h
+rise (inf false) h = inl refl
+rise (fin s m e) h = inr tt
+
+-- nothing but a NaN is above the infinity
+pub below-inf : (x : Float) → T (not (isNan x)) → T (le x (inf false))
+unfolding le isNan
+below-inf nan h = absurd h
+below-inf (inf true) h = tt
+below-inf (inf false) h = tt
+below-inf (fin s m e) h = tt
+
+nought-inf : T (le nought (inf false))
+unfolding le
+nought-inf = tt
+
+-- the infinity times what is above zero
+pub inf-mul : (z : Float) → T (lt nought z) → mul binary64 (inf false) z ≡ inf false
+unfolding lt mul
+inf-mul nan h = absurd h
+inf-mul (inf true) h = absurd h
+inf-mul (inf false) h = refl
+inf-mul (fin true n d) h = absurd h
+inf-mul (fin false n d) h =
+    ap (λ (b : Bool). cond b nan (inf false)) (ne-eqb n 0 (λ e. none n d e (→slt false (0 * 1 * down d) false (n * up d * 1) h)))
+  where
+    none : (n : ℕ) (d : ℤ) → n ≡ 0 → 0 * 1 * down d < n * up d * 1 → ⊥
+    none n d e h = let z = zero-mul (up d) in let y = ap (λ (x : ℕ). x * up d) e in omega arith
+
+pub fits-power : (y : Float) → T (fits binary64 y) → (j : ℕ) → T (fits binary64 (powerUp y j))
+unfolding powerUp
+fits-power y Y zero = Y
+fits-power y Y (suc j) = mul-fits binary64 (powerUp y j) y
+
+-- ---- powers of what is above zero
+module _ (z : Float) (Z : T (fits binary64 z)) (F : T (finite z)) (h : T (lt nought z)) where
+  pub above-power : (j : ℕ) → T (le nought (powerUp z j))
+  unfolding powerUp
+  above-power zero = lt→le nought z h
+  above-power (suc j) = elim (rise (powerUp z j) (above-power j)) [
+    | inl e ↦ subst (λ (p : Float). T (le nought (mul binary64 p z))) (sym e) (subst (λ (x : Float). T (le nought x)) (sym (inf-mul z h)) nought-inf)
+    | inr G ↦ mul-from-zero binary64 (powerUp z j) z (record { held = fits-power z Z j; finite = G }) (record { held = Z; finite = F }) (above-power j) (lt→le nought z h)
+  ]
+
+-- ---- powers of a zero
+level : (y : Float) → T (fits binary64 y) → T (le nought y) → T (le y nought) → Counts binary64 y 0 0
+level y Y h k =
+    let o = counts-of binary64 y (record { held = Y; finite = between-finite nought y nought tt tt h k }) in
+    let a = le→counts binary64 nought y 0 0 (o .0) (o .1) (nought-counts binary64) (o .2) h in
+    let b = le→counts binary64 y nought (o .0) (o .1) 0 0 (o .2) (nought-counts binary64) k in
+    counts-same binary64 y (o .0) (o .1) 0 0 (o .2) (omega arith)
+
+zero-power : (y : Float) → Counts binary64 y 0 0 → (j : ℕ) → Counts binary64 (powerUp y j) 0 0
+unfolding powerUp
+zero-power y i zero = i
+zero-power y i (suc j) =
+    rounded-exact binary64 (mul binary64 (powerUp y j) y) nought 0 0 (2 ^ 1074 * 2 ^ 1074) 0 0 (lit< tt) (mul-rounded binary64 (powerUp y j) y 0 0 0 0 (zero-power y i j) i) (nought-fits binary64) (nought-counts binary64) refl
+
+-- ---- powers of the infinity
+inf-power : (j : ℕ) → powerUp (inf false) j ≡ inf false
+unfolding powerUp mul
+inf-power zero = refl
+inf-power (suc j) = ap (λ (p : Float). mul binary64 p (inf false)) (inf-power j)
+
+-- ---- a power of what is from zero up is from zero up
+pub power-from : (y : Float) → T (fits binary64 y) → T (le nought y) → (j : ℕ) → T (le nought (powerUp y j))
+power-from y Y h j = elim (rise y h) [
+  | inl e ↦ subst (λ (x : Float). T (le nought (powerUp x j))) (sym e) (subst (λ (x : Float). T (le nought x)) (sym (inf-power j)) nought-inf)
+  | inr F ↦ elim (lt-or-le nought y nought-not-nan (le-not-nan nought y h .1)) [
+    | inl l ↦ above-power y Y F l j
+    | inr k ↦ counts→le binary64 nought (powerUp y j) 0 0 0 0 (nought-counts binary64) (zero-power y (level y Y h k) j) (omega arith)
+  ]
+]
+
+-- ---- and grows with it
+module _ (y z : Float) (Y : T (fits binary64 y)) (Z : T (fits binary64 z)) (h : T (le nought y)) (k : T (le y z)) where
+  -- z is finite and above zero
+  rises : T (finite z) → T (lt nought z) → (j : ℕ) → T (le (powerUp y j) (powerUp z j))
+  unfolding powerUp
+  rises F l zero = k
+  rises F l (suc j) = elim (rise (powerUp z j) (above-power z Z F l j)) [
+    | inl e ↦
+        subst (λ (p : Float). T (le (powerUp y (suc j)) (mul binary64 p z))) (sym e)
+        (subst (λ (x : Float). T (le (powerUp y (suc j)) x)) (sym (inf-mul z l)) (below-inf (powerUp y (suc j)) (le-not-nan nought (powerUp y (suc j)) (power-from y Y h (suc j)) .1)))
+    | inr G ↦
+        let n = power-from y Y h j in
+        let i = rises F l j in
+        mul-mono binary64 (powerUp y j) (powerUp z j) y z (record { held = fits-power y Y j; finite = between-finite nought (powerUp y j) (powerUp z j) tt G n i }) (record { held = fits-power z Z j; finite = G })
+        (record { held = Y; finite = between-finite nought y z tt F h k }) (record { held = Z; finite = F }) n h i k
+  ]
+
+  -- "P monotone in y"
+  pub power-mono : (j : ℕ) → T (le (powerUp y j) (powerUp z j))
+  power-mono j = elim (rise z (le-trans nought y z h k)) [
+    | inl e ↦
+        subst (λ (x : Float). T (le (powerUp y j) (powerUp x j))) (sym e)
+        (subst (λ (x : Float). T (le (powerUp y j) x)) (sym (inf-power j)) (below-inf (powerUp y j) (le-not-nan nought (powerUp y j) (power-from y Y h j) .1)))
+    | inr F ↦ elim (lt-or-le nought z nought-not-nan (le-not-nan y z k .1)) [
+      | inl l ↦ rises F l j
+      | inr m ↦
+          counts→le binary64 (powerUp y j) (powerUp z j) 0 0 0 0 (zero-power y (level y Y h (le-trans y z nought k m)) j) (zero-power z (level z Z (le-trans nought y z h k) m) j) (omega arith)
+    ]
+  ]
+
+-- ---- so powers of 0..1 stay there
+one-power : (j : ℕ) → powerUp one j ≡ one
+unfolding powerUp mul
+one-power zero = refl
+one-power (suc j) = ap (λ (p : Float). mul binary64 p one) (one-power j)
+
+pub power-within : (y : Float) → T (fits binary64 y) → T (le nought y) → T (le y one) → (j : ℕ) → T (le nought (powerUp y j)) × T (le (powerUp y j) one)
+power-within y Y h k j =
+    (power-from y Y h j, subst (λ (x : Float). T (le (powerUp y j) x)) (one-power j) (power-mono y one Y (one-fits binary64) h k j))

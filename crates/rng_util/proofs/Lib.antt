@@ -1,0 +1,5 @@
+pub mod Xor
+pub mod Shifted
+pub mod Span
+pub mod Unit
+pub mod Draws

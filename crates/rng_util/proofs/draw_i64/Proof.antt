@@ -1,0 +1,85 @@
+-- a and the word's remainder by how many numbers there are from a to b: nothing on the way leaves 64 bits. Assumes nothing.
+use borrow.Author.Needs.{needs}
+use mathlib.Core.Path.{_≡_, ap}
+use lib.IntN.{ℤ, pos, natAbs, _+ℤ_, _-ℤ_}
+use mir.Syntax.{w64}
+use mir.Val.{toZ, ofZ}
+use mir.ValLaws.{toZ-ofZ}
+use Prim.Native.Nat.{ℕ, _%_}
+use Rattle.model.specs.Draw.{Drawn, drawn, drawWord, drawI64}
+use Rattle.rng_util.proofs.Span as span
+use Rattle.rng_util.proofs.draw_i64.Statement.{statement}
+use Rattle.rng_util.proofs.draw_i64.Tie as tie
+
+-- what the machine reads back at each step
+module _ (c : tie.Start) where
+  abbrev A : ℤ
+  A = c .args .a
+
+  abbrev B : ℤ
+  B = c .args .b
+
+  ea : toZ w64 (ofZ w64 A) ≡ A
+  ea = toZ-ofZ w64 A (c .fits .a)
+
+  eb : toZ w64 (ofZ w64 B) ≡ B
+  eb = toZ-ofZ w64 B (c .fits .b)
+
+  ed : toZ w64 (ofZ w64 (B -ℤ A)) ≡ B -ℤ A
+  ed = toZ-ofZ w64 (B -ℤ A) (span.diff-fits A B (c .fits .a) (c .fits .b) (c .pre))
+
+  es : toZ w64 (ofZ w64 (B -ℤ A +ℤ pos 1)) ≡ B -ℤ A +ℤ pos 1
+  es = toZ-ofZ w64 (B -ℤ A +ℤ pos 1) (span.span-fits A B (c .fits .a) (c .fits .b) (c .pre))
+
+  module _ (w : ℕ) where
+    abbrev R : ℕ
+    R = w % natAbs (B -ℤ A +ℤ pos 1)
+
+    er : toZ w64 R ≡ pos R
+    er = toZ-ofZ w64 (pos R) (span.rest-fits A B (c .fits .a) (c .fits .b) (c .pre) w)
+
+    ep : toZ w64 (ofZ w64 (A +ℤ pos R)) ≡ A +ℤ pos R
+    ep = toZ-ofZ w64 (A +ℤ pos R) (span.pick-fits A B (c .fits .a) (c .fits .b) (c .pre) w)
+
+next-requires : tie.Need-next-requires
+next-requires c κs = search needs
+
+sub-t7 : tie.Need-sub-t7
+sub-t7 c = let s = c .before .before in rw (eb s, ea s) (span.diff-fits (A s) (B s) (s .fits .a) (s .fits .b) (s .pre))
+
+add-t8 : tie.Need-add-t8
+add-t8 c = let s = c .before .before in rw (eb s, ea s, ed s) (span.span-fits (A s) (B s) (s .fits .a) (s .fits .b) (s .pre))
+
+cast-t9 : tie.Need-cast-t9
+cast-t9 c =
+    let s = c .before .before in
+    rw (eb s, ea s, ed s, es s)
+    (span.span-nonNeg (A s) (B s) (s .fits .a) (s .fits .b) (s .pre), span.span-abs-fits (A s) (B s) (s .fits .a) (s .fits .b) (s .pre))
+
+rem-t10 : tie.Need-rem-t10
+rem-t10 c = let s = c .before .before in rw (eb s, ea s, ed s, es s) (span.span-some (A s) (B s) (s .fits .a) (s .fits .b) (s .pre))
+
+cast-t11 : tie.Need-cast-t11
+cast-t11 c =
+    let s = c .before .before in
+    rw (eb s, ea s, ed s, es s) (span.rest-fits (A s) (B s) (s .fits .a) (s .fits .b) (s .pre) (c .before .next .result .value))
+
+add-t12 : tie.Need-add-t12
+add-t12 c =
+    let s = c .before .before in
+    let w = c .before .next .result .value in
+    rw (eb s, ea s, ed s, es s, er s w) (span.pick-fits (A s) (B s) (s .fits .a) (s .fits .b) (s .pre) w)
+
+is-drawn : (a b : ℤ) (s w t : ℕ) → drawn w t ≡ drawWord s → drawn (a +ℤ pos (w % natAbs (b -ℤ a +ℤ pos 1))) t ≡ drawI64 a b s
+unfolding drawI64
+is-drawn a b s w t e = ap (λ (d : Drawn ℕ). drawn (a +ℤ pos (d .value % natAbs (b -ℤ a +ℤ pos 1))) (d .state)) e
+
+returns : tie.Need-returns
+returns c =
+    let s = c .before .before in
+    let w = c .before .next .result .value in
+    rw (eb s, ea s, ed s, es s, er s w, ep s w) (is-drawn (A s) (B s) (s .args .rng .s) w (c .before .next .result .rng .s) (c .before .next .ensures))
+
+pub draw-i64-spec : {M : Type 1} → statement M
+draw-i64-spec =
+    tie.close (tie.spec next-requires sub-t7 add-t8 cast-t9 rem-t10 cast-t11 add-t12 returns)
