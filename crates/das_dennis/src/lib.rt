@@ -1,0 +1,1 @@
+// The reference lines of Das and Dennis (document 01, "Reference table").
