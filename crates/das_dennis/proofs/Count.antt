@@ -2,7 +2,7 @@
 use Prim.Native.Nat.{ℕ, zero, suc, _+_, _-_, _*_, _/_, _^_, _≤_, _<_, zero-le, suc-le-suc}
 use mathlib.Core.Path.{_≡_, refl, sym, ap, _∙_}
 use mathlib.Core.List.{List, [], _∷_, _++_, map}
-use native.Mathlib.Nat.{suc-mul, mul-add, mul-sub, mul-comm, mul-one, sub-zero, zero-add, suc-add, suc-sub-suc, sub-self, add-zero, add-suc, div-eq-of-eq-mul-right, div-le-self, le-trans, mul-le-mul}
+use native.Mathlib.Nat.{suc-mul, mul-add, mul-sub, mul-comm, mul-one, sub-zero, zero-add, suc-add, suc-sub-suc, sub-self, add-zero, add-suc, div-eq-of-eq-mul-right, div-le-self, le-trans, lt-of-le-of-lt, mul-le-mul, mul-le-mul-left, sub-le, pow-suc, pow-le-pow-right}
 use native.Mathlib.Numerals.{add-one}
 use native.Mathlib.Omega.{arith}
 use lib.ListN.{length, length-append, length-map}
@@ -50,6 +50,31 @@ unfolding binomial pascal
 binomial-pascal n zero = refl
 binomial-pascal n (suc k) =
     rw (binomial-pascal n k) (div-eq-of-eq-mul-right (omega arith) (next k n (pascal k n) (pascal (suc k) n) (pascal-row k n)))
+
+-- ---- the loop that multiplies it out
+
+pub binomial-start : (n : ℕ) → binomial n 0 ≡ 1
+unfolding binomial
+binomial-start n = refl
+
+pub binomial-next : (n i : ℕ) → binomial n (i + 1) ≡ binomial n i * (n - i) / (i + 1)
+unfolding binomial
+binomial-next n i = rw add-one
+
+pub binomial-none : (n k : ℕ) → n < k → binomial n k ≡ 0
+binomial-none n k h = binomial-pascal n k ∙ pascal-over k n h
+
+binomial-bound : (n k : ℕ) → n ≤ 255 → binomial n k ≤ 256 ^ k
+unfolding binomial
+binomial-bound n zero h = omega arith
+binomial-bound n (suc k) h =
+    le-trans (div-le-self (binomial n k * (n - k)) (suc k)) (rw pow-suc (mul-le-mul (binomial-bound n k h) (omega arith)))
+
+-- the product of a turn fits a word
+pub product-fits : (n i : ℕ) → n ≤ 255 → i < 7 → binomial n i * (n - i) < 2 ^ 64
+product-fits n i h l =
+    lt-of-le-of-lt (mul-le-mul (le-trans (binomial-bound n i h) (pow-le-pow-right (omega arith) {j = 6} (omega arith))) (sub-le n i))
+    (lt-of-le-of-lt (mul-le-mul-left (256 ^ 6) h) (omega arith))
 
 -- ---- the list of lines
 
