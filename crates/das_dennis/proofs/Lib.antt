@@ -1,3 +1,4 @@
 pub mod Count
 pub mod Table
 pub mod First
+pub mod Rows
