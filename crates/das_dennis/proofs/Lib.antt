@@ -2,3 +2,4 @@ pub mod Count
 pub mod Table
 pub mod First
 pub mod Rows
+pub mod Divisions
