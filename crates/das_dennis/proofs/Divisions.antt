@@ -1,9 +1,9 @@
 -- Divisions within refusal 4's bounds, and which a session uses. Assumes nothing.
-use Prim.Native.Nat.{ℕ, zero, suc, _≤_, _<_, max}
+use Prim.Native.Nat.{ℕ, zero, suc, _*_, _≤_, _<_, max}
 use mathlib.Core.Path.{_≡_, refl, sym, ap, _∙_}
 use mathlib.Core.Bool.{Bool, true, false, cond, not, _&&_, _||_, false≢true}
 use mathlib.Core.Option.{Option, none, some}
-use native.Mathlib.Nat.{max-eq-left, max-eq-right, le-of-lt}
+use native.Mathlib.Nat.{max-eq-left, max-eq-right, le-of-lt, mul-le-mul}
 use borrow.Author.Tests.{lt-ltb, le-ltb, le-leb, lt-leb, leb-true, ltb-true, ltb-false, not-false}
 use native.Mathlib.Omega.{arith}
 use lib.Dec.{leb, ltb}
@@ -44,6 +44,10 @@ allowed m h e =
     let w = or-none (outsideDivisions h) (ltb maxLines (pointCount m h)) e in
     let i = inside h (w .0) in
     record { least = i .0; most = i .1; lines = ltb-false maxLines (pointCount m h) (w .1) }
+
+-- 8,192 entries are room for every table that is allowed
+pub table-room : (m h : ℕ) → m ≤ 8 → Allowed m h → pointCount m h * m ≤ 8192
+table-room m h l a = mul-le-mul (a .lines) l
 
 -- each way that the test goes
 pub bad-below : (m h : ℕ) → h < 1 → true ≡ badDivisions m h
