@@ -1,0 +1,5 @@
+pub mod Count
+pub mod Table
+pub mod First
+pub mod Rows
+pub mod Divisions

@@ -1,0 +1,139 @@
+-- Laws of the rows that the recursion writes, and of a table whose rest is written. Assumes nothing.
+use Prim.Native.Nat.{ℕ, zero, suc, _+_, _-_, _*_, _<_, _≤_}
+use mathlib.Core.Path.{_≡_, refl, sym, ap, _∙_}
+use mathlib.Core.List.{List, [], _∷_, _++_, map, flatten, append-assoc, append-nil, List·Memᴰ, List·Memᴰ·head, List·Memᴰ·tail}
+use native.Mathlib.Nat.{le-refl, le-of-lt, add-zero, add-suc, suc-mul, zero-mul}
+use native.Mathlib.Numerals.{add-one}
+use native.Mathlib.Omega.{arith}
+use lib.Ieee.{Float}
+use lib.ListN.{length, take, drop, getD, set, length-append, length-drop, length-map}
+use lib.Seq.{take-suc, take-suc-set, take-at, drop-at, drop-drop, take-length, drop-length, drop-cons, set-at, length-take-le}
+use borrow.Rule.Slice.PartMut.{putMid}
+use Rattle.model.specs.Lists.{joinBelow}
+use Rattle.model.specs.Reference.{ratio, tuples, lattice, pointCount, dasDennis}
+use Rattle.das_dennis.specs.Rows.{rowsFrom}
+use Rattle.das_dennis.proofs.Count.{branch, lattice-count}
+use Rattle.das_dennis.proofs.Table.{lattice-table}
+
+-- ---- f 0 ++ .. ++ f (n - 1)
+
+module _ {A : Type 0} (f : ℕ → List A) where
+  pub join-none : joinBelow f 0 ≡ []
+  unfolding joinBelow
+  join-none = refl
+
+  pub join-more : (i : ℕ) → joinBelow f (i + 1) ≡ joinBelow f i ++ f i
+  unfolding joinBelow
+  join-more i = rw add-one
+
+  join-add : (i k : ℕ) → length (joinBelow f i) ≤ length (joinBelow f (i + k))
+  unfolding joinBelow
+  join-add i zero = rw add-zero (le-refl _)
+  join-add i (suc k) = rw (add-suc, length-append) (let h = join-add i k in omega arith)
+
+  join-mono : (i n : ℕ) → i ≤ n → length (joinBelow f i) ≤ length (joinBelow f n)
+  join-mono i n h = let e : i + (n - i) ≡ n = omega arith in rw e at (join-add i (n - i))
+
+  -- where all n fit, there is room for the next behind the first i
+  pub room : (i n k : ℕ) → i < n → length (joinBelow f n) ≤ k → length (joinBelow f i) + length (f i) ≤ k
+  room i n k l h = omega (arith, join-mono (i + 1) n (omega arith), ap length (join-more i), length-append (joinBelow f i) (f i))
+
+  -- only what stands below n matters
+  join-same : (g : ℕ → List A) → ((i : ℕ) → f i ≡ g i) → (n : ℕ) → joinBelow f n ≡ joinBelow g n
+  unfolding joinBelow
+  join-same g e zero = refl
+  join-same g e (suc n) = rw (join-same g e n, e n)
+
+-- ---- the rows of the recursion
+
+flatten-append : {A : Type 0} (a b : List (List A)) → flatten (a ++ b) ≡ flatten a ++ flatten b
+unfolding flatten
+flatten-append [] b = refl
+flatten-append (l ∷ a) b = rw (flatten-append a b, append-assoc)
+
+map-join : {A B : Type 0} (f : A → B) (a b : List A) → map f (a ++ b) ≡ map f a ++ map f b
+map-join f [] b = refl
+map-join f (x ∷ a) b = ap (λ l. f x ∷ l) (map-join f a b)
+
+-- the rows that begin with `before` and go on with each tuple
+abbrev rows : List Float → ℕ → List (List ℕ) → List Float
+rows before h ts = flatten (map (λ t. before ++ map (ratio h) t) ts)
+
+rows-join : (before : List Float) (h : ℕ) (F : ℕ → List (List ℕ)) (n : ℕ) → rows before h (joinBelow F n) ≡ joinBelow (λ i. rows before h (F i)) n
+unfolding joinBelow flatten
+rows-join before h F zero = refl
+rows-join before h F (suc n) =
+    let row : List ℕ → List Float = λ t. before ++ map (ratio h) t in
+    ap flatten (map-join row (joinBelow F n) (F n))
+    ∙ flatten-append (map row (joinBelow F n)) (map row (F n))
+    ∙ ap (λ (l : List Float). l ++ rows before h (F n)) (rows-join before h F n)
+
+rows-branch : (before : List Float) (h i : ℕ) (ts : List (List ℕ)) → rows before h (map (λ t. i ∷ t) ts) ≡ rows (before ++ (ratio h i ∷ [])) h ts
+unfolding flatten
+rows-branch before h i [] = refl
+rows-branch before h i (t ∷ ts) =
+    let e = append-assoc before (ratio h i ∷ []) (map (ratio h) t) in
+    ap (λ (l : List Float). (before ++ (ratio h i ∷ map (ratio h) t)) ++ l) (rows-branch before h i ts)
+    ∙ ap (λ (l : List Float). l ++ rows (before ++ (ratio h i ∷ [])) h ts) (sym e)
+
+-- the rows whose next coordinate is i
+abbrev pub part : List Float → ℕ → ℕ → ℕ → ℕ → List Float
+part before left rest h i = rowsFrom (before ++ (ratio h i ∷ [])) (left - 1) (rest - i) h
+
+pub rows-some : (before : List Float) (left rest h : ℕ) → (left ≡ 0 → ⊥) → rowsFrom before left rest h ≡ joinBelow (part before left rest h) (rest + 1)
+unfolding rowsFrom tuples
+rows-some before zero rest h f = absurd (f refl)
+rows-some before (suc d) rest h f =
+    let e : d ≡ suc d - 1 = omega arith in
+    rows-join before h (branch d rest) (suc rest)
+    ∙ join-same (λ i. rows before h (branch d rest i)) (part before (suc d) rest h)
+    (λ i. rows-branch before h i (tuples d (rest - i)) ∙ ap (λ (k : ℕ). rows (before ++ (ratio h i ∷ [])) h (tuples k (rest - i))) e) (suc rest)
+    ∙ ap (joinBelow (part before (suc d) rest h)) (sym (add-one rest))
+
+pub rows-none : (before : List Float) (left rest h : ℕ) → left ≡ 0 → rowsFrom before left rest h ≡ before ++ (ratio h rest ∷ [])
+unfolding rowsFrom tuples flatten
+rows-none before left rest h e = rw e (append-nil _)
+
+-- ---- the table
+
+-- the next coordinate stored in a row
+pub stored : (l : List Float) (d : ℕ) (x : Float) → d < length l → take (d + 1) (set l d x) ≡ take d l ++ (x ∷ [])
+stored l d x h = rw add-one (take-suc-set l d x h)
+
+-- the table after the next part was written behind what stands: the part that was lent goes to the table's end
+module _ (t : List Float) (at : ℕ) (h : at ≤ length t) where
+  pub tail-all : take (length t - at) (drop at t) ≡ drop at t
+  tail-all = ap (λ (n : ℕ). take n (drop at t)) (sym (length-drop at t)) ∙ take-length (drop at t)
+
+  tail-none : drop (length t - at) (drop at t) ≡ []
+  tail-none = ap (λ (n : ℕ). drop n (drop at t)) (sym (length-drop at t)) ∙ drop-length (drop at t)
+
+  pub written : (a b t₀ last : List Float) (k : ℕ) → at ≡ length a → t ≡ a ++ drop at t₀ → last ≡ b ++ drop k (take (length t - at) (drop at t))
+      → putMid at (length t - at) t last ≡ (a ++ b) ++ drop (at + k) t₀
+  written a b t₀ last k e g q =
+      let q₁ : last ≡ b ++ drop (at + k) t₀ =
+      q ∙ ap (λ (l : List Float). b ++ drop k l) (tail-all ∙ ap (drop at) g ∙ drop-at a (drop at t₀) at (sym e))
+      ∙ ap (λ (l : List Float). b ++ l) (drop-drop k at t₀) in
+      let p : take at t ≡ a = ap (take at) g ∙ take-at a (drop at t₀) at (sym e) in
+      rw (tail-none, p, append-nil, q₁, append-assoc)
+
+-- ---- the whole table
+
+-- its length: as many coordinates as lines times objectives
+flat-length : (m h : ℕ) (ts : List (List ℕ)) → ((t : List ℕ) → List·Memᴰ t ts → length t ≡ m) → length (rows [] h ts) ≡ length ts * m
+unfolding flatten
+flat-length m h [] each = sym (zero-mul m)
+flat-length m h (t ∷ ts) each =
+    let i = flat-length m h ts (λ u w. each u (List·Memᴰ·tail w)) in
+    let e = each t (List·Memᴰ·head refl) in
+    omega (arith, length-append (map (ratio h) t) (rows [] h ts), length-map t (ratio h), suc-mul (length ts) m)
+
+pub whole-rows : (m h : ℕ) → rowsFrom [] (m - 1) h h ≡ flatten (dasDennis m h)
+unfolding rowsFrom dasDennis
+whole-rows m h = refl
+
+pub whole-length : (m h : ℕ) → 1 ≤ m → length (rowsFrom [] (m - 1) h h) ≡ pointCount m h * m
+unfolding rowsFrom
+whole-length m h p =
+    flat-length m h (lattice m h) (λ t w. lattice-table m h p .nothingElse t w .coordinates)
+    ∙ ap (λ (n : ℕ). n * m) (sym (lattice-count m h p))

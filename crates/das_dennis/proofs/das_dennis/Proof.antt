@@ -1,0 +1,50 @@
+-- `das_dennis`: the recursion's rows from nothing are the whole table, m entries a line. Assumes nothing.
+use Prim.Native.Nat.{ℕ, _+_, _-_, _*_, _/_, _<_, _≤_}
+use mathlib.Core.Path.{_≡_, refl, sym, ap, _∙_}
+use mathlib.Core.List.{List, [], _++_, flatten}
+use native.Mathlib.Nat.{mul-div-cancel}
+use native.Mathlib.Omega.{arith}
+use lib.Ieee.{Float}
+use lib.ListN.{length, take, drop}
+use Rattle.model.specs.Lists.{over}
+use Rattle.model.specs.Reference.{pointCount, dasDennis}
+use Rattle.das_dennis.specs.Rows.{rowsFrom}
+use Rattle.das_dennis.proofs.Rows.{whole-rows, whole-length}
+use borrow.Author.Needs.{needs}
+use Rattle.das_dennis.proofs.das_dennis.Statement.{statement}
+use Rattle.das_dennis.proofs.das_dennis.Tie as tie
+
+sub-das-dennis-recursive : tie.Need-sub-das-dennis-recursive
+sub-das-dennis-recursive c = search needs
+
+das-dennis-recursive-requires : tie.Need-das-dennis-recursive-requires
+das-dennis-recursive-requires c κs =
+    let a = c .before .before .args in
+    ((omega arith, omega arith, omega arith), omega (arith, whole-length (a .m) (a .h) (omega arith)))
+
+div-result : tie.Need-div-result
+div-result c = search needs
+
+same-length : tie.Need-same-length
+same-length c = search needs
+
+returns : tie.Need-returns
+returns c =
+    let a = c .before .before .before .before .before .args in
+    let call = c .before .before .das-dennis-recursive in
+    let rows = rowsFrom [] (a .m - 1) (a .h) (a .h) in (
+      ap (λ (n : ℕ). n / a .m) (call .ensures .0 ∙ whole-length (a .m) (a .h) (omega arith)) ∙ mul-div-cancel (pointCount (a .m) (a .h)) (omega arith),
+      call .ensures .1
+          ∙ ap (λ (n : ℕ). rows ++ drop n (a .table .now)) (call .ensures .0)
+          ∙ ap (λ (l : List Float). over l (a .table .now)) (whole-rows (a .m) (a .h)),
+    )
+
+pub das-dennis-spec : {M : Type 1} → statement M
+das-dennis-spec =
+    tie.close
+    (tie.spec
+    sub-das-dennis-recursive
+    das-dennis-recursive-requires
+    div-result
+    same-length
+    returns)

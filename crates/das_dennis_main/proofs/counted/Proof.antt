@@ -1,0 +1,90 @@
+-- `counted`: where refusal 4 does not apply, 8,192 entries are room enough. Assumes nothing.
+use mathlib.Core.Path.{sym, _∙_}
+use native.Mathlib.Omega.{arith}
+use Rattle.das_dennis.proofs.Divisions.{allowed, table-room}
+use borrow.Author.Needs.{needs}
+use Rattle.das_dennis_main.proofs.counted.Statement.{statement}
+use Rattle.das_dennis_main.proofs.counted.Tie as tie
+
+slice-aggregate-number : tie.Need-slice-aggregate-number
+slice-aggregate-number c = search needs
+
+number-requires : tie.Need-number-requires
+number-requires c κs = search needs
+
+slice-aggregate-number-2 : tie.Need-slice-aggregate-number-2
+slice-aggregate-number-2 c = search needs
+
+number-requires-2 : tie.Need-number-requires-2
+number-requires-2 c κs = search needs
+
+bad-divisions-requires : tie.Need-bad-divisions-requires
+bad-divisions-requires c κs = search needs
+
+slice-aggregate-text : tie.Need-slice-aggregate-text
+slice-aggregate-text c = search needs
+
+text-requires : tie.Need-text-requires
+text-requires c κs = search needs
+
+returns : tie.Need-returns
+returns c = search needs
+
+slice-aggregate-das-dennis : tie.Need-slice-aggregate-das-dennis
+slice-aggregate-das-dennis c = search needs
+
+das-dennis-requires : tie.Need-das-dennis-requires
+das-dennis-requires c κs =
+    let a = c .before .before .before .before .before .before .before .args in
+    let w = allowed (a .m) (a .h) (sym (c .before .before .bad-divisions .ensures) ∙ c .before .if1 .left) in
+    ((omega arith, omega arith, omega arith, omega arith), table-room (a .m) (a .h) (omega arith) w)
+
+slice-aggregate-number-3 : tie.Need-slice-aggregate-number-3
+slice-aggregate-number-3 c = search needs
+
+point-count-requires : tie.Need-point-count-requires
+point-count-requires c κs =
+    let a = c .before .before .before .before .before .before .before .before .before .before .args in
+    let w = allowed (a .m) (a .h) (sym (c .before .before .before .before .before .bad-divisions .ensures) ∙ c .before .before .before .before .if1 .left) in
+    omega arith
+
+number-requires-3 : tie.Need-number-requires-3
+number-requires-3 c κs = search needs
+
+slice-aggregate-number-4 : tie.Need-slice-aggregate-number-4
+slice-aggregate-number-4 c = search needs
+
+number-requires-4 : tie.Need-number-requires-4
+number-requires-4 c κs = search needs
+
+slice-aggregate-text-2 : tie.Need-slice-aggregate-text-2
+slice-aggregate-text-2 c = search needs
+
+text-requires-2 : tie.Need-text-requires-2
+text-requires-2 c κs = search needs
+
+returns-2 : tie.Need-returns-2
+returns-2 c = search needs
+
+pub counted-spec : {M : Type 1} → statement M
+counted-spec =
+    tie.close
+    (tie.spec
+    slice-aggregate-number
+    number-requires
+    slice-aggregate-number-2
+    number-requires-2
+    bad-divisions-requires
+    slice-aggregate-text
+    text-requires
+    returns
+    slice-aggregate-das-dennis
+    das-dennis-requires
+    slice-aggregate-number-3
+    point-count-requires
+    number-requires-3
+    slice-aggregate-number-4
+    number-requires-4
+    slice-aggregate-text-2
+    text-requires-2
+    returns-2)
