@@ -1,7 +1,7 @@
 -- Laws of `anyBelow`, `allBelow` and `allIn`: at n + 1, by what lies below n alone, and as facts of each number.
 use Prim.Native.Nat.{ℕ, zero, suc, _+_, _≤_, _<_}
 use mathlib.Core.Path.{_≡_, refl, ap, ap₂, sym, _∙_}
-use mathlib.Core.Bool.{Bool, true, false, not, _&&_, _||_, or-true, false≢true, true≢false}
+use mathlib.Core.Bool.{Bool, true, false, not, _&&_, _||_, or-true, or-false, false≢true, true≢false}
 use mathlib.Core.List.{List, [], _∷_, _++_, List·Memᴰ, List·Memᴰ·not-nil, List·Memᴰ·cases-cons}
 use mathlib.Core.Logic.{⊎-elim}
 use native.Mathlib.Nat.{not-suc-le-zero, eq-or-lt-of-le}
@@ -26,6 +26,10 @@ anyBelow-yes f n e = anyBelow-more f n ∙ ap (λ b. anyBelow f n || b) e ∙ or
 
 pub anyBelow-no : (f : ℕ → Bool) (n : ℕ) → anyBelow f n ≡ false → f n ≡ false → anyBelow f (n + 1) ≡ false
 anyBelow-no f n h e = anyBelow-more f n ∙ ap₂ (λ a b. a || b) h e
+
+-- one that does not pass changes nothing
+pub anyBelow-skip : (f : ℕ → Bool) (n : ℕ) → f n ≡ false → anyBelow f (n + 1) ≡ anyBelow f n
+anyBelow-skip f n e = anyBelow-more f n ∙ ap (λ b. anyBelow f n || b) e ∙ or-false (anyBelow f n)
 
 -- one that passes settles it; and if some pass, there is one
 pub anyBelow-at : (f : ℕ → Bool) (n k : ℕ) → k < n → f k ≡ true → anyBelow f n ≡ true

@@ -1,0 +1,3 @@
+pub mod FloatOrder
+pub mod Domination
+pub mod Violation
