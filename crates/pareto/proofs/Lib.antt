@@ -1,3 +1,4 @@
 pub mod FloatOrder
 pub mod Domination
 pub mod Violation
+pub mod Plans
