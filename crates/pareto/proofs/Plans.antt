@@ -23,7 +23,7 @@ use Rattle.list_laws.proofs.Built.{listBelow-length}
 use Rattle.list_laws.proofs.Tests.{allIn-each}
 use Rattle.front_laws.specs.Strict.{Strict}
 use Rattle.front_laws.proofs.Same.{Agree}
-use Rattle.pareto.specs.Flat.{rowAt, flatDominates, flatBeats, NoNan}
+use Rattle.pareto.specs.Flat.{rowAt, flatDominates, flatBeats, Pool, NoNan}
 use Rattle.pareto.proofs.Domination.{Known, dominates-same, dominates-irreflexive, dominates-transitive, dominates-paper, rule-irreflexive, rule-asymmetric, rule-transitive}
 use Rattle.pareto.proofs.FloatOrder.{le-not-nan}
 use Rattle.pareto.proofs.Violation.{feasible-none}
@@ -204,3 +204,12 @@ flatBeats-strict rows m flags sums n h =
           rule-transitive m (getD flags p false) (getD flags q false) (getD flags r false) (getD sums p nan) (getD sums q nan) (getD sums r nan)
           (rowAt rows m p) (rowAt rows m q) (rowAt rows m r) (known p lp) (known q lq) (known r lr) x y;
     }
+
+-- two plans of a pool in flat lists are within the lists
+pub pool-pair : (rows : List Float) (m : ℕ) (flags : List Bool) (sums : List Float) (n p q : ℕ) → Pool rows m flags sums n → p < n → q < n
+    → (p * m + m ≤ length rows) × (q * m + m ≤ length rows)
+    × (p < length flags) × (q < length flags) × (p < length sums) × (q < length sums)
+pool-pair rows m flags sums n p q h lp lq =
+    let a = row-end p n m lp in
+    let b = row-end q n m lq in
+    (omega arith, omega arith, omega arith, omega arith, omega arith, omega arith)
