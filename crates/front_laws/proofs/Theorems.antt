@@ -1,0 +1,115 @@
+-- The fronts of document 01 are those of the paper. d p q says that plan p dominates plan q; the first two laws hold of any d, the others of a strict one.
+use Prim.Native.Nat.{ℕ, suc, _≤_, _<_}
+use mathlib.Core.Path.{_≡_, ap, sym, _∙_}
+use mathlib.Core.Bool.{Bool, true, false, false≢true}
+use mathlib.Core.List.{List, []}
+use mathlib.Core.Logic.{_↔_}
+use native.Mathlib.Omega.{arith}
+use borrow.Author.Tests.{ltb-true, ltb-false}
+use lib.Dec.{ltb}
+use lib.ListN.{length}
+use Rattle.model.specs.Front.{front, listing, frontOf, frontList}
+use Rattle.model.specs.Lists.{one, over, In, has, Distinct}
+use Rattle.model.specs.Papers.Deb2002.{inFirst, inFront}
+use Rattle.list_laws.specs.Occ.{occ}
+use Rattle.list_laws.proofs.Bools.{by-bool, one-le, one-true}
+use Rattle.list_laws.proofs.Built.{over-filled}
+use Rattle.list_laws.proofs.First.{firstBelow-at}
+use Rattle.list_laws.proofs.Members.{in-occ, occ-in, has-in, in-has, under-in, occ-distinct}
+use Rattle.front_laws.specs.Ranks.{ranked}
+use Rattle.front_laws.specs.Strict.{Strict}
+use Rattle.front_laws.proofs.Order.{one-front, inFirst-front, listing-below, listing-exact, not-dominated, under-front, all-inFirst, empty-inFirst, ended, in-one-front, listing-once, listing-whole}
+use Rattle.front_laws.proofs.Ranks.{ranked-length, ranked-drop, ranked-at}
+use Rattle.front_laws.proofs.Rounds.{found}
+
+member-below : (d : ℕ → ℕ → Bool) (n k q : ℕ) → In q (front d n k) → q < n
+member-below d n k q m = under-in n q (front d n k) (found d n k .below) (in-occ q (front d n k) m)
+
+member-inFront : (d : ℕ → ℕ → Bool) (n k q : ℕ) → In q (front d n k) → inFront d n k q ≡ true
+member-inFront d n k q m =
+    one-true (inFront d n k q)
+    (omega (arith, found d n k .exact q (member-below d n k q m), in-occ q (front d n k) m, one-le (inFront d n k q)))
+
+inFront-member : (d : ℕ → ℕ → Bool) (n k q : ℕ) → q < n → inFront d n k q ≡ true → In q (front d n k)
+inFront-member d n k q l e = occ-in q (front d n k) (omega (arith, found d n k .exact q l, ap one e))
+
+-- the members of front k are those of the paper's: the undominated once the fronts before are set aside
+pub front-paper : (d : ℕ → ℕ → Bool) (n k q : ℕ) → In q (front d n k) ↔ ((q < n) × (inFront d n k q ≡ true))
+front-paper d n k q = (λ m. (member-below d n k q m, member-inFront d n k q m), λ h. inFront-member d n k q (h .0) (h .1))
+
+-- no plan is twice in a front, or in the fronts together
+pub front-distinct : (d : ℕ → ℕ → Bool) (n k : ℕ) → Distinct (front d n k)
+front-distinct d n k = occ-distinct (front d n k) (λ q. by-bool (ltb q n)
+    (λ e. omega (arith, found d n k .exact q (ltb-true q n e), one-le (inFront d n k q)))
+    (λ e. omega (arith, found d n k .below q (ltb-false q n e))))
+
+pub listing-distinct : (d : ℕ → ℕ → Bool) (n k : ℕ) → Distinct (listing d n k)
+listing-distinct d n k = occ-distinct (listing d n k) (λ q. by-bool (ltb q n)
+    (λ e. omega (arith, listing-exact d n k q (ltb-true q n e), one-le (inFirst d n k q)))
+    (λ e. omega (arith, listing-below d n k q (ltb-false q n e))))
+
+module _ (d : ℕ → ℕ → Bool) (n : ℕ) (s : Strict d n) where
+  -- every plan stands once in one front, and in no other
+  pub in-exactly-one : (q : ℕ) → q < n → (k : ℕ) × (k < n) × (occ q (front d n k) ≡ 1) × ((j : ℕ) → (j ≡ k → ⊥) → occ q (front d n j) ≡ 0)
+  in-exactly-one = in-one-front d n s
+
+  -- no plan dominates another of its own or an earlier front
+  pub none-backwards : (k j q p : ℕ) → k ≤ j → In q (front d n k) → In p (front d n j) → d p q ≡ false
+  none-backwards k j q p h mq mp = not-dominated d n k j q p h (member-below d n j p mp) (member-inFront d n k q mq) (member-inFront d n j p mp)
+
+  -- every plan of front k + 1 is dominated by one of front k
+  pub dominated-from-before : (k q : ℕ) → In q (front d n (suc k)) → (p : ℕ) × In p (front d n k) × (d p q ≡ true)
+  dominated-from-before k q m =
+      let t = under-front d n s k q (member-below d n (suc k) q m) (member-inFront d n (suc k) q m) in
+      (t .0, inFront-member d n k (t .0) (t .1) (t .2), t .3)
+
+  -- all plans are covered within n rounds: front n is empty, and the n fronts together have each plan once
+  pub front-empty : front d n n ≡ []
+  front-empty = ended d n s
+
+  pub listing-length-n : length (listing d n n) ≡ n
+  listing-length-n = listing-whole d n s n (ended d n s)
+
+  pub listing-each : (q : ℕ) → q < n → occ q (listing d n n) ≡ 1
+  listing-each = listing-once d n s n (ended d n s)
+
+  -- frontOf is the front that holds a plan
+  pub frontOf-at : (k q : ℕ) → In q (front d n k) → frontOf d n q ≡ k
+  unfolding frontOf
+  frontOf-at k q m =
+      let l = member-below d n k q m in
+      let e = member-inFront d n k q m in
+      let r = inFirst-front d n n q (all-inFirst d n s q l) in
+      let same = one-front d n k (r .0) q e (r .2) in
+      firstBelow-at _ n k (omega (arith, r .1)) (in-has (front d n k) q m)
+      (λ j u. by-bool (has (front d n j) q)
+      (λ v. absurd (omega (arith, one-front d n j k q (member-inFront d n j q (has-in (front d n j) q v)) e))) (λ v. v))
+
+  pub frontOf-in : (q : ℕ) → q < n → In q (front d n (frontOf d n q))
+  frontOf-in q l =
+      let r = inFirst-front d n n q (all-inFirst d n s q l) in
+      let m = inFront-member d n (r .0) q l (r .2) in
+      rw (frontOf-at (r .0) q m) m
+
+  pub frontOf-below : (q : ℕ) → q < n → frontOf d n q < n
+  frontOf-below q l =
+      let r = inFirst-front d n n q (all-inFirst d n s q l) in
+      omega (arith, r .1, frontOf-at (r .0) q (inFront-member d n (r .0) q l (r .2)))
+
+  pub frontOf-paper : (q : ℕ) → q < n → inFront d n (frontOf d n q) q ≡ true
+  frontOf-paper q l = member-inFront d n (frontOf d n q) q (frontOf-in q l)
+
+  -- a dominator is of an earlier front
+  pub dominator-earlier : (p q : ℕ) → p < n → q < n → d p q ≡ true → frontOf d n p < frontOf d n q
+  dominator-earlier p q u v e = by-bool (ltb (frontOf d n p) (frontOf d n q)) (ltb-true (frontOf d n p) (frontOf d n q))
+      (λ w. absurd (false≢true (sym (none-backwards (frontOf d n q) (frontOf d n p) q p (ltb-false (frontOf d n p) (frontOf d n q) w)
+      (frontOf-in q v) (frontOf-in p u)) ∙ e)))
+
+  -- the front numbers written front after front are those of every plan, once a front is empty
+  pub ranked-frontList : (k : ℕ) (r : List ℕ) → n ≤ length r → front d n k ≡ [] → ranked d n k r ≡ over (frontList d n) r
+  unfolding frontList
+  ranked-frontList k r h e =
+      over-filled (frontOf d n) n 0 (ranked d n k r) r (omega (arith, ranked-length d n k r))
+      (λ q l. let t = inFirst-front d n k q (empty-inFirst d n s k e q l) in
+      ranked-at d n k r (t .0) q h l (t .1) (t .2) ∙ sym (frontOf-at (t .0) q (inFront-member d n (t .0) q l (t .2))))
+      (ranked-drop d n k r)

@@ -1,0 +1,65 @@
+-- Tests as values: cases on a test, its number, and the halves of a conjunction.
+use Prim.Native.Nat.{ℕ, _≤_}
+use mathlib.Core.Path.{_≡_, refl}
+use mathlib.Core.Bool.{Bool, true, false, not, _&&_, _||_, false≢true, true≢false}
+use native.Mathlib.Omega.{arith}
+use lib.Dec.{T}
+use Rattle.model.specs.Lists.{one}
+
+-- what holds where a test passes and where it does not, holds
+pub by-bool : {C : Type 0} (b : Bool) → (b ≡ true → C) → (b ≡ false → C) → C
+by-bool true f g = f refl
+by-bool false f g = g refl
+
+-- a test that passes, as a fact and as an equation
+pub T-true : (b : Bool) → T b → b ≡ true
+T-true true t = refl
+T-true false t = absurd t
+
+pub true-T : (b : Bool) → b ≡ true → T b
+true-T true e = tt
+true-T false e = absurd (false≢true e)
+
+-- one that does not
+pub T-false : (b : Bool) → T (not b) → b ≡ false
+T-false true t = absurd t
+T-false false t = refl
+
+pub false-T : (b : Bool) → b ≡ false → T (not b)
+false-T true e = absurd (true≢false e)
+false-T false e = tt
+
+pub one-le : (b : Bool) → one b ≤ 1
+one-le true = omega arith
+one-le false = omega arith
+
+pub one-true : (b : Bool) → one b ≡ 1 → b ≡ true
+one-true true e = refl
+one-true false e = absurd (omega arith)
+
+pub one-false : (b : Bool) → one b ≡ 0 → b ≡ false
+one-false true e = absurd (omega arith)
+one-false false e = refl
+
+-- the two halves of a conjunction
+pub and-left : (a c : Bool) → (a && c) ≡ true → a ≡ true
+and-left true c e = refl
+and-left false c e = absurd (false≢true e)
+
+pub and-right : (a c : Bool) → (a && c) ≡ true → c ≡ true
+and-right true c e = e
+and-right false c e = absurd (false≢true e)
+
+-- and of one whose first half is negated
+pub and-not-left : (a c : Bool) → (not a && c) ≡ true → a ≡ false
+and-not-left true c e = absurd (false≢true e)
+and-not-left false c e = refl
+
+pub and-not-right : (a c : Bool) → (not a && c) ≡ true → c ≡ true
+and-not-right true c e = absurd (false≢true e)
+and-not-right false c e = e
+
+-- a conjunction whose second half fails
+pub and-no : (a c : Bool) → c ≡ false → (a && c) ≡ false
+and-no true c e = e
+and-no false c e = refl

@@ -1,0 +1,80 @@
+-- Laws of `listBelow`, `joinBelow` and `over`.
+use Prim.Native.Nat.{ℕ, zero, suc, _+_, _≤_, _<_}
+use mathlib.Core.Path.{_≡_, refl, ap, ap₂, sym, _∙_}
+use mathlib.Core.List.{List, [], _∷_, _++_}
+use mathlib.Core.Logic.{⊎-elim}
+use native.Mathlib.Nat.{not-suc-le-zero, eq-or-lt-of-le}
+use native.Mathlib.Numerals.{add-one}
+use native.Mathlib.Omega.{arith}
+use lib.ListN.{length, getD, take, drop, length-append, length-drop, take-append-drop, List·getD-append}
+use lib.Seq.{getD-at, ext-getD, length-take-le, getD-take, take-at, drop-at, getD-drop}
+use Rattle.model.specs.Lists.{listBelow, joinBelow, over}
+
+module _ {A : Type 0} where
+  pub listBelow-none : (f : ℕ → A) → listBelow f 0 ≡ []
+  unfolding listBelow
+  listBelow-none f = refl
+
+  pub listBelow-more : (f : ℕ → A) (n : ℕ) → listBelow f (n + 1) ≡ listBelow f n ++ (f n ∷ [])
+  unfolding listBelow
+  listBelow-more f n = ap (listBelow f) (add-one n)
+
+  pub listBelow-length : (f : ℕ → A) (n : ℕ) → length (listBelow f n) ≡ n
+  unfolding listBelow
+  listBelow-length f zero = refl
+  listBelow-length f (suc n) = length-append (listBelow f n) (f n ∷ []) ∙ omega (arith, listBelow-length f n)
+
+  -- place i holds f i
+  pub listBelow-at : (f : ℕ → A) (n : ℕ) (d : A) (i : ℕ) → i < n → getD (listBelow f n) i d ≡ f i
+  unfolding listBelow
+  listBelow-at f zero d i h = absurd (not-suc-le-zero h)
+  listBelow-at f (suc n) d i h =
+      let g : i ≤ n = omega arith in
+      let s = listBelow-length f n in
+      ⊎-elim
+      (λ v. ap (λ t. getD (listBelow f n ++ (f n ∷ [])) t d) v ∙ getD-at (listBelow f n) (f n) [] d n s ∙ ap f (sym v))
+      (λ m. List·getD-append (listBelow f n) (f n ∷ []) d i (omega arith) ∙ listBelow-at f n d i m)
+      (eq-or-lt-of-le g)
+
+  pub listBelow-same : (f g : ℕ → A) (n : ℕ) → ((t : ℕ) → t < n → f t ≡ g t) → listBelow f n ≡ listBelow g n
+  unfolding listBelow
+  listBelow-same f g zero h = refl
+  listBelow-same f g (suc n) h = ap₂ (λ a b. a ++ (b ∷ [])) (listBelow-same f g n (λ t l. h t (omega arith))) (h n (omega arith))
+
+  -- a list whose first n places hold f 0 .. f (n - 1) begins with them
+  pub listBelow-take : (f : ℕ → A) (n : ℕ) (d : A) (l : List A) → n ≤ length l → ((t : ℕ) → t < n → getD l t d ≡ f t) → take n l ≡ listBelow f n
+  listBelow-take f n d l h g =
+      let s = length-take-le n l h in
+      let u = listBelow-length f n in
+      ext-getD d (take n l) (listBelow f n) (omega arith)
+      (λ i v. getD-take n l i d (omega arith) ∙ g i (omega arith) ∙ sym (listBelow-at f n d i (omega arith)))
+
+  pub joinBelow-none : (f : ℕ → List A) → joinBelow f 0 ≡ []
+  unfolding joinBelow
+  joinBelow-none f = refl
+
+  pub joinBelow-more : (f : ℕ → List A) (n : ℕ) → joinBelow f (n + 1) ≡ joinBelow f n ++ f n
+  unfolding joinBelow
+  joinBelow-more f n = ap (joinBelow f) (add-one n)
+
+  pub joinBelow-same : (f g : ℕ → List A) (n : ℕ) → ((t : ℕ) → t < n → f t ≡ g t) → joinBelow f n ≡ joinBelow g n
+  unfolding joinBelow
+  joinBelow-same f g zero h = refl
+  joinBelow-same f g (suc n) h = ap₂ (λ a b. a ++ b) (joinBelow-same f g n (λ t l. h t (omega arith))) (h n (omega arith))
+
+  -- what a slice holds once new entries stand at its front
+  pub over-length : (new old : List A) → length new ≤ length old → length (over new old) ≡ length old
+  over-length new old h = length-append new (drop (length new) old) ∙ omega (arith, length-drop (length new) old)
+
+  pub over-take : (new old : List A) (n : ℕ) → length new ≡ n → take n (over new old) ≡ new
+  over-take new old n e = take-at new (drop (length new) old) n e
+
+  pub over-drop : (new old : List A) (n : ℕ) → length new ≡ n → drop n (over new old) ≡ drop n old
+  over-drop new old n e = drop-at new (drop (length new) old) n e ∙ ap (λ t. drop t old) e
+
+  -- the first n places filled, the others as they were
+  pub over-filled : (f : ℕ → A) (n : ℕ) (d : A) (l old : List A) → n ≤ length l → ((t : ℕ) → t < n → getD l t d ≡ f t)
+      → drop n l ≡ drop n old → l ≡ over (listBelow f n) old
+  over-filled f n d l old h g e =
+      sym (take-append-drop n l) ∙ ap₂ (λ a b. a ++ b) (listBelow-take f n d l h g) e
+      ∙ ap (λ t. listBelow f n ++ drop t old) (sym (listBelow-length f n))

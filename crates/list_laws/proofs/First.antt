@@ -1,0 +1,110 @@
+-- Laws of `firstBelow` and `lastBelow`.
+use Prim.Native.Nat.{ℕ, zero, suc, _+_, _≤_, _<_}
+use mathlib.Core.Path.{_≡_, refl, ap, sym, _∙_}
+use mathlib.Core.Bool.{Bool, true, false, cond, true≢false}
+use mathlib.Core.Logic.{⊎-elim}
+use native.Mathlib.Nat.{not-suc-le-zero, eq-or-lt-of-le}
+use native.Mathlib.Numerals.{add-one}
+use native.Mathlib.Omega.{arith}
+use borrow.Author.Tests.{lt-ltb, le-ltb, ltb-true, ltb-false}
+use lib.Dec.{ltb}
+use Rattle.model.specs.Lists.{firstBelow, lastBelow}
+use Rattle.list_laws.proofs.Bools.{by-bool}
+
+-- ---- firstBelow: the first that passes is k just where k passes and none before it does
+
+pub firstBelow-none : (f : ℕ → Bool) → firstBelow f 0 ≡ 0
+unfolding firstBelow
+firstBelow-none f = refl
+
+pub firstBelow-le : (f : ℕ → Bool) (n : ℕ) → firstBelow f n ≤ n
+unfolding firstBelow
+firstBelow-le f zero = omega arith
+firstBelow-le f (suc n) = by-bool (ltb (firstBelow f n) n)
+    (λ e. let h = ltb-true (firstBelow f n) n e in rw e (omega arith))
+    (λ e. by-bool (f n) (λ v. rw (e, v) (omega arith)) (λ v. rw (e, v) (omega arith)))
+
+-- one that is found stays found
+pub firstBelow-still : (f : ℕ → Bool) (n : ℕ) → firstBelow f n < n → firstBelow f (n + 1) ≡ firstBelow f n
+unfolding firstBelow
+firstBelow-still f n h = ap (firstBelow f) (add-one n) ∙ rw (lt-ltb (firstBelow f n) n h)
+
+-- none so far: n if it passes, else n + 1
+pub firstBelow-yes : (f : ℕ → Bool) (n : ℕ) → firstBelow f n ≡ n → f n ≡ true → firstBelow f (n + 1) ≡ n
+unfolding firstBelow
+firstBelow-yes f n h e = ap (firstBelow f) (add-one n) ∙ rw (le-ltb (firstBelow f n) n (omega arith), e)
+
+pub firstBelow-no : (f : ℕ → Bool) (n : ℕ) → firstBelow f n ≡ n → f n ≡ false → firstBelow f (n + 1) ≡ n + 1
+unfolding firstBelow
+firstBelow-no f n h e = ap (firstBelow f) (add-one n) ∙ rw (le-ltb (firstBelow f n) n (omega arith), e) (omega arith)
+
+-- if none below n passes, the answer is n
+pub firstBelow-nowhere : (f : ℕ → Bool) (n : ℕ) → ((t : ℕ) → t < n → f t ≡ false) → firstBelow f n ≡ n
+firstBelow-nowhere f zero h = firstBelow-none f
+firstBelow-nowhere f (suc n) h =
+    ap (firstBelow f) (sym (add-one n)) ∙ firstBelow-no f n (firstBelow-nowhere f n (λ t l. h t (omega arith))) (h n (omega arith)) ∙ add-one n
+
+-- if k is the first that passes, the answer is k
+pub firstBelow-at : (f : ℕ → Bool) (n k : ℕ) → k < n → f k ≡ true → ((t : ℕ) → t < k → f t ≡ false) → firstBelow f n ≡ k
+firstBelow-at f zero k l e h = absurd (not-suc-le-zero l)
+firstBelow-at f (suc n) k l e h =
+    let i : k ≤ n = omega arith in
+    ⊎-elim
+    (λ v. ap (firstBelow f) (sym (add-one n))
+    ∙ firstBelow-yes f n (firstBelow-nowhere f n (λ t u. h t (omega arith))) (ap f (sym v) ∙ e) ∙ sym v)
+    (λ m. let r = firstBelow-at f n k m e h in
+    ap (firstBelow f) (sym (add-one n)) ∙ firstBelow-still f n (omega arith) ∙ r)
+    (eq-or-lt-of-le i)
+
+-- and what it answers below n passes, and none before it does
+pub firstBelow-passes : (f : ℕ → Bool) (n : ℕ) → firstBelow f n < n → f (firstBelow f n) ≡ true
+unfolding firstBelow
+firstBelow-passes f zero h = absurd (not-suc-le-zero h)
+firstBelow-passes f (suc n) h = by-bool (ltb (firstBelow f n) n)
+    (λ e. rw e (firstBelow-passes f n (ltb-true (firstBelow f n) n e)))
+    (λ e. by-bool (f n) (λ v. rw (e, v) v) (λ v. absurd (over (rw (e, v) at h))))
+  where
+    over : suc n < suc n → ⊥
+    over l = omega arith
+
+pub firstBelow-before : (f : ℕ → Bool) (n t : ℕ) → t < firstBelow f n → f t ≡ false
+unfolding firstBelow
+firstBelow-before f zero t h = absurd (not-suc-le-zero h)
+firstBelow-before f (suc n) t h = by-bool (ltb (firstBelow f n) n)
+    (λ e. firstBelow-before f n t (rw e at h))
+    (λ e. let all = ltb-false (firstBelow f n) n e in
+    by-bool (f n)
+    (λ v. let l : t < n = rw (e, v) at h in firstBelow-before f n t (omega arith))
+    (λ v. let l : t < suc n = rw (e, v) at h in
+    let i : t ≤ n = omega arith in
+    ⊎-elim (λ w. ap f w ∙ v) (λ m. firstBelow-before f n t (omega arith)) (eq-or-lt-of-le i)))
+
+pub firstBelow-same : (f g : ℕ → Bool) (n : ℕ) → ((t : ℕ) → t < n → f t ≡ g t) → firstBelow f n ≡ firstBelow g n
+unfolding firstBelow
+firstBelow-same f g zero h = refl
+firstBelow-same f g (suc n) h =
+    rw (firstBelow-same f g n (λ t l. h t (omega arith)), h n (omega arith))
+
+-- ---- lastBelow
+
+pub lastBelow-none : (f : ℕ → Bool) → lastBelow f 0 ≡ 0
+unfolding lastBelow
+lastBelow-none f = refl
+
+pub lastBelow-yes : (f : ℕ → Bool) (n : ℕ) → f n ≡ true → lastBelow f (n + 1) ≡ n
+unfolding lastBelow
+lastBelow-yes f n e = ap (lastBelow f) (add-one n) ∙ rw e
+
+-- one that does not pass leaves the last found, or moves "none" on
+pub lastBelow-still : (f : ℕ → Bool) (n : ℕ) → f n ≡ false → lastBelow f n < n → lastBelow f (n + 1) ≡ lastBelow f n
+unfolding lastBelow
+lastBelow-still f n e h = ap (lastBelow f) (add-one n) ∙ rw (e, lt-ltb (lastBelow f n) n h)
+
+pub lastBelow-no : (f : ℕ → Bool) (n : ℕ) → f n ≡ false → lastBelow f n ≡ n → lastBelow f (n + 1) ≡ n + 1
+unfolding lastBelow
+lastBelow-no f n e h = ap (lastBelow f) (add-one n) ∙ rw (e, le-ltb (lastBelow f n) n (omega arith)) (omega arith)
+
+pub lastBelow-same : (f g : ℕ → Bool) (n : ℕ) → ((t : ℕ) → t < n → f t ≡ g t) → lastBelow f n ≡ lastBelow g n
+unfolding lastBelow
+lastBelow-same f g zero h = refl
+lastBelow-same f g (suc n) h = rw (lastBelow-same f g n (λ t l. h t (omega arith)), h n (omega arith))

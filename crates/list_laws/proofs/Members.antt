@@ -1,0 +1,243 @@
+-- Laws of `tally`, `occ`, `has`, `In`, `Distinct` and `keep`.
+use Prim.Native.Nat.{ℕ, zero, suc, _+_, _≤_, _<_}
+use mathlib.Core.Path.{_≡_, refl, ap, sym, _∙_}
+use mathlib.Core.Bool.{Bool, true, false, cond, _&&_, _||_, and-true, true≢false}
+use mathlib.Core.List.{List, [], _∷_, _++_, List·Memᴰ, List·Memᴰ·head, List·Memᴰ·tail, List·Memᴰ·not-nil, List·Memᴰ·cases-cons, List·Mem, List·Nodup, Pairwise·nil, Pairwise·cons}
+use mathlib.Core.Logic.{⊎-elim, ∥∥₁-elim}
+use mathlib.Core.HLevel.{⊥-prop}
+use native.Mathlib.Nat.{not-suc-le-zero}
+use native.Mathlib.Omega.{arith}
+use borrow.Author.Tests.{eq-eqb, ne-eqb, eqb-true, eqb-false, ltb-true, ltb-false}
+use lib.Dec.{eqb, ltb}
+use lib.ListN.{length, getD}
+use Rattle.model.specs.Lists.{one, countBelow, sumBelow, has, keep, tally, In, Distinct}
+use Rattle.list_laws.specs.Occ.{occ, AllUnder}
+use Rattle.list_laws.proofs.Bools.{by-bool, one-le}
+use Rattle.list_laws.proofs.Counts.{countBelow-sum, countBelow-same, sumBelow-same, sumBelow-add, sumBelow-zero, sumBelow-point}
+
+-- ---- tally: how many entries pass
+
+pub tally-nil : (f : ℕ → Bool) → tally f [] ≡ 0
+unfolding tally
+tally-nil f = refl
+
+pub tally-cons : (f : ℕ → Bool) (x : ℕ) (l : List ℕ) → tally f (x ∷ l) ≡ one (f x) + tally f l
+unfolding tally
+tally-cons f x l = refl
+
+pub tally-append : (f : ℕ → Bool) (s t : List ℕ) → tally f (s ++ t) ≡ tally f s + tally f t
+unfolding tally
+tally-append f [] t = omega arith
+tally-append f (x ∷ s) t = omega (arith, tally-append f s t)
+
+-- one entry more at the end
+pub tally-yes : (f : ℕ → Bool) (l : List ℕ) (x : ℕ) → f x ≡ true → tally f (l ++ (x ∷ [])) ≡ tally f l + 1
+unfolding tally
+tally-yes f l x e = tally-append f l (x ∷ []) ∙ omega (arith, ap one e)
+
+pub tally-no : (f : ℕ → Bool) (l : List ℕ) (x : ℕ) → f x ≡ false → tally f (l ++ (x ∷ [])) ≡ tally f l
+unfolding tally
+tally-no f l x e = tally-append f l (x ∷ []) ∙ omega (arith, ap one e)
+
+pub tally-le : (f : ℕ → Bool) (l : List ℕ) → tally f l ≤ length l
+unfolding tally
+tally-le f [] = omega arith
+tally-le f (x ∷ l) = omega (arith, tally-le f l, one-le (f x))
+
+pub tally-all : (l : List ℕ) → tally (λ t. true) l ≡ length l
+unfolding tally
+tally-all [] = refl
+tally-all (x ∷ l) = omega (arith, tally-all l)
+
+-- ---- occ: how often a number stands in a list
+
+pub occ-nil : (q : ℕ) → occ q [] ≡ 0
+unfolding occ tally
+occ-nil q = refl
+
+pub occ-cons : (q x : ℕ) (l : List ℕ) → occ q (x ∷ l) ≡ one (eqb x q) + occ q l
+unfolding occ tally
+occ-cons q x l = refl
+
+pub occ-here : (x : ℕ) (l : List ℕ) → occ x (x ∷ l) ≡ suc (occ x l)
+occ-here x l = omega (arith, occ-cons x x l, ap one (eq-eqb x x refl))
+
+pub occ-other : (q x : ℕ) (l : List ℕ) → (x ≡ q → ⊥) → occ q (x ∷ l) ≡ occ q l
+occ-other q x l h = omega (arith, occ-cons q x l, ap one (ne-eqb x q h))
+
+pub occ-append : (q : ℕ) (s t : List ℕ) → occ q (s ++ t) ≡ occ q s + occ q t
+unfolding occ
+occ-append q s t = tally-append (λ x. eqb x q) s t
+
+-- a list in which no number stands is empty
+pub occ-empty : (l : List ℕ) → ((q : ℕ) → occ q l ≡ 0) → l ≡ []
+occ-empty [] h = refl
+occ-empty (x ∷ l) h = absurd (omega (arith, occ-here x l, h x))
+
+-- membership as a type, and as a count
+pub in-occ : (q : ℕ) (l : List ℕ) → In q l → 0 < occ q l
+in-occ q [] h = absurd (List·Memᴰ·not-nil h)
+in-occ q (x ∷ l) h =
+    ⊎-elim (λ e. omega (arith, occ-cons q x l, ap one (eq-eqb x q (sym e)))) (λ m. omega (arith, occ-cons q x l, in-occ q l m)) (List·Memᴰ·cases-cons h)
+
+pub occ-in : (q : ℕ) (l : List ℕ) → 0 < occ q l → In q l
+occ-in q [] h = absurd (omega (arith, occ-nil q))
+occ-in q (x ∷ l) h = by-bool (eqb x q)
+    (λ e. List·Memᴰ·head (sym (eqb-true x q e)))
+    (λ e. List·Memᴰ·tail (occ-in q l (omega (arith, occ-cons q x l, ap one e))))
+
+-- and as a test
+pub has-nil : (q : ℕ) → has [] q ≡ false
+unfolding has
+has-nil q = refl
+
+pub has-cons : (x : ℕ) (l : List ℕ) (q : ℕ) → has (x ∷ l) q ≡ (eqb x q || has l q)
+unfolding has
+has-cons x l q = refl
+
+pub has-occ : (l : List ℕ) (q : ℕ) → has l q ≡ ltb 0 (occ q l)
+has-occ [] q = has-nil q ∙ sym (ap (ltb 0) (occ-nil q))
+has-occ (x ∷ l) q = has-cons x l q ∙ by-bool (eqb x q)
+    (λ e. ap (λ b. b || has l q) e ∙ sym (ap (ltb 0) (occ-cons q x l ∙ ap (λ b. one b + occ q l) e) ∙ yes (occ q l)))
+    (λ e. ap (λ b. b || has l q) e ∙ has-occ l q ∙ sym (ap (ltb 0) (occ-cons q x l ∙ ap (λ b. one b + occ q l) e ∙ none (occ q l))))
+  where
+    yes : (k : ℕ) → ltb 0 (1 + k) ≡ true
+    yes k = by-bool (ltb 0 (1 + k)) (λ e. e) (λ e. absurd (omega (arith, ltb-false 0 (1 + k) e)))
+
+    none : (k : ℕ) → 0 + k ≡ k
+    none k = omega arith
+
+pub has-in : (l : List ℕ) (q : ℕ) → has l q ≡ true → In q l
+has-in l q e = occ-in q l (ltb-true 0 (occ q l) (sym (has-occ l q) ∙ e))
+
+pub in-has : (l : List ℕ) (q : ℕ) → In q l → has l q ≡ true
+in-has l q h = has-occ l q ∙ by-bool (ltb 0 (occ q l)) (λ e. e) (λ e. absurd (omega (arith, in-occ q l h, ltb-false 0 (occ q l) e)))
+
+pub has-append : (s t : List ℕ) (q : ℕ) → has (s ++ t) q ≡ (has s q || has t q)
+unfolding has
+has-append [] t q = refl
+has-append (x ∷ s) t q = ap (λ b. eqb x q || b) (has-append s t q) ∙ regroup (eqb x q) (has s q) (has t q)
+  where
+    regroup : (a b c : Bool) → (a || (b || c)) ≡ ((a || b) || c)
+    regroup true b c = refl
+    regroup false b c = refl
+
+-- ---- AllUnder: every entry is below n
+
+pub under-in : (n q : ℕ) (l : List ℕ) → AllUnder n l → 0 < occ q l → q < n
+under-in n q l h m = by-bool (ltb q n) (ltb-true q n) (λ e. absurd (omega (arith, h q (ltb-false q n e))))
+
+pub under-at : (n : ℕ) (l : List ℕ) (i : ℕ) → AllUnder n l → i < length l → getD l i 0 < n
+under-at n [] i h u = absurd (not-suc-le-zero u)
+under-at n (x ∷ l) zero h u = under-in n x (x ∷ l) h (omega (arith, occ-here x l))
+under-at n (x ∷ l) (suc i) h u = under-at n l i (λ q v. omega (arith, h q v, occ-cons q x l)) (omega arith)
+
+-- ---- Distinct: no number is listed twice
+
+pub distinct-occ : (l : List ℕ) → Distinct l → (q : ℕ) → occ q l ≤ 1
+distinct-occ [] Pairwise·nil q = omega (arith, occ-nil q)
+distinct-occ (x ∷ l) (Pairwise·cons h d) q = by-bool (eqb x q)
+    (λ e. by-bool (ltb 0 (occ q l))
+    (λ m. absurd (h q ∣ occ-in q l (ltb-true 0 (occ q l) m) ∣₁ (eqb-true x q e)))
+    (λ m. omega (arith, occ-cons q x l, ap one e, ltb-false 0 (occ q l) m)))
+    (λ e. omega (arith, occ-cons q x l, ap one e, distinct-occ l d q))
+
+pub occ-distinct : (l : List ℕ) → ((q : ℕ) → occ q l ≤ 1) → Distinct l
+occ-distinct [] h = Pairwise·nil
+occ-distinct (x ∷ l) h =
+    Pairwise·cons {a = x} {l = l}
+    (λ q m e. ∥∥₁-elim m ⊥-prop (λ d. omega (arith, in-occ q l d, occ-here x l, h x, ap (λ t. occ t l) e)))
+    (occ-distinct l (λ q. omega (arith, h q, occ-cons q x l)))
+
+-- ---- keep: those that pass, in listed order
+
+pub keep-nil : (f : ℕ → Bool) → keep f [] ≡ []
+unfolding keep
+keep-nil f = refl
+
+pub keep-yes : (f : ℕ → Bool) (x : ℕ) (l : List ℕ) → f x ≡ true → keep f (x ∷ l) ≡ x ∷ keep f l
+unfolding keep
+keep-yes f x l e = rw e
+
+pub keep-no : (f : ℕ → Bool) (x : ℕ) (l : List ℕ) → f x ≡ false → keep f (x ∷ l) ≡ keep f l
+unfolding keep
+keep-no f x l e = rw e
+
+pub keep-append : (f : ℕ → Bool) (s t : List ℕ) → keep f (s ++ t) ≡ keep f s ++ keep f t
+unfolding keep
+keep-append f [] t = refl
+keep-append f (x ∷ s) t = by-bool (f x)
+    (λ e. rw e (ap (λ l. x ∷ l) (keep-append f s t)))
+    (λ e. rw e (keep-append f s t))
+
+-- one entry more at the end
+pub keep-snoc-yes : (f : ℕ → Bool) (l : List ℕ) (x : ℕ) → f x ≡ true → keep f (l ++ (x ∷ [])) ≡ keep f l ++ (x ∷ [])
+keep-snoc-yes f l x e = keep-append f l (x ∷ []) ∙ ap (λ t. keep f l ++ t) (keep-yes f x [] e ∙ ap (λ t. x ∷ t) (keep-nil f))
+
+pub keep-length : (f : ℕ → Bool) (l : List ℕ) → length (keep f l) ≡ tally f l
+unfolding keep tally
+keep-length f [] = refl
+keep-length f (x ∷ l) = by-bool (f x)
+    (λ e. rw e (omega (arith, keep-length f l)))
+    (λ e. rw e (omega (arith, keep-length f l)))
+
+pub keep-occ : (f : ℕ → Bool) (l : List ℕ) (q : ℕ) → occ q (keep f l) ≡ cond (f q) (occ q l) 0
+keep-occ f [] q = ap (occ q) (keep-nil f) ∙ by-bool (f q) (λ e. rw e) (λ e. rw e (occ-nil q))
+keep-occ f (x ∷ l) q = by-bool (f x)
+    (λ e. ap (occ q) (keep-yes f x l e) ∙ occ-cons q x (keep f l) ∙ ap (λ k. one (eqb x q) + k) (keep-occ f l q)
+    ∙ by-bool (f q)
+    (λ v. rw v (sym (occ-cons q x l)))
+    (λ v. rw v (omega (arith, ap one (ne-eqb x q (λ z. clash z e v))))))
+    (λ e. ap (occ q) (keep-no f x l e) ∙ keep-occ f l q
+    ∙ by-bool (f q)
+    (λ v. rw v (sym (occ-other q x l (λ z. clash2 z e v))))
+    (λ v. rw v))
+  where
+    clash : x ≡ q → f x ≡ true → f q ≡ false → ⊥
+    clash z e v = let w : true ≡ false = sym e ∙ ap f z ∙ v in true≢false w
+
+    clash2 : x ≡ q → f x ≡ false → f q ≡ true → ⊥
+    clash2 z e v = let w : true ≡ false = sym v ∙ ap f (sym z) ∙ e in true≢false w
+
+-- ---- a list that has the numbers below n as a test says
+
+-- the tally of a list is the sum, over the numbers below n that pass, of how often each stands in it
+weight : (ℕ → Bool) → List ℕ → ℕ → ℕ
+weight f l t = cond (f t) (occ t l) 0
+
+cond-add : (b : Bool) (x y : ℕ) → cond b (x + y) 0 ≡ cond b x 0 + cond b y 0
+cond-add true x y = refl
+cond-add false x y = refl
+
+cond-zero : (b : Bool) → _≡_ {A = ℕ} (cond b 0 0) 0
+cond-zero true = refl
+cond-zero false = refl
+
+tally-weight : (f : ℕ → Bool) (n : ℕ) (l : List ℕ) → AllUnder n l → tally f l ≡ sumBelow (weight f l) n
+unfolding tally weight occ
+tally-weight f n [] h = sym (sumBelow-same _ (λ t. 0) n (λ t u. cond-zero (f t)) ∙ sumBelow-zero n)
+tally-weight f n (x ∷ l) h =
+    let below : x < n = under-in n x (x ∷ l) h (omega (arith, occ-here x l)) in
+    let rest : AllUnder n l = λ q u. omega (arith, h q u) in
+    let point : sumBelow (λ t. cond (f t) (one (eqb x t)) 0) n ≡ one (f x) =
+    sumBelow-point _ n x below (λ t u v. ap (λ b. cond (f t) (one b) 0) (ne-eqb x t (λ z. v (sym z))) ∙ cond-zero (f t))
+    ∙ ap (λ b. cond (f x) (one b) 0) (eq-eqb x x refl) in
+    let split = sumBelow-same (λ t. cond (f t) (one (eqb x t) + occ t l) 0) _ n (λ t u. cond-add (f t) (one (eqb x t)) (occ t l)) ∙ sumBelow-add _ _ n in
+    omega (arith, tally-weight f n l rest, point, split)
+
+-- a list with each number below n as often as a test says, and no other: its tally is the count of the numbers below n that pass both
+pub tally-below : (f g : ℕ → Bool) (n : ℕ) (l : List ℕ) → AllUnder n l → ((q : ℕ) → q < n → occ q l ≡ one (g q))
+    → tally f l ≡ countBelow (λ t. g t && f t) n
+unfolding weight
+tally-below f g n l a h =
+    tally-weight f n l a ∙ sumBelow-same _ _ n (λ t u. ap (λ k. cond (f t) k 0) (h t u) ∙ both (f t) (g t)) ∙ sym (countBelow-sum _ n)
+  where
+    both : (x y : Bool) → cond x (one y) 0 ≡ one (y && x)
+    both true true = refl
+    both true false = refl
+    both false true = refl
+    both false false = refl
+
+-- such a list has as many entries as numbers pass
+pub length-below : (g : ℕ → Bool) (n : ℕ) (l : List ℕ) → AllUnder n l → ((q : ℕ) → q < n → occ q l ≡ one (g q)) → length l ≡ countBelow g n
+length-below g n l a h = sym (tally-all l) ∙ tally-below (λ t. true) g n l a h ∙ countBelow-same _ _ n (λ t u. and-true (g t))

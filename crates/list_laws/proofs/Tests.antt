@@ -1,0 +1,139 @@
+-- Laws of `anyBelow`, `allBelow` and `allIn`: at n + 1, by what lies below n alone, and as facts of each number.
+use Prim.Native.Nat.{ℕ, zero, suc, _+_, _≤_, _<_}
+use mathlib.Core.Path.{_≡_, refl, ap, ap₂, sym, _∙_}
+use mathlib.Core.Bool.{Bool, true, false, not, _&&_, _||_, or-true, or-false, false≢true, true≢false}
+use mathlib.Core.List.{List, [], _∷_, _++_, List·Memᴰ, List·Memᴰ·not-nil, List·Memᴰ·cases-cons}
+use mathlib.Core.Logic.{⊎-elim}
+use native.Mathlib.Nat.{not-suc-le-zero, eq-or-lt-of-le}
+use native.Mathlib.Numerals.{add-one}
+use native.Mathlib.Omega.{arith}
+use lib.ListN.{length, getD}
+use Rattle.model.specs.Lists.{anyBelow, allBelow, allIn, In}
+use Rattle.list_laws.proofs.Bools.{by-bool, and-left, and-right}
+
+-- ---- anyBelow
+
+pub anyBelow-none : (f : ℕ → Bool) → anyBelow f 0 ≡ false
+unfolding anyBelow
+anyBelow-none f = refl
+
+pub anyBelow-more : (f : ℕ → Bool) (n : ℕ) → anyBelow f (n + 1) ≡ (anyBelow f n || f n)
+unfolding anyBelow
+anyBelow-more f n = ap (anyBelow f) (add-one n)
+
+pub anyBelow-yes : (f : ℕ → Bool) (n : ℕ) → f n ≡ true → anyBelow f (n + 1) ≡ true
+anyBelow-yes f n e = anyBelow-more f n ∙ ap (λ b. anyBelow f n || b) e ∙ or-true (anyBelow f n)
+
+pub anyBelow-no : (f : ℕ → Bool) (n : ℕ) → anyBelow f n ≡ false → f n ≡ false → anyBelow f (n + 1) ≡ false
+anyBelow-no f n h e = anyBelow-more f n ∙ ap₂ (λ a b. a || b) h e
+
+-- one that does not pass changes nothing
+pub anyBelow-skip : (f : ℕ → Bool) (n : ℕ) → f n ≡ false → anyBelow f (n + 1) ≡ anyBelow f n
+anyBelow-skip f n e = anyBelow-more f n ∙ ap (λ b. anyBelow f n || b) e ∙ or-false (anyBelow f n)
+
+-- one that passes settles it; and if some pass, there is one
+pub anyBelow-at : (f : ℕ → Bool) (n k : ℕ) → k < n → f k ≡ true → anyBelow f n ≡ true
+unfolding anyBelow
+anyBelow-at f zero k h e = absurd (not-suc-le-zero h)
+anyBelow-at f (suc n) k h e =
+    let g : k ≤ n = omega arith in
+    ⊎-elim (λ v. ap (λ b. anyBelow f n || b) (ap f (sym v) ∙ e) ∙ or-true (anyBelow f n))
+    (λ m. ap (λ b. b || f n) (anyBelow-at f n k m e)) (eq-or-lt-of-le g)
+
+pub anyBelow-some : (f : ℕ → Bool) (n : ℕ) → anyBelow f n ≡ true → (k : ℕ) × (k < n) × (f k ≡ true)
+unfolding anyBelow
+anyBelow-some f zero e = absurd (false≢true e)
+anyBelow-some f (suc n) e = by-bool (anyBelow f n)
+    (λ v. let r = anyBelow-some f n v in (r .0, omega (arith, r .1), r .2))
+    (λ v. (n, omega arith, rw v at e))
+
+-- if none passes, each one does not; and conversely
+pub anyBelow-each : (f : ℕ → Bool) (n : ℕ) → anyBelow f n ≡ false → (k : ℕ) → k < n → f k ≡ false
+anyBelow-each f n e k h = by-bool (f k) (λ v. absurd (true≢false (sym (anyBelow-at f n k h v) ∙ e))) (λ v. v)
+
+pub anyBelow-nowhere : (f : ℕ → Bool) (n : ℕ) → ((k : ℕ) → k < n → f k ≡ false) → anyBelow f n ≡ false
+anyBelow-nowhere f n h = by-bool (anyBelow f n)
+    (λ v. let r = anyBelow-some f n v in absurd (true≢false (sym (r .2) ∙ h (r .0) (r .1)))) (λ v. v)
+
+-- only what lies below n matters
+pub anyBelow-same : (f g : ℕ → Bool) (n : ℕ) → ((t : ℕ) → t < n → f t ≡ g t) → anyBelow f n ≡ anyBelow g n
+unfolding anyBelow
+anyBelow-same f g zero h = refl
+anyBelow-same f g (suc n) h = ap₂ (λ a b. a || b) (anyBelow-same f g n (λ t l. h t (omega arith))) (h n (omega arith))
+
+-- ---- allBelow
+
+pub allBelow-none : (f : ℕ → Bool) → allBelow f 0 ≡ true
+unfolding allBelow
+allBelow-none f = refl
+
+pub allBelow-more : (f : ℕ → Bool) (n : ℕ) → allBelow f (n + 1) ≡ (allBelow f n && f n)
+unfolding allBelow
+allBelow-more f n = ap (allBelow f) (add-one n)
+
+pub allBelow-yes : (f : ℕ → Bool) (n : ℕ) → allBelow f n ≡ true → f n ≡ true → allBelow f (n + 1) ≡ true
+allBelow-yes f n h e = allBelow-more f n ∙ ap₂ (λ a b. a && b) h e
+
+-- one that does not pass settles it
+pub allBelow-no : (f : ℕ → Bool) (n k : ℕ) → k < n → f k ≡ false → allBelow f n ≡ false
+unfolding allBelow
+allBelow-no f zero k h e = absurd (not-suc-le-zero h)
+allBelow-no f (suc n) k h e =
+    let g : k ≤ n = omega arith in
+    ⊎-elim (λ v. ap (λ b. allBelow f n && b) (ap f (sym v) ∙ e) ∙ no (allBelow f n))
+    (λ m. ap (λ b. b && f n) (allBelow-no f n k m e)) (eq-or-lt-of-le g)
+  where
+    no : (b : Bool) → (b && false) ≡ false
+    no true = refl
+    no false = refl
+
+-- all pass just where each one does
+pub allBelow-each : (f : ℕ → Bool) (n : ℕ) → allBelow f n ≡ true → (k : ℕ) → k < n → f k ≡ true
+allBelow-each f n e k h = by-bool (f k) (λ v. v) (λ v. absurd (true≢false (sym e ∙ allBelow-no f n k h v)))
+
+pub allBelow-every : (f : ℕ → Bool) (n : ℕ) → ((k : ℕ) → k < n → f k ≡ true) → allBelow f n ≡ true
+unfolding allBelow
+allBelow-every f zero h = refl
+allBelow-every f (suc n) h = ap₂ (λ a b. a && b) (allBelow-every f n (λ t l. h t (omega arith))) (h n (omega arith))
+
+pub allBelow-same : (f g : ℕ → Bool) (n : ℕ) → ((t : ℕ) → t < n → f t ≡ g t) → allBelow f n ≡ allBelow g n
+unfolding allBelow
+allBelow-same f g zero h = refl
+allBelow-same f g (suc n) h = ap₂ (λ a b. a && b) (allBelow-same f g n (λ t l. h t (omega arith))) (h n (omega arith))
+
+-- ---- allIn
+
+module _ {A : Type 0} where
+  pub allIn-nil : (f : A → Bool) → allIn f [] ≡ true
+  unfolding allIn
+  allIn-nil f = refl
+
+  pub allIn-cons : (f : A → Bool) (a : A) (l : List A) → allIn f (a ∷ l) ≡ (f a && allIn f l)
+  unfolding allIn
+  allIn-cons f a l = refl
+
+  -- every entry passes just where the entry at each place does
+  pub allIn-each : (f : A → Bool) (d : A) (l : List A) → allIn f l ≡ true → (k : ℕ) → k < length l → f (getD l k d) ≡ true
+  unfolding allIn
+  allIn-each f d [] e k h = absurd (not-suc-le-zero h)
+  allIn-each f d (a ∷ l) e zero h = and-left (f a) (allIn f l) e
+  allIn-each f d (a ∷ l) e (suc k) h = allIn-each f d l (and-right (f a) (allIn f l) e) k (omega arith)
+
+  pub allIn-every : (f : A → Bool) (d : A) (l : List A) → ((k : ℕ) → k < length l → f (getD l k d) ≡ true) → allIn f l ≡ true
+  unfolding allIn
+  allIn-every f d [] h = refl
+  allIn-every f d (a ∷ l) h = ap₂ (λ x y. x && y) (h 0 (omega arith)) (allIn-every f d l (λ k u. h (suc k) (omega arith)))
+
+  -- the same test, place by place
+  pub allIn-below : (f : A → Bool) (d : A) (l : List A) → allIn f l ≡ allBelow (λ k. f (getD l k d)) (length l)
+  allIn-below f d l = by-bool (allIn f l)
+      (λ e. e ∙ sym (allBelow-every _ (length l) (allIn-each f d l e)))
+      (λ e. e ∙ sym (by-bool (allBelow (λ k. f (getD l k d)) (length l))
+      (λ v. absurd (true≢false (sym (allIn-every f d l (allBelow-each _ (length l) v)) ∙ e))) (λ v. v)))
+
+-- the same of the members
+pub allIn-member : (f : ℕ → Bool) (l : List ℕ) → allIn f l ≡ true → (q : ℕ) → In q l → f q ≡ true
+unfolding allIn
+allIn-member f [] e q h = absurd (List·Memᴰ·not-nil h)
+allIn-member f (x ∷ l) e q h =
+    ⊎-elim (λ v. ap f v ∙ and-left (f x) (allIn f l) e) (λ m. allIn-member f l (and-right (f x) (allIn f l) e) q m) (List·Memᴰ·cases-cons h)

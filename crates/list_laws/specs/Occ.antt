@@ -1,0 +1,14 @@
+-- How often a number stands in a list.
+use Prim.Native.Nat.{ℕ, _≤_}
+use mathlib.Core.Path.{_≡_}
+use mathlib.Core.List.{List}
+use lib.Dec.{eqb}
+use Rattle.model.specs.Lists.{tally}
+
+-- how often q stands in a list: "each exactly once" is then `occ q l ≡ one (test q)`, on which `omega` works
+unfoldable pub occ : ℕ → List ℕ → ℕ
+occ q l = tally (λ x. eqb x q) l
+
+-- every entry of a list is below n
+abbrev pub AllUnder : ℕ → List ℕ → Type 0
+AllUnder n l = (q : ℕ) → n ≤ q → occ q l ≡ 0

@@ -1,0 +1,215 @@
+-- The two dominations of the plans of a pool: strict on accepted plans, the paper's, and what flat lists of the pool give.
+use Prim.Native.Nat.{ℕ, _+_, _*_, _≤_, _<_, min}
+use mathlib.Core.Path.{_≡_, refl, ap, _∙_}
+use mathlib.Core.Bool.{Bool, true, false, _&&_, false≢true}
+use mathlib.Core.List.{List, []}
+use mathlib.Core.Logic.{_↔_}
+use native.Mathlib.Nat.{suc-mul, mul-le-mul-right}
+use native.Mathlib.Omega.{arith}
+use borrow.Author.Tests.{eqb-true}
+use lib.Dec.{eqb, leb}
+use lib.Ieee.{Float, nan, inf, fin, binary64, ofBits, lt, le, neg, isNan}
+use lib.ListN.{length, getD}
+use Rattle.model.specs.declared.Direction.{Direction}
+use Rattle.model.specs.declared.Direction.the-variants.{Minimize, Maximize}
+use Rattle.model.specs.Lists.{allIn}
+use Rattle.model.specs.Papers.Deb2002.{Solution, ConstrainedDominates, onlyFeasible, lessViolation, bothFeasible}
+use Rattle.model.specs.Plan.{Plan, maxValues, maxConstraints, planOf}
+use Rattle.model.specs.Real.{real}
+use Rattle.model.specs.Refusal.{measurable, goodPlan}
+use Rattle.model.specs.Row.{directionOf, toMinimize, rowOf, dominates, feasible, violation, byFeasibility, constrainedDominates, rowBeats, beats}
+use Rattle.list_laws.proofs.Bools.{T-true, true-T, T-false, false-T, and-left, and-right}
+use Rattle.list_laws.proofs.Built.{listBelow-length}
+use Rattle.list_laws.proofs.Tests.{allIn-each}
+use Rattle.front_laws.specs.Strict.{Strict}
+use Rattle.front_laws.proofs.Same.{Agree}
+use Rattle.pareto.specs.Flat.{rowAt, flatDominates, flatBeats, Pool, NoNan}
+use Rattle.pareto.proofs.Domination.{Known, dominates-same, dominates-irreflexive, dominates-transitive, dominates-paper, rule-irreflexive, rule-asymmetric, rule-transitive}
+use Rattle.pareto.proofs.FloatOrder.{le-not-nan}
+use Rattle.pareto.proofs.Violation.{feasible-none}
+
+-- ---- constrainedDominates, of any rows and constraints
+
+pub constrained-irreflexive : (m : ℕ) (a : ℕ → Float) (ca : List Float) → constrainedDominates m a ca a ca ≡ false
+unfolding constrainedDominates
+constrained-irreflexive m a ca = rule-irreflexive m (feasible ca) (violation ca) a
+
+pub constrained-asymmetric : (m : ℕ) (a : ℕ → Float) (ca : List Float) (b : ℕ → Float) (cb : List Float)
+    → constrainedDominates m a ca b cb ≡ true → constrainedDominates m b cb a ca ≡ false
+unfolding constrainedDominates
+constrained-asymmetric m a ca b cb e = rule-asymmetric m (feasible ca) (feasible cb) (violation ca) (violation cb) a b e
+
+pub constrained-transitive : (m : ℕ) (a : ℕ → Float) (ca : List Float) (b : ℕ → Float) (cb : List Float) (c : ℕ → Float) (cc : List Float)
+    → Known m a → Known m b → Known m c
+    → constrainedDominates m a ca b cb ≡ true → constrainedDominates m b cb c cc ≡ true → constrainedDominates m a ca c cc ≡ true
+unfolding constrainedDominates
+constrained-transitive m a ca b cb c cc ka kb kc h k =
+    rule-transitive m (feasible ca) (feasible cb) (feasible cc) (violation ca) (violation cb) (violation cc) a b c ka kb kc h k
+
+-- a row and constraints as the paper's rule sees them
+abbrev pub solution : (ℕ → Float) → List Float → Solution
+solution a ca = record { values = a; isFeasible = feasible ca; overall = violation ca }
+
+-- the rule's cases, for any feasibility and violation
+toPaper : (m : ℕ) (a b : Solution) → Known m (a .values) → Known m (b .values) → (fa fb : Bool) → a .isFeasible ≡ fa → b .isFeasible ≡ fb
+    → byFeasibility fa fb (lt (a .overall) (b .overall)) (dominates m (a .values) (b .values)) ≡ true → ConstrainedDominates m a b
+toPaper m a b ka kb true true x y e =
+    bothFeasible (true-T (a .isFeasible) x) (true-T (b .isFeasible) y) (dominates-paper m (a .values) (b .values) ka kb .0 e)
+toPaper m a b ka kb true false x y e = onlyFeasible (true-T (a .isFeasible) x) (false-T (b .isFeasible) y)
+toPaper m a b ka kb false true x y e = absurd (false≢true e)
+toPaper m a b ka kb false false x y e =
+    lessViolation (false-T (a .isFeasible) x) (false-T (b .isFeasible) y) (true-T (lt (a .overall) (b .overall)) e)
+
+ofPaper : (m : ℕ) (a b : Solution) → Known m (a .values) → Known m (b .values) → ConstrainedDominates m a b
+    → byFeasibility (a .isFeasible) (b .isFeasible) (lt (a .overall) (b .overall)) (dominates m (a .values) (b .values)) ≡ true
+ofPaper m a b ka kb (onlyFeasible x y) = rw (T-true (a .isFeasible) x, T-false (b .isFeasible) y)
+ofPaper m a b ka kb (lessViolation x y l) = rw (T-false (a .isFeasible) x, T-false (b .isFeasible) y) (T-true (lt (a .overall) (b .overall)) l)
+ofPaper m a b ka kb (bothFeasible x y d) =
+    rw (T-true (a .isFeasible) x, T-true (b .isFeasible) y) (dominates-paper m (a .values) (b .values) ka kb .1 d)
+
+-- the paper's constrained domination
+pub constrained-paper : (m : ℕ) (a : ℕ → Float) (ca : List Float) (b : ℕ → Float) (cb : List Float) → Known m a → Known m b
+    → (constrainedDominates m a ca b cb ≡ true) ↔ ConstrainedDominates m (solution a ca) (solution b cb)
+unfolding constrainedDominates
+constrained-paper m a ca b cb ka kb = (
+  λ e. toPaper m (solution a ca) (solution b cb) ka kb (feasible ca) (feasible cb) refl refl e,
+  λ h. ofPaper m (solution a ca) (solution b cb) ka kb h,
+)
+
+-- ---- accepted plans
+
+neg-known : (x : Float) → isNan x ≡ false → isNan (neg x) ≡ false
+unfolding isNan neg
+neg-known nan e = e
+neg-known (inf s) e = refl
+neg-known (fin s m e') e = refl
+
+known-toMinimize : (d : Direction) (x : Float) → isNan x ≡ false → isNan (toMinimize d x) ≡ false
+known-toMinimize Minimize x e = e
+known-toMinimize Maximize x e = neg-known x e
+
+-- a value that is measured is no NaN
+pub measurable-known : (x : Float) → measurable x ≡ true → isNan x ≡ false
+unfolding measurable
+measurable-known x e =
+    T-false (isNan x)
+    (le-not-nan (ofBits binary64 0xfe70_0000_0000_0000) x
+    (true-T (le (ofBits binary64 0xfe70_0000_0000_0000) x)
+    (and-left (le (ofBits binary64 0xfe70_0000_0000_0000) x) (le x (ofBits binary64 0x7e70_0000_0000_0000)) e)) .1)
+
+-- A plan that passes refusal 8 and has the m values that it claims, as every plan of a slice of words has.
+pub record Accepted (m : ℕ) (plan : Plan) : Type 0 where
+  pub good : goodPlan m plan ≡ true
+  pub whole : length (plan .row) ≡ m
+
+-- its row has no NaN, whatever the directions
+pub accepted-known : (marks : List ℕ) (m : ℕ) (plan : Plan) → Accepted m plan → Known m (rowOf marks plan)
+unfolding rowOf goodPlan
+accepted-known marks m plan h j l =
+    let rest = and-right (eqb (plan .rowLength) m) (leb (plan .constraintCount) maxConstraints && (allIn measurable (plan .row) && allIn measurable (plan .constraints))) (h .good) in
+    let lists = and-right (leb (plan .constraintCount) maxConstraints) (allIn measurable (plan .row) && allIn measurable (plan .constraints)) rest in
+    let row = and-left (allIn measurable (plan .row)) (allIn measurable (plan .constraints)) lists in
+    known-toMinimize (directionOf (getD marks j 0)) (getD (plan .row) j nan)
+    (measurable-known (getD (plan .row) j nan) (allIn-each measurable nan (plan .row) row j (omega (arith, h .whole))))
+
+-- a plan of words that passes refusal 8, where there are at most 8 objectives
+pub words-accepted : (m : ℕ) (word : ℕ → ℕ) → m ≤ maxValues → goodPlan m (planOf word) ≡ true → Accepted m (planOf word)
+unfolding planOf goodPlan
+words-accepted m word h e =
+    let n = eqb-true (word 1) m (and-left (eqb (word 1) m) _ e) in
+    record {
+      good = e;
+      whole = listBelow-length (λ j. real (word (2 + j))) (min (word 1) maxValues) ∙ omega arith;
+    }
+
+module _ (marks : List ℕ) (plans : ℕ → Plan) (n : ℕ) (known : (p : ℕ) → p < n → Known (length marks) (rowOf marks (plans p))) where
+  pub rowBeats-strict : Strict (rowBeats marks plans) n
+  unfolding rowBeats
+  rowBeats-strict = record {
+    irreflexive = λ p l. dominates-irreflexive (length marks) (rowOf marks (plans p));
+    transitive = λ p q r lp lq lr h k.
+        dominates-transitive (length marks) (rowOf marks (plans p)) (rowOf marks (plans q)) (rowOf marks (plans r)) (known p lp) (known q lq) (known r lr) h k;
+  }
+
+  pub beats-strict : Strict (beats marks plans) n
+  unfolding beats
+  beats-strict = record {
+    irreflexive = λ p l. constrained-irreflexive (length marks) (rowOf marks (plans p)) (plans p .constraints);
+    transitive = λ p q r lp lq lr h k.
+        constrained-transitive (length marks) (rowOf marks (plans p)) (plans p .constraints) (rowOf marks (plans q)) (plans q .constraints)
+        (rowOf marks (plans r)) (plans r .constraints) (known p lp) (known q lq) (known r lr) h k;
+  }
+
+-- ---- where no plan has constraints the two dominations are one
+
+pub beats-unconstrained : (marks : List ℕ) (plans : ℕ → Plan) (n : ℕ) → ((p : ℕ) → p < n → plans p .constraints ≡ [])
+    → Agree (beats marks plans) (rowBeats marks plans) n
+unfolding beats rowBeats constrainedDominates
+beats-unconstrained marks plans n h p q lp lq =
+    rw (ap feasible (h p lp) ∙ feasible-none, ap feasible (h q lq) ∙ feasible-none)
+
+-- ---- a pool in flat lists
+
+-- rows, flags and violation sums are those of the n plans
+pub record FlatOf (marks : List ℕ) (plans : ℕ → Plan) (n : ℕ) (rows : List Float) (flags : List Bool) (sums : List Float) : Type 0 where
+  pub rowsOf : (p j : ℕ) → p < n → j < length marks → rowAt rows (length marks) p j ≡ rowOf marks (plans p) j
+  pub flagsOf : (p : ℕ) → p < n → getD flags p false ≡ feasible (plans p .constraints)
+  pub sumsOf : (p : ℕ) → p < n → getD sums p nan ≡ violation (plans p .constraints)
+
+pub flatBeats-beats : (marks : List ℕ) (plans : ℕ → Plan) (n : ℕ) (rows : List Float) (flags : List Bool) (sums : List Float)
+    → FlatOf marks plans n rows flags sums → Agree (flatBeats rows (length marks) flags sums) (beats marks plans) n
+unfolding flatBeats beats constrainedDominates
+flatBeats-beats marks plans n rows flags sums h p q lp lq =
+    let d = dominates-same (length marks) (rowAt rows (length marks) p) (rowOf marks (plans p)) (rowAt rows (length marks) q) (rowOf marks (plans q))
+    (λ j l. h .rowsOf p j lp l) (λ j l. h .rowsOf q j lq l) in
+    rw (h .flagsOf p lp, h .flagsOf q lq, h .sumsOf p lp, h .sumsOf q lq, d)
+
+pub flatDominates-rowBeats : (marks : List ℕ) (plans : ℕ → Plan) (n : ℕ) (rows : List Float)
+    → ((p j : ℕ) → p < n → j < length marks → rowAt rows (length marks) p j ≡ rowOf marks (plans p) j)
+    → Agree (flatDominates rows (length marks)) (rowBeats marks plans) n
+unfolding rowBeats
+flatDominates-rowBeats marks plans n rows h p q lp lq =
+    dominates-same (length marks) (rowAt rows (length marks) p) (rowOf marks (plans p)) (rowAt rows (length marks) q) (rowOf marks (plans q))
+    (λ j l. h p j lp l) (λ j l. h q j lq l)
+
+-- where every plan is feasible, flat rows decide alone
+pub flatBeats-rows : (rows : List Float) (m : ℕ) (flags : List Bool) (sums : List Float) (n : ℕ) → ((p : ℕ) → p < n → getD flags p false ≡ true)
+    → Agree (flatBeats rows m flags sums) (flatDominates rows m) n
+unfolding flatBeats
+flatBeats-rows rows m flags sums n h p q lp lq = rw (h p lp, h q lq)
+
+-- the place of a row's entry, and the end of a row, are in the table
+pub row-lt : (p j n m : ℕ) → p < n → j < m → p * m + j < n * m
+row-lt p j n m h g = omega (arith, mul-le-mul-right m h, suc-mul p m)
+
+pub row-end : (p n m : ℕ) → p < n → p * m + m ≤ n * m
+row-end p n m h = omega (arith, mul-le-mul-right m h, suc-mul p m)
+
+-- rows without a NaN make both strict
+pub flatDominates-strict : (rows : List Float) (m n : ℕ) → NoNan rows (n * m) → Strict (flatDominates rows m) n
+flatDominates-strict rows m n h =
+    let known : (p : ℕ) → p < n → Known m (rowAt rows m p) = λ p lp j l. h (p * m + j) (row-lt p j n m lp l) in
+    record {
+      irreflexive = λ p l. dominates-irreflexive m (rowAt rows m p);
+      transitive = λ p q r lp lq lr x y. dominates-transitive m (rowAt rows m p) (rowAt rows m q) (rowAt rows m r) (known p lp) (known q lq) (known r lr) x y;
+    }
+
+pub flatBeats-strict : (rows : List Float) (m : ℕ) (flags : List Bool) (sums : List Float) (n : ℕ) → NoNan rows (n * m) → Strict (flatBeats rows m flags sums) n
+unfolding flatBeats
+flatBeats-strict rows m flags sums n h =
+    let known : (p : ℕ) → p < n → Known m (rowAt rows m p) = λ p lp j l. h (p * m + j) (row-lt p j n m lp l) in
+    record {
+      irreflexive = λ p l. rule-irreflexive m (getD flags p false) (getD sums p nan) (rowAt rows m p);
+      transitive = λ p q r lp lq lr x y.
+          rule-transitive m (getD flags p false) (getD flags q false) (getD flags r false) (getD sums p nan) (getD sums q nan) (getD sums r nan)
+          (rowAt rows m p) (rowAt rows m q) (rowAt rows m r) (known p lp) (known q lq) (known r lr) x y;
+    }
+
+-- two plans of a pool in flat lists are within the lists
+pub pool-pair : (rows : List Float) (m : ℕ) (flags : List Bool) (sums : List Float) (n p q : ℕ) → Pool rows m flags sums n → p < n → q < n
+    → (p * m + m ≤ length rows) × (q * m + m ≤ length rows)
+    × (p < length flags) × (q < length flags) × (p < length sums) × (q < length sums)
+pool-pair rows m flags sums n p q h lp lq =
+    let a = row-end p n m lp in
+    let b = row-end q n m lq in
+    (omega arith, omega arith, omega arith, omega arith, omega arith, omega arith)

@@ -1,0 +1,44 @@
+-- Laws of feasibility and of the violation sum, place by place.
+use Prim.Native.Nat.{ℕ, _+_}
+use mathlib.Core.Path.{_≡_, refl, ap, _∙_}
+use mathlib.Core.Bool.{true, false, cond}
+use mathlib.Core.List.{List, []}
+use native.Mathlib.Numerals.{add-one}
+use lib.Ieee.{Float, nan, lt, le}
+use lib.ListN.{length, getD}
+use Rattle.model.specs.Lists.{allBelow, allIn}
+use Rattle.model.specs.Real.{_⊕_, nought, minusNought, sumTo}
+use Rattle.model.specs.Row.{feasible, excess, violation}
+use Rattle.list_laws.proofs.Tests.{allIn-below}
+
+pub feasible-below : (cs : List Float) → feasible cs ≡ allBelow (λ k. le (getD cs k nan) nought) (length cs)
+unfolding feasible
+feasible-below cs = allIn-below (λ c. le c nought) nan cs
+
+-- "none at all is feasible"
+pub feasible-none : feasible [] ≡ true
+unfolding feasible allIn
+feasible-none = refl
+
+-- the violation of the first i constraints
+abbrev pub violationTo : List Float → ℕ → Float
+violationTo cs i = sumTo (λ k. excess (getD cs k nan)) i
+
+pub violation-none : (cs : List Float) → violationTo cs 0 ≡ minusNought
+unfolding sumTo
+violation-none cs = refl
+
+pub violation-more : (cs : List Float) (i : ℕ) → violationTo cs (i + 1) ≡ violationTo cs i ⊕ excess (getD cs i nan)
+unfolding sumTo
+violation-more cs i = ap (violationTo cs) (add-one i)
+
+-- a constraint above 0 adds itself, any other 0
+pub violation-yes : (cs : List Float) (i : ℕ) → lt nought (getD cs i nan) ≡ true → violationTo cs (i + 1) ≡ violationTo cs i ⊕ getD cs i nan
+violation-yes cs i e = violation-more cs i ∙ ap (λ b. violationTo cs i ⊕ cond b (getD cs i nan) nought) e
+
+pub violation-no : (cs : List Float) (i : ℕ) → lt nought (getD cs i nan) ≡ false → violationTo cs (i + 1) ≡ violationTo cs i ⊕ nought
+violation-no cs i e = violation-more cs i ∙ ap (λ b. violationTo cs i ⊕ cond b (getD cs i nan) nought) e
+
+pub violation-all : (cs : List Float) → violation cs ≡ violationTo cs (length cs)
+unfolding violation
+violation-all cs = refl

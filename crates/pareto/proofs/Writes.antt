@@ -1,0 +1,75 @@
+-- A run of stores, one more at its end, and what it leaves alone.
+use Prim.Native.Nat.{ℕ, suc, _+_, _≤_, _<_}
+use mathlib.Core.Path.{_≡_, refl, ap, sym, _∙_}
+use mathlib.Core.Bool.{Bool, true, false, cond}
+use mathlib.Core.Logic.{⊎-elim}
+use mathlib.Core.List.{List, [], _∷_, _++_}
+use native.Mathlib.Omega.{arith}
+use native.Mathlib.Nat.{eq-or-lt-of-le, suc-add, add-suc, add-zero}
+use lib.ListN.{length, getD, set, length-append}
+use lib.Seq.{sets, length-sets, getD-set-other, getD-set-same}
+use Rattle.model.specs.Lists.{one, keepBelow}
+use Rattle.list_laws.proofs.Counts.{countBelow-le}
+use Rattle.list_laws.proofs.Kept.{keepBelow-none, keepBelow-yes, keepBelow-no, keepBelow-length}
+
+pub sets-append : (l : List ℕ) (i : ℕ) (s t : List ℕ) → sets l i (s ++ t) ≡ sets (sets l i s) (i + length s) t
+sets-append l i [] t = ap (λ k. sets l k t) (sym (add-zero i))
+sets-append l i (x ∷ s) t =
+    sets-append (set l i x) (suc i) s t ∙ ap (λ k. sets (sets (set l i x) (suc i) s) k t) (suc-add i (length s) ∙ sym (add-suc i (length s)))
+
+-- at j, the place after the run
+pub sets-snoc : (l : List ℕ) (i j : ℕ) (s : List ℕ) (x : ℕ) → j ≡ i + length s → set (sets l i s) j x ≡ sets l i (s ++ (x ∷ []))
+sets-snoc l i j s x e = ap (λ k. set (sets l i s) k x) e ∙ sym (sets-append l i s (x ∷ []))
+
+-- what stands before the run stays
+pub getD-sets-before : (l : List ℕ) (i : ℕ) (s : List ℕ) (j : ℕ) → j < i → getD (sets l i s) j 0 ≡ getD l j 0
+getD-sets-before l i [] j h = refl
+getD-sets-before l i (x ∷ s) j h =
+    getD-sets-before (set l i x) (suc i) s j (omega arith) ∙ getD-set-other l i j x 0 (λ e. omega arith)
+
+-- the numbers below q that pass f stand in a list from `at` on, up to `len`; the rest is as in l
+pub record Picked (f : ℕ → Bool) (l : List ℕ) (at q : ℕ) (o : List ℕ) (len : ℕ) : Type 0 where
+  pub order : o ≡ sets l at (keepBelow f q)
+  pub size : len ≡ at + length (keepBelow f q)
+
+pub picked-none : (f : ℕ → Bool) (l : List ℕ) (at : ℕ) → Picked f l at 0 l at
+picked-none f l at = record {
+  order = rw keepBelow-none;
+  size = rw keepBelow-none (omega arith);
+}
+
+pub picked-yes : (f : ℕ → Bool) (l : List ℕ) (at q : ℕ) (o : List ℕ) (len : ℕ) → f q ≡ true → Picked f l at q o len
+    → Picked f l at (q + 1) (set o len q) (len + 1)
+picked-yes f l at q o len e h = record {
+  order = rw keepBelow-yes (ap (λ t. set t len q) (h .order) ∙ sets-snoc l at len (keepBelow f q) q (h .size));
+  size = rw (keepBelow-yes, length-append) (omega arith);
+}
+
+pub picked-no : (f : ℕ → Bool) (l : List ℕ) (at q : ℕ) (o : List ℕ) (len : ℕ) → f q ≡ false → Picked f l at q o len → Picked f l at (q + 1) o len
+picked-no f l at q o len e h = record {
+  order = rw keepBelow-no (h .order);
+  size = rw keepBelow-no (h .size);
+}
+
+pub picked-length : (f : ℕ → Bool) (l : List ℕ) (at q : ℕ) (o : List ℕ) (len : ℕ) → Picked f l at q o len → length o ≡ length l
+picked-length f l at q o len h = ap length (h .order) ∙ length-sets l at (keepBelow f q)
+
+pub picked-room : (f : ℕ → Bool) (l : List ℕ) (at q : ℕ) (o : List ℕ) (len : ℕ) → Picked f l at q o len → len ≤ at + q
+picked-room f l at q o len h = omega (arith, keepBelow-length f q, countBelow-le f q)
+
+-- the same where a test says whether there is one more
+pub picked-more : (f : ℕ → Bool) (l : List ℕ) (at q : ℕ) (o : List ℕ) (len : ℕ) (b : Bool) → f q ≡ b → Picked f l at q o len
+    → Picked f l at (q + 1) (sets o len (cond b (q ∷ []) [])) (len + one b)
+picked-more f l at q o len true e h = picked-yes f l at q o len e h
+picked-more f l at q o len false e h = rw add-zero (picked-no f l at q o len e h)
+
+-- a list of values up to q, one more stored
+pub filled-more : (f : ℕ → ℕ) (l : List ℕ) (q : ℕ) (v : ℕ) → q < length l → v ≡ f q → ((t : ℕ) → t < q → getD l t 0 ≡ f t)
+    → (t : ℕ) → t < q + 1 → getD (set l q v) t 0 ≡ f t
+filled-more f l q v h e g t u = ⊎-elim
+    (λ w. ap (λ i. getD (set l q v) i 0) w ∙ getD-set-same l q v 0 h ∙ e ∙ ap f (sym w))
+    (λ m. getD-set-other l q t v 0 (λ w. omega arith) ∙ g t m)
+    (eq-or-lt-of-le below)
+  where
+    below : t ≤ q
+    below = omega arith

@@ -1,0 +1,134 @@
+-- the order holds the first k + 1 fronts, the counts and ranks are those of round k, and `ends` has the ends of the fronts before
+use Prim.Native.Nat.{_-_, _≤_, _<_}
+use mathlib.Core.Path.{_≡_, refl, _∙_}
+use native.Mathlib.Numerals.{add-one}
+use native.Mathlib.Omega.{arith}
+use borrow.Author.Needs.{needs}
+use lib.ListN.{length}
+use Rattle.model.specs.Refusal.{maxSize}
+use Rattle.pareto.specs.Flat.{flatBeats}
+use Rattle.pareto.proofs.Plans.{flatBeats-strict}
+use Rattle.pareto.proofs.Sorting.{Sorting, sorting-first, first-rest, sorting-ready, sorting-more, sorting-done}
+use Rattle.pareto.proofs.fast_non_dominated_sort_constrained.Statement.{statement}
+use Rattle.pareto.proofs.fast_non_dominated_sort_constrained.Tie as tie
+
+abbrev Inv-loop : tie.InvT-loop
+Inv-loop rows m feasible violations n order₀ rank₀ ends₀ counts₀ start₀ end₀ k₀ order rank ends counts start end k =
+    (length counts ≡ length counts₀) × Sorting (flatBeats rows m feasible violations) n order₀ rank₀ ends₀ k start end counts order rank ends
+
+abbrev μ-loop : tie.MeasureT-loop
+μ-loop rows m feasible violations n order₀ rank₀ ends₀ counts₀ start₀ end₀ k₀ order rank ends counts start end k =
+    n - start
+
+slice-aggregate-count-all : tie.Need-slice-aggregate-count-all Inv-loop μ-loop
+slice-aggregate-count-all c = search needs
+
+count-all-requires : tie.Need-count-all-requires Inv-loop μ-loop
+count-all-requires c κs = search needs
+
+slice-aggregate-first-front : tie.Need-slice-aggregate-first-front Inv-loop μ-loop
+slice-aggregate-first-front c = search needs
+
+first-front-requires : tie.Need-first-front-requires Inv-loop μ-loop
+first-front-requires c κs = search needs
+
+-- as the loop begins: the counts' array has its places, and the order its length
+places : (b : tie.After-slice-known4 Inv-loop μ-loop)
+    → length (b .before .before .before .before .before .before .count-all .last .1 .1 .1 .1 .1 .0) ≡ maxSize
+places b = b .before .before .before .before .before .before .count-all .kept .1 .1 .1 .1 .1 .0
+
+-- the function's entry, seen from there
+abbrev entry : tie.After-slice-known4 Inv-loop μ-loop → tie.Start Inv-loop μ-loop
+entry b = b .before .before .before .before .before .before .before .before .before .before .before .before .before .before
+
+loop-holds : tie.Need-loop-holds Inv-loop μ-loop
+loop-holds c =
+    let f = c .before .before .first-front in
+    let n = c .before .before .before .before .before .before in
+    (refl, sorting-first _ _ _ _ _ _ _ _ (entry c .pre .3) (n .count-all .ensures) (f .ensures .0) (f .ensures .1))
+
+mul-ends : tie.Need-mul-ends Inv-loop μ-loop
+mul-ends c = let k = c .before .loop .inv .1 in omega (arith, k .few, k .within, c .loop-test .taken, entry (c .before .before) .pre .2)
+
+slice-write-ends : tie.Need-slice-write-ends Inv-loop μ-loop
+slice-write-ends c =
+    let k = c .before .loop .inv .1 in
+    omega (arith, k .few, k .within, k .sizes .ends, c .loop-test .taken, entry (c .before .before) .pre .5)
+
+slice-aggregate-pass-front : tie.Need-slice-aggregate-pass-front Inv-loop μ-loop
+slice-aggregate-pass-front c = search needs
+
+pass-front-requires : tie.Need-pass-front-requires Inv-loop μ-loop
+pass-front-requires c κs =
+    let l = c .before .before .before .before .loop in
+    let b = c .before .before .before .before .before in
+    let a = entry b in
+    let z = l .inv .1 .sizes in (
+      a .pre .0,
+      sorting-ready _ _ _ _ _ _ _ _ _ _ _ _ (l .inv .1) (omega (arith, l .inv .0, places b, a .pre .2))
+          (omega (arith, z .order, b .before .before .first-front .kept .1 .1 .0, a .pre .3)) (omega (arith, z .ranks, a .pre .4)),
+    )
+
+add-k : tie.Need-add-k Inv-loop μ-loop
+add-k c = omega arith
+
+loop-less : tie.Need-loop-less Inv-loop μ-loop
+loop-less c = omega arith
+
+loop-again : tie.Need-loop-again Inv-loop μ-loop
+loop-again c =
+    let p = c .before .before .before .before .before in
+    let h = p .before .before .before .before in
+    let l = h .before .loop in
+    let b = h .before .before in
+    let a = entry b in
+    let z = l .inv .1 .sizes in (
+      p .pass-front .kept .1 .1 .1 .1 .1 .1 .1 .1 .0 ∙ l .inv .0,
+      rw add-one (sorting-more _ _ _ _ _ _ _ _ _ _ _ _ (l .inv .1) _ _ _ _ (h .loop-test .taken)
+          (omega (arith, z .order, b .before .before .first-front .kept .1 .1 .0, a .pre .3))
+          (p .pass-front .ensures) (p .pass-front .kept .1 .1 .1 .1 .1 .1 .1 .1 .1 .0) (p .pass-front .kept .1 .1 .1 .1 .1 .1 .1 .1 .1 .1 .0)
+          (omega (arith, l .inv .1 .few, l .inv .1 .within, z .ends, h .loop-test .taken, a .pre .5))),
+    )
+
+same-length : tie.Need-same-length Inv-loop μ-loop
+same-length c = c .before .loop .inv .1 .sizes .order ∙ c .before .before .before .before .first-front .kept .1 .1 .0
+
+same-length-2 : tie.Need-same-length-2 Inv-loop μ-loop
+same-length-2 c = c .before .loop .inv .1 .sizes .ranks
+
+same-length-3 : tie.Need-same-length-3 Inv-loop μ-loop
+same-length-3 c = c .before .loop .inv .1 .sizes .ends
+
+returns : tie.Need-returns Inv-loop μ-loop
+returns c =
+    let l = c .before .loop in
+    let b = c .before .before in
+    let f = b .before .before .first-front in
+    let n = b .before .before .before .before .before .before in
+    let a = entry b in
+    sorting-done _ _ _ _ _ _ _ _ _ _ _ _ (l .inv .1) (flatBeats-strict _ _ _ _ _ (a .pre .1)) (a .pre .4) (a .pre .5) _
+    (first-rest _ _ _ (a .args .order .now) (a .args .rank .now) (a .args .ends .now) (n .count-all .last .1 .1 .1 .1 .1 .0) _ (a .pre .3) (n .count-all .ensures) (f .ensures .0) (f .ensures .1))
+    (c .loop-test .left)
+
+pub fast-non-dominated-sort-constrained-spec : {M : Type 1} → statement M
+fast-non-dominated-sort-constrained-spec =
+    tie.close
+    (tie.spec
+    Inv-loop
+    μ-loop
+    slice-aggregate-count-all
+    count-all-requires
+    slice-aggregate-first-front
+    first-front-requires
+    loop-holds
+    mul-ends
+    slice-write-ends
+    slice-aggregate-pass-front
+    pass-front-requires
+    add-k
+    loop-less
+    loop-again
+    same-length
+    same-length-2
+    same-length-3
+    returns)
