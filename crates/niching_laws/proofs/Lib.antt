@@ -1,0 +1,6 @@
+pub mod Lists
+pub mod Tally
+pub mod Sums
+pub mod Run
+pub mod Least
+pub mod Niched
