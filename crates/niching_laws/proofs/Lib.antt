@@ -4,3 +4,6 @@ pub mod Sums
 pub mod Run
 pub mod Least
 pub mod Niched
+pub mod FloatOrder
+pub mod Choice
+pub mod Picks
