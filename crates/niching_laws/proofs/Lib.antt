@@ -7,3 +7,5 @@ pub mod Niched
 pub mod FloatOrder
 pub mod Choice
 pub mod Picks
+pub mod Procedure
+pub mod Association

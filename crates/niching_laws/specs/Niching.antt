@@ -3,9 +3,11 @@
 use Prim.Native.Nat.{ℕ, zero, suc, _+_, _*_, _≤_, _<_}
 use mathlib.Core.Path.{_≡_}
 use mathlib.Core.List.{List, [], _∷_, _++_}
+use lib.Ieee.{Float}
 use lib.ListN.{length}
 use Rattle.model.specs.Lists.{In, Distinct, sumBelow}
 use Rattle.model.specs.Kept.{nicheCount}
+use Rattle.model.specs.Papers.DebJain2014.{Reached}
 
 -- the setting: different plans in the split front, none of them kept before, each on a line below `lines`
 pub record Split (before front : List ℕ) (line : ℕ → ℕ) (lines : ℕ) : Type 0 where
@@ -72,3 +74,8 @@ pub record Niched (before front : List ℕ) (line : ℕ → ℕ) (lines n : ℕ)
   pub apart : (p : ℕ) → In p picked → In p before → ⊥
   pub balance : Balanced before front line picked
   pub least : Least before front line lines n picked
+
+-- the procedure of Deb and Jain can reach `picked`, with some lines that it no longer considers
+pub record ByProcedure (before front : List ℕ) (line : ℕ → ℕ) (distance : ℕ → Float) (lines : ℕ) (picked : List ℕ) : Type 0 where
+  pub excluded : List ℕ
+  pub reached : Reached before front line distance lines excluded picked
