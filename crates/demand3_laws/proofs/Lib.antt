@@ -1,0 +1,4 @@
+pub mod Counts
+pub mod Fronts
+pub mod Sizes
+pub mod Demand3
