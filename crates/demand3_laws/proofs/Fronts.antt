@@ -13,7 +13,7 @@ use Rattle.model.specs.Lists.{one, In, Distinct, tally, anyBelow, countBelow}
 use Rattle.model.specs.Front.{front, listing}
 use Rattle.model.specs.Papers.Deb2002.{undominatedOfRest, inFirst, inFront}
 use Rattle.demand3_laws.specs.Facts.{FrontFacts}
-use Rattle.demand3_laws.proofs.Counts.{by-bool, one-le, tally-in, in-tally, distinct-tally, Exactly, length-exactly, anyBelow-at}
+use Rattle.demand3_laws.proofs.Counts.{by-bool, Exactly, exactly-of, length-exactly, anyBelow-at}
 
 -- ---- for any d, by the paper's definition
 
@@ -69,17 +69,7 @@ module _ (d : ℕ → ℕ → Bool) (n : ℕ) where
 module _ {d : ℕ → ℕ → Bool} {n : ℕ} (facts : FrontFacts d n) where
   -- the first k fronts
   pub listing-exactly : (k : ℕ) → Exactly (inFirst d n k) n (listing d n k)
-  listing-exactly k =
-      record {
-        distinct = distinct-tally (listing d n k) (λ p m. omega (arith, facts .once k p (facts .below k p m), one-le (inFirst d n k p)));
-        below = facts .below k;
-        passes = λ p m. passed p m (inFirst d n k p) refl;
-        every = λ p h e. in-tally (listing d n k) p (omega (arith, facts .once k p h, ap one e));
-      }
-    where
-      passed : (p : ℕ) → In p (listing d n k) → (b : Bool) → inFirst d n k p ≡ b → inFirst d n k p ≡ true
-      passed p m true e = e
-      passed p m false e = absurd (omega (arith, facts .once k p (facts .below k p m), ap one e, tally-in (λ q. eqb q p) (listing d n k) p m (eq-eqb p p refl)))
+  listing-exactly k = exactly-of (inFirst d n k) n (listing d n k) (facts .below k) (facts .once k)
 
   pub listing-size : (k : ℕ) → length (listing d n k) ≡ countBelow (inFirst d n k) n
   listing-size k = length-exactly (inFirst d n k) n (listing d n k) (listing-exactly k)
