@@ -3,7 +3,7 @@ use Prim.Native.Nat.{ℕ, zero, suc, _+_, _≤_, _<_}
 use mathlib.Core.Path.{_≡_, refl, sym, ap, _∙_}
 use mathlib.Core.Logic.{_⊎_, inl, inr, ⊎-elim, ∥∥₁-elim}
 use mathlib.Core.HLevel.{⊥-prop}
-use mathlib.Core.Bool.{Bool, true, false, cond, not, _&&_, _||_, and-true, and-false, or-true, or-false}
+use mathlib.Core.Bool.{Bool, true, false, cond, not, _&&_, _||_, and-true, and-false, or-true, or-false, false≢true}
 use mathlib.Core.List.{List, [], _∷_, _++_, append-nil, List·Memᴰ·head, List·Memᴰ·tail, List·Memᴰ·not-nil, List·Memᴰ·cases-cons, Memᴰ·cast, nodup-cons, nodup-nil}
 use native.Mathlib.Nat.{add-zero, eq-or-lt-of-le}
 use native.Mathlib.Omega.{arith}
@@ -202,6 +202,16 @@ anyBelow-at f zero k h e = absurd (omega arith)
 anyBelow-at f (suc n) k h e =
     ⊎-elim (λ same. ap (λ b. anyBelow f n || b) (ap f (sym same) ∙ e) ∙ or-true (anyBelow f n))
     (λ less. ap (λ b. b || f n) (anyBelow-at f n k less e)) (eq-or-lt-of-le {n = k} {m = n} (omega arith))
+
+pub anyBelow-some : (f : ℕ → Bool) (n : ℕ) → anyBelow f n ≡ true → (k : ℕ) × (k < n) × (f k ≡ true)
+unfolding anyBelow
+anyBelow-some f zero e = absurd (false≢true e)
+anyBelow-some f (suc n) e = by-bool (anyBelow f n)
+    (λ v. let t = anyBelow-some f n v in (t .0, omega (arith, t .1), t .2))
+    (λ v. (n, omega arith, rw v at e))
+
+pub anyBelow-none : (f : ℕ → Bool) (n : ℕ) → anyBelow f n ≡ false → (k : ℕ) → k < n → f k ≡ false
+anyBelow-none f n e k h = by-bool (f k) (λ v. absurd (false≢true (sym e ∙ anyBelow-at f n k h v))) (λ v. v)
 
 -- there is one just where the count is not 0
 pub any-count : (f : ℕ → Bool) (n : ℕ) → anyBelow f n ≡ not (eqb (countBelow f n) 0)

@@ -17,6 +17,7 @@ use Rattle.model.specs.Demand3.{sizeOfFirst, Split, Filling, finalCount, fillin
 use Rattle.niching_laws.specs.Niching as Niching
 use Rattle.niching_laws.proofs.Tally.{tally-append}
 use Rattle.niching_laws.proofs.Picks.{picks-niched}
+use Rattle.niching_laws.proofs.Procedure.{picks-procedure}
 use Rattle.niching_laws.proofs.Association.{lineOf-inside}
 use Rattle.demand3_laws.specs.Facts.{FrontFacts}
 use Rattle.demand3_laws.proofs.Counts.{by-bool, Exactly, tally-exactly}
@@ -69,6 +70,11 @@ module _ (r : Request) (facts : FrontFacts (dominance r) (r .count)) where
     niched : Niching.Niched (before r) (splitFront r) (lineOf r) (lineCount r) (r .size - length (before r)) (filled r .value)
     unfolding filled
     niched = picks-niched (λ p. association r p .distance) setting (r .size - length (before r)) (r .state) (split-room r facts split)
+
+    -- the picks are those of the paper's procedure
+    pub filled-procedure : Niching.ByProcedure (before r) (splitFront r) (lineOf r) (λ p. association r p .distance) (lineCount r) (filled r .value)
+    unfolding filled
+    filled-procedure = picks-procedure (λ p. association r p .distance) setting (r .size - length (before r)) (r .state) (split-room r facts split)
 
     abbrev list : List ℕ
     list = before r ++ filled r .value

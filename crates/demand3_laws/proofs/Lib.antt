@@ -5,3 +5,4 @@ pub mod Rounds
 pub mod Covered
 pub mod Sizes
 pub mod Demand3
+pub mod Strict
