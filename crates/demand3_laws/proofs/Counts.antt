@@ -10,7 +10,7 @@ use native.Mathlib.Omega.{arith}
 use lib.Dec.{eqb, ltb}
 use lib.ListN.{length}
 use borrow.Author.Tests.{eqb-true, eq-eqb, ne-eqb, ltb-true, ltb-false}
-use Rattle.model.specs.Lists.{one, In, Distinct, tally, anyBelow, countBelow, firstBelow, keepBelow}
+use Rattle.model.specs.Lists.{one, In, Distinct, tally, anyBelow, allBelow, countBelow, firstBelow, keepBelow}
 use Rattle.niching_laws.proofs.Lists.{distinct-snoc, in-keepBelow, keepBelow-in}
 use Rattle.niching_laws.proofs.Tally.{tally-all, tally-append, tally-found, pigeonhole}
 
@@ -220,6 +220,17 @@ any-count f zero = refl
 any-count f (suc n) = by-bool (f n)
     (λ e. rw (e, or-true, ne-eqb (countBelow f n + 1) 0 (λ z. omega arith)))
     (λ e. rw (e, or-false, any-count f n, add-zero))
+
+-- ---- every number below a bound
+
+pub allBelow-at : (f : ℕ → Bool) (n k : ℕ) → k < n → allBelow f n ≡ true → f k ≡ true
+unfolding allBelow
+allBelow-at f zero k h e = absurd (omega arith)
+allBelow-at f (suc n) k h e = go (allBelow f n) refl e (λ l v. allBelow-at f n k l v)
+  where
+    go : (b : Bool) → allBelow f n ≡ b → (b && f n) ≡ true → (k < n → allBelow f n ≡ true → f k ≡ true) → f k ≡ true
+    go true v u ih = ⊎-elim (λ same. ap f same ∙ u) (λ less. ih less v) (eq-or-lt-of-le {n = k} {m = n} (omega arith))
+    go false v u ih = absurd (false≢true u)
 
 -- ---- the first number below a bound
 

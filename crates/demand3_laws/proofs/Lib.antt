@@ -6,3 +6,4 @@ pub mod Covered
 pub mod Sizes
 pub mod Demand3
 pub mod Strict
+pub mod Accepted

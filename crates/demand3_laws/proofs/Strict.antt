@@ -51,13 +51,13 @@ module _ (m : ℕ) where
       let t = dominates-better a b e in
       let u = dominates-better b c f in
       better-dominates a c (
-        record {
-          nowhere = λ j h. by-bool (lt (c j) (a j))
-              (λ k. absurd (true≢false (sym (lt-past (c j) (a j) (b j) k (t .nowhere j h) (real-b j h)) ∙ u .nowhere j h))) (λ k. k);
-          place = t .place;
-          inside = t .inside;
-          better = lt-past (a (t .place)) (b (t .place)) (c (t .place)) (t .better) (u .nowhere (t .place) (t .inside)) (real-c (t .place) (t .inside));
-        }
+      record {
+        nowhere = λ j h. by-bool (lt (c j) (a j))
+            (λ k. absurd (true≢false (sym (lt-past (c j) (a j) (b j) k (t .nowhere j h) (real-b j h)) ∙ u .nowhere j h))) (λ k. k);
+        place = t .place;
+        inside = t .inside;
+        better = lt-past (a (t .place)) (b (t .place)) (c (t .place)) (t .better) (u .nowhere (t .place) (t .inside)) (real-c (t .place) (t .inside));
+      }
       )
 
 -- ---- by feasibility
