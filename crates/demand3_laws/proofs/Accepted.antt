@@ -81,15 +81,21 @@ allIn-at f [] j e h = absurd (omega arith)
 allIn-at f (x ∷ l) zero e h = and-left (f x) (allIn f l) e
 allIn-at f (x ∷ l) (suc j) e h = allIn-at f l j (and-right (f x) (allIn f l) e) (omega arith)
 
+-- ---- what each refusal rules out
+
+pub some-objectives : (marks : List ℕ) → badDirections marks ≡ false → (1 ≤ length marks) × (length marks ≤ 8)
+unfolding badDirections
+some-objectives marks h =
+    let e = not-false _ (or-left _ _ h) in
+    (leb-true 1 (length marks) (and-left _ _ e), leb-true (length marks) 8 (and-right (leb 1 (length marks)) _ e))
+
+pub pool-plan : (r : Request) → badPool r ≡ false → (p : ℕ) → p < r .count → goodPlan (objectives r) (r .plans p) ≡ true
+unfolding badPool
+pool-plan r e p h = allBelow-at (λ p. goodPlan (objectives r) (r .plans p)) (r .count) p h (and-left _ _ (not-false _ e))
+
 -- ---- an accepted request
 
 module _ (r : Request) (accepted : Accepted r) where
-  some-objectives : (1 ≤ objectives r) × (objectives r ≤ 8)
-  unfolding badDirections
-  some-objectives =
-      let e = not-false _ (or-left _ _ (accepted .directions)) in
-      (leb-true 1 (objectives r) (and-left _ _ e), leb-true (objectives r) 8 (and-right (leb 1 (objectives r)) _ e))
-
   some-divisions : (1 ≤ r .divisions) × (r .divisions ≤ 199)
   unfolding badDivisions
   some-divisions =
@@ -97,17 +103,15 @@ module _ (r : Request) (accepted : Accepted r) where
       (leb-true 1 (r .divisions) (and-left _ _ e), leb-true (r .divisions) 199 (and-right (leb 1 (r .divisions)) _ e))
 
   pub accepted-lines : 0 < lineCount r
-  accepted-lines = points-some (objectives r) (r .divisions) (some-objectives .0) (some-objectives .1) (some-divisions .0) (some-divisions .1)
-
-  pub good-plan : (p : ℕ) → p < r .count → goodPlan (objectives r) (r .plans p) ≡ true
-  unfolding badPool
-  good-plan p h = allBelow-at (λ p. goodPlan (objectives r) (r .plans p)) (r .count) p h (and-left _ _ (not-false _ (accepted .pool)))
+  accepted-lines =
+      let m = some-objectives (r .marks) (accepted .directions) in
+      points-some (objectives r) (r .divisions) (m .0) (m .1) (some-divisions .0) (some-divisions .1)
 
   row-measurable : (p : ℕ) → p < r .count → allIn measurable (r .plans p .row) ≡ true
   unfolding goodPlan
   row-measurable p h =
       let plan = r .plans p in
-      third (eqb (plan .rowLength) (objectives r)) (leb (plan .constraintCount) maxConstraints) (allIn measurable (plan .row)) (allIn measurable (plan .constraints)) (good-plan p h)
+      third (eqb (plan .rowLength) (objectives r)) (leb (plan .constraintCount) maxConstraints) (allIn measurable (plan .row)) (allIn measurable (plan .constraints)) (pool-plan r (accepted .pool) p h)
     where
       third : (a b c d : Bool) → (a && (b && (c && d))) ≡ true → c ≡ true
       third a b c d e = and-left c d (and-right b (c && d) (and-right a (b && (c && d)) e))

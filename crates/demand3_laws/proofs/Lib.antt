@@ -7,3 +7,4 @@ pub mod Sizes
 pub mod Demand3
 pub mod Strict
 pub mod Accepted
+pub mod Calls
