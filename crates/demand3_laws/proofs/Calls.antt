@@ -9,12 +9,14 @@ use lib.Dec.{eqb, ltb}
 use lib.ListN.{length, getD, take, drop, length-append, length-take}
 use lib.Seq.{take-at}
 use borrow.Author.Tests.{eqb-true, le-ltb}
+use Rattle.model.specs.declared.Distribution.{Distribution}
+use Rattle.model.specs.declared.Rng.{Rng}
 use Rattle.model.specs.Lists.{listBelow, over}
 use Rattle.model.specs.Plan.{Plan, planOf, planAt, maxValues}
 use Rattle.model.specs.Association.{Request, objectives}
 use Rattle.model.specs.Kept.{selected}
 use Rattle.model.specs.Setting.{Operators, generation, generationOf}
-use Rattle.model.specs.Session.{State, breeds, requestOf, operatorsOf}
+use Rattle.model.specs.Session.{State, recordOf, breeds, requestOf, operatorsOf}
 use Rattle.model.specs.Property.{SessionOk}
 use Rattle.model.specs.Refusal.{Check, check, firstOf, Room, badDirections, badDivisions, goodPlan, badPool, selectRefusal, stepRefusal, sampleRefusal}
 use Rattle.model.specs.Demand3.{Demand3}
@@ -25,7 +27,7 @@ use Rattle.demand3_laws.proofs.Accepted.{and-left, some-objectives, poo
 
 -- ---- where no refusal is given, none of the numbers applies
 
-not-some : {A : Type 0} (a : A) → some a ≡ none → ⊥
+pub not-some : {A : Type 0} (a : A) → some a ≡ none → ⊥
 not-some a e = let z : _≡_ {A = ℕ} 0 1 = cc in omega arith
 
 not-given : (c : Check) (cs : List Check) → firstOf (c ∷ cs) ≡ none → (c .applies ≡ false) × (firstOf cs ≡ none)
@@ -36,7 +38,7 @@ not-given c cs e = go (c .applies) refl e
     go true h k = absurd (not-some (c .number) k)
     go false h k = (h, k)
 
-applies-not : {c : Check} {cs : List Check} → List·Memᴰ c cs → firstOf cs ≡ none → c .applies ≡ false
+pub applies-not : {c : Check} {cs : List Check} → List·Memᴰ c cs → firstOf cs ≡ none → c .applies ≡ false
 applies-not (List·Memᴰ·head {x = c′} {xs = cs} e) h = ap (λ (k : Check). k .applies) e ∙ not-given c′ cs h .0
 applies-not (List·Memᴰ·tail {x = c′} {xs = cs} m) h = applies-not m (not-given c′ cs h .1)
 
@@ -110,3 +112,26 @@ module _ (r : Request) (words : InWords r) where
       go : stepRefusal o r (roomOf entry) (length offspring) ≡ none → Demand3 r (generation o r .kept)
           → Demand3 r (handedOut (stepOf o r entry offspring .answer .outcome) (stepOf o r entry offspring .slices .kept))
       go e d = rw e (subst (Demand3 r) (handed-out (generation o r .kept) (entry .kept) (length (generation o r .kept)) refl) d)
+
+-- ---- `sample`
+
+pub sample-demand3 : (st : State) (d : Distribution) (plan : ℕ) (history : List ℕ) → SessionOk st → sampleRefusal st d plan history ≡ none → breeds st history ≡ true
+    → Demand3 (requestOf st history) (generation (operatorsOf (st .session)) (requestOf st history) .kept)
+unfolding sampleRefusal
+sample-demand3 st d plan history ok e bred =
+    subst (Demand3 r) (sym (generation-kept r words (operatorsOf (st .session)) (omega (arith, ok .config .atLeast4))))
+    (demand3 r (word-accepted r words (ok .config .directions) divisions pool) (omega arith))
+  where
+    r : Request
+    r = requestOf st history
+
+    words : InWords r
+    words p = planAt-row history (recordOf history (getD (st .plans) p 0))
+
+    divisions : badDivisions (objectives r) (r .divisions) ≡ false
+    divisions =
+        let all : objectives r ≡ st .session .config .«n_obj» = omega (arith, length-take (st .session .config .«n_obj») (st .session .config .directions), ok .config .objectives) in
+        rw all (ok .config .divisions)
+
+    pool : badPool r ≡ false
+    pool = rw bred at (applies-not (List·Memᴰ·tail (List·Memᴰ·tail (List·Memᴰ·head refl))) e)

@@ -8,3 +8,4 @@ pub mod Demand3
 pub mod Strict
 pub mod Accepted
 pub mod Calls
+pub mod PoolFile
