@@ -1,0 +1,131 @@
+-- DEMAND 3 of every accepted request from a pool of at least the size wanted: there is a line, and no value is a NaN.
+use Prim.Native.Nat.{ℕ, zero, suc, _-_, _≤_, _<_}
+use mathlib.Core.Path.{_≡_, refl, sym, ap, _∙_}
+use mathlib.Core.Bool.{Bool, true, false, not, _&&_, _||_, true≢false, false≢true}
+use mathlib.Core.List.{List, [], _∷_}
+use native.Mathlib.Omega.{arith}
+use lib.Dec.{eqb, leb, ltb}
+use lib.Ieee.{Float, nan, inf, fin, lt, eq, le, neg, isNan}
+use lib.ListN.{length, getD}
+use borrow.Author.Tests.{leb-true, ltb-true, not-false}
+use Rattle.model.specs.declared.Direction.{Direction}
+use Rattle.model.specs.declared.Direction.the-variants.{Minimize, Maximize}
+use Rattle.model.specs.Lists.{allBelow, allIn}
+use Rattle.model.specs.Reference.{binomial, pointCount}
+use Rattle.model.specs.Plan.{maxConstraints}
+use Rattle.model.specs.Row.{directionOf, toMinimize, rowOf}
+use Rattle.model.specs.Association.{Request, objectives, lineCount, valueOf, association, lineOf}
+use Rattle.model.specs.Kept.{before, isSplit, splitFront, filled, selected}
+use Rattle.model.specs.Refusal.{badDirections, outsideDivisions, badDivisions, measurable, goodPlan, goodIdeal, badPool}
+use Rattle.model.specs.Demand3.{Demand3}
+use Rattle.niching_laws.specs.Niching.{ByProcedure}
+use Rattle.demand3_laws.specs.Facts.{Accepted}
+use Rattle.demand3_laws.proofs.Counts.{by-bool, allBelow-at}
+use Rattle.demand3_laws.proofs.Covered.{front-facts}
+use Rattle.demand3_laws.proofs.Strict.{dominance-strict}
+use Rattle.demand3_laws.proofs.Demand3.{demand3-facts, filled-procedure}
+
+-- ---- tests joined
+
+or-left : (a b : Bool) → (a || b) ≡ false → a ≡ false
+or-left true b e = absurd (true≢false e)
+or-left false b e = refl
+
+pub and-left : (a b : Bool) → (a && b) ≡ true → a ≡ true
+and-left true b e = refl
+and-left false b e = absurd (false≢true e)
+
+pub and-right : (a b : Bool) → (a && b) ≡ true → b ≡ true
+and-right true b e = e
+and-right false b e = absurd (false≢true e)
+
+-- ---- a line at least: the point count is not 0 for 1 to 8 objectives and 1 to 199 divisions, by computation
+
+abbrev some-lines : ℕ → ℕ → Bool
+some-lines h m = ltb 0 (pointCount (suc m) (suc h))
+
+lines-table : allBelow (λ h. allBelow (some-lines h) 8) 199 ≡ true
+unfolding allBelow pointCount binomial
+lines-table = refl
+
+points-some : (m h : ℕ) → 1 ≤ m → m ≤ 8 → 1 ≤ h → h ≤ 199 → 0 < pointCount m h
+points-some zero h a b c e = absurd (omega arith)
+points-some (suc m) zero a b c e = absurd (omega arith)
+points-some (suc m) (suc h) a b c e =
+    ltb-true 0 (pointCount (suc m) (suc h)) (allBelow-at (some-lines h) 8 m (omega arith) (allBelow-at (λ h. allBelow (some-lines h) 8) 199 h (omega arith) lines-table))
+
+-- ---- no value is a NaN
+
+le-nan : (x : Float) → le x nan ≡ false
+unfolding le lt eq
+le-nan nan = refl
+le-nan (inf s) = refl
+le-nan (fin s m e) = refl
+
+measurable-real : (x : Float) → measurable x ≡ true → isNan x ≡ false
+unfolding measurable isNan
+measurable-real nan e = absurd (false≢true (sym (le-nan _) ∙ and-left _ _ e))
+measurable-real (inf s) e = refl
+measurable-real (fin s m d) e = refl
+
+minimize-real : (d : Direction) (x : Float) → isNan x ≡ false → isNan (toMinimize d x) ≡ false
+unfolding neg isNan
+minimize-real Minimize x e = e
+minimize-real Maximize nan e = e
+minimize-real Maximize (inf s) e = refl
+minimize-real Maximize (fin s m d) e = refl
+
+allIn-at : (f : Float → Bool) (l : List Float) (j : ℕ) → allIn f l ≡ true → j < length l → f (getD l j nan) ≡ true
+unfolding allIn
+allIn-at f [] j e h = absurd (omega arith)
+allIn-at f (x ∷ l) zero e h = and-left (f x) (allIn f l) e
+allIn-at f (x ∷ l) (suc j) e h = allIn-at f l j (and-right (f x) (allIn f l) e) (omega arith)
+
+-- ---- what each refusal rules out
+
+pub some-objectives : (marks : List ℕ) → badDirections marks ≡ false → (1 ≤ length marks) × (length marks ≤ 8)
+unfolding badDirections
+some-objectives marks h =
+    let e = not-false _ (or-left _ _ h) in
+    (leb-true 1 (length marks) (and-left _ _ e), leb-true (length marks) 8 (and-right (leb 1 (length marks)) _ e))
+
+pub pool-plan : (r : Request) → badPool r ≡ false → (p : ℕ) → p < r .count → goodPlan (objectives r) (r .plans p) ≡ true
+unfolding badPool
+pool-plan r e p h = allBelow-at (λ p. goodPlan (objectives r) (r .plans p)) (r .count) p h (and-left _ _ (not-false _ e))
+
+-- ---- an accepted request
+
+module _ (r : Request) (accepted : Accepted r) where
+  some-divisions : (1 ≤ r .divisions) × (r .divisions ≤ 199)
+  unfolding badDivisions
+  some-divisions =
+      let e = not-false _ (or-left _ _ (accepted .divisions)) in
+      (leb-true 1 (r .divisions) (and-left _ _ e), leb-true (r .divisions) 199 (and-right (leb 1 (r .divisions)) _ e))
+
+  pub accepted-lines : 0 < lineCount r
+  accepted-lines =
+      let m = some-objectives (r .marks) (accepted .directions) in
+      points-some (objectives r) (r .divisions) (m .0) (m .1) (some-divisions .0) (some-divisions .1)
+
+  row-measurable : (p : ℕ) → p < r .count → allIn measurable (r .plans p .row) ≡ true
+  unfolding goodPlan
+  row-measurable p h =
+      let plan = r .plans p in
+      third (eqb (plan .rowLength) (objectives r)) (leb (plan .constraintCount) maxConstraints) (allIn measurable (plan .row)) (allIn measurable (plan .constraints)) (pool-plan r (accepted .pool) p h)
+    where
+      third : (a b c d : Bool) → (a && (b && (c && d))) ≡ true → c ≡ true
+      third a b c d e = and-left c d (and-right b (c && d) (and-right a (b && (c && d)) e))
+
+  pub values-real : (p j : ℕ) → p < r .count → j < objectives r → isNan (valueOf r p j) ≡ false
+  unfolding rowOf
+  values-real p j h k =
+      minimize-real (directionOf (getD (r .marks) j 0)) (getD (r .plans p .row) j nan)
+      (measurable-real _ (allIn-at measurable (r .plans p .row) j (row-measurable p h) (omega (arith, accepted .rows p h))))
+
+  -- THE THEOREM, split or not
+  pub demand3 : r .size ≤ r .count → Demand3 r (selected r .kept)
+  demand3 enough = demand3-facts r (front-facts (dominance-strict r values-real)) enough accepted-lines
+
+  -- and where a front is split, the plans picked from it are those of the paper's niching procedure
+  pub niching-procedure : isSplit r ≡ true → ByProcedure (before r) (splitFront r) (lineOf r) (λ p. association r p .distance) (lineCount r) (filled r .value)
+  niching-procedure split = filled-procedure r (front-facts (dominance-strict r values-real)) accepted-lines split

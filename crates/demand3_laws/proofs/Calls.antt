@@ -1,0 +1,137 @@
+-- DEMAND 3 as the public calls promise it: a call that is not refused hands out a kept list that meets it.
+use Prim.Native.Nat.{ℕ, zero, suc, _≤_, _<_, min}
+use mathlib.Core.Path.{_≡_, refl, sym, ap, _∙_, subst}
+use mathlib.Core.Bool.{Bool, true, false, cond, _&&_, true≢false, false≢true}
+use mathlib.Core.List.{List, [], _∷_, _++_, map, List·Memᴰ, List·Memᴰ·head, List·Memᴰ·tail}
+use mathlib.Core.Option.{Option, none, some}
+use native.Mathlib.Omega.{arith}
+use lib.Dec.{eqb, ltb}
+use lib.ListN.{length, getD, take, drop, length-append, length-take}
+use lib.Seq.{take-at}
+use borrow.Author.Tests.{eqb-true, le-ltb}
+use Rattle.model.specs.declared.Distribution.{Distribution}
+use Rattle.model.specs.declared.Rng.{Rng}
+use Rattle.model.specs.Lists.{listBelow, over}
+use Rattle.model.specs.Plan.{Plan, planOf, planAt, maxValues}
+use Rattle.model.specs.Association.{Request, objectives}
+use Rattle.model.specs.Kept.{selected}
+use Rattle.model.specs.Setting.{Operators, generation, generationOf}
+use Rattle.model.specs.Session.{State, recordOf, breeds, requestOf, operatorsOf}
+use Rattle.model.specs.Property.{SessionOk}
+use Rattle.model.specs.Refusal.{Check, check, firstOf, Room, badDirections, badDivisions, goodPlan, badPool, selectRefusal, stepRefusal, sampleRefusal}
+use Rattle.model.specs.Demand3.{Demand3}
+use Rattle.model.specs.Calls.{Lent, roomOf, handedOut, selectAccepted, selectOf, Selects, stepAccepted, stepOf, Steps}
+use Rattle.demand3_laws.specs.Facts.{Accepted}
+use Rattle.demand3_laws.proofs.Counts.{by-bool, allBelow-at}
+use Rattle.demand3_laws.proofs.Accepted.{and-left, some-objectives, pool-plan, demand3}
+
+-- ---- where no refusal is given, none of the numbers applies
+
+pub not-some : {A : Type 0} (a : A) → some a ≡ none → ⊥
+not-some a e = let z : _≡_ {A = ℕ} 0 1 = cc in omega arith
+
+not-given : (c : Check) (cs : List Check) → firstOf (c ∷ cs) ≡ none → (c .applies ≡ false) × (firstOf cs ≡ none)
+unfolding firstOf
+not-given c cs e = go (c .applies) refl e
+  where
+    go : (b : Bool) → c .applies ≡ b → cond b (some (c .number)) (firstOf cs) ≡ none → (c .applies ≡ false) × (firstOf cs ≡ none)
+    go true h k = absurd (not-some (c .number) k)
+    go false h k = (h, k)
+
+pub applies-not : {c : Check} {cs : List Check} → List·Memᴰ c cs → firstOf cs ≡ none → c .applies ≡ false
+applies-not (List·Memᴰ·head {x = c′} {xs = cs} e) h = ap (λ (k : Check). k .applies) e ∙ not-given c′ cs h .0
+applies-not (List·Memᴰ·tail {x = c′} {xs = cs} m) h = applies-not m (not-given c′ cs h .1)
+
+-- ---- plans that lie in a slice of words have as many values as they claim, up to 8
+
+-- a request whose plans lie in a slice of words
+abbrev pub InWords : Request → Type 0
+InWords r = (p : ℕ) → length (r .plans p .row) ≡ min (r .plans p .rowLength) maxValues
+
+length-listBelow : {A : Type 0} (f : ℕ → A) (n : ℕ) → length (listBelow f n) ≡ n
+unfolding listBelow
+length-listBelow f zero = refl
+length-listBelow f (suc n) = omega (arith, length-append (listBelow f n) (f n ∷ []), length-listBelow f n)
+
+pub planAt-row : (words : List ℕ) (p : ℕ) → length (planAt words p .row) ≡ min (planAt words p .rowLength) maxValues
+unfolding planOf
+planAt-row words p = length-listBelow _ (min (planAt words p .rowLength) maxValues)
+
+word-accepted : (r : Request) → InWords r → badDirections (r .marks) ≡ false → badDivisions (objectives r) (r .divisions) ≡ false → badPool r ≡ false
+    → Accepted r
+unfolding goodPlan
+word-accepted r words directions divisions pool =
+    record {
+      directions = directions;
+      divisions = divisions;
+      pool = pool;
+      rows = λ p h.
+          let m = some-objectives (r .marks) directions .1 in
+          let same = eqb-true (r .plans p .rowLength) (objectives r) (and-left _ _ (pool-plan r pool p h)) in
+          omega (arith, words p);
+    }
+
+-- what is handed out of a slice whose front holds the kept list
+handed-out : (kept old : List ℕ) (n : ℕ) → length kept ≡ n → kept ≡ take n (over kept old)
+handed-out kept old n e = sym (take-at kept (drop (length kept) old) n e)
+
+-- ---- `nsga3_select`
+
+module _ (r : Request) (words : InWords r) where
+  select-accepted : (room : Room) → selectRefusal r room ≡ none → Accepted r
+  unfolding selectRefusal
+  select-accepted room e =
+      word-accepted r words (applies-not (List·Memᴰ·head refl) e) (applies-not (List·Memᴰ·tail (List·Memᴰ·tail (List·Memᴰ·head refl))) e)
+      (applies-not (List·Memᴰ·tail (List·Memᴰ·tail (List·Memᴰ·tail (List·Memᴰ·tail (List·Memᴰ·head refl))))) e)
+
+  pub selects : (entry : Lent) → Selects r entry (selectOf r entry)
+  unfolding selectOf selectAccepted
+  selects entry = record { whole = refl; demand3 = λ e enough. go e (demand3 r (select-accepted (roomOf entry) e) enough) }
+    where
+      go : selectRefusal r (roomOf entry) ≡ none → Demand3 r (selected r .kept)
+          → Demand3 r (handedOut (selectOf r entry .answer .outcome) (selectOf r entry .slices .kept))
+      go e d = rw e (subst (Demand3 r) (handed-out (selected r .kept) (entry .kept) (r .size) (d .exactly)) d)
+
+  -- ---- `nsga3_generate_offspring`
+
+  step-accepted : (o : Operators) (room : Room) (offspring : ℕ) → stepRefusal o r room offspring ≡ none → Accepted r
+  unfolding stepRefusal
+  step-accepted o room offspring e =
+      word-accepted r words (applies-not (List·Memᴰ·head refl) e) (applies-not (List·Memᴰ·tail (List·Memᴰ·tail (List·Memᴰ·head refl))) e)
+      (applies-not (List·Memᴰ·tail (List·Memᴰ·tail (List·Memᴰ·tail (List·Memᴰ·tail (List·Memᴰ·tail (List·Memᴰ·tail (List·Memᴰ·head refl))))))) e)
+
+  -- a step from two plans on keeps what a selection keeps
+  generation-kept : (o : Operators) → 2 ≤ r .count → generation o r .kept ≡ selected r .kept
+  unfolding generation generationOf
+  generation-kept o h = rw (le-ltb (r .count) 2 h)
+
+  pub steps : (o : Operators) (entry : Lent) (offspring : List ℕ) → Steps o r entry offspring (stepOf o r entry offspring)
+  unfolding stepOf stepAccepted
+  steps o entry offspring = record { whole = refl; demand3 = λ e two enough. go e (subst (Demand3 r) (sym (generation-kept o two)) (demand3 r (step-accepted o (roomOf entry) (length offspring) e) enough)) }
+    where
+      go : stepRefusal o r (roomOf entry) (length offspring) ≡ none → Demand3 r (generation o r .kept)
+          → Demand3 r (handedOut (stepOf o r entry offspring .answer .outcome) (stepOf o r entry offspring .slices .kept))
+      go e d = rw e (subst (Demand3 r) (handed-out (generation o r .kept) (entry .kept) (length (generation o r .kept)) refl) d)
+
+-- ---- `sample`
+
+pub sample-demand3 : (st : State) (d : Distribution) (plan : ℕ) (history : List ℕ) → SessionOk st → sampleRefusal st d plan history ≡ none → breeds st history ≡ true
+    → Demand3 (requestOf st history) (generation (operatorsOf (st .session)) (requestOf st history) .kept)
+unfolding sampleRefusal
+sample-demand3 st d plan history ok e bred =
+    subst (Demand3 r) (sym (generation-kept r words (operatorsOf (st .session)) (omega (arith, ok .config .atLeast4))))
+    (demand3 r (word-accepted r words (ok .config .directions) divisions pool) (omega arith))
+  where
+    r : Request
+    r = requestOf st history
+
+    words : InWords r
+    words p = planAt-row history (recordOf history (getD (st .plans) p 0))
+
+    divisions : badDivisions (objectives r) (r .divisions) ≡ false
+    divisions =
+        let all : objectives r ≡ st .session .config .«n_obj» = omega (arith, length-take (st .session .config .«n_obj») (st .session .config .directions), ok .config .objectives) in
+        rw all (ok .config .divisions)
+
+    pool : badPool r ≡ false
+    pool = rw bred at (applies-not (List·Memᴰ·tail (List·Memᴰ·tail (List·Memᴰ·head refl))) e)

@@ -1,0 +1,168 @@
+-- DEMAND 3 of every selection from a pool of at least the size wanted, where a front is split and where none is.
+use Prim.Native.Nat.{ℕ, suc, _+_, _-_, _≤_, _<_}
+use mathlib.Core.Path.{_≡_, refl, sym, ap, _∙_, subst, fun-ext}
+use mathlib.Core.Logic.{_⊎_, inl, inr, ⊎-elim, ∥∥₁-elim}
+use mathlib.Core.HLevel.{⊥-prop}
+use mathlib.Core.Bool.{Bool, true, false, _&&_, true≢false}
+use mathlib.Core.List.{List, _++_, Memᴰ·append-left, Memᴰ·append-right, List·Memᴰ·append-cases, nodup-append}
+use native.Mathlib.Omega.{arith}
+use lib.Dec.{eqb}
+use lib.ListN.{length, length-append}
+use Rattle.model.specs.Lists.{In, Distinct, countBelow, tally}
+use Rattle.model.specs.Front.{front}
+use Rattle.model.specs.Papers.Deb2002.{inFirst, inFront}
+use Rattle.model.specs.Association.{Request, dominance, lineCount, association, lineOf}
+use Rattle.model.specs.Kept.{nicheCount, wholeFronts, before, isSplit, splitFront, filled, selected}
+use Rattle.model.specs.Demand3.{sizeOfFirst, Split, Filling, finalCount, fillingCount, sumOfSquares, Served, Waits, Demand3}
+use Rattle.niching_laws.specs.Niching as Niching
+use Rattle.niching_laws.proofs.Tally.{tally-append}
+use Rattle.niching_laws.proofs.Picks.{picks-niched}
+use Rattle.niching_laws.proofs.Procedure.{picks-procedure}
+use Rattle.niching_laws.proofs.Association.{lineOf-inside}
+use Rattle.demand3_laws.specs.Facts.{FrontFacts}
+use Rattle.demand3_laws.proofs.Counts.{by-bool, Exactly, tally-exactly}
+use Rattle.demand3_laws.proofs.Fronts.{inFirst-more, inFront-new, inFront-first, dominators-first, listing-exactly, front-exactly}
+use Rattle.demand3_laws.proofs.Sizes.{sizeOf-len, split-room, split-short, split-kept, split-only, whole-fill, whole-kept, whole-none}
+
+module _ (r : Request) (facts : FrontFacts (dominance r) (r .count)) where
+  -- the whole fronts and the split front, as lists of the paper's members
+  before-exactly : Exactly (inFirst (dominance r) (r .count) (wholeFronts r)) (r .count) (before r)
+  unfolding before
+  before-exactly = listing-exactly facts (wholeFronts r)
+
+  split-exactly : Exactly (inFront (dominance r) (r .count) (wholeFronts r)) (r .count) (splitFront r)
+  unfolding splitFront
+  split-exactly = front-exactly facts (wholeFronts r)
+
+  -- a plan that dominates one of the whole fronts, or of the front after them, is in a whole front
+  better-before : (p q : ℕ) → inFirst (dominance r) (r .count) (suc (wholeFronts r)) p ≡ true → q < r .count → dominance r q p ≡ true → In q (before r)
+  better-before p q e h dom = before-exactly .every q h (dominators-first (dominance r) (r .count) (wholeFronts r) p q e h dom)
+
+  -- ---- no front is split
+
+  module _ (enough : r .size ≤ r .count) (whole : isSplit r ≡ false) where
+    whole-demand : Demand3 r (before r)
+    whole-demand =
+        record {
+          listed = sym (whole-kept r facts enough whole);
+          inPool = before-exactly .below;
+          distinct = before-exactly .distinct;
+          exactly = whole-fill r facts enough whole;
+          noneBetter = λ p q m h away. by-bool (dominance r q p)
+              (λ dom. absurd (away (better-before p q (inFirst-more (dominance r) (r .count) (wholeFronts r) p (before-exactly .passes p m)) h dom)))
+              (λ e. e);
+          whole = λ k s. absurd (whole-none r facts enough whole k s);
+          least = λ k s. absurd (whole-none r facts enough whole k s);
+          balanced = λ k s. absurd (whole-none r facts enough whole k s);
+        }
+
+  -- ---- a front is split
+
+  module _ (some : 0 < lineCount r) (split : isSplit r ≡ true) where
+    setting : Niching.Split (before r) (splitFront r) (lineOf r) (lineCount r)
+    setting =
+        record {
+          distinct = split-exactly .distinct;
+          apart = λ p m i. true≢false (sym (before-exactly .passes p i) ∙ inFront-new (dominance r) (r .count) (wholeFronts r) p (split-exactly .passes p m));
+          inside = λ p _. lineOf-inside r p some;
+        }
+
+    niched : Niching.Niched (before r) (splitFront r) (lineOf r) (lineCount r) (r .size - length (before r)) (filled r .value)
+    unfolding filled
+    niched = picks-niched (λ p. association r p .distance) setting (r .size - length (before r)) (r .state) (split-room r facts split)
+
+    -- the picks are those of the paper's procedure
+    pub filled-procedure : Niching.ByProcedure (before r) (splitFront r) (lineOf r) (λ p. association r p .distance) (lineCount r) (filled r .value)
+    unfolding filled
+    filled-procedure = picks-procedure (λ p. association r p .distance) setting (r .size - length (before r)) (r .state) (split-room r facts split)
+
+    abbrev list : List ℕ
+    list = before r ++ filled r .value
+
+    -- a kept plan is of a whole front, or picked from the split one
+    kept-cases : (p : ℕ) → In p list → In p (before r) ⊎ In p (splitFront r)
+    kept-cases p m = ⊎-elim (λ i. inl i) (λ i. inr (niched .fills .members p i)) (List·Memᴰ·append-cases (before r) m)
+
+    kept-first : (p : ℕ) → In p list → inFirst (dominance r) (r .count) (suc (wholeFronts r)) p ≡ true
+    kept-first p m =
+        ⊎-elim (λ i. inFirst-more (dominance r) (r .count) (wholeFronts r) p (before-exactly .passes p i))
+        (λ i. inFront-first (dominance r) (r .count) (wholeFronts r) p (split-exactly .passes p i)) (kept-cases p m)
+
+    list-distinct : Distinct list
+    list-distinct =
+        nodup-append .1 (
+          before-exactly .distinct,
+          niched .fills .distinct,
+          λ p m i. ∥∥₁-elim m ⊥-prop (λ m′. ∥∥₁-elim i ⊥-prop (λ i′. niched .apart p i′ m′)),
+        )
+
+    -- another filling, and the counts that it gives
+    other-filling : (filling : List ℕ) → Filling r (wholeFronts r) filling → Niching.Filling (splitFront r) (r .size - length (before r)) filling
+    unfolding before
+    other-filling filling f =
+        record {
+          size = f .places ∙ ap (λ (k : ℕ). r .size - k) (sizeOf-len r facts (wholeFronts r));
+          distinct = f .different;
+          members = λ p m. split-exactly .every p (f .inPool p m) (f .fromFront p m);
+        }
+
+    other-counts : (filling : List ℕ) → nicheCount (lineOf r) (before r ++ filling) ≡ fillingCount r (wholeFronts r) filling
+    other-counts filling =
+        fun-ext (λ l.
+        tally-append (λ p. eqb (lineOf r p) l) (before r) filling
+        ∙ ap (λ (k : ℕ). k + finalCount r filling l)
+        (tally-exactly (λ p. eqb (lineOf r p) l) (inFirst (dominance r) (r .count) (wholeFronts r)) (r .count) (before r) before-exactly))
+
+    least-here : (filling : List ℕ) → Filling r (wholeFronts r) filling → sumOfSquares r (finalCount r list) ≤ sumOfSquares r (fillingCount r (wholeFronts r) filling)
+    least-here filling f =
+        subst (λ (c : ℕ → ℕ). sumOfSquares r (finalCount r list) ≤ sumOfSquares r c) (other-counts filling) (niched .least filling (other-filling filling f))
+
+    -- lines served and lines with a plan waiting
+    served : (l : ℕ) → Served r (wholeFronts r) list l → Niching.Served (lineOf r) (filled r .value) l
+    served l s =
+        record {
+          plan = s .plan;
+          listed = ⊎-elim
+              (λ i. absurd (true≢false (sym (before-exactly .passes (s .plan) i) ∙ inFront-new (dominance r) (r .count) (wholeFronts r) (s .plan) (s .fromFront))))
+              (λ i. i) (List·Memᴰ·append-cases (before r) (s .kept));
+          onLine = s .onLine;
+        }
+
+    waited : (w : ℕ) → Waits r (wholeFronts r) list w → Niching.Waited (lineOf r) (splitFront r) (filled r .value) w
+    waited w s =
+        record {
+          plan = s .plan;
+          waits = record {
+            member = split-exactly .every (s .plan) (s .inPool) (s .fromFront);
+            unpicked = λ m. s .dropped (Memᴰ·append-right (before r) m);
+          };
+          onLine = s .onLine;
+        }
+
+    balanced-here : (l w : ℕ) → Served r (wholeFronts r) list l → Waits r (wholeFronts r) list w → finalCount r list l ≤ suc (finalCount r list w)
+    balanced-here l w s t = omega (arith, niched .balance l w (served l s) (waited w t))
+
+    split-demand : Demand3 r list
+    split-demand =
+        record {
+          listed = sym (split-kept r facts split);
+          inPool = λ p m. ⊎-elim (before-exactly .below p) (split-exactly .below p) (kept-cases p m);
+          distinct = list-distinct;
+          exactly = omega (arith, length-append (before r) (filled r .value), niched .fills .size, split-short r facts split);
+          noneBetter = λ p q m h away. by-bool (dominance r q p)
+              (λ dom. absurd (away (Memᴰ·append-left (filled r .value) (better-before p q (kept-first p m) h dom))))
+              (λ e. e);
+          whole = λ k s p h e. Memᴰ·append-left (filled r .value)
+              (before-exactly .every p h (subst (λ (j : ℕ). inFirst (dominance r) (r .count) j p ≡ true) (split-only r facts split k s) e));
+          least = λ k s filling f. subst (λ (j : ℕ). sumOfSquares r (finalCount r list) ≤ sumOfSquares r (fillingCount r j filling)) (sym (split-only r facts split k s))
+              (least-here filling (subst (λ (j : ℕ). Filling r j filling) (split-only r facts split k s) f));
+          balanced = λ k s l w a b. balanced-here l w
+              (subst (λ (j : ℕ). Served r j list l) (split-only r facts split k s) a) (subst (λ (j : ℕ). Waits r j list w) (split-only r facts split k s) b);
+        }
+
+  -- ---- both
+
+  pub demand3-facts : r .size ≤ r .count → 0 < lineCount r → Demand3 r (selected r .kept)
+  demand3-facts enough some = by-bool (isSplit r)
+      (λ e. subst (Demand3 r) (sym (split-kept r facts e)) (split-demand some e))
+      (λ e. subst (Demand3 r) (sym (whole-kept r facts enough e)) (whole-demand enough e))

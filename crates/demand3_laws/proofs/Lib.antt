@@ -1,0 +1,11 @@
+pub mod Counts
+pub mod Lowering
+pub mod Fronts
+pub mod Rounds
+pub mod Covered
+pub mod Sizes
+pub mod Demand3
+pub mod Strict
+pub mod Accepted
+pub mod Calls
+pub mod PoolFile

@@ -1,0 +1,105 @@
+-- How many plans the whole fronts have beside the size wanted, where a front is split and where none is.
+use Prim.Native.Nat.{ℕ, zero, suc, _+_, _-_, _≤_, _<_}
+use mathlib.Core.Path.{_≡_, refl, sym, ap, _∙_}
+use mathlib.Core.Bool.{Bool, true, false, _&&_, true≢false, false≢true}
+use mathlib.Core.List.{List, [], _++_, append-nil}
+use native.Mathlib.Omega.{arith}
+use lib.Dec.{ltb}
+use lib.ListN.{length}
+use borrow.Author.Tests.{ltb-true, ltb-false, lt-ltb, le-ltb}
+use Rattle.model.specs.Lists.{firstBelow}
+use Rattle.model.specs.Front.{front, listing}
+use Rattle.model.specs.Papers.Deb2002.{inFirst}
+use Rattle.model.specs.Association.{Request, dominance}
+use Rattle.model.specs.Kept.{wholeFronts, before, isSplit, splitFront, filled, padding, selectedSplit, selectedWhole, selected}
+use Rattle.model.specs.Demand3.{sizeOfFirst, Split}
+use Rattle.demand3_laws.specs.Facts.{FrontFacts}
+use Rattle.demand3_laws.proofs.Counts.{by-bool, count-all, first-le, first-passes, first-before}
+use Rattle.demand3_laws.proofs.Fronts.{listing-size, listing-grows, listing-mono}
+
+module _ (r : Request) (facts : FrontFacts (dominance r) (r .count)) where
+  -- the size of the first k fronts
+  abbrev len : ℕ → ℕ
+  len k = length (listing (dominance r) (r .count) k)
+
+  pub sizeOf-len : (k : ℕ) → sizeOfFirst r k ≡ len k
+  sizeOf-len k = sym (listing-size facts k)
+
+  -- the whole fronts fit
+  pub whole-fit : length (before r) ≤ r .size
+  unfolding before wholeFronts listing
+  whole-fit = go (wholeFronts r) (λ j h. first-before (λ k. ltb (r .size) (len (suc k))) (r .count) j h)
+    where
+      go : (k : ℕ) → ((j : ℕ) → j < k → ltb (r .size) (len (suc j)) ≡ false) → len k ≤ r .size
+      go zero h = omega arith
+      go (suc j) h = ltb-false (r .size) (len (suc j)) (h j (omega arith))
+
+  -- with the front after them, if there is one, they exceed the size
+  pub next-exceeds : wholeFronts r < r .count → r .size < length (before r) + length (splitFront r)
+  unfolding before splitFront wholeFronts
+  next-exceeds h =
+      omega (arith, listing-grows facts (wholeFronts r), ltb-true (r .size) (len (suc (wholeFronts r))) (first-passes (λ k. ltb (r .size) (len (suc k))) (r .count) h))
+
+  and-both : (a b : Bool) → (a && b) ≡ true → (a ≡ true) × (b ≡ true)
+  and-both true b e = (refl, e)
+  and-both false b e = absurd (false≢true e)
+
+  -- where a front is split
+  module _ (split : isSplit r ≡ true) where
+    pub split-inside : wholeFronts r < r .count
+    unfolding isSplit
+    split-inside = ltb-true (wholeFronts r) (r .count) (and-both (ltb (wholeFronts r) (r .count)) (ltb (length (before r)) (r .size)) split .0)
+
+    pub split-short : length (before r) < r .size
+    unfolding isSplit
+    split-short = ltb-true (length (before r)) (r .size) (and-both (ltb (wholeFronts r) (r .count)) (ltb (length (before r)) (r .size)) split .1)
+
+    -- it has more plans than there are open places
+    pub split-room : r .size - length (before r) ≤ length (splitFront r)
+    split-room = omega (arith, next-exceeds split-inside)
+
+    pub split-kept : selected r .kept ≡ before r ++ filled r .value
+    unfolding selected selectedSplit
+    split-kept = rw split
+
+    -- and no other front is
+    pub split-only : (k : ℕ) → Split r k → k ≡ wholeFronts r
+    unfolding before splitFront
+    split-only k s =
+        let short : len k < r .size = omega (arith, sizeOf-len k, s .fallShort) in
+        let over : r .size < len (suc k) = omega (arith, sizeOf-len (suc k), s .exceed) in
+        by-bool (ltb k (wholeFronts r))
+        (λ e. absurd (omega (arith, split-short, listing-mono facts (suc k) (wholeFronts r) (ltb-true k (wholeFronts r) e))))
+        (λ e. by-bool (ltb (wholeFronts r) k)
+        (λ v. absurd (omega (arith, next-exceeds split-inside, listing-grows facts (wholeFronts r), listing-mono facts (suc (wholeFronts r)) k (ltb-true (wholeFronts r) k v))))
+        (λ v. omega (arith, ltb-false k (wholeFronts r) e, ltb-false (wholeFronts r) k v)))
+
+  -- where none is, from a pool of at least the size
+  module _ (enough : r .size ≤ r .count) (whole : isSplit r ≡ false) where
+    -- the whole fronts fill the size
+    pub whole-fill : length (before r) ≡ r .size
+    unfolding isSplit before wholeFronts
+    whole-fill = by-bool (ltb (wholeFronts r) (r .count))
+        (λ e. omega (arith, whole-fit, ltb-false (len (wholeFronts r)) (r .size) (rw e at whole)))
+        (λ e. let last : wholeFronts r ≡ r .count = last-one (ltb-false (wholeFronts r) (r .count) e) in
+        let all : len (r .count) ≡ r .count = listing-size facts (r .count) ∙ count-all (inFirst (dominance r) (r .count) (r .count)) (r .count) (facts .covered) in
+        omega (arith, whole-fit, ap len last))
+      where
+        last-one : r .count ≤ wholeFronts r → wholeFronts r ≡ r .count
+        last-one h = omega (arith, first-le (λ k. ltb (r .size) (len (suc k))) (r .count))
+
+    pub whole-kept : selected r .kept ≡ before r
+    unfolding selected selectedWhole padding
+    whole-kept = rw (whole, none) (append-nil (before r))
+      where
+        none : r .size - length (before r) ≡ 0
+        none = omega (arith, whole-fill)
+
+    pub whole-none : (k : ℕ) → Split r k → ⊥
+    unfolding before
+    whole-none k s =
+        let short : len k < r .size = omega (arith, sizeOf-len k, s .fallShort) in
+        let over : r .size < len (suc k) = omega (arith, sizeOf-len (suc k), s .exceed) in
+        by-bool (ltb k (wholeFronts r))
+        (λ e. omega (arith, whole-fill, listing-mono facts (suc k) (wholeFronts r) (ltb-true k (wholeFronts r) e)))
+        (λ e. omega (arith, whole-fill, listing-mono facts (wholeFronts r) k (ltb-false k (wholeFronts r) e)))

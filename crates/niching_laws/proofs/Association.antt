@@ -1,0 +1,134 @@
+-- The line that a plan is associated with is the paper's: no line is nearer. It is the first such line, and its distance is the one kept beside it.
+use Prim.Native.Nat.{ℕ, zero, suc, _≤_, _<_}
+use mathlib.Core.Path.{_≡_, refl, sym, ap, _∙_}
+use mathlib.Core.Logic.{_⊎_, inl, inr, ⊎-elim}
+use mathlib.Core.Bool.{Bool, true, false, cond, not, _&&_, true≢false}
+use native.Mathlib.Nat.{eq-or-lt-of-le}
+use native.Mathlib.Omega.{arith}
+use lib.Ieee.{Float, nan, inf, fin, lt, isNan}
+use Rattle.model.specs.Real.{infinity}
+use Rattle.model.specs.Association.{Request, lineCount, distanceTo, Near, near, nearestOf, association, lineOf}
+use Rattle.model.specs.Papers.DebJain2014.{Associated}
+use Rattle.niching_laws.proofs.FloatOrder.{lt-self, lt-down, lt-past}
+
+-- ---- what is not below infinity is a NaN or infinity
+
+lt-nan : (x : Float) → lt x nan ≡ false
+unfolding lt
+lt-nan nan = refl
+lt-nan (inf s) = refl
+lt-nan (fin s m e) = refl
+
+not-below-top : (x y : Float) → lt x infinity ≡ false → lt y infinity ≡ false → lt y x ≡ false
+unfolding lt
+not-below-top nan y h k = lt-nan y
+not-below-top (inf true) y h k = absurd (true≢false h)
+not-below-top (inf false) y h k = k
+not-below-top (fin s m e) y h k = absurd (true≢false h)
+
+top-or-nan : (x : Float) → lt x infinity ≡ false → isNan x ≡ false → infinity ≡ x
+unfolding lt isNan
+top-or-nan nan h k = absurd (true≢false k)
+top-or-nan (inf true) h k = absurd (true≢false h)
+top-or-nan (inf false) h k = refl
+top-or-nan (fin s m e) h k = absurd (true≢false h)
+
+-- ---- the search over n lines with distances d
+
+module _ (d : ℕ → Float) where
+  nearestOf-inside : (n : ℕ) → nearestOf d (suc n) .line ≤ n
+  unfolding nearestOf
+  nearestOf-inside zero = go (lt (d 0) infinity)
+    where
+      go : (b : Bool) → cond b (near 0 (d 0)) (near 0 infinity) .line ≤ 0
+      go true = omega arith
+      go false = omega arith
+  nearestOf-inside (suc n) = go (lt (d (suc n)) (nearestOf d (suc n) .distance)) (nearestOf-inside n)
+    where
+      go : (b : Bool) → nearestOf d (suc n) .line ≤ n → cond b (near (suc n) (d (suc n))) (nearestOf d (suc n)) .line ≤ suc n
+      go true h = omega arith
+      go false h = omega arith
+
+  -- no distance is below the one found
+  nearestOf-least : (n j : ℕ) → j < n → lt (d j) (nearestOf d n .distance) ≡ false
+  unfolding nearestOf
+  nearestOf-least zero j h = absurd (omega arith)
+  nearestOf-least (suc n) j h = go (lt (d n) (nearestOf d n .distance)) refl (eq-or-lt-of-le {n = j} {m = n} (omega arith)) (λ k. nearestOf-least n j k)
+    where
+      go : (b : Bool) → lt (d n) (nearestOf d n .distance) ≡ b → (j ≡ n) ⊎ (j < n) → (j < n → lt (d j) (nearestOf d n .distance) ≡ false)
+          → lt (d j) (cond b (near n (d n)) (nearestOf d n) .distance) ≡ false
+      go true e (inl same) ih = ap (λ i. lt (d i) (d n)) same ∙ lt-self (d n)
+      go true e (inr less) ih = lt-down (d j) (nearestOf d n .distance) (d n) (ih less) e
+      go false e (inl same) ih = ap (λ i. lt (d i) (nearestOf d n .distance)) same ∙ e
+      go false e (inr less) ih = ih less
+
+  -- what is found: nothing below infinity, so line 0; or a line with its distance
+  nearestOf-met : (n : ℕ) → ((nearestOf d n .line ≡ 0) × (nearestOf d n .distance ≡ infinity)) ⊎ (nearestOf d n .distance ≡ d (nearestOf d n .line))
+  unfolding nearestOf
+  nearestOf-met zero = inl (refl, refl)
+  nearestOf-met (suc n) = go (lt (d n) (nearestOf d n .distance)) (nearestOf-met n)
+    where
+      go : (b : Bool) → ((nearestOf d n .line ≡ 0) × (nearestOf d n .distance ≡ infinity)) ⊎ (nearestOf d n .distance ≡ d (nearestOf d n .line))
+          → ((cond b (near n (d n)) (nearestOf d n) .line ≡ 0) × (cond b (near n (d n)) (nearestOf d n) .distance ≡ infinity))
+          ⊎ (cond b (near n (d n)) (nearestOf d n) .distance ≡ d (cond b (near n (d n)) (nearestOf d n) .line))
+      go true t = inr refl
+      go false t = t
+
+  -- the distance found is that of the line found, unless all are NaN or infinite and line 0's is a NaN
+  nearestOf-distance : (n : ℕ) → 0 < n → isNan (d (nearestOf d n .line)) ≡ false → nearestOf d n .distance ≡ d (nearestOf d n .line)
+  nearestOf-distance n h v = go (nearestOf-met n)
+    where
+      go : ((nearestOf d n .line ≡ 0) × (nearestOf d n .distance ≡ infinity)) ⊎ (nearestOf d n .distance ≡ d (nearestOf d n .line)) → nearestOf d n .distance ≡ d (nearestOf d n .line)
+      go (inl t) =
+          let none : lt (d 0) infinity ≡ false = ap (lt (d 0)) (sym (t .1)) ∙ nearestOf-least n 0 h in
+          let real : isNan (d 0) ≡ false = ap (λ l. isNan (d l)) (sym (t .0)) ∙ v in
+          t .1 ∙ top-or-nan (d 0) none real ∙ ap d (sym (t .0))
+      go (inr t) = t
+
+  -- no line is nearer than the one found
+  nearestOf-nearest : (n : ℕ) (j : ℕ) → j < n → lt (d j) (d (nearestOf d n .line)) ≡ false
+  nearestOf-nearest n j h = go (nearestOf-met n)
+    where
+      go : ((nearestOf d n .line ≡ 0) × (nearestOf d n .distance ≡ infinity)) ⊎ (nearestOf d n .distance ≡ d (nearestOf d n .line)) → lt (d j) (d (nearestOf d n .line)) ≡ false
+      go (inl t) =
+          let at : (i : ℕ) → i < n → lt (d i) infinity ≡ false = λ i k. ap (lt (d i)) (sym (t .1)) ∙ nearestOf-least n i k in
+          ap (λ l. lt (d j) (d l)) (t .0) ∙ not-below-top (d 0) (d j) (at 0 (omega arith)) (at j h)
+      go (inr t) = ap (lt (d j)) (sym t) ∙ nearestOf-least n j h
+
+  -- every earlier line is farther, where its distance is no NaN
+  nearestOf-first : (n j : ℕ) → j < nearestOf d n .line → isNan (d j) ≡ false → lt (d (nearestOf d n .line)) (d j) ≡ true
+  unfolding nearestOf
+  nearestOf-first zero j h v = absurd (omega arith)
+  nearestOf-first (suc n) j h v = go (lt (d n) (nearestOf d n .distance)) refl h (λ k. nearestOf-first n j k v)
+    where
+      go : (b : Bool) → lt (d n) (nearestOf d n .distance) ≡ b → j < cond b (near n (d n)) (nearestOf d n) .line
+          → (j < nearestOf d n .line → lt (d (nearestOf d n .line)) (d j) ≡ true) → lt (d (cond b (near n (d n)) (nearestOf d n) .line)) (d j) ≡ true
+      go true e k ih = lt-past (d n) (nearestOf d n .distance) (d j) e (nearestOf-least n j k) v
+      go false e k ih = ih k
+
+-- ---- a request's plans
+
+module _ (r : Request) (p : ℕ) where
+  module _ (some : 0 < lineCount r) where
+    pub lineOf-inside : lineOf r p < lineCount r
+    unfolding association
+    lineOf-inside = go (lineCount r) some
+      where
+        go : (n : ℕ) → 0 < n → nearestOf (distanceTo r p) n .line < n
+        go zero h = absurd (omega arith)
+        go (suc n) h = omega (arith, nearestOf-inside (distanceTo r p) n)
+
+    -- whatever the distances are, NaN and infinity among them, the line is one that Deb and Jain associate the plan with
+    pub association-associated : Associated (distanceTo r) (lineCount r) p (lineOf r p)
+    unfolding association
+    association-associated = record { inside = lineOf-inside; least = λ j h. nearestOf-nearest (distanceTo r p) (lineCount r) j h }
+
+    -- the distance kept is the plan's distance from its line
+    pub association-distance : isNan (distanceTo r p (lineOf r p)) ≡ false → association r p .distance ≡ distanceTo r p (lineOf r p)
+    unfolding association
+    association-distance v = nearestOf-distance (distanceTo r p) (lineCount r) some v
+
+  -- and the first: every line before it is farther
+  pub association-first : (j : ℕ) → j < lineOf r p → isNan (distanceTo r p j) ≡ false → lt (distanceTo r p (lineOf r p)) (distanceTo r p j) ≡ true
+  unfolding association
+  association-first j h v = nearestOf-first (distanceTo r p) (lineCount r) j h v

@@ -1,0 +1,194 @@
+-- One open place: what is picked is a waiting member of a line with the least count, and the nearest of that line's members at count 0.
+use Prim.Native.Nat.{ℕ, zero, suc, _%_, _≤_, _<_}
+use mathlib.Core.Path.{_≡_, refl, sym, ap, _∙_}
+use mathlib.Core.Logic.{_⊎_, inl, inr, ⊎-elim}
+use mathlib.Core.Bool.{Bool, true, false, cond, _&&_, false≢true}
+use mathlib.Core.List.{List, [], _∷_, map, List·Memᴰ·head, List·Memᴰ·tail, List·Memᴰ·not-nil, List·Memᴰ·cases-cons, Memᴰ·map, Memᴰ·of-map}
+use native.Mathlib.Nat.{mod-lt}
+use native.Mathlib.Omega.{arith}
+use lib.Dec.{eqb, leb}
+use lib.Ieee.{Float, lt}
+use lib.ListN.{length, getD}
+use borrow.Author.Tests.{eqb-true, eq-eqb, leb-true, leb-false, le-leb}
+use Rattle.model.specs.Lists.{In, has, keep, keepBelow, allIn}
+use Rattle.model.specs.Draw.{drawWord, drawUsize}
+use Rattle.model.specs.Kept.{openLines, leastLines, drawFrom, nearestFrom, nearest, drawMember}
+use Rattle.niching_laws.proofs.Lists.{listed-has, has-listed, in-keep, keep-in, in-keepBelow, keepBelow-in}
+use Rattle.niching_laws.proofs.FloatOrder.{lt-self, lt-down}
+
+-- ---- what is drawn of a list that is not empty is in it
+
+getD-in : (ps : List ℕ) (i : ℕ) → i < length ps → In (getD ps i 0) ps
+getD-in [] i h = absurd (omega arith)
+getD-in (p ∷ ps) zero h = List·Memᴰ·head refl
+getD-in (p ∷ ps) (suc i) h = List·Memᴰ·tail (getD-in ps i (omega arith))
+
+in-length : {p : ℕ} {ps : List ℕ} → In p ps → 0 < length ps
+in-length (List·Memᴰ·head e) = omega arith
+in-length (List·Memᴰ·tail m) = omega arith
+
+pub drawFrom-in : (s : ℕ) {p : ℕ} {ps : List ℕ} → In p ps → In (drawFrom ps s .value) ps
+unfolding drawFrom drawUsize
+drawFrom-in s {p} {ps} m = getD-in ps (drawWord s .value % length ps) (mod-lt (drawWord s .value) (in-length m))
+
+-- ---- the nearest of a list
+
+module _ (distance : ℕ → Float) where
+  nearestFrom-in : (best : ℕ) (ps : List ℕ) → In (nearestFrom distance best ps) (best ∷ ps)
+  unfolding nearestFrom
+  nearestFrom-in best [] = List·Memᴰ·head refl
+  nearestFrom-in best (p ∷ ps) = go (lt (distance p) (distance best)) (λ q. nearestFrom-in q ps)
+    where
+      past : {q r : ℕ} → In r (q ∷ ps) → In r (q ∷ p ∷ ps)
+      past (List·Memᴰ·head e) = List·Memᴰ·head e
+      past (List·Memᴰ·tail m) = List·Memᴰ·tail (List·Memᴰ·tail m)
+
+      go : (b : Bool) → ((q : ℕ) → In (nearestFrom distance q ps) (q ∷ ps)) → In (nearestFrom distance (cond b p best) ps) (best ∷ p ∷ ps)
+      go true ih = List·Memᴰ·tail (ih p)
+      go false ih = past (ih best)
+
+  -- what is not below the distance that the search starts from is not below the one that it ends at
+  nearestFrom-down : (x : Float) (best : ℕ) (ps : List ℕ) → lt x (distance best) ≡ false → lt x (distance (nearestFrom distance best ps)) ≡ false
+  unfolding nearestFrom
+  nearestFrom-down x best [] h = h
+  nearestFrom-down x best (p ∷ ps) h = go (lt (distance p) (distance best)) refl (λ q k. nearestFrom-down x q ps k)
+    where
+      go : (b : Bool) → lt (distance p) (distance best) ≡ b → ((q : ℕ) → lt x (distance q) ≡ false → lt x (distance (nearestFrom distance q ps)) ≡ false)
+          → lt x (distance (nearestFrom distance (cond b p best) ps)) ≡ false
+      go true e ih = ih p (lt-down x (distance best) (distance p) h e)
+      go false e ih = ih best h
+
+  nearestFrom-least : (best : ℕ) (ps : List ℕ) (q : ℕ) → In q ps → lt (distance q) (distance (nearestFrom distance best ps)) ≡ false
+  unfolding nearestFrom
+  nearestFrom-least best [] q m = absurd (List·Memᴰ·not-nil m)
+  nearestFrom-least best (p ∷ ps) q m =
+      ⊎-elim (λ same. go same (lt (distance p) (distance best)) refl) (λ k. nearestFrom-least (cond (lt (distance p) (distance best)) p best) ps q k) (List·Memᴰ·cases-cons m)
+    where
+      go : q ≡ p → (b : Bool) → lt (distance p) (distance best) ≡ b → lt (distance q) (distance (nearestFrom distance (cond b p best) ps)) ≡ false
+      go same true e = nearestFrom-down (distance q) p ps (ap (λ r. lt (distance r) (distance p)) same ∙ lt-self (distance p))
+      go same false e = nearestFrom-down (distance q) best ps (ap (λ r. lt (distance r) (distance best)) same ∙ e)
+
+  pub nearest-in : {p : ℕ} (ps : List ℕ) → In p ps → In (nearest distance ps) ps
+  unfolding nearest
+  nearest-in [] m = absurd (List·Memᴰ·not-nil m)
+  nearest-in (q ∷ qs) m = nearestFrom-in q qs
+
+  -- no member of a list is nearer than its nearest
+  pub nearest-least : (ps : List ℕ) (q : ℕ) → In q ps → lt (distance q) (distance (nearest distance ps)) ≡ false
+  unfolding nearest
+  nearest-least [] q m = absurd (List·Memᴰ·not-nil m)
+  nearest-least (p ∷ ps) q m =
+      ⊎-elim (λ same. nearestFrom-down (distance q) p ps (ap (λ r. lt (distance r) (distance p)) same ∙ lt-self (distance p)))
+      (λ k. nearestFrom-least p ps q k) (List·Memᴰ·cases-cons m)
+
+  drawMember-in : (s count : ℕ) {p : ℕ} (ps : List ℕ) → In p ps → In (drawMember distance count ps s .value) ps
+  unfolding drawMember
+  drawMember-in s zero ps m = nearest-in ps m
+  drawMember-in s (suc count) ps m = drawFrom-in s m
+
+  drawMember-nearest : (s count : ℕ) (ps : List ℕ) → count ≡ 0 → (q : ℕ) → In q ps → lt (distance q) (distance (drawMember distance count ps s .value)) ≡ false
+  unfolding drawMember
+  drawMember-nearest s zero ps e q m = nearest-least ps q m
+  drawMember-nearest s (suc count) ps e q m = absurd (omega arith)
+
+-- ---- a test of every entry
+
+module _ (f : ℕ → Bool) where
+  pub all-allIn : (ps : List ℕ) → ((p : ℕ) → In p ps → f p ≡ true) → allIn f ps ≡ true
+  unfolding allIn
+  all-allIn [] h = refl
+  all-allIn (p ∷ ps) h = rw (h p (List·Memᴰ·head refl)) (all-allIn ps (λ q m. h q (List·Memᴰ·tail m)))
+
+  pub allIn-all : (ps : List ℕ) → allIn f ps ≡ true → (p : ℕ) → In p ps → f p ≡ true
+  unfolding allIn
+  allIn-all [] h p m = absurd (List·Memᴰ·not-nil m)
+  allIn-all (q ∷ qs) h p m = go (f q) refl h (λ k. allIn-all qs k p) (List·Memᴰ·cases-cons m)
+    where
+      go : (b : Bool) → f q ≡ b → (b && allIn f qs) ≡ true → (allIn f qs ≡ true → In p qs → f p ≡ true) → (p ≡ q) ⊎ In p qs → f p ≡ true
+      go true e k ih (inl same) = ap f same ∙ e
+      go true e k ih (inr i) = ih k i
+      go false e k ih i = absurd (false≢true k)
+
+-- ---- a list that is not empty has a member with the least count
+
+least-met : (f : ℕ → ℕ) (q : ℕ) (ps : List ℕ) → (r : ℕ) × In r (q ∷ ps) × ((t : ℕ) → In t (q ∷ ps) → f r ≤ f t)
+least-met f q [] = (q, List·Memᴰ·head refl, λ t m. let same : f t ≡ f q = ap f (one-of m) in omega arith)
+  where
+    one-of : {t : ℕ} → In t (q ∷ []) → t ≡ q
+    one-of (List·Memᴰ·head e) = e
+    one-of (List·Memᴰ·tail m) = absurd (List·Memᴰ·not-nil m)
+least-met f q (p ∷ ps) = go (least-met f p ps)
+  where
+    go : (r : ℕ) × In r (p ∷ ps) × ((t : ℕ) → In t (p ∷ ps) → f r ≤ f t) → (r : ℕ) × In r (q ∷ p ∷ ps) × ((t : ℕ) → In t (q ∷ p ∷ ps) → f r ≤ f t)
+    go u = pick (leb (f q) (f (u .0))) refl
+      where
+        pick : (b : Bool) → leb (f q) (f (u .0)) ≡ b → (r : ℕ) × In r (q ∷ p ∷ ps) × ((t : ℕ) → In t (q ∷ p ∷ ps) → f r ≤ f t)
+        pick true e = (
+          q,
+          List·Memᴰ·head refl,
+          λ t m.
+              ⊎-elim (λ same. let k : f t ≡ f q = ap f same in omega arith) (λ h. omega (arith, leb-true (f q) (f (u .0)) e, u .2 t h)) (List·Memᴰ·cases-cons m),
+        )
+        pick false e = (
+          u .0,
+          List·Memᴰ·tail (u .1),
+          λ t m.
+              ⊎-elim (λ same. let k : f t ≡ f q = ap f same in omega (arith, leb-false (f q) (f (u .0)) e)) (λ h. u .2 t h) (List·Memᴰ·cases-cons m),
+        )
+
+pub least-in : (counts : ℕ → ℕ) {p : ℕ} (ps : List ℕ) → In p ps → (l : ℕ) × In l (leastLines counts ps)
+least-in counts [] m = absurd (List·Memᴰ·not-nil m)
+least-in counts (q ∷ qs) m =
+    let t = least-met counts q qs in (
+      t .0,
+      in-keep (λ l. allIn (λ k. leb (counts l) (counts k)) (q ∷ qs)) (q ∷ qs) (t .0) (t .1)
+          (all-allIn (λ k. leb (counts (t .0)) (counts k)) (q ∷ qs) (λ k i. le-leb (counts (t .0)) (counts k) (t .2 k i))),
+    )
+
+pub least-le : (counts : ℕ → ℕ) (ps : List ℕ) (l : ℕ) → In l (leastLines counts ps) → (k : ℕ) → In k ps → counts l ≤ counts k
+least-le counts ps l m k i =
+    leb-true (counts l) (counts k)
+    (allIn-all (λ k. leb (counts l) (counts k)) ps (keep-in (λ l. allIn (λ k. leb (counts l) (counts k)) ps) ps l m .1) k i)
+
+-- ---- the place
+
+-- p is one of those that wait, no other is on a line with a lower count, and at count 0 no other on its line is nearer
+pub record Chosen (line : ℕ → ℕ) (distance : ℕ → Float) (counts : ℕ → ℕ) (waits : List ℕ) (p : ℕ) : Type 0 where
+  pub listed : In p waits
+  pub least : (q : ℕ) → In q waits → counts (line p) ≤ counts (line q)
+  pub nearest : counts (line p) ≡ 0 → (q : ℕ) → In q waits → line q ≡ line p → lt (distance q) (distance p) ≡ false
+
+module _ (line : ℕ → ℕ) (distance : ℕ → Float) (lines : ℕ) (counts : ℕ → ℕ) (waits : List ℕ) (inside : (p : ℕ) → In p waits → line p < lines) where
+  -- the line of a plan that waits is open
+  line-open : (p : ℕ) → In p waits → In (line p) (openLines line lines waits)
+  line-open p m = in-keepBelow (has (map line waits)) lines (line p) (inside p m) (listed-has (map line waits) (line p) (Memᴰ·map line m))
+
+  -- an open line has a member that waits
+  open-member : (l : ℕ) → In l (openLines line lines waits) → (q : ℕ) × In q (keep (λ p. eqb (line p) l) waits)
+  open-member l m =
+      let t = Memᴰ·of-map line waits (has-listed (map line waits) l (keepBelow-in (has (map line waits)) lines l m .1)) in
+      (t .0, in-keep (λ p. eqb (line p) l) waits (t .0) (t .1) (eq-eqb (line (t .0)) l (t .2)))
+
+  -- any member taken of a line with the least count is chosen as asked
+  chosen-on : (l s : ℕ) → In l (leastLines counts (openLines line lines waits))
+      → Chosen line distance counts waits (drawMember distance (counts l) (keep (λ p. eqb (line p) l) waits) s .value)
+  chosen-on l s m =
+      let on : ℕ → Bool = λ p. eqb (line p) l in
+      let q : ℕ = drawMember distance (counts l) (keep on waits) s .value in
+      let isOpen = keep-in (λ l. allIn (λ k. leb (counts l) (counts k)) (openLines line lines waits)) (openLines line lines waits) l m .0 in
+      let k = keep-in on waits q (drawMember-in distance s (counts l) (keep on waits) (open-member l isOpen .1)) in
+      let same : line q ≡ l = eqb-true (line q) l (k .1) in
+      record {
+        listed = k .0;
+        least = λ r i. rw same (least-le counts (openLines line lines waits) l m (line r) (line-open r i));
+        nearest = λ z r i e. drawMember-nearest distance s (counts l) (keep on waits) (ap counts (sym same) ∙ z) r
+            (in-keep on waits r i (eq-eqb (line r) l (e ∙ same)));
+      }
+
+  pub chosen : (s p : ℕ) → In p waits
+      → Chosen line distance counts waits
+      (let l = drawFrom (leastLines counts (openLines line lines waits)) s in
+      drawMember distance (counts (l .value)) (keep (λ p. eqb (line p) (l .value)) waits) (l .state) .value)
+  chosen s p m =
+      let l = drawFrom (leastLines counts (openLines line lines waits)) s in
+      chosen-on (l .value) (l .state) (drawFrom-in s (least-in counts (openLines line lines waits) (line-open p m) .1))

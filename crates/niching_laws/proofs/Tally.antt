@@ -1,0 +1,99 @@
+-- Laws of counts over lists of plans, and the pigeonhole: of more different plans one is not among fewer.
+use Prim.Native.Nat.{ℕ, _+_, _<_}
+use mathlib.Core.Path.{_≡_, refl, sym, _∙_}
+use mathlib.Core.Logic.{_⊎_, inl, inr}
+use mathlib.Core.Bool.{Bool, true, false, cond, true≢false}
+use mathlib.Core.List.{List, [], _∷_, _++_, List·Memᴰ·head, List·Memᴰ·tail, List·Memᴰ·cases-cons, List·Nodup, nodup-cons, Memᴰ·cast}
+use native.Mathlib.Omega.{arith}
+use lib.ListN.{length}
+use Rattle.model.specs.Lists.{In, has, tally}
+use Rattle.niching_laws.proofs.Lists.{listed-has, has-listed, first-apart}
+
+-- with a test that every plan passes, the tally is the length
+pub tally-all : (ps : List ℕ) → tally (λ _. true) ps ≡ length ps
+unfolding tally
+tally-all [] = refl
+tally-all (p ∷ ps) = omega (arith, tally-all ps)
+
+-- the list ps less one x: no plan but x is lost, and the tally falls by x alone
+record Less (f : ℕ → Bool) (x : ℕ) (ps : List ℕ) : Type 0 where
+  rest : List ℕ
+  falls : tally f ps ≡ cond (f x) 1 0 + tally f rest
+  others : (p : ℕ) → In p ps → (p ≡ x) ⊎ In p rest
+
+-- what the pigeonhole finds: a plan of xs that passes the test and is not in ys
+pub record Extra (f : ℕ → Bool) (xs ys : List ℕ) : Type 0 where
+  pub plan : ℕ
+  pub listed : In plan xs
+  pub passes : f plan ≡ true
+  pub absent : In plan ys → ⊥
+
+module _ (f : ℕ → Bool) where
+  pub tally-append : (s t : List ℕ) → tally f (s ++ t) ≡ tally f s + tally f t
+  unfolding tally
+  tally-append [] t = omega arith
+  tally-append (p ∷ ps) t = omega (arith, tally-append ps t)
+
+  -- one more at the end
+  pub tally-snoc : (ps : List ℕ) (p : ℕ) → tally f (ps ++ (p ∷ [])) ≡ tally f ps + cond (f p) 1 0
+  unfolding tally
+  tally-snoc ps p = omega (arith, tally-append ps (p ∷ []))
+
+  -- where the tally is not 0, some plan passes
+  pub tally-found : (ps : List ℕ) → 0 < tally f ps → (p : ℕ) × In p ps × (f p ≡ true)
+  unfolding tally
+  tally-found [] h = absurd (omega arith)
+  tally-found (q ∷ qs) h = go (f q) refl h (λ k. tally-found qs k)
+    where
+      further : (p : ℕ) × In p qs × (f p ≡ true) → (p : ℕ) × In p (q ∷ qs) × (f p ≡ true)
+      further r = (r .0, List·Memᴰ·tail (r .1), r .2)
+
+      go : (b : Bool) → f q ≡ b → 0 < cond b 1 0 + tally f qs → (0 < tally f qs → (p : ℕ) × In p qs × (f p ≡ true)) → (p : ℕ) × In p (q ∷ qs) × (f p ≡ true)
+      go true e k ih = (q, List·Memᴰ·head refl, e)
+      go false e k ih = further (ih (omega arith))
+
+  less : (x : ℕ) (ps : List ℕ) → In x ps → Less f x ps
+  unfolding tally
+  less x ps (List·Memᴰ·head {x = q} {xs = qs} e) =
+      record { rest = qs; falls = rw e; others = λ p m. go p (List·Memᴰ·cases-cons m) }
+    where
+      go : (p : ℕ) → (p ≡ q) ⊎ In p qs → (p ≡ x) ⊎ In p qs
+      go p (inl h) = inl (h ∙ sym e)
+      go p (inr h) = inr h
+  less x ps (List·Memᴰ·tail {x = q} {xs = qs} m) = more (less x qs m)
+    where
+      more : Less f x qs → Less f x (q ∷ qs)
+      more r = record { rest = q ∷ r .rest; falls = omega (arith, r .falls); others = λ p m. go p (List·Memᴰ·cases-cons m) }
+        where
+          deeper : (p : ℕ) → (p ≡ x) ⊎ In p (r .rest) → (p ≡ x) ⊎ In p (q ∷ r .rest)
+          deeper p (inl h) = inl h
+          deeper p (inr h) = inr (List·Memᴰ·tail h)
+
+          go : (p : ℕ) → (p ≡ q) ⊎ In p qs → (p ≡ x) ⊎ In p (q ∷ r .rest)
+          go p (inl h) = inr (List·Memᴰ·head h)
+          go p (inr h) = deeper p (r .others p h)
+
+  -- xs are different plans, and more of them pass than of ys: one that passes is not in ys
+  pub pigeonhole : (xs ys : List ℕ) → List·Nodup xs → tally f ys < tally f xs → Extra f xs ys
+  unfolding tally
+  pigeonhole [] ys d h = absurd (omega arith)
+  pigeonhole (x ∷ xs) ys d h = go (f x) refl (has ys x) refl h (λ zs k. pigeonhole xs zs (nodup-cons .0 d .1) k)
+    where
+      further : Extra f xs ys → Extra f (x ∷ xs) ys
+      further r = record { plan = r .plan; listed = List·Memᴰ·tail (r .listed); passes = r .passes; absent = r .absent }
+
+      -- x is in ys: take it out of both lists
+      out : (r : Less f x ys) → Extra f xs (r .rest) → Extra f (x ∷ xs) ys
+      out r t = further (record { plan = t .plan; listed = t .listed; passes = t .passes; absent = λ m. no-more (r .others (t .plan) m) })
+        where
+          no-more : (t .plan ≡ x) ⊎ In (t .plan) (r .rest) → ⊥
+          no-more (inl e) = first-apart d (Memᴰ·cast (sym e) (t .listed))
+          no-more (inr m) = t .absent m
+
+      go : (b : Bool) → f x ≡ b → (k : Bool) → has ys x ≡ k → tally f ys < cond b 1 0 + tally f xs → ((zs : List ℕ) → tally f zs < tally f xs → Extra f xs zs) → Extra f (x ∷ xs) ys
+      go false e k i less-than ih = further (ih ys (omega arith))
+      go true e false i less-than ih = record { plan = x; listed = List·Memᴰ·head refl; passes = e; absent = λ m. true≢false (sym (listed-has ys x m) ∙ i) }
+      go true e true i less-than ih =
+          let r : Less f x ys = less x ys (has-listed ys x i) in
+          let drop : tally f ys ≡ 1 + tally f (r .rest) = rw e at (r .falls) in
+          out r (ih (r .rest) (omega arith))
