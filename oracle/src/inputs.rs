@@ -5,6 +5,7 @@ use crate::distribution::{
     CategoricalDistribution, Distribution, FloatDistribution, IntDistribution,
 };
 use crate::param::ParamValue;
+use crate::pareto;
 use crate::plans::{self, Plan};
 use crate::pool_file;
 use crate::refusals;
@@ -208,7 +209,8 @@ const CONSTRAINT_FLAVOURS: u64 = 7;
 
 fn constraints(mix: &mut Mix, flavour: u64) -> Vec<f64> {
     match flavour {
-        0 | 1 => Vec::new(),
+        0 => Vec::new(),
+        1 => vec![-1.0],
         // Some infeasible, with zeros of both signs.
         2 => (0..2).map(|_| mix.pick(&[0.0, -0.0, -1.0, 0.5, 0.25])).collect(),
         // All infeasible.
@@ -229,7 +231,9 @@ fn constraints(mix: &mut Mix, flavour: u64) -> Vec<f64> {
 }
 
 fn pool(mix: &mut Mix, m: usize, n: usize) -> Vec<Plan> {
-    let (rows, bounds) = (mix.below(ROW_FLAVOURS), mix.below(CONSTRAINT_FLAVOURS));
+    // The manners that split fronts come more often.
+    let rows = mix.pick(&[0, 0, 1, 1, 2, 3, 4, 5, 5, 5, 6, 7, 8, 9, 9, 10]);
+    let bounds = mix.pick(&[0, 0, 0, 0, 2, 2, 3, 4, 4, 5, 6]);
     let mut plans: Vec<Plan> = (0..n)
         .map(|at| Plan {
             number: at as u64,
@@ -1143,8 +1147,14 @@ fn selection(mix: &mut Mix, at: u64, most: u64) -> Call {
     let m = 1 + (at % 8) as usize;
     let n = mix.within(1, most) as usize;
     let most_lines = if mix.once_in(6) { 1024 } else { 12 };
-    let mut call = Call::new(m, divisions(mix, m, most_lines), size(mix, n), mix.word(), pool(mix, m, n));
+    let h = divisions(mix, m, most_lines);
+    let size = size(mix, n);
+    let mut call = Call::new(m, h, size, mix.word(), pool(mix, m, n));
     call.marks = marks(mix, m);
+    // Two times in three a size that splits a front, where one can be split.
+    if !mix.once_in(3) {
+        call.size = splitting_size(mix, &call).unwrap_or(size);
+    }
     if mix.once_in(3) {
         for (j, z) in call.ideal.iter_mut().enumerate() {
             let near = call.pool[0].values[j];
@@ -1152,6 +1162,22 @@ fn selection(mix: &mut Mix, at: u64, most: u64) -> Call {
         }
     }
     call
+}
+
+/// A size that ends inside a front of two or more.
+fn splitting_size(mix: &mut Mix, call: &Call) -> Option<u64> {
+    let directions = plans::directions(&call.marks);
+    let rows: Vec<Vec<f64>> = call.pool.iter().map(|plan| plan.values.clone()).collect();
+    let constraints: Vec<Vec<f64>> =
+        call.pool.iter().map(|plan| plan.constraints.clone()).collect();
+    let fronts = pareto::fast_non_dominated_sort_constrained(&rows, &directions, &constraints);
+    let mut inside = Vec::new();
+    let mut before = 0;
+    for front in &fronts {
+        inside.extend(before + 1..before + front.len() as u64);
+        before += front.len() as u64;
+    }
+    (!inside.is_empty()).then(|| mix.pick(&inside))
 }
 
 /// Now and then one thing is wrong.
@@ -1171,7 +1197,7 @@ fn spoil(mix: &mut Mix, call: &mut Call) {
 }
 
 fn kept_input(mix: &mut Mix, at: u64) -> Line {
-    let mut call = selection(mix, at, 14);
+    let mut call = selection(mix, at, 12);
     if mix.once_in(12) {
         spoil(mix, &mut call);
     }
