@@ -137,8 +137,8 @@ pub fn answer(input: &[u64]) -> Result<Vec<u64>, String> {
         // Reference table
         50 => {
             let (m, h) = (positive(r)?, r.count()?);
-            if m > 8 || h == 0 || h > 199 || refusals::lines(m, h as u64) > 100_000 {
-                return Err("m is not 1 to 8, h not 1 to 199, or too many points".to_string());
+            if m > 8 || h > 199 || refusals::lines(m, h as u64) > 100_000 {
+                return Err("m is not 1 to 8, h above 199, or too many points".to_string());
             }
             let points = genetic::das_dennis(m, h);
             a.extend([points.len() as u64, m as u64]);

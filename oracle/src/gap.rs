@@ -188,10 +188,30 @@ pub fn measure() {
     show("all k from 1 to 100", &total);
     println!("  largest by range (k, doubles): {worst:?}");
 
-    // Powers below the normal range: P itself, and R of such a power, which
-    // breeding forms only on a draw of exactly 0 (or just below one half).
-    let mut below = [Gaps::new(), Gaps::new()];
+    // A draw of exactly 0 hands the bare power P(y, k) on to R: far smaller
+    // arguments than any other draw gives.
+    let mut bare = Gaps::new();
     let mut worst = (0, 0.0, 0);
+    for k in 1..=100_u32 {
+        for _ in 0..20_000 {
+            let p = power(chance.uneven(53) as f64 / TWO_53, k);
+            if p < f64::MIN_POSITIVE {
+                continue;
+            }
+            let gap = doubles_between(root(p, k), p.powf(1.0 / f64::from(k)));
+            bare.add(gap, p);
+            if gap > worst.2 {
+                worst = (k, p, gap);
+            }
+        }
+    }
+    println!("R of bare powers (draw 0), normal range, k from 1 to 100");
+    println!("  {}", bare.show());
+    println!("  largest: k = {}, v = {:e}, {} doubles", worst.0, worst.1, worst.2);
+
+    // Powers below the normal range: P itself, and R of them (draw 0 again).
+    let mut below = [Gaps::new(), Gaps::new()];
+    worst = (0, 0.0, 0);
     for k in 2..=100_u32 {
         let exponent = f64::from(k);
         // y from the least with a power above 0 to the least with a normal one.
@@ -216,9 +236,4 @@ pub fn measure() {
     println!("  P: {}", below[0].show());
     println!("  R of them: {}", below[1].show());
     println!("  R's largest: k = {}, v = {:e}, {} doubles", worst.0, worst.1, worst.2);
-    for k in [2, 3, 21, 100] {
-        let v = f64::from_bits(1);
-        let (r, real) = (root(v, k), v.powf(1.0 / f64::from(k)));
-        println!("  v = 2^-1074, k = {k}: R {r:e}, powf {real:e}, {} doubles", doubles_between(r, real));
-    }
 }

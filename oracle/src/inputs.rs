@@ -799,7 +799,7 @@ fn fronts(command: u64, marks: &[u64], pool: &[Plan]) -> Line {
 
 fn front_cases() -> Vec<Line> {
     let listed = pool_of(&[&[0.0, 0.0], &[1.0, 3.0], &[4.0, 1.0]]);
-    // A later front is not in rising index: plan 3 frees 2 before 1.
+    // A later front is not in rising index: plan 0 frees 2, then plan 3 frees 1.
     let moment = pool_of(&[&[0.0, 3.0], &[4.0, 4.0], &[1.0, 5.0], &[3.0, 0.0]]);
     let bound = |row: &[f64], constraints: &[f64]| plan(row, constraints);
     vec![
