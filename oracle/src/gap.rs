@@ -1,7 +1,10 @@
 //! Measures how far the stand-in powers lie from the platform's `powf`, in
 //! doubles between the two results, over the arguments that breeding forms.
 
-use crate::powers::{power, root};
+use std::sync::atomic::Ordering;
+
+use crate::powers::{self, power, root};
+use crate::sampler::genetic;
 
 /// Chance for the arguments (xorshift64*).
 struct Chance(u64);
@@ -147,10 +150,17 @@ fn gaps(k: u32, count: u64, chance: &mut Chance) -> [[Gaps; 2]; 4] {
             all[3][uneven].add(doubles_between(root(v, k), v.powf(inverse)), v);
         }
     }
-    // Just below 1 the roundings of P lean one way: more of those, one power
-    // costing little.
-    for _ in 0..20 * count {
-        let y = 1.0 - chance.uneven(52) as f64 / TWO_53;
+    // Just below 1 the roundings of P can lean one way, most of all near
+    // y = 1 - t / 2^26: more of those, one power costing little.
+    for turn in 0..20 * count {
+        let below = if turn % 2 == 0 {
+            chance.uneven(52)
+        } else {
+            let t = 1 + chance.word() % 4096;
+            let around = (1 << 23) / t;
+            (t << 27) + chance.word() % (2 * around) - around
+        };
+        let y = 1.0 - below as f64 / TWO_53;
         all[0][1].add(doubles_between(power(y, k), y.powf(exponent)), y);
     }
     all
@@ -167,8 +177,56 @@ fn show(title: &str, all: &[[Gaps; 2]; 4]) {
     }
 }
 
+/// Runs the same call with the stand-ins and with the real powers.
+fn both_ways<T>(call: impl Fn() -> T) -> (T, T) {
+    let with_stand_ins = call();
+    powers::REAL.store(true, Ordering::Relaxed);
+    let with_real = call();
+    powers::REAL.store(false, Ordering::Relaxed);
+    (with_stand_ins, with_real)
+}
+
+/// How far a bred setting moves when the real powers take the stand-ins'
+/// place: Floats within 0..1, and Ints within 0..1000 as breeding rounds them.
+fn measure_children(chance: &mut Chance) {
+    println!("bred settings, stand-ins against real powers, Floats in 0..1, Ints in 0..1000");
+    for (eta, name) in [(30.0, "eta 30"), (20.0, "eta 20"), (-1.0, "eta 0 to 99")] {
+        for sbx in [true, false] {
+            let (mut equal, mut largest, mut ints) = (0_u64, 0.0_f64, 0_u64);
+            let count = 200_000;
+            for _ in 0..count {
+                let eta = if eta < 0.0 { (chance.word() % 100) as f64 } else { eta };
+                let state = chance.word();
+                let x = chance.even(53) as f64 / TWO_53;
+                let y = chance.even(53) as f64 / TWO_53;
+                let child = |scale: f64| {
+                    let mut rng = fastrand::Rng::with_seed(state);
+                    let (x, y) = ((x * scale).max(0.0), (y * scale).max(0.0));
+                    let (x, y) = if scale > 1.0 { (x.round(), y.round()) } else { (x, y) };
+                    if sbx {
+                        genetic::sbx_crossover_f64(&mut rng, x, y, 0.0, scale, eta).0
+                    } else {
+                        genetic::polynomial_mutation_f64(&mut rng, x, 0.0, scale, eta)
+                    }
+                };
+                let (stand_in, real) = both_ways(|| child(1.0));
+                equal += (stand_in.to_bits() == real.to_bits()) as u64;
+                largest = largest.max((stand_in - real).abs());
+                let (stand_in, real) = both_ways(|| child(1000.0).round());
+                ints += (stand_in != real) as u64;
+            }
+            println!(
+                "  {} {name}: equal {:.1} %, largest difference {largest:e}, Ints that differ {ints} of {count}",
+                if sbx { "crossover" } else { "mutation " },
+                100.0 * equal as f64 / count as f64,
+            );
+        }
+    }
+}
+
 pub fn measure() {
     let mut chance = Chance(0x9E3779B97F4A7C15);
+    measure_children(&mut chance);
     for k in [1, 2, 3, 6, 21, 31, 100] {
         show(&format!("k = {k}"), &gaps(k, 300_000, &mut chance));
     }

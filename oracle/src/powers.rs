@@ -1,6 +1,8 @@
 //! Stand-ins for `powf`, as document 01 gives them: P by repeated rounded
 //! multiplication, R by halving over bit patterns.
 
+use std::sync::atomic::{AtomicBool, Ordering};
+
 /// P(y, 1) = y, P(y, j + 1) = P(y, j) × y rounded.
 pub fn power(y: f64, k: u32) -> f64 {
     let mut product = y;
@@ -29,6 +31,9 @@ pub fn root(v: f64, k: u32) -> f64 {
     f64::from_bits(lower)
 }
 
+/// Set only while the gap is measured: the real powers, as the Rust has them.
+pub static REAL: AtomicBool = AtomicBool::new(false);
+
 /// The exponent eta + 1 as document 01's k.
 fn k_of(exponent: f64) -> u32 {
     assert!(
@@ -47,10 +52,16 @@ pub trait StandIn {
 
 impl StandIn for f64 {
     fn stand_in_power(self, exponent: f64) -> f64 {
+        if REAL.load(Ordering::Relaxed) {
+            return self.powf(exponent);
+        }
         power(self, k_of(exponent))
     }
 
     fn stand_in_root(self, exponent: f64) -> f64 {
+        if REAL.load(Ordering::Relaxed) {
+            return self.powf(1.0 / exponent);
+        }
         root(self, k_of(exponent))
     }
 }
