@@ -1801,7 +1801,14 @@ fn session_input(mix: &mut Mix, at: u64) -> Line {
                 _ => count as u64,
             };
             for ask in 0..asks {
-                if let Ok(value) = script.call(number, open.is_empty() && ask == 0)
+                // The distribution is not looked at any more, fit or not.
+                let passed = match mix.below(12) {
+                    0 => mix.pick(&bad_dimensions()),
+                    1 => dimension(mix),
+                    _ => any_dimension(),
+                };
+                let full = open.is_empty() && ask == 0;
+                if let Ok(value) = script.calls(1, number, &passed, false, full)
                     && answered.len() < count
                 {
                     answered.push(value);
@@ -1813,7 +1820,7 @@ fn session_input(mix: &mut Mix, at: u64) -> Line {
                 wanted = Some(script.size() + mix.pick(&[0, 0, 1, 3]));
             }
         }
-        if generation + 1 == generations && !mix.once_in(2) {
+        if generation + 1 == generations && !many && !mix.once_in(2) {
             break;
         }
 
@@ -1864,9 +1871,13 @@ fn session_input(mix: &mut Mix, at: u64) -> Line {
         if mix.once_in(4) {
             let _ = script.calls(1, number, &any_dimension(), true, false);
         }
-        // A known plan's call can breed too.
-        if mix.once_in(4) {
-            number = open[0].0;
+        // A known plan's call can breed too, and so can the first plan's.
+        match mix.below(6) {
+            0 => number = open[0].0,
+            1 if generation == 0 => {
+                let _ = script.call(first, true);
+            }
+            _ => {}
         }
     }
     let _ = script.call(number + 1, true);

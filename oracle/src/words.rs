@@ -5,7 +5,7 @@
 pub const NAN: u64 = 9221120237041090560;
 
 /// Commands by name and number; README describes each.
-pub const COMMANDS: [(&str, u64); 31] = [
+pub const COMMANDS: [(&str, u64); 34] = [
     ("words", 10),
     ("f64", 11),
     ("usize", 12),
@@ -37,9 +37,10 @@ pub const COMMANDS: [(&str, u64); 31] = [
     ("mutate", 84),
     ("polynomial", 85),
     ("tournament", 86),
+    ("step", 87),
+    ("session", 90),
+    ("choose", 95),
 ];
-/// The three whose lines are the longest.
-pub const MORE_COMMANDS: [(&str, u64); 3] = [("step", 87), ("session", 90), ("choose", 95)];
 
 /// Reads a line: numbers parted by single spaces; the first may be a
 /// command's name.
@@ -50,8 +51,7 @@ pub fn read(line: &str) -> Result<Vec<u64>, String> {
             numbers.push(token.parse().map_err(|_| format!("{token} is not below 2^64"))?);
             continue;
         }
-        let named = COMMANDS.iter().chain(&MORE_COMMANDS).find(|(name, _)| *name == token);
-        match named {
+        match COMMANDS.iter().find(|(name, _)| *name == token) {
             Some((_, number)) if at == 0 => numbers.push(*number),
             _ => return Err(format!("'{token}' is no number")),
         }
