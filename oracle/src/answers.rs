@@ -1,0 +1,583 @@
+//! One answer for each input line: reads the input, asks the refusals where
+//! the call has any, runs the Rust, and writes what it answered.
+
+use crate::distribution::Distribution;
+use crate::multi_objective::MultiObjectiveTrial;
+use crate::param::ParamValue;
+use crate::pareto;
+use crate::plans::{self, Plan};
+use crate::powers;
+use crate::refusals;
+use crate::rng_util;
+use crate::sampler::{common, genetic, nsga3};
+use crate::types::Direction;
+use crate::words::{Reader, of_int, of_real};
+use crate::{pool_file, session};
+
+/// The mark of a plan without a line.
+pub const NO_LINE: u64 = u64::MAX;
+
+pub fn answer(input: &[u64]) -> Result<Vec<u64>, String> {
+    let mut reader = Reader::new(input);
+    let r = &mut reader;
+    let command = r.number()?;
+    let mut a: Vec<u64> = Vec::new();
+    match command {
+        // Draw
+        10 => {
+            let mut rng = fastrand::Rng::with_seed(r.number()?);
+            for _ in 0..r.count()? {
+                a.push(rng.word());
+            }
+            a.push(rng.s);
+        }
+        11 => {
+            let mut rng = fastrand::Rng::with_seed(r.number()?);
+            a.push(of_real(rng.f64()));
+            a.push(rng.s);
+        }
+        12 => {
+            let mut rng = fastrand::Rng::with_seed(r.number()?);
+            let n = positive(r)?;
+            a.push(rng.usize(0..n) as u64);
+            a.push(rng.s);
+        }
+        13 => {
+            let mut rng = fastrand::Rng::with_seed(r.number()?);
+            let (low, high) = (r.int()?, r.int()?);
+            if low > high {
+                return Err("an empty range".to_string());
+            }
+            a.push(of_int(rng.i64(low..=high)));
+            a.push(rng.s);
+        }
+        14 => {
+            let mut rng = fastrand::Rng::with_seed(r.number()?);
+            let (low, high) = (r.real()?, r.real()?);
+            a.push(of_real(rng_util::f64_range(&mut rng, low, high)));
+            a.push(rng.s);
+        }
+
+        // Worked-out numbers
+        20 | 21 => {
+            let (x, k) = (r.real()?, r.number()?);
+            if !(1..=100).contains(&k) {
+                return Err("k is not 1 to 100".to_string());
+            }
+            let leaf = if command == 20 { powers::power } else { powers::root };
+            a.push(of_real(leaf(x, k as u32)));
+        }
+        22 => a.push(of_real(r.real()?.sqrt())),
+        23 => a.push(of_real(r.real()?.round())),
+        24 => a.push(of_real(f64::midpoint(r.real()?, r.real()?))),
+        25 => {
+            let (x, low, high) = (r.real()?, r.real()?, r.real()?);
+            if !(low <= high) {
+                return Err("an empty range".to_string());
+            }
+            a.push(of_real(x.clamp(low, high)));
+        }
+
+        // Objective row
+        30 => {
+            let directions = plans::read_directions(r)?;
+            let (x, y) = (r.reals(directions.len())?, r.reals(directions.len())?);
+            let answer = pareto::dominates(&x, &y, &directions);
+            // Selection compares rows in minimise-space; both ways agree.
+            let (x, y) = (minimize(&x, &directions), minimize(&y, &directions));
+            assert_eq!(answer, pareto::dominates(&x, &y, &all_minimize(directions.len())));
+            a.push(answer as u64);
+        }
+        31 => {
+            let directions = plans::read_directions(r)?;
+            let (x, y) = (r.reals(directions.len())?, r.reals(directions.len())?);
+            let count = r.count()?;
+            let x_constraints = r.reals(count)?;
+            let count = r.count()?;
+            let y_constraints = r.reals(count)?;
+            let (x, y) = (minimize(&x, &directions), minimize(&y, &directions));
+            let answer = pareto::constrained_dominates(
+                &x,
+                &y,
+                &x_constraints,
+                &y_constraints,
+                &all_minimize(directions.len()),
+            );
+            a.push(answer as u64);
+        }
+        32 => {
+            let directions = plans::read_directions(r)?;
+            let row = r.reals(directions.len())?;
+            push_reals(&mut a, &minimize(&row, &directions));
+        }
+
+        // Front list
+        40 | 41 => {
+            let directions = plans::read_directions(r)?;
+            let m = directions.len();
+            let (mut rows, mut constraints) = (Vec::new(), Vec::new());
+            for _ in 0..r.count()? {
+                rows.push(minimize(&r.reals(m)?, &directions));
+                if command == 41 {
+                    let count = r.count()?;
+                    constraints.push(r.reals(count)?);
+                }
+            }
+            let fronts = if command == 40 {
+                pareto::fast_non_dominated_sort(&rows, &all_minimize(m))
+            } else {
+                pareto::fast_non_dominated_sort_constrained(&rows, &all_minimize(m), &constraints)
+            };
+            a.push(fronts.len() as u64);
+            for front in &fronts {
+                push_list(&mut a, front);
+            }
+        }
+
+        // Reference table
+        50 => {
+            let (m, h) = (positive(r)?, r.count()?);
+            if m > 8 || h > 199 || refusals::lines(m, h as u64) > 100_000 {
+                return Err("m is not 1 to 8, h above 199, or too many points".to_string());
+            }
+            let points = genetic::das_dennis(m, h);
+            a.extend([points.len() as u64, m as u64]);
+            for point in &points {
+                push_reals(&mut a, point);
+            }
+        }
+        51 => {
+            let m = positive(r)?;
+            a.push(genetic::auto_divisions(m, r.count()?) as u64);
+        }
+        52 => {
+            let (m, h) = (positive(r)?, r.count()?);
+            a.push(genetic::n_combinations(h + m - 1, m - 1) as u64);
+        }
+        53 => {
+            let marks = plans::read_marks(r)?;
+            let (size, divisions) = (optional(r)?, optional(r)?);
+            let refused = refusals::lowest(&[
+                (2, refusals::bad_marks(&marks)),
+                (3, size.is_some_and(|s| s > 1024)),
+                (4, refusals::bad_opening_divisions(marks.len(), size, divisions)),
+            ]);
+            a.push(refused.unwrap_or(0));
+            if refused.is_none() {
+                let sampler = session::sampler(size, divisions, 1.0, 30.0, 20.0, 0);
+                let mut state = sampler.state.lock();
+                nsga3::initialize_nsga3(&mut state, &plans::directions(&marks));
+                let h = divisions.unwrap_or_else(|| {
+                    let target = size.unwrap_or(100) as usize;
+                    genetic::auto_divisions(marks.len(), target) as u64
+                });
+                a.extend([h, state.reference_points.len() as u64]);
+                a.push(state.evo.population_size as u64);
+            }
+        }
+
+        // Association
+        60 => {
+            let directions = plans::read_directions(r)?;
+            let m = directions.len();
+            let mut ideal = r.reals(m)?;
+            let count = positive(r)?;
+            let rows = r.list(count, |r| Ok(minimize(&r.reals(m)?, &directions)))?;
+            let (intercepts, normalized) = normalize(&mut ideal, &rows);
+            push_reals(&mut a, &ideal);
+            push_reals(&mut a, &intercepts);
+            for row in &normalized {
+                push_reals(&mut a, row);
+            }
+        }
+        61 => {
+            let (m, h) = (positive(r)?, positive(r)?);
+            if refusals::bad_divisions(m, h as u64) || m > 8 {
+                return Err("too many lines".to_string());
+            }
+            let count = r.count()?;
+            let rows = r.list(count, |r| r.reals(m))?;
+            let table = genetic::das_dennis(m, h);
+            for (line, distance) in nsga3::associate_to_reference_points(&rows, &table) {
+                a.extend([line as u64, of_real(distance)]);
+            }
+        }
+        62 => {
+            let m = positive(r)?;
+            let (point, reference) = (r.reals(m)?, r.reals(m)?);
+            a.push(of_real(nsga3::perpendicular_distance(&point, &reference)));
+        }
+
+        // Kept list
+        70 => {
+            let call = Selection::read(r)?;
+            match call.refused() {
+                Some(number) => a.push(number),
+                None => {
+                    let kept = select(&call, &[]);
+                    a.push(0);
+                    push_list(&mut a, &kept.list);
+                    a.extend(kept.fronts.iter().map(|&front| front as u64));
+                    a.extend(&kept.lines);
+                    push_reals(&mut a, &kept.ideal);
+                    a.push(kept.state);
+                }
+            }
+        }
+
+        // Setting and dimension
+        80 => {
+            let mut rng = fastrand::Rng::with_seed(r.number()?);
+            let dimension = fit_dimension(r)?;
+            plans::write_setting(&mut a, &common::sample_random(&mut rng, &dimension));
+            a.push(rng.s);
+        }
+        81 => {
+            let mut rng = fastrand::Rng::with_seed(r.number()?);
+            let dimensions = fit_dimensions(r)?;
+            let plan = Plan::read(r)?;
+            let dimensions = plans::infos(&dimensions);
+            if refusals::bad_settings(&plan, &dimensions) {
+                return Err("settings that are turned down with 9".to_string());
+            }
+            let settings = genetic::extract_trial_params(&plan.trial(), &dimensions, &mut rng);
+            push_settings(&mut a, &settings);
+            a.push(rng.s);
+        }
+        82 => {
+            let mut rng = fastrand::Rng::with_seed(r.number()?);
+            let (probability, eta) = (r.real()?, r.real()?);
+            let dimensions = fit_dimensions(r)?;
+            let first = r.list(dimensions.len(), plans::read_setting)?;
+            let second = r.list(dimensions.len(), plans::read_setting)?;
+            let dimensions = plans::infos(&dimensions);
+            let (child1, child2) =
+                genetic::crossover(&mut rng, &first, &second, &dimensions, probability, eta);
+            push_settings(&mut a, &child1);
+            push_settings(&mut a, &child2);
+            a.push(rng.s);
+        }
+        83 => {
+            let mut rng = fastrand::Rng::with_seed(r.number()?);
+            let (p1, p2) = (r.real()?, r.real()?);
+            let (low, high, eta) = (r.real()?, r.real()?, r.real()?);
+            let (c1, c2) = genetic::sbx_crossover_f64(&mut rng, p1, p2, low, high, eta);
+            a.extend([of_real(c1), of_real(c2), rng.s]);
+        }
+        84 => {
+            let mut rng = fastrand::Rng::with_seed(r.number()?);
+            let eta = r.real()?;
+            let dimensions = fit_dimensions(r)?;
+            let mut settings = r.list(dimensions.len(), plans::read_setting)?;
+            genetic::mutate(&mut rng, &mut settings, &plans::infos(&dimensions), eta);
+            push_settings(&mut a, &settings);
+            a.push(rng.s);
+        }
+        85 => {
+            let mut rng = fastrand::Rng::with_seed(r.number()?);
+            let x = r.real()?;
+            let (low, high, eta) = (r.real()?, r.real()?, r.real()?);
+            let moved = genetic::polynomial_mutation_f64(&mut rng, x, low, high, eta);
+            a.extend([of_real(moved), rng.s]);
+        }
+        86 => {
+            let mut rng = fastrand::Rng::with_seed(r.number()?);
+            let count = positive(r)?;
+            let ranks = r.list(count, Reader::count)?;
+            let winner = nsga3::tournament_select_rank(&mut rng, &ranks, ranks.len());
+            a.extend([winner as u64, rng.s]);
+        }
+        87 => {
+            let call = Step::read(r)?;
+            match call.refused() {
+                Some(number) => a.push(number),
+                None => {
+                    let bred = step(&call);
+                    a.push(0);
+                    push_list(&mut a, &bred.kept);
+                    push_reals(&mut a, &bred.ideal);
+                    a.push(bred.offspring.len() as u64);
+                    for child in &bred.offspring {
+                        push_settings(&mut a, child);
+                    }
+                    a.push(bred.state);
+                }
+            }
+        }
+
+        90 => a = session::answer(r)?,
+
+        95 => {
+            let count = r.count()?;
+            let bytes = r.list(count, |r| {
+                u8::try_from(r.number()?).map_err(|_| "a byte is above 255".to_string())
+            })?;
+            let text = pool_file::choose(&bytes);
+            a.push(text.len() as u64);
+            a.extend(text.bytes().map(u64::from));
+        }
+
+        _ => return Err(format!("{command} is no command")),
+    }
+    r.end()?;
+    Ok(a)
+}
+
+fn positive(r: &mut Reader) -> Result<usize, String> {
+    match r.count()? {
+        0 => Err("0 stands where at least 1 belongs".to_string()),
+        n => Ok(n),
+    }
+}
+
+/// A mark and a number: mark 0 for none.
+pub fn optional(r: &mut Reader) -> Result<Option<u64>, String> {
+    let given = r.flag()?;
+    let number = r.number()?;
+    Ok(given.then_some(number))
+}
+
+fn fit_dimension(r: &mut Reader) -> Result<Distribution, String> {
+    let dimension = plans::read_dimension(r)?;
+    if refusals::bad_dimension(&dimension) {
+        return Err("a dimension that is turned down with 6".to_string());
+    }
+    Ok(dimension)
+}
+
+fn fit_dimensions(r: &mut Reader) -> Result<Vec<Distribution>, String> {
+    let count = r.count()?;
+    r.list(count, fit_dimension)
+}
+
+fn push_reals(answer: &mut Vec<u64>, reals: &[f64]) {
+    answer.extend(reals.iter().map(|&x| of_real(x)));
+}
+
+fn push_list(answer: &mut Vec<u64>, list: &[usize]) {
+    answer.push(list.len() as u64);
+    answer.extend(list.iter().map(|&x| x as u64));
+}
+
+pub fn push_settings(answer: &mut Vec<u64>, settings: &[ParamValue]) {
+    for setting in settings {
+        plans::write_setting(answer, setting);
+    }
+}
+
+fn minimize(row: &[f64], directions: &[Direction]) -> Vec<f64> {
+    nsga3::to_minimize_space(row, directions)
+}
+
+fn all_minimize(m: usize) -> Vec<Direction> {
+    vec![Direction::Minimize; m]
+}
+
+/// As `nsga3_select` does it where a front is split: the ideal moves first.
+fn normalize(ideal: &mut [f64], rows: &[Vec<f64>]) -> (Vec<f64>, Vec<Vec<f64>>) {
+    nsga3::update_ideal_point(ideal, rows);
+    let intercepts = nsga3::find_intercepts(rows, ideal);
+    let normalized = nsga3::normalize_objectives(rows, ideal, &intercepts);
+    (intercepts, normalized)
+}
+
+/// The input of a selection.
+pub struct Selection {
+    pub short: bool,
+    pub marks: Vec<u64>,
+    pub divisions: u64,
+    pub size: u64,
+    pub state: u64,
+    pub ideal: Vec<f64>,
+    pub pool: Vec<Plan>,
+}
+
+impl Selection {
+    fn read(r: &mut Reader) -> Result<Self, String> {
+        let mut call = Self::read_head(r)?;
+        call.read_pool(r)?;
+        Ok(call)
+    }
+
+    fn read_head(r: &mut Reader) -> Result<Self, String> {
+        let short = r.flag()?;
+        let marks = plans::read_marks(r)?;
+        let (divisions, size, state) = (r.number()?, r.number()?, r.number()?);
+        let count = r.count()?;
+        let ideal = r.reals(count)?;
+        Ok(Selection { short, marks, divisions, size, state, ideal, pool: Vec::new() })
+    }
+
+    fn read_pool(&mut self, r: &mut Reader) -> Result<(), String> {
+        let count = r.count()?;
+        self.pool = r.list(count, Plan::read)?;
+        Ok(())
+    }
+
+    pub fn conditions(&self) -> Vec<(u64, bool)> {
+        let m = self.marks.len();
+        let bad_plan = self.pool.iter().any(|plan| refusals::bad_row(plan, m));
+        vec![
+            (2, refusals::bad_marks(&self.marks)),
+            (3, refusals::bad_size(self.size)),
+            (4, refusals::bad_divisions(m, self.divisions)),
+            (7, self.pool.is_empty() || self.pool.len() > 1024),
+            (8, bad_plan || refusals::bad_ideal(&self.ideal, m)),
+            (10, self.short),
+        ]
+    }
+
+    pub fn refused(&self) -> Option<u64> {
+        refusals::lowest(&self.conditions())
+    }
+}
+
+/// What a selection hands out.
+pub struct Kept {
+    pub list: Vec<usize>,
+    pub fronts: Vec<usize>,
+    pub lines: Vec<u64>,
+    pub ideal: Vec<f64>,
+    pub state: u64,
+}
+
+/// Runs `nsga3_select`. Fronts and lines are not among its answers: the same
+/// functions of the Rust give them for the same pool.
+pub fn select(call: &Selection, dimensions: &[Distribution]) -> Kept {
+    let directions = plans::directions(&call.marks);
+    let m = directions.len();
+    let size = call.size as usize;
+    let trials: Vec<MultiObjectiveTrial> = call.pool.iter().map(Plan::trial).collect();
+    let population: Vec<&MultiObjectiveTrial> = trials.iter().collect();
+
+    let sampler = session::sampler(None, None, 1.0, 30.0, 20.0, call.state);
+    let mut state = sampler.state.lock();
+    prepare(&mut state, call, dimensions);
+    let (_, list) = nsga3::nsga3_select(&mut state, &population, &directions);
+
+    let rows: Vec<Vec<f64>> =
+        trials.iter().map(|t| minimize(&t.values, &directions)).collect();
+    let constraints: Vec<Vec<f64>> = trials.iter().map(|t| t.constraints.clone()).collect();
+    let front_list = pareto::fast_non_dominated_sort_constrained(
+        &rows,
+        &all_minimize(m),
+        &constraints,
+    );
+    let mut fronts = vec![0; trials.len()];
+    for (rank, front) in front_list.iter().enumerate() {
+        for &plan in front {
+            fronts[plan] = rank;
+        }
+    }
+
+    let mut before = 0;
+    let mut split = false;
+    for front in &front_list {
+        if before + front.len() > size {
+            split = before < size;
+            break;
+        }
+        before += front.len();
+    }
+    let mut ideal = call.ideal.clone();
+    let mut lines = vec![NO_LINE; trials.len()];
+    if split {
+        let (_, normalized) = normalize(&mut ideal, &rows);
+        let table = &state.reference_points;
+        for (at, (line, _)) in
+            nsga3::associate_to_reference_points(&normalized, table).into_iter().enumerate()
+        {
+            lines[at] = line as u64;
+        }
+    }
+    let bits = |reals: &[f64]| -> Vec<u64> { reals.iter().map(|x| x.to_bits()).collect() };
+    assert_eq!(bits(&ideal), bits(&state.ideal_point), "the ideal of the same split");
+    Kept { list, fronts, lines, ideal, state: state.evo.rng.s }
+}
+
+fn prepare(state: &mut nsga3::Nsga3State, call: &Selection, dimensions: &[Distribution]) {
+    state.evo.population_size = call.size as usize;
+    state.evo.phase = genetic::Phase::Active;
+    state.evo.dimensions = plans::infos(dimensions);
+    state.reference_points = genetic::das_dennis(call.marks.len(), call.divisions as usize);
+    state.ideal_point = call.ideal.clone();
+    state.initialized = true;
+}
+
+/// The input of a generation step.
+pub struct Step {
+    pub selection: Selection,
+    pub probability: f64,
+    pub crossover_eta: f64,
+    pub mutation_eta: f64,
+    pub dimensions: Vec<Distribution>,
+}
+
+impl Step {
+    fn read(r: &mut Reader) -> Result<Self, String> {
+        let mut selection = Selection::read_head(r)?;
+        let (probability, crossover_eta, mutation_eta) = (r.real()?, r.real()?, r.real()?);
+        let dimensions = plans::read_dimensions(r)?;
+        selection.read_pool(r)?;
+        Ok(Step { selection, probability, crossover_eta, mutation_eta, dimensions })
+    }
+
+    pub fn refused(&self) -> Option<u64> {
+        let dimensions = plans::infos(&self.dimensions);
+        let pool = &self.selection.pool;
+        let mut conditions = self.selection.conditions();
+        conditions.extend([
+            (
+                5,
+                refusals::bad_eta(self.crossover_eta)
+                    || refusals::bad_eta(self.mutation_eta)
+                    || refusals::bad_probability(self.probability),
+            ),
+            (
+                6,
+                self.dimensions.len() > 32
+                    || self.dimensions.iter().any(refusals::bad_dimension),
+            ),
+            (9, pool.iter().any(|plan| refusals::bad_settings(plan, &dimensions))),
+        ]);
+        refusals::lowest(&conditions)
+    }
+}
+
+/// What a generation step hands out; a pool of one keeps nothing.
+pub struct Bred {
+    pub kept: Vec<usize>,
+    pub ideal: Vec<f64>,
+    pub offspring: Vec<Vec<ParamValue>>,
+    pub state: u64,
+}
+
+pub fn step(call: &Step) -> Bred {
+    let selection = &call.selection;
+    let directions = plans::directions(&selection.marks);
+    let trials: Vec<MultiObjectiveTrial> = selection.pool.iter().map(Plan::trial).collect();
+    let population: Vec<&MultiObjectiveTrial> = trials.iter().collect();
+    let sampler = session::sampler(
+        None,
+        None,
+        call.probability,
+        call.crossover_eta,
+        call.mutation_eta,
+        selection.state,
+    );
+    let mut state = sampler.state.lock();
+    prepare(&mut state, selection, &call.dimensions);
+    let offspring = nsga3::nsga3_generate_offspring(&mut state, &population, &directions);
+    // The step keeps its list to itself: selection from the same pool has it.
+    let kept = if population.len() < 2 {
+        Vec::new()
+    } else {
+        select(selection, &call.dimensions).list
+    };
+    Bred {
+        kept,
+        ideal: state.ideal_point.clone(),
+        offspring: offspring.into_iter().map(|child| child.params).collect(),
+        state: state.evo.rng.s,
+    }
+}

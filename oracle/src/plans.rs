@@ -1,0 +1,185 @@
+//! Plans, settings, dimensions and directions as they stand in lines, and as
+//! the Rust has them.
+
+use std::collections::HashMap;
+
+use crate::distribution::{
+    CategoricalDistribution, Distribution, FloatDistribution, IntDistribution,
+};
+use crate::multi_objective::MultiObjectiveTrial;
+use crate::param::ParamValue;
+use crate::parameter::ParamId;
+use crate::sampler::genetic::DimensionInfo;
+use crate::types::{Direction, TrialState};
+use crate::words::{Reader, of_int, of_real, to_int, to_real};
+
+/// A plan: number, row, constraints, settings (parameter number, kind, value).
+#[derive(Clone, Debug)]
+pub struct Plan {
+    pub number: u64,
+    pub values: Vec<f64>,
+    pub constraints: Vec<f64>,
+    pub settings: Vec<(u64, u64, u64)>,
+}
+
+impl Plan {
+    pub fn read(reader: &mut Reader) -> Result<Self, String> {
+        let number = reader.number()?;
+        let count = reader.count()?;
+        let values = reader.reals(count)?;
+        let count = reader.count()?;
+        let constraints = reader.reals(count)?;
+        let count = reader.count()?;
+        let settings =
+            reader.list(count, |r| Ok((r.number()?, r.number()?, r.number()?)))?;
+        Ok(Plan { number, values, constraints, settings })
+    }
+
+    pub fn write(&self, line: &mut Vec<u64>) {
+        line.push(self.number);
+        line.push(self.values.len() as u64);
+        line.extend(self.values.iter().map(|&v| of_real(v)));
+        line.push(self.constraints.len() as u64);
+        line.extend(self.constraints.iter().map(|&c| of_real(c)));
+        line.push(self.settings.len() as u64);
+        for &(parameter, kind, value) in &self.settings {
+            line.extend([parameter, kind, value]);
+        }
+    }
+
+    /// The Rust's record; what document 01 leaves out is empty.
+    pub fn trial(&self) -> MultiObjectiveTrial {
+        MultiObjectiveTrial {
+            id: self.number,
+            params: self
+                .settings
+                .iter()
+                .map(|&(parameter, kind, value)| (ParamId(parameter), setting(kind, value)))
+                .collect(),
+            distributions: HashMap::new(),
+            param_labels: HashMap::new(),
+            values: self.values.clone(),
+            state: TrialState::Complete,
+            user_attrs: HashMap::new(),
+            constraints: self.constraints.clone(),
+        }
+    }
+}
+
+pub fn setting(kind: u64, value: u64) -> ParamValue {
+    match kind {
+        0 => ParamValue::Float(to_real(value)),
+        1 => ParamValue::Int(to_int(value)),
+        _ => ParamValue::Categorical(value as usize),
+    }
+}
+
+pub fn read_setting(reader: &mut Reader) -> Result<ParamValue, String> {
+    let kind = reader.number()?;
+    if kind > 2 {
+        return Err(format!("{kind} is no kind of setting"));
+    }
+    Ok(setting(kind, reader.number()?))
+}
+
+/// Kind and value.
+pub fn write_setting(line: &mut Vec<u64>, value: &ParamValue) {
+    line.extend(match *value {
+        ParamValue::Float(x) => [0, of_real(x)],
+        ParamValue::Int(n) => [1, of_int(n)],
+        ParamValue::Categorical(c) => [2, c as u64],
+    });
+}
+
+/// Kind 0 Float: low, high. 1 Int: low, high, step (0 for none). 2
+/// Categorical: choices. 3 and 4 are Float and Int with all their fields
+/// (log mark, step mark, step), for what refusal 6 turns down.
+pub fn read_dimension(reader: &mut Reader) -> Result<Distribution, String> {
+    let kind = reader.number()?;
+    Ok(match kind {
+        0 | 3 => {
+            let (low, high) = (reader.real()?, reader.real()?);
+            let (mut log_scale, mut step) = (false, None);
+            if kind == 3 {
+                log_scale = reader.flag()?;
+                let stepped = reader.flag()?;
+                let given = reader.real()?;
+                step = stepped.then_some(given);
+            }
+            Distribution::Float(FloatDistribution { low, high, log_scale, step })
+        }
+        1 | 4 => {
+            let (low, high) = (reader.int()?, reader.int()?);
+            let (mut log_scale, step);
+            log_scale = false;
+            if kind == 4 {
+                log_scale = reader.flag()?;
+                let stepped = reader.flag()?;
+                let given = reader.int()?;
+                step = stepped.then_some(given);
+            } else {
+                let given = reader.int()?;
+                step = (given != 0).then_some(given);
+            }
+            Distribution::Int(IntDistribution { low, high, log_scale, step })
+        }
+        2 => Distribution::Categorical(CategoricalDistribution { n_choices: reader.count()? }),
+        _ => return Err(format!("{kind} is no kind of dimension")),
+    })
+}
+
+pub fn write_dimension(line: &mut Vec<u64>, dimension: &Distribution) {
+    match dimension {
+        Distribution::Float(d) => {
+            let plain = !d.log_scale && d.step.is_none();
+            line.extend([if plain { 0 } else { 3 }, of_real(d.low), of_real(d.high)]);
+            if !plain {
+                line.extend([d.log_scale as u64, d.step.is_some() as u64]);
+                line.push(of_real(d.step.unwrap_or(0.0)));
+            }
+        }
+        Distribution::Int(d) => {
+            let plain = !d.log_scale && d.step != Some(0);
+            line.extend([if plain { 1 } else { 4 }, of_int(d.low), of_int(d.high)]);
+            if !plain {
+                line.extend([d.log_scale as u64, d.step.is_some() as u64]);
+            }
+            line.push(of_int(d.step.unwrap_or(0)));
+        }
+        Distribution::Categorical(d) => line.extend([2, d.n_choices as u64]),
+    }
+}
+
+pub fn read_dimensions(reader: &mut Reader) -> Result<Vec<Distribution>, String> {
+    let count = reader.count()?;
+    reader.list(count, read_dimension)
+}
+
+pub fn infos(dimensions: &[Distribution]) -> Vec<DimensionInfo> {
+    dimensions
+        .iter()
+        .map(|d| DimensionInfo { distribution: d.clone() })
+        .collect()
+}
+
+/// m and its direction marks, as they stand.
+pub fn read_marks(reader: &mut Reader) -> Result<Vec<u64>, String> {
+    let m = reader.count()?;
+    reader.list(m, Reader::number)
+}
+
+/// For commands that look at no refusal: the marks have to be 0 or 1.
+pub fn read_directions(reader: &mut Reader) -> Result<Vec<Direction>, String> {
+    let marks = read_marks(reader)?;
+    if marks.is_empty() || marks.iter().any(|&mark| mark > 1) {
+        return Err("objectives or direction marks are not fit".to_string());
+    }
+    Ok(directions(&marks))
+}
+
+pub fn directions(marks: &[u64]) -> Vec<Direction> {
+    marks
+        .iter()
+        .map(|&mark| if mark == 0 { Direction::Minimize } else { Direction::Maximize })
+        .collect()
+}

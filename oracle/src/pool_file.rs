@@ -1,0 +1,98 @@
+//! The pool file and `choose`, read off document 01, around the Rust's
+//! `nsga3_select`.
+
+use crate::answers::{self, NO_LINE, Selection};
+use crate::plans::Plan;
+use crate::words::to_real;
+
+/// Takes numbers off a file: groups of seven bits, lowest first, top bit set
+/// on all but the last byte, shortest form, below 2^64. None is refusal 1.
+struct Bytes<'a> {
+    rest: &'a [u8],
+}
+
+impl Bytes<'_> {
+    fn number(&mut self) -> Option<u64> {
+        let mut value: u128 = 0;
+        for place in 0.. {
+            let (&byte, rest) = self.rest.split_first()?;
+            self.rest = rest;
+            if place > 9 {
+                return None;
+            }
+            value |= u128::from(byte & 127) << (7 * place);
+            if byte < 128 {
+                if byte == 0 && place > 0 {
+                    return None;
+                }
+                break;
+            }
+        }
+        u64::try_from(value).ok()
+    }
+
+    fn reals(&mut self, count: u64) -> Option<Vec<f64>> {
+        let mut reals = Vec::new();
+        for _ in 0..count {
+            reals.push(to_real(self.number()?));
+        }
+        Some(reals)
+    }
+}
+
+/// The whole form first; what the numbers mean comes later.
+fn parse(file: &[u8]) -> Option<Selection> {
+    if file.len() > 65_536 {
+        return None;
+    }
+    let mut bytes = Bytes { rest: file };
+    let m = bytes.number()?;
+    let (divisions, size) = (bytes.number()?, bytes.number()?);
+    let (plans, state) = (bytes.number()?, bytes.number()?);
+    let mut marks = Vec::new();
+    for _ in 0..m {
+        marks.push(bytes.number()?);
+    }
+    let mut pool = Vec::new();
+    for number in 0..plans {
+        let values = bytes.reals(m)?;
+        let count = bytes.number()?;
+        let constraints = bytes.reals(count)?;
+        pool.push(Plan { number, values, constraints, settings: Vec::new() });
+    }
+    if !bytes.rest.is_empty() {
+        return None;
+    }
+    let ideal = vec![f64::INFINITY; m as usize];
+    Some(Selection { short: false, marks, divisions, size, state, ideal, pool })
+}
+
+/// The text that `choose` prints for a file.
+pub fn choose(file: &[u8]) -> String {
+    let Some(call) = parse(file) else {
+        return "refused 1\n".to_string();
+    };
+    if let Some(number) = call.refused() {
+        return format!("refused {number}\n");
+    }
+    let kept = answers::select(&call, &[]);
+    let mut text = format!("plans {} kept {}\n", call.pool.len(), kept.list.len());
+    for plan in 0..call.pool.len() {
+        let line = match kept.lines[plan] {
+            NO_LINE => "-".to_string(),
+            line => line.to_string(),
+        };
+        let place = kept.list.iter().position(|&k| k == plan).map_or(0, |at| at + 1);
+        text.push_str(&format!("{plan} {} {line} {place}\n", kept.fronts[plan]));
+    }
+    text
+}
+
+/// A number in the file's form.
+pub fn encode(file: &mut Vec<u8>, mut number: u64) {
+    while number > 127 {
+        file.push((number & 127) as u8 | 128);
+        number >>= 7;
+    }
+    file.push(number as u8);
+}

@@ -1,0 +1,297 @@
+//! Sessions: the sampler's own calls, with document 01's refusals in front.
+
+use crate::answers::{optional, push_settings};
+use crate::distribution::Distribution;
+use crate::multi_objective::{MultiObjectiveSampler, MultiObjectiveTrial};
+use crate::param::ParamValue;
+use crate::plans::{self, Plan};
+use crate::refusals;
+use crate::sampler::genetic::Phase;
+use crate::sampler::nsga3::Nsga3Sampler;
+use crate::types::Direction;
+use crate::words::{Reader, of_real};
+
+/// A sampler made by the Rust's own builder.
+pub fn sampler(
+    size: Option<u64>,
+    divisions: Option<u64>,
+    probability: f64,
+    crossover_eta: f64,
+    mutation_eta: f64,
+    seed: u64,
+) -> Nsga3Sampler {
+    let mut builder = Nsga3Sampler::builder()
+        .crossover_prob(probability)
+        .crossover_eta(crossover_eta)
+        .mutation_eta(mutation_eta)
+        .seed(seed);
+    if let Some(size) = size {
+        builder = builder.population_size(size as usize);
+    }
+    if let Some(divisions) = divisions {
+        builder = builder.n_divisions(divisions as usize);
+    }
+    builder.build()
+}
+
+/// What a session is opened with.
+#[derive(Clone, Debug)]
+pub struct Opening {
+    pub short: bool,
+    pub marks: Vec<u64>,
+    pub size: Option<u64>,
+    pub divisions: Option<u64>,
+    pub probability: f64,
+    pub crossover_eta: f64,
+    pub mutation_eta: f64,
+    pub seed: u64,
+}
+
+impl Opening {
+    fn read(r: &mut Reader) -> Result<Self, String> {
+        Ok(Opening {
+            short: r.flag()?,
+            marks: plans::read_marks(r)?,
+            size: optional(r)?,
+            divisions: optional(r)?,
+            probability: r.real()?,
+            crossover_eta: r.real()?,
+            mutation_eta: r.real()?,
+            seed: r.number()?,
+        })
+    }
+
+    pub fn write(&self, line: &mut Vec<u64>) {
+        line.push(self.short as u64);
+        line.push(self.marks.len() as u64);
+        line.extend(&self.marks);
+        for given in [self.size, self.divisions] {
+            line.extend([given.is_some() as u64, given.unwrap_or(0)]);
+        }
+        for x in [self.probability, self.crossover_eta, self.mutation_eta] {
+            line.push(of_real(x));
+        }
+        line.push(self.seed);
+    }
+}
+
+/// A session: the sampler, the directions given at opening, and the history
+/// that the calls hand in.
+pub struct Session {
+    pub sampler: Nsga3Sampler,
+    directions: Vec<Direction>,
+    history: Vec<Plan>,
+    trials: Vec<MultiObjectiveTrial>,
+}
+
+impl Session {
+    /// Opens a session, or gives the refusal.
+    pub fn open(opening: &Opening) -> Result<Self, u64> {
+        let m = opening.marks.len();
+        let refused = refusals::lowest(&[
+            (2, refusals::bad_marks(&opening.marks)),
+            (3, opening.size.is_some_and(|size| size > 1024)),
+            (4, refusals::bad_opening_divisions(m, opening.size, opening.divisions)),
+            (
+                5,
+                refusals::bad_eta(opening.crossover_eta)
+                    || refusals::bad_eta(opening.mutation_eta)
+                    || refusals::bad_probability(opening.probability),
+            ),
+            (10, opening.short),
+        ]);
+        if let Some(number) = refused {
+            return Err(number);
+        }
+        Ok(Session {
+            sampler: sampler(
+                opening.size,
+                opening.divisions,
+                opening.probability,
+                opening.crossover_eta,
+                opening.mutation_eta,
+                opening.seed,
+            ),
+            directions: plans::directions(&opening.marks),
+            history: Vec::new(),
+            trials: Vec::new(),
+        })
+    }
+
+    /// Keeps the first `keep` records of the history and appends `records`
+    /// `copies` times.
+    pub fn set_history(
+        &mut self,
+        keep: usize,
+        copies: usize,
+        records: &[Plan],
+    ) -> Result<(), String> {
+        if keep > self.history.len() {
+            return Err(format!("the history has no {keep} records to keep"));
+        }
+        self.history.truncate(keep);
+        self.trials.truncate(keep);
+        for _ in 0..copies {
+            for plan in records {
+                self.history.push(plan.clone());
+                self.trials.push(plan.trial());
+            }
+        }
+        Ok(())
+    }
+
+    pub fn history(&self) -> &[Plan] {
+        &self.history
+    }
+
+    /// One call: the setting that the Rust answers, or the refusal.
+    pub fn call(
+        &mut self,
+        distribution: &Distribution,
+        plan: u64,
+        short: bool,
+    ) -> Result<ParamValue, u64> {
+        let (refused, breeds, generation) = self.judge(distribution, plan, short);
+        if let Some(number) = refused {
+            return Err(number);
+        }
+        let value =
+            self.sampler.sample(distribution, plan, &self.trials, &self.directions);
+        let state = self.sampler.state.lock();
+        assert_eq!(
+            state.evo.generation,
+            generation + breeds as usize,
+            "breeding as document 01 tells it"
+        );
+        Ok(value)
+    }
+
+    /// The refusal, whether the call breeds, and the generation so far.
+    fn judge(
+        &self,
+        distribution: &Distribution,
+        plan: u64,
+        short: bool,
+    ) -> (Option<u64>, bool, usize) {
+        let state = self.sampler.state.lock();
+        let evo = &state.evo;
+        let discovers = matches!(evo.phase, Phase::Discovery);
+        let adds = discovers && evo.discovery_trial_id.is_none_or(|first| first == plan);
+
+        // The plans bred from: the first ones of the generation, each by the
+        // last record of its number.
+        let parents: Option<Vec<&Plan>> =
+            if discovers || evo.generation_trial_ids.len() < evo.population_size {
+                None
+            } else {
+                evo.generation_trial_ids[..evo.population_size]
+                    .iter()
+                    .map(|&number| self.history.iter().rev().find(|p| p.number == number))
+                    .collect()
+            };
+        let m = self.directions.len();
+        let bad_parent = |bad: &dyn Fn(&Plan) -> bool| {
+            parents.as_ref().is_some_and(|plans| plans.iter().any(|p| bad(p)))
+        };
+        let breeds = parents.is_some();
+        let refused = refusals::lowest(&[
+            (
+                6,
+                adds && (refusals::bad_dimension(distribution) || evo.dimensions.len() >= 32),
+            ),
+            (7, self.history.len() > 4096),
+            (8, bad_parent(&|p| refusals::bad_row(p, m))),
+            (9, bad_parent(&|p| refusals::bad_settings(p, &evo.dimensions))),
+            (10, short),
+            (
+                11,
+                !discovers
+                    && !breeds
+                    && !evo.generation_trial_ids.contains(&plan)
+                    && evo.generation_trial_ids.len() >= 2048,
+            ),
+        ]);
+        (refused, breeds, evo.generation)
+    }
+
+    /// Generator, generation and number of plans; in full, the rest too.
+    pub fn report(&self, full: bool, a: &mut Vec<u64>) {
+        let state = self.sampler.state.lock();
+        let evo = &state.evo;
+        let plans = &evo.generation_trial_ids;
+        a.extend([evo.rng.s, evo.generation as u64, plans.len() as u64]);
+        if !full {
+            return;
+        }
+        let active = matches!(evo.phase, Phase::Active);
+        a.push(active as u64);
+        a.push(evo.discovery_trial_id.is_some() as u64);
+        a.push(evo.discovery_trial_id.unwrap_or(0));
+        a.push(evo.dimensions.len() as u64);
+        for dimension in &evo.dimensions {
+            plans::write_dimension(a, &dimension.distribution);
+        }
+        // The Rust settles the size where discovery ends.
+        a.push(if active { evo.population_size as u64 } else { 0 });
+        a.push(evo.assigned_count as u64);
+        assert_eq!(evo.trial_progress.len(), plans.len());
+        for (at, number) in plans.iter().enumerate() {
+            let progress = &evo.trial_progress[number];
+            assert_eq!(progress.candidate_idx, at, "a plan's candidate is its place");
+            // Document 01 stops it at the dimension count.
+            a.extend([*number, progress.next_dim.min(evo.dimensions.len()) as u64]);
+        }
+        a.push(evo.candidates.len() as u64);
+        for candidate in &evo.candidates {
+            push_settings(a, &candidate.params);
+        }
+        a.push(state.ideal_point.len() as u64);
+        a.extend(state.ideal_point.iter().map(|&z| of_real(z)));
+    }
+}
+
+/// One line is one session: its opening and its calls.
+pub fn answer(r: &mut Reader) -> Result<Vec<u64>, String> {
+    let opening = Opening::read(r)?;
+    let calls = r.count()?;
+    let mut a = Vec::new();
+    let mut session = match Session::open(&opening) {
+        Ok(session) => Some(session),
+        Err(number) => {
+            a.push(number);
+            None
+        }
+    };
+    if session.is_some() {
+        a.push(0);
+    }
+    for _ in 0..calls {
+        let times = r.number()?;
+        let plan = r.number()?;
+        let distribution = plans::read_dimension(r)?;
+        let short = r.flag()?;
+        let (keep, copies, count) = (r.count()?, r.count()?, r.count()?);
+        let records = r.list(count, Plan::read)?;
+        let full = r.flag()?;
+        let Some(session) = session.as_mut() else {
+            continue;
+        };
+        session.set_history(keep, copies, &records)?;
+        if times == 0 {
+            return Err("a call is made at least once".to_string());
+        }
+        let mut last = Err(0);
+        for at in 0..times {
+            last = session.call(&distribution, plan.wrapping_add(at), short);
+        }
+        match last {
+            Err(number) => a.push(number),
+            Ok(value) => {
+                a.push(0);
+                plans::write_setting(&mut a, &value);
+            }
+        }
+        session.report(full, &mut a);
+    }
+    Ok(a)
+}

@@ -1,0 +1,148 @@
+//! Lines as lists of unsigned 64-bit numbers, and how other values are coded
+//! in them.
+
+/// The one NaN that goes out.
+pub const NAN: u64 = 9221120237041090560;
+
+/// Commands by name and number; README describes each.
+pub const COMMANDS: [(&str, u64); 34] = [
+    ("words", 10),
+    ("f64", 11),
+    ("usize", 12),
+    ("i64", 13),
+    ("f64_range", 14),
+    ("power", 20),
+    ("root", 21),
+    ("sqrt", 22),
+    ("round", 23),
+    ("midpoint", 24),
+    ("clamp", 25),
+    ("dominates", 30),
+    ("constrained_dominates", 31),
+    ("minimize_space", 32),
+    ("fronts", 40),
+    ("fronts_constrained", 41),
+    ("das_dennis", 50),
+    ("auto_divisions", 51),
+    ("point_count", 52),
+    ("population", 53),
+    ("normalize", 60),
+    ("associate", 61),
+    ("distance", 62),
+    ("select", 70),
+    ("sample_random", 80),
+    ("extract", 81),
+    ("crossover", 82),
+    ("sbx", 83),
+    ("mutate", 84),
+    ("polynomial", 85),
+    ("tournament", 86),
+    ("step", 87),
+    ("session", 90),
+    ("choose", 95),
+];
+
+/// Reads a line: numbers parted by single spaces; the first may be a
+/// command's name.
+pub fn read(line: &str) -> Result<Vec<u64>, String> {
+    let mut numbers = Vec::new();
+    for (at, token) in line.split(' ').enumerate() {
+        if !token.is_empty() && token.bytes().all(|b| b.is_ascii_digit()) {
+            numbers.push(token.parse().map_err(|_| format!("{token} is not below 2^64"))?);
+            continue;
+        }
+        match COMMANDS.iter().find(|(name, _)| *name == token) {
+            Some((_, number)) if at == 0 => numbers.push(*number),
+            _ => return Err(format!("'{token}' is no number")),
+        }
+    }
+    Ok(numbers)
+}
+
+pub fn write(numbers: &[u64]) -> String {
+    let texts: Vec<String> = numbers.iter().map(u64::to_string).collect();
+    texts.join(" ")
+}
+
+/// A real as the number its bits form, every NaN as the one.
+pub fn of_real(x: f64) -> u64 {
+    if x.is_nan() { NAN } else { x.to_bits() }
+}
+
+pub fn to_real(bits: u64) -> f64 {
+    let x = f64::from_bits(bits);
+    if x.is_nan() { f64::from_bits(NAN) } else { x }
+}
+
+/// An Int n is 2n from zero up and -2n - 1 below.
+pub fn of_int(n: i64) -> u64 {
+    if n >= 0 { 2 * n as u64 } else { 2 * !n as u64 + 1 }
+}
+
+pub fn to_int(code: u64) -> i64 {
+    let half = (code / 2) as i64;
+    if code % 2 == 0 { half } else { -half - 1 }
+}
+
+/// Takes a line's numbers one after the other.
+pub struct Reader<'a> {
+    rest: &'a [u64],
+}
+
+impl<'a> Reader<'a> {
+    pub fn new(numbers: &'a [u64]) -> Self {
+        Reader { rest: numbers }
+    }
+
+    pub fn number(&mut self) -> Result<u64, String> {
+        let (first, rest) = self.rest.split_first().ok_or("the line ends early")?;
+        self.rest = rest;
+        Ok(*first)
+    }
+
+    pub fn count(&mut self) -> Result<usize, String> {
+        Ok(self.number()? as usize)
+    }
+
+    pub fn real(&mut self) -> Result<f64, String> {
+        Ok(to_real(self.number()?))
+    }
+
+    pub fn int(&mut self) -> Result<i64, String> {
+        Ok(to_int(self.number()?))
+    }
+
+    /// 0 or 1.
+    pub fn flag(&mut self) -> Result<bool, String> {
+        match self.number()? {
+            0 => Ok(false),
+            1 => Ok(true),
+            other => Err(format!("{other} stands where 0 or 1 belongs")),
+        }
+    }
+
+    /// So many items; no memory is set aside before they are there.
+    pub fn list<T>(
+        &mut self,
+        count: usize,
+        item: impl Fn(&mut Self) -> Result<T, String>,
+    ) -> Result<Vec<T>, String> {
+        let mut items = Vec::new();
+        for _ in 0..count {
+            items.push(item(self)?);
+        }
+        Ok(items)
+    }
+
+    pub fn reals(&mut self, count: usize) -> Result<Vec<f64>, String> {
+        self.list(count, Self::real)
+    }
+
+    pub fn end(&self) -> Result<(), String> {
+        if self.rest.is_empty() {
+            Ok(())
+        } else {
+            Err(format!("{} numbers too many", self.rest.len()))
+        }
+    }
+}
