@@ -158,10 +158,11 @@ fn before_word(word: u64) -> u64 {
     let multiplier: u64 = 6364136223846793005;
     let mut inverse: u64 = 1;
     for _ in 0..6 {
-        inverse =
-            inverse.wrapping_mul(2u64.wrapping_sub(multiplier.wrapping_mul(inverse)));
+        inverse = inverse.wrapping_mul(2u64.wrapping_sub(multiplier.wrapping_mul(inverse)));
     }
-    state.wrapping_sub(1442695040888963407).wrapping_mul(inverse)
+    state
+        .wrapping_sub(1442695040888963407)
+        .wrapping_mul(inverse)
 }
 
 /// The state whose next `f64()` is k / 2^52.
@@ -212,9 +213,13 @@ fn constraints(mix: &mut Mix, flavour: u64) -> Vec<f64> {
         0 => Vec::new(),
         1 => vec![-1.0],
         // Some infeasible, with zeros of both signs.
-        2 => (0..2).map(|_| mix.pick(&[0.0, -0.0, -1.0, 0.5, 0.25])).collect(),
+        2 => (0..2)
+            .map(|_| mix.pick(&[0.0, -0.0, -1.0, 0.5, 0.25]))
+            .collect(),
         // All infeasible.
-        3 => (0..mix.within(1, 3)).map(|_| 0.125 + mix.below(4) as f64).collect(),
+        3 => (0..mix.within(1, 3))
+            .map(|_| 0.125 + mix.below(4) as f64)
+            .collect(),
         // Equal violations, differently made up.
         4 => mix.pick(&[vec![0.5], vec![0.25, 0.25], vec![-3.0, 0.5], vec![0.5, 0.0]]),
         // Few and many, large and small.
@@ -253,12 +258,16 @@ fn pool(mix: &mut Mix, m: usize, n: usize) -> Vec<Plan> {
 
 fn marks(mix: &mut Mix, m: usize) -> Vec<u64> {
     let maximised = mix.below(3);
-    (0..m).map(|_| (maximised == 1 || (maximised == 2 && mix.once_in(2))) as u64).collect()
+    (0..m)
+        .map(|_| (maximised == 1 || (maximised == 2 && mix.once_in(2))) as u64)
+        .collect()
 }
 
 /// Divisions with at most `most` lines.
 fn divisions(mix: &mut Mix, m: usize, most: u128) -> u64 {
-    let fits = (1..200).take_while(|&h| refusals::lines(m, h) <= most).count() as u64;
+    let fits = (1..200)
+        .take_while(|&h| refusals::lines(m, h) <= most)
+        .count() as u64;
     mix.within(1, fits.max(1))
 }
 
@@ -276,11 +285,21 @@ fn size(mix: &mut Mix, n: usize) -> u64 {
 // ---------------------------------------------------------------------------
 
 fn float(low: f64, high: f64) -> Distribution {
-    Distribution::Float(FloatDistribution { low, high, log_scale: false, step: None })
+    Distribution::Float(FloatDistribution {
+        low,
+        high,
+        log_scale: false,
+        step: None,
+    })
 }
 
 fn int(low: i64, high: i64, step: Option<i64>) -> Distribution {
-    Distribution::Int(IntDistribution { low, high, log_scale: false, step })
+    Distribution::Int(IntDistribution {
+        low,
+        high,
+        log_scale: false,
+        step,
+    })
 }
 
 fn choices(n_choices: usize) -> Distribution {
@@ -316,7 +335,13 @@ fn dimension(mix: &mut Mix) -> Distribution {
 fn dimensions(mix: &mut Mix, count: usize) -> Vec<Distribution> {
     let categorical_only = mix.once_in(8);
     (0..count)
-        .map(|_| if categorical_only { choices(mix.within(1, 5) as usize) } else { dimension(mix) })
+        .map(|_| {
+            if categorical_only {
+                choices(mix.within(1, 5) as usize)
+            } else {
+                dimension(mix)
+            }
+        })
         .collect()
 }
 
@@ -483,7 +508,10 @@ impl Call {
 
     fn step(&self) -> Line {
         let mut line = self.head(87);
-        push_reals(&mut line, &[self.probability, self.crossover_eta, self.mutation_eta]);
+        push_reals(
+            &mut line,
+            &[self.probability, self.crossover_eta, self.mutation_eta],
+        );
         push_dimensions(&mut line, &self.dimensions);
         push_pool(&mut line, &self.pool);
         line
@@ -493,7 +521,13 @@ impl Call {
     fn file(&self) -> Vec<u8> {
         let mut file = Vec::new();
         let m = self.marks.len() as u64;
-        for number in [m, self.divisions, self.size, self.pool.len() as u64, self.state] {
+        for number in [
+            m,
+            self.divisions,
+            self.size,
+            self.pool.len() as u64,
+            self.state,
+        ] {
             pool_file::encode(&mut file, number);
         }
         for &mark in &self.marks {
@@ -585,7 +619,11 @@ fn bounds(mix: &mut Mix) -> (f64, f64) {
         ((mix.unit() - 0.5) * 2.0 * scale).clamp(-two(53), two(53))
     };
     let (x, y) = (end(mix), end(mix));
-    if mix.once_in(6) { (x, x) } else { (x.min(y), x.max(y)) }
+    if mix.once_in(6) {
+        (x, x)
+    } else {
+        (x.min(y), x.max(y))
+    }
 }
 
 // ---------------------------------------------------------------------------
@@ -678,10 +716,21 @@ fn number_input(mix: &mut Mix, at: u64) -> Line {
         }
         1 => {
             let u = mix.unit();
-            let v = if mix.once_in(2) { u } else { 1.0 / (2.0 * (1.0 - (0.5 + u / 2.0))) };
+            let v = if mix.once_in(2) {
+                u
+            } else {
+                1.0 / (2.0 * (1.0 - (0.5 + u / 2.0)))
+            };
             vec![21, of_real(v.min(two(51))), mix.within(1, 100)]
         }
-        2 => vec![22, of_real(if mix.once_in(4) { subnormal(mix).abs() } else { wild(mix).abs() })],
+        2 => vec![
+            22,
+            of_real(if mix.once_in(4) {
+                subnormal(mix).abs()
+            } else {
+                wild(mix).abs()
+            }),
+        ],
         3 => {
             let x = (mix.unit() - 0.5) * two(mix.within(0, 54) as i32);
             let halved = mix.once_in(2);
@@ -744,7 +793,13 @@ fn dominance_cases() -> Vec<Line> {
         constrained(&[0], &[0.0], &[1.0], &[0.25, 0.25], &[0.5]),
         constrained(&[0], &[0.0], &[1.0], &[0.5, -8.0], &[0.5]),
         // The sum goes left to right: 1 + tiny + tiny stays 1.
-        constrained(&[0], &[0.0], &[0.0], &[1.0, two(-53), two(-53)], &[two(-53), two(-53), 1.0]),
+        constrained(
+            &[0],
+            &[0.0],
+            &[0.0],
+            &[1.0, two(-53), two(-53)],
+            &[two(-53), two(-53), 1.0],
+        ),
         constrained(&[0], &[0.0], &[0.0], &[two(1000); 16], &[two(1000); 15]),
         vec![32, 2, 0, 1, of_real(0.0), of_real(0.0)],
         vec![32, 2, 1, 0, of_real(-two(1000)), of_real(-0.0)],
@@ -807,13 +862,25 @@ fn front_cases() -> Vec<Line> {
         fronts(40, &[0, 0], &moment),
         fronts(40, &[1, 1], &moment),
         fronts(40, &[0], &[]),
-        fronts(40, &[0, 0], &pool_of(&[&[1.0, 1.0], &[1.0, 1.0], &[1.0, 1.0]])),
-        fronts(40, &[0], &pool_of(&[&[3.0], &[1.0], &[2.0], &[1.0], &[0.0], &[-0.0]])),
+        fronts(
+            40,
+            &[0, 0],
+            &pool_of(&[&[1.0, 1.0], &[1.0, 1.0], &[1.0, 1.0]]),
+        ),
+        fronts(
+            40,
+            &[0],
+            &pool_of(&[&[3.0], &[1.0], &[2.0], &[1.0], &[0.0], &[-0.0]]),
+        ),
         // All infeasible: by violation, equal ones share a front.
         fronts(
             41,
             &[0],
-            &[bound(&[0.0], &[0.5]), bound(&[1.0], &[0.25]), bound(&[2.0], &[0.25, 0.25])],
+            &[
+                bound(&[0.0], &[0.5]),
+                bound(&[1.0], &[0.25]),
+                bound(&[2.0], &[0.25, 0.25]),
+            ],
         ),
         // Feasible first, then by violation; rows do not matter there.
         fronts(
@@ -906,9 +973,17 @@ fn reference_cases() -> Vec<Line> {
     ] {
         lines.push(population(m, Some(size), None));
     }
-    for (m, divisions) in
-        [(1, 199), (2, 199), (2, 200), (2, 0), (3, 43), (3, 44), (8, 5), (8, 4), (2, u64::MAX)]
-    {
+    for (m, divisions) in [
+        (1, 199),
+        (2, 199),
+        (2, 200),
+        (2, 0),
+        (3, 43),
+        (3, 44),
+        (8, 5),
+        (8, 4),
+        (2, u64::MAX),
+    ] {
         lines.push(population(m, None, Some(divisions)));
     }
     // Fewer places than lines: the size stays as given.
@@ -977,13 +1052,29 @@ fn association_cases() -> Vec<Line> {
         normalize(&[0], &[0.0], &[vec![-0.0], vec![1.0]]),
         normalize(&[0], &[open], &[vec![-0.0], vec![0.0], vec![1.0]]),
         normalize(&[0], &[open], &[vec![0.0], vec![-0.0], vec![1.0]]),
-        normalize(&[0], &[open], &[vec![-two(1000)], vec![two(1000)], vec![0.0]]),
+        normalize(
+            &[0],
+            &[open],
+            &[vec![-two(1000)], vec![two(1000)], vec![0.0]],
+        ),
         normalize(&[0], &[open], &[vec![0.0], vec![tiniest()]]),
         // Equal distances: the first line wins.
         associate(2, 1, &[vec![1.0, 1.0], vec![0.0, 0.0], vec![0.25, 0.75]]),
-        associate(3, 2, &[vec![0.0, 0.0, 0.0], vec![1.0, 1.0, 1.0], vec![0.5, 0.5, 0.5]]),
+        associate(
+            3,
+            2,
+            &[
+                vec![0.0, 0.0, 0.0],
+                vec![1.0, 1.0, 1.0],
+                vec![0.5, 0.5, 0.5],
+            ],
+        ),
         associate(1, 9, &[vec![0.0], vec![1.0], vec![0.5]]),
-        associate(8, 1, &[vec![0.125; 8], vec![1.0, 0.0, 0.0, 0.0, 0.0, 0.0, 0.0, 0.0]]),
+        associate(
+            8,
+            1,
+            &[vec![0.125; 8], vec![1.0, 0.0, 0.0, 0.0, 0.0, 0.0, 0.0, 0.0]],
+        ),
         // Squares that differ in the last bit can share a root.
         associate(2, 4, &[vec![0.1, 0.2], vec![0.3, 0.7], vec![1.0, 1e-10]]),
         // Squares that vanish: distances of 0 that are not on the line.
@@ -1010,7 +1101,13 @@ fn association_input(mix: &mut Mix, at: u64) -> Line {
                     let near = rows[0][j];
                     mix.pick(&[f64::INFINITY, f64::INFINITY, near, near - 1.0, 0.0, -0.0])
                 })
-                .map(|z| if z.abs() > refusals::greatest() { f64::INFINITY } else { z })
+                .map(|z| {
+                    if z.abs() > refusals::greatest() {
+                        f64::INFINITY
+                    } else {
+                        z
+                    }
+                })
                 .collect();
             normalize(&marks(mix, m), &ideal, &rows)
         }
@@ -1027,8 +1124,7 @@ fn association_input(mix: &mut Mix, at: u64) -> Line {
         _ => {
             let point: Vec<f64> = (0..m).map(|_| mix.unit()).collect();
             let h = divisions(mix, m, 400) as f64;
-            let reference: Vec<f64> =
-                (0..m).map(|_| mix.below(h as u64 + 1) as f64 / h).collect();
+            let reference: Vec<f64> = (0..m).map(|_| mix.below(h as u64 + 1) as f64 / h).collect();
             distance(&point, &reference)
         }
     }
@@ -1040,7 +1136,13 @@ fn association_input(mix: &mut Mix, at: u64) -> Line {
 
 /// Document 01's listing.
 fn listing() -> Call {
-    Call::new(2, 1, 2, 5, pool_of(&[&[0.0, 0.0], &[1.0, 3.0], &[4.0, 1.0]]))
+    Call::new(
+        2,
+        1,
+        2,
+        5,
+        pool_of(&[&[0.0, 0.0], &[1.0, 3.0], &[4.0, 1.0]]),
+    )
 }
 
 /// The variations of a selection that meet a refusal, or just do not.
@@ -1168,8 +1270,11 @@ fn selection(mix: &mut Mix, at: u64, most: u64) -> Call {
 fn splitting_size(mix: &mut Mix, call: &Call) -> Option<u64> {
     let directions = plans::directions(&call.marks);
     let rows: Vec<Vec<f64>> = call.pool.iter().map(|plan| plan.values.clone()).collect();
-    let constraints: Vec<Vec<f64>> =
-        call.pool.iter().map(|plan| plan.constraints.clone()).collect();
+    let constraints: Vec<Vec<f64>> = call
+        .pool
+        .iter()
+        .map(|plan| plan.constraints.clone())
+        .collect();
     let fronts = pareto::fast_non_dominated_sort_constrained(&rows, &directions, &constraints);
     let mut inside = Vec::new();
     let mut before = 0;
@@ -1284,17 +1389,53 @@ fn breeding_cases() -> Vec<Line> {
         sample_random(1, &choices(1)),
         sample_random(1, &choices(65536)),
         // By parameter number, not as they arrive; extra ones are ignored.
-        extract(1, &[unit.clone(), int(0, 9, None)], &[(8, 1, 4), (2, 0, of_real(0.5)), (9, 2, 1)]),
+        extract(
+            1,
+            &[unit.clone(), int(0, 9, None)],
+            &[(8, 1, 4), (2, 0, of_real(0.5)), (9, 2, 1)],
+        ),
         // Missing ones are drawn.
-        extract(1, &[unit.clone(), int(0, 9, None), choices(3)], &[(u64::MAX, 0, of_real(0.25))]),
+        extract(
+            1,
+            &[unit.clone(), int(0, 9, None), choices(3)],
+            &[(u64::MAX, 0, of_real(0.25))],
+        ),
         extract(1, &[unit.clone()], &[]),
         extract(1, &[], &[(3, 2, 1)]),
         // P11: probability 0 and draw 0, crossover runs.
-        crossover(before_draw(0), 0.0, 2.0, &[unit.clone()], &[f(0.25)], &[f(0.75)]),
-        crossover(before_draw(1), 0.0, 2.0, &[unit.clone()], &[f(0.25)], &[f(0.75)]),
-        crossover(before_draw(0), -0.0, 2.0, &[unit.clone()], &[f(0.25)], &[f(0.75)]),
+        crossover(
+            before_draw(0),
+            0.0,
+            2.0,
+            &[unit.clone()],
+            &[f(0.25)],
+            &[f(0.75)],
+        ),
+        crossover(
+            before_draw(1),
+            0.0,
+            2.0,
+            &[unit.clone()],
+            &[f(0.25)],
+            &[f(0.75)],
+        ),
+        crossover(
+            before_draw(0),
+            -0.0,
+            2.0,
+            &[unit.clone()],
+            &[f(0.25)],
+            &[f(0.75)],
+        ),
         // A draw that equals the probability runs too.
-        crossover(before_draw(half), 0.5, 2.0, &[unit.clone()], &[f(0.25)], &[f(0.75)]),
+        crossover(
+            before_draw(half),
+            0.5,
+            2.0,
+            &[unit.clone()],
+            &[f(0.25)],
+            &[f(0.75)],
+        ),
         // No dimension: one word.
         crossover(1, 1.0, 30.0, &[], &[], &[]),
         // Closer than 1e-14, and just 1e-14 apart.
@@ -1314,7 +1455,12 @@ fn breeding_cases() -> Vec<Line> {
         mutate(1, 20.0, &[unit.clone()], &[f(0.5)]),
         mutate(1, 20.0, &[choices(1)], &[c(0)]),
         // A degenerate range draws and stays.
-        mutate(1, 20.0, &[float(2.5, 2.5), int(4, 4, None)], &[f(2.5), i(4)]),
+        mutate(
+            1,
+            20.0,
+            &[float(2.5, 2.5), int(4, 4, None)],
+            &[f(2.5), i(4)],
+        ),
         mutate(3, 0.0, &[int(-far, far, None)], &[i(far)]),
         vec![86, 4, 1, 0],
         vec![86, 4, 3, 2, 1, 1],
@@ -1334,8 +1480,16 @@ fn breeding_cases() -> Vec<Line> {
         leaf(85, 1, &[2.5, 2.5, 2.5, 20.0]),
         // The clamp leaves -0.0 where low is +0.0.
         leaf(83, before_draw(half), &[-0.0, -0.0, 0.0, 1.0, 30.0]),
-        leaf(83, before_draw(last), &[-two(53), two(53), -two(53), two(53), 0.0]),
-        leaf(83, before_draw(last), &[two(53), 1.0, -two(53), two(53), 0.0]),
+        leaf(
+            83,
+            before_draw(last),
+            &[-two(53), two(53), -two(53), two(53), 0.0],
+        ),
+        leaf(
+            83,
+            before_draw(last),
+            &[two(53), 1.0, -two(53), two(53), 0.0],
+        ),
         leaf(85, 1, &[tiniest(), 0.0, f64::from_bits(5), 20.0]),
     ]);
 
@@ -1427,7 +1581,12 @@ fn bad_dimensions() -> Vec<Distribution> {
     let far = 1_i64 << 53;
     let over = next(two(53));
     let full = |low, high, log_scale, step| {
-        Distribution::Float(FloatDistribution { low, high, log_scale, step })
+        Distribution::Float(FloatDistribution {
+            low,
+            high,
+            log_scale,
+            step,
+        })
     };
     vec![
         float(1.0, 0.0),
@@ -1442,7 +1601,12 @@ fn bad_dimensions() -> Vec<Distribution> {
         int(-far - 1, 0, None),
         int(0, 9, Some(0)),
         int(0, 9, Some(-1)),
-        Distribution::Int(IntDistribution { low: 1, high: 2, log_scale: true, step: None }),
+        Distribution::Int(IntDistribution {
+            low: 1,
+            high: 2,
+            log_scale: true,
+            step: None,
+        }),
         choices(0),
         choices(65537),
     ]
@@ -1453,9 +1617,8 @@ fn breeding_input(mix: &mut Mix, at: u64) -> Line {
     let many = at % 20 == 19;
     let count = if many { 32 } else { mix.within(1, 5) as usize };
     let dimensions = dimensions(mix, count);
-    let values = |mix: &mut Mix| -> Vec<ParamValue> {
-        dimensions.iter().map(|d| value(mix, d)).collect()
-    };
+    let values =
+        |mix: &mut Mix| -> Vec<ParamValue> { dimensions.iter().map(|d| value(mix, d)).collect() };
     match at % 10 {
         0 => sample_random(state, &dimensions[0]),
         1 => {
@@ -1464,7 +1627,14 @@ fn breeding_input(mix: &mut Mix, at: u64) -> Line {
         }
         2 | 3 => {
             let (first, second) = (values(mix), values(mix));
-            crossover(state, probability(mix), eta(mix), &dimensions, &first, &second)
+            crossover(
+                state,
+                probability(mix),
+                eta(mix),
+                &dimensions,
+                &first,
+                &second,
+            )
         }
         4 => {
             let (low, high) = bounds(mix);
@@ -1533,7 +1703,13 @@ struct Script {
 impl Script {
     fn new(opening: Opening) -> Self {
         let session = Session::open(&opening).ok();
-        Script { opening, session, calls: Vec::new(), dimensions: Vec::new(), fresh: Vec::new() }
+        Script {
+            opening,
+            session,
+            calls: Vec::new(),
+            dimensions: Vec::new(),
+            fresh: Vec::new(),
+        }
     }
 
     /// `times` calls, the plan number rising; answers the last one's.
@@ -1569,7 +1745,9 @@ impl Script {
         let Some(session) = self.session.as_mut() else {
             return Err(0);
         };
-        session.set_history(keep, copies, records).expect("the history is that long");
+        session
+            .set_history(keep, copies, records)
+            .expect("the history is that long");
         let mut last = Err(0);
         for at in 0..times {
             last = session.call(dimension, plan.wrapping_add(at), short);
@@ -1615,7 +1793,12 @@ fn record(number: u64, row: &[f64], values: &[ParamValue]) -> Plan {
             (at as u64 + 1, kind, word)
         })
         .collect();
-    Plan { number, values: row.to_vec(), constraints: Vec::new(), settings }
+    Plan {
+        number,
+        values: row.to_vec(),
+        constraints: Vec::new(),
+        settings,
+    }
 }
 
 fn session_cases() -> Vec<Line> {
@@ -1625,22 +1808,80 @@ fn session_cases() -> Vec<Line> {
     // Openings that are turned down, and some that just are not.
     let good = opening(2, Some(4), Some(3), 1);
     let openings = [
-        Opening { marks: Vec::new(), ..good.clone() },
-        Opening { marks: vec![0; 9], size: Some(2000), ..good.clone() },
-        Opening { marks: vec![0, 2], ..good.clone() },
-        Opening { size: Some(1025), ..good.clone() },
-        Opening { size: Some(1024), ..good.clone() },
-        Opening { size: Some(0), divisions: None, ..good.clone() },
-        Opening { divisions: Some(0), ..good.clone() },
-        Opening { divisions: Some(200), ..good.clone() },
-        Opening { marks: vec![0; 3], size: Some(991), divisions: None, ..good.clone() },
-        Opening { marks: vec![0; 3], size: Some(990), divisions: None, ..good.clone() },
-        Opening { marks: vec![0; 8], size: Some(793), divisions: None, ..good.clone() },
-        Opening { crossover_eta: 0.5, ..good.clone() },
-        Opening { mutation_eta: 100.0, short: true, ..good.clone() },
-        Opening { probability: f64::NAN, ..good.clone() },
-        Opening { probability: -0.0, crossover_eta: -0.0, ..good.clone() },
-        Opening { short: true, ..good.clone() },
+        Opening {
+            marks: Vec::new(),
+            ..good.clone()
+        },
+        Opening {
+            marks: vec![0; 9],
+            size: Some(2000),
+            ..good.clone()
+        },
+        Opening {
+            marks: vec![0, 2],
+            ..good.clone()
+        },
+        Opening {
+            size: Some(1025),
+            ..good.clone()
+        },
+        Opening {
+            size: Some(1024),
+            ..good.clone()
+        },
+        Opening {
+            size: Some(0),
+            divisions: None,
+            ..good.clone()
+        },
+        Opening {
+            divisions: Some(0),
+            ..good.clone()
+        },
+        Opening {
+            divisions: Some(200),
+            ..good.clone()
+        },
+        Opening {
+            marks: vec![0; 3],
+            size: Some(991),
+            divisions: None,
+            ..good.clone()
+        },
+        Opening {
+            marks: vec![0; 3],
+            size: Some(990),
+            divisions: None,
+            ..good.clone()
+        },
+        Opening {
+            marks: vec![0; 8],
+            size: Some(793),
+            divisions: None,
+            ..good.clone()
+        },
+        Opening {
+            crossover_eta: 0.5,
+            ..good.clone()
+        },
+        Opening {
+            mutation_eta: 100.0,
+            short: true,
+            ..good.clone()
+        },
+        Opening {
+            probability: f64::NAN,
+            ..good.clone()
+        },
+        Opening {
+            probability: -0.0,
+            crossover_eta: -0.0,
+            ..good.clone()
+        },
+        Opening {
+            short: true,
+            ..good.clone()
+        },
     ];
     for opening in openings {
         let mut script = Script::new(opening);
@@ -1692,7 +1933,13 @@ fn session_cases() -> Vec<Line> {
     let _ = script.call(2048, false);
     let _ = script.calls(1, 2049, &any_dimension(), true, false);
     script.fresh = (1..=4)
-        .map(|n| record(n, &[n as f64, 4.0 - n as f64], &[ParamValue::Categorical(1)]))
+        .map(|n| {
+            record(
+                n,
+                &[n as f64, 4.0 - n as f64],
+                &[ParamValue::Categorical(1)],
+            )
+        })
         .collect();
     let _ = script.call(2049, true);
     lines.push(script.line());
@@ -1701,9 +1948,23 @@ fn session_cases() -> Vec<Line> {
     // records pass.
     let mut script = Script::new(good.clone());
     let any = record(1, &[], &[]);
-    let _ = script.raw(1, 0, &choices(3), false, (0, 4097, std::slice::from_ref(&any)), true);
+    let _ = script.raw(
+        1,
+        0,
+        &choices(3),
+        false,
+        (0, 4097, std::slice::from_ref(&any)),
+        true,
+    );
     let _ = script.raw(1, 0, &choices(3), false, (4096, 0, &[]), true);
-    let _ = script.raw(1, 1, &choices(3), false, (4096, 1, std::slice::from_ref(&any)), false);
+    let _ = script.raw(
+        1,
+        1,
+        &choices(3),
+        false,
+        (4096, 1, std::slice::from_ref(&any)),
+        false,
+    );
     let _ = script.raw(1, 1, &choices(3), false, (0, 0, &[]), true);
     lines.push(script.line());
 
@@ -1712,8 +1973,11 @@ fn session_cases() -> Vec<Line> {
     // record corrects it; a known plan's call breeds and starts it over.
     let mut script = Script::new(opening(2, Some(4), Some(3), 42));
     script.discover(10, &[unit.clone(), int(0, 9, None), choices(3)]);
-    let fit =
-        [ParamValue::Float(0.5), ParamValue::Int(3), ParamValue::Categorical(2)];
+    let fit = [
+        ParamValue::Float(0.5),
+        ParamValue::Int(3),
+        ParamValue::Categorical(2),
+    ];
     for plan in [20, 21, 22] {
         for _ in 0..3 {
             let _ = script.call(plan, false);
@@ -1892,11 +2156,19 @@ fn choose_cases() -> Vec<Line> {
     let good = listing();
     let file = good.file();
     let mut lines = vec![good.choose()];
-    lines.extend(refused_selections().iter().filter(|call| !call.short).filter_map(|call| {
-        // A file has no row length of its own.
-        let even = call.pool.iter().all(|plan| plan.values.len() == call.marks.len());
-        even.then(|| call.choose())
-    }));
+    lines.extend(
+        refused_selections()
+            .iter()
+            .filter(|call| !call.short)
+            .filter_map(|call| {
+                // A file has no row length of its own.
+                let even = call
+                    .pool
+                    .iter()
+                    .all(|plan| plan.values.len() == call.marks.len());
+                even.then(|| call.choose())
+            }),
+    );
     let nothing = Call::new(0, 1, 1, 0, pool_of(&[&[], &[]]));
     let nine = Call::new(9, 1, 1, 0, pool_of(&[&[0.0; 9]]));
     let mut bounded = listing();
@@ -1975,7 +2247,9 @@ fn large_cases() -> Vec<Line> {
     let mut lines = Vec::new();
     // Full pools, full tables, full sizes.
     for m in 1..=8 {
-        let most = (1..200).take_while(|&h| refusals::lines(m, h) <= 1024).count() as u64;
+        let most = (1..200)
+            .take_while(|&h| refusals::lines(m, h) <= 1024)
+            .count() as u64;
         let rows = mix.pick(&[1, 9, 5]);
         let mut plans: Vec<Plan> = (0..1024)
             .map(|at| plan(&row(&mut mix, rows, m, at, 1024), &constraints(&mut mix, 2)))
@@ -2016,7 +2290,11 @@ fn large_cases() -> Vec<Line> {
     let mut records: Vec<Plan> = (0..4096)
         .map(|n| {
             let number = 1 + (n * 5) % 1024;
-            record(number, &[n as f64, (4096 - n) as f64], &[ParamValue::Float(0.5)])
+            record(
+                number,
+                &[n as f64, (4096 - n) as f64],
+                &[ParamValue::Float(0.5)],
+            )
         })
         .collect();
     mix.shuffle(&mut records);
