@@ -157,7 +157,8 @@ pub(super) fn number_cases() -> Vec<Line> {
 pub(super) fn number_input(mix: &mut Mix, at: u64) -> Line {
     match at % 6 {
         0 => {
-            let y = mix.pick(&[mix.0 as f64 / two(64), 1.0]) * mix.unit();
+            let u = mix.unit();
+            let y = mix.pick(&[u, 1.0 - u * two(-20)]);
             vec![20, of_real(y), mix.within(1, 100)]
         }
         1 => {
