@@ -248,6 +248,11 @@ impl Session {
         });
         a.push(evo.assigned_count as u64);
         assert_eq!(evo.trial_progress.len(), plans.len());
+        assert_eq!(
+            evo.assigned_count,
+            plans.len(),
+            "as many are assigned as there are plans"
+        );
         for (at, number) in plans.iter().enumerate() {
             let progress = &evo.trial_progress[number];
             assert_eq!(
