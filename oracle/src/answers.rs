@@ -64,7 +64,11 @@ pub fn answer(input: &[u64]) -> Result<Vec<u64>, String> {
             if !(1..=100).contains(&k) {
                 return Err("k is not 1 to 100".to_string());
             }
-            let leaf = if command == 20 { powers::power } else { powers::root };
+            let leaf = if command == 20 {
+                powers::power
+            } else {
+                powers::root
+            };
             a.push(of_real(leaf(x, k as u32)));
         }
         22 => a.push(of_real(r.real()?.sqrt())),
@@ -85,7 +89,10 @@ pub fn answer(input: &[u64]) -> Result<Vec<u64>, String> {
             let answer = pareto::dominates(&x, &y, &directions);
             // Selection compares rows in minimise-space; both ways agree.
             let (x, y) = (minimize(&x, &directions), minimize(&y, &directions));
-            assert_eq!(answer, pareto::dominates(&x, &y, &all_minimize(directions.len())));
+            assert_eq!(
+                answer,
+                pareto::dominates(&x, &y, &all_minimize(directions.len()))
+            );
             a.push(answer as u64);
         }
         31 => {
@@ -160,7 +167,10 @@ pub fn answer(input: &[u64]) -> Result<Vec<u64>, String> {
             let refused = refusals::lowest(&[
                 (2, refusals::bad_marks(&marks)),
                 (3, size.is_some_and(|s| s > 1024)),
-                (4, refusals::bad_opening_divisions(marks.len(), size, divisions)),
+                (
+                    4,
+                    refusals::bad_opening_divisions(marks.len(), size, divisions),
+                ),
             ]);
             a.push(refused.unwrap_or(0));
             if refused.is_none() {
@@ -405,7 +415,15 @@ impl Selection {
         let (divisions, size, state) = (r.number()?, r.number()?, r.number()?);
         let count = r.count()?;
         let ideal = r.reals(count)?;
-        Ok(Selection { short, marks, divisions, size, state, ideal, pool: Vec::new() })
+        Ok(Selection {
+            short,
+            marks,
+            divisions,
+            size,
+            state,
+            ideal,
+            pool: Vec::new(),
+        })
     }
 
     fn read_pool(&mut self, r: &mut Reader) -> Result<(), String> {
@@ -455,14 +473,13 @@ pub fn select(call: &Selection, dimensions: &[Distribution]) -> Kept {
     prepare(&mut state, call, dimensions);
     let (_, list) = nsga3::nsga3_select(&mut state, &population, &directions);
 
-    let rows: Vec<Vec<f64>> =
-        trials.iter().map(|t| minimize(&t.values, &directions)).collect();
+    let rows: Vec<Vec<f64>> = trials
+        .iter()
+        .map(|t| minimize(&t.values, &directions))
+        .collect();
     let constraints: Vec<Vec<f64>> = trials.iter().map(|t| t.constraints.clone()).collect();
-    let front_list = pareto::fast_non_dominated_sort_constrained(
-        &rows,
-        &all_minimize(m),
-        &constraints,
-    );
+    let front_list =
+        pareto::fast_non_dominated_sort_constrained(&rows, &all_minimize(m), &constraints);
     let mut fronts = vec![0; trials.len()];
     for (rank, front) in front_list.iter().enumerate() {
         for &plan in front {
@@ -484,15 +501,26 @@ pub fn select(call: &Selection, dimensions: &[Distribution]) -> Kept {
     if split {
         let (_, normalized) = normalize(&mut ideal, &rows);
         let table = &state.reference_points;
-        for (at, (line, _)) in
-            nsga3::associate_to_reference_points(&normalized, table).into_iter().enumerate()
+        for (at, (line, _)) in nsga3::associate_to_reference_points(&normalized, table)
+            .into_iter()
+            .enumerate()
         {
             lines[at] = line as u64;
         }
     }
     let bits = |reals: &[f64]| -> Vec<u64> { reals.iter().map(|x| x.to_bits()).collect() };
-    assert_eq!(bits(&ideal), bits(&state.ideal_point), "the ideal of the same split");
-    Kept { list, fronts, lines, ideal, state: state.evo.rng.s }
+    assert_eq!(
+        bits(&ideal),
+        bits(&state.ideal_point),
+        "the ideal of the same split"
+    );
+    Kept {
+        list,
+        fronts,
+        lines,
+        ideal,
+        state: state.evo.rng.s,
+    }
 }
 
 fn prepare(state: &mut nsga3::Nsga3State, call: &Selection, dimensions: &[Distribution]) {
@@ -519,7 +547,13 @@ impl Step {
         let (probability, crossover_eta, mutation_eta) = (r.real()?, r.real()?, r.real()?);
         let dimensions = plans::read_dimensions(r)?;
         selection.read_pool(r)?;
-        Ok(Step { selection, probability, crossover_eta, mutation_eta, dimensions })
+        Ok(Step {
+            selection,
+            probability,
+            crossover_eta,
+            mutation_eta,
+            dimensions,
+        })
     }
 
     pub fn refused(&self) -> Option<u64> {
@@ -535,10 +569,13 @@ impl Step {
             ),
             (
                 6,
-                self.dimensions.len() > 32
-                    || self.dimensions.iter().any(refusals::bad_dimension),
+                self.dimensions.len() > 32 || self.dimensions.iter().any(refusals::bad_dimension),
             ),
-            (9, pool.iter().any(|plan| refusals::bad_settings(plan, &dimensions))),
+            (
+                9,
+                pool.iter()
+                    .any(|plan| refusals::bad_settings(plan, &dimensions)),
+            ),
         ]);
         refusals::lowest(&conditions)
     }

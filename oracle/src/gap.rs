@@ -49,7 +49,13 @@ struct Gaps {
 
 impl Gaps {
     fn new() -> Self {
-        Gaps { counts: [0; 64], seen: 0, sum: 0, largest: 0, at: 0.0 }
+        Gaps {
+            counts: [0; 64],
+            seen: 0,
+            sum: 0,
+            largest: 0,
+            at: 0.0,
+        }
     }
 
     fn add(&mut self, gap: u64, argument: f64) {
@@ -195,14 +201,22 @@ fn measure_children(chance: &mut Chance) {
             let (mut equal, mut largest, mut ints) = (0_u64, 0.0_f64, 0_u64);
             let count = 200_000;
             for _ in 0..count {
-                let eta = if eta < 0.0 { (chance.word() % 100) as f64 } else { eta };
+                let eta = if eta < 0.0 {
+                    (chance.word() % 100) as f64
+                } else {
+                    eta
+                };
                 let state = chance.word();
                 let x = chance.even(53) as f64 / TWO_53;
                 let y = chance.even(53) as f64 / TWO_53;
                 let child = |scale: f64| {
                     let mut rng = fastrand::Rng::with_seed(state);
                     let (x, y) = ((x * scale).max(0.0), (y * scale).max(0.0));
-                    let (x, y) = if scale > 1.0 { (x.round(), y.round()) } else { (x, y) };
+                    let (x, y) = if scale > 1.0 {
+                        (x.round(), y.round())
+                    } else {
+                        (x, y)
+                    };
                     if sbx {
                         genetic::sbx_crossover_f64(&mut rng, x, y, 0.0, scale, eta).0
                     } else {
@@ -265,7 +279,10 @@ pub fn measure() {
     }
     println!("R of bare powers (draw 0), normal range, k from 1 to 100");
     println!("  {}", bare.show());
-    println!("  largest: k = {}, v = {:e}, {} doubles", worst.0, worst.1, worst.2);
+    println!(
+        "  largest: k = {}, v = {:e}, {} doubles",
+        worst.0, worst.1, worst.2
+    );
 
     // Powers below the normal range: P itself, and R of them (draw 0 again).
     let mut below = [Gaps::new(), Gaps::new()];
@@ -293,5 +310,8 @@ pub fn measure() {
     println!("powers below 2^-1022, k from 2 to 100");
     println!("  P: {}", below[0].show());
     println!("  R of them: {}", below[1].show());
-    println!("  R's largest: k = {}, v = {:e}, {} doubles", worst.0, worst.1, worst.2);
+    println!(
+        "  R's largest: k = {}, v = {:e}, {} doubles",
+        worst.0, worst.1, worst.2
+    );
 }

@@ -60,8 +60,7 @@ fn answer_lines(pairs: bool) -> Result<(), String> {
     for (at, line) in std::io::stdin().lock().lines().enumerate() {
         let line = line.map_err(|error| error.to_string())?;
         let input = words::read(&line).map_err(|what| format!("line {}: {what}", at + 1))?;
-        let answer =
-            answers::answer(&input).map_err(|what| format!("line {}: {what}", at + 1))?;
+        let answer = answers::answer(&input).map_err(|what| format!("line {}: {what}", at + 1))?;
         if pairs {
             writeln!(out, "{}", words::write(&input)).map_err(|error| error.to_string())?;
         }

@@ -30,9 +30,13 @@ impl Plan {
         let count = reader.count()?;
         let constraints = reader.reals(count)?;
         let count = reader.count()?;
-        let settings =
-            reader.list(count, |r| Ok((r.number()?, r.number()?, r.number()?)))?;
-        Ok(Plan { number, values, constraints, settings })
+        let settings = reader.list(count, |r| Ok((r.number()?, r.number()?, r.number()?)))?;
+        Ok(Plan {
+            number,
+            values,
+            constraints,
+            settings,
+        })
     }
 
     pub fn write(&self, line: &mut Vec<u64>) {
@@ -106,7 +110,12 @@ pub fn read_dimension(reader: &mut Reader) -> Result<Distribution, String> {
                 let given = reader.real()?;
                 step = stepped.then_some(given);
             }
-            Distribution::Float(FloatDistribution { low, high, log_scale, step })
+            Distribution::Float(FloatDistribution {
+                low,
+                high,
+                log_scale,
+                step,
+            })
         }
         1 | 4 => {
             let (low, high) = (reader.int()?, reader.int()?);
@@ -121,9 +130,16 @@ pub fn read_dimension(reader: &mut Reader) -> Result<Distribution, String> {
                 let given = reader.int()?;
                 step = (given != 0).then_some(given);
             }
-            Distribution::Int(IntDistribution { low, high, log_scale, step })
+            Distribution::Int(IntDistribution {
+                low,
+                high,
+                log_scale,
+                step,
+            })
         }
-        2 => Distribution::Categorical(CategoricalDistribution { n_choices: reader.count()? }),
+        2 => Distribution::Categorical(CategoricalDistribution {
+            n_choices: reader.count()?,
+        }),
         _ => return Err(format!("{kind} is no kind of dimension")),
     })
 }
@@ -158,7 +174,9 @@ pub fn read_dimensions(reader: &mut Reader) -> Result<Vec<Distribution>, String>
 pub fn infos(dimensions: &[Distribution]) -> Vec<DimensionInfo> {
     dimensions
         .iter()
-        .map(|d| DimensionInfo { distribution: d.clone() })
+        .map(|d| DimensionInfo {
+            distribution: d.clone(),
+        })
         .collect()
 }
 
@@ -180,6 +198,12 @@ pub fn read_directions(reader: &mut Reader) -> Result<Vec<Direction>, String> {
 pub fn directions(marks: &[u64]) -> Vec<Direction> {
     marks
         .iter()
-        .map(|&mark| if mark == 0 { Direction::Minimize } else { Direction::Maximize })
+        .map(|&mark| {
+            if mark == 0 {
+                Direction::Minimize
+            } else {
+                Direction::Maximize
+            }
+        })
         .collect()
 }

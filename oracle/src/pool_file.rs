@@ -58,13 +58,26 @@ fn parse(file: &[u8]) -> Option<Selection> {
         let values = bytes.reals(m)?;
         let count = bytes.number()?;
         let constraints = bytes.reals(count)?;
-        pool.push(Plan { number, values, constraints, settings: Vec::new() });
+        pool.push(Plan {
+            number,
+            values,
+            constraints,
+            settings: Vec::new(),
+        });
     }
     if !bytes.rest.is_empty() {
         return None;
     }
     let ideal = vec![f64::INFINITY; m as usize];
-    Some(Selection { short: false, marks, divisions, size, state, ideal, pool })
+    Some(Selection {
+        short: false,
+        marks,
+        divisions,
+        size,
+        state,
+        ideal,
+        pool,
+    })
 }
 
 /// The text that `choose` prints for a file.
@@ -82,7 +95,11 @@ pub fn choose(file: &[u8]) -> String {
             NO_LINE => "-".to_string(),
             line => line.to_string(),
         };
-        let place = kept.list.iter().position(|&k| k == plan).map_or(0, |at| at + 1);
+        let place = kept
+            .list
+            .iter()
+            .position(|&k| k == plan)
+            .map_or(0, |at| at + 1);
         text.push_str(&format!("{plan} {} {line} {place}\n", kept.fronts[plan]));
     }
     text

@@ -7,7 +7,11 @@ use crate::sampler::genetic::DimensionInfo;
 
 /// The lowest number whose condition holds.
 pub fn lowest(conditions: &[(u64, bool)]) -> Option<u64> {
-    conditions.iter().filter(|(_, holds)| *holds).map(|(number, _)| *number).min()
+    conditions
+        .iter()
+        .filter(|(_, holds)| *holds)
+        .map(|(number, _)| *number)
+        .min()
 }
 
 /// 2: objectives not 1 to 8, or a mark neither 0 nor 1.
@@ -31,7 +35,9 @@ pub fn lines(m: usize, h: u64) -> u128 {
 
 /// The first h from 1 to 199 with at least `target` lines, else 12.
 pub fn automatic(m: usize, target: u64) -> u64 {
-    (1..200).find(|&h| lines(m, h) >= target as u128).unwrap_or(12)
+    (1..200)
+        .find(|&h| lines(m, h) >= target as u128)
+        .unwrap_or(12)
 }
 
 /// 4: divisions given not 1 to 199, or over 1,024 lines. Only asked of 1 to
@@ -44,9 +50,7 @@ pub fn bad_divisions(m: usize, divisions: u64) -> bool {
 pub fn bad_opening_divisions(m: usize, size: Option<u64>, divisions: Option<u64>) -> bool {
     match divisions {
         Some(given) => bad_divisions(m, given),
-        None => {
-            (1..=8).contains(&m) && bad_divisions(m, automatic(m, size.unwrap_or(100)))
-        }
+        None => (1..=8).contains(&m) && bad_divisions(m, automatic(m, size.unwrap_or(100))),
     }
 }
 
@@ -112,18 +116,21 @@ pub fn bad_settings(plan: &Plan, dimensions: &[DimensionInfo]) -> bool {
     let repeats = sorted.windows(2).any(|pair| pair[0].0 == pair[1].0);
     // By parameter number, the first setting belongs to the first dimension.
     repeats
-        || sorted.iter().zip(dimensions).any(|(&(_, kind, value), dimension)| {
-            let good = match &dimension.distribution {
-                Distribution::Float(d) => {
-                    let x = crate::words::to_real(value);
-                    kind == 0 && d.low <= x && x <= d.high
-                }
-                Distribution::Int(d) => {
-                    let n = crate::words::to_int(value);
-                    kind == 1 && d.low <= n && n <= d.high
-                }
-                Distribution::Categorical(d) => kind == 2 && value < d.n_choices as u64,
-            };
-            !good
-        })
+        || sorted
+            .iter()
+            .zip(dimensions)
+            .any(|(&(_, kind, value), dimension)| {
+                let good = match &dimension.distribution {
+                    Distribution::Float(d) => {
+                        let x = crate::words::to_real(value);
+                        kind == 0 && d.low <= x && x <= d.high
+                    }
+                    Distribution::Int(d) => {
+                        let n = crate::words::to_int(value);
+                        kind == 1 && d.low <= n && n <= d.high
+                    }
+                    Distribution::Categorical(d) => kind == 2 && value < d.n_choices as u64,
+                };
+                !good
+            })
 }

@@ -91,7 +91,10 @@ impl Session {
         let refused = refusals::lowest(&[
             (2, refusals::bad_marks(&opening.marks)),
             (3, opening.size.is_some_and(|size| size > 1024)),
-            (4, refusals::bad_opening_divisions(m, opening.size, opening.divisions)),
+            (
+                4,
+                refusals::bad_opening_divisions(m, opening.size, opening.divisions),
+            ),
             (
                 5,
                 refusals::bad_eta(opening.crossover_eta)
@@ -155,8 +158,9 @@ impl Session {
         if let Some(number) = refused {
             return Err(number);
         }
-        let value =
-            self.sampler.sample(distribution, plan, &self.trials, &self.directions);
+        let value = self
+            .sampler
+            .sample(distribution, plan, &self.trials, &self.directions);
         let state = self.sampler.state.lock();
         assert_eq!(
             state.evo.generation,
@@ -191,7 +195,9 @@ impl Session {
             };
         let m = self.directions.len();
         let bad_parent = |bad: &dyn Fn(&Plan) -> bool| {
-            parents.as_ref().is_some_and(|plans| plans.iter().any(|p| bad(p)))
+            parents
+                .as_ref()
+                .is_some_and(|plans| plans.iter().any(|p| bad(p)))
         };
         let breeds = parents.is_some();
         let refused = refusals::lowest(&[
@@ -201,7 +207,10 @@ impl Session {
             ),
             (7, self.history.len() > 4096),
             (8, bad_parent(&|p| refusals::bad_row(p, m))),
-            (9, bad_parent(&|p| refusals::bad_settings(p, &evo.dimensions))),
+            (
+                9,
+                bad_parent(&|p| refusals::bad_settings(p, &evo.dimensions)),
+            ),
             (10, short),
             (
                 11,
@@ -232,12 +241,24 @@ impl Session {
             plans::write_dimension(a, &dimension.distribution);
         }
         // The Rust settles the size where discovery ends.
-        a.push(if active { evo.population_size as u64 } else { 0 });
+        a.push(if active {
+            evo.population_size as u64
+        } else {
+            0
+        });
         a.push(evo.assigned_count as u64);
         assert_eq!(evo.trial_progress.len(), plans.len());
+        assert_eq!(
+            evo.assigned_count,
+            plans.len(),
+            "as many are assigned as there are plans"
+        );
         for (at, number) in plans.iter().enumerate() {
             let progress = &evo.trial_progress[number];
-            assert_eq!(progress.candidate_idx, at, "a plan's candidate is its place");
+            assert_eq!(
+                progress.candidate_idx, at,
+                "a plan's candidate is its place"
+            );
             // Document 01 stops it at the dimension count.
             a.extend([*number, progress.next_dim.min(evo.dimensions.len()) as u64]);
         }

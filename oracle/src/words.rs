@@ -48,7 +48,11 @@ pub fn read(line: &str) -> Result<Vec<u64>, String> {
     let mut numbers = Vec::new();
     for (at, token) in line.split(' ').enumerate() {
         if !token.is_empty() && token.bytes().all(|b| b.is_ascii_digit()) {
-            numbers.push(token.parse().map_err(|_| format!("{token} is not below 2^64"))?);
+            numbers.push(
+                token
+                    .parse()
+                    .map_err(|_| format!("{token} is not below 2^64"))?,
+            );
             continue;
         }
         match COMMANDS.iter().find(|(name, _)| *name == token) {
@@ -76,7 +80,11 @@ pub fn to_real(bits: u64) -> f64 {
 
 /// An Int n is 2n from zero up and -2n - 1 below.
 pub fn of_int(n: i64) -> u64 {
-    if n >= 0 { 2 * n as u64 } else { 2 * !n as u64 + 1 }
+    if n >= 0 {
+        2 * n as u64
+    } else {
+        2 * !n as u64 + 1
+    }
 }
 
 pub fn to_int(code: u64) -> i64 {

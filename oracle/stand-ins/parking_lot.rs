@@ -10,6 +10,8 @@ impl<T> Mutex<T> {
     }
 
     pub fn lock(&self) -> std::sync::MutexGuard<'_, T> {
-        self.0.lock().expect("no thread ever leaves the lock broken")
+        self.0
+            .lock()
+            .expect("no thread ever leaves the lock broken")
     }
 }

@@ -1,0 +1,373 @@
+//! Inputs of the record setting and dimension, generation steps included.
+
+use super::kept::*;
+use super::numbers::*;
+use super::*;
+
+pub(super) fn sample_random(state: u64, dimension: &Distribution) -> Line {
+    let mut line = vec![80, state];
+    plans::write_dimension(&mut line, dimension);
+    line
+}
+
+pub(super) fn extract(
+    state: u64,
+    dimensions: &[Distribution],
+    settings: &[(u64, u64, u64)],
+) -> Line {
+    let mut line = vec![81, state];
+    push_dimensions(&mut line, dimensions);
+    let mut plan = plan(&[], &[]);
+    plan.settings = settings.to_vec();
+    plan.write(&mut line);
+    line
+}
+
+pub(super) fn crossover(
+    state: u64,
+    probability: f64,
+    eta: f64,
+    dimensions: &[Distribution],
+    first: &[ParamValue],
+    second: &[ParamValue],
+) -> Line {
+    let mut line = vec![82, state, of_real(probability), of_real(eta)];
+    push_dimensions(&mut line, dimensions);
+    for value in first.iter().chain(second) {
+        plans::write_setting(&mut line, value);
+    }
+    line
+}
+
+pub(super) fn mutate(
+    state: u64,
+    eta: f64,
+    dimensions: &[Distribution],
+    settings: &[ParamValue],
+) -> Line {
+    let mut line = vec![84, state, of_real(eta)];
+    push_dimensions(&mut line, dimensions);
+    for value in settings {
+        plans::write_setting(&mut line, value);
+    }
+    line
+}
+
+/// sbx (83) or polynomial mutation (85): state, reals, eta last.
+pub(super) fn leaf(command: u64, state: u64, reals: &[f64]) -> Line {
+    let mut line = vec![command, state];
+    push_reals(&mut line, reals);
+    line
+}
+
+/// A generation step whose plans have settings.
+pub(super) fn bred(mut call: Call, dimensions: &[Distribution], mix: &mut Mix) -> Call {
+    call.dimensions = dimensions.to_vec();
+    for plan in &mut call.pool {
+        plan.settings = fit_settings(mix, dimensions);
+    }
+    call
+}
+
+pub(super) fn breeding_cases() -> Vec<Line> {
+    let last = (1_u64 << 52) - 1;
+    let half = 1_u64 << 51;
+    let far = 1_i64 << 53;
+    let f = ParamValue::Float;
+    let i = ParamValue::Int;
+    let c = ParamValue::Categorical;
+    let unit = float(0.0, 1.0);
+    let mut lines = vec![
+        sample_random(1, &unit),
+        sample_random(before_draw(last), &float(1.0, next(1.0))),
+        sample_random(1, &int(0, 10, Some(3))),
+        sample_random(before_word(3), &int(0, 10, Some(3))),
+        sample_random(1, &int(0, 10, Some(11))),
+        sample_random(1, &int(-far, far, None)),
+        sample_random(before_word(u64::MAX), &int(-far, far, Some(1))),
+        sample_random(1, &int(4, 4, Some(2))),
+        sample_random(1, &choices(1)),
+        sample_random(1, &choices(65536)),
+        // By parameter number, not as they arrive; extra ones are ignored.
+        extract(
+            1,
+            &[unit.clone(), int(0, 9, None)],
+            &[(8, 1, 4), (2, 0, of_real(0.5)), (9, 2, 1)],
+        ),
+        // Missing ones are drawn.
+        extract(
+            1,
+            &[unit.clone(), int(0, 9, None), choices(3)],
+            &[(u64::MAX, 0, of_real(0.25))],
+        ),
+        extract(1, &[unit.clone()], &[]),
+        extract(1, &[], &[(3, 2, 1)]),
+        // P11: probability 0 and draw 0, crossover runs.
+        crossover(
+            before_draw(0),
+            0.0,
+            2.0,
+            &[unit.clone()],
+            &[f(0.25)],
+            &[f(0.75)],
+        ),
+        crossover(
+            before_draw(1),
+            0.0,
+            2.0,
+            &[unit.clone()],
+            &[f(0.25)],
+            &[f(0.75)],
+        ),
+        crossover(
+            before_draw(0),
+            -0.0,
+            2.0,
+            &[unit.clone()],
+            &[f(0.25)],
+            &[f(0.75)],
+        ),
+        // A draw that equals the probability runs too.
+        crossover(
+            before_draw(half),
+            0.5,
+            2.0,
+            &[unit.clone()],
+            &[f(0.25)],
+            &[f(0.75)],
+        ),
+        // No dimension: one word.
+        crossover(1, 1.0, 30.0, &[], &[], &[]),
+        // Closer than 1e-14, and just 1e-14 apart.
+        crossover(1, 1.0, 30.0, &[unit.clone()], &[f(0.0)], &[f(9e-15)]),
+        crossover(1, 1.0, 30.0, &[unit.clone()], &[f(0.0)], &[f(1e-14)]),
+        // Equal Ints take no draw; Categorical pairs always one.
+        crossover(
+            1,
+            1.0,
+            0.0,
+            &[int(0, 9, None), choices(3), int(0, 9, Some(2))],
+            &[i(3), c(0), i(2)],
+            &[i(3), c(2), i(7)],
+        ),
+        crossover(1, 1.0, 30.0, &[int(-far, far, None)], &[i(-far)], &[i(far)]),
+        mutate(1, 20.0, &[], &[]),
+        mutate(1, 20.0, &[unit.clone()], &[f(0.5)]),
+        mutate(1, 20.0, &[choices(1)], &[c(0)]),
+        // A degenerate range draws and stays.
+        mutate(
+            1,
+            20.0,
+            &[float(2.5, 2.5), int(4, 4, None)],
+            &[f(2.5), i(4)],
+        ),
+        mutate(3, 0.0, &[int(-far, far, None)], &[i(far)]),
+        vec![86, 4, 1, 0],
+        vec![86, 4, 3, 2, 1, 1],
+        vec![86, before_word(1), 4, 0, 3, 1, 2],
+    ];
+    for eta in [0.0, 30.0, 99.0] {
+        for k in [0, 1, half - 1, half, half + 1, last] {
+            lines.push(leaf(83, before_draw(k), &[0.25, 0.75, 0.0, 1.0, eta]));
+            lines.push(leaf(85, before_draw(k), &[0.25, 0.0, 1.0, eta]));
+        }
+        lines.push(leaf(85, before_draw(0), &[0.0, 0.0, 1.0, eta]));
+        lines.push(leaf(85, before_draw(0), &[1.0, 0.0, 1.0, eta]));
+        lines.push(leaf(85, before_draw(last), &[1.0, 0.0, 1.0, eta]));
+        lines.push(leaf(85, before_draw(last), &[0.0, 0.0, 1.0, eta]));
+    }
+    lines.extend([
+        leaf(85, 1, &[2.5, 2.5, 2.5, 20.0]),
+        // The clamp leaves -0.0 where low is +0.0.
+        leaf(83, before_draw(half), &[-0.0, -0.0, 0.0, 1.0, 30.0]),
+        leaf(
+            83,
+            before_draw(last),
+            &[-two(53), two(53), -two(53), two(53), 0.0],
+        ),
+        leaf(
+            83,
+            before_draw(last),
+            &[two(53), 1.0, -two(53), two(53), 0.0],
+        ),
+        leaf(85, 1, &[tiniest(), 0.0, f64::from_bits(5), 20.0]),
+    ]);
+
+    // The generation step: what it accepts at its edges.
+    let mut mix = Mix(1);
+    let two_dimensions = [unit.clone(), int(0, 9, None)];
+    let good = bred(listing().but(|c| c.size = 3), &two_dimensions, &mut mix);
+    let alone = good.but(|c| c.pool.truncate(1));
+    let mut calls = vec![
+        good.clone(),
+        good.but(|c| c.size = 2),
+        good.but(|c| c.size = 1),
+        good.but(|c| c.size = 5),
+        // No dimension at all.
+        good.but(|c| c.dimensions.clear()),
+        // A pool of one: all drawn, nothing kept.
+        alone.clone(),
+        alone.but(|c| c.size = 1),
+        alone.but(|c| c.dimensions.clear()),
+        good.but(|c| c.crossover_eta = -0.0),
+        good.but(|c| c.mutation_eta = 99.0),
+        good.but(|c| c.probability = -0.0),
+        // Ranks look at rows only: the infeasible plan 0 wins tournaments.
+        good.but(|c| c.pool[0].constraints = vec![1.0]),
+    ];
+    // What it turns down: 5, 6, 9 and the order of them.
+    let wrong_setting = |c: &mut Call| c.pool[1].settings = vec![(0, 0, of_real(1.5))];
+    calls.extend([
+        good.but(|c| c.crossover_eta = 0.5),
+        good.but(|c| c.crossover_eta = 100.0),
+        good.but(|c| c.mutation_eta = -1.0),
+        good.but(|c| c.mutation_eta = f64::NAN),
+        good.but(|c| c.probability = next(1.0)),
+        good.but(|c| c.probability = -tiniest()),
+        good.but(|c| c.probability = f64::NAN),
+        good.but(wrong_setting),
+        alone.but(|c| c.pool[0].settings = vec![(0, 0, of_real(1.5))]),
+        good.but(|c| {
+            wrong_setting(c);
+            c.pool[2].values[0] = f64::NAN;
+        }),
+        good.but(|c| {
+            wrong_setting(c);
+            c.short = true;
+        }),
+        good.but(|c| c.short = true),
+        good.but(|c| c.pool[0].settings = vec![(0, 0, of_real(f64::NAN))]),
+        good.but(|c| c.pool[0].settings = vec![(0, 1, 0)]),
+        good.but(|c| c.pool[0].settings = vec![(0, 0, of_real(-0.0)), (1, 1, of_int(9))]),
+        good.but(|c| c.pool[0].settings = vec![(0, 0, 0), (1, 1, of_int(10))]),
+        good.but(|c| c.pool[0].settings = vec![(4, 0, 0), (4, 1, 0)]),
+        // Past the last dimension only number and repeats count.
+        good.but(|c| c.pool[0].settings = vec![(7, 2, 9), (0, 0, 0), (1, 1, 0)]),
+        good.but(|c| c.pool[0].settings = vec![(7, 2, 9), (0, 0, 0), (1, 1, 0), (7, 2, 9)]),
+        good.but(|c| {
+            c.pool[0].settings = (0..33).map(|n| (n, n.min(1), 0)).collect();
+        }),
+        good.but(|c| {
+            c.pool[0].settings = (0..32).map(|n| (n, n.min(1), 0)).collect();
+        }),
+        good.but(|c| c.pool.clear()),
+        good.but(|c| c.size = 0),
+    ]);
+    for dimension in bad_dimensions() {
+        let mut call = good.clone();
+        call.dimensions[1] = dimension;
+        calls.push(call);
+    }
+    calls.push(good.but(|c| {
+        c.pool.truncate(2);
+        for plan in &mut c.pool {
+            plan.settings.clear();
+        }
+        c.dimensions = vec![choices(2); 33];
+    }));
+    calls.push(good.but(|c| {
+        c.pool.truncate(2);
+        for plan in &mut c.pool {
+            plan.settings.clear();
+        }
+        c.dimensions = vec![choices(2); 32];
+    }));
+    lines.extend(calls.iter().map(Call::step));
+    lines
+}
+
+/// Dimensions that meet refusal 6, each for one reason.
+pub(super) fn bad_dimensions() -> Vec<Distribution> {
+    let far = 1_i64 << 53;
+    let over = next(two(53));
+    let full = |low, high, log_scale, step| {
+        Distribution::Float(FloatDistribution {
+            low,
+            high,
+            log_scale,
+            step,
+        })
+    };
+    vec![
+        float(1.0, 0.0),
+        float(f64::NAN, 1.0),
+        float(0.0, f64::INFINITY),
+        float(0.0, over),
+        float(-over, 0.0),
+        full(1.0, 2.0, true, None),
+        full(0.0, 1.0, false, Some(0.125)),
+        int(1, 0, None),
+        int(0, far + 1, None),
+        int(-far - 1, 0, None),
+        int(0, 9, Some(0)),
+        int(0, 9, Some(-1)),
+        Distribution::Int(IntDistribution {
+            low: 1,
+            high: 2,
+            log_scale: true,
+            step: None,
+        }),
+        choices(0),
+        choices(65537),
+    ]
+}
+
+pub(super) fn breeding_input(mix: &mut Mix, at: u64) -> Line {
+    let state = mix.word();
+    let many = at % 20 == 19;
+    let count = if many { 32 } else { mix.within(1, 5) as usize };
+    let dimensions = dimensions(mix, count);
+    let values =
+        |mix: &mut Mix| -> Vec<ParamValue> { dimensions.iter().map(|d| value(mix, d)).collect() };
+    match at % 10 {
+        0 => sample_random(state, &dimensions[0]),
+        1 => {
+            let settings = fit_settings(mix, &dimensions);
+            extract(state, &dimensions, &settings)
+        }
+        2 | 3 => {
+            let (first, second) = (values(mix), values(mix));
+            crossover(
+                state,
+                probability(mix),
+                eta(mix),
+                &dimensions,
+                &first,
+                &second,
+            )
+        }
+        4 => {
+            let (low, high) = bounds(mix);
+            let inner = |mix: &mut Mix| (low + mix.unit() * (high - low)).clamp(low, high);
+            let (p1, p2) = (inner(mix), inner(mix));
+            leaf(83, state, &[p1, p2, low, high, eta(mix)])
+        }
+        5 => {
+            let settings = values(mix);
+            mutate(state, eta(mix), &dimensions, &settings)
+        }
+        6 => {
+            let (low, high) = bounds(mix);
+            let x = (low + mix.unit() * (high - low)).clamp(low, high);
+            leaf(85, state, &[x, low, high, eta(mix)])
+        }
+        7 => {
+            let n = mix.within(1, 9);
+            let mut line = vec![86, state, n];
+            line.extend((0..n).map(|_| mix.below(3)));
+            line
+        }
+        _ => {
+            let turn = at / 10 * 2 + at % 2;
+            let mut call = selection(mix, turn, if many { 3 } else { 6 });
+            call = bred(call, &dimensions, mix);
+            call.probability = probability(mix);
+            call.crossover_eta = eta(mix);
+            call.mutation_eta = eta(mix);
+            if mix.once_in(8) {
+                spoil(mix, &mut call);
+            }
+            call.step()
+        }
+    }
+}

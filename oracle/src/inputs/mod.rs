@@ -1,0 +1,564 @@
+//! Inputs: the named cases of each record, and generated ones fixed by a
+//! seed. Both are lines of numbers that the oracle answers.
+
+mod breeding;
+mod files;
+mod kept;
+mod numbers;
+mod rows;
+mod sessions;
+
+use crate::distribution::{
+    CategoricalDistribution, Distribution, FloatDistribution, IntDistribution,
+};
+use crate::param::ParamValue;
+use crate::pareto;
+use crate::plans::{self, Plan};
+use crate::pool_file;
+use crate::refusals;
+use crate::session::{Opening, Session};
+use crate::words::{of_int, of_real};
+
+type Line = Vec<u64>;
+
+pub const KINDS: [&str; 10] = [
+    "draw",
+    "numbers",
+    "dominance",
+    "fronts",
+    "reference",
+    "association",
+    "kept",
+    "breeding",
+    "session",
+    "choose",
+];
+
+/// The named cases of a record; `large` has those too long to be stored.
+pub fn cases(kind: &str) -> Result<Vec<Line>, String> {
+    Ok(match kind {
+        "draw" => numbers::draw_cases(),
+        "numbers" => numbers::number_cases(),
+        "dominance" => rows::dominance_cases(),
+        "fronts" => rows::front_cases(),
+        "reference" => rows::reference_cases(),
+        "association" => rows::association_cases(),
+        "kept" => kept::kept_cases(),
+        "breeding" => breeding::breeding_cases(),
+        "session" => sessions::session_cases(),
+        "choose" => files::choose_cases(),
+        "large" => files::large_cases(),
+        _ => return Err(format!("the records are {}, large", KINDS.join(", "))),
+    })
+}
+
+/// `count` inputs of a record. The same seed gives the same lines; the
+/// number of objectives goes round from 1 to 8.
+pub fn generated(seed: u64, count: u64, kind: &str) -> Result<Vec<Line>, String> {
+    let one = match kind {
+        "draw" => numbers::draw_input,
+        "numbers" => numbers::number_input,
+        "dominance" => rows::dominance_input,
+        "fronts" => rows::front_input,
+        "reference" => rows::reference_input,
+        "association" => rows::association_input,
+        "kept" => kept::kept_input,
+        "breeding" => breeding::breeding_input,
+        "session" => sessions::session_input,
+        "choose" => files::choose_input,
+        _ => return Err(format!("the records are {}", KINDS.join(", "))),
+    };
+    let record = KINDS.iter().position(|&k| k == kind).unwrap_or(0) as u64;
+    Ok((0..count)
+        .map(|at| {
+            // Each line has its own stream, so a longer run begins with the
+            // lines of a shorter one.
+            let mut mix = Mix(seed ^ (record << 56) ^ (at << 24));
+            mix.word();
+            one(&mut mix, at)
+        })
+        .collect())
+}
+
+// ---------------------------------------------------------------------------
+// Chance, and values with it
+// ---------------------------------------------------------------------------
+
+/// The inputs' own source of chance (splitmix64), kept apart from the
+/// generator under test.
+struct Mix(u64);
+
+impl Mix {
+    fn word(&mut self) -> u64 {
+        self.0 = self.0.wrapping_add(0x9E3779B97F4A7C15);
+        let mut z = self.0;
+        z = (z ^ (z >> 30)).wrapping_mul(0xBF58476D1CE4E5B9);
+        z = (z ^ (z >> 27)).wrapping_mul(0x94D049BB133111EB);
+        z ^ (z >> 31)
+    }
+
+    fn below(&mut self, n: u64) -> u64 {
+        self.word() % n
+    }
+
+    /// From `low` to `high`, both possible.
+    fn within(&mut self, low: u64, high: u64) -> u64 {
+        low + self.below(high - low + 1)
+    }
+
+    /// Below 2^n, n itself by chance up to `most`: small numbers come often.
+    fn uneven(&mut self, most: u64) -> u64 {
+        let bits = self.within(1, most);
+        self.below(1 << bits)
+    }
+
+    /// True once in n times.
+    fn once_in(&mut self, n: u64) -> bool {
+        self.below(n) == 0
+    }
+
+    fn unit(&mut self) -> f64 {
+        (self.word() >> 11) as f64 / 9007199254740992.0
+    }
+
+    fn pick<T: Clone>(&mut self, items: &[T]) -> T {
+        items[self.below(items.len() as u64) as usize].clone()
+    }
+
+    fn shuffle<T>(&mut self, items: &mut [T]) {
+        for at in (1..items.len()).rev() {
+            items.swap(at, self.below(at as u64 + 1) as usize);
+        }
+    }
+}
+
+/// 2^n as a double.
+fn two(n: i32) -> f64 {
+    f64::from_bits(((n + 1023) as u64) << 52)
+}
+
+/// The next double up in magnitude.
+fn next(x: f64) -> f64 {
+    f64::from_bits(x.to_bits() + 1)
+}
+
+fn tiniest() -> f64 {
+    f64::from_bits(1)
+}
+
+fn subnormal(mix: &mut Mix) -> f64 {
+    let x = f64::from_bits(mix.uneven(52));
+    if mix.once_in(4) { -x } else { x }
+}
+
+/// Any double up to 2^1000 in magnitude.
+fn wild(mix: &mut Mix) -> f64 {
+    let bits = (mix.below(2024) << 52) | mix.below(1 << 52);
+    let x = f64::from_bits(bits).min(refusals::greatest());
+    if mix.once_in(2) { -x } else { x }
+}
+
+/// The state whose next word is the one given: the generator's step undone.
+fn before_word(word: u64) -> u64 {
+    let state = word ^ (word >> 32);
+    // The inverse of the multiplier modulo 2^64, by Newton's doubling.
+    let multiplier: u64 = 6364136223846793005;
+    let mut inverse: u64 = 1;
+    for _ in 0..6 {
+        inverse = inverse.wrapping_mul(2u64.wrapping_sub(multiplier.wrapping_mul(inverse)));
+    }
+    state
+        .wrapping_sub(1442695040888963407)
+        .wrapping_mul(inverse)
+}
+
+/// The state whose next `f64()` is k / 2^52.
+fn before_draw(k: u64) -> u64 {
+    before_word(k << 12)
+}
+
+// ---------------------------------------------------------------------------
+// Rows, constraints, pools
+// ---------------------------------------------------------------------------
+
+const ROW_FLAVOURS: u64 = 11;
+
+/// Row `at` of `n`, in one of several manners that a pool has in common.
+fn row(mix: &mut Mix, flavour: u64, m: usize, at: usize, n: usize) -> Vec<f64> {
+    (0..m)
+        .map(|j| match flavour {
+            // Whole numbers: equal rows and ties in distance.
+            0 => mix.below(4) as f64,
+            1 => mix.unit(),
+            // Signed zeros beside small values.
+            2 => mix.pick(&[0.0, -0.0, 0.0, -0.0, 1.0, -1.0]),
+            3 => mix.pick(&[two(1000), -two(1000), two(999), 1.0, 0.0]),
+            4 => subnormal(mix),
+            // One front: whoever gains in the first loses in the last.
+            5 if m > 1 => match j {
+                0 => at as f64,
+                _ if j == m - 1 => (n - at) as f64,
+                _ => mix.below(3) as f64 / 2.0,
+            },
+            // Many fronts: a chain.
+            6 => ((at * 5 + 3) % n.max(1)) as f64,
+            7 => 0.25,
+            8 => wild(mix),
+            // Tenths: sums and quotients that round.
+            9 => mix.below(11) as f64 / 10.0,
+            // Around the test against 1e-10.
+            10 => mix.pick(&[0.0, 0.5e-10, 1e-10, next(1e-10), 2e-10]),
+            _ => mix.below(8) as f64,
+        })
+        .collect()
+}
+
+const CONSTRAINT_FLAVOURS: u64 = 7;
+
+fn constraints(mix: &mut Mix, flavour: u64) -> Vec<f64> {
+    match flavour {
+        0 => Vec::new(),
+        1 => vec![-1.0],
+        // Some infeasible, with zeros of both signs.
+        2 => (0..2)
+            .map(|_| mix.pick(&[0.0, -0.0, -1.0, 0.5, 0.25]))
+            .collect(),
+        // All infeasible.
+        3 => (0..mix.within(1, 3))
+            .map(|_| 0.125 + mix.below(4) as f64)
+            .collect(),
+        // Equal violations, differently made up.
+        4 => mix.pick(&[vec![0.5], vec![0.25, 0.25], vec![-3.0, 0.5], vec![0.5, 0.0]]),
+        // Few and many, large and small.
+        5 => (0..mix.below(17)).map(|_| wild(mix)).collect(),
+        // With and without.
+        _ => {
+            if mix.once_in(2) {
+                Vec::new()
+            } else {
+                vec![subnormal(mix), mix.unit() - 0.5]
+            }
+        }
+    }
+}
+
+fn pool(mix: &mut Mix, m: usize, n: usize) -> Vec<Plan> {
+    // The manners that split fronts come more often.
+    let rows = mix.pick(&[0, 0, 1, 1, 2, 3, 4, 5, 5, 5, 6, 7, 8, 9, 9, 10]);
+    let bounds = mix.pick(&[0, 0, 0, 0, 2, 2, 3, 4, 4, 5, 6]);
+    let mut plans: Vec<Plan> = (0..n)
+        .map(|at| Plan {
+            number: at as u64,
+            values: row(mix, rows, m, at, n),
+            constraints: constraints(mix, bounds),
+            settings: Vec::new(),
+        })
+        .collect();
+    // A row that another plan has too.
+    if n > 2 && mix.once_in(3) {
+        let from = mix.below(n as u64) as usize;
+        let to = mix.below(n as u64) as usize;
+        plans[to].values = plans[from].values.clone();
+    }
+    plans
+}
+
+fn marks(mix: &mut Mix, m: usize) -> Vec<u64> {
+    let maximised = mix.below(3);
+    (0..m)
+        .map(|_| (maximised == 1 || (maximised == 2 && mix.once_in(2))) as u64)
+        .collect()
+}
+
+/// Divisions with at most `most` lines.
+fn divisions(mix: &mut Mix, m: usize, most: u128) -> u64 {
+    let fits = (1..200)
+        .take_while(|&h| refusals::lines(m, h) <= most)
+        .count() as u64;
+    mix.within(1, fits.max(1))
+}
+
+/// Sizes below, at and above the pool.
+fn size(mix: &mut Mix, n: usize) -> u64 {
+    match mix.below(8) {
+        0 => n as u64,
+        1 => n as u64 + mix.within(1, 3),
+        _ => mix.within(1, n.max(2) as u64 - 1),
+    }
+}
+
+// ---------------------------------------------------------------------------
+// Dimensions and settings
+// ---------------------------------------------------------------------------
+
+fn float(low: f64, high: f64) -> Distribution {
+    Distribution::Float(FloatDistribution {
+        low,
+        high,
+        log_scale: false,
+        step: None,
+    })
+}
+
+fn int(low: i64, high: i64, step: Option<i64>) -> Distribution {
+    Distribution::Int(IntDistribution {
+        low,
+        high,
+        log_scale: false,
+        step,
+    })
+}
+
+fn choices(n_choices: usize) -> Distribution {
+    Distribution::Categorical(CategoricalDistribution { n_choices })
+}
+
+/// The smallest dimension to write, where it is not looked at.
+fn any_dimension() -> Distribution {
+    choices(1)
+}
+
+fn dimension(mix: &mut Mix) -> Distribution {
+    let far = 1_i64 << 53;
+    match mix.below(16) {
+        0 | 1 => float(0.0, 1.0),
+        2 => float(-5.0, 5.0),
+        3 => float(2.5, 2.5),
+        4 => float(-0.0, 0.0),
+        5 => float(-two(53), two(53)),
+        6 => float(1.0, next(1.0)),
+        7 => float(0.0, tiniest()),
+        8 => int(0, 10, None),
+        9 => int(-7, 20, Some(3)),
+        10 => int(4, 4, None),
+        11 => int(-far, far, None),
+        12 => int(1, 100, Some(mix.within(1, 200) as i64)),
+        13 => choices(1),
+        14 => choices(3),
+        _ => choices(65536),
+    }
+}
+
+fn dimensions(mix: &mut Mix, count: usize) -> Vec<Distribution> {
+    let categorical_only = mix.once_in(8);
+    (0..count)
+        .map(|_| {
+            if categorical_only {
+                choices(mix.within(1, 5) as usize)
+            } else {
+                dimension(mix)
+            }
+        })
+        .collect()
+}
+
+/// A value within a dimension, ends included.
+fn value(mix: &mut Mix, dimension: &Distribution) -> ParamValue {
+    match dimension {
+        Distribution::Float(d) => {
+            let inner = (d.low + mix.unit() * (d.high - d.low)).clamp(d.low, d.high);
+            ParamValue::Float(mix.pick(&[d.low, d.high, inner, inner, inner, inner]))
+        }
+        Distribution::Int(d) => {
+            let inner = d.low + mix.below((d.high - d.low) as u64 + 1) as i64;
+            ParamValue::Int(mix.pick(&[d.low, d.high, inner, inner, inner]))
+        }
+        Distribution::Categorical(d) => {
+            ParamValue::Categorical(mix.below(d.n_choices as u64) as usize)
+        }
+    }
+}
+
+fn words_of(value: &ParamValue) -> (u64, u64) {
+    let mut words = Vec::new();
+    plans::write_setting(&mut words, value);
+    (words[0], words[1])
+}
+
+/// Settings for the first dimensions, in parameter order; then listed in any
+/// order, some missing at the end, some added past the last dimension.
+fn settings(mix: &mut Mix, values: &[ParamValue], dimension_count: usize) -> Vec<(u64, u64, u64)> {
+    let mut number = mix.below(4);
+    let mut settings = Vec::new();
+    for value in values {
+        let (kind, word) = words_of(value);
+        settings.push((number, kind, word));
+        number += mix.within(1, 3);
+    }
+    match mix.below(6) {
+        0 if !settings.is_empty() => {
+            settings.truncate(mix.below(settings.len() as u64 + 1) as usize);
+        }
+        1 if settings.len() == dimension_count && dimension_count < 32 => {
+            settings.push((number, mix.below(3), mix.below(100)));
+        }
+        _ => {}
+    }
+    if mix.once_in(2) {
+        mix.shuffle(&mut settings);
+    }
+    settings
+}
+
+fn fit_settings(mix: &mut Mix, dimensions: &[Distribution]) -> Vec<(u64, u64, u64)> {
+    let values: Vec<ParamValue> = dimensions.iter().map(|d| value(mix, d)).collect();
+    settings(mix, &values, dimensions.len())
+}
+
+fn eta(mix: &mut Mix) -> f64 {
+    let any = mix.below(100) as f64;
+    mix.pick(&[0.0, 1.0, 2.0, 5.0, 20.0, 30.0, 99.0, -0.0, any, any])
+}
+
+fn probability(mix: &mut Mix) -> f64 {
+    let any = mix.unit();
+    mix.pick(&[1.0, 1.0, 0.0, 0.5, 0.9, -0.0, any])
+}
+
+// ---------------------------------------------------------------------------
+// Writing lines
+// ---------------------------------------------------------------------------
+
+fn push_reals(line: &mut Line, reals: &[f64]) {
+    line.extend(reals.iter().map(|&x| of_real(x)));
+}
+
+fn push_marks(line: &mut Line, marks: &[u64]) {
+    line.push(marks.len() as u64);
+    line.extend(marks);
+}
+
+fn push_dimensions(line: &mut Line, dimensions: &[Distribution]) {
+    line.push(dimensions.len() as u64);
+    for dimension in dimensions {
+        plans::write_dimension(line, dimension);
+    }
+}
+
+fn push_pool(line: &mut Line, pool: &[Plan]) {
+    line.push(pool.len() as u64);
+    for plan in pool {
+        plan.write(line);
+    }
+}
+
+fn plan(values: &[f64], constraints: &[f64]) -> Plan {
+    Plan {
+        number: 0,
+        values: values.to_vec(),
+        constraints: constraints.to_vec(),
+        settings: Vec::new(),
+    }
+}
+
+fn pool_of(rows: &[&[f64]]) -> Vec<Plan> {
+    let mut plans: Vec<Plan> = rows.iter().map(|row| plan(row, &[])).collect();
+    for (at, plan) in plans.iter_mut().enumerate() {
+        plan.number = at as u64;
+    }
+    plans
+}
+
+/// A selection or generation step, to be varied one field at a time.
+#[derive(Clone)]
+struct Call {
+    short: bool,
+    marks: Vec<u64>,
+    divisions: u64,
+    size: u64,
+    state: u64,
+    ideal: Vec<f64>,
+    pool: Vec<Plan>,
+    probability: f64,
+    crossover_eta: f64,
+    mutation_eta: f64,
+    dimensions: Vec<Distribution>,
+}
+
+impl Call {
+    fn new(m: usize, divisions: u64, size: u64, state: u64, pool: Vec<Plan>) -> Self {
+        Call {
+            short: false,
+            marks: vec![0; m],
+            divisions,
+            size,
+            state,
+            ideal: vec![f64::INFINITY; m],
+            pool,
+            probability: 1.0,
+            crossover_eta: 30.0,
+            mutation_eta: 20.0,
+            dimensions: Vec::new(),
+        }
+    }
+
+    fn but(&self, change: impl Fn(&mut Self)) -> Self {
+        let mut call = self.clone();
+        change(&mut call);
+        call
+    }
+
+    fn head(&self, command: u64) -> Line {
+        let mut line = vec![command, self.short as u64];
+        push_marks(&mut line, &self.marks);
+        line.extend([self.divisions, self.size, self.state]);
+        line.push(self.ideal.len() as u64);
+        push_reals(&mut line, &self.ideal);
+        line
+    }
+
+    fn select(&self) -> Line {
+        let mut line = self.head(70);
+        push_pool(&mut line, &self.pool);
+        line
+    }
+
+    fn step(&self) -> Line {
+        let mut line = self.head(87);
+        push_reals(
+            &mut line,
+            &[self.probability, self.crossover_eta, self.mutation_eta],
+        );
+        push_dimensions(&mut line, &self.dimensions);
+        push_pool(&mut line, &self.pool);
+        line
+    }
+
+    /// As a pool file; the ideal is not part of it.
+    fn file(&self) -> Vec<u8> {
+        let mut file = Vec::new();
+        let m = self.marks.len() as u64;
+        for number in [
+            m,
+            self.divisions,
+            self.size,
+            self.pool.len() as u64,
+            self.state,
+        ] {
+            pool_file::encode(&mut file, number);
+        }
+        for &mark in &self.marks {
+            pool_file::encode(&mut file, mark);
+        }
+        for plan in &self.pool {
+            for &value in &plan.values {
+                pool_file::encode(&mut file, of_real(value));
+            }
+            pool_file::encode(&mut file, plan.constraints.len() as u64);
+            for &constraint in &plan.constraints {
+                pool_file::encode(&mut file, of_real(constraint));
+            }
+        }
+        file
+    }
+
+    fn choose(&self) -> Line {
+        file_line(&self.file())
+    }
+}
+
+fn file_line(file: &[u8]) -> Line {
+    let mut line = vec![95, file.len() as u64];
+    line.extend(file.iter().map(|&byte| u64::from(byte)));
+    line
+}
