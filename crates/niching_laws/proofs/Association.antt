@@ -9,6 +9,7 @@ use lib.Ieee.{Float, nan, inf, fin, lt, isNan}
 use Rattle.model.specs.Real.{infinity}
 use Rattle.model.specs.Association.{Request, lineCount, distanceTo, Near, near, nearestOf, association, lineOf}
 use Rattle.model.specs.Papers.DebJain2014.{Associated}
+use Rattle.niching_laws.specs.Nearest.{NearestLine}
 use Rattle.niching_laws.proofs.FloatOrder.{lt-self, lt-down, lt-past}
 
 -- ---- what is not below infinity is a NaN or infinity
@@ -106,29 +107,30 @@ module _ (d : ℕ → Float) where
       go true e k ih = lt-past (d n) (nearestOf d n .distance) (d j) e (nearestOf-least n j k) v
       go false e k ih = ih k
 
+  nearestOf-line : (n : ℕ) → 0 < n → NearestLine d n (nearestOf d n .line) (nearestOf d n .distance)
+  nearestOf-line n h =
+      record {
+        inside = inside n h;
+        nearest = nearestOf-nearest n;
+        first = nearestOf-first n;
+        distance = nearestOf-distance n h;
+      }
+    where
+      inside : (n : ℕ) → 0 < n → nearestOf d n .line < n
+      inside zero h = absurd (omega arith)
+      inside (suc n) h = omega (arith, nearestOf-inside n)
+
 -- ---- a request's plans
 
-module _ (r : Request) (p : ℕ) where
-  module _ (some : 0 < lineCount r) where
-    pub lineOf-inside : lineOf r p < lineCount r
-    unfolding association
-    lineOf-inside = go (lineCount r) some
-      where
-        go : (n : ℕ) → 0 < n → nearestOf (distanceTo r p) n .line < n
-        go zero h = absurd (omega arith)
-        go (suc n) h = omega (arith, nearestOf-inside (distanceTo r p) n)
-
-    -- whatever the distances are, NaN and infinity among them, the line is one that Deb and Jain associate the plan with
-    pub association-associated : Associated (distanceTo r) (lineCount r) p (lineOf r p)
-    unfolding association
-    association-associated = record { inside = lineOf-inside; least = λ j h. nearestOf-nearest (distanceTo r p) (lineCount r) j h }
-
-    -- the distance kept is the plan's distance from its line
-    pub association-distance : isNan (distanceTo r p (lineOf r p)) ≡ false → association r p .distance ≡ distanceTo r p (lineOf r p)
-    unfolding association
-    association-distance v = nearestOf-distance (distanceTo r p) (lineCount r) some v
-
-  -- and the first: every line before it is farther
-  pub association-first : (j : ℕ) → j < lineOf r p → isNan (distanceTo r p j) ≡ false → lt (distanceTo r p (lineOf r p)) (distanceTo r p j) ≡ true
+module _ (r : Request) (p : ℕ) (some : 0 < lineCount r) where
+  -- the line is the first of those that no line is nearer than
+  pub association-nearest : NearestLine (distanceTo r p) (lineCount r) (lineOf r p) (association r p .distance)
   unfolding association
-  association-first j h v = nearestOf-first (distanceTo r p) (lineCount r) j h v
+  association-nearest = nearestOf-line (distanceTo r p) (lineCount r) some
+
+  pub lineOf-inside : lineOf r p < lineCount r
+  lineOf-inside = association-nearest .inside
+
+  -- so it is one that Deb and Jain associate the plan with
+  pub association-associated : Associated (distanceTo r) (lineCount r) p (lineOf r p)
+  association-associated = record { inside = association-nearest .inside; least = association-nearest .nearest }
