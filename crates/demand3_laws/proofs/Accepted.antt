@@ -1,7 +1,7 @@
 -- DEMAND 3 of every accepted request from a pool of at least the size wanted: there is a line, and no value is a NaN.
-use Prim.Native.Nat.{ℕ, zero, suc, _-_, _≤_, _<_}
-use mathlib.Core.Path.{_≡_, refl, sym, ap, _∙_}
-use mathlib.Core.Bool.{Bool, true, false, not, _&&_, _||_, true≢false, false≢true}
+use Prim.Native.Nat.{ℕ, zero, suc, _≤_, _<_}
+use mathlib.Core.Path.{_≡_, refl, sym, _∙_}
+use mathlib.Core.Bool.{Bool, true, false, _&&_, _||_, true≢false, false≢true}
 use mathlib.Core.List.{List, [], _∷_}
 use native.Mathlib.Omega.{arith}
 use lib.Dec.{eqb, leb, ltb}
@@ -14,13 +14,13 @@ use Rattle.model.specs.Lists.{allBelow, allIn}
 use Rattle.model.specs.Reference.{binomial, pointCount}
 use Rattle.model.specs.Plan.{maxConstraints}
 use Rattle.model.specs.Row.{directionOf, toMinimize, rowOf}
-use Rattle.model.specs.Association.{Request, objectives, lineCount, valueOf, association, lineOf}
+use Rattle.model.specs.Association.{Request, objectives, lineCount, valueOf, distanceTo, lineOf}
 use Rattle.model.specs.Kept.{before, isSplit, splitFront, filled, selected}
-use Rattle.model.specs.Refusal.{badDirections, outsideDivisions, badDivisions, measurable, goodPlan, goodIdeal, badPool}
+use Rattle.model.specs.Refusal.{badDirections, badDivisions, measurable, goodPlan, badPool}
 use Rattle.model.specs.Demand3.{Demand3}
 use Rattle.niching_laws.specs.Niching.{ByProcedure}
 use Rattle.demand3_laws.specs.Facts.{Accepted}
-use Rattle.demand3_laws.proofs.Counts.{by-bool, allBelow-at}
+use Rattle.demand3_laws.proofs.Counts.{allBelow-at}
 use Rattle.demand3_laws.proofs.Covered.{front-facts}
 use Rattle.demand3_laws.proofs.Strict.{dominance-strict}
 use Rattle.demand3_laws.proofs.Demand3.{demand3-facts, filled-procedure}
@@ -127,5 +127,5 @@ module _ (r : Request) (accepted : Accepted r) where
   demand3 enough = demand3-facts r (front-facts (dominance-strict r values-real)) enough accepted-lines
 
   -- and where a front is split, the plans picked from it are those of the paper's niching procedure
-  pub niching-procedure : isSplit r ≡ true → ByProcedure (before r) (splitFront r) (lineOf r) (λ p. association r p .distance) (lineCount r) (filled r .value)
+  pub niching-procedure : isSplit r ≡ true → ByProcedure (before r) (splitFront r) (lineOf r) (λ p. distanceTo r p (lineOf r p)) (lineCount r) (filled r .value)
   niching-procedure split = filled-procedure r (front-facts (dominance-strict r values-real)) accepted-lines split

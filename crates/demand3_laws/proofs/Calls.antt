@@ -1,28 +1,25 @@
 -- DEMAND 3 as the public calls promise it: a call that is not refused hands out a kept list that meets it.
-use Prim.Native.Nat.{ℕ, zero, suc, _≤_, _<_, min}
+use Prim.Native.Nat.{ℕ, zero, suc, _≤_, min}
 use mathlib.Core.Path.{_≡_, refl, sym, ap, _∙_, subst}
-use mathlib.Core.Bool.{Bool, true, false, cond, _&&_, true≢false, false≢true}
-use mathlib.Core.List.{List, [], _∷_, _++_, map, List·Memᴰ, List·Memᴰ·head, List·Memᴰ·tail}
-use mathlib.Core.Option.{Option, none, some}
+use mathlib.Core.Bool.{Bool, true, false, cond}
+use mathlib.Core.List.{List, [], _∷_, List·Memᴰ, List·Memᴰ·head, List·Memᴰ·tail}
+use mathlib.Core.Option.{none, some}
 use native.Mathlib.Omega.{arith}
-use lib.Dec.{eqb, ltb}
 use lib.ListN.{length, getD, take, drop, length-append, length-take}
 use lib.Seq.{take-at}
 use borrow.Author.Tests.{eqb-true, le-ltb}
 use Rattle.model.specs.declared.Distribution.{Distribution}
-use Rattle.model.specs.declared.Rng.{Rng}
 use Rattle.model.specs.Lists.{listBelow, over}
-use Rattle.model.specs.Plan.{Plan, planOf, planAt, maxValues}
+use Rattle.model.specs.Plan.{planOf, planAt, maxValues}
 use Rattle.model.specs.Association.{Request, objectives}
 use Rattle.model.specs.Kept.{selected}
 use Rattle.model.specs.Setting.{Operators, generation, generationOf}
 use Rattle.model.specs.Session.{State, recordOf, breeds, requestOf, operatorsOf}
 use Rattle.model.specs.Property.{SessionOk}
-use Rattle.model.specs.Refusal.{Check, check, firstOf, Room, badDirections, badDivisions, goodPlan, badPool, selectRefusal, stepRefusal, sampleRefusal}
+use Rattle.model.specs.Refusal.{Check, firstOf, Room, badDirections, badDivisions, goodPlan, badPool, selectRefusal, stepRefusal, sampleRefusal}
 use Rattle.model.specs.Demand3.{Demand3}
 use Rattle.model.specs.Calls.{Lent, roomOf, handedOut, selectAccepted, selectOf, Selects, stepAccepted, stepOf, Steps}
 use Rattle.demand3_laws.specs.Facts.{Accepted}
-use Rattle.demand3_laws.proofs.Counts.{by-bool, allBelow-at}
 use Rattle.demand3_laws.proofs.Accepted.{and-left, some-objectives, pool-plan, demand3}
 
 -- ---- where no refusal is given, none of the numbers applies

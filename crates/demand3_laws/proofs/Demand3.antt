@@ -1,24 +1,24 @@
 -- DEMAND 3 of every selection from a pool of at least the size wanted, where a front is split and where none is.
 use Prim.Native.Nat.{ℕ, suc, _+_, _-_, _≤_, _<_}
-use mathlib.Core.Path.{_≡_, refl, sym, ap, _∙_, subst, fun-ext}
+use mathlib.Core.Path.{_≡_, sym, ap, _∙_, subst, fun-ext}
 use mathlib.Core.Logic.{_⊎_, inl, inr, ⊎-elim, ∥∥₁-elim}
 use mathlib.Core.HLevel.{⊥-prop}
-use mathlib.Core.Bool.{Bool, true, false, _&&_, true≢false}
+use mathlib.Core.Bool.{true, false, true≢false}
 use mathlib.Core.List.{List, _++_, Memᴰ·append-left, Memᴰ·append-right, List·Memᴰ·append-cases, nodup-append}
 use native.Mathlib.Omega.{arith}
 use lib.Dec.{eqb}
 use lib.ListN.{length, length-append}
-use Rattle.model.specs.Lists.{In, Distinct, countBelow, tally}
-use Rattle.model.specs.Front.{front}
+use Rattle.model.specs.Lists.{In, Distinct}
 use Rattle.model.specs.Papers.Deb2002.{inFirst, inFront}
-use Rattle.model.specs.Association.{Request, dominance, lineCount, association, lineOf}
+use Rattle.model.specs.Association.{Request, dominance, lineCount, distanceTo, association, lineOf}
 use Rattle.model.specs.Kept.{nicheCount, wholeFronts, before, isSplit, splitFront, filled, selected}
-use Rattle.model.specs.Demand3.{sizeOfFirst, Split, Filling, finalCount, fillingCount, sumOfSquares, Served, Waits, Demand3}
+use Rattle.model.specs.Demand3.{Split, Filling, finalCount, fillingCount, sumOfSquares, Served, Waits, Demand3}
 use Rattle.niching_laws.specs.Niching as Niching
+use Rattle.niching_laws.specs.Niching.{ByProcedure}
 use Rattle.niching_laws.proofs.Tally.{tally-append}
 use Rattle.niching_laws.proofs.Picks.{picks-niched}
-use Rattle.niching_laws.proofs.Procedure.{picks-procedure}
-use Rattle.niching_laws.proofs.Association.{lineOf-inside}
+use Rattle.niching_laws.proofs.Procedure.{picks-procedure, procedure-other}
+use Rattle.niching_laws.proofs.Association.{lineOf-inside, kept-distance}
 use Rattle.demand3_laws.specs.Facts.{FrontFacts}
 use Rattle.demand3_laws.proofs.Counts.{by-bool, Exactly, tally-exactly}
 use Rattle.demand3_laws.proofs.Fronts.{inFirst-more, inFront-new, inFront-first, dominators-first, listing-exactly, front-exactly}
@@ -71,10 +71,12 @@ module _ (r : Request) (facts : FrontFacts (dominance r) (r .count)) where
     unfolding filled
     niched = picks-niched (λ p. association r p .distance) setting (r .size - length (before r)) (r .state) (split-room r facts split)
 
-    -- the picks are those of the paper's procedure
-    pub filled-procedure : Niching.ByProcedure (before r) (splitFront r) (lineOf r) (λ p. association r p .distance) (lineCount r) (filled r .value)
+    -- the picks are those of the paper's procedure, by each plan's distance from its line
+    pub filled-procedure : ByProcedure (before r) (splitFront r) (lineOf r) (λ p. distanceTo r p (lineOf r p)) (lineCount r) (filled r .value)
     unfolding filled
-    filled-procedure = picks-procedure (λ p. association r p .distance) setting (r .size - length (before r)) (r .state) (split-room r facts split)
+    filled-procedure =
+        procedure-other (λ p. distanceTo r p (lineOf r p)) (λ p q. kept-distance r p q some)
+        (picks-procedure (λ p. association r p .distance) setting (r .size - length (before r)) (r .state) (split-room r facts split))
 
     abbrev list : List ℕ
     list = before r ++ filled r .value

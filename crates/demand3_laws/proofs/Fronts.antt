@@ -1,15 +1,13 @@
 -- What the front facts give: the listing and each front are just the paper's, with their sizes, and a plan's dominators are in earlier fronts.
 use Prim.Native.Nat.{ℕ, zero, suc, _+_, _≤_, _<_}
-use mathlib.Core.Path.{_≡_, refl, sym, ap, _∙_}
-use mathlib.Core.Logic.{_⊎_, inl, inr, ⊎-elim}
-use mathlib.Core.Bool.{Bool, true, false, not, _&&_, _||_, or-true, true≢false, false≢true}
-use mathlib.Core.List.{List, [], _∷_, _++_, List·Memᴰ·not-nil, Memᴰ·append-left, Memᴰ·append-right, List·Memᴰ·append-cases, nodup-append}
+use mathlib.Core.Path.{_≡_, sym, ap, _∙_}
+use mathlib.Core.Logic.{_⊎_, ⊎-elim}
+use mathlib.Core.Bool.{Bool, true, false, not, _&&_, or-true, true≢false, false≢true}
+use mathlib.Core.List.{Memᴰ·append-right, List·Memᴰ·append-cases, nodup-append}
 use native.Mathlib.Nat.{eq-or-lt-of-le}
 use native.Mathlib.Omega.{arith}
-use lib.Dec.{eqb}
 use lib.ListN.{length, length-append}
-use borrow.Author.Tests.{eq-eqb, not-true}
-use Rattle.model.specs.Lists.{one, In, Distinct, tally, anyBelow, countBelow}
+use Rattle.model.specs.Lists.{In, Distinct, anyBelow, countBelow}
 use Rattle.model.specs.Front.{front, listing}
 use Rattle.model.specs.Papers.Deb2002.{undominatedOfRest, inFirst, inFront}
 use Rattle.demand3_laws.specs.Facts.{FrontFacts}

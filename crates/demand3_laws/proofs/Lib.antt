@@ -9,3 +9,4 @@ pub mod Strict
 pub mod Accepted
 pub mod Calls
 pub mod PoolFile
+pub mod ListedOrder

@@ -2,7 +2,7 @@
 use Prim.Native.Nat.{ℕ, zero, suc, _≤_, _<_}
 use mathlib.Core.Path.{_≡_, refl, sym, ap, _∙_, subst}
 use mathlib.Core.Bool.{Bool, true, false, cond}
-use mathlib.Core.List.{List, [], _∷_, map, List·Memᴰ·head, List·Memᴰ·tail}
+use mathlib.Core.List.{List, [], _∷_, List·Memᴰ·head, List·Memᴰ·tail}
 use mathlib.Core.Option.{Option, none, some}
 use native.Mathlib.Omega.{arith}
 use lib.Dec.{leb}
@@ -10,7 +10,7 @@ use lib.ListN.{length, getD, length-map}
 use Rattle.model.specs.Real.{real}
 use Rattle.model.specs.Plan.{Plan}
 use Rattle.model.specs.Kept.{selected}
-use Rattle.model.specs.PoolFile.{Parsed, Reader, onward, number, many, PoolFile, plan, poolFile, maxFile, ifNoneLeft, wholly, parse, noPlan, fileRequest}
+use Rattle.model.specs.PoolFile.{Parsed, Reader, pure, onward, _>>=_, number, many, PoolFile, plan, poolFile, maxFile, ifNoneLeft, wholly, parse, noPlan, fileRequest}
 use Rattle.model.specs.Refusal.{fileRefusal, refusalOfParsed, chooseRefusal}
 use Rattle.model.specs.Demand3.{Demand3}
 use Rattle.demand3_laws.specs.Facts.{Accepted}
@@ -74,6 +74,22 @@ both e h = omega arith
 abbrev Whole : PoolFile → Type 0
 Whole f = (p : ℕ) → p < f .count → length (f .marks) ≤ length (getD (f .plans) p noPlan .row)
 
+-- what is read after the five numbers
+abbrev afterNumbers : ℕ → ℕ → ℕ → ℕ → ℕ → Reader PoolFile
+afterNumbers m h size count seed = do
+  marks ← many m number
+  plans ← many count (plan m)
+  pure (record { objectives = m; divisions = h; size = size; count = count; seed = seed; marks = marks; plans = plans })
+
+rest-whole : (m h size count seed : ℕ) (bytes : List ℕ) (q : Parsed PoolFile) → afterNumbers m h size count seed bytes ≡ some q → Whole (q .value)
+rest-whole m h size count seed bytes q e =
+    let marks = onward-some (many m number bytes) _ q e in
+    let plans = onward-some (many count (plan m) (marks .first .rest)) _ q (marks .then) in
+    subst (λ (f : Parsed PoolFile). Whole (f .value)) (some-same _ q (plans .then))
+    (λ p l. both
+    (many-length number m bytes (marks .first) (marks .found))
+    (many-each (plan m) (λ a. length (a .row) ≡ m) (plan-row m) noPlan count (marks .first .rest) (plans .first) (plans .found) p l))
+
 file-whole : (bytes : List ℕ) (q : Parsed PoolFile) → poolFile bytes ≡ some q → Whole (q .value)
 unfolding poolFile
 file-whole bytes q e =
@@ -82,13 +98,7 @@ file-whole bytes q e =
     let size = onward-some (number (h .first .rest)) _ q (h .then) in
     let count = onward-some (number (size .first .rest)) _ q (size .then) in
     let seed = onward-some (number (count .first .rest)) _ q (count .then) in
-    let marks = onward-some (many (m .first .value) number (seed .first .rest)) _ q (seed .then) in
-    let plans = onward-some (many (count .first .value) (plan (m .first .value)) (marks .first .rest)) _ q (marks .then) in
-    subst (λ (p : Parsed PoolFile). Whole (p .value)) (some-same _ q (plans .then))
-    (λ p l. both
-    (many-length number (m .first .value) (seed .first .rest) (marks .first) (marks .found))
-    (many-each (plan (m .first .value)) (λ a. length (a .row) ≡ m .first .value) (plan-row (m .first .value)) noPlan
-    (count .first .value) (marks .first .rest) (plans .first) (plans .found) p l))
+    rest-whole (m .first .value) (h .first .value) (size .first .value) (count .first .value) (seed .first .value) (seed .first .rest) q (seed .then)
 
 parse-whole : (bytes : List ℕ) (f : PoolFile) → parse bytes ≡ some f → Whole f
 unfolding parse

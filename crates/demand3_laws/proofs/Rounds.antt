@@ -3,11 +3,11 @@ use Prim.Native.Nat.{ℕ, zero, suc, _+_, _≤_, _<_}
 use mathlib.Core.Path.{_≡_, refl, ap, sym, _∙_}
 use mathlib.Core.Logic.{⊎-elim}
 use mathlib.Core.Bool.{Bool, true, false, not, _&&_, _||_, Bool·not-not, true≢false, false≢true}
-use mathlib.Core.List.{List, [], List·Memᴰ·not-nil, List·Memᴰ·append-cases}
+use mathlib.Core.List.{List·Memᴰ·not-nil, List·Memᴰ·append-cases}
 use native.Mathlib.Omega.{arith}
 use borrow.Author.Tests.{eq-eqb, ne-eqb, eqb-true, eqb-false, lt-ltb}
 use lib.Dec.{eqb}
-use Rattle.model.specs.Lists.{one, In, tally, anyBelow, countBelow, keepBelow}
+use Rattle.model.specs.Lists.{one, In, tally, anyBelow, countBelow}
 use Rattle.model.specs.Front.{firstRound, nextRound, round, front, listing}
 use Rattle.model.specs.Papers.Deb2002.{undominatedOfRest, inFirst, inFront}
 use Rattle.niching_laws.proofs.Lists.{keepBelow-in}

@@ -1,14 +1,13 @@
 -- How many plans the whole fronts have beside the size wanted, where a front is split and where none is.
 use Prim.Native.Nat.{ℕ, zero, suc, _+_, _-_, _≤_, _<_}
 use mathlib.Core.Path.{_≡_, refl, sym, ap, _∙_}
-use mathlib.Core.Bool.{Bool, true, false, _&&_, true≢false, false≢true}
-use mathlib.Core.List.{List, [], _++_, append-nil}
+use mathlib.Core.Bool.{Bool, true, false, _&&_, false≢true}
+use mathlib.Core.List.{_++_, append-nil}
 use native.Mathlib.Omega.{arith}
 use lib.Dec.{ltb}
 use lib.ListN.{length}
-use borrow.Author.Tests.{ltb-true, ltb-false, lt-ltb, le-ltb}
-use Rattle.model.specs.Lists.{firstBelow}
-use Rattle.model.specs.Front.{front, listing}
+use borrow.Author.Tests.{ltb-true, ltb-false}
+use Rattle.model.specs.Front.{listing}
 use Rattle.model.specs.Papers.Deb2002.{inFirst}
 use Rattle.model.specs.Association.{Request, dominance}
 use Rattle.model.specs.Kept.{wholeFronts, before, isSplit, splitFront, filled, padding, selectedSplit, selectedWhole, selected}

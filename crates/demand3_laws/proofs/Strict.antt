@@ -1,12 +1,9 @@
 -- Domination under the constraint rule is a strict order on plans whose rows have no NaN; constraints may be any.
-use Prim.Native.Nat.{ℕ, zero, suc, _<_}
-use mathlib.Core.Path.{_≡_, refl, sym, ap, _∙_}
-use mathlib.Core.Bool.{Bool, true, false, not, _&&_, _||_, true≢false, false≢true}
-use mathlib.Core.List.{List}
-use native.Mathlib.Omega.{arith}
+use Prim.Native.Nat.{ℕ, _<_}
+use mathlib.Core.Path.{_≡_, refl, sym, _∙_}
+use mathlib.Core.Bool.{Bool, true, false, not, _&&_, true≢false, false≢true}
 use lib.Ieee.{Float, lt, isNan}
 use Rattle.model.specs.Lists.{anyBelow}
-use Rattle.model.specs.Plan.{Plan}
 use Rattle.model.specs.Row.{dominates, feasible, violation, byFeasibility, constrainedDominates, beats}
 use Rattle.model.specs.Association.{Request, objectives, valueOf, dominance}
 use Rattle.niching_laws.proofs.FloatOrder.{lt-trans, lt-self, lt-past}

@@ -1,27 +1,22 @@
 -- The line that a plan is associated with is the paper's: no line is nearer. It is the first such line, and its distance is the one kept beside it.
 use Prim.Native.Nat.{ℕ, zero, suc, _≤_, _<_}
-use mathlib.Core.Path.{_≡_, refl, sym, ap, _∙_}
-use mathlib.Core.Logic.{_⊎_, inl, inr, ⊎-elim}
-use mathlib.Core.Bool.{Bool, true, false, cond, not, _&&_, true≢false}
+use mathlib.Core.Path.{_≡_, refl, sym, ap, ap₂, _∙_}
+use mathlib.Core.Logic.{_⊎_, inl, inr}
+use mathlib.Core.Bool.{Bool, true, false, cond, true≢false}
 use native.Mathlib.Nat.{eq-or-lt-of-le}
 use native.Mathlib.Omega.{arith}
 use lib.Ieee.{Float, nan, inf, fin, lt, isNan}
 use Rattle.model.specs.Real.{infinity}
-use Rattle.model.specs.Association.{Request, lineCount, distanceTo, Near, near, nearestOf, association, lineOf}
+use Rattle.model.specs.Association.{Request, lineCount, distanceTo, near, nearestOf, association, lineOf}
 use Rattle.model.specs.Papers.DebJain2014.{Associated}
-use Rattle.niching_laws.proofs.FloatOrder.{lt-self, lt-down, lt-past}
+use Rattle.niching_laws.specs.Nearest.{NearestLine}
+use Rattle.niching_laws.proofs.FloatOrder.{lt-self, lt-down, lt-past, nan-below, below-nan}
 
 -- ---- what is not below infinity is a NaN or infinity
 
-lt-nan : (x : Float) → lt x nan ≡ false
-unfolding lt
-lt-nan nan = refl
-lt-nan (inf s) = refl
-lt-nan (fin s m e) = refl
-
 not-below-top : (x y : Float) → lt x infinity ≡ false → lt y infinity ≡ false → lt y x ≡ false
-unfolding lt
-not-below-top nan y h k = lt-nan y
+unfolding lt isNan
+not-below-top nan y h k = below-nan y nan refl
 not-below-top (inf true) y h k = absurd (true≢false h)
 not-below-top (inf false) y h k = k
 not-below-top (fin s m e) y h k = absurd (true≢false h)
@@ -106,29 +101,46 @@ module _ (d : ℕ → Float) where
       go true e k ih = lt-past (d n) (nearestOf d n .distance) (d j) e (nearestOf-least n j k) v
       go false e k ih = ih k
 
+  nearestOf-line : (n : ℕ) → 0 < n → NearestLine d n (nearestOf d n .line) (nearestOf d n .distance)
+  nearestOf-line n h =
+      record {
+        inside = inside n h;
+        nearest = nearestOf-nearest n;
+        first = nearestOf-first n;
+        distance = nearestOf-distance n h;
+      }
+    where
+      inside : (n : ℕ) → 0 < n → nearestOf d n .line < n
+      inside zero h = absurd (omega arith)
+      inside (suc n) h = omega (arith, nearestOf-inside n)
+
 -- ---- a request's plans
 
-module _ (r : Request) (p : ℕ) where
-  module _ (some : 0 < lineCount r) where
-    pub lineOf-inside : lineOf r p < lineCount r
-    unfolding association
-    lineOf-inside = go (lineCount r) some
-      where
-        go : (n : ℕ) → 0 < n → nearestOf (distanceTo r p) n .line < n
-        go zero h = absurd (omega arith)
-        go (suc n) h = omega (arith, nearestOf-inside (distanceTo r p) n)
-
-    -- whatever the distances are, NaN and infinity among them, the line is one that Deb and Jain associate the plan with
-    pub association-associated : Associated (distanceTo r) (lineCount r) p (lineOf r p)
-    unfolding association
-    association-associated = record { inside = lineOf-inside; least = λ j h. nearestOf-nearest (distanceTo r p) (lineCount r) j h }
-
-    -- the distance kept is the plan's distance from its line
-    pub association-distance : isNan (distanceTo r p (lineOf r p)) ≡ false → association r p .distance ≡ distanceTo r p (lineOf r p)
-    unfolding association
-    association-distance v = nearestOf-distance (distanceTo r p) (lineCount r) some v
-
-  -- and the first: every line before it is farther
-  pub association-first : (j : ℕ) → j < lineOf r p → isNan (distanceTo r p j) ≡ false → lt (distanceTo r p (lineOf r p)) (distanceTo r p j) ≡ true
+module _ (r : Request) (p : ℕ) (some : 0 < lineCount r) where
+  -- the line is the first of those that no line is nearer than
+  pub association-nearest : NearestLine (distanceTo r p) (lineCount r) (lineOf r p) (association r p .distance)
   unfolding association
-  association-first j h v = nearestOf-first (distanceTo r p) (lineCount r) j h v
+  association-nearest = nearestOf-line (distanceTo r p) (lineCount r) some
+
+  pub lineOf-inside : lineOf r p < lineCount r
+  lineOf-inside = association-nearest .inside
+
+  -- so it is one that Deb and Jain associate the plan with
+  pub association-associated : Associated (distanceTo r) (lineCount r) p (lineOf r p)
+  association-associated = record { inside = association-nearest .inside; least = association-nearest .nearest }
+
+-- of two plans, one is not nearer to its line than the other by the distances kept, so neither by the distances from their lines
+pub kept-distance : (r : Request) (p q : ℕ) → 0 < lineCount r → lt (association r q .distance) (association r p .distance) ≡ false
+    → lt (distanceTo r q (lineOf r q)) (distanceTo r p (lineOf r p)) ≡ false
+kept-distance r p q some h = go (isNan (d q)) refl (isNan (d p)) refl
+  where
+    d : ℕ → Float
+    d t = distanceTo r t (lineOf r t)
+
+    kept : (t : ℕ) → isNan (d t) ≡ false → association r t .distance ≡ d t
+    kept t = association-nearest r t some .distance
+
+    go : (a : Bool) → isNan (d q) ≡ a → (b : Bool) → isNan (d p) ≡ b → lt (d q) (d p) ≡ false
+    go true e b k = nan-below (d q) (d p) e
+    go false e true k = below-nan (d q) (d p) k
+    go false e false k = sym (ap₂ lt (kept q e) (kept p k)) ∙ h

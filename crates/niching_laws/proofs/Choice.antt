@@ -10,7 +10,7 @@ use lib.Dec.{eqb, leb}
 use lib.Ieee.{Float, lt}
 use lib.ListN.{length, getD}
 use borrow.Author.Tests.{eqb-true, eq-eqb, leb-true, leb-false, le-leb}
-use Rattle.model.specs.Lists.{In, has, keep, keepBelow, allIn}
+use Rattle.model.specs.Lists.{In, has, keep, allIn}
 use Rattle.model.specs.Draw.{drawWord, drawUsize}
 use Rattle.model.specs.Kept.{openLines, leastLines, drawFrom, nearestFrom, nearest, drawMember}
 use Rattle.niching_laws.proofs.Lists.{listed-has, has-listed, in-keep, keep-in, in-keepBelow, keepBelow-in}

@@ -1,14 +1,14 @@
 -- The order of floats by `lt`: it is transitive and irreflexive, a NaN among them or not; and what is no NaN and not below y is above all that is.
 use Prim.Native.Nat.{ℕ, _+_, _*_, _<_}
 use mathlib.Core.Path.{_≡_, refl, sym, ap, ap₂, _∙_}
-use mathlib.Core.Bool.{Bool, true, false, not, true≢false, false≢true}
+use mathlib.Core.Bool.{Bool, true, false, true≢false, false≢true}
 use native.Mathlib.Nat.{zero-mul, add-mul, mul-right-comm, mul-le-mul-right, mul-lt-mul-of-pos-right}
 use native.Mathlib.Omega.{arith}
-use lib.IntN.{ℤ}
 use lib.Dec.{ltb}
 use lib.Ieee.{Float, nan, inf, fin, up, down, below, lt, isNan}
 use lib.Ieee.Fits.{down-pos}
 use borrow.Author.Tests.{ltb-true, ltb-false, lt-ltb, le-ltb}
+use Rattle.niching_laws.proofs.Lists.{no-pass}
 
 -- ---- whole numbers with a sign
 
@@ -129,13 +129,26 @@ lt-past (fin s m e) (fin t n d) (fin u l i) h k v = cross-past s t u (m * up e) 
 
 -- ---- the same for what is not below
 
-no-pass : (b : Bool) → (b ≡ true → ⊥) → b ≡ false
-no-pass true h = absurd (h refl)
-no-pass false h = refl
-
 pub lt-self : (x : Float) → lt x x ≡ false
 lt-self x = no-pass (lt x x) (lt-irrefl x)
 
 -- what is not below y is not below any z that is
 pub lt-down : (x y z : Float) → lt x y ≡ false → lt z y ≡ true → lt x z ≡ false
 lt-down x y z h k = no-pass (lt x z) (λ e. true≢false (sym (lt-trans x z y e k) ∙ h))
+
+-- nothing is below a NaN, and a NaN is below nothing
+pub nan-below : (x y : Float) → isNan x ≡ true → lt x y ≡ false
+unfolding lt isNan
+nan-below nan y e = refl
+nan-below (inf s) y e = absurd (false≢true e)
+nan-below (fin s m d) y e = absurd (false≢true e)
+
+pub below-nan : (x y : Float) → isNan y ≡ true → lt x y ≡ false
+unfolding lt isNan
+below-nan nan y e = refl
+below-nan (inf s) nan e = refl
+below-nan (inf s) (inf t) e = absurd (false≢true e)
+below-nan (inf s) (fin t n d) e = absurd (false≢true e)
+below-nan (fin s m d) nan e = refl
+below-nan (fin s m d) (inf t) e = absurd (false≢true e)
+below-nan (fin s m d) (fin t n i) e = absurd (false≢true e)

@@ -9,3 +9,4 @@ pub mod Choice
 pub mod Picks
 pub mod Procedure
 pub mod Association
+pub mod Steps

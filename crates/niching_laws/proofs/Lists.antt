@@ -10,6 +10,11 @@ use lib.Dec.{eqb}
 use borrow.Author.Tests.{eqb-true, eqb-false, eq-eqb}
 use Rattle.model.specs.Lists.{In, has, keep, keepBelow}
 
+-- a test that cannot pass fails
+pub no-pass : (b : Bool) → (b ≡ true → ⊥) → b ≡ false
+no-pass true h = absurd (h refl)
+no-pass false h = refl
+
 -- ---- one more at the end
 
 pub in-last : (ps : List ℕ) (p : ℕ) → In p (ps ++ (p ∷ []))

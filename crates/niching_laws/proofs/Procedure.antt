@@ -2,7 +2,7 @@
 -- while it has the least niche count and no candidate.
 use Prim.Native.Nat.{ℕ, zero, suc, _≤_, _<_}
 use mathlib.Core.Path.{_≡_, refl, sym, ap, _∙_}
-use mathlib.Core.Logic.{_⊎_, inl, inr, _≢_, ⊎-elim}
+use mathlib.Core.Logic.{_≢_, ⊎-elim}
 use mathlib.Core.Bool.{Bool, true, false, true≢false}
 use mathlib.Core.List.{List, [], _∷_, _++_, List·Memᴰ·head, List·Memᴰ·tail, List·Memᴰ·not-nil, List·Memᴰ·cases-cons, Memᴰ·append-left, Memᴰ·cast}
 use native.Mathlib.Nat.{eq-or-lt-of-le}
@@ -12,8 +12,8 @@ use lib.Ieee.{Float, lt}
 use lib.ListN.{length}
 use borrow.Author.Tests.{eqb-true, eqb-false, ltb-true, ltb-false}
 use Rattle.model.specs.Lists.{In, has}
-use Rattle.model.specs.Kept.{nicheCount, waiting, pickOne, picks}
-use Rattle.model.specs.Papers.DebJain2014.{niche, Candidate, Least, Reached, start, exclude, pickNearest, pickAny}
+use Rattle.model.specs.Kept.{nicheCount, waiting, picks}
+use Rattle.model.specs.Papers.DebJain2014.{Candidate, Least, Reached, start, exclude, pickNearest, pickAny}
 use Rattle.niching_laws.specs.Niching.{Split, ByProcedure}
 use Rattle.niching_laws.proofs.Lists.{has-listed, listed-has}
 use Rattle.niching_laws.proofs.Run.{run-fills}
@@ -165,3 +165,27 @@ module _ (distance : ℕ → Float) {before front : List ℕ} {line : ℕ → �
   -- with no more open places than the front has plans, the procedure of Deb and Jain can pick what `picks` picks
   pub picks-procedure : (n s : ℕ) → n ≤ length front → ByProcedure before front line distance lines (picks line distance lines before front n s .value)
   picks-procedure n s h = let t = picks-cleared n s h in record { excluded = t .excluded; reached = t .reached }
+
+-- ---- other distances
+
+-- distances by which no candidate is nearer that was not nearer before serve as well
+module _ {before front : List ℕ} {line : ℕ → ℕ} {distance : ℕ → Float} {lines : ℕ} (other : ℕ → Float)
+    (weaker : (p q : ℕ) → lt (distance q) (distance p) ≡ false → lt (other q) (other p) ≡ false) where
+  candidate-other : {picked : List ℕ} {j p : ℕ} → Candidate before front line distance lines picked j p → Candidate before front line other lines picked j p
+  candidate-other k = record { member = k .member; unpicked = k .unpicked; onLine = k .onLine }
+
+  other-candidate : {picked : List ℕ} {j p : ℕ} → Candidate before front line other lines picked j p → Candidate before front line distance lines picked j p
+  other-candidate k = record { member = k .member; unpicked = k .unpicked; onLine = k .onLine }
+
+  least-other : {excluded picked : List ℕ} {j : ℕ} → Least before front line distance lines excluded picked j → Least before front line other lines excluded picked j
+  least-other l = record { inside = l .inside; considered = l .considered; least = l .least }
+
+  pub reached-other : {excluded picked : List ℕ} → Reached before front line distance lines excluded picked → Reached before front line other lines excluded picked
+  reached-other start = start
+  reached-other (exclude r l none) = exclude (reached-other r) (least-other l) (λ p k. none p (other-candidate k))
+  reached-other (pickNearest {p = p} r l z c nearest) =
+      pickNearest (reached-other r) (least-other l) z (candidate-other c) (λ q k. weaker p q (nearest q (other-candidate k)))
+  reached-other (pickAny r l z c) = pickAny (reached-other r) (least-other l) z (candidate-other c)
+
+  pub procedure-other : {picked : List ℕ} → ByProcedure before front line distance lines picked → ByProcedure before front line other lines picked
+  procedure-other b = record { excluded = b .excluded; reached = reached-other (b .reached) }

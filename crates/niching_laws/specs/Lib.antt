@@ -1,1 +1,2 @@
 pub mod Niching
+pub mod Nearest
