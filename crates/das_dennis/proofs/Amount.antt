@@ -3,20 +3,20 @@
 use Prim.Native.Nat.{ℕ, zero, suc, _+_, _-_, _*_, _^_, _≤_, _<_, zero-le}
 use mathlib.Core.Path.{_≡_, refl, sym, ap, subst, _∙_}
 use mathlib.Core.Logic.{_⊎_, inl, inr, ⊎-elim}
-use mathlib.Core.Bool.{Bool, true, false, not, _&&_, _||_, cond, true≢false}
-use native.Mathlib.Nat.{le-trans, le-of-eq, le-of-lt, zero-mul, mul-one, one-mul, mul-comm, mul-assoc, mul-left-comm, mul-right-comm, mul-add, add-mul, mul-pos, mul-le-mul, mul-le-mul-left, mul-le-mul-right, sub-zero}
+use mathlib.Core.Bool.{Bool, true, false, not, _&&_, _||_, true≢false}
+use native.Mathlib.Nat.{le-trans, le-of-eq, le-of-lt, zero-mul, mul-one, one-mul, mul-comm, mul-assoc, mul-left-comm, add-mul, mul-pos, mul-le-mul, mul-le-mul-right, sub-zero}
 use native.Mathlib.Omega.{arith}
 use borrow.Author.Tests.{lt-ltb, ne-eqb}
-use lib.Dec.{T, ltb, eqb, eqb→eq, ltb→lt, lt→ltb, leb→le}
-use lib.IntN.{ℤ, pos}
-use lib.Ieee.{Float, nan, inf, fin, binary64, up, down, low, round, sum, add, mul, div, le, lt, ofInt, ofBits}
+use lib.Dec.{T, ltb, eqb, eqb→eq, ltb→lt, leb→le}
+use lib.IntN.{pos}
+use lib.Ieee.{Float, nan, inf, fin, binary64, up, down, low, round, sum, add, mul, div, le, ofInt, ofBits}
 use lib.Ieee.Back.{round-whole}
 use lib.Ieee.Exact.{HasValue}
-use lib.Ieee.Fits.{and-l, up-pos, down-pos}
-use lib.Ieee.Order.{transfer, le-of-values, round-mono}
+use lib.Ieee.Fits.{and-l}
+use lib.Ieee.Order.{transfer, round-mono}
 use lib.Ieee.Positive.{num, den, den-pos, value→cross}
 use lib.Ieee.Scale.{finite, round-same, round-val, round-under, grid}
-use Rattle.model.specs.Real.{_⊕_, _⊗_, _⊘_, nought, minusNought, unit}
+use Rattle.model.specs.Real.{_⊕_, _⊗_, _⊘_, minusNought}
 
 -- finite and without a sign
 abbrev pub amount : Float → Bool

@@ -1,27 +1,26 @@
 -- LAW: of every line, each coordinate lies within 0..1, and r·r is at least 1 / 64, so that no distance from a line is infinite. Assumes nothing.
-use Prim.Native.Nat.{ℕ, zero, suc, _+_, _-_, _*_, _^_, _≤_, _<_}
+use Prim.Native.Nat.{ℕ, zero, suc, _+_, _-_, _*_, _≤_, _<_}
 use mathlib.Core.Path.{_≡_, refl, sym, ap, subst, _∙_}
 use mathlib.Core.Logic.{_⊎_, inl, inr, ⊎-elim}
-use mathlib.Core.Bool.{Bool, true, false, cond, _&&_}
+use mathlib.Core.Bool.{Bool, true, false, _&&_}
 use mathlib.Core.List.{List, [], _∷_, map, List·Memᴰ, List·Memᴰ·head, List·Memᴰ·tail}
-use native.Mathlib.Nat.{le-trans, le-of-eq, eq-or-lt-of-le, one-mul, mul-one, mul-comm, mul-assoc, mul-le-mul-left, mul-le-mul-right, suc-mul}
+use native.Mathlib.Nat.{le-trans, le-of-eq, eq-or-lt-of-le, mul-comm, mul-assoc, mul-le-mul-left, mul-le-mul-right, suc-mul}
 use native.Mathlib.Omega.{arith}
 use borrow.Author.Tests.{le-ltb, leb-true, leb-false}
 use lib.Dec.{T, leb, leb→le}
-use lib.IntN.{pos}
 use lib.Ieee.{Float, nan, inf, fin, binary64, up, down, round, le, lt, ofBits}
 use lib.Ieee.Bits.{is-true}
-use lib.Ieee.Exact.{HasValue}
 use lib.Ieee.Order.{le-of-values}
 use lib.Ieee.Positive.{num, den, den-pos}
 use lib.ListN.{length, getD, List·getD-map}
-use Rattle.model.specs.Real.{_⊕_, _⊗_, _⊘_, nought, unit, infinity, within, sumTo}
+use Rattle.model.specs.Real.{_⊗_, _⊘_, nought, unit, within, sumTo}
 use Rattle.model.specs.Numbers.{sqrtOf}
 use Rattle.model.specs.Reference.{ratio, lattice, dasDennis, pointCount}
 use Rattle.model.specs.Association.{dot, offSquares, distance, smallNorm}
-use Rattle.model.specs.Papers.DasDennis1998.{total, IsPoint, IsTable}
+use Rattle.model.specs.Papers.DasDennis1998.{total, IsPoint}
 use Rattle.das_dennis.proofs.Count.{lattice-count}
 use Rattle.das_dennis.proofs.Table.{lattice-table}
+use Rattle.das_dennis.proofs.Rows.{line}
 use Rattle.das_dennis.proofs.Amount.{amount, own, Within, Least, round-within, round-least, eighth, square-within, square-least, plus-within, plus-least, first-within, first-least, quotient-is}
 
 -- ---- a coordinate
@@ -100,10 +99,6 @@ getD-mapped f (x ∷ xs) zero d e h = refl
 getD-mapped f (x ∷ xs) (suc j) d e h = getD-mapped f xs j d e (omega arith)
 
 -- ---- a line of the table
-
--- coordinate j of line l, as association reads it
-abbrev pub line : ℕ → ℕ → ℕ → ℕ → Float
-line m h l j = getD (getD (dasDennis m h) l []) j nan
 
 line-is : (m h l j : ℕ) → j < length (getD (lattice m h) l []) → line m h l j ≡ ratio h (getD (getD (lattice m h) l []) j 0)
 unfolding dasDennis
