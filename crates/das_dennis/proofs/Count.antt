@@ -1,8 +1,8 @@
 -- How many lines there are: `binomial` is Pascal's triangle, and `pointCount` is the length of the list of lines. Assumes nothing.
-use Prim.Native.Nat.{ℕ, zero, suc, _+_, _-_, _*_, _/_, _^_, _≤_, _<_, zero-le, suc-le-suc}
-use mathlib.Core.Path.{_≡_, refl, sym, ap, _∙_}
-use mathlib.Core.List.{List, [], _∷_, _++_, map}
-use native.Mathlib.Nat.{suc-mul, mul-add, mul-sub, mul-comm, mul-one, sub-zero, zero-add, suc-add, suc-sub-suc, sub-self, add-zero, add-suc, div-eq-of-eq-mul-right, div-le-self, le-trans, lt-of-le-of-lt, mul-le-mul, mul-le-mul-left, sub-le, pow-suc, pow-le-pow-right}
+use Prim.Native.Nat.{ℕ, zero, suc, _+_, _-_, _*_, _/_, _^_, _≤_, _<_}
+use mathlib.Core.Path.{_≡_, refl, sym, _∙_}
+use mathlib.Core.List.{List, _∷_, map}
+use native.Mathlib.Nat.{suc-mul, mul-add, mul-sub, mul-comm, sub-zero, zero-add, suc-sub-suc, div-eq-of-eq-mul-right, div-le-self, le-trans, lt-of-le-of-lt, mul-le-mul, mul-le-mul-left, sub-le, pow-suc, pow-le-pow-right}
 use native.Mathlib.Numerals.{add-one}
 use native.Mathlib.Omega.{arith}
 use lib.ListN.{length, length-append, length-map}

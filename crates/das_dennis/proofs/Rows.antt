@@ -1,15 +1,15 @@
 -- Laws of the rows that the recursion writes, and of a table whose rest is written. Assumes nothing.
 use Prim.Native.Nat.{ℕ, zero, suc, _+_, _-_, _*_, _<_, _≤_}
 use mathlib.Core.Path.{_≡_, refl, sym, ap, _∙_}
-use mathlib.Core.List.{List, [], _∷_, _++_, map, flatten, append-assoc, append-nil, List·Memᴰ, List·Memᴰ·head, List·Memᴰ·tail}
-use native.Mathlib.Nat.{le-refl, le-of-lt, add-zero, add-suc, suc-mul, zero-mul}
+use mathlib.Core.List.{List, [], _∷_, _++_, map, flatten, append-assoc, append-nil, List·Memᴰ, List·Memᴰ·head, List·Memᴰ·tail, Memᴰ·of-map}
+use native.Mathlib.Nat.{le-refl, add-zero, add-suc, suc-mul, zero-mul, mul-le-mul-right}
 use native.Mathlib.Numerals.{add-one}
 use native.Mathlib.Omega.{arith}
-use lib.Ieee.{Float}
-use lib.ListN.{length, take, drop, getD, set, length-append, length-drop, length-map}
-use lib.Seq.{take-suc, take-suc-set, take-at, drop-at, drop-drop, take-length, drop-length, drop-cons, set-at, length-take-le}
+use lib.Ieee.{Float, nan}
+use lib.ListN.{length, take, drop, getD, set, length-append, length-drop, length-map, List·getD-append}
+use lib.Seq.{take-suc-set, take-at, drop-at, drop-drop, take-length, drop-length, getD-append-add}
 use borrow.Rule.Slice.PartMut.{putMid}
-use Rattle.model.specs.Lists.{joinBelow}
+use Rattle.model.specs.Lists.{joinBelow, over}
 use Rattle.model.specs.Reference.{ratio, tuples, lattice, pointCount, dasDennis}
 use Rattle.das_dennis.specs.Rows.{rowsFrom}
 use Rattle.das_dennis.proofs.Count.{branch, lattice-count}
@@ -18,10 +18,6 @@ use Rattle.das_dennis.proofs.Table.{lattice-table}
 -- ---- f 0 ++ .. ++ f (n - 1)
 
 module _ {A : Type 0} (f : ℕ → List A) where
-  pub join-none : joinBelow f 0 ≡ []
-  unfolding joinBelow
-  join-none = refl
-
   pub join-more : (i : ℕ) → joinBelow f (i + 1) ≡ joinBelow f i ++ f i
   unfolding joinBelow
   join-more i = rw add-one
@@ -137,3 +133,42 @@ unfolding rowsFrom
 whole-length m h p =
     flat-length m h (lattice m h) (λ t w. lattice-table m h p .nothingElse t w .coordinates)
     ∙ ap (λ (n : ℕ). n * m) (sym (lattice-count m h p))
+
+-- ---- reading the table
+
+-- coordinate j of line l, as association reads it
+abbrev pub line : ℕ → ℕ → ℕ → ℕ → Float
+line m h l j = getD (getD (dasDennis m h) l []) j nan
+
+-- rows of m entries, one after the other: entry j of row l
+flat-at : (m : ℕ) (rs : List (List Float)) → ((r : List Float) → List·Memᴰ r rs → length r ≡ m) → (l j : ℕ) (d : Float) → l < length rs → j < m
+    → getD (flatten rs) (l * m + j) d ≡ getD (getD rs l []) j d
+unfolding flatten
+flat-at m [] each l j d a b = absurd (omega arith)
+flat-at m (r ∷ rs) each zero j d a b =
+    let e : 0 * m + j ≡ j = omega arith in
+    rw e (List·getD-append r (flatten rs) d j (omega (arith, each r (List·Memᴰ·head refl))))
+flat-at m (r ∷ rs) each (suc l) j d a b =
+    let e : suc l * m + j ≡ length r + (l * m + j) = omega (arith, suc-mul l m, each r (List·Memᴰ·head refl)) in
+    rw e (getD-append-add r (flatten rs) (l * m + j) d) ∙ flat-at m rs (λ u w. each u (List·Memᴰ·tail w)) l j d (omega arith) b
+
+row-length : (m h : ℕ) → 1 ≤ m → (r : List Float) → List·Memᴰ r (dasDennis m h) → length r ≡ m
+unfolding dasDennis
+row-length m h p r w =
+    let u = Memᴰ·of-map (λ (t : List ℕ). map (ratio h) t) (lattice m h) w in
+    ap length (sym (u .2)) ∙ length-map (u .0) (ratio h) ∙ lattice-table m h p .nothingElse (u .0) (u .1) .coordinates
+
+pub lines-count : (m h : ℕ) → 1 ≤ m → length (dasDennis m h) ≡ pointCount m h
+unfolding dasDennis
+lines-count m h p = length-map (lattice m h) (λ (t : List ℕ). map (ratio h) t) ∙ sym (lattice-count m h p)
+
+pub flat-length-is : (m h : ℕ) → 1 ≤ m → length (flatten (dasDennis m h)) ≡ pointCount m h * m
+flat-length-is m h p = ap length (sym (whole-rows m h)) ∙ whole-length m h p
+
+-- an entry of a slice that `das_dennis` has written
+pub table-at : (m h l j : ℕ) (old : List Float) → 1 ≤ m → l < pointCount m h → j < m → getD (over (flatten (dasDennis m h)) old) (l * m + j) nan ≡ line m h l j
+table-at m h l j old p a b =
+    let rows = flatten (dasDennis m h) in
+    let c : suc l * m ≤ pointCount m h * m = mul-le-mul-right m a in
+    List·getD-append rows (drop (length rows) old) nan (l * m + j) (omega (arith, flat-length-is m h p, suc-mul l m))
+    ∙ flat-at m (dasDennis m h) (row-length m h p) l j nan (omega (arith, lines-count m h p)) b

@@ -1,7 +1,7 @@
 // The reference lines of Das and Dennis (document 01, "Reference table"): how many there are, how many divisions to take, and the table itself.
 use model::OptionUsize;
 ghost use mathlib.Core.Path.{_≡_};
-ghost use mathlib.Core.Bool.{true, false};
+ghost use mathlib.Core.Bool.{false};
 ghost use mathlib.Core.List.{_++_, flatten};
 ghost use Prim.Native.Nat.{_+_, _*_, _<_, _≤_};
 ghost use lib.ListN.{length, take, drop};

@@ -14,7 +14,7 @@ use lib.Seq.{length-take-le}
 use Rattle.model.specs.Lists.{joinBelow}
 use Rattle.model.specs.Reference.{ratio}
 use Rattle.das_dennis.specs.Rows.{rowsFrom}
-use Rattle.das_dennis.proofs.Rows.{part, rows-some, rows-none, join-none, join-more, room, stored, tail-all, written}
+use Rattle.das_dennis.proofs.Rows.{part, rows-some, rows-none, join-more, room, stored, tail-all, written}
 use Rattle.das_dennis.proofs.das_dennis_recursive.Reads as own
 use Rattle.das_dennis.proofs.das_dennis_recursive.Kinds as kinds
 use Rattle.das_dennis.proofs.+das_dennis_recursive.Lts-das_dennis_recursive as lts

@@ -1,5 +1,5 @@
 -- `auto_divisions`: at h divisions, no smaller number reaches the target. Assumes nothing.
-use Prim.Native.Nat.{ℕ, _+_, _-_, _<_, _≤_}
+use Prim.Native.Nat.{_-_, _≤_}
 use native.Mathlib.Omega.{arith}
 use borrow.Author.Needs.{needs}
 use Rattle.das_dennis.proofs.First.{Missed, missed-none, missed-more, auto-here, auto-missed}

@@ -1,13 +1,13 @@
 -- `das_dennis`: the recursion's rows from nothing are the whole table, m entries a line. Assumes nothing.
-use Prim.Native.Nat.{ℕ, _+_, _-_, _*_, _/_, _<_, _≤_}
-use mathlib.Core.Path.{_≡_, refl, sym, ap, _∙_}
-use mathlib.Core.List.{List, [], _++_, flatten}
+use Prim.Native.Nat.{ℕ, _+_, _-_, _/_}
+use mathlib.Core.Path.{ap, _∙_}
+use mathlib.Core.List.{List, [], _++_}
 use native.Mathlib.Nat.{mul-div-cancel}
 use native.Mathlib.Omega.{arith}
 use lib.Ieee.{Float}
-use lib.ListN.{length, take, drop}
+use lib.ListN.{drop}
 use Rattle.model.specs.Lists.{over}
-use Rattle.model.specs.Reference.{pointCount, dasDennis}
+use Rattle.model.specs.Reference.{pointCount}
 use Rattle.das_dennis.specs.Rows.{rowsFrom}
 use Rattle.das_dennis.proofs.Rows.{whole-rows, whole-length}
 use borrow.Author.Needs.{needs}

@@ -1,6 +1,5 @@
 -- `divisions_of`. Assumes nothing.
 use mathlib.Core.Path.{ap, _∙_}
-use Prim.Native.Nat.{ℕ}
 use Rattle.model.specs.Reference.{orElse, autoDivisions, divisionsOf}
 use Rattle.model.specs.Session.{given}
 use borrow.Author.Needs.{needs}

@@ -1,6 +1,6 @@
 -- `n_combinations`: after i turns the result is n over i. Assumes nothing.
-use Prim.Native.Nat.{ℕ, _+_, _-_, _*_, _/_, _^_, _<_, _≤_}
-use mathlib.Core.Path.{_≡_, refl, sym, ap, _∙_}
+use Prim.Native.Nat.{ℕ, _+_, _-_, _*_, _/_, _≤_}
+use mathlib.Core.Path.{_≡_, sym, ap, _∙_}
 use native.Mathlib.Omega.{arith}
 use Rattle.model.specs.Reference.{binomial}
 use Rattle.das_dennis.proofs.Count.{binomial-start, binomial-next, binomial-none, product-fits}
