@@ -5,5 +5,6 @@ pub mod Rounding
 pub mod Constants
 pub mod Arithmetic
 pub mod Normalised
+pub mod Magnitude
 pub mod InRange
 pub mod Patterns

@@ -5,7 +5,7 @@ use native.Mathlib.Nat.{not-le-of-lt, mul-pos, zero-mul, zero-lt-suc}
 use native.Mathlib.Omega.{arith}
 use mathlib.Core.Bool.{Bool, true, false, not, _||_, Bool·beq, true≢false}
 use borrow.Author.Tests.{lt-ltb}
-use lib.IntN.{ℤ, pos}
+use lib.IntN.{ℤ}
 use lib.Dec.{T, eqb, ltb, eqb→eq}
 use lib.Ieee.{Float, nan, inf, fin, binary64, up, down, level as levelled, lt, eq, div, fits, isNan, ofBits, toBits}
 use lib.Ieee.Fits.{up-pos, and-l}
