@@ -2,6 +2,7 @@ pub mod FloatOrder
 pub mod Domination
 pub mod Violation
 pub mod Plans
+pub mod Flat
 pub mod Writes
 pub mod Steps
 pub mod Passing
