@@ -7,3 +7,5 @@ pub mod Writes
 pub mod Steps
 pub mod Passing
 pub mod Sorting
+pub mod Meaning
+pub mod Places
