@@ -13,7 +13,7 @@ use lib.ListN.{length, getD}
 use Rattle.model.specs.declared.Direction.{Direction}
 use Rattle.model.specs.declared.Direction.the-variants.{Minimize, Maximize}
 use Rattle.model.specs.Lists.{allIn}
-use Rattle.model.specs.Papers.Deb2002.{Solution, ConstrainedDominates, onlyFeasible, lessViolation, bothFeasible}
+use Rattle.model.specs.Papers.Deb2002.{Dominates, Solution, ConstrainedDominates, onlyFeasible, lessViolation, bothFeasible}
 use Rattle.model.specs.Plan.{Plan, maxValues, maxConstraints, planOf}
 use Rattle.model.specs.Real.{real}
 use Rattle.model.specs.Refusal.{measurable, goodPlan}
@@ -24,7 +24,7 @@ use Rattle.list_laws.proofs.Tests.{allIn-each}
 use Rattle.front_laws.specs.Strict.{Strict}
 use Rattle.front_laws.proofs.Same.{Agree}
 use Rattle.pareto.specs.Flat.{Known}
-use Rattle.pareto.proofs.Domination.{dominates-irreflexive, dominates-transitive, dominates-paper, rule-irreflexive, rule-asymmetric, rule-transitive}
+use Rattle.pareto.proofs.Domination.{dominates-irreflexive, dominates-asymmetric, dominates-transitive, dominates-paper, rule-irreflexive, rule-asymmetric, rule-transitive}
 use Rattle.pareto.proofs.FloatOrder.{le-not-nan}
 use Rattle.pareto.proofs.Violation.{feasible-none}
 
@@ -139,6 +139,35 @@ module _ (marks : List ℕ) (plans : ℕ → Plan) (n : ℕ) (known : (p : ℕ) 
         constrained-transitive (length marks) (rowOf marks (plans p)) (plans p .constraints) (rowOf marks (plans q)) (plans q .constraints)
         (rowOf marks (plans r)) (plans r .constraints) (known p lp) (known q lq) (known r lr) h k;
   }
+
+-- neither of two plans dominates the other where that one dominates it
+pub rowBeats-asymmetric : (marks : List ℕ) (plans : ℕ → Plan) (p q : ℕ) → rowBeats marks plans p q ≡ true → rowBeats marks plans q p ≡ false
+unfolding rowBeats
+rowBeats-asymmetric marks plans p q e = dominates-asymmetric (length marks) (rowOf marks (plans p)) (rowOf marks (plans q)) e
+
+pub beats-asymmetric : (marks : List ℕ) (plans : ℕ → Plan) (p q : ℕ) → beats marks plans p q ≡ true → beats marks plans q p ≡ false
+unfolding beats
+beats-asymmetric marks plans p q e =
+    constrained-asymmetric (length marks) (rowOf marks (plans p)) (plans p .constraints) (rowOf marks (plans q)) (plans q .constraints) e
+
+-- a plan as the paper's rule sees it
+abbrev pub solutionOf : List ℕ → Plan → Solution
+solutionOf marks plan = solution (rowOf marks plan) (plan .constraints)
+
+-- of accepted plans both are the paper's
+pub rowBeats-paper : (marks : List ℕ) (plans : ℕ → Plan) (p q : ℕ) → Accepted (length marks) (plans p) → Accepted (length marks) (plans q)
+    → (rowBeats marks plans p q ≡ true) ↔ Dominates (length marks) (rowOf marks (plans p)) (rowOf marks (plans q))
+unfolding rowBeats
+rowBeats-paper marks plans p q a b =
+    dominates-paper (length marks) (rowOf marks (plans p)) (rowOf marks (plans q))
+    (accepted-known marks (length marks) (plans p) a) (accepted-known marks (length marks) (plans q) b)
+
+pub beats-paper : (marks : List ℕ) (plans : ℕ → Plan) (p q : ℕ) → Accepted (length marks) (plans p) → Accepted (length marks) (plans q)
+    → (beats marks plans p q ≡ true) ↔ ConstrainedDominates (length marks) (solutionOf marks (plans p)) (solutionOf marks (plans q))
+unfolding beats
+beats-paper marks plans p q a b =
+    constrained-paper (length marks) (rowOf marks (plans p)) (plans p .constraints) (rowOf marks (plans q)) (plans q .constraints)
+    (accepted-known marks (length marks) (plans p) a) (accepted-known marks (length marks) (plans q) b)
 
 -- ---- where no plan has constraints the two dominations are one
 
