@@ -8,11 +8,18 @@ use native.Mathlib.Omega.{arith}
 use lib.Ieee.{Float, nan}
 use lib.ListN.{length, getD}
 use Rattle.model.specs.Plan.{Plan}
-use Rattle.model.specs.Row.{rowOf, constrainedDominates, rowBeats, beats}
+use Rattle.model.specs.Row.{rowOf, feasible, violation, constrainedDominates, rowBeats, beats}
 use Rattle.front_laws.specs.Strict.{Strict}
 use Rattle.front_laws.proofs.Same.{Agree}
 use Rattle.pareto.specs.Flat.{rowAt, flatDominates, flatBeats, Pool, KnownRows, RowsOf, FlatOf}
 use Rattle.pareto.proofs.Domination.{dominates-same, dominates-irreflexive, dominates-transitive, rule-irreflexive, rule-transitive}
+
+-- `flatBeats` is the constraint rule, where flags and sums are those of two plans' constraints
+pub flatBeats-constrained : (rows : List Float) (m : ℕ) (flags : List Bool) (sums : List Float) (p q : ℕ) (cp cq : List Float)
+    → getD flags p false ≡ feasible cp → getD flags q false ≡ feasible cq → getD sums p nan ≡ violation cp → getD sums q nan ≡ violation cq
+    → flatBeats rows m flags sums p q ≡ constrainedDominates m (rowAt rows m p) cp (rowAt rows m q) cq
+unfolding flatBeats constrainedDominates
+flatBeats-constrained rows m flags sums p q cp cq fp fq vp vq = rw (fp, fq, vp, vq)
 
 pub flatBeats-beats : (marks : List ℕ) (plans : ℕ → Plan) (n : ℕ) (rows : List Float) (flags : List Bool) (sums : List Float)
     → FlatOf marks plans n rows flags sums → Agree (flatBeats rows (length marks) flags sums) (beats marks plans) n
