@@ -8,14 +8,17 @@ use native.Mathlib.Nat.{add-zero, add-suc, eq-or-lt-of-le}
 use native.Mathlib.Omega.{arith}
 use borrow.Author.Tests.{eqb-true, eqb-false}
 use lib.Dec.{eqb}
-use lib.ListN.{length, take, drop, length-append}
-use lib.Seq.{slice, take-at, drop-at}
-use Rattle.model.specs.Front.{front, listing}
+use lib.ListN.{length, getD, take, drop, length-append, List·getD-append}
+use lib.Seq.{slice, take-at, drop-at, take-take}
+use Rattle.model.specs.Front.{front, listing, frontOf, frontList}
+use Rattle.model.specs.Lists.{listBelow}
+use Rattle.list_laws.proofs.Built.{listBelow-length, listBelow-at, over-take}
 use Rattle.list_laws.proofs.First.{firstBelow-le, firstBelow-passes, firstBelow-before}
 use Rattle.front_laws.specs.Strict.{Strict}
 use Rattle.front_laws.proofs.Empty.{listing-still, listing-all}
+use Rattle.front_laws.proofs.Order.{listing-room}
 use Rattle.front_laws.proofs.Theorems.{front-empty, listing-length-n}
-use Rattle.pareto.specs.Post.{frontCount, frontEnd}
+use Rattle.pareto.specs.Post.{frontCount, frontEnd, Sorted}
 
 listing-step : (d : ℕ → ℕ → Bool) (n k : ℕ) → listing d n (suc k) ≡ listing d n k ++ front d n k
 unfolding listing
@@ -79,3 +82,31 @@ module _ (d : ℕ → ℕ → Bool) (n : ℕ) (s : Strict d n) where
 
   pub listing-full-length : (k : ℕ) → frontCount d n ≤ k → length (listing d n k) ≡ n
   listing-full-length k h = ap length (listing-full k h) ∙ listing-length-n d n s
+
+-- what a sort leaves in the lent slices, place by place
+module _ (d : ℕ → ℕ → Bool) (n : ℕ) (o₀ o r₀ r e₀ e : List ℕ) (x : ℕ) (h : Sorted d n o₀ o r₀ r e₀ e x) where
+  -- the front of plan q
+  pub sorted-rank : (q : ℕ) → q < n → getD r q 0 ≡ frontOf d n q
+  unfolding frontList
+  sorted-rank q l =
+      ap (λ t. getD t q 0) (h .ranks)
+      ∙ List·getD-append (listBelow (frontOf d n) n) (drop (length (listBelow (frontOf d n) n)) r₀) 0 q (omega (arith, listBelow-length (frontOf d n) n))
+      ∙ listBelow-at (frontOf d n) n 0 q l
+
+  -- the end of front k
+  pub sorted-end : (k : ℕ) → k < x → getD e k 0 ≡ frontEnd d n k
+  sorted-end k l =
+      let y = frontCount d n in
+      ap (λ t. getD t k 0) (h .ends)
+      ∙ List·getD-append (listBelow (frontEnd d n) y) (drop (length (listBelow (frontEnd d n) y)) e₀) 0 k (omega (arith, listBelow-length (frontEnd d n) y, h .result))
+      ∙ listBelow-at (frontEnd d n) y 0 k (omega (arith, h .result))
+
+  -- all plans, and the first k fronts
+  pub sorted-order : Strict d n → take n o ≡ listing d n n
+  sorted-order s = ap (take n) (h .order) ∙ over-take (listing d n n) o₀ n (listing-length-n d n s)
+
+  pub sorted-fronts : Strict d n → (k : ℕ) → k ≤ n → take (length (listing d n k)) o ≡ listing d n k
+  sorted-fronts s k l =
+      let size = listing-length-n d n s in
+      let room = listing-room d n k in
+      sym (take-take (length (listing d n k)) n o room) ∙ ap (take (length (listing d n k))) (sorted-order s) ∙ listing-take d n k n l
