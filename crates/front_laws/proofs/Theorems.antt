@@ -1,21 +1,22 @@
 -- The fronts of document 01 are those of the paper. d p q says that plan p dominates plan q; the first two laws hold of any d, the others of a strict one.
 use Prim.Native.Nat.{ℕ, suc, _≤_, _<_}
 use mathlib.Core.Path.{_≡_, ap, sym, _∙_}
-use mathlib.Core.Bool.{Bool, true, false, false≢true}
+use mathlib.Core.Bool.{Bool, true, false, not, _&&_, false≢true}
 use mathlib.Core.List.{List, []}
 use mathlib.Core.Logic.{_↔_}
 use native.Mathlib.Omega.{arith}
-use borrow.Author.Tests.{ltb-true, ltb-false}
+use borrow.Author.Tests.{not-true, ltb-true, ltb-false}
 use lib.Dec.{ltb}
 use lib.ListN.{length}
 use Rattle.model.specs.Front.{front, listing, frontOf, frontList}
-use Rattle.model.specs.Lists.{one, over, In, has, Distinct}
-use Rattle.model.specs.Papers.Deb2002.{inFirst, inFront}
+use Rattle.model.specs.Lists.{one, anyBelow, over, In, has, Distinct}
+use Rattle.model.specs.Papers.Deb2002.{undominatedOfRest, inFirst, inFront}
 use Rattle.list_laws.specs.Occ.{occ}
-use Rattle.list_laws.proofs.Bools.{by-bool, one-le, one-true}
+use Rattle.list_laws.proofs.Bools.{by-bool, one-le, one-true, and-not-left, and-not-right}
 use Rattle.list_laws.proofs.Built.{over-filled}
 use Rattle.list_laws.proofs.First.{firstBelow-at}
 use Rattle.list_laws.proofs.Members.{in-occ, occ-in, has-in, in-has, under-in, occ-distinct}
+use Rattle.list_laws.proofs.Tests.{anyBelow-each, anyBelow-nowhere}
 use Rattle.front_laws.specs.Ranks.{ranked}
 use Rattle.front_laws.specs.Strict.{Strict}
 use Rattle.front_laws.proofs.Order.{one-front, inFirst-front, listing-below, listing-exact, not-dominated, under-front, all-inFirst, empty-inFirst, ended, in-one-front, listing-once, listing-whole}
@@ -36,6 +37,24 @@ inFront-member d n k q l e = occ-in q (front d n k) (omega (arith, found d n k .
 -- the members of front k are those of the paper's: the undominated once the fronts before are set aside
 pub front-paper : (d : ℕ → ℕ → Bool) (n k q : ℕ) → In q (front d n k) ↔ ((q < n) × (inFront d n k q ≡ true))
 front-paper d n k q = (λ m. (member-below d n k q m, member-inFront d n k q m), λ h. inFront-member d n k q (h .0) (h .1))
+
+-- the same in the paper's words: of the plans that no front before front k holds, front k holds those that none of these dominates
+pub front-undominated : (d : ℕ → ℕ → Bool) (n k q : ℕ)
+    → In q (front d n k) ↔ ((q < n) × (inFirst d n k q ≡ false) × ((p : ℕ) → p < n → inFirst d n k p ≡ false → d p q ≡ false))
+unfolding undominatedOfRest
+front-undominated d n k q =
+    let rest : ℕ → Bool = λ p. not (inFirst d n k p) && d p q in (
+      (λ m. let e = member-inFront d n k q m in
+          let none = not-true (anyBelow rest n) (and-not-right (inFirst d n k q) (not (anyBelow rest n)) e) in (
+            member-below d n k q m,
+            and-not-left (inFirst d n k q) (not (anyBelow rest n)) e,
+            λ p l y. ap (λ b. not b && d p q) (sym y) ∙ anyBelow-each rest n none p l,
+          )),
+      λ h. inFront-member d n k q (h .0)
+          (let none = anyBelow-nowhere rest n (λ p l. by-bool (inFirst d n k p) (λ y. ap (λ b. not b && d p q) y)
+          (λ y. ap (λ b. not b && d p q) y ∙ h .2 p l y)) in
+          rw (h .1, none)),
+    )
 
 -- no plan is twice in a front, or in the fronts together
 pub front-distinct : (d : ℕ → ℕ → Bool) (n k : ℕ) → Distinct (front d n k)

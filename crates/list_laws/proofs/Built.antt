@@ -6,8 +6,8 @@ use mathlib.Core.Logic.{⊎-elim}
 use native.Mathlib.Nat.{not-suc-le-zero, eq-or-lt-of-le}
 use native.Mathlib.Numerals.{add-one}
 use native.Mathlib.Omega.{arith}
-use lib.ListN.{length, getD, take, drop, length-append, length-drop, take-append-drop, List·getD-append}
-use lib.Seq.{getD-at, ext-getD, length-take-le, getD-take, take-at, drop-at, getD-drop}
+use lib.ListN.{length, getD, set, take, drop, length-append, length-drop, take-append-drop, List·getD-append}
+use lib.Seq.{drop-cons, append-snoc, set-at, getD-at, ext-getD, length-take-le, getD-take, take-at, drop-at, getD-drop}
 use Rattle.model.specs.Lists.{listBelow, joinBelow, over}
 
 module _ {A : Type 0} where
@@ -78,3 +78,21 @@ module _ {A : Type 0} where
   over-filled f n d l old h g e =
       sym (take-append-drop n l) ∙ ap₂ (λ a b. a ++ b) (listBelow-take f n d l h g) e
       ∙ ap (λ t. listBelow f n ++ drop t old) (sym (listBelow-length f n))
+
+  -- the laws by which a loop that fills a slice from its front uses it: place after place is stored
+  pub over-none : (f : ℕ → A) (l : List A) → over (listBelow f 0) l ≡ l
+  over-none f l = ap (λ t. over t l) (listBelow-none f)
+
+  pub over-more : (f : ℕ → A) (j : ℕ) (l : List A) → j < length l → set (over (listBelow f j) l) j (f j) ≡ over (listBelow f (j + 1)) l
+  over-more f j l h =
+      let s = listBelow-length f j in
+      let u = listBelow-length f (j + 1) in
+      ap (λ t. set (listBelow f j ++ drop t l) j (f j)) s
+      ∙ ap (λ t. set (listBelow f j ++ t) j (f j)) (drop-cons l j (f j) h)
+      ∙ set-at (listBelow f j) (getD l j (f j)) (drop (suc j) l) (f j) j s
+      ∙ sym (append-snoc (listBelow f j) (f j) (drop (suc j) l))
+      ∙ ap (λ t. t ++ drop (suc j) l) (sym (listBelow-more f j))
+      ∙ ap (λ t. listBelow f (j + 1) ++ drop t l) (sym (u ∙ add-one j))
+
+  pub over-size : (f : ℕ → A) (j : ℕ) (l : List A) → j ≤ length l → length (over (listBelow f j) l) ≡ length l
+  over-size f j l h = over-length (listBelow f j) l (omega (arith, listBelow-length f j))

@@ -165,3 +165,14 @@ countBelow-sum f (suc n) = omega (arith, countBelow-sum f n)
 
 pub countBelow-same : (f g : ℕ → Bool) (n : ℕ) → ((t : ℕ) → t < n → f t ≡ g t) → countBelow f n ≡ countBelow g n
 countBelow-same f g n h = countBelow-sum f n ∙ sumBelow-same _ _ n (λ t l. ap one (h t l)) ∙ sym (countBelow-sum g n)
+
+-- those that pass f are those that pass g too, and those that do not
+pub countBelow-split : (f g : ℕ → Bool) (n : ℕ) → countBelow f n ≡ countBelow (λ t. f t && g t) n + countBelow (λ t. f t && not (g t)) n
+unfolding countBelow
+countBelow-split f g zero = refl
+countBelow-split f g (suc n) = omega (arith, countBelow-split f g n, halves (f n) (g n))
+  where
+    halves : (a b : Bool) → one a ≡ one (a && b) + one (a && not b)
+    halves true true = refl
+    halves true false = refl
+    halves false b = refl

@@ -199,6 +199,47 @@ keep-occ f (x ∷ l) q = by-bool (f x)
     clash2 : x ≡ q → f x ≡ false → f q ≡ true → ⊥
     clash2 z e v = let w : true ≡ false = sym v ∙ ap f (sym z) ∙ e in true≢false w
 
+-- those kept are the members that pass
+pub keep-in : (f : ℕ → Bool) (l : List ℕ) (q : ℕ) → In q l → f q ≡ true → In q (keep f l)
+keep-in f l q m e = occ-in q (keep f l) (omega (arith, in-occ q l m, keep-occ f l q ∙ ap (λ b. cond b (occ q l) 0) e))
+
+pub in-keep : (f : ℕ → Bool) (l : List ℕ) (q : ℕ) → In q (keep f l) → In q l × (f q ≡ true)
+in-keep f l q m =
+    let o = in-occ q (keep f l) m in
+    let k = keep-occ f l q in
+    by-bool (f q)
+    (λ e. (occ-in q l (omega (arith, ap (λ b. cond b (occ q l) 0) e)), e))
+    (λ e. absurd (omega (arith, ap (λ b. cond b (occ q l) 0) e)))
+
+pub keep-distinct : (f : ℕ → Bool) (l : List ℕ) → Distinct l → Distinct (keep f l)
+keep-distinct f l d = occ-distinct (keep f l) (λ q. by-bool (f q)
+    (λ e. omega (arith, keep-occ f l q, ap (λ b. cond b (occ q l) 0) e, distinct-occ l d q))
+    (λ e. omega (arith, keep-occ f l q, ap (λ b. cond b (occ q l) 0) e)))
+
+-- only the members matter
+pub tally-same : (f g : ℕ → Bool) (l : List ℕ) → ((q : ℕ) → In q l → f q ≡ g q) → tally f l ≡ tally g l
+unfolding tally
+tally-same f g [] h = refl
+tally-same f g (x ∷ l) h =
+    omega (arith, ap one (h x (List·Memᴰ·head refl)), tally-same f g l (λ q m. h q (List·Memᴰ·tail m)))
+
+pub keep-same : (f g : ℕ → Bool) (l : List ℕ) → ((q : ℕ) → In q l → f q ≡ g q) → keep f l ≡ keep g l
+unfolding keep
+keep-same f g [] h = refl
+keep-same f g (x ∷ l) h = rw (h x (List·Memᴰ·head refl), keep-same f g l (λ q m. h q (List·Memᴰ·tail m)))
+
+-- how many entries have each label below n, all together: the length
+pub tally-labels : (label : ℕ → ℕ) (n : ℕ) (l : List ℕ) → ((q : ℕ) → In q l → label q < n)
+    → sumBelow (λ j. tally (λ q. eqb (label q) j) l) n ≡ length l
+unfolding tally
+tally-labels label n [] h = sumBelow-zero n
+tally-labels label n (x ∷ l) h =
+    let x-below : label x < n = h x (List·Memᴰ·head refl) in
+    let split = sumBelow-add (λ j. one (eqb (label x) j)) (λ j. tally (λ q. eqb (label q) j) l) n in
+    let point : sumBelow (λ j. one (eqb (label x) j)) n ≡ 1 =
+    sumBelow-point _ n (label x) x-below (λ t u v. ap one (ne-eqb (label x) t (λ z. v (sym z)))) ∙ ap one (eq-eqb (label x) (label x) refl) in
+    omega (arith, split, point, tally-labels label n l (λ q m. h q (List·Memᴰ·tail m)))
+
 -- ---- a list that has the numbers below n as a test says
 
 -- the tally of a list is the sum, over the numbers below n that pass, of how often each stands in it

@@ -10,11 +10,8 @@ use Rattle.model.specs.Papers.Deb2002.{Dominates}
 use Rattle.model.specs.Row.{dominates, byFeasibility}
 use Rattle.list_laws.proofs.Bools.{by-bool, T-true, true-T, false-T, and-not-left, and-not-right}
 use Rattle.list_laws.proofs.Tests.{anyBelow-at, anyBelow-some, anyBelow-each, anyBelow-nowhere, anyBelow-same}
+use Rattle.pareto.specs.Flat.{Known}
 use Rattle.pareto.proofs.FloatOrder.{le-trans, lt→le, lt→nle, nlt→le, lt-irrefl, lt-le-trans, lt-trans}
-
--- none of a row's m values is a NaN
-abbrev pub Known : ℕ → (ℕ → Float) → Type 0
-Known m a = (j : ℕ) → j < m → isNan (a j) ≡ false
 
 -- ---- rows
 

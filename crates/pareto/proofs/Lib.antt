@@ -2,7 +2,10 @@ pub mod FloatOrder
 pub mod Domination
 pub mod Violation
 pub mod Plans
+pub mod Flat
 pub mod Writes
 pub mod Steps
 pub mod Passing
 pub mod Sorting
+pub mod Meaning
+pub mod Places

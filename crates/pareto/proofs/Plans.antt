@@ -13,7 +13,7 @@ use lib.ListN.{length, getD}
 use Rattle.model.specs.declared.Direction.{Direction}
 use Rattle.model.specs.declared.Direction.the-variants.{Minimize, Maximize}
 use Rattle.model.specs.Lists.{allIn}
-use Rattle.model.specs.Papers.Deb2002.{Solution, ConstrainedDominates, onlyFeasible, lessViolation, bothFeasible}
+use Rattle.model.specs.Papers.Deb2002.{Dominates, Solution, ConstrainedDominates, onlyFeasible, lessViolation, bothFeasible}
 use Rattle.model.specs.Plan.{Plan, maxValues, maxConstraints, planOf}
 use Rattle.model.specs.Real.{real}
 use Rattle.model.specs.Refusal.{measurable, goodPlan}
@@ -23,8 +23,8 @@ use Rattle.list_laws.proofs.Built.{listBelow-length}
 use Rattle.list_laws.proofs.Tests.{allIn-each}
 use Rattle.front_laws.specs.Strict.{Strict}
 use Rattle.front_laws.proofs.Same.{Agree}
-use Rattle.pareto.specs.Flat.{rowAt, flatDominates, flatBeats, Pool, NoNan}
-use Rattle.pareto.proofs.Domination.{Known, dominates-same, dominates-irreflexive, dominates-transitive, dominates-paper, rule-irreflexive, rule-asymmetric, rule-transitive}
+use Rattle.pareto.specs.Flat.{Known}
+use Rattle.pareto.proofs.Domination.{dominates-irreflexive, dominates-asymmetric, dominates-transitive, dominates-paper, rule-irreflexive, rule-asymmetric, rule-transitive}
 use Rattle.pareto.proofs.FloatOrder.{le-not-nan}
 use Rattle.pareto.proofs.Violation.{feasible-none}
 
@@ -140,6 +140,35 @@ module _ (marks : List ℕ) (plans : ℕ → Plan) (n : ℕ) (known : (p : ℕ) 
         (rowOf marks (plans r)) (plans r .constraints) (known p lp) (known q lq) (known r lr) h k;
   }
 
+-- neither of two plans dominates the other where that one dominates it
+pub rowBeats-asymmetric : (marks : List ℕ) (plans : ℕ → Plan) (p q : ℕ) → rowBeats marks plans p q ≡ true → rowBeats marks plans q p ≡ false
+unfolding rowBeats
+rowBeats-asymmetric marks plans p q e = dominates-asymmetric (length marks) (rowOf marks (plans p)) (rowOf marks (plans q)) e
+
+pub beats-asymmetric : (marks : List ℕ) (plans : ℕ → Plan) (p q : ℕ) → beats marks plans p q ≡ true → beats marks plans q p ≡ false
+unfolding beats
+beats-asymmetric marks plans p q e =
+    constrained-asymmetric (length marks) (rowOf marks (plans p)) (plans p .constraints) (rowOf marks (plans q)) (plans q .constraints) e
+
+-- a plan as the paper's rule sees it
+abbrev pub solutionOf : List ℕ → Plan → Solution
+solutionOf marks plan = solution (rowOf marks plan) (plan .constraints)
+
+-- of accepted plans both are the paper's
+pub rowBeats-paper : (marks : List ℕ) (plans : ℕ → Plan) (p q : ℕ) → Accepted (length marks) (plans p) → Accepted (length marks) (plans q)
+    → (rowBeats marks plans p q ≡ true) ↔ Dominates (length marks) (rowOf marks (plans p)) (rowOf marks (plans q))
+unfolding rowBeats
+rowBeats-paper marks plans p q a b =
+    dominates-paper (length marks) (rowOf marks (plans p)) (rowOf marks (plans q))
+    (accepted-known marks (length marks) (plans p) a) (accepted-known marks (length marks) (plans q) b)
+
+pub beats-paper : (marks : List ℕ) (plans : ℕ → Plan) (p q : ℕ) → Accepted (length marks) (plans p) → Accepted (length marks) (plans q)
+    → (beats marks plans p q ≡ true) ↔ ConstrainedDominates (length marks) (solutionOf marks (plans p)) (solutionOf marks (plans q))
+unfolding beats
+beats-paper marks plans p q a b =
+    constrained-paper (length marks) (rowOf marks (plans p)) (plans p .constraints) (rowOf marks (plans q)) (plans q .constraints)
+    (accepted-known marks (length marks) (plans p) a) (accepted-known marks (length marks) (plans q) b)
+
 -- ---- where no plan has constraints the two dominations are one
 
 pub beats-unconstrained : (marks : List ℕ) (plans : ℕ → Plan) (n : ℕ) → ((p : ℕ) → p < n → plans p .constraints ≡ [])
@@ -147,69 +176,3 @@ pub beats-unconstrained : (marks : List ℕ) (plans : ℕ → Plan) (n : ℕ) �
 unfolding beats rowBeats constrainedDominates
 beats-unconstrained marks plans n h p q lp lq =
     rw (ap feasible (h p lp) ∙ feasible-none, ap feasible (h q lq) ∙ feasible-none)
-
--- ---- a pool in flat lists
-
--- rows, flags and violation sums are those of the n plans
-pub record FlatOf (marks : List ℕ) (plans : ℕ → Plan) (n : ℕ) (rows : List Float) (flags : List Bool) (sums : List Float) : Type 0 where
-  pub rowsOf : (p j : ℕ) → p < n → j < length marks → rowAt rows (length marks) p j ≡ rowOf marks (plans p) j
-  pub flagsOf : (p : ℕ) → p < n → getD flags p false ≡ feasible (plans p .constraints)
-  pub sumsOf : (p : ℕ) → p < n → getD sums p nan ≡ violation (plans p .constraints)
-
-pub flatBeats-beats : (marks : List ℕ) (plans : ℕ → Plan) (n : ℕ) (rows : List Float) (flags : List Bool) (sums : List Float)
-    → FlatOf marks plans n rows flags sums → Agree (flatBeats rows (length marks) flags sums) (beats marks plans) n
-unfolding flatBeats beats constrainedDominates
-flatBeats-beats marks plans n rows flags sums h p q lp lq =
-    let d = dominates-same (length marks) (rowAt rows (length marks) p) (rowOf marks (plans p)) (rowAt rows (length marks) q) (rowOf marks (plans q))
-    (λ j l. h .rowsOf p j lp l) (λ j l. h .rowsOf q j lq l) in
-    rw (h .flagsOf p lp, h .flagsOf q lq, h .sumsOf p lp, h .sumsOf q lq, d)
-
-pub flatDominates-rowBeats : (marks : List ℕ) (plans : ℕ → Plan) (n : ℕ) (rows : List Float)
-    → ((p j : ℕ) → p < n → j < length marks → rowAt rows (length marks) p j ≡ rowOf marks (plans p) j)
-    → Agree (flatDominates rows (length marks)) (rowBeats marks plans) n
-unfolding rowBeats
-flatDominates-rowBeats marks plans n rows h p q lp lq =
-    dominates-same (length marks) (rowAt rows (length marks) p) (rowOf marks (plans p)) (rowAt rows (length marks) q) (rowOf marks (plans q))
-    (λ j l. h p j lp l) (λ j l. h q j lq l)
-
--- where every plan is feasible, flat rows decide alone
-pub flatBeats-rows : (rows : List Float) (m : ℕ) (flags : List Bool) (sums : List Float) (n : ℕ) → ((p : ℕ) → p < n → getD flags p false ≡ true)
-    → Agree (flatBeats rows m flags sums) (flatDominates rows m) n
-unfolding flatBeats
-flatBeats-rows rows m flags sums n h p q lp lq = rw (h p lp, h q lq)
-
--- the place of a row's entry, and the end of a row, are in the table
-pub row-lt : (p j n m : ℕ) → p < n → j < m → p * m + j < n * m
-row-lt p j n m h g = omega (arith, mul-le-mul-right m h, suc-mul p m)
-
-pub row-end : (p n m : ℕ) → p < n → p * m + m ≤ n * m
-row-end p n m h = omega (arith, mul-le-mul-right m h, suc-mul p m)
-
--- rows without a NaN make both strict
-pub flatDominates-strict : (rows : List Float) (m n : ℕ) → NoNan rows (n * m) → Strict (flatDominates rows m) n
-flatDominates-strict rows m n h =
-    let known : (p : ℕ) → p < n → Known m (rowAt rows m p) = λ p lp j l. h (p * m + j) (row-lt p j n m lp l) in
-    record {
-      irreflexive = λ p l. dominates-irreflexive m (rowAt rows m p);
-      transitive = λ p q r lp lq lr x y. dominates-transitive m (rowAt rows m p) (rowAt rows m q) (rowAt rows m r) (known p lp) (known q lq) (known r lr) x y;
-    }
-
-pub flatBeats-strict : (rows : List Float) (m : ℕ) (flags : List Bool) (sums : List Float) (n : ℕ) → NoNan rows (n * m) → Strict (flatBeats rows m flags sums) n
-unfolding flatBeats
-flatBeats-strict rows m flags sums n h =
-    let known : (p : ℕ) → p < n → Known m (rowAt rows m p) = λ p lp j l. h (p * m + j) (row-lt p j n m lp l) in
-    record {
-      irreflexive = λ p l. rule-irreflexive m (getD flags p false) (getD sums p nan) (rowAt rows m p);
-      transitive = λ p q r lp lq lr x y.
-          rule-transitive m (getD flags p false) (getD flags q false) (getD flags r false) (getD sums p nan) (getD sums q nan) (getD sums r nan)
-          (rowAt rows m p) (rowAt rows m q) (rowAt rows m r) (known p lp) (known q lq) (known r lr) x y;
-    }
-
--- two plans of a pool in flat lists are within the lists
-pub pool-pair : (rows : List Float) (m : ℕ) (flags : List Bool) (sums : List Float) (n p q : ℕ) → Pool rows m flags sums n → p < n → q < n
-    → (p * m + m ≤ length rows) × (q * m + m ≤ length rows)
-    × (p < length flags) × (q < length flags) × (p < length sums) × (q < length sums)
-pool-pair rows m flags sums n p q h lp lq =
-    let a = row-end p n m lp in
-    let b = row-end q n m lq in
-    (omega arith, omega arith, omega arith, omega arith, omega arith, omega arith)

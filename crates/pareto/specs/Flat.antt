@@ -5,7 +5,8 @@ use mathlib.Core.Bool.{Bool, false}
 use mathlib.Core.List.{List}
 use lib.Ieee.{Float, nan, lt, isNan}
 use lib.ListN.{length, getD}
-use Rattle.model.specs.Row.{dominates, byFeasibility}
+use Rattle.model.specs.Plan.{Plan}
+use Rattle.model.specs.Row.{toMinimize, directionOf, rowOf, dominates, byFeasibility, feasible, violation}
 
 -- row p, which starts at p * m
 abbrev pub rowAt : List Float → ℕ → ℕ → ℕ → Float
@@ -26,6 +27,26 @@ pub record Pool (rows : List Float) (m : ℕ) (feasible : List Bool) (violations
   pub flags : n ≤ length feasible
   pub sums : n ≤ length violations
 
--- none of a list's first k entries is a NaN
-abbrev pub NoNan : List Float → ℕ → Type 0
-NoNan rows k = (i : ℕ) → i < k → isNan (getD rows i nan) ≡ false
+-- none of a row's m values is a NaN
+abbrev pub Known : ℕ → (ℕ → Float) → Type 0
+Known m a = (j : ℕ) → j < m → isNan (a j) ≡ false
+
+-- nor any of the n rows'
+abbrev pub KnownRows : List Float → ℕ → ℕ → Type 0
+KnownRows rows m n = (p : ℕ) → p < n → Known m (rowAt rows m p)
+
+-- ---- the flat lists of n plans
+
+-- the rows are those of the plans
+abbrev pub RowsOf : List ℕ → (ℕ → Plan) → ℕ → List Float → Type 0
+RowsOf marks plans n rows = (p j : ℕ) → p < n → j < length marks → rowAt rows (length marks) p j ≡ rowOf marks (plans p) j
+
+-- and so are the flags and the violation sums
+pub record FlatOf (marks : List ℕ) (plans : ℕ → Plan) (n : ℕ) (rows : List Float) (flags : List Bool) (sums : List Float) : Type 0 where
+  pub rowsOf : RowsOf marks plans n rows
+  pub flagsOf : (p : ℕ) → p < n → getD flags p false ≡ feasible (plans p .constraints)
+  pub sumsOf : (p : ℕ) → p < n → getD sums p nan ≡ violation (plans p .constraints)
+
+-- a row of values in minimise-space, which is `rowOf` of a plan that has them
+abbrev pub minimised : List ℕ → List Float → ℕ → Float
+minimised marks values j = toMinimize (directionOf (getD marks j 0)) (getD values j nan)

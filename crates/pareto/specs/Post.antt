@@ -6,7 +6,7 @@ use mathlib.Core.List.{List, [], _∷_}
 use lib.Dec.{eqb}
 use lib.ListN.{length, getD, set}
 use lib.Seq.{sets, slice}
-use Rattle.model.specs.Lists.{one, tally, firstBelow, listBelow, over}
+use Rattle.model.specs.Lists.{one, tally, firstBelow, keepBelow, has, listBelow, over}
 use Rattle.model.specs.Front.{lower, freed, lowerAll, freedAll, front, listing, frontList}
 use Rattle.front_laws.specs.Ranks.{mark}
 

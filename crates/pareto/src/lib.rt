@@ -6,14 +6,34 @@ ghost use mathlib.Core.List.{List};
 ghost use lib.Dec.{eqb};
 ghost use lib.ListN.{length, getD};
 ghost use lib.Seq.{sets};
-ghost use Rattle.model.specs.Lists.{countBelow, keepBelow};
-ghost use Rattle.model.specs.Row.{feasible, violation, dominates};
+ghost use Rattle.model.specs.Lists.{countBelow, keepBelow, listBelow, over};
+ghost use Rattle.model.specs.Row.{directionOf, toMinimize, feasible, violation, dominates};
 ghost use Rattle.model.specs.Refusal.{maxSize};
-ghost use Rattle.pareto.specs.Flat.{rowAt, flatDominates, flatBeats, Pool, NoNan};
+ghost use Rattle.pareto.specs.Flat.{rowAt, minimised, flatDominates, flatBeats, Pool, KnownRows};
 ghost use Rattle.pareto.specs.Post.{Freed, Releasable, Released, Ready, Passed, Sorted};
 
 // The most plans of a pool.
 pub const MAX_PLANS: usize = 1024;
+
+// A maximised value is negated; the mark is 0 to minimise, 1 to maximise.
+pub fn to_minimize(value: f64, direction: u8) -> f64
+    ensures { λ r. ⌜ r ≡ toMinimize (directionOf direction) value ⌝ }
+{
+    if direction == 0 { value } else { -value }
+}
+
+// A row in minimise-space: as many of the values as there are directions.
+pub fn to_minimize_space(values: &[f64], directions: &[u8], row: &mut [f64])
+    requires { ⌜ (length (now directions) ≤ length (now values)) × (length (now directions) ≤ length (now row)) ⌝ }
+    ensures { λ r. ⌜ now (row .exit)
+        ≡ over (listBelow (minimised (now (directions .entry)) (now (values .entry))) (length (now (directions .entry)))) (now (row .entry)) ⌝ }
+{
+    let mut j = 0;
+    while j < directions.len() {
+        row[j] = to_minimize(values[j], directions[j]);
+        j += 1;
+    }
+}
 
 // Row p is nowhere worse than row q, and somewhere better.
 pub fn dominates(rows: &[f64], m: usize, p: usize, q: usize) -> bool
@@ -241,7 +261,7 @@ pub fn fast_non_dominated_sort_constrained(
     rank: &mut [usize],
     ends: &mut [usize],
 ) -> usize
-    requires { ⌜ Pool (now rows) m (now feasible) (now violations) n × NoNan (now rows) (n * m) × (n ≤ maxSize)
+    requires { ⌜ Pool (now rows) m (now feasible) (now violations) n × KnownRows (now rows) m n × (n ≤ maxSize)
         × (n ≤ length (now order)) × (n ≤ length (now rank)) × (n ≤ length (now ends)) ⌝ }
     ensures { λ r. ⌜ Sorted (flatBeats (now (rows .entry)) m (now (feasible .entry)) (now (violations .entry))) n
         (now (order .entry)) (now (order .exit)) (now (rank .entry)) (now (rank .exit)) (now (ends .entry)) (now (ends .exit)) r ⌝ }
@@ -282,7 +302,7 @@ pub fn fast_non_dominated_sort(
     rank: &mut [usize],
     ends: &mut [usize],
 ) -> usize
-    requires { ⌜ (n * m ≤ length (now rows)) × NoNan (now rows) (n * m) × (n ≤ maxSize)
+    requires { ⌜ (n * m ≤ length (now rows)) × KnownRows (now rows) m n × (n ≤ maxSize)
         × (n ≤ length (now order)) × (n ≤ length (now rank)) × (n ≤ length (now ends)) ⌝ }
     ensures { λ r. ⌜ Sorted (flatDominates (now (rows .entry)) m) n
         (now (order .entry)) (now (order .exit)) (now (rank .entry)) (now (rank .exit)) (now (ends .entry)) (now (ends .exit)) r ⌝ }

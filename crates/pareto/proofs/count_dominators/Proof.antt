@@ -7,7 +7,7 @@ use native.Mathlib.Omega.{arith}
 use Rattle.model.specs.Lists.{countBelow}
 use Rattle.list_laws.proofs.Counts.{countBelow-none, countBelow-yes, countBelow-no}
 use Rattle.pareto.specs.Flat.{flatBeats}
-use Rattle.pareto.proofs.Plans.{pool-pair}
+use Rattle.pareto.proofs.Flat.{pool-pair}
 use Rattle.pareto.proofs.count_dominators.Statement.{statement}
 use Rattle.pareto.proofs.count_dominators.Tie as tie
 

@@ -7,7 +7,7 @@ use borrow.Author.Needs.{needs}
 use lib.ListN.{length}
 use Rattle.model.specs.Refusal.{maxSize}
 use Rattle.pareto.specs.Flat.{flatBeats}
-use Rattle.pareto.proofs.Plans.{flatBeats-strict}
+use Rattle.pareto.proofs.Flat.{flatBeats-strict}
 use Rattle.pareto.proofs.Sorting.{Sorting, sorting-first, first-rest, sorting-ready, sorting-more, sorting-done}
 use Rattle.pareto.proofs.fast_non_dominated_sort_constrained.Statement.{statement}
 use Rattle.pareto.proofs.fast_non_dominated_sort_constrained.Tie as tie

@@ -8,7 +8,7 @@ use lib.ListN.{length}
 use Rattle.model.specs.Front.{freed}
 use Rattle.pareto.specs.Flat.{flatBeats}
 use Rattle.pareto.proofs.Steps.{Releasing, releasing-first, releasing-asks, releasing-yes, releasing-no}
-use Rattle.pareto.proofs.Plans.{pool-pair}
+use Rattle.pareto.proofs.Flat.{pool-pair}
 use Rattle.pareto.proofs.release.Statement.{statement}
 use Rattle.pareto.proofs.release.Tie as tie
 

@@ -1,0 +1,77 @@
+-- A pool in flat lists: its domination is that of its plans, and strict where no row has a NaN.
+use Prim.Native.Nat.{ℕ, _+_, _*_, _≤_, _<_}
+use mathlib.Core.Path.{_≡_}
+use mathlib.Core.Bool.{Bool, true, false}
+use mathlib.Core.List.{List}
+use native.Mathlib.Nat.{suc-mul, mul-le-mul-right}
+use native.Mathlib.Omega.{arith}
+use lib.Ieee.{Float, nan}
+use lib.ListN.{length, getD}
+use Rattle.model.specs.Plan.{Plan}
+use Rattle.model.specs.Row.{rowOf, feasible, violation, constrainedDominates, rowBeats, beats}
+use Rattle.front_laws.specs.Strict.{Strict}
+use Rattle.front_laws.proofs.Same.{Agree}
+use Rattle.pareto.specs.Flat.{rowAt, flatDominates, flatBeats, Pool, KnownRows, RowsOf, FlatOf}
+use Rattle.pareto.proofs.Domination.{dominates-same, dominates-irreflexive, dominates-transitive, rule-irreflexive, rule-transitive}
+
+-- `flatBeats` is the constraint rule, where flags and sums are those of two plans' constraints
+pub flatBeats-constrained : (rows : List Float) (m : ℕ) (flags : List Bool) (sums : List Float) (p q : ℕ) (cp cq : List Float)
+    → getD flags p false ≡ feasible cp → getD flags q false ≡ feasible cq → getD sums p nan ≡ violation cp → getD sums q nan ≡ violation cq
+    → flatBeats rows m flags sums p q ≡ constrainedDominates m (rowAt rows m p) cp (rowAt rows m q) cq
+unfolding flatBeats constrainedDominates
+flatBeats-constrained rows m flags sums p q cp cq fp fq vp vq = rw (fp, fq, vp, vq)
+
+pub flatBeats-beats : (marks : List ℕ) (plans : ℕ → Plan) (n : ℕ) (rows : List Float) (flags : List Bool) (sums : List Float)
+    → FlatOf marks plans n rows flags sums → Agree (flatBeats rows (length marks) flags sums) (beats marks plans) n
+unfolding flatBeats beats constrainedDominates
+flatBeats-beats marks plans n rows flags sums h p q lp lq =
+    let d = dominates-same (length marks) (rowAt rows (length marks) p) (rowOf marks (plans p)) (rowAt rows (length marks) q) (rowOf marks (plans q))
+    (λ j l. h .rowsOf p j lp l) (λ j l. h .rowsOf q j lq l) in
+    rw (h .flagsOf p lp, h .flagsOf q lq, h .sumsOf p lp, h .sumsOf q lq, d)
+
+pub flatDominates-rowBeats : (marks : List ℕ) (plans : ℕ → Plan) (n : ℕ) (rows : List Float)
+    → RowsOf marks plans n rows → Agree (flatDominates rows (length marks)) (rowBeats marks plans) n
+unfolding rowBeats
+flatDominates-rowBeats marks plans n rows h p q lp lq =
+    dominates-same (length marks) (rowAt rows (length marks) p) (rowOf marks (plans p)) (rowAt rows (length marks) q) (rowOf marks (plans q))
+    (λ j l. h p j lp l) (λ j l. h q j lq l)
+
+-- where every plan is feasible, flat rows decide alone
+pub flatBeats-rows : (rows : List Float) (m : ℕ) (flags : List Bool) (sums : List Float) (n : ℕ) → ((p : ℕ) → p < n → getD flags p false ≡ true)
+    → Agree (flatBeats rows m flags sums) (flatDominates rows m) n
+unfolding flatBeats
+flatBeats-rows rows m flags sums n h p q lp lq = rw (h p lp, h q lq)
+
+-- the place of a row's entry, and the end of a row, are in the table
+pub row-lt : (p j n m : ℕ) → p < n → j < m → p * m + j < n * m
+row-lt p j n m h g = omega (arith, mul-le-mul-right m h, suc-mul p m)
+
+pub row-end : (p n m : ℕ) → p < n → p * m + m ≤ n * m
+row-end p n m h = omega (arith, mul-le-mul-right m h, suc-mul p m)
+
+-- rows without a NaN make both strict
+pub flatDominates-strict : (rows : List Float) (m n : ℕ) → KnownRows rows m n → Strict (flatDominates rows m) n
+flatDominates-strict rows m n known =
+    record {
+      irreflexive = λ p l. dominates-irreflexive m (rowAt rows m p);
+      transitive = λ p q r lp lq lr x y. dominates-transitive m (rowAt rows m p) (rowAt rows m q) (rowAt rows m r) (known p lp) (known q lq) (known r lr) x y;
+    }
+
+pub flatBeats-strict : (rows : List Float) (m : ℕ) (flags : List Bool) (sums : List Float) (n : ℕ) → KnownRows rows m n → Strict (flatBeats rows m flags sums) n
+unfolding flatBeats
+flatBeats-strict rows m flags sums n known =
+    record {
+      irreflexive = λ p l. rule-irreflexive m (getD flags p false) (getD sums p nan) (rowAt rows m p);
+      transitive = λ p q r lp lq lr x y.
+          rule-transitive m (getD flags p false) (getD flags q false) (getD flags r false) (getD sums p nan) (getD sums q nan) (getD sums r nan)
+          (rowAt rows m p) (rowAt rows m q) (rowAt rows m r) (known p lp) (known q lq) (known r lr) x y;
+    }
+
+-- two plans of a pool in flat lists are within the lists
+pub pool-pair : (rows : List Float) (m : ℕ) (flags : List Bool) (sums : List Float) (n p q : ℕ) → Pool rows m flags sums n → p < n → q < n
+    → (p * m + m ≤ length rows) × (q * m + m ≤ length rows)
+    × (p < length flags) × (q < length flags) × (p < length sums) × (q < length sums)
+pool-pair rows m flags sums n p q h lp lq =
+    let a = row-end p n m lp in
+    let b = row-end q n m lq in
+    (omega arith, omega arith, omega arith, omega arith, omega arith, omega arith)
