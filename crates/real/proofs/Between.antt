@@ -78,10 +78,6 @@ unfolding powerUp mul
 zero-power zero = refl
 zero-power (suc j) = ap (λ (p : Float). mul binary64 p nought) (zero-power j)
 
-top-is : real Top ≡ exp2 52
-unfolding ofBits
-top-is = refl
-
 one-top : mul binary64 one (exp2 52) ≡ exp2 52
 unfolding mul
 one-top = refl
@@ -196,19 +192,19 @@ module _ (v : Float) (k : ℕ) (above : T (lt nought v)) (small : T (le v (exp2 
       ]
 
 -- ---- of any v and k: R lies within 0..2^52
-abbrev Within : Float → Type 0
-Within x = T (fits binary64 x) × T (le nought x) × T (le x (exp2 52))
+abbrev UpToTop : Float → Type 0
+UpToTop x = T (fits binary64 x) × T (le nought x) × T (le x (exp2 52))
 
-real-within : (b : ℕ) → b ≤ Top → Within (real b)
+real-within : (b : ℕ) → b ≤ Top → UpToTop (real b)
 unfolding toBits
 real-within b t =
     let f = from-zero b t in
     (ofBits-fits binary64 b, f .from, bits→le binary64 (real b) (exp2 52) (ofBits-fits binary64 b) (orders .top-fits) (f .clear) tt (le-trans-ℕ (le-of-eq (f .own)) t))
 
-pub root-within : (v : Float) (k : ℕ) → Within (R v k)
+pub root-within : (v : Float) (k : ℕ) → UpToTop (R v k)
 unfolding R
 root-within v k = go (eq v origin)
   where
-    go : (b : Bool) → Within (cond b origin (real (halvings v k 63 .lower)))
+    go : (b : Bool) → UpToTop (cond b origin (real (halvings v k 63 .lower)))
     go true = real-within 0 (omega arith)
     go false = real-within (halvings v k 63 .lower) (let g = gap v k 63 in let o = g .order in let t = g .top in omega arith)

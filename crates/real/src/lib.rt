@@ -1,5 +1,5 @@
-// The leaves of the computation: words and reals, whole numbers and reals, clamp, midpoint and round, and the square root.
-// Every function is total: a NaN, an infinity or any word goes in.
+// The float leaves (document 01, "Worked-out numbers"): words and reals, whole numbers and reals, clamp, midpoint and round, the square root,
+// powers and roots. Every public function is total: any word, a NaN or an infinity may go in.
 
 ghost use mathlib.Core.Path.{_≡_};
 ghost use mathlib.Core.Bool.{false, cond};

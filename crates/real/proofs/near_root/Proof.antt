@@ -40,17 +40,21 @@ module _ (a rest rem root i : ℕ) (t : Turns a rest rem root i) (l : 53 ≤ i) 
 loop-holds : tie.Need-loop-holds Inv-loop μ-loop
 loop-holds c = start (c .args .a) (c .pre)
 
+-- a turn is one of 53
+turn : (c : tie.In-loop Inv-loop μ-loop) → c .before .loop .i < 53
+turn c = omega arith
+
 add-more : tie.Need-add-more Inv-loop μ-loop
 add-more c =
     let a = c .before .before .args .a in
     let l = c .before .loop in
-    omega (arith, more-fits a (l .rest) (l .rem) (l .root) (l .i) (l .inv) (c .loop-test .taken))
+    omega (arith, more-fits a (l .rest) (l .rem) (l .root) (l .i) (l .inv) (turn c))
 
 add-take : tie.Need-add-take Inv-loop μ-loop
 add-take c =
     let a = c .before .before .args .a in
     let l = c .before .loop in
-    omega (arith, take-fits a (l .rest) (l .rem) (l .root) (l .i) (l .inv) (c .loop-test .taken))
+    omega (arith, take-fits a (l .rest) (l .rem) (l .root) (l .i) (l .inv) (turn c))
 
 root-digit-requires : tie.Need-root-digit-requires Inv-loop μ-loop
 root-digit-requires c κs = search needs
@@ -59,13 +63,13 @@ root-digit-requires c κs = search needs
 taken : (c : tie.After-root-digit Inv-loop μ-loop) → Step (c .before .before .before .args .a) (c .before .before .loop .rest) (c .before .before .loop .rem) (c .before .before .loop .root) (c .before .before .loop .i) (c .root-digit .result)
 taken c =
     let l = c .before .before .loop in
-    step (c .before .before .before .args .a) (l .rest) (l .rem) (l .root) (l .i) (c .root-digit .result) (l .inv) (c .before .loop-test .taken) (c .root-digit .ensures)
+    step (c .before .before .before .args .a) (l .rest) (l .rem) (l .root) (l .i) (c .root-digit .result) (l .inv) (turn (c .before)) (c .root-digit .ensures)
 
 mul-rem : tie.Need-mul-rem Inv-loop μ-loop
 mul-rem c =
     let a = c .before .before .before .args .a in
     let l = c .before .before .loop in
-    let f = more-fits a (l .rest) (l .rem) (l .root) (l .i) (l .inv) (c .before .loop-test .taken) in
+    let f = more-fits a (l .rest) (l .rem) (l .root) (l .i) (l .inv) (turn (c .before)) in
     record { fits = lt-of-le-of-lt (taken c .less) (lt-of-lt-of-le f (lit≤ tt)) }
 
 sub-rem : tie.Need-sub-rem Inv-loop μ-loop

@@ -25,6 +25,10 @@ middle v y p w k b e f t = sym (ap (λ (x : Float). le x v) (f ∙ ap (λ (x : F
 between : (c : tie.Else1 Inv-loop μ-loop) (l u : ℕ) → Reached (c .before .args .v) (c .before .args .k) l u → (l < u) × (u ≤ Top)
 between c l u r = let g = shape (c .before .args .v) (c .before .args .k) l u r in (g .order, g .top)
 
+-- in a turn the ends are no neighbours
+turn : (c : tie.In-loop Inv-loop μ-loop) → c .before .loop .lower + 1 < c .before .loop .upper
+turn c = omega arith
+
 returns : tie.Need-returns Inv-loop μ-loop
 returns c = sym (root-zero (c .before .args .v) (c .before .args .k) (c .if1 .taken))
 
@@ -53,7 +57,7 @@ loop-again : tie.Need-loop-again Inv-loop μ-loop
 loop-again c =
     let l = c .before .before .before .before .loop in
     let a = c .before .before .before .before .before .before .args in
-    on-upper (a .v) (a .k) (l .lower) (l .upper) (l .inv) (c .before .before .before .loop-test .taken)
+    on-upper (a .v) (a .k) (l .lower) (l .upper) (l .inv) (turn (c .before .before .before))
     (middle (a .v) _ _ ((l .lower + l .upper) / 2) (a .k) _ (c .before .before .real-of-word .ensures) (c .before .power .ensures) (c .if2 .taken))
 
 loop-less-2 : tie.Need-loop-less-2 Inv-loop μ-loop
@@ -66,7 +70,7 @@ loop-again-2 : tie.Need-loop-again-2 Inv-loop μ-loop
 loop-again-2 c =
     let l = c .before .before .before .before .loop in
     let a = c .before .before .before .before .before .before .args in
-    on-lower (a .v) (a .k) (l .lower) (l .upper) (l .inv) (c .before .before .before .loop-test .taken)
+    on-lower (a .v) (a .k) (l .lower) (l .upper) (l .inv) (turn (c .before .before .before))
     (middle (a .v) _ _ ((l .lower + l .upper) / 2) (a .k) _ (c .before .before .real-of-word .ensures) (c .before .power .ensures) (c .if2 .left))
 
 real-of-word-requires-2 : tie.Need-real-of-word-requires-2 Inv-loop μ-loop

@@ -26,10 +26,8 @@ int-to-float-t6 : tie.Need-int-to-float-t6
 unfolding inFloat
 int-to-float-t6 c =
     let n = c .before .before .next in
-    le→leb (n .result .value / 2 ^ 12) (2 ^ 53) (small _ (is-word _ _ _ (n .ensures) .1))
-  where
-    small : (w : ℕ) → w < 2 ^ 64 → w / 2 ^ 12 ≤ 2 ^ 53
-    small w h = omega arith
+    let h = is-word _ _ _ (n .ensures) .1 in
+    le→leb (n .result .value / 2 ^ 12) (2 ^ 53) (omega arith)
 
 is-drawn : (s w t : ℕ) → drawn w t ≡ drawWord s → drawn (div binary64 (ofInt binary64 (pos (w / 2 ^ 12))) (ofBits binary64 0x4330_0000_0000_0000)) t ≡ drawF64 s
 unfolding drawF64 unitOf ofBits
