@@ -6,3 +6,5 @@ pub mod Request
 pub mod Extremes
 pub mod Within
 pub mod Good
+pub mod Coordinates
+pub mod Distances

@@ -30,11 +30,11 @@ pub record Start (x : Float) : Type 0 where
   pub held : T (fits binary64 x)
   pub low : T (le (minus-exp2 1000) x)
 
--- a number within 0..1
-pub record Unit01 (x : Float) : Type 0 where
+-- a number from 0 up to 2 ^ k
+pub record Upto (k : ℕ) (x : Float) : Type 0 where
   pub number : Number binary64 x
   pub low : T (le constants.nought x)
-  pub high : T (le x constants.one)
+  pub high : T (le x (exp2 k))
 
 -- ---- one objective: its values f, and the ideal b that it starts from
 module _ (b : Float) (f : ℕ → Float) (n : ℕ) (B : Start b) (F : (t : ℕ) → t < n → Real (f t)) (p : ℕ) (h : p < n) where
@@ -91,7 +91,7 @@ module _ (b : Float) (f : ℕ → Float) (n : ℕ) (B : Start b) (F : (t : ℕ) 
       let X : Number binary64 (f p ⊖ least) = record { held = sub-fits binary64 (f p) least; finite = between-finite constants.nought (f p ⊖ least) constants.one tt tt x0 x2 } in
       ratio binary64 (f p ⊖ least) constants.one X (one-number binary64) x0 x2 nought-lt-one
 
-  pub normal-unit : Unit01 ((f p ⊖ least) ⊘ interceptFrom (most ⊖ least))
+  pub normal-unit : Upto 0 ((f p ⊖ least) ⊘ interceptFrom (most ⊖ least))
   normal-unit =
       let w = by-bool {C = T (le constants.nought ((f p ⊖ least) ⊘ interceptFrom (most ⊖ least))) × T (le ((f p ⊖ least) ⊘ interceptFrom (most ⊖ least)) constants.one)}
           (lt smallSpan (most ⊖ least))
@@ -114,7 +114,7 @@ pub record Measured (r : Request) : Type 0 where
   pub start : (j : ℕ) → j < objectives r → Start (getD (r .ideal) j nan)
 
 module _ (r : Request) (M : Measured r) (p j : ℕ) (h : p < r .count) (k : j < objectives r) where
-  pub normalised-unit : Unit01 (normalised r p j)
+  pub normalised-unit : Upto 0 (normalised r p j)
   unfolding normalised idealOf interceptOf
   normalised-unit = normal-unit (getD (r .ideal) j nan) (λ q. valueOf r q j) (r .count) (M .start j k) (λ q l. M .values q j l k) p h
 
