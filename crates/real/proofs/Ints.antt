@@ -14,7 +14,7 @@ use Rattle.real.specs.IntCode.{wordOfInt, intOfWord}
 
 -- ---- there and back
 pub int-of-word-of : (z : ℤ) → intOfWord (wordOfInt z) ≡ z
-unfolding intOfWord wordOfInt
+unfolding intOfWord
 int-of-word-of (pos n) =
     ap (λ (b : Bool). cond b (pos (2 * n / 2)) (negsuc (2 * n / 2))) (eq-eqb (2 * n % 2) 0 (omega arith)) ∙ ap pos (omega arith)
 int-of-word-of (negsuc n) =
@@ -32,7 +32,7 @@ unfolding intOfWord
 intOfWord-odd w h = ap (λ (b : Bool). cond b (pos (w / 2)) (negsuc (w / 2))) (ne-eqb (w % 2) 0 h)
 
 pub word-of-int-of : (w : ℕ) → wordOfInt (intOfWord w) ≡ w
-unfolding intOfWord wordOfInt
+unfolding intOfWord
 word-of-int-of w = go (eqb (w % 2) 0) refl
   where
     go : (b : Bool) → eqb (w % 2) 0 ≡ b → wordOfInt (cond b (pos (w / 2)) (negsuc (w / 2))) ≡ w
@@ -49,7 +49,6 @@ intOfWord-fits w h = go (eqb (w % 2) 0)
     go false = record { sfits = omega arith }
 
 pub wordOfInt-below : (z : ℤ) → SFits w64 z → wordOfInt z < 2 ^ 64
-unfolding wordOfInt
 wordOfInt-below (pos n) f = let g : n < 2 ^ 63 = f .sfits in omega arith
 wordOfInt-below (negsuc n) f = let g : n < 2 ^ 63 = f .sfits in omega arith
 
@@ -69,7 +68,6 @@ pub record Up (n : ℤ) : Type 0 where
   pub is : 2 * natAbs n ≡ wordOfInt n
 
 pub up : (n : ℤ) → SFits w64 n → leZ (pos 0) n ≡ true → Up n
-unfolding wordOfInt
 up (pos n) f h = let g : n < 2 ^ 63 = f .sfits in record { from = tt; fits = record { fits = omega arith }; twice = record { fits = omega arith }; is = refl }
 up (negsuc n) f h = absurd (true≢false (sym h))
 
@@ -81,6 +79,5 @@ pub record Down (n : ℤ) : Type 0 where
   pub word : 2 * some + 1 ≡ wordOfInt n
 
 pub down : (n : ℤ) → SFits w64 n → leZ (pos 0) n ≡ false → Down n
-unfolding wordOfInt
 down (pos n) f h = absurd (true≢false (sym (leb·zero n) ∙ h))
 down (negsuc n) f h = record { some = n; is = other-back n; small = f .sfits; word = refl }
