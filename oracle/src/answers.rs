@@ -153,6 +153,18 @@ pub fn answer(input: &[u64]) -> Result<Vec<u64>, String> {
                 push_reals(&mut a, point);
             }
         }
+        54 => {
+            let (m, h) = (positive(r)?, r.count()?);
+            if m > 8 || refusals::bad_divisions(m, h as u64) {
+                return Err("m is not 1 to 8, or divisions turned down with 4".to_string());
+            }
+            let points = genetic::das_dennis(m, h);
+            // Every coordinate in its place goes into one number.
+            let digest = points.iter().flatten().fold(0_u64, |digest, &x| {
+                digest.wrapping_mul(6364136223846793005).wrapping_add(of_real(x))
+            });
+            a.extend([points.len() as u64, digest]);
+        }
         51 => {
             let m = positive(r)?;
             a.push(genetic::auto_divisions(m, r.count()?) as u64);

@@ -5,7 +5,7 @@
 pub const NAN: u64 = 9221120237041090560;
 
 /// Commands by name and number; README describes each.
-pub const COMMANDS: [(&str, u64); 34] = [
+pub const COMMANDS: [(&str, u64); 35] = [
     ("words", 10),
     ("f64", 11),
     ("usize", 12),
@@ -23,6 +23,7 @@ pub const COMMANDS: [(&str, u64); 34] = [
     ("fronts", 40),
     ("fronts_constrained", 41),
     ("das_dennis", 50),
+    ("table_digest", 54),
     ("auto_divisions", 51),
     ("point_count", 52),
     ("population", 53),

@@ -47,8 +47,9 @@ pub fn cases(kind: &str) -> Result<Vec<Line>, String> {
         "breeding" => breeding::breeding_cases(),
         "session" => sessions::session_cases(),
         "choose" => files::choose_cases(),
+        "tables" => rows::table_cases(),
         "large" => files::large_cases(),
-        _ => return Err(format!("the records are {}, large", KINDS.join(", "))),
+        _ => return Err(format!("the records are {}, tables, large", KINDS.join(", "))),
     })
 }
 

@@ -185,6 +185,19 @@ pub(super) fn population(m: usize, size: Option<u64>, divisions: Option<u64>) ->
     line
 }
 
+/// Every reference table that document 01 accepts.
+pub(super) fn table_cases() -> Vec<Line> {
+    let mut lines = Vec::new();
+    for m in 1..=8 {
+        for h in 1..=199 {
+            if !refusals::bad_divisions(m, h) {
+                lines.push(vec![54, m as u64, h]);
+            }
+        }
+    }
+    lines
+}
+
 pub(super) fn reference_cases() -> Vec<Line> {
     let mut lines = vec![
         // P1, P2.
