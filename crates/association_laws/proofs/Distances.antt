@@ -1,32 +1,27 @@
--- THEOREM: the distance of a normalised plan from a line of the reference table is a number. Assumes nothing.
+-- Bounds of the parts of a distance: products, sums of at most 8 terms, a quotient by 1/64 or more, the square of a difference. Assumes nothing.
 use Prim.Native.Nat.{ℕ, zero, suc, _+_, _-_, _*_, _^_, _≤_, _<_}
 use mathlib.Core.Path.{_≡_, refl, ap, ap₂, sym, subst, _∙_}
-use mathlib.Core.Bool.{Bool, true, false, not, _&&_, true≢false}
+use mathlib.Core.Bool.{Bool, true, false, _&&_}
 use mathlib.Core.Logic.{⊎-elim}
 use native.Mathlib.Nat.{not-suc-le-zero, eq-or-lt-of-le, add-zero, mul-assoc, mul-comm, mul-le-mul-right, zero-mul}
 use native.Mathlib.Omega.{arith}
 use lib.Dec.{T}
 use lib.IntN.{pos, negsuc}
 use lib.Pow.{pow-pos}
-use lib.Ieee.{Float, nan, inf, fin, binary64, add, sub, mul, div, lt, le, neg, ofBits, fits, isNan}
+use lib.Ieee.{Float, nan, inf, fin, binary64, add, sub, mul, le, neg, ofBits, fits}
 use lib.Ieee.Scale.{finite}
 use lib.Ieee.Fits.{add-fits, mul-fits, div-fits, sub-fits, neg-fits, and-l, and-r}
 use Rattle.model.specs.Lists.{allBelow}
-use Rattle.model.specs.Real.{_⊕_, _⊖_, _⊗_, _⊘_, minusNought, infinity, sumTo}
-use Rattle.model.specs.Numbers.{sqrtOf, square}
-use Rattle.model.specs.Association.{Request, objectives, lineCount, normalised, coordinate, dot, offSquares, distance, distanceTo, smallNorm, association, lineOf}
-use Rattle.list_laws.proofs.Bools.{by-bool, T-true, T-false, true-T, and-left, and-right}
+use Rattle.model.specs.Real.{_⊕_, _⊖_, _⊗_, _⊘_, minusNought, sumTo}
+use Rattle.model.specs.Numbers.{square}
+use Rattle.list_laws.proofs.Bools.{true-T}
 use Rattle.list_laws.proofs.Tests.{allBelow-each}
 use Rattle.float_laws.proofs.Units.{Number, Counts, le→counts}
-use Rattle.float_laws.proofs.Order.{le-trans, le-total, le-not-nan, lt→nle, le-lt-trans}
+use Rattle.float_laws.proofs.Order.{le-trans, le-total, le-not-nan}
 use Rattle.float_laws.proofs.Rounding.{le-neg, between-finite, div-rounded, rounded-le, le-rounded}
 use Rattle.float_laws.proofs.Constants.{nought, one, exp2, nought-number, nought-fits, nought-counts, exp2-counts}
 use Rattle.float_laws.proofs.Arithmetic.{count, add-mono, mul-mono, mul-from-zero}
-use Rattle.real.proofs.Roots.Monotone.{sqrt-mono, sqrt-from-zero}
-use Rattle.niching_laws.proofs.Association.{association-distance, association-first}
-use Rattle.association_laws.proofs.Steps.{distance-long}
-use Rattle.association_laws.proofs.Within.{Upto, Measured, normalised-unit}
-use Rattle.association_laws.proofs.Coordinates.{eighth, coordinate-unit, coordinate-large}
+use Rattle.association_laws.proofs.Within.{Upto}
 
 -- a number between 0 and 2 ^ k
 bound : (k : ℕ) (x : Float) → T (fits binary64 x) → T (le nought x) → T (le x (exp2 k)) → Upto k x
@@ -133,9 +128,6 @@ module _ (k : ℕ) (L : Ladder k) where
 -- 1/64
 abbrev pub sixtyFourth : Float
 sixtyFourth = fin false 1 (negsuc 5)
-
-from-counts : (a b : ℕ) → 0 + 0 ≤ a + 0 → a + 0 ≤ b + 0 → a ≤ b
-from-counts a b g h = omega arith
 
 positive : (b w : ℕ) → 0 < w → w + 0 ≤ b + 0 → 0 < b - 0
 positive b w h l = omega arith

@@ -2,12 +2,13 @@
 use Prim.Native.Nat.{ℕ, _≤_, _<_}
 use mathlib.Core.Path.{_≡_, refl, ap, sym, _∙_}
 use mathlib.Core.Bool.{Bool, true, false, not}
+use native.Mathlib.Omega.{arith}
 use lib.Dec.{T}
 use lib.IntN.{negsuc}
 use lib.Ieee.{Float, fin, inf, binary64, lt, le, mul, add, ofBits, fits, isNan}
 use Rattle.model.specs.Lists.{allBelow}
 use Rattle.model.specs.Real.{_⊕_, _⊗_, _⊘_, infinity, sumTo}
-use Rattle.model.specs.Numbers.{sqrtOf, rooted, nearRoot, wholeRoot, rootIn, grown, closer}
+use Rattle.model.specs.Numbers.{sqrtOf}
 use Rattle.model.specs.Association.{Request, objectives, lineCount, normalised, coordinate, dot, offSquares, distance, distanceTo, smallNorm, association, lineOf}
 use Rattle.list_laws.proofs.Bools.{by-bool, T-true, T-false, true-T}
 use Rattle.float_laws.proofs.Units.{Number}
@@ -15,10 +16,10 @@ use Rattle.float_laws.proofs.Order.{le-trans, le-not-nan, lt→nle, lt→le, le
 use Rattle.float_laws.proofs.Constants.{nought, exp2}
 use Rattle.float_laws.proofs.Arithmetic.{mul-mono}
 use Rattle.real.proofs.Roots.Monotone.{sqrt-mono, sqrt-from-zero}
-use Rattle.niching_laws.proofs.Association.{association-distance, association-first}
+use Rattle.niching_laws.proofs.Association.{lineOf-inside, association-distance, association-first}
 use Rattle.association_laws.proofs.Steps.{distance-long}
 use Rattle.association_laws.proofs.Within.{Upto, Measured, normalised-unit}
-use Rattle.association_laws.proofs.Coordinates.{eighth, coordinate-unit, coordinate-large}
+use Rattle.association_laws.proofs.Coordinates.{eighth, lines-some, coordinate-unit, coordinate-large}
 use Rattle.association_laws.proofs.Distances.{Ladder, squares, sixtyFourth, mul-upto, sum-upto, sum-least, quotient-upto, off-upto}
 
 -- ---- the closed facts
@@ -99,3 +100,19 @@ module _ (r : Request) (M : Measured r) (wide : 1 ≤ objectives r) (narrow : ob
       let b = coordinate-large (objectives r) (r .divisions) wide narrow some few l k in
       distance-number (objectives r) narrow (normalised r p) (coordinate r l) (λ j g. normalised-unit r M p j h g)
       (λ j g. coordinate-unit (objectives r) (r .divisions) wide narrow some few l k j g) (b .0) (b .1) (b .2)
+
+  -- so the distance kept is the plan's distance from its line, a number, and every line before it is farther
+  lines : 0 < lineCount r
+  lines = lines-some (objectives r) (r .divisions) wide
+
+  inside : lineOf r p < lineCount r
+  inside = lineOf-inside r p lines
+
+  pub association-own : association r p .distance ≡ distanceTo r p (lineOf r p)
+  association-own = association-distance r p lines (distanceTo-number (lineOf r p) inside .0)
+
+  pub association-number : (isNan (association r p .distance) ≡ false) × (lt (association r p .distance) infinity ≡ true)
+  association-number = rw association-own (distanceTo-number (lineOf r p) inside)
+
+  pub association-nearest : (l : ℕ) → l < lineOf r p → lt (distanceTo r p (lineOf r p)) (distanceTo r p l) ≡ true
+  association-nearest l k = association-first r p l k (distanceTo-number l (let i = inside in omega arith) .0)
