@@ -149,6 +149,7 @@ room a b A C D w e h l =
   where
     plain : (a b : ℕ) → a + 0 ≤ b + 0 → a ≤ b
     plain a b h = omega arith
+
     less : (b : ℕ) → b - 0 ≡ b
     less b = omega arith
 
