@@ -1,27 +1,25 @@
 -- What is drawn: the k-th line or member, k drawn below their number.
-use Prim.Native.Nat.{ℕ, zero, suc, _+_, _%_, _≤_, _<_}
+use Prim.Native.Nat.{ℕ, zero, suc, _<_}
 use mathlib.Core.Path.{_≡_, refl, ap, sym, _∙_}
 use mathlib.Core.Bool.{Bool, true}
-use mathlib.Core.List.{List, [], _∷_, map}
-use native.Mathlib.Nat.{mod-lt}
+use mathlib.Core.List.{List, map}
 use native.Mathlib.Omega.{arith}
 use borrow.Author.Tests.{ltb-true}
 use lib.Ieee.{Float}
 use lib.ListN.{length, getD, length-map}
 use Rattle.model.specs.Lists.{countBelow, keepBelow}
-use Rattle.model.specs.Draw.{Drawn, drawn, drawWord, drawUsize}
+use Rattle.model.specs.Draw.{Drawn, drawn, drawUsize}
 use Rattle.model.specs.Kept.{leastLines, drawFrom, nearest, drawMember}
 use Rattle.list_laws.proofs.Bools.{and-left}
-use Rattle.list_laws.proofs.Counts.{countBelow-yes, countBelow-up}
 use Rattle.list_laws.proofs.Kept.{keepBelow-length}
+use Rattle.rng_util.proofs.Draws.{drawUsize-below}
 use Rattle.niching.specs.Niche.{countOf, hasWaiting, isLeast, Open, Kth}
 use Rattle.niching.proofs.Places.{kth-is, getD-map-in, nearest-map}
 use Rattle.niching.proofs.Least.{IsLeastOf, leastLines-is}
 
 -- a draw below n is below n
 pub draw-below : (n k s t : ℕ) → 0 < n → drawn k t ≡ drawUsize n s → k < n
-unfolding drawUsize
-draw-below n k s t h e = let v : k ≡ drawWord s .value % n = ap (λ (d : Drawn ℕ). d .value) e in rw v (mod-lt (drawWord s .value) h)
+draw-below n k s t h e = let v : k ≡ drawUsize n s .value = ap (λ (d : Drawn ℕ). d .value) e in rw v (drawUsize-below n s h)
 
 -- the k-th of those that pass, k drawn, is drawn from them
 pub drawn-kth : (f : ℕ → Bool) (n k r s t : ℕ) → drawn k t ≡ drawUsize (countBelow f n) s → Kth f n k r → drawn r t ≡ drawFrom (keepBelow f n) s

@@ -1,7 +1,7 @@
 -- The arrays while the open places are filled: they hold what document 01 says of the plans kept before and those picked so far.
 use Prim.Native.Nat.{ℕ, suc, _+_, _-_, _≤_, _<_}
-use mathlib.Core.Path.{_≡_, refl, ap, ap₂, sym, _∙_, fun-ext}
-use mathlib.Core.Bool.{Bool, true, false, cond, not, _&&_, _||_, or-true, or-false}
+use mathlib.Core.Path.{_≡_, ap, ap₂, sym, _∙_, fun-ext}
+use mathlib.Core.Bool.{Bool, true, false, not, _&&_, _||_, or-true, or-false}
 use mathlib.Core.List.{List, [], _∷_, _++_, map, append-nil, append-assoc, List·Memᴰ·head, List·Memᴰ·tail}
 use native.Mathlib.Omega.{arith}
 use borrow.Author.Tests.{eq-eqb, ne-eqb, eqb-true, eqb-false, ltb-true, ltb-false}
@@ -9,16 +9,15 @@ use lib.Dec.{eqb, ltb}
 use lib.Ieee.{Float}
 use lib.ListN.{length, getD, set, replicate, length-append, length-set, length-map, length-replicate, getD-replicate, List·getD-eq-default}
 use lib.Seq.{getD-set-same, getD-set-other}
-use Rattle.model.specs.Lists.{countBelow, keepBelow, keep, has, tally, In, Distinct}
-use Rattle.model.specs.Draw.{Drawn, drawn}
+use Rattle.model.specs.Lists.{countBelow, keepBelow, keep, has, In, Distinct}
+use Rattle.model.specs.Draw.{Drawn}
 use Rattle.model.specs.Kept.{nicheCount, waiting, openLines, leastLines, drawFrom, drawMember, pickOne}
-use Rattle.list_laws.specs.Occ.{occ}
 use Rattle.list_laws.proofs.Bools.{by-bool}
 use Rattle.list_laws.proofs.Counts.{countBelow-same}
-use Rattle.list_laws.proofs.Members.{tally-le, tally-append, keep-length, has-nil, has-cons, has-occ, has-append, in-has, has-in}
+use Rattle.list_laws.proofs.Members.{tally-le, keep-length, has-nil, has-cons, has-occ, has-append, has-in}
 use Rattle.list_laws.proofs.Kept.{keepBelow-same, keepBelow-length}
 use Rattle.niching_laws.proofs.Picks.{some-waits}
-use Rattle.niching.specs.Niche.{lineIn, distanceIn, planAt, countOf, hasWaiting, waitsOn, places, members, Zeros, OnLines, Measured, Ready, pickAt, Took}
+use Rattle.niching.specs.Niche.{lineIn, distanceIn, planAt, countOf, hasWaiting, waitsOn, places, members, OnLines, Measured, Ready, pickAt, Took}
 use Rattle.niching.proofs.Places.{keep-places, keep-keep, occ-map, countBelow-drop, different-places}
 use Rattle.niching.proofs.Counting.{counts-more}
 

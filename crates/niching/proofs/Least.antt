@@ -1,8 +1,8 @@
 -- The lines with the least niche count of those with waiting members.
 use Prim.Native.Nat.{ℕ, zero, suc, _+_, _≤_, _<_}
 use mathlib.Core.Path.{_≡_, refl, ap, sym, _∙_}
-use mathlib.Core.Bool.{Bool, true, false, cond, not, _&&_, true≢false}
-use mathlib.Core.List.{List, [], _∷_}
+use mathlib.Core.Bool.{Bool, true, false, cond, _&&_, true≢false}
+use mathlib.Core.List.{List}
 use mathlib.Core.Logic.{_⊎_, inl, inr, ⊎-elim}
 use native.Mathlib.Nat.{not-suc-le-zero, eq-or-lt-of-le}
 use native.Mathlib.Numerals.{add-one}
@@ -10,9 +10,9 @@ use native.Mathlib.Omega.{arith}
 use borrow.Author.Tests.{lt-ltb, ltb-true, ltb-false, eq-eqb, eqb-true, eqb-false, leb-true, le-leb}
 use lib.Dec.{eqb, leb, ltb}
 use lib.ListN.{length, getD}
-use Rattle.model.specs.Lists.{countBelow, keepBelow, allIn, In}
+use Rattle.model.specs.Lists.{countBelow, keepBelow, allIn}
 use Rattle.model.specs.Kept.{leastLines}
-use Rattle.list_laws.proofs.Bools.{by-bool, and-left, and-right, and-no}
+use Rattle.list_laws.proofs.Bools.{by-bool, and-left}
 use Rattle.list_laws.proofs.Counts.{countBelow-yes, countBelow-up}
 use Rattle.list_laws.proofs.Tests.{allIn-every, allIn-member}
 use Rattle.list_laws.proofs.Kept.{keepBelow-same, keepBelow-in, in-keepBelow}

@@ -6,3 +6,4 @@ pub mod Nearest
 pub mod Picking
 pub mod Filling
 pub mod Selecting
+pub mod Padding

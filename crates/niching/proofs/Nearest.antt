@@ -1,5 +1,5 @@
 -- The loop over the members of a line that keeps the nearest.
-use Prim.Native.Nat.{ℕ, _+_, _≤_, _<_}
+use Prim.Native.Nat.{ℕ, _+_, _<_}
 use mathlib.Core.Path.{_≡_, refl, ap, ap₂, sym, _∙_}
 use mathlib.Core.Bool.{Bool, true, false, cond, _&&_}
 use mathlib.Core.List.{List, [], _∷_, _++_}
@@ -10,7 +10,7 @@ use Rattle.model.specs.Lists.{keepBelow}
 use Rattle.model.specs.Kept.{nearest}
 use Rattle.list_laws.proofs.Bools.{by-bool, and-no}
 use Rattle.list_laws.proofs.Kept.{keepBelow-yes, keepBelow-no}
-use Rattle.niching.specs.Niche.{planAt, waitsOn, placeDistance, nearerOf, Kth}
+use Rattle.niching.specs.Niche.{waitsOn, placeDistance, nearerOf, Kth}
 use Rattle.niching.proofs.Places.{first-only, nearest-snoc, nearest-one}
 
 -- the three ways out of a turn

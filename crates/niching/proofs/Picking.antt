@@ -1,6 +1,6 @@
 -- One open place: a line and a member that the arrays give.
-use Prim.Native.Nat.{ℕ, _+_, _-_, _≤_, _<_}
-use mathlib.Core.Path.{_≡_, refl, ap, ap₂, sym, _∙_}
+use Prim.Native.Nat.{ℕ, _+_, _-_}
+use mathlib.Core.Path.{_≡_, refl, ap, ap₂, _∙_}
 use mathlib.Core.Bool.{Bool, true, false, not, _&&_}
 use mathlib.Core.List.{List}
 use native.Mathlib.Omega.{arith}
@@ -8,13 +8,13 @@ use borrow.Author.Tests.{eq-eqb, eqb-true}
 use lib.Dec.{eqb}
 use lib.Ieee.{Float}
 use lib.ListN.{length, getD}
-use Rattle.model.specs.Lists.{countBelow, keepBelow}
+use Rattle.model.specs.Lists.{keepBelow}
 use Rattle.model.specs.Draw.{Drawn, drawn}
 use Rattle.model.specs.Kept.{leastLines, drawFrom, drawMember}
 use Rattle.list_laws.proofs.Bools.{and-not-left, and-not-right}
 use Rattle.list_laws.proofs.Counts.{countBelow-yes, countBelow-up}
 use Rattle.list_laws.proofs.Kept.{keepBelow-length}
-use Rattle.niching.specs.Niche.{lineIn, distanceIn, planAt, countOf, hasWaiting, waitsOn, places, members, Open, MemberOf, Ready, pickAt}
+use Rattle.niching.specs.Niche.{lineIn, distanceIn, planAt, countOf, hasWaiting, waitsOn, members, Open, MemberOf, Ready, pickAt}
 
 module _ {front lines : List ℕ} {distances : List Float} {n : ℕ} {counts waits : List ℕ} {taken : List Bool}
     (h : Ready front lines distances n counts waits taken) where

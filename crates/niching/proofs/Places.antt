@@ -2,21 +2,21 @@
 use Prim.Native.Nat.{ℕ, zero, suc, _+_, _-_, _≤_, _<_}
 use mathlib.Core.Path.{_≡_, refl, ap, sym, _∙_}
 use mathlib.Core.Bool.{Bool, true, false, cond, _&&_}
-use mathlib.Core.List.{List, [], _∷_, _++_, map, map-append, append-nil, Pairwise·nil, Pairwise·cons}
+use mathlib.Core.List.{List, [], _∷_, _++_, map, map-append, append-nil, Pairwise·cons}
 use mathlib.Core.Logic.{⊎-elim}
 use native.Mathlib.Nat.{not-suc-le-zero, eq-or-lt-of-le}
 use native.Mathlib.Numerals.{add-one}
 use native.Mathlib.Omega.{arith}
-use borrow.Author.Tests.{eq-eqb, eqb-true}
+use borrow.Author.Tests.{eq-eqb}
 use lib.Dec.{eqb}
 use lib.Ieee.{Float, lt}
-use lib.ListN.{length, getD, take, length-append, length-map, List·getD-append}
+use lib.ListN.{length, getD, take, List·getD-append}
 use lib.Seq.{take-suc, take-length, getD-at}
 use Rattle.model.specs.Lists.{one, countBelow, keepBelow, keep, tally, In, Distinct}
 use Rattle.model.specs.Kept.{nearestFrom, nearest}
 use Rattle.list_laws.specs.Occ.{occ}
 use Rattle.list_laws.proofs.Bools.{by-bool}
-use Rattle.list_laws.proofs.Counts.{countBelow-none, countBelow-yes, countBelow-no, countBelow-same}
+use Rattle.list_laws.proofs.Counts.{countBelow-yes, countBelow-no, countBelow-same}
 use Rattle.list_laws.proofs.Members.{keep-append, keep-yes, keep-no, keep-nil, occ-in, occ-cons}
 use Rattle.list_laws.proofs.Kept.{keepBelow-none, keepBelow-yes, keepBelow-no, keepBelow-length, keepBelow-room}
 use Rattle.niching.specs.Niche.{Kth}

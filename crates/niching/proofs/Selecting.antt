@@ -1,6 +1,6 @@
 -- The loop over the open places: the first j are filled as `picks` fills them.
-use Prim.Native.Nat.{ℕ, suc, _+_, _-_, _≤_, _<_}
-use mathlib.Core.Path.{_≡_, refl, ap, ap₂, sym, _∙_}
+use Prim.Native.Nat.{ℕ, suc, _+_, _-_, _<_}
+use mathlib.Core.Path.{_≡_, refl, ap, sym, _∙_}
 use mathlib.Core.Bool.{Bool, false}
 use mathlib.Core.List.{List, [], _∷_, _++_, append-assoc}
 use native.Mathlib.Numerals.{add-one}
@@ -14,8 +14,7 @@ use Rattle.model.specs.Lists.{over}
 use Rattle.model.specs.Draw.{Drawn, drawn}
 use Rattle.model.specs.Kept.{nicheCount, pickOne, picks}
 use Rattle.list_laws.proofs.Bools.{by-bool}
-use Rattle.list_laws.proofs.Built.{over-length}
-use Rattle.niching.specs.Niche.{lineIn, distanceIn, planAt, countOf, Zeros, OnLines, Measured, Ready, pickAt, Took, Splits, picksOf, NichingSelects}
+use Rattle.niching.specs.Niche.{lineIn, distanceIn, planAt, countOf, Zeros, OnLines, Ready, Took, Splits, picksOf, NichingSelects}
 use Rattle.niching.proofs.Filling.{Given, Holds, holds-first, holds-pick, holds-ready, holds-more}
 
 -- one entry more at the front of a slice

@@ -3,13 +3,13 @@
 use Prim.Native.Nat.{ℕ, zero, suc, _+_, _-_, _≤_, _<_}
 use mathlib.Core.Path.{_≡_}
 use mathlib.Core.Bool.{Bool, true, false, cond, not, _&&_}
-use mathlib.Core.List.{List, [], _∷_, _++_, map}
+use mathlib.Core.List.{List, _++_, map}
 use lib.Dec.{eqb, ltb}
 use lib.Ieee.{Float, nan, lt}
 use lib.ListN.{length, getD, set, take, drop}
 use Rattle.model.specs.Lists.{keepBelow, countBelow, Distinct, over}
 use Rattle.model.specs.Draw.{Drawn, drawn}
-use Rattle.model.specs.Kept.{leastLines, drawFrom, drawMember, picks}
+use Rattle.model.specs.Kept.{leastLines, drawFrom, drawMember, picks, padding}
 
 -- the line of a plan, and its distance from that line
 abbrev pub lineIn : List ℕ → ℕ → ℕ
@@ -152,3 +152,8 @@ picksOf order start end lines distances n places s =
 pub record NichingSelects (order : List ℕ) (start end : ℕ) (lines : List ℕ) (distances : List Float) (n places s : ℕ) (picked₀ picked : List ℕ) (t : ℕ) : Type 0 where
   pub written : picked ≡ over (picksOf order start end lines distances n places s .value) picked₀
   pub state : t ≡ picksOf order start end lines distances n places s .state
+
+-- THE PROMISE of pad: from place `from` on the slice holds document 01's padding up to `size`, the rest is as it was
+pub record Pads (n from size s : ℕ) (kept₀ kept : List ℕ) (t : ℕ) : Type 0 where
+  pub written : kept ≡ take from kept₀ ++ over (padding n (size - from) s .value) (drop from kept₀)
+  pub state : t ≡ padding n (size - from) s .state

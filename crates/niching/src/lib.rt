@@ -1,14 +1,13 @@
 // Niching: the open places of the kept list are filled from the split front (Rust: niching_select of nsga3.rs; document 01, "Kept list").
 ghost use mathlib.Core.Path.{_≡_};
 ghost use Prim.Native.Nat.{ℕ, _+_, _-_, _<_, _≤_};
-ghost use mathlib.Core.Bool.{Bool, true, false};
-ghost use mathlib.Core.List.{List};
-ghost use lib.ListN.{length, getD};
+ghost use mathlib.Core.Bool.{true, false};
+ghost use lib.ListN.{length};
 ghost use Rattle.model.specs.Lists.{countBelow, keepBelow};
-ghost use Rattle.model.specs.Draw.{drawn};
+ghost use Rattle.model.specs.Draw.{drawn, drawUsize};
 ghost use Rattle.model.specs.Kept.{nicheCount, leastLines, drawFrom, nearest, drawMember};
 ghost use Rattle.niching.specs.Niche.{lineIn, distanceIn, planAt, countOf, hasWaiting, isLeast, lesser, leastBelow, waitsOn, places, members, placeDistance, nearerOf};
-ghost use Rattle.niching.specs.Niche.{Kth, OnLines, Zeros, Open, Listed, Measured, MemberOf, Ready, Took, Splits, NichingSelects};
+ghost use Rattle.niching.specs.Niche.{Kth, OnLines, Zeros, Open, Listed, Measured, MemberOf, Ready, Took, Splits, NichingSelects, Pads};
 use model::Rng;
 use rng_util::DrawnUsize;
 
@@ -104,6 +103,14 @@ pub fn nth_least(counts: &[usize], waits: &[usize], least: usize, n: usize, k: u
     l
 }
 
+// A number below `many`, by one word, also where one outcome is possible.
+pub fn draw_one(rng: Rng, many: usize) -> DrawnUsize
+    requires { ⌜ 0 < many ⌝ }
+    ensures { λ r. ⌜ drawn (r .value) (r .rng .s) ≡ drawUsize many (rng .s) ⌝ }
+{
+    rng_util::draw_usize(rng, many)
+}
+
 // One line, drawn among those with the least niche count of the lines with waiting members.
 pub fn choose_line(rng: Rng, counts: &[usize], waits: &[usize], n: usize) -> DrawnUsize
     requires { ⌜ (n ≤ length (now counts)) × (n ≤ length (now waits)) × ((l : ℕ) → countOf (now counts) l < 1024)
@@ -113,7 +120,7 @@ pub fn choose_line(rng: Rng, counts: &[usize], waits: &[usize], n: usize) -> Dra
 {
     let least = least_count(counts, waits, n);
     let many = count_least(counts, waits, least, n);
-    let d = rng_util::draw_usize(rng, many);
+    let d = draw_one(rng, many);
     let k = d.value;
     let rng = d.rng;
     let value = nth_least(counts, waits, least, n, k);
@@ -151,7 +158,7 @@ pub fn nth_member(front: &[usize], lines: &[usize], taken: &[bool], l: usize, k:
     i
 }
 
-// The nearer of the members at places `best` and i, if that at i waits on line l; `best` on a tie.
+// The nearer of the members at places `best` and `other`, if that at `other` waits on line l; `best` on a tie.
 pub fn nearer(
     front: &[usize],
     lines: &[usize],
@@ -159,17 +166,17 @@ pub fn nearer(
     taken: &[bool],
     l: usize,
     best: usize,
-    i: usize,
+    other: usize,
 ) -> usize
     requires { ⌜ Listed (now front) (now lines) (now taken) × Measured (now front) (now distances)
-        × (best < length (now front)) × (i < length (now front)) ⌝ }
-    ensures { λ r. ⌜ r ≡ nearerOf (now (front .entry)) (now (lines .entry)) (now (distances .entry)) (now (taken .entry)) l best i ⌝ }
+        × (best < length (now front)) × (other < length (now front)) ⌝ }
+    ensures { λ r. ⌜ r ≡ nearerOf (now (front .entry)) (now (lines .entry)) (now (distances .entry)) (now (taken .entry)) l best other ⌝ }
 {
-    if waits_on(front, lines, taken, l, i) {
-        let p = front[i];
+    if waits_on(front, lines, taken, l, other) {
+        let p = front[other];
         let q = front[best];
         if distances[p] < distances[q] {
-            return i;
+            return other;
         }
     }
     best
@@ -220,7 +227,7 @@ pub fn choose_member(
         let value = nearest_member(front, lines, distances, taken, l, first);
         return DrawnUsize { value, rng };
     }
-    let d = rng_util::draw_usize(rng, waiting);
+    let d = draw_one(rng, waiting);
     let k = d.value;
     let rng = d.rng;
     let value = nth_member(front, lines, taken, l, k);
@@ -298,6 +305,22 @@ pub fn niching_select(
         picked[at] = d.value;
         rng = d.rng;
         at += 1;
+    }
+    rng
+}
+
+// Fills the kept list from place `from` up to `size` with draws below n.
+pub fn pad(rng: Rng, n: usize, from: usize, size: usize, kept: &mut [usize]) -> Rng
+    requires { ⌜ (0 < n) × (from ≤ size) × (size ≤ length (now kept)) ⌝ }
+    ensures { λ r. ⌜ Pads n from size (rng .s) (now (kept .entry)) (now (kept .exit)) (r .s) ⌝ }
+{
+    let mut rng = rng;
+    let mut i = from;
+    while i < size {
+        let d = draw_one(rng, n);
+        kept[i] = d.value;
+        rng = d.rng;
+        i += 1;
     }
     rng
 }

@@ -1,7 +1,5 @@
 -- at count 0 the nearest, else the k-th, k drawn
-use Prim.Native.Nat.{_<_}
-use mathlib.Core.Path.{_≡_, refl, ap, sym, _∙_}
-use lib.ListN.{length, getD}
+use lib.ListN.{length}
 use Rattle.niching.specs.Niche.{planAt, distanceIn, waitsOn, places}
 use Rattle.niching.proofs.Choosing.{draw-below, member-nearest, member-drawn}
 use borrow.Author.Needs.{needs}
@@ -24,19 +22,19 @@ returns c =
           (c .before .before .if1 .taken) (omega (arith, a .pre .2, a .pre .3)) (c .nearest-member .ensures .1),
     )
 
-draw-usize-requires : tie.Need-draw-usize-requires
-draw-usize-requires c κs = search needs
+draw-one-requires : tie.Need-draw-one-requires
+draw-one-requires c κs = search needs
 
 nth-member-requires-2 : tie.Need-nth-member-requires-2
 nth-member-requires-2 c κs =
     let a = c .before .before .before .before .before .before .before in
-    (a .pre .0, omega (arith, a .pre .2, draw-below (a .args .waiting) _ _ _ (a .pre .3) (c .before .draw-usize .ensures)))
+    (a .pre .0, omega (arith, a .pre .2, draw-below (a .args .waiting) _ _ _ (a .pre .3) (c .before .draw-one .ensures)))
 
 returns-2 : tie.Need-returns-2
 returns-2 c =
     let a = c .before .before .before .before .before .before .before .before in
     let f = waitsOn (a .args .front .now) (a .args .lines .now) (a .args .taken .now) (a .args .l) in
-    let d = c .before .before .draw-usize in
+    let d = c .before .before .draw-one in
     let h = c .nth-member2 .ensures in (
       record { below = h .below; waits = h .passes },
       member-drawn (distanceIn (a .args .distances .now)) (planAt (a .args .front .now)) f (length (a .args .front .now)) (a .args .count) (a .args .waiting)
@@ -51,6 +49,6 @@ choose-member-spec =
     nth-member-requires
     nearest-member-requires
     returns
-    draw-usize-requires
+    draw-one-requires
     nth-member-requires-2
     returns-2)

@@ -1,9 +1,9 @@
 -- how many of the lines passed have it
 use Prim.Native.Nat.{_-_, _≤_}
-use mathlib.Core.Path.{_≡_, refl, ap, sym, _∙_}
+use mathlib.Core.Path.{_≡_, ap, sym, _∙_}
 use mathlib.Core.Logic.{⊎-elim}
 use Rattle.model.specs.Lists.{countBelow}
-use Rattle.list_laws.proofs.Counts.{countBelow-none, countBelow-yes, countBelow-no, countBelow-le}
+use Rattle.list_laws.proofs.Counts.{countBelow-none, countBelow-yes, countBelow-no}
 use Rattle.niching.specs.Niche.{isLeast}
 use native.Mathlib.Omega.{arith}
 use Rattle.niching.proofs.count_least.Statement.{statement}

@@ -1,6 +1,6 @@
 -- the counts are those of the plans passed
 use Prim.Native.Nat.{_-_, _≤_, _<_}
-use mathlib.Core.Path.{_≡_, refl, _∙_}
+use mathlib.Core.Path.{_≡_, refl}
 use lib.ListN.{length, getD, length-set}
 use Rattle.niching.specs.Niche.{lineIn}
 use Rattle.niching.proofs.Counting.{Counted, counted-none, counted-more, counted-le, counted-all}

@@ -1,5 +1,4 @@
 -- both halves of the test
-use mathlib.Core.Path.{_≡_, refl}
 use borrow.Author.Tests.{lt-ltb, le-ltb}
 use borrow.Author.Needs.{needs}
 use Rattle.niching.proofs.is_least.Statement.{statement}

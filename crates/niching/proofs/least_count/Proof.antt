@@ -1,6 +1,6 @@
 -- the least of the lines passed
 use Prim.Native.Nat.{_-_, _≤_}
-use mathlib.Core.Path.{_≡_, refl, ap, sym, _∙_}
+use mathlib.Core.Path.{_≡_, ap, sym, _∙_}
 use Rattle.niching.specs.Niche.{lesser, leastBelow}
 use Rattle.niching.proofs.Least.{leastBelow-none, leastBelow-more}
 use native.Mathlib.Omega.{arith}

@@ -1,5 +1,4 @@
 -- the three ways out
-use mathlib.Core.Path.{_≡_, refl}
 use borrow.Author.Tests.{lt-ltb, le-ltb}
 use borrow.Author.Needs.{needs}
 use Rattle.niching.proofs.lesser_count.Statement.{statement}

@@ -1,6 +1,6 @@
 -- the nearest of the members passed
-use Prim.Native.Nat.{_+_, _-_, _≤_, _<_}
-use mathlib.Core.Path.{_≡_, refl, ap, sym, _∙_}
+use Prim.Native.Nat.{_-_, _≤_}
+use mathlib.Core.Path.{_≡_, ap, _∙_}
 use lib.ListN.{length}
 use Rattle.model.specs.Lists.{keepBelow}
 use Rattle.model.specs.Kept.{nearest}

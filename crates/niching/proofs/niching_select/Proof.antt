@@ -1,9 +1,8 @@
 -- the first `at` open places are filled, and the arrays hold what that leaves
-use Prim.Native.Nat.{_-_, _<_, _≤_}
-use mathlib.Core.Path.{_≡_, refl, ap, sym, _∙_}
-use lib.ListN.{length, getD, take, drop, length-set}
+use Prim.Native.Nat.{_-_, _≤_}
+use mathlib.Core.Path.{_≡_, refl, sym}
+use lib.ListN.{length, take, length-set}
 use Rattle.niching.proofs.Selecting.{Selecting, selecting-first, selecting-ready, selecting-more, before-lines, front-counts, given, enough-members, no-counts, before-length, selecting-done}
-use borrow.Author.Needs.{needs}
 use native.Mathlib.Omega.{arith}
 use Rattle.niching.proofs.niching_select.Statement.{statement}
 use Rattle.niching.proofs.niching_select.Tie as tie
@@ -19,25 +18,25 @@ slice-aggregate-before : tie.Need-slice-aggregate-before Inv-loop μ-loop
 slice-aggregate-before c = sym (before-length (c .before .before .before .before .before .pre))
 
 mul-front : tie.Need-mul-front Inv-loop μ-loop
-mul-front c = search needs
+mul-front c = omega arith
 
 sub-front : tie.Need-sub-front Inv-loop μ-loop
-sub-front c = search needs
+sub-front c = omega arith
 
 part-front-start : tie.Need-part-front-start Inv-loop μ-loop
-part-front-start c = search needs
+part-front-start c = omega arith
 
 part-front-end : tie.Need-part-front-end Inv-loop μ-loop
-part-front-end c = search needs
+part-front-end c = omega arith
 
 slice-aggregate-count-lines : tie.Need-slice-aggregate-count-lines Inv-loop μ-loop
-slice-aggregate-count-lines c = search needs
+slice-aggregate-count-lines c = omega arith
 
 count-lines-requires : tie.Need-count-lines-requires Inv-loop μ-loop
 count-lines-requires c κs = (before-lines (c .before .before .before .before .before .before .before .pre), no-counts)
 
 slice-aggregate-count-lines-2 : tie.Need-slice-aggregate-count-lines-2 Inv-loop μ-loop
-slice-aggregate-count-lines-2 c = search needs
+slice-aggregate-count-lines-2 c = omega arith
 
 count-lines-requires-2 : tie.Need-count-lines-requires-2 Inv-loop μ-loop
 count-lines-requires-2 c κs = (front-counts (c .before .before .before .before .before .before .before .before .before .before .pre), no-counts)
@@ -49,13 +48,13 @@ loop-holds c =
     (omega arith, refl, selecting-first _ _ _ _ _ _ _ _ _ (b .ensures) (f .ensures) (b .kept .1 .1 .0) (f .kept .1 .1 .0))
 
 slice-aggregate-pick : tie.Need-slice-aggregate-pick Inv-loop μ-loop
-slice-aggregate-pick c = search needs
+slice-aggregate-pick c = omega arith
 
 slice-aggregate-pick-2 : tie.Need-slice-aggregate-pick-2 Inv-loop μ-loop
-slice-aggregate-pick-2 c = search needs
+slice-aggregate-pick-2 c = omega arith
 
 slice-aggregate-pick-3 : tie.Need-slice-aggregate-pick-3 Inv-loop μ-loop
-slice-aggregate-pick-3 c = search needs
+slice-aggregate-pick-3 c = omega arith
 
 pick-requires : tie.Need-pick-requires Inv-loop μ-loop
 pick-requires c κs =
@@ -63,16 +62,16 @@ pick-requires c κs =
     selecting-ready (c .before .before .before .before .loop .inv .2) (given h) (enough-members h (c .before .before .before .before .loop .at) (c .before .before .before .loop-test .taken))
 
 mul-picked : tie.Need-mul-picked Inv-loop μ-loop
-mul-picked c = search needs
+mul-picked c = omega arith
 
 slice-write-picked : tie.Need-slice-write-picked Inv-loop μ-loop
-slice-write-picked c = search needs
+slice-write-picked c = omega arith
 
 add-at : tie.Need-add-at Inv-loop μ-loop
-add-at c = search needs
+add-at c = omega arith
 
 loop-less : tie.Need-loop-less Inv-loop μ-loop
-loop-less c = search needs
+loop-less c = omega arith
 
 loop-again : tie.Need-loop-again Inv-loop μ-loop
 loop-again c =

@@ -1,6 +1,6 @@
 -- `left` more of those that have it are to be passed
 use Prim.Native.Nat.{_+_, _-_, _≤_}
-use mathlib.Core.Path.{_≡_, refl, ap, sym, _∙_}
+use mathlib.Core.Path.{_≡_, ap, sym, _∙_}
 use mathlib.Core.Logic.{⊎-elim}
 use Rattle.model.specs.Lists.{countBelow}
 use Rattle.list_laws.proofs.Counts.{countBelow-none, countBelow-yes, countBelow-no}

@@ -1,9 +1,7 @@
 -- a line is drawn, a member of it chosen, and the three arrays are moved on
-use Prim.Native.Nat.{_<_}
-use mathlib.Core.Path.{_≡_, refl, ap, sym, _∙_}
-use lib.ListN.{length, getD}
+use mathlib.Core.Path.{refl}
+use lib.ListN.{length-set}
 use Rattle.niching.proofs.Picking.{ready-open, member-waited, member-line, picked-at}
-use borrow.Author.Needs.{needs}
 use native.Mathlib.Omega.{arith}
 use Rattle.niching.proofs.pick.Statement.{statement}
 use Rattle.niching.proofs.pick.Tie as tie
@@ -12,16 +10,16 @@ choose-line-requires : tie.Need-choose-line-requires
 choose-line-requires c κs = let h = c .before .before .before .before .before .before .before .before .pre in (h .counted, h .awaited, h .few, ready-open h)
 
 mul-count : tie.Need-mul-count
-mul-count c = search needs
+mul-count c = omega arith
 
 slice-read-count : tie.Need-slice-read-count
-slice-read-count c = search needs
+slice-read-count c = omega arith
 
 mul-waiting : tie.Need-mul-waiting
-mul-waiting c = search needs
+mul-waiting c = omega arith
 
 slice-read-waiting : tie.Need-slice-read-waiting
-slice-read-waiting c = search needs
+slice-read-waiting c = omega arith
 
 choose-member-requires : tie.Need-choose-member-requires
 choose-member-requires c κs =
@@ -36,34 +34,34 @@ mul-counts : tie.Need-mul-counts
 mul-counts c = let a = c .before .before .before .before .before .before .before .before .before .before .before .before .before .before .before in omega (arith, c .before .before .before .before .before .before .choose-line .ensures .0 .below, a .pre .counted, a .good)
 
 slice-write-counts : tie.Need-slice-write-counts
-slice-write-counts c = search needs
+slice-write-counts c = omega arith
 
 sub-waits : tie.Need-sub-waits
-sub-waits c = search needs
+sub-waits c = omega arith
 
 mul-waits : tie.Need-mul-waits
 mul-waits c = let a = c .before .before .before .before .before .before .before .before .before .before .before .before .before .before .before in omega (arith, c .before .before .before .before .before .before .choose-line .ensures .0 .below, a .pre .counted, a .good)
 
 slice-write-waits : tie.Need-slice-write-waits
-slice-write-waits c = search needs
+slice-write-waits c = omega arith
 
 slice-write-taken : tie.Need-slice-write-taken
-slice-write-taken c = search needs
+slice-write-taken c = omega arith
 
 mul-t21 : tie.Need-mul-t21
-mul-t21 c = search needs
+mul-t21 c = omega arith
 
 shared-slice-read-t23 : tie.Need-shared-slice-read-t23
-shared-slice-read-t23 c = search needs
+shared-slice-read-t23 c = omega arith
 
 same-length : tie.Need-same-length
-same-length c = search needs
+same-length c = simp length-set
 
 same-length-2 : tie.Need-same-length-2
-same-length-2 c = search needs
+same-length-2 c = simp length-set
 
 same-length-3 : tie.Need-same-length-3
-same-length-3 c = search needs
+same-length-3 c = simp length-set
 
 returns : tie.Need-returns
 returns c =

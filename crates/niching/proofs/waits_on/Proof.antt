@@ -1,5 +1,4 @@
 -- both halves of the test
-use mathlib.Core.Path.{_≡_, refl, ap, sym, _∙_}
 use borrow.Author.Needs.{needs}
 use Rattle.niching.proofs.waits_on.Statement.{statement}
 use Rattle.niching.proofs.waits_on.Tie as tie
