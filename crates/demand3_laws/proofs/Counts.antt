@@ -121,79 +121,6 @@ pub length-exactly : (g : ℕ → Bool) (n : ℕ) (l : List ℕ) → Exactly g n
 length-exactly g n l a =
     sym (tally-all l) ∙ tally-exactly (λ _. true) g n l a ∙ count-same (λ p. g p && true) g n (λ t _. and-true (g t))
 
-pub count-le : (f : ℕ → Bool) (n : ℕ) → countBelow f n ≤ n
-unfolding countBelow
-count-le f zero = omega arith
-count-le f (suc n) = omega (arith, count-le f n, one-le (f n))
-
--- where f passes as often as g and h together
-pub count-add : (f g h : ℕ → Bool) (n : ℕ) → ((t : ℕ) → one (f t) ≡ one (g t) + one (h t)) → countBelow f n ≡ countBelow g n + countBelow h n
-unfolding countBelow
-count-add f g h zero e = refl
-count-add f g h (suc n) e = omega (arith, count-add f g h n e, e n)
-
--- if what passes f passes g, f's count is at most g's; and it is less where some number passes g alone
-pub count-mono : (f g : ℕ → Bool) (n : ℕ) → ((t : ℕ) → t < n → f t ≡ true → g t ≡ true) → countBelow f n ≤ countBelow g n
-unfolding countBelow
-count-mono f g zero h = omega arith
-count-mono f g (suc n) h =
-    let ih = count-mono f g n (λ t l. h t (omega arith)) in
-    by-bool (f n) (λ e. omega (arith, ap one e, ap one (h n (omega arith) e))) (λ e. omega (arith, ap one e))
-
-pub count-less : (f g : ℕ → Bool) (n k : ℕ) → ((t : ℕ) → t < n → f t ≡ true → g t ≡ true) → k < n → f k ≡ false → g k ≡ true
-    → countBelow f n < countBelow g n
-unfolding countBelow
-count-less f g zero k h l a b = absurd (omega arith)
-count-less f g (suc n) k h l a b =
-    let h′ : (t : ℕ) → t < n → f t ≡ true → g t ≡ true = λ t u. h t (omega arith) in
-    ⊎-elim
-    (λ same. omega (arith, count-mono f g n h′, ap one (ap f (sym same) ∙ a), ap one (ap g (sym same) ∙ b)))
-    (λ (less : k < n). let ih = count-less f g n k h′ less a b in
-    by-bool (f n) (λ e. omega (arith, ap one e, ap one (h n (omega arith) e))) (λ e. omega (arith, ap one e)))
-    (eq-or-lt-of-le {n = k} {m = n} (omega arith))
-
--- if the count is n, all pass; if it is not 0, some number passes; if it is less than n, some number does not
-pub all-count : (f : ℕ → Bool) (n : ℕ) → n ≤ countBelow f n → (t : ℕ) → t < n → f t ≡ true
-all-count f n h t l = by-bool (f t) (λ e. e)
-    (λ e. absurd (omega (arith, count-less f (λ _. true) n t (λ _ _ _. refl) l e refl, count-le (λ _. true) n)))
-
-pub some-count : (f : ℕ → Bool) (n : ℕ) → 0 < countBelow f n → (t : ℕ) × (t < n) × (f t ≡ true)
-unfolding countBelow
-some-count f zero h = absurd (omega arith)
-some-count f (suc n) h = by-bool (f n)
-    (λ e. (n, omega arith, e))
-    (λ e. let t = some-count f n (omega (arith, ap one e)) in (t .0, omega (arith, t .1), t .2))
-
-pub some-left : (f : ℕ → Bool) (n : ℕ) → countBelow f n < n → (t : ℕ) × (t < n) × (f t ≡ false)
-unfolding countBelow
-some-left f zero h = absurd (omega arith)
-some-left f (suc n) h = by-bool (f n)
-    (λ e. let t = some-left f n (omega (arith, ap one e)) in (t .0, omega (arith, t .1), t .2))
-    (λ e. (n, omega arith, e))
-
--- a number below n is kept once if it passes, and else not
-count-point : (g : ℕ → Bool) (n q : ℕ) → q < n → countBelow (λ p. g p && eqb p q) n ≡ one (g q)
-unfolding countBelow
-count-point g zero q h = absurd (omega arith)
-count-point g (suc n) q h =
-    ⊎-elim
-    (λ same. omega (arith, none n (omega arith), ap one (last same)))
-    (λ less. omega (arith, count-point g n q less, ap one (other n (λ e. omega arith))))
-    (eq-or-lt-of-le {n = q} {m = n} (omega arith))
-  where
-    last : q ≡ n → (g n && eqb n q) ≡ g q
-    last same = rw (eq-eqb n q (sym same)) (and-true (g n) ∙ ap g (sym same))
-
-    other : (t : ℕ) → (t ≡ q → ⊥) → (g t && eqb t q) ≡ false
-    other t e = rw (ne-eqb t q e) (and-false (g t))
-
-    none : (m : ℕ) → m ≤ q → countBelow (λ p. g p && eqb p q) m ≡ 0
-    none zero l = refl
-    none (suc m) l = omega (arith, none m (omega arith), ap one (other m (λ e. omega arith)))
-
-pub keepBelow-once : (g : ℕ → Bool) (n q : ℕ) → q < n → tally (λ p. eqb p q) (keepBelow g n) ≡ one (g q)
-keepBelow-once g n q h = tally-keepBelow (λ p. eqb p q) g n ∙ count-point g n q h
-
 -- ---- some number below a bound
 
 pub anyBelow-at : (f : ℕ → Bool) (n k : ℕ) → k < n → f k ≡ true → anyBelow f n ≡ true
@@ -212,14 +139,6 @@ anyBelow-some f (suc n) e = by-bool (anyBelow f n)
 
 pub anyBelow-none : (f : ℕ → Bool) (n : ℕ) → anyBelow f n ≡ false → (k : ℕ) → k < n → f k ≡ false
 anyBelow-none f n e k h = by-bool (f k) (λ v. absurd (false≢true (sym e ∙ anyBelow-at f n k h v))) (λ v. v)
-
--- there is one just where the count is not 0
-pub any-count : (f : ℕ → Bool) (n : ℕ) → anyBelow f n ≡ not (eqb (countBelow f n) 0)
-unfolding anyBelow countBelow
-any-count f zero = refl
-any-count f (suc n) = by-bool (f n)
-    (λ e. rw (e, or-true, ne-eqb (countBelow f n + 1) 0 (λ z. omega arith)))
-    (λ e. rw (e, or-false, any-count f n, add-zero))
 
 -- ---- every number below a bound
 

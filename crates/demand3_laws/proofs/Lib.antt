@@ -1,7 +1,5 @@
 pub mod Counts
-pub mod Lowering
 pub mod Fronts
-pub mod Rounds
 pub mod Covered
 pub mod Sizes
 pub mod Demand3

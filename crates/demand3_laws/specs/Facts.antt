@@ -9,11 +9,7 @@ use Rattle.model.specs.Front.{listing}
 use Rattle.model.specs.Papers.Deb2002.{inFirst}
 use Rattle.model.specs.Association.{Request, objectives}
 use Rattle.model.specs.Refusal.{badDirections, badDivisions, badPool}
-
--- no plan of the pool dominates itself, and whom a dominated plan dominates, its dominator dominates
-pub record Strict (d : ℕ → ℕ → Bool) (n : ℕ) : Type 0 where
-  pub irreflexive : (p : ℕ) → p < n → d p p ≡ false
-  pub transitive : (p q r : ℕ) → p < n → q < n → r < n → d p q ≡ true → d q r ≡ true → d p r ≡ true
+pub use Rattle.front_laws.specs.Strict.{Strict}
 
 -- the listing of the first k fronts has plans of the pool alone, each once if the paper's first k fronts have it, and else not; and every plan is in one
 -- of the paper's first n fronts
