@@ -2,13 +2,16 @@
 use real;
 ghost use mathlib.Core.Path.{_≡_};
 ghost use Prim.Native.Nat.{ℕ, _+_, _*_, _<_, _≤_};
-ghost use lib.Ieee.{Float};
+ghost use lib.Dec.{T};
+ghost use lib.Ieee.{Float, binary64, fits};
 ghost use lib.ListN.{length, getD};
 ghost use lib.Seq.{sets};
 ghost use Rattle.model.specs.Lists.{listBelow, over};
 ghost use Rattle.model.specs.Real.{_⊖_};
+ghost use Rattle.model.specs.Numbers.{sqrtOf};
 ghost use Rattle.model.specs.Association.{leastFrom, greatest, interceptFrom, dot, offSquares, distance, nearestOf, Request, lineCount};
-ghost use Rattle.association_laws.specs.Flat.{column, from, flatRows, leastAt, interceptAt, normalAt, distanceAt, nearestAt};
+ghost use Rattle.association_laws.specs.Flat.{column, from, flatRows, leastAt, interceptAt, normalAt, squaresOf, distanceAt, nearestAt};
+ghost use Rattle.association_laws.specs.Search.{Found};
 ghost use Rattle.association_laws.specs.Request.{Pool, StartIn, LinesIn, Associates};
 
 // ---- the scale
@@ -152,6 +155,19 @@ fn off_squares(points: &[f64], at: usize, table: &[f64], line_at: usize, m: usiz
     sum
 }
 
+// The square of the distance of a point from a line; of a line that is too short, infinity.
+fn distance_squared(points: &[f64], at: usize, table: &[f64], line_at: usize, m: usize) -> f64
+    requires { ⌜ (at + m ≤ length (now points)) × («line_at» + m ≤ length (now table)) ⌝ }
+    ensures { λ r. ⌜ r ≡ squaresOf m (from (now (points .entry)) at) (from (now (table .entry)) «line_at») ⌝ }
+{
+    let norm = dot_product(table, line_at, table, line_at, m);
+    if norm < 1e-30 {
+        return 1.0 / 0.0;
+    }
+    let t = dot_product(points, at, table, line_at, m) / norm;
+    off_squares(points, at, table, line_at, m, t)
+}
+
 // The distance of a point from a line.
 pub fn perpendicular_distance(
     points: &[f64],
@@ -163,20 +179,35 @@ pub fn perpendicular_distance(
     requires { ⌜ (at + m ≤ length (now points)) × («line_at» + m ≤ length (now table)) ⌝ }
     ensures { λ r. ⌜ r ≡ distance m (from (now (points .entry)) at) (from (now (table .entry)) «line_at») ⌝ }
 {
-    let norm = dot_product(table, line_at, table, line_at, m);
-    if norm < 1e-30 {
-        return 1.0 / 0.0;
-    }
-    let t = dot_product(points, at, table, line_at, m) / norm;
-    real::sqrt(off_squares(points, at, table, line_at, m, t))
+    real::sqrt(distance_squared(points, at, table, line_at, m))
 }
 
 // ---- the nearest line
 
-// A line, and the distance from it.
+// A line, the distance from it, and the square that the distance is the root of.
 pub struct Nearest {
     pub line: usize,
     pub distance: f64,
+    pub squares: f64,
+}
+
+// The nearer of the best line so far and the next one, which must be strictly nearer. Distances decide, since two squares can have one root; but the root of a
+// square that is not below the best one need not be taken.
+fn nearer(best: Nearest, line: usize, squares: f64) -> Nearest
+    ensures { λ r. ⌜ ((d : ℕ → Float) → Found d line (best .line) (best .distance) (best .squares) → T (fits binary64 squares) → sqrtOf squares ≡ d line
+        → Found d (line + 1) (r .line) (r .distance) (r .squares)) ⌝ }
+{
+    if squares < best.squares {
+        let distance = real::sqrt(squares);
+        if distance < best.distance {
+            return Nearest {
+                line: line,
+                distance: distance,
+                squares: squares,
+            };
+        }
+    }
+    best
 }
 
 // The line nearest to a point: the first strictly smaller distance wins, from line 0.
@@ -185,21 +216,18 @@ fn nearest_line(points: &[f64], at: usize, m: usize, table: &[f64], n_lines: usi
     ensures { λ r. ⌜ (r .line ≡ nearestOf (distanceAt (now (points .entry)) at m (now (table .entry))) «n_lines» .line)
         × (r .distance ≡ nearestOf (distanceAt (now (points .entry)) at m (now (table .entry))) «n_lines» .distance) ⌝ }
 {
-    let mut line = 0;
-    let mut best = 1.0 / 0.0;
+    let mut best = Nearest {
+        line: 0,
+        distance: 1.0 / 0.0,
+        squares: 1.0 / 0.0,
+    };
     let mut l = 0;
     while l < n_lines {
-        let d = perpendicular_distance(points, at, table, l * m, m);
-        if d < best {
-            best = d;
-            line = l;
-        }
+        let squares = distance_squared(points, at, table, l * m, m);
+        best = nearer(best, l, squares);
         l += 1;
     }
-    Nearest {
-        line: line,
-        distance: best,
-    }
+    best
 }
 
 // Each plan's nearest line, and its distance from it.

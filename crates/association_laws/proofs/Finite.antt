@@ -17,7 +17,7 @@ use Rattle.float_laws.proofs.Constants.{nought, exp2}
 use Rattle.float_laws.proofs.Arithmetic.{mul-mono}
 use Rattle.real.proofs.Roots.Monotone.{sqrt-mono, sqrt-from-zero}
 use Rattle.niching_laws.proofs.Association.{lineOf-inside, association-distance, association-first}
-use Rattle.association_laws.proofs.Steps.{distance-long}
+use Rattle.association_laws.proofs.Search.{distance-long}
 use Rattle.association_laws.proofs.Within.{Upto, Measured, normalised-unit}
 use Rattle.association_laws.proofs.Coordinates.{eighth, lines-some, coordinate-unit, coordinate-large}
 use Rattle.association_laws.proofs.Distances.{Ladder, squares, sixtyFourth, mul-upto, sum-upto, sum-least, quotient-upto, off-upto}
@@ -78,7 +78,7 @@ module _ (m : ℕ) (few : m ≤ 8) (p r : ℕ → Float) (P : (j : ℕ) → j < 
   distance-bounds : T (le nought (distance m p r)) × T (le (distance m p r) (exp2 18))
   distance-bounds =
       let S = offSquares m p r (dot m p r ⊘ dot m r r) in
-      rw (distance-long m p r (dot m r r) refl long) (
+      rw (distance-long m p r long) (
         sqrt-from-zero S (off .number .held) (off .low),
         le-trans (sqrtOf S) (sqrtOf (exp2 36)) (exp2 18) (sqrt-mono S (exp2 36) (off .number .held) (closed .7) (off .low) (off .high)) root-top,
       )

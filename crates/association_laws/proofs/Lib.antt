@@ -1,5 +1,6 @@
 pub mod Writes
 pub mod Steps
+pub mod Search
 pub mod Same
 pub mod Places
 pub mod Request

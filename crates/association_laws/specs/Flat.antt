@@ -1,11 +1,12 @@
 -- Document 01's association over flat lists: plan p's value at objective j is entry p * m + j of its rows, coordinate j of line l entry l * m + j of its table.
 use Prim.Native.Nat.{ℕ, _+_, _*_}
+use mathlib.Core.Bool.{cond}
 use mathlib.Core.List.{List}
-use lib.Ieee.{Float, nan}
+use lib.Ieee.{Float, nan, lt}
 use lib.ListN.{getD}
 use Rattle.model.specs.Lists.{listBelow, joinBelow}
-use Rattle.model.specs.Real.{_⊖_, _⊘_}
-use Rattle.model.specs.Association.{leastFrom, greatest, interceptFrom, distance, Near, nearestOf}
+use Rattle.model.specs.Real.{_⊖_, _⊘_, infinity}
+use Rattle.model.specs.Association.{leastFrom, greatest, interceptFrom, dot, offSquares, smallNorm, distance, Near, nearestOf}
 
 -- the values of objective j, plan by plan
 abbrev pub column : List Float → ℕ → ℕ → ℕ → Float
@@ -30,6 +31,10 @@ interceptAt rows n m ideal j = interceptFrom (greatest (column rows m j) n ⊖ g
 -- plan p's normalised value at objective j
 abbrev pub normalAt : List Float → ℕ → List Float → List Float → ℕ → ℕ → Float
 normalAt rows m ideal intercepts p j = (column rows m j p ⊖ getD ideal j nan) ⊘ getD intercepts j nan
+
+-- the square of a distance, before its root is taken
+unfoldable pub squaresOf : ℕ → (ℕ → Float) → (ℕ → Float) → Float
+squaresOf m p r = cond (lt (dot m r r) smallNorm) infinity (offSquares m p r (dot m p r ⊘ dot m r r))
 
 -- the distance of the point at `at` from line l of a table
 abbrev pub distanceAt : List Float → ℕ → ℕ → List Float → ℕ → Float

@@ -1,2 +1,3 @@
 pub mod Flat
 pub mod Request
+pub mod Search

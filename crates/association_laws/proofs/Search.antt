@@ -1,0 +1,123 @@
+-- One more turn of the search for the nearest line. A square that is not below the best one has no root below the best one's, so its root need not be taken.
+use Prim.Native.Nat.{ℕ, zero, suc, _+_, _*_}
+use mathlib.Core.Path.{_≡_, refl, ap, ap₂, sym, subst, _∙_}
+use mathlib.Core.Bool.{Bool, true, false, cond, not}
+use native.Mathlib.Numerals.{add-one}
+use lib.Dec.{T, eqb→eq}
+use lib.IntN.{pos}
+use lib.Ieee.{Float, nan, inf, fin, binary64, up, down, lt, le, ofBits, fits}
+use lib.Ieee.Fits.{add-fits, inf-fits, cond-fits}
+use Rattle.model.specs.Real.{_⊘_, minusNought, infinity, sumTo}
+use Rattle.model.specs.Numbers.{sqrtOf}
+use Rattle.model.specs.Association.{dot, smallNorm, offSquares, distance, Near, near, nearestOf}
+use Rattle.list_laws.proofs.Bools.{by-bool, true-T, false-T}
+use Rattle.float_laws.proofs.Units.{zero-exponent}
+use Rattle.float_laws.proofs.Order.{lt→nle, nlt→le, le-not-nan}
+use Rattle.float_laws.proofs.Constants.{nought}
+use Rattle.real.proofs.Roots.Nearest.{from-zero}
+use Rattle.real.proofs.Roots.Monotone.{sqrt-mono}
+use Rattle.association_laws.specs.Flat.{squaresOf}
+use Rattle.association_laws.specs.Search.{Found}
+
+-- ---- the distance is the root of its square
+
+module _ (m : ℕ) (p r : ℕ → Float) where
+  pub distance-root : distance m p r ≡ sqrtOf (squaresOf m p r)
+  unfolding distance squaresOf sqrtOf
+  distance-root = by-bool (lt (dot m r r) smallNorm) (λ e. rw e) (λ e. rw e)
+
+  module _ (norm : Float) (e : norm ≡ dot m r r) where
+    pub squares-short : lt norm smallNorm ≡ true → squaresOf m p r ≡ infinity
+    unfolding squaresOf
+    squares-short h = rw (← e, h)
+
+    pub squares-long : lt norm smallNorm ≡ false → squaresOf m p r ≡ offSquares m p r (dot m p r ⊘ norm)
+    unfolding squaresOf
+    squares-long h = rw (← e, h)
+
+  pub distance-long : lt (dot m r r) smallNorm ≡ false → distance m p r ≡ sqrtOf (offSquares m p r (dot m p r ⊘ dot m r r))
+  distance-long h = distance-root ∙ ap sqrtOf (squares-long (dot m r r) refl h)
+
+sum-fits : (f : ℕ → Float) (n : ℕ) → T (fits binary64 (sumTo f n))
+unfolding sumTo fits ofBits
+sum-fits f zero = tt
+sum-fits f (suc n) = add-fits binary64 (sumTo f n) (f n)
+
+pub squares-fit : (m : ℕ) (p r : ℕ → Float) → T (fits binary64 (squaresOf m p r))
+unfolding squaresOf
+squares-fit m p r =
+    cond-fits binary64 (lt (dot m r r) smallNorm) infinity (offSquares m p r (dot m p r ⊘ dot m r r)) (inf-fits binary64 false) (sum-fits _ m)
+
+-- ---- roots in the order of squares
+
+below-nan : (x : Float) → lt x nan ≡ false
+unfolding lt
+below-nan nan = refl
+below-nan (inf s) = refl
+below-nan (fin s m e) = refl
+
+nan-below : (x : Float) → lt nan x ≡ false
+unfolding lt
+nan-below nan = refl
+nan-below (inf s) = refl
+nan-below (fin s m e) = refl
+
+minus-zero : T (le nought (fin true 0 (pos 0)))
+unfolding le
+minus-zero = tt
+
+clash : (b : Bool) → T b → b ≡ false → ⊥
+clash true t e = false-T true e
+clash false t e = t
+
+-- what is not from 0 up has no root
+no-root : (x : Float) → T (fits binary64 x) → le nought x ≡ false → sqrtOf x ≡ nan
+unfolding sqrtOf fits le
+no-root nan X h = refl
+no-root (inf true) X h = refl
+no-root (inf false) X h = absurd (false-T true h)
+no-root (fin false m e) X h = absurd (clash (le nought (fin false m e)) (from-zero m e X) h)
+no-root (fin true zero e) X h = absurd (clash (le nought (fin true 0 e)) (subst (λ d. T (le nought (fin true 0 d))) (sym (zero-exponent e (eqb→eq (up e * down e) 1 X))) minus-zero) h)
+no-root (fin true (suc m) e) X h = refl
+
+pub root-order : (x y : Float) → T (fits binary64 x) → T (fits binary64 y) → lt x y ≡ false → lt (sqrtOf x) (sqrtOf y) ≡ false
+root-order x y X Y h = by-bool (le nought x)
+    (λ a. by-bool (le nought y)
+    (λ b. let u = true-T (le nought x) a in
+    let v = true-T (le nought y) b in
+    let l = nlt→le x y (le-not-nan nought x u .1) (le-not-nan nought y v .1) (false-T (lt x y) h) in
+    by-bool (lt (sqrtOf x) (sqrtOf y)) (λ e. absurd (lt→nle (sqrtOf x) (sqrtOf y) (true-T (lt (sqrtOf x) (sqrtOf y)) e) (sqrt-mono y x Y X v l))) (λ e. e))
+    (λ b. ap (lt (sqrtOf x)) (no-root y Y b) ∙ below-nan (sqrtOf x)))
+    (λ a. ap (λ t. lt t (sqrtOf y)) (no-root x X a) ∙ nan-below (sqrtOf y))
+
+-- ---- the search
+
+nearest-yes : (d : ℕ → Float) (n : ℕ) → lt (d n) (nearestOf d n .distance) ≡ true → nearestOf d (n + 1) ≡ near n (d n)
+unfolding nearestOf
+nearest-yes d n e = ap (nearestOf d) (add-one n) ∙ rw e
+
+nearest-no : (d : ℕ → Float) (n : ℕ) → lt (d n) (nearestOf d n .distance) ≡ false → nearestOf d (n + 1) ≡ nearestOf d n
+unfolding nearestOf
+nearest-no d n e = ap (nearestOf d) (add-one n) ∙ rw e
+
+pub found-none : (d : ℕ → Float) → Found d 0 0 infinity infinity
+unfolding nearestOf sqrtOf
+found-none d = record { nearest = refl; least = refl; root = refl; held = inf-fits binary64 false }
+
+-- y is the root of s, and the next line's distance
+module _ (d : ℕ → Float) (n l : ℕ) (x q s y : Float) (f : Found d n l x q) (S : T (fits binary64 s)) (own : sqrtOf s ≡ d n) where
+  module _ (g : y ≡ sqrtOf s) where
+    pub found-nearer : lt y x ≡ true → Found d (n + 1) n y s
+    found-nearer e =
+        let here = nearest-yes d n (ap₂ lt (sym (g ∙ own)) (sym (f .least)) ∙ e) in
+        record { nearest = sym (ap (λ b. b .line) here); least = g ∙ own ∙ sym (ap (λ b. b .distance) here); root = g; held = S }
+
+    pub found-same : lt y x ≡ false → Found d (n + 1) l x q
+    found-same e =
+        let here = nearest-no d n (ap₂ lt (sym (g ∙ own)) (sym (f .least)) ∙ e) in
+        record { nearest = f .nearest ∙ sym (ap (λ b. b .line) here); least = f .least ∙ sym (ap (λ b. b .distance) here); root = f .root; held = f .held }
+
+-- a square that is not below the best one
+pub found-farther : (d : ℕ → Float) (n l : ℕ) (x q s : Float) → Found d n l x q → T (fits binary64 s) → sqrtOf s ≡ d n → lt s q ≡ false → Found d (n + 1) l x q
+found-farther d n l x q s f S own e =
+    found-same d n l x q s (sqrtOf s) f S own refl (ap (lt (sqrtOf s)) (f .root) ∙ root-order s q S (f .held) e)
