@@ -133,25 +133,26 @@ pub record Took (front lines : List ℕ) (distances : List Float) (n s : ℕ) (c
   pub marked : taken ≡ set taken₀ place true
   pub chosen : drawn r t ≡ pickAt front lines distances n counts₀ waits₀ taken₀ s
 
--- the first `start` plans of the order are kept, those from there to `end` are the split front, of which `places` are to be picked
-pub record Splits (order : List ℕ) (start end : ℕ) (lines : List ℕ) (distances : List Float) (n places : ℕ) (picked : List ℕ) : Type 0 where
+-- the first `start` plans of the order are kept, those from there to `end` are the split front, of which `vacant` are to be picked
+pub record Splits (order : List ℕ) (start end : ℕ) (lines : List ℕ) (distances : List Float) (n vacant : ℕ) (picked : List ℕ) : Type 0 where
   pub ahead : start ≤ end
   pub inside : end ≤ length order
   pub few : end ≤ 1024
   pub narrow : n ≤ 1024
   pub plans : (i : ℕ) → i < end → (planAt order i < length lines) × (planAt order i < length distances) × (lineIn lines (planAt order i) < n)
   pub different : Distinct (take (end - start) (drop start order))
-  pub enough : places ≤ end - start
-  pub room : places ≤ length picked
+  pub enough : vacant ≤ end - start
+  pub room : vacant ≤ length picked
 
--- THE PROMISE of niching_select: the plans that document 01 picks stand at the front of the lent slice, and the generator is where those picks leave it
+-- what document 01 picks of that order
 abbrev pub picksOf : List ℕ → ℕ → ℕ → List ℕ → List Float → ℕ → ℕ → ℕ → Drawn (List ℕ)
-picksOf order start end lines distances n places s =
-    picks (λ p. getD lines p 0) (λ p. getD distances p nan) n (take start order) (take (end - start) (drop start order)) places s
+picksOf order start end lines distances n vacant s =
+    picks (λ p. getD lines p 0) (λ p. getD distances p nan) n (take start order) (take (end - start) (drop start order)) vacant s
 
-pub record NichingSelects (order : List ℕ) (start end : ℕ) (lines : List ℕ) (distances : List Float) (n places s : ℕ) (picked₀ picked : List ℕ) (t : ℕ) : Type 0 where
-  pub written : picked ≡ over (picksOf order start end lines distances n places s .value) picked₀
-  pub state : t ≡ picksOf order start end lines distances n places s .state
+-- THE PROMISE of niching_select: those plans stand at the front of the lent slice, and the generator is where the picks leave it
+pub record NichingSelects (order : List ℕ) (start end : ℕ) (lines : List ℕ) (distances : List Float) (n vacant s : ℕ) (picked₀ picked : List ℕ) (t : ℕ) : Type 0 where
+  pub written : picked ≡ over (picksOf order start end lines distances n vacant s .value) picked₀
+  pub state : t ≡ picksOf order start end lines distances n vacant s .state
 
 -- THE PROMISE of pad: from place `from` on the slice holds document 01's padding up to `size`, the rest is as it was
 pub record Pads (n from size s : ℕ) (kept₀ kept : List ℕ) (t : ℕ) : Type 0 where

@@ -12,7 +12,8 @@ count-least-requires : tie.Need-count-least-requires
 count-least-requires c κs = search needs
 
 -- the count found is the least
-least : (c : tie.After-least-count) → IsLeastOf (c .before .before .before .args .counts .now) (c .before .before .before .args .waits .now) (c .before .before .before .args .n) (c .least-count .result)
+least : (c : tie.After-least-count)
+    → IsLeastOf (c .before .before .before .args .counts .now) (c .before .before .before .args .waits .now) (c .before .before .before .args .n) (c .least-count .result)
 least c =
     let a = c .before .before .before in
     rw (c .least-count .ensures) (leastBelow-is _ _ _ _ (a .pre .3 .0) (a .pre .3 .1) (a .pre .2))

@@ -42,10 +42,14 @@ returns c =
     nearer-yes (a .front .now) (a .lines .now) (a .distances .now) (a .taken .now) (a .l) (a .best) (a .other) (sym (w .before .waits-on .ensures) ∙ w .if1 .taken) (c .if2 .taken)
 
 returns-2 : tie.Need-returns-2
-returns-2 c = let a = c .before .before .before .before .before .before .before .before .before .before .before .args in nearer-far (a .front .now) (a .lines .now) (a .distances .now) (a .taken .now) (a .l) (a .best) (a .other) (c .if2 .left)
+returns-2 c =
+    let a = c .before .before .before .before .before .before .before .before .before .before .before .args in
+    nearer-far (a .front .now) (a .lines .now) (a .distances .now) (a .taken .now) (a .l) (a .best) (a .other) (c .if2 .left)
 
 returns-3 : tie.Need-returns-3
-returns-3 c = let a = c .before .before .before .before .before .before .args in nearer-no (a .front .now) (a .lines .now) (a .distances .now) (a .taken .now) (a .l) (a .best) (a .other) (sym (c .before .waits-on .ensures) ∙ c .if1 .left)
+returns-3 c =
+    let a = c .before .before .before .before .before .before .args in
+    nearer-no (a .front .now) (a .lines .now) (a .distances .now) (a .taken .now) (a .l) (a .best) (a .other) (sym (c .before .waits-on .ensures) ∙ c .if1 .left)
 
 pub nearer-spec : {M : Type 1} → statement M
 nearer-spec =

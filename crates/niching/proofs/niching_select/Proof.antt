@@ -9,7 +9,8 @@ use Rattle.niching.proofs.niching_select.Tie as tie
 
 abbrev Inv-loop : tie.InvT-loop
 Inv-loop order start end lines distances n-lines «open» picked₀ front counts₀ waits₀ taken₀ rng₀ at₀ picked counts waits taken rng at =
-    (at ≤ «open») × (length picked ≡ length picked₀) × Selecting (take start order) front lines distances n-lines (rng₀ .s) picked₀ at counts waits taken picked (rng .s)
+    (at ≤ «open») × (length picked ≡ length picked₀)
+    × Selecting (take start order) front lines distances n-lines (rng₀ .s) picked₀ at counts waits taken picked (rng .s)
 
 abbrev μ-loop : tie.MeasureT-loop
 μ-loop order start end lines distances n-lines «open» picked₀ front counts₀ waits₀ taken₀ rng₀ at₀ picked counts waits taken rng at = «open» - at

@@ -27,11 +27,18 @@ choose-member-requires c κs =
     let l = c .before .before .before .before .choose-line in
     (h .listed, h .measured, h .waiting (l .result .value), l .ensures .0 .some)
 
+-- the function's entry and the call that chose the line, seen from where the arrays are written
+abbrev entry : tie.After-rng2 → tie.Start
+entry c = c .before .before .before .before .before .before .before .before .before .before .before .before .before .before .before
+
+abbrev line : tie.After-rng2 → tie.After-choose-line
+line c = c .before .before .before .before .before .before
+
 add-counts : tie.Need-add-counts
-add-counts c = omega (arith, c .before .before .before .before .before .before .before .before .before .before .before .before .before .before .before .pre .few (c .before .before .before .before .before .before .choose-line .result .value))
+add-counts c = omega (arith, entry c .pre .few (line c .choose-line .result .value))
 
 mul-counts : tie.Need-mul-counts
-mul-counts c = let a = c .before .before .before .before .before .before .before .before .before .before .before .before .before .before .before in omega (arith, c .before .before .before .before .before .before .choose-line .ensures .0 .below, a .pre .counted, a .good)
+mul-counts c = omega (arith, line c .choose-line .ensures .0 .below, entry c .pre .counted, entry c .good)
 
 slice-write-counts : tie.Need-slice-write-counts
 slice-write-counts c = omega arith
@@ -40,7 +47,7 @@ sub-waits : tie.Need-sub-waits
 sub-waits c = omega arith
 
 mul-waits : tie.Need-mul-waits
-mul-waits c = let a = c .before .before .before .before .before .before .before .before .before .before .before .before .before .before .before in omega (arith, c .before .before .before .before .before .before .choose-line .ensures .0 .below, a .pre .counted, a .good)
+mul-waits c = omega (arith, line c .choose-line .ensures .0 .below, entry c .pre .counted, entry c .good)
 
 slice-write-waits : tie.Need-slice-write-waits
 slice-write-waits c = omega arith
@@ -65,8 +72,8 @@ same-length-3 c = simp length-set
 
 returns : tie.Need-returns
 returns c =
-    let a = c .before .before .before .before .before .before .before .before .before .before .before .before .before .before .before .before .args in
-    let l = c .before .before .before .before .before .before .before .choose-line in
+    let a = entry (c .before) .args in
+    let l = line (c .before) .choose-line in
     let m = c .before .before .choose-member in
     record {
       place = m .result .value;
