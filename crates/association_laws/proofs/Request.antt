@@ -1,16 +1,15 @@
 -- What the functions of `association` leave is what document 01 says of a request: its ideal, intercepts, normalised rows, lines and distances.
-use Prim.Native.Nat.{ℕ, _+_, _*_, _≤_, _<_}
-use mathlib.Core.Path.{_≡_, refl, ap, ap₂, sym, _∙_}
+use Prim.Native.Nat.{ℕ, _≤_, _<_}
+use mathlib.Core.Path.{_≡_, ap, ap₂, _∙_}
 use mathlib.Core.List.{List, [], flatten}
-use native.Mathlib.Omega.{arith}
 use lib.Ieee.{Float, nan}
-use lib.ListN.{length, getD, take}
+use lib.ListN.{getD, take}
 use Rattle.model.specs.Lists.{listBelow, over}
 use Rattle.model.specs.Real.{_⊖_, _⊘_}
 use Rattle.model.specs.Reference.{dasDennis, pointCount}
-use Rattle.model.specs.Association.{Request, objectives, lineCount, valueOf, idealOf, interceptOf, normalised, coordinate, distanceTo, distance, association, lineOf, leastFrom, greatest, interceptFrom, Near, nearestOf}
+use Rattle.model.specs.Association.{Request, lineCount, valueOf, idealOf, interceptOf, normalised, coordinate, distanceTo, distance, association, lineOf, leastFrom, greatest, interceptFrom, nearestOf}
 use Rattle.list_laws.proofs.Built.{listBelow-same, listBelow-length, over-take}
-use Rattle.association_laws.specs.Flat.{column, from, flatRows, leastAt, interceptAt, normalAt, distanceAt, nearestAt}
+use Rattle.association_laws.specs.Flat.{flatRows, leastAt, interceptAt, normalAt, nearestAt}
 use Rattle.association_laws.specs.Request.{Pool, StartIn, IdealIn, InterceptsIn, NormalisedIn, LinesIn, Associates}
 use Rattle.association_laws.proofs.Same.{least-same, greatest-same, distance-same, nearest-same}
 use Rattle.association_laws.proofs.Places.{over-below, over-rows, over-lines}
