@@ -9,7 +9,7 @@ use borrow.Author.Tests.{ltb-true, ltb-false}
 use lib.Dec.{T, lit≤, ltb}
 use lib.IntN.{pos, negsuc}
 use lib.Pow.{pow-pos}
-use lib.Ieee.{Float, nan, inf, fin, binary64, ofInt, round, div, le, lt, up, down, fits}
+use lib.Ieee.{Float, nan, inf, fin, binary64, ofInt, round, le, lt, up, down, fits}
 use lib.Ieee.Back.{round-whole}
 use lib.Ieee.Exact.{HasValue}
 use lib.Ieee.Fits.{ofInt-fits, div-fits}
@@ -21,7 +21,7 @@ use Rattle.list_laws.proofs.Bools.{by-bool}
 use Rattle.das_dennis.proofs.Count.{lattice-count}
 use Rattle.das_dennis.proofs.Table.{lattice-table}
 use Rattle.float_laws.proofs.Units.{Number, Counts, counts→le, counts→lt, counts-finite}
-use Rattle.float_laws.proofs.Rounding.{Rounded, div-rounded, le-rounded, between-finite}
+use Rattle.float_laws.proofs.Rounding.{div-rounded, le-rounded, between-finite}
 use Rattle.float_laws.proofs.Constants.{nought, one, nought-counts}
 use Rattle.float_laws.proofs.Arithmetic as arithmetic
 use Rattle.association_laws.proofs.Within.{Upto}

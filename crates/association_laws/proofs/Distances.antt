@@ -1,12 +1,12 @@
 -- Bounds of the parts of a distance: products, sums of at most 8 terms, a quotient by 1/64 or more, the square of a difference. Assumes nothing.
 use Prim.Native.Nat.{ℕ, zero, suc, _+_, _-_, _*_, _^_, _≤_, _<_}
-use mathlib.Core.Path.{_≡_, refl, ap, ap₂, sym, subst, _∙_}
+use mathlib.Core.Path.{_≡_, refl, ap, subst}
 use mathlib.Core.Bool.{Bool, true, false, _&&_}
 use mathlib.Core.Logic.{⊎-elim}
-use native.Mathlib.Nat.{not-suc-le-zero, eq-or-lt-of-le, add-zero, mul-assoc, mul-comm, mul-le-mul-right, zero-mul}
+use native.Mathlib.Nat.{not-suc-le-zero, eq-or-lt-of-le, add-zero, mul-comm, mul-le-mul-right, zero-mul}
 use native.Mathlib.Omega.{arith}
 use lib.Dec.{T}
-use lib.IntN.{pos, negsuc}
+use lib.IntN.{negsuc}
 use lib.Pow.{pow-pos}
 use lib.Ieee.{Float, nan, inf, fin, binary64, add, sub, mul, le, neg, ofBits, fits}
 use lib.Ieee.Scale.{finite}
@@ -16,7 +16,7 @@ use Rattle.model.specs.Real.{_⊕_, _⊖_, _⊗_, _⊘_, minusNought, sumTo}
 use Rattle.model.specs.Numbers.{square}
 use Rattle.list_laws.proofs.Bools.{true-T}
 use Rattle.list_laws.proofs.Tests.{allBelow-each}
-use Rattle.float_laws.proofs.Units.{Number, Counts, le→counts}
+use Rattle.float_laws.proofs.Units.{Number, le→counts}
 use Rattle.float_laws.proofs.Order.{le-trans, le-total, le-not-nan}
 use Rattle.float_laws.proofs.Rounding.{le-neg, between-finite, div-rounded, rounded-le, le-rounded}
 use Rattle.float_laws.proofs.Constants.{nought, one, exp2, nought-number, nought-fits, nought-counts, exp2-counts}

@@ -1,13 +1,12 @@
 -- THEOREM: every distance of an accepted pool is a number, so the line and the distance that a plan is given are those of its nearest line. Assumes nothing.
 use Prim.Native.Nat.{ℕ, _≤_, _<_}
-use mathlib.Core.Path.{_≡_, refl, ap, sym, _∙_}
-use mathlib.Core.Bool.{Bool, true, false, not}
+use mathlib.Core.Path.{_≡_, refl}
+use mathlib.Core.Bool.{true, false}
 use native.Mathlib.Omega.{arith}
 use lib.Dec.{T}
-use lib.IntN.{negsuc}
-use lib.Ieee.{Float, fin, inf, binary64, lt, le, mul, add, ofBits, fits, isNan}
+use lib.Ieee.{Float, binary64, lt, le, mul, add, ofBits, fits, isNan}
 use Rattle.model.specs.Lists.{allBelow}
-use Rattle.model.specs.Real.{_⊕_, _⊗_, _⊘_, infinity, sumTo}
+use Rattle.model.specs.Real.{_⊕_, _⊗_, _⊘_, infinity}
 use Rattle.model.specs.Numbers.{sqrtOf}
 use Rattle.model.specs.Association.{Request, objectives, lineCount, normalised, coordinate, dot, offSquares, distance, distanceTo, smallNorm, association, lineOf}
 use Rattle.list_laws.proofs.Bools.{by-bool, T-true, T-false, true-T}

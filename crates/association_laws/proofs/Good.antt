@@ -6,7 +6,7 @@ use mathlib.Core.List.{List}
 use native.Mathlib.Omega.{arith}
 use borrow.Author.Tests.{eqb-true}
 use lib.Dec.{T, eqb, leb}
-use lib.Ieee.{Float, nan, inf, fin, binary64, ofBits, fits, le, lt, eq, neg}
+use lib.Ieee.{Float, nan, inf, fin, binary64, ofBits, fits, le, eq, neg}
 use lib.Ieee.Bits.{ofBits-fits}
 use lib.Ieee.Fits.{neg-fits, and-l, and-r}
 use lib.ListN.{length, getD}
@@ -16,7 +16,7 @@ use Rattle.model.specs.Lists.{allIn, allBelow}
 use Rattle.model.specs.Plan.{Plan, maxValues, maxConstraints, planOf}
 use Rattle.model.specs.Real.{real}
 use Rattle.model.specs.Row.{directionOf, toMinimize, rowOf}
-use Rattle.model.specs.Association.{Request, objectives, valueOf}
+use Rattle.model.specs.Association.{Request, objectives}
 use Rattle.model.specs.Refusal.{measurable, isInfinity, goodPlan, goodIdeal, badPool}
 use Rattle.list_laws.proofs.Bools.{by-bool, true-T, and-left, and-right}
 use Rattle.list_laws.proofs.Built.{listBelow-length, listBelow-at}

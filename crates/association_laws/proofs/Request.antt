@@ -1,19 +1,29 @@
 -- What the functions of `association` leave is what document 01 says of a request: its ideal, intercepts, normalised rows, lines and distances.
-use Prim.Native.Nat.{ℕ, _+_, _*_, _≤_, _<_}
-use mathlib.Core.Path.{_≡_, refl, ap, ap₂, sym, _∙_}
+use Prim.Native.Nat.{ℕ, _≤_, _<_}
+use mathlib.Core.Path.{_≡_, ap, ap₂, subst, _∙_}
 use mathlib.Core.List.{List, [], flatten}
-use native.Mathlib.Omega.{arith}
 use lib.Ieee.{Float, nan}
-use lib.ListN.{length, getD, take}
+use lib.ListN.{getD, take}
 use Rattle.model.specs.Lists.{listBelow, over}
 use Rattle.model.specs.Real.{_⊖_, _⊘_}
 use Rattle.model.specs.Reference.{dasDennis, pointCount}
-use Rattle.model.specs.Association.{Request, objectives, lineCount, valueOf, idealOf, interceptOf, normalised, coordinate, distanceTo, distance, association, lineOf, leastFrom, greatest, interceptFrom, Near, nearestOf}
+use Rattle.model.specs.Association.{Request, objectives, lineCount, valueOf, idealOf, interceptOf, normalised, coordinate, distanceTo, distance, association, lineOf, leastFrom, greatest, interceptFrom, nearestOf}
 use Rattle.list_laws.proofs.Built.{listBelow-same, listBelow-length, over-take}
-use Rattle.association_laws.specs.Flat.{column, from, flatRows, leastAt, interceptAt, normalAt, distanceAt, nearestAt}
+use Rattle.association_laws.specs.Flat.{flatRows, leastAt, interceptAt, normalAt, nearestAt}
 use Rattle.association_laws.specs.Request.{Pool, StartIn, IdealIn, InterceptsIn, NormalisedIn, LinesIn, Associates}
 use Rattle.association_laws.proofs.Same.{least-same, greatest-same, distance-same, nearest-same}
 use Rattle.association_laws.proofs.Places.{over-below, over-rows, over-lines}
+
+-- ---- what `das_dennis` leaves, of m objectives and h divisions: k lines
+module _ (r : Request) (m h k : ℕ) (width : m ≡ objectives r) (d : h ≡ r .divisions) (c : k ≡ pointCount m h) where
+  pub lines-at : 1 ≤ m → (table old : List Float) → table ≡ over (flatten (dasDennis m h)) old → LinesIn r table k m
+  unfolding coordinate
+  lines-at some table old e l j g i =
+      over-lines m h some table old l j e (subst (λ t. l < t) c g) i
+      ∙ ap₂ (λ a b. getD (getD (dasDennis a b) l []) j nan) width d
+
+  pub lines-count : k ≡ lineCount r
+  lines-count = c ∙ ap₂ pointCount width d
 
 module _ (r : Request) (rows : List Float) (n m : ℕ) (P : Pool r rows n m) where
   -- ---- what `update_ideal_point` leaves, from the request's ideal
@@ -54,16 +64,6 @@ module _ (r : Request) (rows : List Float) (n m : ℕ) (P : Pool r rows n m) whe
     normalised-at intercepts a normalized old e p j h k =
         over-rows (normalAt rows m ideal intercepts) n m normalized old p j e h k
         ∙ ap₂ (λ v i. v ⊘ i) (ap₂ (λ v i. v ⊖ i) (P .values p j h k) (z j k)) (a j k)
-
-  -- ---- what `das_dennis` leaves
-  pub lines-at : 1 ≤ m → (h : ℕ) → h ≡ r .divisions → (table old : List Float) → table ≡ over (flatten (dasDennis m h)) old → LinesIn r table (pointCount m h) m
-  unfolding coordinate
-  lines-at some h d table old e l j g k =
-      over-lines m h some table old l j e g k
-      ∙ ap₂ (λ a b. getD (getD (dasDennis a b) l []) j nan) (P .width) d
-
-  pub lines-count : (h : ℕ) → h ≡ r .divisions → pointCount m h ≡ lineCount r
-  lines-count h d = ap₂ pointCount (P .width) d
 
   -- ---- what `associate_to_reference_points` leaves, from the normalised rows and the table
   module _ (normalized : List Float) (a : NormalisedIn r normalized n m) (table : List Float) (k : ℕ) (b : LinesIn r table k m) (c : k ≡ lineCount r) where

@@ -1,12 +1,12 @@
 -- Only the entries that are looked at matter: below n the plans, below m the objectives, below k the lines.
-use Prim.Native.Nat.{ℕ, zero, suc, _+_, _≤_, _<_}
-use mathlib.Core.Path.{_≡_, refl, ap, ap₂, sym, _∙_}
+use Prim.Native.Nat.{ℕ, zero, suc, _<_}
+use mathlib.Core.Path.{_≡_, refl, ap, ap₂}
 use mathlib.Core.Bool.{cond}
 use native.Mathlib.Omega.{arith}
 use lib.Ieee.{Float, lt}
 use Rattle.model.specs.Real.{_⊕_, _⊖_, _⊗_, _⊘_, infinity, sumTo}
 use Rattle.model.specs.Numbers.{sqrtOf, square}
-use Rattle.model.specs.Association.{leastFrom, greatest, dot, offSquares, distance, smallNorm, Near, near, nearestOf}
+use Rattle.model.specs.Association.{leastFrom, greatest, dot, offSquares, distance, smallNorm, near, nearestOf}
 
 pub least-same : (b : Float) (f g : ℕ → Float) (n : ℕ) → ((t : ℕ) → t < n → f t ≡ g t) → leastFrom b f n ≡ leastFrom b g n
 unfolding leastFrom

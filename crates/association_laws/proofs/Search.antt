@@ -1,15 +1,15 @@
 -- One more turn of the search for the nearest line. A square that is not below the best one has no root below the best one's, so its root need not be taken.
 use Prim.Native.Nat.{ℕ, zero, suc, _+_, _*_}
 use mathlib.Core.Path.{_≡_, refl, ap, ap₂, sym, subst, _∙_}
-use mathlib.Core.Bool.{Bool, true, false, cond, not}
+use mathlib.Core.Bool.{Bool, true, false}
 use native.Mathlib.Numerals.{add-one}
 use lib.Dec.{T, eqb→eq}
 use lib.IntN.{pos}
 use lib.Ieee.{Float, nan, inf, fin, binary64, up, down, lt, le, ofBits, fits}
 use lib.Ieee.Fits.{add-fits, inf-fits, cond-fits}
-use Rattle.model.specs.Real.{_⊘_, minusNought, infinity, sumTo}
+use Rattle.model.specs.Real.{_⊘_, infinity, sumTo}
 use Rattle.model.specs.Numbers.{sqrtOf}
-use Rattle.model.specs.Association.{dot, smallNorm, offSquares, distance, Near, near, nearestOf}
+use Rattle.model.specs.Association.{dot, smallNorm, offSquares, distance, near, nearestOf}
 use Rattle.list_laws.proofs.Bools.{by-bool, true-T, false-T}
 use Rattle.float_laws.proofs.Units.{zero-exponent}
 use Rattle.float_laws.proofs.Order.{lt→nle, nlt→le, le-not-nan}

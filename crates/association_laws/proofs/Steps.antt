@@ -1,7 +1,7 @@
 -- One more turn of a loop that counts up: the next value of a definition, from the value so far.
 use Prim.Native.Nat.{ℕ, _+_}
 use mathlib.Core.Path.{_≡_, refl, ap, sym, _∙_}
-use mathlib.Core.Bool.{Bool, true, false, cond}
+use mathlib.Core.Bool.{true, false}
 use native.Mathlib.Numerals.{add-one}
 use lib.Ieee.{Float, inf, lt}
 use Rattle.model.specs.Real.{_⊕_, minusNought, sumTo}

@@ -1,10 +1,9 @@
 -- THEOREM: every normalised value lies within 0..1. Assumes nothing.
-use Prim.Native.Nat.{ℕ, zero, suc, _≤_, _<_}
-use mathlib.Core.Path.{_≡_, refl, ap, ap₂, sym, _∙_}
-use mathlib.Core.Bool.{Bool, true, false, cond, not, _&&_}
-use native.Mathlib.Omega.{arith}
+use Prim.Native.Nat.{ℕ, _<_}
+use mathlib.Core.Path.{_≡_, ap₂}
+use mathlib.Core.Bool.{true, not, _&&_}
 use lib.Dec.{T}
-use lib.Ieee.{Float, nan, inf, binary64, lt, le, sub, div, ofBits, fits, isNan}
+use lib.Ieee.{Float, nan, binary64, lt, le, ofBits, fits, isNan}
 use lib.Ieee.Fits.{sub-fits, div-fits}
 use lib.ListN.{getD}
 use Rattle.model.specs.Real.{_⊖_, _⊘_, nought, unit, within}

@@ -5,7 +5,7 @@ use mathlib.Core.List.{List}
 use lib.Ieee.{Float, nan}
 use lib.ListN.{getD}
 use Rattle.model.specs.Lists.{listBelow, over}
-use Rattle.model.specs.Association.{Request, objectives, lineCount, valueOf, idealOf, interceptOf, normalised, coordinate, association, lineOf}
+use Rattle.model.specs.Association.{Request, objectives, valueOf, idealOf, interceptOf, normalised, coordinate, association, lineOf}
 
 -- the request's pool in flat rows: n plans, m objectives
 pub record Pool (r : Request) (rows : List Float) (n m : ℕ) : Type 0 where

@@ -1,8 +1,7 @@
 -- the plans before p have their line and distance
 use Prim.Native.Nat.{_*_, _+_, _-_, _≤_}
-use mathlib.Core.Path.{_≡_, refl, _∙_}
+use mathlib.Core.Path.{_≡_, refl}
 use native.Mathlib.Omega.{arith}
-use borrow.Author.Needs.{needs}
 use lib.ListN.{length, length-set}
 use lib.Seq.{sets}
 use Rattle.model.specs.Lists.{listBelow}
@@ -20,10 +19,11 @@ Inv-loop normalized n m table n-lines lines₀ distances₀ p₀ lines distances
 abbrev μ-loop : tie.MeasureT-loop
 μ-loop normalized n m table n-lines lines₀ distances₀ p₀ lines distances p = n - p
 
--- row p lies within the rows
+-- the function's entry, seen from a turn
 abbrev entry : tie.In-loop Inv-loop μ-loop → tie.Start Inv-loop μ-loop
 entry c = c .before .before .before .before .before .before
 
+-- row p lies within the rows
 inside : (c : tie.In-loop Inv-loop μ-loop) → c .before .loop .p * entry c .args .m + entry c .args .m ≤ entry c .args .n * entry c .args .m
 inside c = row-inside _ _ _ (c .loop-test .taken)
 

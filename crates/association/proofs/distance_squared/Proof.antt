@@ -1,5 +1,5 @@
 -- a line that is too short is infinitely far; else the squares off the projection
-use mathlib.Core.Path.{_≡_, ap, sym, _∙_}
+use mathlib.Core.Path.{ap, sym, _∙_}
 use borrow.Author.Needs.{needs}
 use lib.Ieee.{div, ofBits}
 use Rattle.model.specs.Real.{_⊘_}

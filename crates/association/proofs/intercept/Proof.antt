@@ -1,5 +1,5 @@
 -- a span above 1e-10 stands, any other becomes 1.0
-use mathlib.Core.Path.{_≡_, ap, sym}
+use mathlib.Core.Path.{ap, sym}
 use mathlib.Core.Bool.{cond}
 use lib.Ieee.{ofBits}
 use Rattle.model.specs.Real.{unit}

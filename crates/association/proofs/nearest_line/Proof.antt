@@ -4,7 +4,7 @@ use mathlib.Core.Path.{_≡_, ap, sym, subst, _∙_}
 use native.Mathlib.Omega.{arith}
 use borrow.Author.Needs.{needs}
 use lib.Dec.{T}
-use lib.Ieee.{Float, binary64, fits, div, ofBits}
+use lib.Ieee.{binary64, fits, div, ofBits}
 use Rattle.model.specs.Numbers.{sqrtOf}
 use Rattle.association_laws.specs.Flat.{from, distanceAt}
 use Rattle.association_laws.specs.Search.{Found}
@@ -19,10 +19,11 @@ Inv-loop points at m table n-lines best₀ l₀ best l = (l ≤ n-lines) × Foun
 abbrev μ-loop : tie.MeasureT-loop
 μ-loop points at m table n-lines best₀ l₀ best l = n-lines - l
 
--- line l lies within the table
+-- the function's entry, seen from a turn
 abbrev entry : tie.In-loop Inv-loop μ-loop → tie.Start Inv-loop μ-loop
 entry c = c .before .before .before .before
 
+-- line l lies within the table
 inside : (c : tie.In-loop Inv-loop μ-loop) → c .before .loop .l * entry c .args .m + entry c .args .m ≤ entry c .args .n-lines * entry c .args .m
 inside c = row-inside _ _ _ (c .loop-test .taken)
 

@@ -1,5 +1,5 @@
 -- the root of the square
-use mathlib.Core.Path.{_≡_, ap, sym, _∙_}
+use mathlib.Core.Path.{ap, sym, _∙_}
 use borrow.Author.Needs.{needs}
 use Rattle.model.specs.Numbers.{sqrtOf}
 use Rattle.association_laws.proofs.Search.{distance-root}
