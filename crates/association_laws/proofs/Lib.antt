@@ -1,0 +1,5 @@
+pub mod Writes
+pub mod Steps
+pub mod Same
+pub mod Places
+pub mod Request

@@ -1,0 +1,86 @@
+-- Runs of stores: one more at the end, one run after another, and what a list holds once a run stands at its front.
+use Prim.Native.Nat.{ℕ, zero, suc, _+_, _*_, _≤_, _<_}
+use mathlib.Core.Path.{_≡_, refl, ap, sym, _∙_}
+use mathlib.Core.List.{List, [], _∷_, _++_}
+use native.Mathlib.Omega.{arith}
+use native.Mathlib.Nat.{suc-add, add-suc, add-zero, zero-add, zero-mul, suc-mul, mul-le-mul-right}
+use native.Mathlib.Numerals.{add-one}
+use lib.Ieee.{Float}
+use lib.ListN.{length, getD, drop, set, length-append}
+use lib.Seq.{sets, sets-eq, length-sets, getD-set-other}
+use Rattle.model.specs.Lists.{listBelow, joinBelow, over}
+use Rattle.association_laws.specs.Flat.{flatRows}
+use Rattle.list_laws.proofs.Built.{listBelow-none, listBelow-more, listBelow-length}
+
+-- ---- places of a flat list
+
+-- row p of n lies within the list
+pub row-inside : (p n m : ℕ) → p < n → p * m + m ≤ n * m
+row-inside p n m h = omega (arith, suc-mul p m, mul-le-mul-right m h)
+
+module _ {A : Type 0} where
+  sets-append : (l : List A) (i : ℕ) (s t : List A) → sets l i (s ++ t) ≡ sets (sets l i s) (i + length s) t
+  sets-append l i [] t = ap (λ k. sets l k t) (sym (add-zero i))
+  sets-append l i (x ∷ s) t =
+      sets-append (set l i x) (suc i) s t ∙ ap (λ k. sets (sets (set l i x) (suc i) s) k t) (suc-add i (length s) ∙ sym (add-suc i (length s)))
+
+  -- one more value stored behind the run
+  pub run-more : (f : ℕ → A) (l l₀ : List A) (at n : ℕ) (x : A) → l ≡ sets l₀ at (listBelow f n) → x ≡ f n
+      → set l (at + n) x ≡ sets l₀ at (listBelow f (n + 1))
+  run-more f l l₀ at n x e v =
+      ap (λ t. set t (at + n) x) e
+      ∙ ap (λ k. set (sets l₀ at (listBelow f n)) (at + k) x) (sym (listBelow-length f n))
+      ∙ ap (λ y. set (sets l₀ at (listBelow f n)) (at + length (listBelow f n)) y) v
+      ∙ sym (sets-append l₀ at (listBelow f n) (f n ∷ []))
+      ∙ ap (sets l₀ at) (sym (listBelow-more f n))
+
+  pub run-none : (f : ℕ → A) (l : List A) (at : ℕ) → l ≡ sets l at (listBelow f 0)
+  run-none f l at = ap (sets l at) (sym (listBelow-none f))
+
+  pub run-length : (f : ℕ → A) (l l₀ : List A) (at n : ℕ) → l ≡ sets l₀ at (listBelow f n) → length l ≡ length l₀
+  run-length f l l₀ at n e = ap length e ∙ length-sets l₀ at (listBelow f n)
+
+  -- the same for a run at the front
+  pub front-more : (f : ℕ → A) (l l₀ : List A) (n : ℕ) (x : A) → l ≡ sets l₀ 0 (listBelow f n) → x ≡ f n
+      → set l n x ≡ sets l₀ 0 (listBelow f (n + 1))
+  front-more f l l₀ n x e v = ap (λ k. set l k x) (sym (zero-add n)) ∙ run-more f l l₀ 0 n x e v
+
+  pub over-sets : (new old : List A) → length new ≤ length old → sets old 0 new ≡ over new old
+  over-sets new old h = sets-eq new old 0 (omega arith) ∙ ap (λ k. new ++ drop k old) (zero-add (length new))
+
+  pub front-done : (f : ℕ → A) (l l₀ : List A) (n : ℕ) → n ≤ length l₀ → l ≡ sets l₀ 0 (listBelow f n) → l ≡ over (listBelow f n) l₀
+  front-done f l l₀ n h e = e ∙ over-sets (listBelow f n) l₀ (let s = listBelow-length f n in omega arith)
+
+  -- what stands past a run is as it was
+  sets-past : (d : A) (l : List A) (i : ℕ) (s : List A) (j : ℕ) → i + length s ≤ j → getD (sets l i s) j d ≡ getD l j d
+  sets-past d l i [] j h = refl
+  sets-past d l i (x ∷ s) j h = sets-past d (set l i x) (suc i) s j (omega arith) ∙ getD-set-other l i j x d (λ e. omega arith)
+
+  pub front-past : (f : ℕ → A) (d : A) (l l₀ : List A) (n : ℕ) → l ≡ sets l₀ 0 (listBelow f n) → getD l n d ≡ getD l₀ n d
+  front-past f d l l₀ n e =
+      ap (λ t. getD t n d) e ∙ sets-past d l₀ 0 (listBelow f n) n (let s = listBelow-length f n in omega arith)
+
+-- ---- rows, one after the other
+
+pub rows-none : (f : ℕ → ℕ → Float) (l : List Float) (m : ℕ) → l ≡ sets l 0 (flatRows f 0 m)
+unfolding flatRows joinBelow
+rows-none f l m = refl
+
+pub rows-length : (f : ℕ → ℕ → Float) (n m : ℕ) → length (flatRows f n m) ≡ n * m
+unfolding flatRows joinBelow
+rows-length f zero m = sym (zero-mul m)
+rows-length f (suc n) m =
+    length-append (flatRows f n m) (listBelow (f n) m) ∙ omega (arith, rows-length f n m, listBelow-length (f n) m, suc-mul n m)
+
+-- one more row stored behind the rows
+pub rows-more : (f : ℕ → ℕ → Float) (l k l₀ : List Float) (n m : ℕ) → l ≡ sets l₀ 0 (flatRows f n m) → k ≡ sets l (n * m) (listBelow (f n) m)
+    → k ≡ sets l₀ 0 (flatRows f (n + 1) m)
+unfolding flatRows joinBelow
+rows-more f l k l₀ n m e g =
+    g ∙ ap (λ t. sets t (n * m) (listBelow (f n) m)) e
+    ∙ ap (λ i. sets (sets l₀ 0 (flatRows f n m)) i (listBelow (f n) m)) (sym (rows-length f n m) ∙ sym (zero-add _))
+    ∙ sym (sets-append l₀ 0 (flatRows f n m) (listBelow (f n) m))
+    ∙ ap (λ i. sets l₀ 0 (flatRows f i m)) (sym (add-one n))
+
+pub rows-done : (f : ℕ → ℕ → Float) (l l₀ : List Float) (n m : ℕ) → n * m ≤ length l₀ → l ≡ sets l₀ 0 (flatRows f n m) → l ≡ over (flatRows f n m) l₀
+rows-done f l l₀ n m h e = e ∙ over-sets (flatRows f n m) l₀ (let s = rows-length f n m in omega arith)

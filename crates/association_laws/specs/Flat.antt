@@ -1,0 +1,40 @@
+-- Document 01's association over flat lists: plan p's value at objective j is entry p * m + j of its rows, coordinate j of line l entry l * m + j of its table.
+use Prim.Native.Nat.{ℕ, _+_, _*_}
+use mathlib.Core.List.{List}
+use lib.Ieee.{Float, nan}
+use lib.ListN.{getD}
+use Rattle.model.specs.Lists.{listBelow, joinBelow}
+use Rattle.model.specs.Real.{_⊖_, _⊘_}
+use Rattle.model.specs.Association.{leastFrom, greatest, interceptFrom, distance, Near, nearestOf}
+
+-- the values of objective j, plan by plan
+abbrev pub column : List Float → ℕ → ℕ → ℕ → Float
+column rows m j p = getD rows (p * m + j) nan
+
+-- the entries of a list from `at` on
+abbrev pub from : List Float → ℕ → ℕ → Float
+from l at j = getD l (at + j) nan
+
+-- n rows of m entries, one after the other
+unfoldable pub flatRows : (ℕ → ℕ → Float) → ℕ → ℕ → List Float
+flatRows f n m = joinBelow (λ p. listBelow (f p) m) n
+
+-- the smaller of an ideal's entry j and the least of the n plans
+abbrev pub leastAt : List Float → ℕ → ℕ → List Float → ℕ → Float
+leastAt rows n m ideal j = leastFrom (getD ideal j nan) (column rows m j) n
+
+-- the intercept of objective j
+abbrev pub interceptAt : List Float → ℕ → ℕ → List Float → ℕ → Float
+interceptAt rows n m ideal j = interceptFrom (greatest (column rows m j) n ⊖ getD ideal j nan)
+
+-- plan p's normalised value at objective j
+abbrev pub normalAt : List Float → ℕ → List Float → List Float → ℕ → ℕ → Float
+normalAt rows m ideal intercepts p j = (column rows m j p ⊖ getD ideal j nan) ⊘ getD intercepts j nan
+
+-- the distance of the point at `at` from line l of a table
+abbrev pub distanceAt : List Float → ℕ → ℕ → List Float → ℕ → Float
+distanceAt points at m table l = distance m (from points at) (from table (l * m))
+
+-- the line nearest to plan p, and its distance
+abbrev pub nearestAt : List Float → ℕ → List Float → ℕ → ℕ → Near
+nearestAt points m table lines p = nearestOf (distanceAt points (p * m) m table) lines
