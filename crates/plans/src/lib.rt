@@ -1,0 +1,139 @@
+// Plans out of a lent slice of words, a block of 124 words each, and the refusals that look at directions, plans and the ideal (2 and 8).
+ghost use mathlib.Core.Path.{_≡_};
+ghost use Prim.Native.Nat.{ℕ, _+_, _*_, _<_, _≤_};
+ghost use mathlib.Core.Bool.{Bool, _||_};
+ghost use lib.ListN.{length, getD};
+ghost use Rattle.model.specs.Lists.{allBelow};
+ghost use Rattle.model.specs.Real.{real};
+ghost use Rattle.model.specs.Plan.{planAt, planCount};
+ghost use Rattle.model.specs.Refusal.{badDirections, measurable, isInfinity, goodIdeal, goodPlan};
+
+// The words of a plan, and where its row length, values, constraint count and constraints stand among them.
+pub const PLAN_WORDS: usize = 124;
+
+const ROW_LENGTH: usize = 1;
+
+const VALUES: usize = 2;
+
+const CONSTRAINT_COUNT: usize = 10;
+
+const CONSTRAINTS: usize = 11;
+
+// How many plans a slice holds: those that are there whole.
+pub fn plan_count(pool: &[u64]) -> usize
+    ensures { λ r. ⌜ r ≡ planCount (now (pool .entry)) ⌝ }
+{
+    pool.len() / PLAN_WORDS
+}
+
+// Refusal 2: objectives are not 1 to 8, or a direction mark is neither 0 nor 1.
+pub fn bad_directions(directions: &[u8]) -> bool
+    ensures { λ r. ⌜ r ≡ badDirections (now (directions .entry)) ⌝ }
+{
+    if directions.len() < 1 {
+        return true;
+    }
+    if 8 < directions.len() {
+        return true;
+    }
+    let mut j = 0;
+    while j < directions.len() {
+        if 1 < directions[j] {
+            return true;
+        }
+        j += 1;
+    }
+    false
+}
+
+// A value is within -2^1000..2^1000; a NaN is not.
+pub fn measurable(x: f64) -> bool
+    ensures { λ r. ⌜ r ≡ measurable x ⌝ }
+{
+    if -1.0715086071862673e301 <= x {
+        return x <= 1.0715086071862673e301;
+    }
+    false
+}
+
+// An entry of an ideal is measurable or plus infinity.
+fn good_entry(x: f64) -> bool
+    ensures { λ r. ⌜ r ≡ (measurable x || isInfinity x) ⌝ }
+{
+    if measurable(x) {
+        return true;
+    }
+    x == 1.0 / 0.0
+}
+
+// Refusal 8 for the ideal: it has m entries, each measurable or plus infinity.
+pub fn good_ideal(m: usize, ideal: &[f64]) -> bool
+    ensures { λ r. ⌜ r ≡ goodIdeal m (now (ideal .entry)) ⌝ }
+{
+    if ideal.len() != m {
+        return false;
+    }
+    let mut j = 0;
+    while j < ideal.len() {
+        let x = ideal[j];
+        if good_entry(x) {
+            j += 1;
+        } else {
+            return false;
+        }
+    }
+    true
+}
+
+// The reals of n words from place `at` on are measurable.
+fn measurable_words(words: &[u64], at: usize, n: usize) -> bool
+    requires { ⌜ at + n ≤ length (now words) ⌝ }
+    ensures { λ r. ⌜ r ≡ allBelow (λ j. measurable (real (getD (now (words .entry)) (at + j) 0))) n ⌝ }
+{
+    let mut j = 0;
+    while j < n {
+        let x = real::real_of_word(words[at + j]);
+        if measurable(x) {
+            j += 1;
+        } else {
+            return false;
+        }
+    }
+    true
+}
+
+// Refusal 8 for plan i: its row length is m, it has at most 16 constraints, and its values and constraints are measurable.
+pub fn good_plan(pool: &[u64], i: usize, m: usize) -> bool
+    requires { ⌜ (i < planCount (now pool)) × (m ≤ 8) ⌝ }
+    ensures { λ r. ⌜ r ≡ goodPlan m (planAt (now (pool .entry)) i) ⌝ }
+{
+    let at = i * PLAN_WORDS;
+    let row_length = pool[at + ROW_LENGTH] as usize;
+    if row_length != m {
+        return false;
+    }
+    let count = pool[at + CONSTRAINT_COUNT] as usize;
+    if 16 < count {
+        return false;
+    }
+    if measurable_words(pool, at + VALUES, m) {
+        return measurable_words(pool, at + CONSTRAINTS, count);
+    }
+    false
+}
+
+// Refusal 8 for the first n plans of a pool.
+pub fn good_plans(pool: &[u64], n: usize, m: usize) -> bool
+    requires { ⌜ (n ≤ planCount (now pool)) × (m ≤ 8) ⌝ }
+    ensures { λ r. ⌜ r ≡ allBelow (λ p. goodPlan m (planAt (now (pool .entry)) p)) n ⌝ }
+{
+    let mut p = 0;
+    while p < n {
+        if good_plan(pool, p, m) {
+            p += 1;
+        } else {
+            return false;
+        }
+    }
+    true
+}
