@@ -1,1 +1,3 @@
 pub mod Refused
+pub mod Rows
+pub mod Constraints
