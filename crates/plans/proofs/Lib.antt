@@ -2,3 +2,4 @@ pub mod Refused
 pub mod Rows
 pub mod Constraints
 pub mod Pool
+pub mod Fitting

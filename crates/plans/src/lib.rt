@@ -9,6 +9,7 @@ ghost use Rattle.model.specs.Plan.{planAt, planCount};
 ghost use Rattle.model.specs.Row.{rowOf};
 ghost use Rattle.model.specs.Refusal.{badDirections, measurable, isInfinity, goodIdeal, goodPlan};
 ghost use Rattle.plans.specs.Filled.{RowAt, RowsOf, ConstraintsAt, ConstraintsOf};
+ghost use Rattle.plans.specs.Fitting.{fitting, startOf, cutOf};
 
 // The words of a plan, and where its row length, values, constraint count and constraints stand among them.
 pub const PLAN_WORDS: usize = 124;
@@ -214,5 +215,62 @@ pub fn fill_constraints(pool: &[u64], n: usize, feasible: &mut [bool], violation
     while p < n {
         fill_plan(pool, p, feasible, violations);
         p += 1;
+    }
+}
+
+// Where the fronts part: how many plans the whole fronts that fit have, where the front that is split ends (else the same), and whether one is.
+pub struct Cut {
+    pub whole: usize,
+    pub end: usize,
+    pub split: bool,
+}
+
+// How many fronts fit whole into the size.
+fn fronts_that_fit(ends: &[usize], fronts: usize, size: usize) -> usize
+    requires { ⌜ fronts ≤ length (now ends) ⌝ }
+    ensures { λ r. ⌜ r ≡ fitting (now (ends .entry)) fronts size ⌝ }
+{
+    let mut k = 0;
+    while k < fronts {
+        if size < ends[k] {
+            return k;
+        }
+        k += 1;
+    }
+    fronts
+}
+
+// Where front k starts.
+fn front_start(ends: &[usize], k: usize) -> usize
+    requires { ⌜ k ≤ length (now ends) ⌝ }
+    ensures { λ r. ⌜ r ≡ startOf (now (ends .entry)) k ⌝ }
+{
+    if k == 0 {
+        return 0;
+    }
+    ends[k - 1]
+}
+
+// The cut for a size, from the fronts' ends.
+pub fn split_at(ends: &[usize], fronts: usize, size: usize) -> Cut
+    requires { ⌜ fronts ≤ length (now ends) ⌝ }
+    ensures { λ r. ⌜ r ≡ cutOf (now (ends .entry)) fronts size ⌝ }
+{
+    let k = fronts_that_fit(ends, fronts, size);
+    let whole = front_start(ends, k);
+    if k < fronts {
+        if whole < size {
+            let end = ends[k];
+            return Cut {
+                whole: whole,
+                end: end,
+                split: true,
+            };
+        }
+    }
+    Cut {
+        whole: whole,
+        end: whole,
+        split: false,
     }
 }
