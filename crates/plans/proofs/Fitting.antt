@@ -1,30 +1,15 @@
--- The cut for a size: its steps, and that it is where the model's whole fronts end and its split front lies.
-use Prim.Native.Nat.{ℕ, zero, suc, _+_, _-_, _≤_, _<_}
+-- The cut for a size, from the fronts' ends: what the code's steps give.
+use Prim.Native.Nat.{ℕ, zero, suc, _-_, _≤_, _<_}
 use mathlib.Core.Path.{_≡_, refl, ap, sym, _∙_}
-use mathlib.Core.Bool.{Bool, true, false, cond, _&&_, true≢false}
-use mathlib.Core.Logic.{⊎-elim}
-use mathlib.Core.List.{List, [], _∷_, _++_}
-use native.Mathlib.Nat.{eq-or-lt-of-le}
+use mathlib.Core.Bool.{true, false}
+use mathlib.Core.List.{List}
 use native.Mathlib.Omega.{arith}
-use borrow.Author.Tests.{lt-ltb, le-ltb, ltb-true, ltb-false, eqb-true}
-use lib.Dec.{eqb, ltb}
-use lib.ListN.{length, getD, take, drop, length-append, List·getD-append}
-use lib.Seq.{take-at, drop-at}
-use Rattle.model.specs.Lists.{firstBelow, listBelow, over}
-use Rattle.model.specs.Front.{front, listing}
-use Rattle.model.specs.Association.{Request, dominance}
-use Rattle.model.specs.Kept.{wholeFronts, before, isSplit, splitFront}
-use Rattle.list_laws.proofs.Bools.{by-bool, and-left, and-right, and-no}
-use Rattle.list_laws.proofs.Built.{listBelow-length, listBelow-at}
-use Rattle.list_laws.proofs.First.{firstBelow-le, firstBelow-nowhere, firstBelow-at, firstBelow-passes, firstBelow-before, firstBelow-same}
-use Rattle.front_laws.specs.Strict.{Strict}
-use Rattle.front_laws.proofs.Empty.{listing-still}
-use Rattle.front_laws.proofs.Order.{ended, listing-whole}
-use Rattle.pareto.specs.Post.{frontCount, frontEnd, Sorted}
-use Rattle.plans.specs.declared.Cut.{Cut}
+use borrow.Author.Tests.{lt-ltb, le-ltb}
+use lib.Dec.{ltb}
+use lib.ListN.{getD}
+use Rattle.list_laws.proofs.Bools.{and-no}
+use Rattle.list_laws.proofs.First.{firstBelow-le, firstBelow-nowhere, firstBelow-at}
 use Rattle.plans.specs.Fitting.{fitting, startOf, cutAfter, cutOf}
-
--- ---- the code's steps
 
 pub fitting-at : (ends : List ℕ) (x size k : ℕ) → k < x → size < getD ends k 0 → ((t : ℕ) → t < k → getD ends t 0 ≤ size) → fitting ends x size ≡ k
 unfolding fitting

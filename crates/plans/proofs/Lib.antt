@@ -3,3 +3,4 @@ pub mod Rows
 pub mod Constraints
 pub mod Pool
 pub mod Fitting
+pub mod Kept
