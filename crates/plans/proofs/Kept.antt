@@ -1,6 +1,6 @@
 -- The cut of a sorted pool is the model's: the order up to it is the whole fronts, and what follows up to its end the split front.
 use Prim.Native.Nat.{ℕ, zero, suc, _+_, _-_, _≤_, _<_}
-use mathlib.Core.Path.{_≡_, refl, ap, ap₂, sym, subst, _∙_}
+use mathlib.Core.Path.{_≡_, refl, ap, sym, subst, _∙_}
 use mathlib.Core.Bool.{Bool, true, false, true≢false}
 use mathlib.Core.Logic.{⊎-elim}
 use mathlib.Core.List.{List, [], _∷_, _++_, append-assoc}
@@ -10,7 +10,7 @@ use borrow.Author.Tests.{lt-ltb, le-ltb, ltb-true, ltb-false, eqb-true}
 use lib.Dec.{eqb, ltb}
 use lib.ListN.{length, getD, take, drop, length-append, take-append-drop, List·getD-append}
 use lib.Seq.{take-at, drop-at, take-append-le, take-length}
-use Rattle.model.specs.Lists.{firstBelow, listBelow, over}
+use Rattle.model.specs.Lists.{firstBelow, listBelow}
 use Rattle.model.specs.Front.{front, listing}
 use Rattle.model.specs.Association.{Request, dominance}
 use Rattle.model.specs.Kept.{wholeFronts, before, isSplit, splitFront}
@@ -18,7 +18,6 @@ use Rattle.list_laws.proofs.Bools.{by-bool, and-no}
 use Rattle.list_laws.proofs.Built.{listBelow-length, listBelow-at}
 use Rattle.list_laws.proofs.First.{firstBelow-le, firstBelow-nowhere, firstBelow-at, firstBelow-passes, firstBelow-before, firstBelow-same}
 use Rattle.front_laws.specs.Strict.{Strict}
-use Rattle.front_laws.proofs.Empty.{listing-still}
 use Rattle.front_laws.proofs.Order.{ended, listing-room, listing-whole}
 use Rattle.pareto.specs.Post.{frontCount, frontEnd, Sorted}
 use Rattle.plans.specs.declared.Cut.{Cut}

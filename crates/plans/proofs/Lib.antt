@@ -4,3 +4,4 @@ pub mod Constraints
 pub mod Pool
 pub mod Fitting
 pub mod Kept
+pub mod Sorted

@@ -1,13 +1,13 @@
 // Plans out of a lent slice of words, a block of 124 words each, and the refusals that look at directions, plans and the ideal (2 and 8).
 ghost use mathlib.Core.Path.{_≡_};
 ghost use Prim.Native.Nat.{ℕ, _+_, _*_, _<_, _≤_};
-ghost use mathlib.Core.Bool.{Bool, _||_};
+ghost use mathlib.Core.Bool.{not, _&&_, _||_};
 ghost use lib.ListN.{length, getD, take};
 ghost use Rattle.model.specs.Lists.{allBelow, listBelow};
 ghost use Rattle.model.specs.Real.{real};
 ghost use Rattle.model.specs.Plan.{planAt, planCount};
 ghost use Rattle.model.specs.Row.{rowOf};
-ghost use Rattle.model.specs.Refusal.{badDirections, measurable, isInfinity, goodIdeal, goodPlan};
+ghost use Rattle.model.specs.Refusal.{badDirections, measurable, isInfinity, badCount, goodIdeal, goodPlan};
 ghost use Rattle.plans.specs.Filled.{RowAt, RowsOf, ConstraintsAt, ConstraintsOf};
 ghost use Rattle.plans.specs.Fitting.{fitting, startOf, cutOf};
 
@@ -21,6 +21,9 @@ const VALUES: usize = 2;
 const CONSTRAINT_COUNT: usize = 10;
 
 const CONSTRAINTS: usize = 11;
+
+// 2^1000, the greatest magnitude of a value or a constraint.
+const LIMIT: f64 = 1.0715086071862673e301;
 
 // How many plans a slice holds: those that are there whole.
 pub fn plan_count(pool: &[u64]) -> usize
@@ -53,10 +56,7 @@ pub fn bad_directions(directions: &[u8]) -> bool
 pub fn measurable(x: f64) -> bool
     ensures { λ r. ⌜ r ≡ measurable x ⌝ }
 {
-    if -1.0715086071862673e301 <= x {
-        return x <= 1.0715086071862673e301;
-    }
-    false
+    if -LIMIT <= x { x <= LIMIT } else { false }
 }
 
 // An entry of an ideal is measurable or plus infinity.
@@ -135,6 +135,30 @@ pub fn good_plans(pool: &[u64], n: usize, m: usize) -> bool
         if good_plan(pool, p, m) {
             p += 1;
         } else {
+            return false;
+        }
+    }
+    true
+}
+
+// Refusal 7 for a pool of n plans: there is none, or there are more than 1,024.
+pub fn bad_count(n: usize) -> bool
+    ensures { λ r. ⌜ r ≡ badCount n ⌝ }
+{
+    if n == 0 {
+        return true;
+    }
+    1024 < n
+}
+
+// Refusal 8 for a pool and its ideal.
+pub fn bad_pool(pool: &[u64], m: usize, ideal: &[f64]) -> bool
+    requires { ⌜ m ≤ 8 ⌝ }
+    ensures { λ r. ⌜ r ≡ not (allBelow (λ p. goodPlan m (planAt (now (pool .entry)) p)) (planCount (now (pool .entry))) && goodIdeal m (now (ideal .entry))) ⌝ }
+{
+    let n = plan_count(pool);
+    if good_plans(pool, n, m) {
+        if good_ideal(m, ideal) {
             return false;
         }
     }
