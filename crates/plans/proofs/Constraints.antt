@@ -1,20 +1,16 @@
 -- A plan's constraints out of words, and feasibility and violation sums written plan after plan.
 use Prim.Native.Nat.{ℕ, _+_, _≤_, _<_, min}
 use mathlib.Core.Path.{_≡_, refl, ap, sym, _∙_}
-use mathlib.Core.Bool.{Bool, false}
 use mathlib.Core.Logic.{⊎-elim}
 use mathlib.Core.List.{List}
 use native.Mathlib.Nat.{add-assoc, eq-or-lt-of-le, not-suc-le-zero}
 use native.Mathlib.Omega.{arith}
-use lib.Ieee.{Float, nan}
 use lib.ListN.{length, getD, set, drop, length-set}
 use lib.Seq.{getD-set-same, getD-set-other, drop-set-lt, drop-drop}
 use Rattle.model.specs.Lists.{listBelow, over}
-use Rattle.model.specs.Plan.{Plan, planOf, maxConstraints}
+use Rattle.model.specs.Plan.{planOf, maxConstraints}
 use Rattle.model.specs.Real.{real}
-use Rattle.model.specs.Row.{feasible, violation}
 use Rattle.list_laws.proofs.Built.{listBelow-same, over-filled}
-use Rattle.plans.specs.Filled.{ConstraintsAt, ConstraintsOf}
 
 -- the constraints of a plan that lies in a slice of words from place `at` on
 pub constraints-words : (words : List ℕ) (at : ℕ) → getD words (at + 10) 0 ≤ maxConstraints

@@ -1,7 +1,7 @@
 -- A pool whose plans pass refusal 8: what reading it asks holds, its flat lists give the model's domination, and their sort the model's fronts.
-use Prim.Native.Nat.{ℕ, zero, suc, _+_, _*_, _/_, _%_, _≤_, _<_}
-use mathlib.Core.Path.{_≡_, refl, ap, sym, subst, _∙_}
-use mathlib.Core.Bool.{Bool, true, false, _&&_}
+use Prim.Native.Nat.{ℕ, zero, suc, _*_, _/_, _%_, _≤_, _<_}
+use mathlib.Core.Path.{_≡_, refl, ap, sym, _∙_}
+use mathlib.Core.Bool.{Bool, true, false}
 use mathlib.Core.List.{List}
 use native.Mathlib.Nat.{div-add-mod', mod-lt, div-lt-iff-lt-mul, mul-zero}
 use native.Mathlib.Omega.{arith}
@@ -9,10 +9,10 @@ use borrow.Author.Tests.{eqb-true, leb-true}
 use lib.Dec.{eqb, leb}
 use lib.Ieee.{Float, nan, isNan}
 use lib.ListN.{length, getD, take, drop, List·getD-append}
-use Rattle.model.specs.Lists.{allBelow, allIn, listBelow, over}
-use Rattle.model.specs.Plan.{Plan, planOf, planAt, maxValues, maxConstraints}
+use Rattle.model.specs.Lists.{allBelow, listBelow, over}
+use Rattle.model.specs.Plan.{Plan, planAt, maxValues, maxConstraints}
 use Rattle.model.specs.Row.{rowOf, feasible, violation, beats}
-use Rattle.model.specs.Refusal.{measurable, goodPlan}
+use Rattle.model.specs.Refusal.{goodPlan}
 use Rattle.model.specs.Front.{listing, frontList}
 use Rattle.list_laws.proofs.Bools.{and-left, and-right}
 use Rattle.list_laws.proofs.Built.{listBelow-length, listBelow-at, over-take}
@@ -23,7 +23,7 @@ use Rattle.front_laws.proofs.Theorems.{listing-length-n}
 use Rattle.pareto.specs.Flat.{flatBeats, NoNan}
 use Rattle.pareto.specs.Post.{Sorted}
 use Rattle.pareto.proofs.Domination.{Known}
-use Rattle.pareto.proofs.Plans.{words-accepted, accepted-known, beats-strict, FlatOf, flatBeats-beats}
+use Rattle.pareto.proofs.Plans.{words-accepted, accepted-known, FlatOf, flatBeats-beats}
 use Rattle.pareto.proofs.Sorting.{sorted-same}
 use Rattle.plans.specs.Filled.{RowsOf, ConstraintsOf}
 

@@ -6,13 +6,15 @@ use mathlib.Core.List.{List}
 use native.Mathlib.Nat.{add-assoc}
 use native.Mathlib.Omega.{arith}
 use borrow.Author.Tests.{lt-leb, le-leb, eq-eqb, ne-eqb}
-use lib.Dec.{eqb, leb}
+use lib.Dec.{eqb, leb, ltb}
 use lib.Ieee.{Float, nan, binary64, le, ofBits}
 use lib.ListN.{length, getD}
 use Rattle.model.specs.Lists.{allBelow, allIn, listBelow}
-use Rattle.model.specs.Plan.{planOf, maxValues, maxConstraints}
+use Rattle.model.specs.declared.Rng.{Rng}
+use Rattle.model.specs.Calls.{wordRequest}
+use Rattle.model.specs.Plan.{planOf, planAt, planCount, maxValues, maxConstraints}
 use Rattle.model.specs.Real.{real}
-use Rattle.model.specs.Refusal.{badDirections, measurable, isInfinity, goodIdeal, goodPlan}
+use Rattle.model.specs.Refusal.{badDirections, measurable, isInfinity, badCount, maxSize, goodIdeal, goodPlan, badPool}
 use Rattle.list_laws.proofs.Bools.{and-no}
 use Rattle.list_laws.proofs.Built.{listBelow-length, listBelow-at}
 use Rattle.list_laws.proofs.Tests.{allIn-below, allBelow-same}
@@ -122,3 +124,27 @@ module _ (m : ℕ) (words : List ℕ) (at : ℕ) (h : m ≤ maxValues) (e : getD
   pub plan-good-row : measurableTo words (at + 2) m ≡ true
       → goodPlan m (planOf (λ j. getD words (at + j) 0)) ≡ measurableTo words (at + 11) (getD words (at + 10) 0)
   plan-good-row v = measured ∙ ap (λ b. b && measurableTo words (at + 11) (getD words (at + 10) 0)) v
+
+-- ---- a pool
+
+pub count-none : (n : ℕ) → n ≡ 0 → badCount n ≡ true
+count-none n e = rw (eq-eqb n 0 e)
+
+pub count-some : (n : ℕ) → (n ≡ 0 → ⊥) → badCount n ≡ ltb maxSize n
+count-some n h = rw (ne-eqb n 0 h)
+
+pub not-both : (a b : Bool) → a ≡ true → b ≡ true → false ≡ not (a && b)
+not-both a b e f = sym (ap₂ (λ x y. not (x && y)) e f)
+
+pub not-first : (a b : Bool) → a ≡ false → true ≡ not (a && b)
+not-first a b e = sym (ap (λ x. not (x && b)) e)
+
+pub not-second : (a b : Bool) → a ≡ true → b ≡ false → true ≡ not (a && b)
+not-second a b e f = sym (ap₂ (λ x y. not (x && y)) e f)
+
+-- refusal 8 of a request whose pool lies in a slice of words
+pub bad-pool-words : (pool directions : List ℕ) (divisions size : ℕ) (rng : Rng) (ideal : List Float)
+    → badPool (wordRequest pool directions divisions size rng ideal)
+    ≡ not (allBelow (λ p. goodPlan (length directions) (planAt pool p)) (planCount pool) && goodIdeal (length directions) ideal)
+unfolding badPool
+bad-pool-words pool directions divisions size rng ideal = refl

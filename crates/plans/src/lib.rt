@@ -1,14 +1,15 @@
 // Plans out of a lent slice of words, a block of 124 words each, and the refusals that look at directions, plans and the ideal (2 and 8).
 ghost use mathlib.Core.Path.{_≡_};
 ghost use Prim.Native.Nat.{ℕ, _+_, _*_, _<_, _≤_};
-ghost use mathlib.Core.Bool.{Bool, _||_};
+ghost use mathlib.Core.Bool.{not, _&&_, _||_};
 ghost use lib.ListN.{length, getD, take};
 ghost use Rattle.model.specs.Lists.{allBelow, listBelow};
 ghost use Rattle.model.specs.Real.{real};
 ghost use Rattle.model.specs.Plan.{planAt, planCount};
 ghost use Rattle.model.specs.Row.{rowOf};
-ghost use Rattle.model.specs.Refusal.{badDirections, measurable, isInfinity, goodIdeal, goodPlan};
+ghost use Rattle.model.specs.Refusal.{badDirections, measurable, isInfinity, badCount, goodIdeal, goodPlan};
 ghost use Rattle.plans.specs.Filled.{RowAt, RowsOf, ConstraintsAt, ConstraintsOf};
+ghost use Rattle.plans.specs.Fitting.{fitting, startOf, cutOf};
 
 // The words of a plan, and where its row length, values, constraint count and constraints stand among them.
 pub const PLAN_WORDS: usize = 124;
@@ -20,6 +21,9 @@ const VALUES: usize = 2;
 const CONSTRAINT_COUNT: usize = 10;
 
 const CONSTRAINTS: usize = 11;
+
+// 2^1000, the greatest magnitude of a value or a constraint.
+const LIMIT: f64 = 1.0715086071862673e301;
 
 // How many plans a slice holds: those that are there whole.
 pub fn plan_count(pool: &[u64]) -> usize
@@ -52,10 +56,7 @@ pub fn bad_directions(directions: &[u8]) -> bool
 pub fn measurable(x: f64) -> bool
     ensures { λ r. ⌜ r ≡ measurable x ⌝ }
 {
-    if -1.0715086071862673e301 <= x {
-        return x <= 1.0715086071862673e301;
-    }
-    false
+    if -LIMIT <= x { x <= LIMIT } else { false }
 }
 
 // An entry of an ideal is measurable or plus infinity.
@@ -140,6 +141,30 @@ pub fn good_plans(pool: &[u64], n: usize, m: usize) -> bool
     true
 }
 
+// Refusal 7 for a pool of n plans: there is none, or there are more than 1,024.
+pub fn bad_count(n: usize) -> bool
+    ensures { λ r. ⌜ r ≡ badCount n ⌝ }
+{
+    if n == 0 {
+        return true;
+    }
+    1024 < n
+}
+
+// Refusal 8 for a pool and its ideal.
+pub fn bad_pool(pool: &[u64], m: usize, ideal: &[f64]) -> bool
+    requires { ⌜ m ≤ 8 ⌝ }
+    ensures { λ r. ⌜ r ≡ not (allBelow (λ p. goodPlan m (planAt (now (pool .entry)) p)) (planCount (now (pool .entry))) && goodIdeal m (now (ideal .entry))) ⌝ }
+{
+    let n = plan_count(pool);
+    if good_plans(pool, n, m) {
+        if good_ideal(m, ideal) {
+            return false;
+        }
+    }
+    true
+}
+
 // Plan p's value at objective j, in minimise-space: a maximised value is negated.
 fn row_value(pool: &[u64], directions: &[u8], p: usize, j: usize) -> f64
     requires { ⌜ (p < planCount (now pool)) × (j < length (now directions)) × (j < 8) × (j < planAt (now pool) p .rowLength) ⌝ }
@@ -214,5 +239,62 @@ pub fn fill_constraints(pool: &[u64], n: usize, feasible: &mut [bool], violation
     while p < n {
         fill_plan(pool, p, feasible, violations);
         p += 1;
+    }
+}
+
+// Where the fronts part: how many plans the whole fronts that fit have, where the front that is split ends (else the same), and whether one is.
+pub struct Cut {
+    pub whole: usize,
+    pub end: usize,
+    pub split: bool,
+}
+
+// How many fronts fit whole into the size.
+fn fronts_that_fit(ends: &[usize], fronts: usize, size: usize) -> usize
+    requires { ⌜ fronts ≤ length (now ends) ⌝ }
+    ensures { λ r. ⌜ r ≡ fitting (now (ends .entry)) fronts size ⌝ }
+{
+    let mut k = 0;
+    while k < fronts {
+        if size < ends[k] {
+            return k;
+        }
+        k += 1;
+    }
+    fronts
+}
+
+// Where front k starts.
+fn front_start(ends: &[usize], k: usize) -> usize
+    requires { ⌜ k ≤ length (now ends) ⌝ }
+    ensures { λ r. ⌜ r ≡ startOf (now (ends .entry)) k ⌝ }
+{
+    if k == 0 {
+        return 0;
+    }
+    ends[k - 1]
+}
+
+// The cut for a size, from the fronts' ends.
+pub fn split_at(ends: &[usize], fronts: usize, size: usize) -> Cut
+    requires { ⌜ fronts ≤ length (now ends) ⌝ }
+    ensures { λ r. ⌜ r ≡ cutOf (now (ends .entry)) fronts size ⌝ }
+{
+    let k = fronts_that_fit(ends, fronts, size);
+    let whole = front_start(ends, k);
+    if k < fronts {
+        if whole < size {
+            let end = ends[k];
+            return Cut {
+                whole: whole,
+                end: end,
+                split: true,
+            };
+        }
+    }
+    Cut {
+        whole: whole,
+        end: whole,
+        split: false,
     }
 }

@@ -4,7 +4,7 @@ use mathlib.Core.Path.{_≡_}
 use native.Mathlib.Omega.{arith}
 use borrow.Author.Needs.{needs}
 use lib.Ieee.{nan}
-use lib.ListN.{length, getD}
+use lib.ListN.{getD}
 use Rattle.model.specs.Real.{real}
 use Rattle.list_laws.proofs.Built.{listBelow-take}
 use Rattle.plans.proofs.Constraints.{FilledTo, filled-none, filled-more}
