@@ -4,3 +4,5 @@ pub mod Counting
 pub mod Choosing
 pub mod Nearest
 pub mod Picking
+pub mod Filling
+pub mod Selecting

@@ -7,9 +7,9 @@ use mathlib.Core.List.{List, [], _∷_, _++_, map}
 use lib.Dec.{eqb, ltb}
 use lib.Ieee.{Float, nan, lt}
 use lib.ListN.{length, getD, set, take, drop}
-use Rattle.model.specs.Lists.{keepBelow, countBelow, keep, Distinct}
+use Rattle.model.specs.Lists.{keepBelow, countBelow, Distinct, over}
 use Rattle.model.specs.Draw.{Drawn, drawn}
-use Rattle.model.specs.Kept.{openLines, leastLines, drawFrom, drawMember}
+use Rattle.model.specs.Kept.{leastLines, drawFrom, drawMember, picks}
 
 -- the line of a plan, and its distance from that line
 abbrev pub lineIn : List ℕ → ℕ → ℕ
@@ -133,7 +133,7 @@ pub record Took (front lines : List ℕ) (distances : List Float) (n s : ℕ) (c
   pub marked : taken ≡ set taken₀ place true
   pub chosen : drawn r t ≡ pickAt front lines distances n counts₀ waits₀ taken₀ s
 
--- the first `start` plans of the order are kept, those from there to `end` are the split front, of which `open` are to be picked
+-- the first `start` plans of the order are kept, those from there to `end` are the split front, of which `places` are to be picked
 pub record Splits (order : List ℕ) (start end : ℕ) (lines : List ℕ) (distances : List Float) (n places : ℕ) (picked : List ℕ) : Type 0 where
   pub ahead : start ≤ end
   pub inside : end ≤ length order
@@ -143,3 +143,12 @@ pub record Splits (order : List ℕ) (start end : ℕ) (lines : List ℕ) (dista
   pub different : Distinct (take (end - start) (drop start order))
   pub enough : places ≤ end - start
   pub room : places ≤ length picked
+
+-- THE PROMISE of niching_select: the plans that document 01 picks stand at the front of the lent slice, and the generator is where those picks leave it
+abbrev pub picksOf : List ℕ → ℕ → ℕ → List ℕ → List Float → ℕ → ℕ → ℕ → Drawn (List ℕ)
+picksOf order start end lines distances n places s =
+    picks (λ p. getD lines p 0) (λ p. getD distances p nan) n (take start order) (take (end - start) (drop start order)) places s
+
+pub record NichingSelects (order : List ℕ) (start end : ℕ) (lines : List ℕ) (distances : List Float) (n places s : ℕ) (picked₀ picked : List ℕ) (t : ℕ) : Type 0 where
+  pub written : picked ≡ over (picksOf order start end lines distances n places s .value) picked₀
+  pub state : t ≡ picksOf order start end lines distances n places s .state

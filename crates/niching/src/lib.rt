@@ -8,7 +8,7 @@ ghost use Rattle.model.specs.Lists.{countBelow, keepBelow};
 ghost use Rattle.model.specs.Draw.{drawn};
 ghost use Rattle.model.specs.Kept.{nicheCount, leastLines, drawFrom, nearest, drawMember};
 ghost use Rattle.niching.specs.Niche.{lineIn, distanceIn, planAt, countOf, hasWaiting, isLeast, lesser, leastBelow, waitsOn, places, members, placeDistance, nearerOf};
-ghost use Rattle.niching.specs.Niche.{Kth, OnLines, Zeros, Open, Listed, Measured, MemberOf, Ready, Took};
+ghost use Rattle.niching.specs.Niche.{Kth, OnLines, Zeros, Open, Listed, Measured, MemberOf, Ready, Took, Splits, NichingSelects};
 use model::Rng;
 use rng_util::DrawnUsize;
 
@@ -257,4 +257,47 @@ pub fn pick(
         value: front[place],
         rng,
     }
+}
+
+// Picks `open` plans of the split front, which stands in the order from `start` to `end`; the plans before it are kept already.
+pub fn niching_select(
+    rng: Rng,
+    order: &[usize],
+    start: usize,
+    end: usize,
+    lines: &[usize],
+    distances: &[f64],
+    n_lines: usize,
+    open: usize,
+    picked: &mut [usize],
+) -> Rng
+    requires { ⌜ Splits (now order) start end (now lines) (now distances) «n_lines» «open» (now picked) ⌝ }
+    ensures { λ r. ⌜ NichingSelects (now (order .entry)) start end (now (lines .entry)) (now (distances .entry)) «n_lines» «open» (rng .s)
+        (now (picked .entry)) (now (picked .exit)) (r .s) ⌝ }
+{
+    let before = &order[..start];
+    let front = &order[start..end];
+    let mut counts: [usize; MAX_PLANS] = [0; MAX_PLANS];
+    count_lines(before, lines, &mut counts);
+    let mut waits: [usize; MAX_PLANS] = [0; MAX_PLANS];
+    count_lines(front, lines, &mut waits);
+    let mut taken: [bool; MAX_PLANS] = [false; MAX_PLANS];
+    let mut rng = rng;
+    let mut at = 0;
+    while at < open {
+        let d = pick(
+            rng,
+            front,
+            lines,
+            distances,
+            n_lines,
+            &mut counts,
+            &mut waits,
+            &mut taken,
+        );
+        picked[at] = d.value;
+        rng = d.rng;
+        at += 1;
+    }
+    rng
 }
