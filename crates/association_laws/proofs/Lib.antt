@@ -3,3 +3,8 @@ pub mod Steps
 pub mod Same
 pub mod Places
 pub mod Request
+pub mod Extremes
+pub mod Within
+pub mod Good
+pub mod Coordinates
+pub mod Distances

@@ -1,0 +1,91 @@
+-- A pool that refusal 8 lets pass is measured: its values and its ideal are doubles within 2 ^ 1000.
+use Prim.Native.Nat.{ℕ, _≤_, _<_}
+use mathlib.Core.Path.{_≡_, refl, ap, sym, _∙_}
+use mathlib.Core.Bool.{Bool, true, false, not, _&&_, _||_, true≢false}
+use mathlib.Core.List.{List}
+use native.Mathlib.Omega.{arith}
+use borrow.Author.Tests.{eqb-true}
+use lib.Dec.{T, eqb, leb}
+use lib.Ieee.{Float, nan, inf, fin, binary64, ofBits, fits, le, lt, eq, neg}
+use lib.Ieee.Fits.{neg-fits, and-l, and-r}
+use lib.ListN.{length, getD}
+use Rattle.model.specs.declared.Direction.{Direction}
+use Rattle.model.specs.declared.Direction.the-variants.{Minimize, Maximize}
+use Rattle.model.specs.Lists.{allIn, allBelow}
+use Rattle.model.specs.Plan.{Plan, maxConstraints}
+use Rattle.model.specs.Row.{directionOf, toMinimize, rowOf}
+use Rattle.model.specs.Association.{Request, objectives, valueOf}
+use Rattle.model.specs.Refusal.{measurable, isInfinity, goodPlan, goodIdeal}
+use Rattle.list_laws.proofs.Bools.{by-bool, true-T, and-left, and-right}
+use Rattle.list_laws.proofs.Tests.{allIn-each}
+use Rattle.float_laws.proofs.Rounding.{le-neg}
+use Rattle.float_laws.proofs.Constants.{exp2, minus-exp2}
+use Rattle.association_laws.proofs.Within.{Real, Start, Measured}
+
+-- ---- a value
+
+real-of : (x : Float) → T (fits binary64 x) → measurable x ≡ true → Real x
+unfolding measurable ofBits
+real-of x h e = let t = true-T (le (minus-exp2 1000) x && le x (exp2 1000)) e in record {
+  held = h;
+  low = and-l (le (minus-exp2 1000) x) (le x (exp2 1000)) t;
+  high = and-r (le (minus-exp2 1000) x) (le x (exp2 1000)) t;
+}
+
+real-neg : (x : Float) → Real x → Real (neg x)
+unfolding neg
+real-neg x h = record {
+  held = neg-fits binary64 x (h .held);
+  low = le-neg x (exp2 1000) (h .high);
+  high = le-neg (minus-exp2 1000) x (h .low);
+}
+
+real-toMinimize : (d : Direction) (x : Float) → Real x → Real (toMinimize d x)
+real-toMinimize Minimize x h = h
+real-toMinimize Maximize x h = real-neg x h
+
+-- ---- an entry of the ideal
+
+infinite-low : (x : Float) → isInfinity x ≡ true → T (le (minus-exp2 1000) x)
+unfolding eq le
+infinite-low nan e = absurd (true≢false (sym e))
+infinite-low (inf true) e = absurd (true≢false (sym e))
+infinite-low (inf false) e = tt
+infinite-low (fin s m k) e = absurd (true≢false (sym e))
+
+start-of : (x : Float) → T (fits binary64 x) → (measurable x || isInfinity x) ≡ true → Start x
+start-of x h e = by-bool (measurable x)
+    (λ v. record { held = h; low = real-of x h v .low })
+    (λ v. let i : isInfinity x ≡ true = rw v at e in record { held = h; low = infinite-low x i })
+
+-- ---- a request
+
+-- a plan that refusal 8 lets pass, with the m values that it claims, each a double
+pub record Fit (m : ℕ) (plan : Plan) : Type 0 where
+  pub good : goodPlan m plan ≡ true
+  pub whole : length (plan .row) ≡ m
+  pub held : (j : ℕ) → j < m → T (fits binary64 (getD (plan .row) j nan))
+
+pub fit-value : (marks : List ℕ) (m : ℕ) (plan : Plan) → Fit m plan → (j : ℕ) → j < m → Real (rowOf marks plan j)
+unfolding rowOf goodPlan
+fit-value marks m plan h j l =
+    let rest = and-right (eqb (plan .rowLength) m) (leb (plan .constraintCount) maxConstraints && (allIn measurable (plan .row) && allIn measurable (plan .constraints))) (h .good) in
+    let lists = and-right (leb (plan .constraintCount) maxConstraints) (allIn measurable (plan .row) && allIn measurable (plan .constraints)) rest in
+    let row = and-left (allIn measurable (plan .row)) (allIn measurable (plan .constraints)) lists in
+    real-toMinimize (directionOf (getD marks j 0)) (getD (plan .row) j nan)
+    (real-of (getD (plan .row) j nan) (h .held j l) (allIn-each measurable nan (plan .row) row j (omega (arith, h .whole))))
+
+pub good-start : (m : ℕ) (ideal : List Float) → goodIdeal m ideal ≡ true → ((j : ℕ) → j < m → T (fits binary64 (getD ideal j nan)))
+    → (j : ℕ) → j < m → Start (getD ideal j nan)
+unfolding goodIdeal
+good-start m ideal e h j l =
+    let n = eqb-true (length ideal) m (and-left (eqb (length ideal) m) (allIn (λ x. measurable x || isInfinity x) ideal) e) in
+    let all = and-right (eqb (length ideal) m) (allIn (λ x. measurable x || isInfinity x) ideal) e in
+    start-of (getD ideal j nan) (h j l) (allIn-each (λ x. measurable x || isInfinity x) nan ideal all j (omega arith))
+
+pub measured : (r : Request) → ((p : ℕ) → p < r .count → Fit (objectives r) (r .plans p)) → goodIdeal (objectives r) (r .ideal) ≡ true
+    → ((j : ℕ) → j < objectives r → T (fits binary64 (getD (r .ideal) j nan))) → Measured r
+measured r plans ideal held = record {
+  values = λ p j h k. fit-value (r .marks) (objectives r) (r .plans p) (plans p h) j k;
+  start = good-start (objectives r) (r .ideal) ideal held;
+}
