@@ -1,9 +1,8 @@
 -- A pool whose plans pass refusal 8: what reading it asks holds, its flat lists give the model's domination, and their sort the model's fronts.
-use Prim.Native.Nat.{ℕ, zero, suc, _*_, _/_, _%_, _≤_, _<_}
-use mathlib.Core.Path.{_≡_, refl, ap, sym, _∙_}
+use Prim.Native.Nat.{ℕ, _≤_, _<_}
+use mathlib.Core.Path.{_≡_, ap, _∙_}
 use mathlib.Core.Bool.{Bool, true, false}
 use mathlib.Core.List.{List}
-use native.Mathlib.Nat.{div-add-mod', mod-lt, div-lt-iff-lt-mul, mul-zero}
 use native.Mathlib.Omega.{arith}
 use borrow.Author.Tests.{eqb-true, leb-true}
 use lib.Dec.{eqb, leb}
@@ -20,10 +19,10 @@ use Rattle.list_laws.proofs.Tests.{allBelow-each}
 use Rattle.front_laws.specs.Strict.{Strict}
 use Rattle.front_laws.proofs.Same.{Agree}
 use Rattle.front_laws.proofs.Theorems.{listing-length-n}
-use Rattle.pareto.specs.Flat.{flatBeats, NoNan}
+use Rattle.pareto.specs.Flat.{flatBeats, Known, KnownRows, FlatOf}
 use Rattle.pareto.specs.Post.{Sorted}
-use Rattle.pareto.proofs.Domination.{Known}
-use Rattle.pareto.proofs.Plans.{words-accepted, accepted-known, FlatOf, flatBeats-beats}
+use Rattle.pareto.proofs.Flat.{flatBeats-beats}
+use Rattle.pareto.proofs.Plans.{words-accepted, accepted-known}
 use Rattle.pareto.proofs.Sorting.{sorted-same}
 use Rattle.plans.specs.Filled.{RowsOf, ConstraintsOf}
 
@@ -63,18 +62,8 @@ module _ (pool marks : List ℕ) (n : ℕ) (good : allBelow (λ p. goodPlan (len
 
 module _ (marks : List ℕ) (plans : ℕ → Plan) (n : ℕ) (rows₀ rows : List Float) (filled : RowsOf marks plans n rows₀ rows) where
   -- where no plan's value is a NaN, no entry is
-  pub rows-no-nan : ((p : ℕ) → p < n → Known (length marks) (rowOf marks (plans p))) → NoNan rows (n * length marks)
-  rows-no-nan known i l = go (length marks) refl
-    where
-      go : (m : ℕ) → length marks ≡ m → isNan (getD rows i nan) ≡ false
-      go zero e = absurd (omega (arith, mul-zero n, ap (λ t. n * t) e))
-      go (suc k) e =
-          let some : 0 < length marks = omega arith in
-          let p = i / length marks in
-          let j = i % length marks in
-          let lp : p < n = div-lt-iff-lt-mul {x = i} some .1 l in
-          let lj : j < length marks = mod-lt i some in
-          ap (λ t. isNan (getD rows t nan)) (sym (div-add-mod' i (length marks))) ∙ ap isNan (filled .values p j lp lj) ∙ known p lp j lj
+  pub rows-known : ((p : ℕ) → p < n → Known (length marks) (rowOf marks (plans p))) → KnownRows rows (length marks) n
+  rows-known known p l j u = ap isNan (filled .values p j l u) ∙ known p l j u
 
   module _ (flags₀ flags : List Bool) (sums₀ sums : List Float) (constraints : ConstraintsOf plans n flags₀ flags sums₀ sums) where
     pub flat-of : FlatOf marks plans n rows flags sums

@@ -14,7 +14,7 @@ use Rattle.model.specs.Plan.{Plan, maxValues, planOf}
 use Rattle.model.specs.Real.{real}
 use Rattle.model.specs.Row.{directionOf, toMinimize, rowOf}
 use Rattle.list_laws.proofs.Built.{listBelow-at}
-use Rattle.pareto.proofs.Plans.{row-lt}
+use Rattle.pareto.proofs.Flat.{row-lt}
 use Rattle.plans.specs.Filled.{RowAt, RowsOf}
 
 -- ---- a value

@@ -4,7 +4,7 @@ use mathlib.Core.Path.{_≡_, refl, _∙_}
 use native.Mathlib.Omega.{arith}
 use lib.ListN.{length}
 use Rattle.model.specs.Plan.{planAt}
-use Rattle.pareto.proofs.Plans.{row-end}
+use Rattle.pareto.proofs.Flat.{row-end}
 use Rattle.plans.proofs.Rows.{RowsTo, rows-none, rows-more, rows-done}
 use Rattle.plans.proofs.fill_rows.Statement.{statement}
 use Rattle.plans.proofs.fill_rows.Tie as tie
