@@ -7,8 +7,9 @@ ghost use lib.ListN.{length, getD};
 ghost use lib.Seq.{sets};
 ghost use Rattle.model.specs.Lists.{listBelow, over};
 ghost use Rattle.model.specs.Real.{_⊖_};
-ghost use Rattle.model.specs.Association.{leastFrom, greatest, interceptFrom, dot, offSquares, distance, nearestOf};
+ghost use Rattle.model.specs.Association.{leastFrom, greatest, interceptFrom, dot, offSquares, distance, nearestOf, Request, lineCount};
 ghost use Rattle.association_laws.specs.Flat.{column, from, flatRows, leastAt, interceptAt, normalAt, distanceAt, nearestAt};
+ghost use Rattle.association_laws.specs.Request.{Pool, StartIn, LinesIn, Associates};
 
 // ---- the scale
 
@@ -223,4 +224,36 @@ pub fn associate_to_reference_points(
         distances[p] = near.distance;
         p += 1;
     }
+}
+
+// ---- all of it
+
+// The most objectives, and the most values of a pool.
+const MAX_OBJECTIVES: usize = 8;
+
+const MAX_VALUES: usize = 8192;
+
+// Moves the ideal, normalises the rows, and gives each plan its line and its distance from it.
+pub fn associate(
+    rows: &[f64],
+    n: usize,
+    m: usize,
+    table: &[f64],
+    n_lines: usize,
+    ideal: &mut [f64],
+    lines: &mut [usize],
+    distances: &mut [f64],
+)
+    requires { ⌜ (m ≤ 8) × (n * m ≤ 8192) × (n * m ≤ length (now rows)) × («n_lines» * m ≤ length (now table)) × (m ≤ length (now ideal))
+        × (n ≤ length (now lines)) × (n ≤ length (now distances)) ⌝ }
+    ensures { λ _. ⌜ ((r : Request) → Pool r (now (rows .entry)) n m → StartIn r (now (ideal .entry)) m → LinesIn r (now (table .entry)) «n_lines» m
+        → «n_lines» ≡ lineCount r → Associates r n m (now (ideal .entry)) (now (ideal .exit)) (now (lines .entry)) (now (lines .exit))
+        (now (distances .entry)) (now (distances .exit))) ⌝ }
+{
+    let mut intercepts = [1.0; MAX_OBJECTIVES];
+    let mut normalized = [0.0; MAX_VALUES];
+    update_ideal_point(rows, n, m, ideal);
+    find_intercepts(rows, n, m, ideal, &mut intercepts);
+    normalize_objectives(rows, n, m, ideal, &intercepts, &mut normalized);
+    associate_to_reference_points(&normalized, n, m, table, n_lines, lines, distances);
 }

@@ -1,6 +1,6 @@
 -- The coordinates of a line of the reference table lie within 0..1, and one of them is 1/8 or more. Assumes nothing.
 use Prim.Native.Nat.{ℕ, zero, suc, _+_, _-_, _*_, _/_, _^_, _≤_, _<_}
-use mathlib.Core.Path.{_≡_, refl, ap, ap₂, sym, subst, _∙_}
+use mathlib.Core.Path.{_≡_, refl, ap, sym, subst, _∙_}
 use mathlib.Core.Bool.{true, false, true≢false}
 use mathlib.Core.List.{List, [], _∷_, map, List·Memᴰ, List·Memᴰ·head, List·Memᴰ·tail}
 use native.Mathlib.Nat.{not-suc-le-zero, le-trans, mul-le-mul-right, mul-pos, mul-assoc, mul-comm, mul-right-comm, zero-mul, zero-add, suc-mul}
@@ -13,8 +13,9 @@ use lib.Ieee.{Float, nan, inf, fin, binary64, ofInt, round, div, le, lt, up, dow
 use lib.Ieee.Back.{round-whole}
 use lib.Ieee.Exact.{HasValue}
 use lib.Ieee.Fits.{ofInt-fits, div-fits}
-use lib.ListN.{length, getD, length-map, List·getD-map}
-use Rattle.model.specs.Reference.{ratio, lattice, dasDennis, pointCount}
+use lib.ListN.{length, getD, length-append, length-map, List·getD-map}
+use Rattle.model.specs.Lists.{joinBelow}
+use Rattle.model.specs.Reference.{ratio, tuples, lattice, dasDennis, pointCount}
 use Rattle.model.specs.Papers.DasDennis1998.{total, IsPoint}
 use Rattle.list_laws.proofs.Bools.{by-bool}
 use Rattle.das_dennis.proofs.Count.{lattice-count}
@@ -127,6 +128,18 @@ large (x ∷ t) q h = by-bool (ltb q x)
 
 eighth-of : (m h q : ℕ) → m ≤ 8 → 8 * q < h → m * q < h
 eighth-of m h q l g = omega (arith, mul-le-mul-right q l)
+
+-- there is a line
+tuples-some : (d r : ℕ) → 1 ≤ length (tuples d r)
+unfolding tuples joinBelow
+tuples-some zero r = omega arith
+tuples-some (suc d) r =
+    let here = map (λ t. r ∷ t) (tuples d (r - r)) in
+    let before = joinBelow (λ i. map (λ t. i ∷ t) (tuples d (r - i))) r in
+    omega (arith, length-append before here, length-map (tuples d (r - r)) (λ t. r ∷ t), tuples-some d (r - r))
+
+pub lines-some : (m h : ℕ) → 1 ≤ m → 0 < pointCount m h
+lines-some m h w = omega (arith, lattice-count m h w, tuples-some (m - 1) h)
 
 module _ (m h : ℕ) (wide : 1 ≤ m) (narrow : m ≤ 8) (some : 1 ≤ h) (few : h ≤ 199) (l : ℕ) (inside : l < pointCount m h) where
   abbrev point : List ℕ

@@ -1,23 +1,26 @@
 -- A pool that refusal 8 lets pass is measured: its values and its ideal are doubles within 2 ^ 1000.
-use Prim.Native.Nat.{ℕ, _≤_, _<_}
-use mathlib.Core.Path.{_≡_, refl, ap, sym, _∙_}
+use Prim.Native.Nat.{ℕ, _+_, _≤_, _<_, min}
+use mathlib.Core.Path.{_≡_, refl, ap, sym, subst, _∙_}
 use mathlib.Core.Bool.{Bool, true, false, not, _&&_, _||_, true≢false}
 use mathlib.Core.List.{List}
 use native.Mathlib.Omega.{arith}
 use borrow.Author.Tests.{eqb-true}
 use lib.Dec.{T, eqb, leb}
 use lib.Ieee.{Float, nan, inf, fin, binary64, ofBits, fits, le, lt, eq, neg}
+use lib.Ieee.Bits.{ofBits-fits}
 use lib.Ieee.Fits.{neg-fits, and-l, and-r}
 use lib.ListN.{length, getD}
 use Rattle.model.specs.declared.Direction.{Direction}
 use Rattle.model.specs.declared.Direction.the-variants.{Minimize, Maximize}
 use Rattle.model.specs.Lists.{allIn, allBelow}
-use Rattle.model.specs.Plan.{Plan, maxConstraints}
+use Rattle.model.specs.Plan.{Plan, maxValues, maxConstraints, planOf}
+use Rattle.model.specs.Real.{real}
 use Rattle.model.specs.Row.{directionOf, toMinimize, rowOf}
 use Rattle.model.specs.Association.{Request, objectives, valueOf}
-use Rattle.model.specs.Refusal.{measurable, isInfinity, goodPlan, goodIdeal}
+use Rattle.model.specs.Refusal.{measurable, isInfinity, goodPlan, goodIdeal, badPool}
 use Rattle.list_laws.proofs.Bools.{by-bool, true-T, and-left, and-right}
-use Rattle.list_laws.proofs.Tests.{allIn-each}
+use Rattle.list_laws.proofs.Built.{listBelow-length, listBelow-at}
+use Rattle.list_laws.proofs.Tests.{allIn-each, allBelow-each}
 use Rattle.float_laws.proofs.Rounding.{le-neg}
 use Rattle.float_laws.proofs.Constants.{exp2, minus-exp2}
 use Rattle.association_laws.proofs.Within.{Real, Start, Measured}
@@ -66,6 +69,18 @@ pub record Fit (m : ℕ) (plan : Plan) : Type 0 where
   pub whole : length (plan .row) ≡ m
   pub held : (j : ℕ) → j < m → T (fits binary64 (getD (plan .row) j nan))
 
+-- so has every plan of a slice of words
+pub words-fit : (m : ℕ) (word : ℕ → ℕ) → m ≤ maxValues → goodPlan m (planOf word) ≡ true → Fit m (planOf word)
+unfolding planOf goodPlan
+words-fit m word h e =
+    let n = eqb-true (word 1) m (and-left (eqb (word 1) m) _ e) in
+    let k : min (word 1) maxValues ≡ m = omega arith in
+    record {
+      good = e;
+      whole = listBelow-length (λ j. real (word (2 + j))) (min (word 1) maxValues) ∙ k;
+      held = λ j l. rw (listBelow-at (λ j. real (word (2 + j))) (min (word 1) maxValues) nan j (omega arith)) (ofBits-fits binary64 (word (2 + j)));
+    }
+
 pub fit-value : (marks : List ℕ) (m : ℕ) (plan : Plan) → Fit m plan → (j : ℕ) → j < m → Real (rowOf marks plan j)
 unfolding rowOf goodPlan
 fit-value marks m plan h j l =
@@ -89,3 +104,20 @@ measured r plans ideal held = record {
   values = λ p j h k. fit-value (r .marks) (objectives r) (r .plans p) (plans p h) j k;
   start = good-start (objectives r) (r .ideal) ideal held;
 }
+
+-- a pool of words that refusal 8 lets pass
+pub measured-words : (r : Request) (word : ℕ → ℕ → ℕ) → ((p : ℕ) → r .plans p ≡ planOf (word p)) → objectives r ≤ maxValues → badPool r ≡ false
+    → ((j : ℕ) → j < objectives r → T (fits binary64 (getD (r .ideal) j nan))) → Measured r
+unfolding badPool
+measured-words r word same few good held =
+    let m = objectives r in
+    let all = allBelow (λ p. goodPlan m (r .plans p)) (r .count) in
+    let e : (all && goodIdeal m (r .ideal)) ≡ true = not-false (all && goodIdeal m (r .ideal)) good in
+    measured r
+    (λ p h. subst (Fit m) (sym (same p)) (words-fit m (word p) few
+    (ap (goodPlan m) (sym (same p)) ∙ allBelow-each (λ p. goodPlan m (r .plans p)) (r .count) (and-left all (goodIdeal m (r .ideal)) e) p h)))
+    (and-right all (goodIdeal m (r .ideal)) e) held
+  where
+    not-false : (b : Bool) → not b ≡ false → b ≡ true
+    not-false true e = refl
+    not-false false e = absurd (true≢false e)

@@ -8,3 +8,4 @@ pub mod Within
 pub mod Good
 pub mod Coordinates
 pub mod Distances
+pub mod Finite

@@ -11,31 +11,13 @@ use Rattle.model.specs.Reference.{dasDennis, pointCount}
 use Rattle.model.specs.Association.{Request, objectives, lineCount, valueOf, idealOf, interceptOf, normalised, coordinate, distanceTo, distance, association, lineOf, leastFrom, greatest, interceptFrom, Near, nearestOf}
 use Rattle.list_laws.proofs.Built.{listBelow-same, listBelow-length, over-take}
 use Rattle.association_laws.specs.Flat.{column, from, flatRows, leastAt, interceptAt, normalAt, distanceAt, nearestAt}
+use Rattle.association_laws.specs.Request.{Pool, StartIn, IdealIn, InterceptsIn, NormalisedIn, LinesIn, Associates}
 use Rattle.association_laws.proofs.Same.{least-same, greatest-same, distance-same, nearest-same}
 use Rattle.association_laws.proofs.Places.{over-below, over-rows, over-lines}
 
--- the request's pool in flat rows: n plans, m objectives
-pub record Pool (r : Request) (rows : List Float) (n m : ℕ) : Type 0 where
-  pub count : n ≡ r .count
-  pub width : m ≡ objectives r
-  pub values : (p j : ℕ) → p < n → j < m → getD rows (p * m + j) nan ≡ valueOf r p j
-
--- lists that hold what is said of each objective, plan or line
-abbrev pub IdealIn : Request → List Float → ℕ → Type 0
-IdealIn r ideal m = (j : ℕ) → j < m → getD ideal j nan ≡ idealOf r j
-
-abbrev pub InterceptsIn : Request → List Float → ℕ → Type 0
-InterceptsIn r intercepts m = (j : ℕ) → j < m → getD intercepts j nan ≡ interceptOf r j
-
-abbrev pub NormalisedIn : Request → List Float → ℕ → ℕ → Type 0
-NormalisedIn r normalized n m = (p j : ℕ) → p < n → j < m → getD normalized (p * m + j) nan ≡ normalised r p j
-
-abbrev pub LinesIn : Request → List Float → ℕ → ℕ → Type 0
-LinesIn r table k m = (l j : ℕ) → l < k → j < m → getD table (l * m + j) nan ≡ coordinate r l j
-
 module _ (r : Request) (rows : List Float) (n m : ℕ) (P : Pool r rows n m) where
   -- ---- what `update_ideal_point` leaves, from the request's ideal
-  module _ (old : List Float) (start : (j : ℕ) → j < m → getD old j nan ≡ getD (r .ideal) j nan) where
+  module _ (old : List Float) (start : StartIn r old m) where
     least-is : (j : ℕ) → j < m → leastAt rows n m old j ≡ idealOf r j
     unfolding idealOf
     least-is j h =
@@ -93,15 +75,47 @@ module _ (r : Request) (rows : List Float) (n m : ℕ) (P : Pool r rows n m) whe
         ∙ ap (nearestOf (distanceTo r p)) c
 
     module _ (lines old : List ℕ) (e : lines ≡ over (listBelow (λ p. nearestAt normalized m table k p .line) n) old) where
+      pub lines-all : lines ≡ over (listBelow (lineOf r) n) old
+      lines-all = e ∙ ap (λ t. over t old) (listBelow-same _ _ n (λ p h. ap (λ x. x .line) (nearest-is p h)))
+
       pub line-at : (p : ℕ) → p < n → getD lines p 0 ≡ lineOf r p
-      line-at p h = over-below (λ p. nearestAt normalized m table k p .line) n lines old p 0 e h ∙ ap (λ x. x .line) (nearest-is p h)
+      line-at p h = over-below (lineOf r) n lines old p 0 lines-all h
 
       pub lines-take : take n lines ≡ listBelow (lineOf r) n
-      lines-take =
-          ap (take n) e ∙ over-take (listBelow (λ p. nearestAt normalized m table k p .line) n) old n (listBelow-length (λ p. nearestAt normalized m table k p .line) n)
-          ∙ listBelow-same _ _ n (λ p h. ap (λ x. x .line) (nearest-is p h))
+      lines-take = ap (take n) lines-all ∙ over-take (listBelow (lineOf r) n) old n (listBelow-length (lineOf r) n)
 
-    pub distance-at : (distances old : List Float) → distances ≡ over (listBelow (λ p. nearestAt normalized m table k p .distance) n) old
-        → (p : ℕ) → p < n → getD distances p nan ≡ association r p .distance
-    distance-at distances old e p h =
-        over-below (λ p. nearestAt normalized m table k p .distance) n distances old p nan e h ∙ ap (λ x. x .distance) (nearest-is p h)
+    module _ (distances old : List Float) (e : distances ≡ over (listBelow (λ p. nearestAt normalized m table k p .distance) n) old) where
+      pub distances-all : distances ≡ over (listBelow (λ p. association r p .distance) n) old
+      distances-all = e ∙ ap (λ t. over t old) (listBelow-same _ _ n (λ p h. ap (λ x. x .distance) (nearest-is p h)))
+
+      pub distance-at : (p : ℕ) → p < n → getD distances p nan ≡ association r p .distance
+      distance-at p h = over-below (λ p. association r p .distance) n distances old p nan distances-all h
+
+-- ---- what `associate` leaves
+module _ (r : Request) (n m : ℕ) (ideal₀ ideal : List Float) (lines₀ lines : List ℕ) (distances₀ distances : List Float)
+    (A : Associates r n m ideal₀ ideal lines₀ lines distances₀ distances) where
+  pub associated-ideal : take m ideal ≡ listBelow (idealOf r) m
+  associated-ideal = ap (take m) (A .moved) ∙ over-take (listBelow (idealOf r) m) ideal₀ m (listBelow-length (idealOf r) m)
+
+  pub associated-lines : take n lines ≡ listBelow (lineOf r) n
+  associated-lines = ap (take n) (A .nearest) ∙ over-take (listBelow (lineOf r) n) lines₀ n (listBelow-length (lineOf r) n)
+
+  pub associated-distance : (p : ℕ) → p < n → getD distances p nan ≡ association r p .distance
+  associated-distance p h = over-below (λ p. association r p .distance) n distances distances₀ p nan (A .distance) h
+
+-- the four steps one after the other
+module _ (r : Request) (rows : List Float) (n m : ℕ) (P : Pool r rows n m) (table : List Float) (k : ℕ) (T : LinesIn r table k m) (c : k ≡ lineCount r)
+    (ideal₀ ideal : List Float) (start : StartIn r ideal₀ m) (e₁ : ideal ≡ over (listBelow (leastAt rows n m ideal₀) m) ideal₀)
+    (intercepts₀ intercepts : List Float) (e₂ : intercepts ≡ over (listBelow (interceptAt rows n m ideal) m) intercepts₀)
+    (normalized₀ normalized : List Float) (e₃ : normalized ≡ over (flatRows (normalAt rows m ideal intercepts) n m) normalized₀)
+    (lines₀ lines : List ℕ) (e₄ : lines ≡ over (listBelow (λ p. nearestAt normalized m table k p .line) n) lines₀)
+    (distances₀ distances : List Float) (e₅ : distances ≡ over (listBelow (λ p. nearestAt normalized m table k p .distance) n) distances₀) where
+  pub all-steps : Associates r n m ideal₀ ideal lines₀ lines distances₀ distances
+  all-steps =
+      let z = ideal-at r rows n m P ideal₀ start ideal e₁ in
+      let a = normalised-at r rows n m P ideal z intercepts (intercepts-at r rows n m P ideal z intercepts intercepts₀ e₂) normalized normalized₀ e₃ in
+      record {
+        moved = ideal-all r rows n m P ideal₀ start ideal e₁;
+        nearest = lines-all r rows n m P normalized a table k T c lines lines₀ e₄;
+        distance = distances-all r rows n m P normalized a table k T c distances distances₀ e₅;
+      }

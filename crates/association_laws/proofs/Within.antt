@@ -94,9 +94,9 @@ module _ (b : Float) (f : ℕ → Float) (n : ℕ) (B : Start b) (F : (t : ℕ) 
   pub normal-unit : Upto 0 ((f p ⊖ least) ⊘ interceptFrom (most ⊖ least))
   normal-unit =
       let w = by-bool {C = T (le constants.nought ((f p ⊖ least) ⊘ interceptFrom (most ⊖ least))) × T (le ((f p ⊖ least) ⊘ interceptFrom (most ⊖ least)) constants.one)}
-          (lt smallSpan (most ⊖ least))
-          (λ e. rw e (wide (true-T (lt smallSpan (most ⊖ least)) e)))
-          (λ e. rw e (narrow (false-T (lt smallSpan (most ⊖ least)) e))) in
+      (lt smallSpan (most ⊖ least))
+      (λ e. rw e (wide (true-T (lt smallSpan (most ⊖ least)) e)))
+      (λ e. rw e (narrow (false-T (lt smallSpan (most ⊖ least)) e))) in
       record {
         number = record {
           held = div-fits binary64 (f p ⊖ least) (interceptFrom (most ⊖ least));
