@@ -8,16 +8,21 @@ ghost use lib.Ieee.{Float};
 ghost use lib.ListN.{length};
 ghost use Rattle.model.specs.Lists.{allBelow};
 ghost use Rattle.model.specs.Plan.{planAt, planCount};
+ghost use Rattle.model.specs.Kept.{isSplit, selectedSplit};
 ghost use Rattle.model.specs.Calls.{wordRequest};
 ghost use Rattle.model.specs.Refusal.{goodPlan, selectRefusal};
 ghost use Rattle.model.specs.declared.Rng.{Rng};
 ghost use Rattle.nsga3.specs.Checked.{checked};
-ghost use Rattle.nsga3.specs.Laid.{RowsIn, Sorts};
+ghost use Rattle.nsga3_laws.specs.Admitted.{Admitted};
+ghost use Rattle.nsga3.specs.Laid.{RowsIn, OrderIn, Sorts, Hands};
 use model::Rng;
 use plans::Cut;
 
 // The most plans of a pool, and the most lines.
 const MAX_PLANS: usize = 1024;
+
+// The most values of a pool's rows, and of a table of lines.
+const MAX_VALUES: usize = 8192;
 
 // Whether a call goes through, or the number of the refusal that it meets.
 pub enum Check {
@@ -108,4 +113,48 @@ fn sort_pool(
         &mut ends,
     );
     plans::split_at(&ends, count, size)
+}
+
+// The kept list where a front is split: the whole fronts, then plans that niching picks from the split one. The ideal moves, and every plan gets a line.
+fn select_split(
+    pool: &[u64],
+    directions: &[u8],
+    divisions: usize,
+    size: usize,
+    rng: Rng,
+    rows: &[f64],
+    order: &[usize],
+    cut: Cut,
+    ideal: &mut [f64],
+    kept: &mut [usize],
+    lines: &mut [usize],
+) -> Rng
+    requires { ⌜ Admitted (wordRequest (now pool) (now directions) divisions size rng (now ideal))
+        (record { kept = length (now kept); fronts = planCount (now pool); lines = length (now lines) }) ⌝ }
+    requires { ⌜ RowsIn (wordRequest (now pool) (now directions) divisions size rng (now ideal)) (now rows)
+        × OrderIn (wordRequest (now pool) (now directions) divisions size rng (now ideal)) (now order) cut
+        × (isSplit (wordRequest (now pool) (now directions) divisions size rng (now ideal)) ≡ true) ⌝ }
+    ensures { λ r. ⌜ Hands (selectedSplit (wordRequest (now (pool .entry)) (now (directions .entry)) divisions size rng (now (ideal .entry))))
+        (now (ideal .exit)) (now (kept .entry)) (now (kept .exit)) (now (lines .entry)) (now (lines .exit)) (r .s) ⌝ }
+{
+    let n = plans::plan_count(pool);
+    let m = directions.len();
+    let whole = cut.whole;
+    let end = cut.end;
+    let mut table: [f64; MAX_VALUES] = [0.0; MAX_VALUES];
+    let n_lines = das_dennis::das_dennis(m, divisions, &mut table);
+    let mut distances: [f64; MAX_PLANS] = [0.0; MAX_PLANS];
+    association::associate(rows, n, m, &table, n_lines, ideal, lines, &mut distances);
+    nsga3_parts::copy_first(order, whole, kept);
+    niching::niching_select(
+        rng,
+        order,
+        whole,
+        end,
+        lines,
+        &distances,
+        n_lines,
+        size - whole,
+        &mut kept[whole..],
+    )
 }
