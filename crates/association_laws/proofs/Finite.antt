@@ -15,7 +15,8 @@ use Rattle.float_laws.proofs.Order.{le-trans, le-not-nan, lt→nle, lt→le, le
 use Rattle.float_laws.proofs.Constants.{nought, exp2}
 use Rattle.float_laws.proofs.Arithmetic.{mul-mono}
 use Rattle.real.proofs.Roots.Monotone.{sqrt-mono, sqrt-from-zero}
-use Rattle.niching_laws.proofs.Association.{lineOf-inside, association-distance, association-first}
+use Rattle.niching_laws.proofs.Association.{lineOf-inside}
+use Rattle.niching_laws.proofs.Association as association-laws
 use Rattle.association_laws.proofs.Search.{distance-long}
 use Rattle.association_laws.proofs.Within.{Upto, Measured, normalised-unit}
 use Rattle.association_laws.proofs.Coordinates.{eighth, lines-some, coordinate-unit, coordinate-large}
@@ -108,10 +109,10 @@ module _ (r : Request) (M : Measured r) (wide : 1 ≤ objectives r) (narrow : ob
   inside = lineOf-inside r p lines
 
   pub association-own : association r p .distance ≡ distanceTo r p (lineOf r p)
-  association-own = association-distance r p lines (distanceTo-number (lineOf r p) inside .0)
+  association-own = association-laws.association-nearest r p lines .distance (distanceTo-number (lineOf r p) inside .0)
 
   pub association-number : (isNan (association r p .distance) ≡ false) × (lt (association r p .distance) infinity ≡ true)
   association-number = rw association-own (distanceTo-number (lineOf r p) inside)
 
   pub association-nearest : (l : ℕ) → l < lineOf r p → lt (distanceTo r p (lineOf r p)) (distanceTo r p l) ≡ true
-  association-nearest l k = association-first r p l k (distanceTo-number l (let i = inside in omega arith) .0)
+  association-nearest l k = association-laws.association-nearest r p lines .first l k (distanceTo-number l (let i = inside in omega arith) .0)

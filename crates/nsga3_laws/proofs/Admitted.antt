@@ -1,0 +1,109 @@
+-- Where no refusal is given, each limit is kept.
+use Prim.Native.Nat.{ℕ, zero, suc, _≤_, _<_}
+use mathlib.Core.Path.{_≡_, refl, ap, sym, _∙_}
+use mathlib.Core.Bool.{Bool, true, false, not, _&&_, _||_, true≢false}
+use mathlib.Core.List.{List·Memᴰ·head, List·Memᴰ·tail}
+use mathlib.Core.Option.{none}
+use native.Mathlib.Omega.{arith}
+use borrow.Author.Tests.{leb-true, ltb-false, eqb-true, eqb-false}
+use lib.Dec.{eqb, leb, ltb}
+use lib.ListN.{length}
+use Rattle.model.specs.Lists.{allBelow, allIn}
+use Rattle.model.specs.Association.{Request, objectives, lineCount}
+use Rattle.model.specs.Refusal.{Room, badDirections, badSize, outsideDivisions, badDivisions, badCount, badPool, noRoom, goodPlan, goodIdeal, maxSize, maxLines, selectRefusal}
+use Rattle.list_laws.proofs.Bools.{and-left, and-right}
+use Rattle.demand3_laws.proofs.Accepted.{some-objectives}
+use Rattle.demand3_laws.proofs.Calls.{applies-not}
+use Rattle.association_laws.proofs.Coordinates.{lines-some}
+use Rattle.nsga3_laws.specs.Admitted.{Admitted}
+
+or-left : (a b : Bool) → (a || b) ≡ false → a ≡ false
+or-left true b e = e
+or-left false b e = refl
+
+or-right : (a b : Bool) → (a || b) ≡ false → b ≡ false
+or-right true b e = absurd (true≢false e)
+or-right false b e = e
+
+not-false : (a : Bool) → not a ≡ false → a ≡ true
+not-false true e = refl
+not-false false e = absurd (true≢false e)
+
+module _ (r : Request) (room : Room) (e : selectRefusal r room ≡ none) where
+  directions : badDirections (r .marks) ≡ false
+  unfolding selectRefusal
+  directions = applies-not (List·Memᴰ·head refl) e
+
+  size : badSize (r .size) ≡ false
+  unfolding selectRefusal
+  size = applies-not (List·Memᴰ·tail (List·Memᴰ·head refl)) e
+
+  divisions : badDivisions (objectives r) (r .divisions) ≡ false
+  unfolding selectRefusal
+  divisions = applies-not (List·Memᴰ·tail (List·Memᴰ·tail (List·Memᴰ·head refl))) e
+
+  count : badCount (r .count) ≡ false
+  unfolding selectRefusal
+  count = applies-not (List·Memᴰ·tail (List·Memᴰ·tail (List·Memᴰ·tail (List·Memᴰ·head refl)))) e
+
+  pool : badPool r ≡ false
+  unfolding selectRefusal
+  pool = applies-not (List·Memᴰ·tail (List·Memᴰ·tail (List·Memᴰ·tail (List·Memᴰ·tail (List·Memᴰ·head refl))))) e
+
+  slices : noRoom r room ≡ false
+  unfolding selectRefusal
+  slices = applies-not (List·Memᴰ·tail (List·Memᴰ·tail (List·Memᴰ·tail (List·Memᴰ·tail (List·Memᴰ·tail (List·Memᴰ·head refl)))))) e
+
+  some-divisions : (1 ≤ r .divisions) × (r .divisions ≤ 199)
+  unfolding badDivisions
+  some-divisions =
+      let h = not-false _ (or-left _ _ divisions) in
+      (leb-true 1 (r .divisions) (and-left _ _ h), leb-true (r .divisions) 199 (and-right (leb 1 (r .divisions)) _ h))
+
+  few-lines : lineCount r ≤ 1024
+  unfolding badDivisions
+  few-lines = ltb-false maxLines (lineCount r) (or-right (outsideDivisions (r .divisions)) _ divisions)
+
+  some-plans : 0 < r .count
+  some-plans = go (r .count) (or-left (eqb (r .count) 0) (ltb maxSize (r .count)) count)
+    where
+      go : (n : ℕ) → eqb n 0 ≡ false → 0 < n
+      go zero h = absurd (true≢false h)
+      go (suc n) h = omega arith
+
+  accepted : (allBelow (λ p. goodPlan (objectives r) (r .plans p)) (r .count) && goodIdeal (objectives r) (r .ideal)) ≡ true
+  unfolding badPool
+  accepted = not-false _ pool
+
+  ideal-length : length (r .ideal) ≡ objectives r
+  unfolding goodIdeal
+  ideal-length =
+      eqb-true (length (r .ideal)) (objectives r)
+      (and-left (eqb (length (r .ideal)) (objectives r)) _ (and-right (allBelow (λ p. goodPlan (objectives r) (r .plans p)) (r .count)) _ accepted))
+
+  room-each : (r .size ≤ room .kept) × (r .count ≤ room .fronts) × (r .count ≤ room .lines)
+  unfolding noRoom
+  room-each =
+      let rest = or-right (ltb (room .kept) (r .size)) _ slices in (
+        ltb-false (room .kept) (r .size) (or-left _ _ slices),
+        ltb-false (room .fronts) (r .count) (or-left _ _ rest),
+        ltb-false (room .lines) (r .count) (or-right (ltb (room .fronts) (r .count)) _ rest),
+      )
+
+  pub admitted : Admitted r room
+  admitted = record {
+    wide = some-objectives (r .marks) directions .0;
+    narrow = some-objectives (r .marks) directions .1;
+    divided = some-divisions .0;
+    coarse = some-divisions .1;
+    someLines = lines-some (objectives r) (r .divisions) (some-objectives (r .marks) directions .0);
+    fewLines = few-lines;
+    somePlans = some-plans;
+    fewPlans = ltb-false maxSize (r .count) (or-right (eqb (r .count) 0) _ count);
+    few = ltb-false maxSize (r .size) (or-right (eqb (r .size) 0) _ size);
+    good = and-left _ _ accepted;
+    ideal = ideal-length;
+    kept = room-each .0;
+    fronts = room-each .1;
+    lines = room-each .2;
+  }

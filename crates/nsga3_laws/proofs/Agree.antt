@@ -1,0 +1,122 @@
+-- The picks look at the lines and distances of the pool's plans alone: two lists of them that agree below n give the same picks.
+use Prim.Native.Nat.{ℕ, zero, suc, _<_}
+use mathlib.Core.Path.{_≡_, refl, ap, ap₂, sym, _∙_, fun-ext}
+use mathlib.Core.Logic.{_⊎_, ⊎-elim}
+use mathlib.Core.Bool.{Bool, true, false, cond, not}
+use mathlib.Core.List.{List, [], _∷_, _++_, map, List·Memᴰ·head, List·Memᴰ·tail, List·Memᴰ·append-cases, List·Memᴰ·not-nil}
+use native.Mathlib.Omega.{arith}
+use lib.Dec.{eqb}
+use lib.Ieee.{Float, lt}
+use lib.ListN.{getD}
+use Rattle.model.specs.Lists.{In, has, keep, keepBelow}
+use Rattle.model.specs.Draw.{Drawn, drawn, drawUsize}
+use Rattle.model.specs.Kept.{nicheCount, waiting, openLines, leastLines, drawFrom, nearestFrom, nearest, drawMember, pickOne, picks}
+use Rattle.list_laws.proofs.Members.{tally-same, keep-same, in-keep}
+use Rattle.niching_laws.proofs.Lists.{in-snoc}
+
+-- every entry is below n
+abbrev pub Below : ℕ → List ℕ → Type 0
+Below n l = (q : ℕ) → In q l → q < n
+
+module _ (n : ℕ) (some : 0 < n) where
+  -- ---- what is picked is below n
+
+  both-below : (a b : List ℕ) → Below n a → Below n b → Below n (a ++ b)
+  both-below a b h k q m = ⊎-elim (h q) (k q) (List·Memᴰ·append-cases a m)
+
+  keep-below : (f : ℕ → Bool) (l : List ℕ) → Below n l → Below n (keep f l)
+  keep-below f l h q m = h q (in-keep f l q m .0)
+
+  at-below : (l : List ℕ) (i : ℕ) → Below n l → getD l i 0 < n
+  at-below [] i h = some
+  at-below (x ∷ l) zero h = h x (List·Memᴰ·head refl)
+  at-below (x ∷ l) (suc i) h = at-below l i (λ q m. h q (List·Memᴰ·tail m))
+
+  one-below : (b : Bool) (p q : ℕ) → p < n → q < n → cond b p q < n
+  one-below true p q h k = h
+  one-below false p q h k = k
+
+  from-below : (far : ℕ → Float) (best : ℕ) (l : List ℕ) → best < n → Below n l → nearestFrom far best l < n
+  unfolding nearestFrom
+  from-below far best [] b h = b
+  from-below far best (x ∷ l) b h =
+      from-below far (cond (lt (far x) (far best)) x best) l (one-below (lt (far x) (far best)) x best (h x (List·Memᴰ·head refl)) b)
+      (λ q m. h q (List·Memᴰ·tail m))
+
+  nearest-below : (far : ℕ → Float) (l : List ℕ) → Below n l → nearest far l < n
+  unfolding nearest
+  nearest-below far [] h = some
+  nearest-below far (x ∷ l) h = from-below far x l (h x (List·Memᴰ·head refl)) (λ q m. h q (List·Memᴰ·tail m))
+
+  member-below : (far : ℕ → Float) (count : ℕ) (l : List ℕ) (s : ℕ) → Below n l → drawMember far count l s .value < n
+  unfolding drawMember drawFrom
+  member-below far zero l s h = nearest-below far l h
+  member-below far (suc count) l s h = at-below l _ h
+
+  module _ (line : ℕ → ℕ) (far : ℕ → Float) (lines : ℕ) (before split : List ℕ) (within : Below n split) where
+    pick-below : (picked : List ℕ) (s : ℕ) → pickOne line far lines before split picked s .value < n
+    unfolding pickOne
+    pick-below picked s = member-below far _ _ _ (keep-below _ (waiting split picked) (keep-below _ split within))
+
+    pub picks-below : (k s : ℕ) → Below n (picks line far lines before split k s .value)
+    unfolding picks
+    picks-below zero s q m = absurd (List·Memᴰ·not-nil m)
+    picks-below (suc k) s q m =
+        ⊎-elim (picks-below k s q) (λ e. rw e (pick-below (picks line far lines before split k s .value) (picks line far lines before split k s .state)))
+        (in-snoc (picks line far lines before split k s .value) _ q m)
+
+  -- ---- and looks at plans below n alone
+
+  module _ (line line′ : ℕ → ℕ) (far far′ : ℕ → Float) (lines-agree : (p : ℕ) → p < n → line p ≡ line′ p) (far-agree : (p : ℕ) → p < n → far p ≡ far′ p) where
+    counts-agree : (l : List ℕ) → Below n l → nicheCount line l ≡ nicheCount line′ l
+    counts-agree l h = fun-ext (λ k. tally-same _ _ l (λ q m. ap (λ t. eqb t k) (lines-agree q (h q m))))
+
+    map-agree : (l : List ℕ) → Below n l → map line l ≡ map line′ l
+    map-agree [] h = refl
+    map-agree (x ∷ l) h = ap₂ (λ a b. a ∷ b) (lines-agree x (h x (List·Memᴰ·head refl))) (map-agree l (λ q m. h q (List·Memᴰ·tail m)))
+
+    members-agree : (l : List ℕ) → Below n l → _≡_ {A = ℕ → List ℕ} (λ v. keep (λ p. eqb (line p) v) l) (λ v. keep (λ p. eqb (line′ p) v) l)
+    members-agree l h = fun-ext (λ v. keep-same _ _ l (λ q m. ap (λ t. eqb t v) (lines-agree q (h q m))))
+
+    from-agree : (best : ℕ) (l : List ℕ) → best < n → Below n l → nearestFrom far best l ≡ nearestFrom far′ best l
+    unfolding nearestFrom
+    from-agree best [] b h = refl
+    from-agree best (x ∷ l) b h =
+        let u = h x (List·Memᴰ·head refl) in
+        ap₂ (λ f g. nearestFrom far (cond (lt f g) x best) l) (far-agree x u) (far-agree best b)
+        ∙ from-agree (cond (lt (far′ x) (far′ best)) x best) l (one-below (lt (far′ x) (far′ best)) x best u b) (λ q m. h q (List·Memᴰ·tail m))
+
+    nearest-agree : (l : List ℕ) → Below n l → nearest far l ≡ nearest far′ l
+    unfolding nearest
+    nearest-agree [] h = refl
+    nearest-agree (x ∷ l) h = from-agree x l (h x (List·Memᴰ·head refl)) (λ q m. h q (List·Memᴰ·tail m))
+
+    member-agree : (count : ℕ) (l : List ℕ) (s : ℕ) → Below n l → drawMember far count l s ≡ drawMember far′ count l s
+    unfolding drawMember
+    member-agree zero l s h = ap (λ p. drawn p s) (nearest-agree l h)
+    member-agree (suc count) l s h = refl
+
+    -- one pick, from the niche counts, the lines with waiting members, and the members that wait on each
+    abbrev chosen : (ℕ → Float) → ℕ → (ℕ → ℕ) → List ℕ → (ℕ → List ℕ) → Drawn ℕ
+    chosen f s counts lines-open members =
+        let l = drawFrom (leastLines counts lines-open) s in drawMember f (counts (l .value)) (members (l .value)) (l .state)
+
+    module _ (lines : ℕ) (before split : List ℕ) (listed : Below n before) (within : Below n split) where
+      pick-agree : (picked : List ℕ) (s : ℕ) → Below n picked → pickOne line far lines before split picked s ≡ pickOne line′ far′ lines before split picked s
+      unfolding pickOne
+      pick-agree picked s h =
+          let w = waiting split picked in
+          let k = keep-below (λ p. not (has picked p)) split within in
+          ap (λ c. chosen far s c (openLines line lines w) (λ v. keep (λ p. eqb (line p) v) w)) (counts-agree (before ++ picked) (both-below before picked listed h))
+          ∙ ap (λ o. chosen far s (nicheCount line′ (before ++ picked)) (keepBelow (has o) lines) (λ v. keep (λ p. eqb (line p) v) w)) (map-agree w k)
+          ∙ ap (λ m. chosen far s (nicheCount line′ (before ++ picked)) (openLines line′ lines w) m) (members-agree w k)
+          ∙ member-agree _ _ _ (keep-below _ w k)
+
+      -- THE LAW
+      pub picks-agree : (k s : ℕ) → picks line far lines before split k s ≡ picks line′ far′ lines before split k s
+      unfolding picks
+      picks-agree zero s = refl
+      picks-agree (suc k) s =
+          let so-far = picks line′ far′ lines before split k s in
+          ap (λ (d : Drawn (List ℕ)). let p = pickOne line far lines before split (d .value) (d .state) in drawn (d .value ++ (p .value ∷ [])) (p .state)) (picks-agree k s)
+          ∙ ap (λ (p : Drawn ℕ). drawn (so-far .value ++ (p .value ∷ [])) (p .state)) (pick-agree (so-far .value) (so-far .state) (picks-below line′ far′ lines before split within k s))

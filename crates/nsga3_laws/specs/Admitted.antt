@@ -1,0 +1,25 @@
+-- A selection that meets no refusal.
+use Prim.Native.Nat.{ℕ, _≤_, _<_}
+use mathlib.Core.Path.{_≡_}
+use mathlib.Core.Bool.{true}
+use lib.ListN.{length}
+use Rattle.model.specs.Lists.{allBelow}
+use Rattle.model.specs.Association.{Request, objectives, lineCount}
+use Rattle.model.specs.Refusal.{Room, goodPlan}
+
+-- each limit that it keeps
+pub record Admitted (r : Request) (room : Room) : Type 0 where
+  pub wide : 1 ≤ objectives r
+  pub narrow : objectives r ≤ 8
+  pub divided : 1 ≤ r .divisions
+  pub coarse : r .divisions ≤ 199
+  pub someLines : 0 < lineCount r
+  pub fewLines : lineCount r ≤ 1024
+  pub somePlans : 0 < r .count
+  pub fewPlans : r .count ≤ 1024
+  pub few : r .size ≤ 1024
+  pub good : allBelow (λ p. goodPlan (objectives r) (r .plans p)) (r .count) ≡ true
+  pub ideal : length (r .ideal) ≡ objectives r
+  pub kept : r .size ≤ room .kept
+  pub fronts : r .count ≤ room .fronts
+  pub lines : r .count ≤ room .lines

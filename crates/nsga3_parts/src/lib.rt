@@ -1,0 +1,70 @@
+// The lists that a selection hands out, filled from their front.
+ghost use mathlib.Core.Path.{_≡_};
+ghost use mathlib.Core.List.{_++_};
+ghost use Prim.Native.Nat.{_-_, _<_, _≤_};
+ghost use lib.ListN.{length, take, replicate};
+ghost use Rattle.model.specs.Lists.{over};
+ghost use Rattle.model.specs.Kept.{padding, noLine};
+use model::Rng;
+
+// The mark for "no line".
+pub const NO_LINE: usize = 18446744073709551615;
+
+// The first n entries of a list, at the front of another.
+pub fn copy_first(from: &[usize], n: usize, to: &mut [usize])
+    requires { ⌜ (n ≤ length (now from)) × (n ≤ length (now to)) ⌝ }
+    ensures { λ _. ⌜ now (to .exit) ≡ over (take n (now (from .entry))) (now (to .entry)) ⌝ }
+{
+    let mut i = 0;
+    while i < n {
+        to[i] = from[i];
+        i += 1;
+    }
+}
+
+// No line for each of n plans.
+pub fn no_lines(n: usize, lines: &mut [usize])
+    requires { ⌜ n ≤ length (now lines) ⌝ }
+    ensures { λ _. ⌜ now (lines .exit) ≡ over (replicate n noLine) (now (lines .entry)) ⌝ }
+{
+    let mut i = 0;
+    while i < n {
+        lines[i] = NO_LINE;
+        i += 1;
+    }
+}
+
+// Draws `count` plans of n.
+pub fn pad(rng: Rng, n: usize, count: usize, out: &mut [usize]) -> Rng
+    requires { ⌜ (0 < n) × (count ≤ length (now out)) ⌝ }
+    ensures { λ r. ⌜ (now (out .exit) ≡ over (padding n count (rng .s) .value) (now (out .entry))) × (r .s ≡ padding n count (rng .s) .state) ⌝ }
+{
+    let mut rng = rng;
+    let mut at = 0;
+    while at < count {
+        let d = rng_util::draw_usize(rng, n);
+        out[at] = d.value;
+        rng = d.rng;
+        at += 1;
+    }
+    rng
+}
+
+// The kept list where no front is split: the first `whole` plans of the order, then plans drawn up to the size. No plan has a line.
+pub fn select_whole(
+    rng: Rng,
+    order: &[usize],
+    n: usize,
+    whole: usize,
+    size: usize,
+    kept: &mut [usize],
+    lines: &mut [usize],
+) -> Rng
+    requires { ⌜ (0 < n) × (whole ≤ size) × (whole ≤ length (now order)) × (size ≤ length (now kept)) × (n ≤ length (now lines)) ⌝ }
+    ensures { λ r. ⌜ (now (kept .exit) ≡ over (take whole (now (order .entry)) ++ padding n (size - whole) (rng .s) .value) (now (kept .entry)))
+        × (now (lines .exit) ≡ over (replicate n noLine) (now (lines .entry))) × (r .s ≡ padding n (size - whole) (rng .s) .state) ⌝ }
+{
+    copy_first(order, whole, kept);
+    no_lines(n, lines);
+    pad(rng, n, size - whole, &mut kept[whole..])
+}
