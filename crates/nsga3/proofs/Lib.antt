@@ -1,3 +1,4 @@
 pub mod Refusals
 pub mod Sorting
 pub mod Splitting
+pub mod Answer

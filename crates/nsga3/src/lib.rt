@@ -8,14 +8,16 @@ ghost use lib.Ieee.{Float};
 ghost use lib.ListN.{length};
 ghost use Rattle.model.specs.Lists.{allBelow};
 ghost use Rattle.model.specs.Plan.{planAt, planCount};
-ghost use Rattle.model.specs.Kept.{isSplit, selectedSplit};
-ghost use Rattle.model.specs.Calls.{wordRequest};
+ghost use Rattle.model.specs.Kept.{isSplit, selectedSplit, selected};
+ghost use Rattle.model.specs.Calls.{wordRequest, lent, selectAccepted, Selects};
 ghost use Rattle.model.specs.Refusal.{goodPlan, selectRefusal};
 ghost use Rattle.model.specs.declared.Rng.{Rng};
 ghost use Rattle.nsga3.specs.Checked.{checked};
 ghost use Rattle.nsga3_laws.specs.Admitted.{Admitted};
-ghost use Rattle.nsga3.specs.Laid.{RowsIn, OrderIn, Sorts, Hands};
+ghost use Rattle.nsga3.specs.Laid.{RowsIn, OrderIn, Sorts, Hands, exit};
+use model::Outcome;
 use model::Rng;
+use model::Selection;
 use plans::Cut;
 
 // The most plans of a pool, and the most lines.
@@ -157,4 +159,134 @@ fn select_split(
         size - whole,
         &mut kept[whole..],
     )
+}
+
+// The kept list of a sorted pool, with the ideal and the lines, by whether a front is split.
+fn fill_kept(
+    pool: &[u64],
+    directions: &[u8],
+    divisions: usize,
+    size: usize,
+    rng: Rng,
+    rows: &[f64],
+    order: &[usize],
+    cut: Cut,
+    ideal: &mut [f64],
+    kept: &mut [usize],
+    lines: &mut [usize],
+) -> Rng
+    requires { ⌜ Admitted (wordRequest (now pool) (now directions) divisions size rng (now ideal))
+        (record { kept = length (now kept); fronts = planCount (now pool); lines = length (now lines) }) ⌝ }
+    requires { ⌜ RowsIn (wordRequest (now pool) (now directions) divisions size rng (now ideal)) (now rows)
+        × OrderIn (wordRequest (now pool) (now directions) divisions size rng (now ideal)) (now order) cut ⌝ }
+    ensures { λ r. ⌜ Hands (selected (wordRequest (now (pool .entry)) (now (directions .entry)) divisions size rng (now (ideal .entry))))
+        (now (ideal .exit)) (now (kept .entry)) (now (kept .exit)) (now (lines .entry)) (now (lines .exit)) (r .s) ⌝ }
+{
+    let split = cut.split;
+    if split {
+        return select_split(
+            pool,
+            directions,
+            divisions,
+            size,
+            rng,
+            rows,
+            order,
+            cut,
+            ideal,
+            kept,
+            lines,
+        );
+    }
+    let n = plans::plan_count(pool);
+    let whole = cut.whole;
+    nsga3_parts::select_whole(rng, order, n, whole, size, kept, lines)
+}
+
+// A selection that meets no refusal.
+fn select(
+    pool: &[u64],
+    directions: &[u8],
+    divisions: usize,
+    size: usize,
+    rng: Rng,
+    ideal: &mut [f64],
+    kept: &mut [usize],
+    fronts: &mut [usize],
+    lines: &mut [usize],
+) -> Selection
+    requires { ⌜ Admitted (wordRequest (now pool) (now directions) divisions size rng (now ideal))
+        (record { kept = length (now kept); fronts = length (now fronts); lines = length (now lines) }) ⌝ }
+    ensures { λ r. ⌜ exit r (now (ideal .exit)) (now (kept .exit)) (now (fronts .exit)) (now (lines .exit))
+        ≡ selectAccepted (wordRequest (now (pool .entry)) (now (directions .entry)) divisions size rng (now (ideal .entry)))
+        (lent (now (kept .entry)) (now (fronts .entry)) (now (lines .entry))) ⌝ }
+{
+    let n = plans::plan_count(pool);
+    let mut rows: [f64; MAX_VALUES] = [0.0; MAX_VALUES];
+    plans::fill_rows(pool, directions, n, &mut rows);
+    let mut order: [usize; MAX_PLANS] = [0; MAX_PLANS];
+    let cut = sort_pool(pool, directions, size, &rows, &mut order, fronts);
+    let rng = fill_kept(
+        pool,
+        directions,
+        divisions,
+        size,
+        rng,
+        &rows,
+        &order,
+        cut,
+        ideal,
+        kept,
+        lines,
+    );
+    Selection {
+        outcome: Outcome::Kept(size),
+        rng,
+    }
+}
+
+// The kept list of a pool of plans: document 01's selection, or the number of the refusal that it meets, with nothing written and no word drawn.
+pub fn nsga3_select(
+    pool: &[u64],
+    directions: &[u8],
+    divisions: usize,
+    size: usize,
+    rng: Rng,
+    ideal: &mut [f64],
+    kept: &mut [usize],
+    fronts: &mut [usize],
+    lines: &mut [usize],
+) -> Selection
+    ensures { λ r. ⌜ Selects (wordRequest (now (pool .entry)) (now (directions .entry)) divisions size rng (now (ideal .entry)))
+        (lent (now (kept .entry)) (now (fronts .entry)) (now (lines .entry)))
+        (record { answer = r; ideal = now (ideal .exit); slices = lent (now (kept .exit)) (now (fronts .exit)) (now (lines .exit)) }) ⌝ }
+{
+    let check = refusal(
+        pool,
+        directions,
+        divisions,
+        size,
+        rng,
+        ideal,
+        kept.len(),
+        fronts.len(),
+        lines.len(),
+    );
+    match check {
+        Check::Refused(number) => Selection {
+            outcome: Outcome::Refused(number),
+            rng,
+        },
+        Check::Good => select(
+            pool,
+            directions,
+            divisions,
+            size,
+            rng,
+            ideal,
+            kept,
+            fronts,
+            lines,
+        ),
+    }
 }

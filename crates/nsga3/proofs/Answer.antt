@@ -1,0 +1,110 @@
+-- The answer of a selection, from what its steps leave.
+use Prim.Native.Nat.{ℕ, _+_, _*_, _-_, _≤_, _<_}
+use mathlib.Core.Path.{_≡_, refl, ap, ap₂, sym, subst, _∙_}
+use mathlib.Core.Bool.{Bool, true, false}
+use mathlib.Core.List.{List, _++_}
+use mathlib.Core.Option.{Option, none, some}
+use native.Mathlib.Omega.{arith}
+use lib.Ieee.{Float, nan}
+use lib.ListN.{length, getD, take, replicate}
+use Rattle.model.specs.declared.Outcome.the-variants as outcome
+use Rattle.model.specs.declared.Rng.{Rng}
+use Rattle.model.specs.Lists.{over}
+use Rattle.model.specs.Front.{frontList}
+use Rattle.model.specs.Association.{Request, objectives, dominance}
+use Rattle.model.specs.Refusal.{selectRefusal}
+use Rattle.model.specs.Kept.{before, isSplit, bySplit, selectedSplit, selectedWhole, selected, padding, noLine}
+use Rattle.model.specs.Calls.{Lent, lent, roomOf, SelectExit, wordRequest, answered, selectAccepted, selectBy, selectOf, Selects}
+use Rattle.demand3_laws.proofs.Calls.{planAt-row, selects}
+use Rattle.plans.specs.declared.Cut.{Cut}
+use Rattle.plans.specs.Filled.{RowsOf}
+use Rattle.nsga3_laws.specs.Admitted.{Admitted}
+use Rattle.nsga3.specs.Laid.{RowsIn, OrderIn, Sorts, Hands, exit}
+
+module _ (r : Request) (i : List Float) (k₀ k l₀ l : List ℕ) (s : ℕ) where
+  -- ---- by whether a front is split
+
+  pub hands-split : isSplit r ≡ true → Hands (selectedSplit r) i k₀ k l₀ l s → Hands (selected r) i k₀ k l₀ l s
+  unfolding selected
+  hands-split e h = subst (λ b. Hands (bySplit b r) i k₀ k l₀ l s) (sym e) h
+
+  pub hands-whole : isSplit r ≡ false → Hands (selectedWhole r) i k₀ k l₀ l s → Hands (selected r) i k₀ k l₀ l s
+  unfolding selected
+  hands-whole e h = subst (λ b. Hands (bySplit b r) i k₀ k l₀ l s) (sym e) h
+
+  pub whole-hands : (order : List ℕ) (c : Cut) → OrderIn r order c → (n : ℕ) → n ≡ r .count → i ≡ r .ideal
+      → k ≡ over (take (c .whole) order ++ padding n (r .size - c .whole) (r .state) .value) k₀ → l ≡ over (replicate n noLine) l₀
+      → s ≡ padding n (r .size - c .whole) (r .state) .state → Hands (selectedWhole r) i k₀ k l₀ l s
+  unfolding selectedWhole
+  whole-hands order c sorted n e a b d f = record {
+    ideal = a;
+    kept = b ∙ ap₂ (λ t p. over (t ++ p .value) k₀) (sorted .cut .listed) padded;
+    lines = d ∙ ap (λ t. over (replicate t noLine) l₀) e;
+    state = f ∙ ap (λ p. p .state) padded;
+  }
+    where
+      padded : padding n (r .size - c .whole) (r .state) ≡ padding (r .count) (r .size - length (before r)) (r .state)
+      padded = ap₂ (λ t w. padding t (r .size - w) (r .state)) e (sorted .cut .whole)
+
+-- ---- the rows
+
+pub rows-in : (r : Request) (n : ℕ) → n ≡ r .count → (old rows : List Float) → r .count * objectives r ≤ length rows
+    → RowsOf (r .marks) (r .plans) n old rows → RowsIn r rows
+rows-in r n e old rows h f = record { table = h; values = λ p j a b. f .values p j (omega (arith, e)) b }
+
+-- ---- the limits, where the slice for the fronts is no longer asked for
+
+pub fill-room : (r : Request) (k f l : ℕ) → Admitted r (record { kept = k; fronts = f; lines = l })
+    → Admitted r (record { kept = k; fronts = r .count; lines = l })
+fill-room r k f l h = record {
+  wide = h .wide;
+  narrow = h .narrow;
+  divided = h .divided;
+  coarse = h .coarse;
+  someLines = h .someLines;
+  fewLines = h .fewLines;
+  somePlans = h .somePlans;
+  fewPlans = h .fewPlans;
+  few = h .few;
+  good = h .good;
+  ideal = h .ideal;
+  kept = h .kept;
+  fronts = omega arith;
+  lines = h .lines;
+}
+
+-- ---- the answer
+
+fronts-all : (r : Request) → selected r .fronts ≡ frontList (dominance r) (r .count)
+unfolding selected selectedSplit selectedWhole
+fronts-all r = go (isSplit r)
+  where
+    go : (b : Bool) → bySplit b r .fronts ≡ frontList (dominance r) (r .count)
+    go true = refl
+    go false = refl
+
+pub accepted-exit : (r : Request) (o : List ℕ) (c : Cut) (i : List Float) (k₀ k f₀ f l₀ l : List ℕ) (g : Rng) → Sorts r o c f₀ f
+    → Hands (selected r) i k₀ k l₀ l (g .s)
+    → exit (record { outcome = outcome.Kept (r .size); rng = g }) i k f l ≡ selectAccepted r (lent k₀ f₀ l₀)
+unfolding selectAccepted
+accepted-exit r o c i k₀ k f₀ f l₀ l g a h =
+    ap₂ (λ s j. exit (answered (outcome.Kept (r .size)) s) j k f l) (h .state) (h .ideal)
+    ∙ ap₂ (λ x y. exit (answered (outcome.Kept (r .size)) (selected r .state)) (selected r .ideal) x f y) (h .kept) (h .lines)
+    ∙ ap (λ x. exit (answered (outcome.Kept (r .size)) (selected r .state)) (selected r .ideal) (over (selected r .kept) k₀) x (over (selected r .lines) l₀))
+    (a .ranks ∙ ap (λ t. over t f₀) (sym (fronts-all r)))
+
+module _ (pool directions : List ℕ) (divisions size : ℕ) (g : Rng) (ideal : List Float) (entry : Lent) where
+  abbrev r : Request
+  r = wordRequest pool directions divisions size g ideal
+
+  promise : (x : SelectExit) → x ≡ selectOf r entry → Selects r entry x
+  promise x e = subst (Selects r entry) (sym e) (selects r (planAt-row pool) entry)
+
+  pub refused : (n : ℕ) → some n ≡ selectRefusal r (roomOf entry)
+      → Selects r entry (record { answer = record { outcome = outcome.Refused n; rng = g }; ideal = ideal; slices = entry })
+  unfolding selectOf
+  refused n e = promise _ (ap (λ o. selectBy o r entry) e)
+
+  pub selected-so : none ≡ selectRefusal r (roomOf entry) → (x : SelectExit) → x ≡ selectAccepted r entry → Selects r entry x
+  unfolding selectOf
+  selected-so e x h = promise x (h ∙ ap (λ o. selectBy o r entry) e)

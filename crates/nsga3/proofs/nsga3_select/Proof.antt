@@ -1,0 +1,66 @@
+-- `nsga3_select`: the refusal's number, or the selection
+use mathlib.Core.Path.{ap, sym, _∙_}
+use Rattle.model.specs.Calls.{wordRequest, lent}
+use Rattle.nsga3_laws.proofs.Admitted.{admitted}
+use Rattle.nsga3.specs.Checked.{checked}
+use Rattle.nsga3.proofs.Answer.{refused, selected-so}
+use borrow.Author.Needs.{needs}
+use Rattle.nsga3.proofs.nsga3_select.Statement.{statement}
+use Rattle.nsga3.proofs.nsga3_select.Tie as tie
+
+refusal-requires : tie.Need-refusal-requires
+refusal-requires c κs = search needs
+
+enum-known-check : tie.Need-enum-known-check
+enum-known-check c = search needs
+
+enum-told : tie.Need-enum-told
+enum-told c = search needs
+
+select-requires : tie.Need-select-requires
+select-requires c κs =
+    let a = c .before .before .before .before .before .before .before .before .before .before .before .before .before .before .args in
+    admitted (wordRequest (a .pool .now) (a .directions .now) (a .divisions) (a .size) (a .rng) (a .ideal .now)) _ (sym (sym (ap checked (c .before .before .before .before .enum-told .given .1)) ∙ c .before .before .before .before .before .before .refusal .ensures))
+
+same-length : tie.Need-same-length
+same-length c = search needs
+
+returns : tie.Need-returns
+returns c =
+    let a = c .before .before .before .before .before .before .before .before .before .before .before .args in
+    refused (a .pool .now) (a .directions .now) (a .divisions) (a .size) (a .rng) (a .ideal .now) (lent (a .kept .now) (a .fronts .now) (a .lines .now)) _
+    (sym (ap checked (c .before .check .given .1)) ∙ c .before .before .before .refusal .ensures)
+
+same-length-2 : tie.Need-same-length-2
+same-length-2 c = search needs
+
+same-length-3 : tie.Need-same-length-3
+same-length-3 c = search needs
+
+same-length-4 : tie.Need-same-length-4
+same-length-4 c = search needs
+
+same-length-5 : tie.Need-same-length-5
+same-length-5 c = search needs
+
+returns-2 : tie.Need-returns-2
+returns-2 c =
+    let a = c .before .before .before .before .before .before .before .before .before .before .before .before .before .before .before .before .before .before .before .before .before .before .before .args in
+    selected-so (a .pool .now) (a .directions .now) (a .divisions) (a .size) (a .rng) (a .ideal .now) (lent (a .kept .now) (a .fronts .now) (a .lines .now))
+    (sym (ap checked (c .before .before .before .before .before .before .before .before .before .before .before .before .before .enum-told .given .1)) ∙ c .before .before .before .before .before .before .before .before .before .before .before .before .before .before .before .refusal .ensures) _ (c .before .before .before .before .before .before .before .before .select .ensures)
+
+pub nsga3-select-spec : {M : Type 1} → statement M
+nsga3-select-spec =
+    tie.close
+    (tie.spec
+    refusal-requires
+    enum-known-check
+    enum-told
+    select-requires
+    same-length
+    returns
+    same-length-2
+    same-length-3
+    same-length-4
+    same-length-5
+    returns-2)
