@@ -53,7 +53,7 @@ module _ (r : Request) (room : Room) (ok : Admitted r room) (rows : List Float) 
 
   pub table-lines : (n : ℕ) → n ≡ r .count → (table old : List Float) → table ≡ over (flatten (dasDennis (objectives r) (r .divisions))) old
       → (k : ℕ) → k ≡ lineCount r → LinesIn r table k (objectives r)
-  table-lines n e table old h k g = subst (λ t. LinesIn r table t (objectives r)) (sym g) (lines-at r rows n (objectives r) (pool-rows n e) (ok .wide) (r .divisions) refl table old h)
+  table-lines n e table old h k g = lines-at r (objectives r) (r .divisions) k refl refl g (ok .wide) table old h
 
   -- ---- niching
 
