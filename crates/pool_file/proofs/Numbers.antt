@@ -52,5 +52,9 @@ numberAt-is bytes at = by-option (number (drop at bytes))
     (λ n. subst (λ (o : Option (Parsed ℕ)). ReadIs bytes at (asRead (length bytes) o)) (sym n) n)
     (λ p e. subst (λ (o : Option (Parsed ℕ)). ReadIs bytes at (asRead (length bytes) o)) (sym e) (ends-at bytes at p e))
 
-pub read-is : (bytes : List ℕ) (at : ℕ) (r : Read) → r ≡ numberAt bytes at → ReadIs bytes at r
-read-is bytes at r e = subst (λ (x : Read). ReadIs bytes at x) (sym e) (numberAt-is bytes at)
+-- .. by the case that was answered
+pub ends-of : (bytes : List ℕ) (at : ℕ) (r : Read) (v next : ℕ) → r ≡ numberAt bytes at → r ≡ Number v next → Ends bytes at v next
+ends-of bytes at r v next e f = subst (λ (x : Read). ReadIs bytes at x) (sym e ∙ f) (numberAt-is bytes at)
+
+pub broken-of : (bytes : List ℕ) (at : ℕ) (r : Read) → r ≡ numberAt bytes at → r ≡ Broken → number (drop at bytes) ≡ none
+broken-of bytes at r e f = subst (λ (x : Read). ReadIs bytes at x) (sym e ∙ f) (numberAt-is bytes at)
