@@ -42,7 +42,7 @@ module _ {A : Type 0} (r : Reader A) where
   many-later i bytes h e f = rw (e, f)
 
   -- what was read, taken apart
-  record Parts (i : ℕ) (bytes : List ℕ) (l : List A) (rest : List ℕ) : Type 0 where
+  pub record Parts (i : ℕ) (bytes : List ℕ) (l : List A) (rest : List ℕ) : Type 0 where
     pub head : Parsed A
     pub tail : Parsed (List A)
     pub first : r bytes ≡ some head
@@ -50,7 +50,7 @@ module _ {A : Type 0} (r : Reader A) where
     pub values : l ≡ head .value ∷ tail .value
     pub ends : rest ≡ tail .rest
 
-  many-parts : (i : ℕ) (bytes : List ℕ) (l : List A) (rest : List ℕ) → many (suc i) r bytes ≡ read l rest → Parts i bytes l rest
+  pub many-parts : (i : ℕ) (bytes : List ℕ) (l : List A) (rest : List ℕ) → many (suc i) r bytes ≡ read l rest → Parts i bytes l rest
   many-parts i bytes l rest e = by-option (r bytes)
       (λ n. none-some (sym (many-none i bytes n) ∙ e))
       (λ h f. by-option (many i r (h .rest))
