@@ -1,1 +1,2 @@
 pub mod Shortest
+pub mod Lengths
