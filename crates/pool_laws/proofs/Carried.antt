@@ -95,3 +95,159 @@ unfolding goodPlan
 roomed-good m p h s = by-bool (leb (p .constraintCount) maxConstraints)
     (λ e. ap (goodPlan m) (roomed-same m p h s (leb-true (p .constraintCount) maxConstraints e)))
     (λ e. rw e)
+
+-- ---- requests
+
+-- a request of words and a request of a file: what applies to one applies to the other, and where 2 and 8 do not, they are one
+pub record Carried (w r : Request) : Type 0 where
+  pub two : badDirections (w .marks) ≡ badDirections (r .marks)
+  pub three : badSize (w .size) ≡ badSize (r .size)
+  pub four : badDivisions (objectives w) (w .divisions) ≡ badDivisions (objectives r) (r .divisions)
+  pub seven : badCount (w .count) ≡ badCount (r .count)
+  pub eight : badPool w ≡ badPool r
+  pub rows : (p j : ℕ) → rowOf (w .marks) (w .plans p) j ≡ rowOf (r .marks) (r .plans p) j
+  pub good : (p : ℕ) → goodPlan (objectives w) (w .plans p) ≡ goodPlan (objectives r) (r .plans p)
+  pub same : badDirections (r .marks) ≡ false → badPool r ≡ false → w ≡ r
+
+pub selects : (w r : Request) → Carried w r → badDirections (r .marks) ≡ false → badPool r ≡ false → selected w ≡ selected r
+selects w r c a b = ap selected (c .same a b)
+
+abbrev asked : List ℕ → ℕ → ℕ → ℕ → (ℕ → Plan) → List Float → ℕ → Request
+asked marks divisions size count plans ideal state =
+    record { marks = marks; divisions = divisions; size = size; count = count; plans = plans; ideal = ideal; state = state }
+
+request-same : (w r : Request) → w .marks ≡ r .marks → w .divisions ≡ r .divisions → w .size ≡ r .size → w .count ≡ r .count → w .plans ≡ r .plans
+    → w .ideal ≡ r .ideal → w .state ≡ r .state → w ≡ r
+request-same w r a b c d e f g =
+    ap (λ (x : List ℕ). asked x (w .divisions) (w .size) (w .count) (w .plans) (w .ideal) (w .state)) a
+    ∙ ap (λ (x : ℕ). asked (r .marks) x (w .size) (w .count) (w .plans) (w .ideal) (w .state)) b
+    ∙ ap (λ (x : ℕ). asked (r .marks) (r .divisions) x (w .count) (w .plans) (w .ideal) (w .state)) c
+    ∙ ap (λ (x : ℕ). asked (r .marks) (r .divisions) (r .size) x (w .plans) (w .ideal) (w .state)) d
+    ∙ ap (λ (x : ℕ → Plan). asked (r .marks) (r .divisions) (r .size) (r .count) x (w .ideal) (w .state)) e
+    ∙ ap (λ (x : List Float). asked (r .marks) (r .divisions) (r .size) (r .count) (r .plans) x (w .state)) f
+    ∙ ap (λ (x : ℕ). asked (r .marks) (r .divisions) (r .size) (r .count) (r .plans) (r .ideal) x) g
+
+pool-same : (w r : Request) → objectives w ≡ objectives r → w .count ≡ r .count
+    → ((p : ℕ) → goodPlan (objectives w) (w .plans p) ≡ goodPlan (objectives r) (r .plans p)) → w .ideal ≡ r .ideal → badPool w ≡ badPool r
+unfolding badPool
+pool-same w r a b c d =
+    ap (λ (t : Bool). not (t && goodIdeal (objectives w) (w .ideal)))
+    (allBelow-same (λ p. goodPlan (objectives w) (w .plans p)) (λ p. goodPlan (objectives r) (r .plans p)) (w .count) (λ p l. c p)
+    ∙ ap (allBelow (λ p. goodPlan (objectives r) (r .plans p))) b)
+    ∙ ap (λ (k : ℕ). not (allBelow (λ p. goodPlan (objectives r) (r .plans p)) (r .count) && goodIdeal k (w .ideal))) a
+    ∙ ap (λ (l : List Float). not (allBelow (λ p. goodPlan (objectives r) (r .plans p)) (r .count) && goodIdeal (objectives r) l)) d
+
+-- where 8 does not apply, no plan has over 16 constraints
+pool-good : (r : Request) → badPool r ≡ false → (p : ℕ) → p < r .count → r .plans p .constraintCount ≤ maxConstraints
+unfolding badPool goodPlan
+pool-good r h p l =
+    let a : allBelow (λ p. goodPlan (objectives r) (r .plans p)) (r .count) ≡ true = and-left _ (goodIdeal (objectives r) (r .ideal)) (passes _ h) in
+    let g = allBelow-each (λ p. goodPlan (objectives r) (r .plans p)) (r .count) a p l in
+    leb-true (r .plans p .constraintCount) maxConstraints (and-left (leb (r .plans p .constraintCount) maxConstraints) _ (and-right (eqb (r .plans p .rowLength) (objectives r)) _ g))
+  where
+    passes : (b : Bool) → not b ≡ false → b ≡ true
+    passes true e = refl
+    passes false e = absurd (true≢false e)
+
+-- ---- the words and the file
+
+-- the request that the parser's words form
+abbrev pub stored : Header → List ℕ → List ℕ → Request
+stored h directions pool =
+    wordRequest (take (h .count * planWords) pool) (take (h .m) directions) (h .divisions) (h .size) (record { s = h .seed }) (replicate (h .m) infinity)
+
+module _ (file : List ℕ) (h : Header) (directions pool : List ℕ) (w : Pool file h directions pool) (few : h .m ≤ maxValues) (small : h .count ≤ maxSize)
+    (room : maxSize * planWords ≤ length pool) where
+  abbrev f : PoolFile
+  f = w .form
+
+  whole : Whole f
+  whole = parse-whole file f (w .parsed)
+
+  abbrev words : List ℕ
+  words = take (h .count * planWords) pool
+
+  words-length : length words ≡ h .count * planWords
+  words-length = length-take-le (h .count * planWords) pool (le-trans (mul-le-mul-right planWords small) room)
+
+  marks : take (h .m) directions ≡ map capped (f .marks)
+  marks = w .marks few
+
+  plan-in : (p : ℕ) → p < h .count → planAt words p ≡ roomed (getD (f .plans) p noPlan)
+  plan-in p l =
+      let k : (p + 1) * planWords ≤ h .count * planWords = mul-le-mul-right planWords (omega arith) in
+      planOf-same (λ j. getD words (p * planWords + j) 0) (λ j. getD pool (p * planWords + j) 0)
+      (λ j u. getD-take (h .count * planWords) pool (p * planWords + j) 0 (omega arith))
+      ∙ w .plans small p l
+
+  plan-past : (p : ℕ) → h .count ≤ p → planAt words p ≡ getD (f .plans) p noPlan
+  plan-past p l =
+      let k : h .count * planWords ≤ p * planWords = mul-le-mul-right planWords l in
+      let n = words-length in
+      let c = w .planCount in
+      planOf-same (λ j. getD words (p * planWords + j) 0) (λ j. 0) (λ j u. List·getD-eq-default words 0 (omega arith))
+      ∙ planOf-zero ∙ sym (List·getD-eq-default (f .plans) noPlan (omega arith))
+
+  shape : (p : ℕ) → p < h .count → Shape (h .m) (getD (f .plans) p noPlan)
+  shape p l =
+      let c = w .count in
+      subst (λ (m : ℕ). Shape m (getD (f .plans) p noPlan)) (w .objectives) (whole .plans p (omega arith))
+
+  -- a plan with at most 16 constraints is stored as it is
+  pub plan-same : (p : ℕ) → p < h .count → getD (f .plans) p noPlan .constraintCount ≤ maxConstraints → planAt words p ≡ getD (f .plans) p noPlan
+  plan-same p l c = plan-in p l ∙ roomed-same (h .m) (getD (f .plans) p noPlan) few (shape p l) c
+
+  -- in the pool or past it
+  module _ {C : Type 0} (p : ℕ) where
+    either : (p < h .count → C) → (h .count ≤ p → C) → C
+    either a b = by-bool (ltb p (h .count)) (λ e. a (ltb-true p (h .count) e)) (λ e. b (ltb-false p (h .count) e))
+
+  pub row-same : (p j : ℕ) → rowOf (take (h .m) directions) (planAt words p) j ≡ rowOf (f .marks) (getD (f .plans) p noPlan) j
+  unfolding rowOf
+  row-same p j =
+      let r : planAt words p .row ≡ getD (f .plans) p noPlan .row = either p
+      (λ l. let s = shape p l .row in
+      ap (λ (q : Plan). q .row) (plan-in p l) ∙ take-all 8 (getD (f .plans) p noPlan .row) (omega arith))
+      (λ l. ap (λ (q : Plan). q .row) (plan-past p l)) in
+      let d : directionOf (getD (take (h .m) directions) j 0) ≡ directionOf (getD (f .marks) j 0) =
+      ap (λ (l : List ℕ). directionOf (getD l j 0)) marks ∙ ap directionOf (List·getD-map capped (f .marks) j 0) ∙ capped-direction (getD (f .marks) j 0) in
+      ap (λ (x : Direction). toMinimize x (getD (planAt words p .row) j nan)) d
+      ∙ ap (λ (l : List Float). toMinimize (directionOf (getD (f .marks) j 0)) (getD l j nan)) r
+
+  pub good-same : (p : ℕ) → goodPlan (h .m) (planAt words p) ≡ goodPlan (h .m) (getD (f .plans) p noPlan)
+  good-same p = either p
+      (λ l. ap (goodPlan (h .m)) (plan-in p l) ∙ roomed-good (h .m) (getD (f .plans) p noPlan) few (shape p l))
+      (λ l. ap (goodPlan (h .m)) (plan-past p l))
+
+  objectives-file : length (f .marks) ≡ h .m
+  objectives-file = w .markCount
+
+  objectives-words : length (take (h .m) directions) ≡ h .m
+  objectives-words = ap length marks ∙ length-map (f .marks) capped ∙ objectives-file
+
+  count-words : planCount words ≡ h .count
+  count-words = let n = words-length in omega arith
+
+  pub carried : Carried (stored h directions pool) (fileRequest (w .form))
+  carried =
+      let o : length (take (h .m) directions) ≡ length (f .marks) = objectives-words ∙ sym objectives-file in
+      let n : planCount words ≡ f .count = count-words ∙ sym (w .count) in
+      let i : replicate (h .m) infinity ≡ replicate (f .objectives) infinity = ap (λ (k : ℕ). replicate k infinity) (sym (w .objectives)) in
+      let g : (p : ℕ) → goodPlan (length (take (h .m) directions)) (planAt words p) ≡ goodPlan (length (f .marks)) (getD (f .plans) p noPlan) =
+      λ p. ap (λ (k : ℕ). goodPlan k (planAt words p)) objectives-words ∙ good-same p
+      ∙ ap (λ (k : ℕ). goodPlan k (getD (f .plans) p noPlan)) (sym objectives-file) in
+      record {
+        two = ap badDirections marks ∙ directions-same (f .marks);
+        three = ap badSize (sym (w .size));
+        four = ap (λ (k : ℕ). badDivisions k (h .divisions)) o ∙ ap (badDivisions (length (f .marks))) (sym (w .divisions));
+        seven = ap badCount n;
+        eight = pool-same (stored h directions pool) (fileRequest f) o n g i;
+        rows = row-same;
+        good = g;
+        same = λ a b. request-same (stored h directions pool) (fileRequest f)
+            (marks ∙ marks-same (f .marks) (directions-good (f .marks) a)) (sym (w .divisions)) (sym (w .size)) n
+            (fun-ext (λ p. either p
+            (λ l. plan-same p l (pool-good (fileRequest f) b p (subst (λ (k : ℕ). p < k) (sym (w .count)) l)))
+            (λ l. plan-past p l)))
+            i (sym (w .seed));
+      }

@@ -120,7 +120,7 @@ more-form k acc b rest p l h f =
     let d : n / 128 ≡ f .part = omega arith in
     let m : n % 128 ≡ b % 128 = omega arith in
     let z : acc + b % 128 * 2 ^ k + f .part * 2 ^ (k + 7) ≡ acc + n * 2 ^ k =
-        ap (λ (x : ℕ). acc + x * 2 ^ k + f .part * 2 ^ (k + 7)) (sym m) ∙ ap (λ (x : ℕ). acc + n % 128 * 2 ^ k + x * 2 ^ (k + 7)) (sym d) ∙ shifted acc n k in
+    ap (λ (x : ℕ). acc + x * 2 ^ k + f .part * 2 ^ (k + 7)) (sym m) ∙ ap (λ (x : ℕ). acc + n % 128 * 2 ^ k + x * 2 ^ (k + 7)) (sym d) ∙ shifted acc n k in
     let c : n % 128 + 128 ≡ b = omega arith in
     record {
       part = n;
