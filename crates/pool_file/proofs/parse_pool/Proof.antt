@@ -1,0 +1,146 @@
+-- `parse_pool`: header, marks, plans and end, each where the one before it leaves off.
+use borrow.Author.Needs.{needs}
+use Rattle.pool_file.proofs.Whole.{parse-long, parse-no-header, parse-no-marks, parse-no-plans, parse-runs-on, parse-good}
+use Rattle.pool_file.proofs.parse_pool.Statement.{statement}
+use Rattle.pool_file.proofs.parse_pool.Tie as tie
+
+returns : tie.Need-returns
+returns c = parse-long _ (c .if1 .taken)
+
+read-header-requires : tie.Need-read-header-requires
+read-header-requires c κs = search needs
+
+enum-known-header : tie.Need-enum-known-header
+enum-known-header c = search needs
+
+enum-told : tie.Need-enum-told
+enum-told c = search needs
+
+returns-2 : tie.Need-returns-2
+returns-2 c =
+    let r = c .before .before in
+    let e = r .before in
+    let s = e .before .before .before .before in
+    let file = s .args .file .now in
+    parse-no-header file (e .if1 .left) _ (r .read-header .ensures) (c .enum-told .given .1)
+
+read-marks-requires : tie.Need-read-marks-requires
+read-marks-requires c κs = search needs
+
+enum-known-next : tie.Need-enum-known-next
+enum-known-next c = search needs
+
+enum-told-2 : tie.Need-enum-told-2
+enum-told-2 c = search needs
+
+same-length : tie.Need-same-length
+same-length c = search needs
+
+returns-3 : tie.Need-returns-3
+returns-3 c =
+    let w = c .before .before .before .before in
+    let h = w .before .before .before in
+    let r = h .before .before in
+    let e = r .before in
+    let s = e .before .before .before .before in
+    let file = s .args .file .now in
+    parse-no-marks file (e .if1 .left) _ (r .read-header .ensures) (h .header .given .0 .0) (h .header .given .0 .1 .0) (h .header .given .1)
+    (s .args .directions .now) _ _ (w .read-marks .ensures) (c .enum-told2 .given .1)
+
+read-plans-requires : tie.Need-read-plans-requires
+read-plans-requires c κs = search needs
+
+enum-known-end : tie.Need-enum-known-end
+enum-known-end c = search needs
+
+enum-told-3 : tie.Need-enum-told-3
+enum-told-3 c = search needs
+
+same-length-2 : tie.Need-same-length-2
+same-length-2 c = search needs
+
+same-length-3 : tie.Need-same-length-3
+same-length-3 c = search needs
+
+returns-4 : tie.Need-returns-4
+returns-4 c =
+    let y = c .before .before .before .before in
+    let x = y .before .before .before in
+    let w = x .before .before .before .before in
+    let h = w .before .before .before in
+    let r = h .before .before in
+    let e = r .before in
+    let s = e .before .before .before .before in
+    let file = s .args .file .now in
+    parse-no-plans file (e .if1 .left) _ (r .read-header .ensures) (h .header .given .0 .0) (h .header .given .0 .1 .0) (h .header .given .1)
+    (s .args .directions .now) _ _ (w .read-marks .ensures) (x .next .given .0 .0) (x .next .given .1)
+    _ _ (y .read-plans .ensures) (c .enum-told3 .given .1)
+
+same-length-4 : tie.Need-same-length-4
+same-length-4 c = search needs
+
+same-length-5 : tie.Need-same-length-5
+same-length-5 c = search needs
+
+returns-5 : tie.Need-returns-5
+returns-5 c =
+    let z = c .before .before in
+    let y = z .before .before .before .before in
+    let x = y .before .before .before in
+    let w = x .before .before .before .before in
+    let h = w .before .before .before in
+    let r = h .before .before in
+    let e = r .before in
+    let s = e .before .before .before .before in
+    let file = s .args .file .now in
+    parse-runs-on file (e .if1 .left) _ (r .read-header .ensures) (h .header .given .0 .0) (h .header .given .0 .1 .0) (h .header .given .1)
+    (s .args .directions .now) _ _ (w .read-marks .ensures) (x .next .given .0 .0) (x .next .given .1)
+    _ _ (y .read-plans .ensures) (z .end .given .0 .0) (z .end .given .1) (c .if2 .taken)
+
+same-length-6 : tie.Need-same-length-6
+same-length-6 c = search needs
+
+same-length-7 : tie.Need-same-length-7
+same-length-7 c = search needs
+
+returns-6 : tie.Need-returns-6
+returns-6 c =
+    let z = c .before .before in
+    let y = z .before .before .before .before in
+    let x = y .before .before .before in
+    let w = x .before .before .before .before in
+    let h = w .before .before .before in
+    let r = h .before .before in
+    let e = r .before in
+    let s = e .before .before .before .before in
+    let file = s .args .file .now in
+    parse-good file (e .if1 .left) _ (r .read-header .ensures) (h .header .given .0 .0) (h .header .given .0 .1 .0) (h .header .given .1)
+    (s .args .directions .now) _ _ (w .read-marks .ensures) (x .next .given .0 .0) (x .next .given .1)
+    _ _ (y .read-plans .ensures) (z .end .given .0 .0) (z .end .given .1) (s .pre .0) (c .if2 .left)
+
+pub parse-pool-spec : {M : Type 1} → statement M
+parse-pool-spec =
+    tie.close
+    (tie.spec
+    returns
+    read-header-requires
+    enum-known-header
+    enum-told
+    returns-2
+    read-marks-requires
+    enum-known-next
+    enum-told-2
+    same-length
+    returns-3
+    read-plans-requires
+    enum-known-end
+    enum-told-3
+    same-length-2
+    same-length-3
+    returns-4
+    same-length-4
+    same-length-5
+    returns-5
+    same-length-6
+    same-length-7
+    returns-6)

@@ -1,0 +1,91 @@
+-- `read_marks`: i marks are read so far, up to p, and stored.
+use Prim.Native.Nat.{ℕ, _-_, _≤_}
+use mathlib.Core.Path.{_≡_, refl, _∙_}
+use mathlib.Core.Logic.{⊎-elim}
+use native.Mathlib.Omega.{arith}
+use borrow.Author.Needs.{needs}
+use lib.ListN.{length, length-set, set}
+use Rattle.pool_file.specs.Parsing.{Marks}
+use Rattle.pool_file.proofs.Numbers.{ends-of, broken-of}
+use Rattle.pool_file.proofs.Storing.{marks-none, marks-kept, marks-past, marks-stop}
+use Rattle.pool_file.proofs.read_marks.Statement.{statement}
+use Rattle.pool_file.proofs.read_marks.Tie as tie
+
+abbrev Inv-loop : tie.InvT-loop
+Inv-loop file at n directions₀ p₀ i₀ directions p i = (i ≤ n) × (length directions ≡ length directions₀) × Marks file at i directions₀ directions p
+
+abbrev μ-loop : tie.MeasureT-loop
+μ-loop file at n directions₀ p₀ i₀ directions p i = n - i
+
+loop-holds : tie.Need-loop-holds Inv-loop μ-loop
+loop-holds c = (omega arith, refl, marks-none _ _ _)
+
+read-number-requires : tie.Need-read-number-requires Inv-loop μ-loop
+read-number-requires c κs = search needs
+
+enum-known-v : tie.Need-enum-known-v Inv-loop μ-loop
+enum-known-v c = search needs
+
+enum-told : tie.Need-enum-told Inv-loop μ-loop
+enum-told c = search needs
+
+same-length : tie.Need-same-length Inv-loop μ-loop
+same-length c = c .before .before .before .before .loop .inv .1
+
+returns : tie.Need-returns Inv-loop μ-loop
+returns c =
+    let r = c .before .before in
+    let l = r .before .before .loop in
+    marks-stop _ _ _ (l .i) _ (l .p) (l .directions) (r .before .loop-test .taken) (broken-of _ (l .p) _ (r .read-number .ensures) (c .enum-told .given .1)) (l .inv .2)
+
+capped-requires : tie.Need-capped-requires Inv-loop μ-loop
+capped-requires c κs = search needs
+
+slice-write-directions : tie.Need-slice-write-directions Inv-loop μ-loop
+slice-write-directions c = omega arith
+
+add-i : tie.Need-add-i Inv-loop μ-loop
+add-i c = omega arith
+
+loop-less : tie.Need-loop-less Inv-loop μ-loop
+loop-less c = omega arith
+
+loop-again : tie.Need-loop-again Inv-loop μ-loop
+loop-again c =
+    let v = c .before .before in
+    let r = v .before .before in
+    let l = r .before .before .loop in
+    let e = ends-of _ (l .p) _ (v .v .given .0 .0) (v .v .given .0 .1 .0) (r .read-number .ensures) (v .v .given .1) in
+    ⊎-elim
+    (λ w. rw (w .2, w .1 .ensures) (omega arith, length-set (l .directions) (l .i) _ ∙ l .inv .1, marks-kept _ _ _ (l .i) (l .p) _ _ (l .directions) e (l .inv .2) (w .0 .taken)))
+    (λ w. rw (w .1) (omega arith, l .inv .1, marks-past _ _ _ (l .i) (l .p) _ _ (l .directions) e (l .inv .2) (w .0 .left)))
+    (c .if1 .came)
+
+same-length-2 : tie.Need-same-length-2 Inv-loop μ-loop
+same-length-2 c = c .before .loop .inv .1
+
+returns-2 : tie.Need-returns-2 Inv-loop μ-loop
+returns-2 c =
+    let l = c .before .loop in
+    let e : l .i ≡ c .before .before .before .before .args .n = omega arith in
+    rw (← e) (l .inv .2)
+
+pub read-marks-spec : {M : Type 1} → statement M
+read-marks-spec =
+    tie.close
+    (tie.spec
+    Inv-loop
+    μ-loop
+    loop-holds
+    read-number-requires
+    enum-known-v
+    enum-told
+    same-length
+    returns
+    capped-requires
+    slice-write-directions
+    add-i
+    loop-less
+    loop-again
+    same-length-2
+    returns-2)

@@ -1,0 +1,253 @@
+-- THE SELECTION THAT THE WORDS ASK FOR IS THE FILE'S. The parser's words and marks, as a request of `nsga3_select`, and the request that the file is: the
+-- refusals 2, 3, 4, 7 and 8 are the same, and where neither 2 nor 8 applies the two are one request.
+use Prim.Native.Nat.{ℕ, zero, suc, _+_, _*_, _/_, _≤_, _<_}
+use mathlib.Core.Path.{_≡_, refl, ap, sym, _∙_, subst, fun-ext}
+use mathlib.Core.Bool.{Bool, true, false, cond, not, _&&_, _||_, and-false, true≢false, false≢true}
+use mathlib.Core.List.{List, [], _∷_, map}
+use mathlib.Core.Option.{Option, none, some}
+use native.Mathlib.Nat.{not-suc-le-zero, mul-le-mul-right, le-trans}
+use native.Mathlib.Omega.{arith}
+use borrow.Author.Tests.{lt-ltb, le-ltb, ltb-true, ltb-false, le-leb, lt-leb, leb-true, leb-false}
+use lib.Dec.{eqb, leb, ltb}
+use lib.Ieee.{Float, nan}
+use lib.ListN.{length, getD, take, replicate, length-map, List·getD-map, List·getD-eq-default}
+use lib.Seq.{length-take-le, getD-take, take-all}
+use Rattle.model.specs.declared.Rng.{Rng}
+use Rattle.model.specs.declared.Direction.{Direction}
+use Rattle.model.specs.Lists.{listBelow, allBelow, allIn}
+use Rattle.model.specs.Real.{infinity}
+use Rattle.model.specs.Plan.{Plan, planOf, planAt, planCount, planWords, maxValues, maxConstraints}
+use Rattle.model.specs.Row.{directionOf, toMinimize, rowOf}
+use Rattle.model.specs.Association.{Request, objectives}
+use Rattle.model.specs.Kept.{selected}
+use Rattle.model.specs.PoolFile.{PoolFile, parse, noPlan, fileRequest}
+use Rattle.model.specs.Refusal.{maxSize, badDirections, badSize, badDivisions, badCount, badPool, goodPlan, goodIdeal, measurable}
+use Rattle.model.specs.Calls.{wordRequest}
+use Rattle.list_laws.proofs.Bools.{by-bool, and-left, and-right}
+use Rattle.list_laws.proofs.Tests.{allBelow-same, allBelow-each}
+use Rattle.pool_file.specs.declared.Header.{Header}
+use Rattle.pool_file.specs.Parsing.{Pool, capped, roomed}
+use Rattle.pool_file.proofs.Blocks.{planOf-same}
+use Rattle.pool_laws.proofs.Shapes.{Shape, Whole, parse-whole}
+
+-- ---- marks
+
+capped-low : (k : ℕ) → k ≤ 1 → capped k ≡ k
+capped-low k h = rw (lt-ltb k 2 (omega arith))
+
+capped-high : (k : ℕ) → 2 ≤ k → capped k ≡ 2
+capped-high k h = rw (le-ltb k 2 h)
+
+capped-good : (k : ℕ) → leb (capped k) 1 ≡ leb k 1
+capped-good k = by-bool (ltb k 2)
+    (λ e. let h = ltb-true k 2 e in ap (λ (x : ℕ). leb x 1) (capped-low k (omega arith)))
+    (λ e. let h = ltb-false k 2 e in ap (λ (x : ℕ). leb x 1) (capped-high k h) ∙ sym (lt-leb k 1 (omega arith)))
+
+capped-direction : (k : ℕ) → directionOf (capped k) ≡ directionOf k
+capped-direction zero = refl
+capped-direction (suc k) = by-bool (ltb (suc k) 2)
+    (λ e. let h = ltb-true (suc k) 2 e in ap directionOf (capped-low (suc k) (omega arith)))
+    (λ e. let h = ltb-false (suc k) 2 e in ap directionOf (capped-high (suc k) h))
+
+marks-good : (l : List ℕ) → allIn (λ k. leb k 1) (map capped l) ≡ allIn (λ k. leb k 1) l
+unfolding allIn
+marks-good [] = refl
+marks-good (k ∷ l) = rw (capped-good k, marks-good l)
+
+marks-same : (l : List ℕ) → allIn (λ k. leb k 1) l ≡ true → map capped l ≡ l
+unfolding allIn
+marks-same [] h = refl
+marks-same (k ∷ l) h =
+    let a : k ≤ 1 = leb-true k 1 (and-left (leb k 1) _ h) in
+    rw (capped-low k a, marks-same l (and-right (leb k 1) _ h))
+
+pub directions-same : (l : List ℕ) → badDirections (map capped l) ≡ badDirections l
+unfolding badDirections
+directions-same l = rw (length-map, marks-good l)
+
+directions-good : (l : List ℕ) → badDirections l ≡ false → allIn (λ k. leb k 1) l ≡ true
+unfolding badDirections
+directions-good l h = by-bool (allIn (λ k. leb k 1) l) (λ e. e) (λ e. absurd (never (not (leb 1 (length l) && leb (length l) 8)) (rw e at h)))
+  where
+    never : (b : Bool) → (b || true) ≡ false → ⊥
+    never true e = true≢false e
+    never false e = true≢false e
+
+-- ---- plans
+
+-- no words form no plan
+planOf-zero : planOf (λ j. 0) ≡ noPlan
+unfolding planOf listBelow
+planOf-zero = refl
+
+roomed-same : (m : ℕ) (p : Plan) → m ≤ maxValues → Shape m p → p .constraintCount ≤ maxConstraints → roomed p ≡ p
+roomed-same m p h s c =
+    let r = s .row in
+    let k = s .constraints in
+    rw (take-all 8 (p .row) (omega arith), take-all 16 (p .constraints) (omega arith)) (counts p (sym (s .settingCount)) (sym (s .settings)))
+  where
+    counts : (p : Plan) → 0 ≡ p .settingCount → [] ≡ p .settings
+        → _≡_ {A = Plan} (record { number = p .number; rowLength = p .rowLength; row = p .row; constraintCount = p .constraintCount; constraints = p .constraints; settingCount = 0; settings = [] }) p
+    counts p a b = rw (a, b)
+
+roomed-good : (m : ℕ) (p : Plan) → m ≤ maxValues → Shape m p → goodPlan m (roomed p) ≡ goodPlan m p
+unfolding goodPlan
+roomed-good m p h s = by-bool (leb (p .constraintCount) maxConstraints)
+    (λ e. ap (goodPlan m) (roomed-same m p h s (leb-true (p .constraintCount) maxConstraints e)))
+    (λ e. rw e)
+
+-- ---- requests
+
+-- a request of words and a request of a file: what applies to one applies to the other, and where 2 and 8 do not, they are one
+pub record Carried (w r : Request) : Type 0 where
+  pub two : badDirections (w .marks) ≡ badDirections (r .marks)
+  pub three : badSize (w .size) ≡ badSize (r .size)
+  pub four : badDivisions (objectives w) (w .divisions) ≡ badDivisions (objectives r) (r .divisions)
+  pub seven : badCount (w .count) ≡ badCount (r .count)
+  pub eight : badPool w ≡ badPool r
+  pub rows : (p j : ℕ) → rowOf (w .marks) (w .plans p) j ≡ rowOf (r .marks) (r .plans p) j
+  pub good : (p : ℕ) → goodPlan (objectives w) (w .plans p) ≡ goodPlan (objectives r) (r .plans p)
+  pub same : badDirections (r .marks) ≡ false → badPool r ≡ false → w ≡ r
+
+pub selects : (w r : Request) → Carried w r → badDirections (r .marks) ≡ false → badPool r ≡ false → selected w ≡ selected r
+selects w r c a b = ap selected (c .same a b)
+
+abbrev asked : List ℕ → ℕ → ℕ → ℕ → (ℕ → Plan) → List Float → ℕ → Request
+asked marks divisions size count plans ideal state =
+    record { marks = marks; divisions = divisions; size = size; count = count; plans = plans; ideal = ideal; state = state }
+
+request-same : (w r : Request) → w .marks ≡ r .marks → w .divisions ≡ r .divisions → w .size ≡ r .size → w .count ≡ r .count → w .plans ≡ r .plans
+    → w .ideal ≡ r .ideal → w .state ≡ r .state → w ≡ r
+request-same w r a b c d e f g =
+    ap (λ (x : List ℕ). asked x (w .divisions) (w .size) (w .count) (w .plans) (w .ideal) (w .state)) a
+    ∙ ap (λ (x : ℕ). asked (r .marks) x (w .size) (w .count) (w .plans) (w .ideal) (w .state)) b
+    ∙ ap (λ (x : ℕ). asked (r .marks) (r .divisions) x (w .count) (w .plans) (w .ideal) (w .state)) c
+    ∙ ap (λ (x : ℕ). asked (r .marks) (r .divisions) (r .size) x (w .plans) (w .ideal) (w .state)) d
+    ∙ ap (λ (x : ℕ → Plan). asked (r .marks) (r .divisions) (r .size) (r .count) x (w .ideal) (w .state)) e
+    ∙ ap (λ (x : List Float). asked (r .marks) (r .divisions) (r .size) (r .count) (r .plans) x (w .state)) f
+    ∙ ap (λ (x : ℕ). asked (r .marks) (r .divisions) (r .size) (r .count) (r .plans) (r .ideal) x) g
+
+pool-same : (w r : Request) → objectives w ≡ objectives r → w .count ≡ r .count
+    → ((p : ℕ) → goodPlan (objectives w) (w .plans p) ≡ goodPlan (objectives r) (r .plans p)) → w .ideal ≡ r .ideal → badPool w ≡ badPool r
+unfolding badPool
+pool-same w r a b c d =
+    ap (λ (t : Bool). not (t && goodIdeal (objectives w) (w .ideal)))
+    (allBelow-same (λ p. goodPlan (objectives w) (w .plans p)) (λ p. goodPlan (objectives r) (r .plans p)) (w .count) (λ p l. c p)
+    ∙ ap (allBelow (λ p. goodPlan (objectives r) (r .plans p))) b)
+    ∙ ap (λ (k : ℕ). not (allBelow (λ p. goodPlan (objectives r) (r .plans p)) (r .count) && goodIdeal k (w .ideal))) a
+    ∙ ap (λ (l : List Float). not (allBelow (λ p. goodPlan (objectives r) (r .plans p)) (r .count) && goodIdeal (objectives r) l)) d
+
+-- where 8 does not apply, no plan has over 16 constraints
+pool-good : (r : Request) → badPool r ≡ false → (p : ℕ) → p < r .count → r .plans p .constraintCount ≤ maxConstraints
+unfolding badPool goodPlan
+pool-good r h p l =
+    let a : allBelow (λ p. goodPlan (objectives r) (r .plans p)) (r .count) ≡ true = and-left _ (goodIdeal (objectives r) (r .ideal)) (passes _ h) in
+    let g = allBelow-each (λ p. goodPlan (objectives r) (r .plans p)) (r .count) a p l in
+    leb-true (r .plans p .constraintCount) maxConstraints (and-left (leb (r .plans p .constraintCount) maxConstraints) _ (and-right (eqb (r .plans p .rowLength) (objectives r)) _ g))
+  where
+    passes : (b : Bool) → not b ≡ false → b ≡ true
+    passes true e = refl
+    passes false e = absurd (true≢false e)
+
+-- ---- the words and the file
+
+-- the request that the parser's words form
+abbrev pub stored : Header → List ℕ → List ℕ → Request
+stored h directions pool =
+    wordRequest (take (h .count * planWords) pool) (take (h .m) directions) (h .divisions) (h .size) (record { s = h .seed }) (replicate (h .m) infinity)
+
+module _ (file : List ℕ) (h : Header) (directions pool : List ℕ) (w : Pool file h directions pool) (few : h .m ≤ maxValues) (small : h .count ≤ maxSize)
+    (room : maxSize * planWords ≤ length pool) where
+  abbrev f : PoolFile
+  f = w .form
+
+  whole : Whole f
+  whole = parse-whole file f (w .parsed)
+
+  abbrev words : List ℕ
+  words = take (h .count * planWords) pool
+
+  words-length : length words ≡ h .count * planWords
+  words-length = length-take-le (h .count * planWords) pool (le-trans (mul-le-mul-right planWords small) room)
+
+  marks : take (h .m) directions ≡ map capped (f .marks)
+  marks = w .marks few
+
+  plan-in : (p : ℕ) → p < h .count → planAt words p ≡ roomed (getD (f .plans) p noPlan)
+  plan-in p l =
+      let k : (p + 1) * planWords ≤ h .count * planWords = mul-le-mul-right planWords (omega arith) in
+      planOf-same (λ j. getD words (p * planWords + j) 0) (λ j. getD pool (p * planWords + j) 0)
+      (λ j u. getD-take (h .count * planWords) pool (p * planWords + j) 0 (omega arith))
+      ∙ w .plans small p l
+
+  plan-past : (p : ℕ) → h .count ≤ p → planAt words p ≡ getD (f .plans) p noPlan
+  plan-past p l =
+      let k : h .count * planWords ≤ p * planWords = mul-le-mul-right planWords l in
+      let n = words-length in
+      let c = w .planCount in
+      planOf-same (λ j. getD words (p * planWords + j) 0) (λ j. 0) (λ j u. List·getD-eq-default words 0 (omega arith))
+      ∙ planOf-zero ∙ sym (List·getD-eq-default (f .plans) noPlan (omega arith))
+
+  shape : (p : ℕ) → p < h .count → Shape (h .m) (getD (f .plans) p noPlan)
+  shape p l =
+      let c = w .count in
+      subst (λ (m : ℕ). Shape m (getD (f .plans) p noPlan)) (w .objectives) (whole .plans p (omega arith))
+
+  -- a plan with at most 16 constraints is stored as it is
+  pub plan-same : (p : ℕ) → p < h .count → getD (f .plans) p noPlan .constraintCount ≤ maxConstraints → planAt words p ≡ getD (f .plans) p noPlan
+  plan-same p l c = plan-in p l ∙ roomed-same (h .m) (getD (f .plans) p noPlan) few (shape p l) c
+
+  -- in the pool or past it
+  module _ {C : Type 0} (p : ℕ) where
+    either : (p < h .count → C) → (h .count ≤ p → C) → C
+    either a b = by-bool (ltb p (h .count)) (λ e. a (ltb-true p (h .count) e)) (λ e. b (ltb-false p (h .count) e))
+
+  pub row-same : (p j : ℕ) → rowOf (take (h .m) directions) (planAt words p) j ≡ rowOf (f .marks) (getD (f .plans) p noPlan) j
+  unfolding rowOf
+  row-same p j =
+      let r : planAt words p .row ≡ getD (f .plans) p noPlan .row = either p
+      (λ l. let s = shape p l .row in
+      ap (λ (q : Plan). q .row) (plan-in p l) ∙ take-all 8 (getD (f .plans) p noPlan .row) (omega arith))
+      (λ l. ap (λ (q : Plan). q .row) (plan-past p l)) in
+      let d : directionOf (getD (take (h .m) directions) j 0) ≡ directionOf (getD (f .marks) j 0) =
+      ap (λ (l : List ℕ). directionOf (getD l j 0)) marks ∙ ap directionOf (List·getD-map capped (f .marks) j 0) ∙ capped-direction (getD (f .marks) j 0) in
+      ap (λ (x : Direction). toMinimize x (getD (planAt words p .row) j nan)) d
+      ∙ ap (λ (l : List Float). toMinimize (directionOf (getD (f .marks) j 0)) (getD l j nan)) r
+
+  pub good-same : (p : ℕ) → goodPlan (h .m) (planAt words p) ≡ goodPlan (h .m) (getD (f .plans) p noPlan)
+  good-same p = either p
+      (λ l. ap (goodPlan (h .m)) (plan-in p l) ∙ roomed-good (h .m) (getD (f .plans) p noPlan) few (shape p l))
+      (λ l. ap (goodPlan (h .m)) (plan-past p l))
+
+  objectives-file : length (f .marks) ≡ h .m
+  objectives-file = w .markCount
+
+  objectives-words : length (take (h .m) directions) ≡ h .m
+  objectives-words = ap length marks ∙ length-map (f .marks) capped ∙ objectives-file
+
+  count-words : planCount words ≡ h .count
+  count-words = let n = words-length in omega arith
+
+  pub carried : Carried (stored h directions pool) (fileRequest (w .form))
+  carried =
+      let o : length (take (h .m) directions) ≡ length (f .marks) = objectives-words ∙ sym objectives-file in
+      let n : planCount words ≡ f .count = count-words ∙ sym (w .count) in
+      let i : replicate (h .m) infinity ≡ replicate (f .objectives) infinity = ap (λ (k : ℕ). replicate k infinity) (sym (w .objectives)) in
+      let g : (p : ℕ) → goodPlan (length (take (h .m) directions)) (planAt words p) ≡ goodPlan (length (f .marks)) (getD (f .plans) p noPlan) =
+      λ p. ap (λ (k : ℕ). goodPlan k (planAt words p)) objectives-words ∙ good-same p
+      ∙ ap (λ (k : ℕ). goodPlan k (getD (f .plans) p noPlan)) (sym objectives-file) in
+      record {
+        two = ap badDirections marks ∙ directions-same (f .marks);
+        three = ap badSize (sym (w .size));
+        four = ap (λ (k : ℕ). badDivisions k (h .divisions)) o ∙ ap (badDivisions (length (f .marks))) (sym (w .divisions));
+        seven = ap badCount n;
+        eight = pool-same (stored h directions pool) (fileRequest f) o n g i;
+        rows = row-same;
+        good = g;
+        same = λ a b. request-same (stored h directions pool) (fileRequest f)
+            (marks ∙ marks-same (f .marks) (directions-good (f .marks) a)) (sym (w .divisions)) (sym (w .size)) n
+            (fun-ext (λ p. either p
+            (λ l. plan-same p l (pool-good (fileRequest f) b p (subst (λ (k : ℕ). p < k) (sym (w .count)) l)))
+            (λ l. plan-past p l)))
+            i (sym (w .seed));
+      }

@@ -1,0 +1,4 @@
+pub mod Shortest
+pub mod Lengths
+pub mod Shapes
+pub mod Carried

@@ -1,0 +1,47 @@
+-- `write_refused`: the word and the number.
+use Prim.Native.Nat.{ℕ, _+_, _≤_}
+use mathlib.Core.Path.{_≡_, ap, sym, _∙_}
+use mathlib.Core.List.{List, [], _∷_, _++_}
+use native.Mathlib.Nat.{zero-add}
+use native.Mathlib.Omega.{arith}
+use borrow.Author.Needs.{needs}
+use lib.ListN.{length}
+use Rattle.model.specs.PoolFile.{ascii, decimal, refusedText}
+use Rattle.pool_text.proofs.Puts.{room-first, room-rest, put-then, put-as, put-over}
+use Rattle.pool_text.proofs.Listing.{refused-text}
+use Rattle.pool_text.proofs.write_refused.Statement.{statement}
+use Rattle.pool_text.proofs.write_refused.Tie as tie
+
+whole : (n : ℕ) (o : List ℕ) → length (refusedText n) ≤ length o
+    → 0 + length ((114 ∷ 101 ∷ 102 ∷ 117 ∷ 115 ∷ 101 ∷ 100 ∷ 32 ∷ []) ++ (decimal n ++ ascii "\n")) ≤ length o
+whole n o h = omega (arith, ap length (refused-text n))
+
+slice-aggregate-put-bytes : tie.Need-slice-aggregate-put-bytes
+slice-aggregate-put-bytes c = search needs
+
+put-bytes-requires : tie.Need-put-bytes-requires
+put-bytes-requires c κs =
+    let s = c .before .before .before in
+    room-first 0 (length (s .args .out .now)) (114 ∷ 101 ∷ 102 ∷ 117 ∷ 115 ∷ 101 ∷ 100 ∷ 32 ∷ []) (decimal (s .args .n) ++ ascii "\n") (whole (s .args .n) (s .args .out .now) (s .pre))
+
+put-last-requires : tie.Need-put-last-requires
+put-last-requires c κs =
+    let w = c .before .before .before in
+    let s = w .before .before .before .before in
+    room-rest (s .args .out .now) _ 0 _ (114 ∷ 101 ∷ 102 ∷ 117 ∷ 115 ∷ 101 ∷ 100 ∷ 32 ∷ []) (decimal (s .args .n) ++ ascii "\n") (whole (s .args .n) (s .args .out .now) (s .pre)) (w .put-bytes .ensures)
+
+same-length : tie.Need-same-length
+same-length c = search needs
+
+returns : tie.Need-returns
+returns c =
+    let z = c .before .before in
+    let w = z .before .before .before .before in
+    let s = w .before .before .before .before in
+    let p = put-as _ _ _ _ _ _ (sym (refused-text (s .args .n))) (put-then _ _ _ _ _ _ _ _ (w .put-bytes .ensures) (z .put-last .ensures)) in
+    (p .ends ∙ zero-add _, put-over _ _ _ _ (s .pre) p)
+
+pub write-refused-spec : {M : Type 1} → statement M
+write-refused-spec =
+    tie.close
+    (tie.spec slice-aggregate-put-bytes put-bytes-requires put-last-requires same-length returns)
