@@ -8,7 +8,7 @@ ghost use lib.Signed.{leZ, _≤ℤ_};
 ghost use Rattle.model.specs.Real.{within};
 ghost use Rattle.model.specs.Draw.{drawn};
 ghost use Rattle.settings.specs.Candidate.{dimensionsOf, settingsOf};
-ghost use Rattle.model.specs.Setting.{stepAbove0, validDimension, inBounds, toWord, ofWord, sampleInt, sampleRandom, sampleAll};
+ghost use Rattle.model.specs.Setting.{kindOfDimension, stepAbove0, validDimension, inBounds, toWord, ofWord, sampleInt, sampleRandom, sampleAll};
 ghost use Rattle.model.specs.Refusal.{wholeEta, badOperators, badDimensions};
 ghost use Rattle.model.specs.declared.Distribution.the-variants as dist;
 ghost use Rattle.model.specs.declared.OptionI64.the-variants as optI64;
@@ -188,6 +188,17 @@ pub fn bad_dimensions(dims: [DimensionInfo; 32], n: usize) -> bool
 }
 
 // ---- settings
+
+// The number of a dimension's kind: 0 Float, 1 Int, 2 Categorical.
+pub fn kind_of_dimension(d: Distribution) -> u64
+    ensures { λ r. ⌜ r ≡ kindOfDimension d ⌝ }
+{
+    match d {
+        Distribution::Float(_) => 0,
+        Distribution::Int(_) => 1,
+        Distribution::Categorical(_) => 2,
+    }
+}
 
 // v is of its dimension's kind and within its bounds.
 pub fn in_bounds(d: Distribution, v: ParamValue) -> bool
