@@ -1,0 +1,4 @@
+pub mod Entries
+pub mod Sorting
+pub mod Naming
+pub mod Extracting

@@ -1,0 +1,91 @@
+-- A brood from its parts.
+use mathlib.Core.Path.{_≡_, refl, sym, ap, ap₂, _∙_}
+use mathlib.Core.Bool.{Bool, true, false, not, _&&_, cond}
+use mathlib.Core.List.{List, []}
+use Prim.Native.Nat.{ℕ, _+_, _*_, _<_, _≤_}
+use native.Mathlib.Nat.{add-mul, one-mul, mul-le-mul-right, le-trans}
+use native.Mathlib.Omega.{arith}
+use lib.Dec.{leb}
+use lib.Ieee.{Float}
+use lib.ListN.{length, getD}
+use Rattle.list_laws.proofs.Bools.{and-left, and-right, by-bool}
+use Rattle.list_laws.proofs.Built.{listBelow-length, listBelow-at}
+use Rattle.model.specs.declared.Distribution.{Distribution}
+use Rattle.model.specs.declared.ParamValue.{ParamValue}
+use Rattle.model.specs.Real.{nought, unit, within}
+use Rattle.model.specs.Draw.{Drawn, drawn, drawUsize}
+use Rattle.model.specs.Setting.{Children, children, exponentOf, crossover, mutate, tournament, brood}
+use Rattle.model.specs.Refusal.{wholeEta, badOperators}
+use Rattle.genetic.specs.Parents.{parentAt, parentsIn, operators}
+use Rattle.genetic.proofs.Steps.{drawn-below}
+
+module _ (T : ℕ → Drawn ℕ) (X : List ParamValue → List ParamValue → ℕ → Drawn Children) (M : List ParamValue → ℕ → Drawn (List ParamValue)) (get : ℕ → List ParamValue) where
+  -- both children mutated
+  abbrev mutated : Drawn Children → Drawn Children
+  mutated c = drawn (children (M (c .value .first) (c .state) .value) (M (c .value .second) (M (c .value .first) (c .state) .state) .value)) (M (c .value .second) (M (c .value .first) (c .state) .state) .state)
+
+  chain : (s i t j u v w z : ℕ) (A B C D : List ParamValue) → drawn i t ≡ T s → drawn j u ≡ T t → drawn (children A B) v ≡ X (get i) (get j) u → drawn C w ≡ M A v → drawn D z ≡ M B w
+      → drawn (children C D) z ≡ mutated (X (get (T s .value)) (get (T (T s .state) .value)) (T (T s .state) .state))
+  chain s i t j u v w z A B C D e1 e2 e3 e4 e5 =
+      ap (λ (b : Drawn (List ParamValue)). drawn (children C (b .value)) (b .state)) e5
+      ∙ ap (λ (a : Drawn (List ParamValue)). drawn (children (a .value) (M B (a .state) .value)) (M B (a .state) .state)) e4
+      ∙ ap mutated e3
+      ∙ ap (λ (q : Drawn ℕ). mutated (X (get i) (get (q .value)) (q .state))) e2
+      ∙ ap (λ (p : Drawn ℕ). mutated (X (get (p .value)) (get (T (p .state) .value)) (T (p .state) .state))) e1
+
+-- the winner is one of the n
+pub winner-below : (ranks : ℕ → ℕ) (n s i t : ℕ) → 0 < n → drawn i t ≡ tournament ranks n s → i < n
+unfolding tournament
+winner-below ranks n s i t h e =
+    let a = drawUsize n s in
+    let b = drawUsize n (a .state) in
+    let v = ap (λ (d : Drawn ℕ). d .value) e in
+    let ha = drawn-below n s (a .value) (a .state) h refl in
+    let hb = drawn-below n (a .state) (b .value) (b .state) h refl in
+    by-bool (leb (ranks (a .value)) (ranks (b .value))) (λ q. omega (arith, v ∙ ap (λ c. cond c (a .value) (b .value)) q)) (λ q. omega (arith, v ∙ ap (λ c. cond c (a .value) (b .value)) q))
+
+-- its row lies within the rows
+pub row-within : (i count n len : ℕ) → i < count → count * n ≤ len → i * n + n ≤ len
+row-within i count n len h l =
+    let e = add-mul i 1 n in
+    let o = one-mul n in
+    let g = mul-le-mul-right {m = i + 1} {n = count} n (omega arith) in
+    omega arith
+
+-- operators that are not bad have etas that can be cast
+not-no : (b : Bool) → not b ≡ false → b ≡ true
+not-no true e = refl
+not-no false e = absurd (mathlib.Core.Bool.true≢false e)
+
+module _ (probability crossoverEta mutationEta : Float) (h : badOperators probability crossoverEta mutationEta ≡ false) where
+  good : (within nought unit probability && (wholeEta crossoverEta && wholeEta mutationEta)) ≡ true
+  unfolding badOperators
+  good = not-no _ h
+
+  pub crossover-eta : wholeEta crossoverEta ≡ true
+  crossover-eta = and-left (wholeEta crossoverEta) (wholeEta mutationEta) (and-right (within nought unit probability) (wholeEta crossoverEta && wholeEta mutationEta) good)
+
+  pub mutation-eta : wholeEta mutationEta ≡ true
+  mutation-eta = and-right (wholeEta crossoverEta) (wholeEta mutationEta) (and-right (within nought unit probability) (wholeEta crossoverEta && wholeEta mutationEta) good)
+
+module _ (dims : ℕ → Distribution) (n : ℕ) (probability crossoverEta mutationEta : Float) (words : List ℕ) (count : ℕ) (ranks : ℕ → ℕ) (some : 0 < count) where
+  size : length (parentsIn dims n words count) ≡ count
+  unfolding parentsIn
+  size = listBelow-length (parentAt dims n words) count
+
+  row : (i : ℕ) → i < count → getD (parentsIn dims n words count) i [] ≡ parentAt dims n words i
+  unfolding parentsIn
+  row i h = listBelow-at (parentAt dims n words) count [] i h
+
+  pub brood-is : (s i t j u v w z k m : ℕ) (P Q A B C D : List ParamValue) → drawn i t ≡ tournament ranks count s → drawn j u ≡ tournament ranks count t → P ≡ parentAt dims n words i
+      → Q ≡ parentAt dims n words j → k ≡ exponentOf crossoverEta → m ≡ exponentOf mutationEta → drawn (children A B) v ≡ crossover dims n probability k P Q u → drawn C w ≡ mutate dims n A m v
+      → drawn D z ≡ mutate dims n B m w → drawn (children C D) z ≡ brood (operators dims n probability crossoverEta mutationEta) (parentsIn dims n words count) ranks s
+  unfolding brood
+  brood-is s i t j u v w z k m P Q A B C D e1 e2 eP eQ ek em e3 e4 e5 =
+      let hi = winner-below ranks count s i t some e1 in
+      let hj = winner-below ranks count t j u some e2 in
+      chain (tournament ranks (length (parentsIn dims n words count))) (crossover dims n probability (exponentOf crossoverEta)) (λ (l : List ParamValue). mutate dims n l (exponentOf mutationEta))
+      (λ (x : ℕ). getD (parentsIn dims n words count) x []) s i t j u v w z A B C D
+      (e1 ∙ ap (λ (c : ℕ). tournament ranks c s) (sym size)) (e2 ∙ ap (λ (c : ℕ). tournament ranks c t) (sym size))
+      (e3 ∙ ap (λ (x : ℕ). crossover dims n probability x P Q u) ek ∙ ap₂ (λ (x y : List ParamValue). crossover dims n probability (exponentOf crossoverEta) x y u) (eP ∙ sym (row i hi)) (eQ ∙ sym (row j hj)))
+      (e4 ∙ ap (λ (x : ℕ). mutate dims n A x v) em) (e5 ∙ ap (λ (x : ℕ). mutate dims n B x w) em)

@@ -1,0 +1,70 @@
+-- The steps of the definition, one after the other.
+use Prim.Native.Nat.{ℕ}
+use lib.ListN.{length, getD}
+use Rattle.settings.specs.Candidate.{dimensionsOf}
+use Rattle.settings.proofs.Valid.{few}
+use Rattle.genetic.proofs.Broods.{winner-below, row-within, crossover-eta, mutation-eta, brood-is}
+use borrow.Author.Needs.{needs}
+use Rattle.genetic.proofs.brood.Statement.{statement}
+use Rattle.genetic.proofs.brood.Tie as tie
+
+tournament-select-rank-requires : tie.Need-tournament-select-rank-requires
+tournament-select-rank-requires c κs = search needs
+
+tournament-select-rank-requires-2 : tie.Need-tournament-select-rank-requires-2
+tournament-select-rank-requires-2 c κs = search needs
+
+read-parent-requires : tie.Need-read-parent-requires
+read-parent-requires c κs =
+    let s = c .before .before .before .before .before .before in
+    let w = winner-below _ _ _ _ _ (s .pre .0) (c .before .before .before .tournament-select-rank .ensures) in
+    (row-within _ _ _ _ w (s .pre .1), few _ _ (s .pre .3))
+
+read-parent-requires-2 : tie.Need-read-parent-requires-2
+read-parent-requires-2 c κs =
+    let s = c .before .before .before .before .before .before .before in
+    let w = winner-below _ _ _ _ _ (s .pre .0) (c .before .before .tournament-select-rank2 .ensures) in
+    (row-within _ _ _ _ w (s .pre .1), few _ _ (s .pre .3))
+
+exponent-of-requires : tie.Need-exponent-of-requires
+exponent-of-requires c κs = crossover-eta _ _ _ (c .before .before .before .before .before .before .before .before .pre .4)
+
+crossover-requires : tie.Need-crossover-requires
+crossover-requires c κs = few _ _ (c .before .before .before .before .before .before .before .before .before .pre .3)
+
+exponent-of-requires-2 : tie.Need-exponent-of-requires-2
+exponent-of-requires-2 c κs = mutation-eta _ _ _ (c .before .before .before .before .before .before .before .before .before .before .before .before .before .pre .4)
+
+mutate-requires : tie.Need-mutate-requires
+mutate-requires c κs = search needs
+
+mutate-requires-2 : tie.Need-mutate-requires-2
+mutate-requires-2 c κs = c .before .before .before .before .before .before .before .before .before .before .before .before .before .before .before .before .before .pre .3
+
+returns : tie.Need-returns
+returns c =
+    let m2 = c .before .before in
+    let m1 = m2 .before .before .before in
+    let x = m1 .before .before .before .before .before in
+    let r = x .before .before .before in
+    let t = r .before .before .before .before in
+    let s = t .before .before .before in
+    let a = s .args in
+    brood-is (dimensionsOf (a .dims)) (a .n) (a .probability) (a .crossover-eta) (a .mutation-eta) (a .parents .now) (a .count) (λ (i : ℕ). getD (a .ranks .now) i 0) (s .pre .0) (a .rng .s)
+    _ _ _ _ _ _ _ _ _ _ _ _ _ _ _ (t .tournament-select-rank .ensures) (r .before .before .tournament-select-rank2 .ensures) (r .read-parent .ensures) (x .before .before .read-parent2 .ensures)
+    (x .before .exponent-of .ensures) (m1 .before .exponent-of2 .ensures) (x .crossover .ensures) (m1 .mutate .ensures) (m2 .mutate2 .ensures)
+
+pub brood-spec : {M : Type 1} → statement M
+brood-spec =
+    tie.close
+    (tie.spec
+    tournament-select-rank-requires
+    tournament-select-rank-requires-2
+    read-parent-requires
+    read-parent-requires-2
+    exponent-of-requires
+    crossover-requires
+    exponent-of-requires-2
+    mutate-requires
+    mutate-requires-2
+    returns)

@@ -1,0 +1,126 @@
+-- An Int drawn with a step: low + k × step stays within low..high, so nothing on the way leaves 64 bits. Assumes nothing.
+use mathlib.Core.Path.{_≡_, refl, sym, ap, _∙_, subst}
+use Prim.Native.Nat.{ℕ, zero, suc, _+_, _-_, _*_, _/_, _%_, _^_, _<_, _≤_}
+use native.Mathlib.Nat.{mod-lt, div-mul-le-self, div-le-self, mul-le-mul-right, le-trans, zero-add, add-zero}
+use native.Mathlib.Omega.{arith}
+use lib.Dec.{T}
+use lib.IntN.{ℤ, pos, negsuc, negℤ, natAbs, _+ℤ_, _-ℤ_, _*ℤ_}
+use lib.Signed.{nonNeg, quotZ, _≤ℤ_}
+use mir.Syntax.{w64}
+use mir.Val.{SFits, Fits}
+use Rattle.model.specs.declared.OptionI64.the-variants as optI64
+use Rattle.model.specs.Draw.{Drawn, drawn, drawWord, drawI64}
+use Rattle.model.specs.Setting.{sampleInt}
+use Rattle.rng_util.proofs.Shifted.{up, in-up, le-up, up-le, up-add, up-neg, up-nonNeg, up-abs}
+
+-- a number from zero up is its magnitude
+pub from-zero : (z : ℤ) → T (nonNeg z) → z ≡ pos (natAbs z)
+from-zero (pos n) h = refl
+from-zero (negsuc n) h = absurd h
+
+-- what the definition draws, where high - low is `span` and the step `by`
+value-is : (low : ℤ) (span by w : ℕ) → low +ℤ pos (w % (span / by + 1) * by) ≡ low +ℤ (pos 0 +ℤ pos (w % natAbs (quotZ (pos span) (pos by) -ℤ pos 0 +ℤ pos 1))) *ℤ pos by
+value-is low span by w =
+    ap (λ (x : ℕ). low +ℤ pos (w % (x + 1) * by)) (sym (add-zero (span / by)))
+    ∙ ap (λ (x : ℕ). low +ℤ pos (x * by)) (sym (zero-add (w % (span / by + 0 + 1))))
+
+-- what is asked of the bounds and the step
+pub record Stepping (low high step : ℤ) : Type 0 where
+  pub low-fits : SFits w64 low
+  pub high-fits : SFits w64 high
+  pub step-fits : SFits w64 step
+  pub ordered : low ≤ℤ high
+  pub low-end : negℤ (pos (2 ^ 53)) ≤ℤ low
+  pub high-end : high ≤ℤ pos (2 ^ 53)
+  pub above : pos 1 ≤ℤ step
+
+-- how far above low the drawn value lies, for a word
+abbrev pub rise : ℤ → ℤ → ℤ → ℕ → ℕ
+rise low high step w = w % (natAbs (high -ℤ low) / natAbs step + 1) * natAbs step
+
+module _ (low high step : ℤ) (q : Stepping low high step) where
+  ord : up low ≤ up high
+  ord = le-up low high (q .ordered)
+
+  bottom : 2 ^ 64 - 2 ^ 53 ≤ up low
+  bottom = le-up _ low (q .low-end)
+
+  top : up high ≤ 2 ^ 64 + 2 ^ 53
+  top = le-up high _ (q .high-end)
+
+  neg-fits : SFits w64 (negℤ low)
+  neg-fits = let e = up-neg low (q .low-fits .sfits) in in-up (negℤ low) (omega (arith, ord, bottom, top)) (omega (arith, ord, bottom, top))
+
+  diff-up : up (high -ℤ low) + up low ≡ up high + 2 ^ 64
+  diff-up = let e = up-neg low (q .low-fits .sfits) in let f = up-add high (negℤ low) (q .high-fits .sfits) (neg-fits .sfits) in omega arith
+
+  pub diff-fits : SFits w64 (high -ℤ low)
+  diff-fits = in-up (high -ℤ low) (omega (arith, diff-up, ord, bottom, top)) (omega (arith, diff-up, ord, bottom, top))
+
+  pub diff-nonNeg : T (nonNeg (high -ℤ low))
+  diff-nonNeg = up-nonNeg (high -ℤ low) (omega (arith, diff-up, ord))
+
+  abbrev span : ℕ
+  span = natAbs (high -ℤ low)
+
+  span-up : span + up low ≡ up high
+  span-up = omega (arith, diff-up, up-abs (high -ℤ low) (omega (arith, diff-up, ord)))
+
+  pub span-fits : Fits w64 span
+  span-fits = record { fits = omega (arith, span-up, bottom, top) }
+
+  pub step-nonNeg : T (nonNeg step)
+  step-nonNeg = up-nonNeg step (omega (arith, le-up (pos 1) step (q .above)))
+
+  abbrev by : ℕ
+  by = natAbs step
+
+  by-up : by + 2 ^ 64 ≡ up step
+  by-up = up-abs step (omega (arith, le-up (pos 1) step (q .above)))
+
+  pub by-some : 0 < by
+  by-some = omega (arith, by-up, le-up (pos 1) step (q .above))
+
+  pub by-fits : Fits w64 by
+  by-fits = record { fits = omega (arith, by-up, Rattle.rng_util.proofs.Shifted.up-in step (q .step-fits)) }
+
+  pub count-fits : Fits w64 (span / by + 1)
+  count-fits = record { fits = omega (arith, span-up, bottom, top, div-le-self span by) }
+
+  module _ (w : ℕ) where
+    abbrev up-by : ℕ
+    up-by = rise low high step w
+
+    pub rise-le : up-by ≤ span
+    rise-le =
+        let k : w % (span / by + 1) ≤ span / by = omega (arith, mod-lt w {m = span / by + 1} (omega arith)) in
+        le-trans (mul-le-mul-right by k) (div-mul-le-self span by)
+
+    pub rise-fits : Fits w64 up-by
+    rise-fits = record { fits = omega (arith, rise-le, span-up, bottom, top) }
+
+    pub rise-signed : SFits w64 (pos up-by)
+    rise-signed = record { sfits = omega (arith, rise-le, span-up, bottom, top) }
+
+    pick-up : up (low +ℤ pos up-by) ≡ up low + up-by
+    pick-up = omega (arith, up-add low (pos up-by) (q .low-fits .sfits) (rise-signed .sfits))
+
+    pub pick-fits : SFits w64 (low +ℤ pos up-by)
+    pick-fits = in-up _ (omega (arith, pick-up, rise-le, span-up, bottom, top)) (omega (arith, pick-up, rise-le, span-up, bottom, top))
+
+    pub pick-low : low ≤ℤ (low +ℤ pos up-by)
+    pick-low = up-le low _ (q .low-fits) pick-fits (omega (arith, pick-up))
+
+    pub pick-high : (low +ℤ pos up-by) ≤ℤ high
+    pick-high = up-le _ high pick-fits (q .high-fits) (omega (arith, pick-up, rise-le, span-up))
+
+  -- the definition's value
+  pub stepped-is : (s w t : ℕ) → drawn w t ≡ drawWord s → drawn (low +ℤ pos (rise low high step w)) t ≡ sampleInt low high (optI64.Some step) s
+  unfolding sampleInt drawI64
+  stepped-is s w t e =
+      ap (λ (d : Drawn ℕ). drawn (low +ℤ pos (rise low high step (d .value))) (d .state)) e
+      ∙ ap (λ (z : ℤ). drawn z (drawWord s .state)) (
+      value-is low span by (drawWord s .value)
+      ∙ ap (λ (y : ℤ). low +ℤ (pos 0 +ℤ pos (drawWord s .value % natAbs (quotZ y (pos by) -ℤ pos 0 +ℤ pos 1))) *ℤ pos by) (sym (from-zero (high -ℤ low) diff-nonNeg))
+      ∙ ap (λ (y : ℤ). low +ℤ (pos 0 +ℤ pos (drawWord s .value % natAbs (quotZ (high -ℤ low) y -ℤ pos 0 +ℤ pos 1))) *ℤ y) (sym (from-zero step step-nonNeg))
+      )

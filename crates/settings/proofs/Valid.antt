@@ -1,0 +1,90 @@
+-- What a valid dimension tells of its parts.
+use mathlib.Core.Path.{_≡_, refl, sym, ap, _∙_}
+use mathlib.Core.Bool.{Bool, true, false, not, _&&_, _||_, false≢true, true≢false}
+use Prim.Native.Nat.{ℕ, _≤_, _<_}
+use borrow.Author.Tests.{leb-true}
+use lib.Dec.{T, leb, ltb}
+use lib.IntN.{ℤ, pos}
+use lib.Signed.{leZ, _≤ℤ_}
+use lib.Ieee.{Float, le}
+use Rattle.list_laws.proofs.Bools.{and-left, and-right, true-T}
+use Rattle.list_laws.proofs.Tests.{allBelow-each}
+use Rattle.model.specs.declared.Distribution.{Distribution}
+use Rattle.model.specs.declared.Distribution.the-variants as dist
+use Rattle.model.specs.declared.FloatDistribution.{FloatDistribution}
+use Rattle.model.specs.declared.IntDistribution.{IntDistribution}
+use Rattle.model.specs.declared.CategoricalDistribution.{CategoricalDistribution}
+use Rattle.model.specs.Lists.{allBelow}
+use Rattle.model.specs.Real.{within}
+use Rattle.model.specs.Setting.{minBound, maxBound, minWhole, maxWhole, noStep, stepAbove0, validDimension}
+use Rattle.model.specs.Refusal.{badDimensions}
+
+pub record FloatBounds (d : FloatDistribution) : Type 0 where
+  pub ordered : T (le (d .low) (d .high))
+  pub low-end : T (le minBound (d .low))
+  pub high-end : T (le (d .high) maxBound)
+
+pub float-bounds : (d : FloatDistribution) → validDimension (dist.Float d) ≡ true → FloatBounds d
+unfolding validDimension
+float-bounds d h =
+    let a = le (d .low) (d .high) in
+    let b = within minBound maxBound (d .low) in
+    let e = within minBound maxBound (d .high) in
+    let f = not (d .«log_scale») && noStep (d .step) in
+    let t = and-right a (b && (e && f)) h in
+    record {
+      ordered = true-T a (and-left a (b && (e && f)) h);
+      low-end = true-T _ (and-left (le minBound (d .low)) (le (d .low) maxBound) (and-left b (e && f) t));
+      high-end = true-T _ (and-right (le minBound (d .high)) (le (d .high) maxBound) (and-left e f (and-right b (e && f) t)));
+    }
+
+pub record IntBounds (d : IntDistribution) : Type 0 where
+  pub ordered : d .low ≤ℤ d .high
+  pub low-end : minWhole ≤ℤ d .low
+  pub high-end : d .high ≤ℤ maxWhole
+  pub step : stepAbove0 (d .step) ≡ true
+
+order : (a b : ℤ) → leZ a b ≡ true → a ≤ℤ b
+order a b e = record { le = true-T (leZ a b) e }
+
+pub int-bounds : (d : IntDistribution) → validDimension (dist.Int d) ≡ true → IntBounds d
+unfolding validDimension
+int-bounds d h =
+    let a = leZ (d .low) (d .high) in
+    let b = leZ minWhole (d .low) in
+    let e = leZ (d .high) maxWhole in
+    let l = not (d .«log_scale») in
+    let f = stepAbove0 (d .step) in
+    let t = and-right a (b && (e && (l && f))) h in
+    let u = and-right b (e && (l && f)) t in
+    record {
+      ordered = order (d .low) (d .high) (and-left a (b && (e && (l && f))) h);
+      low-end = order minWhole (d .low) (and-left b (e && (l && f)) t);
+      high-end = order (d .high) maxWhole (and-left e (l && f) u);
+      step = and-right l f (and-right e (l && f) u);
+    }
+
+pub some-choice : (d : CategoricalDistribution) → validDimension (dist.Categorical d) ≡ true → 0 < d .«n_choices»
+unfolding validDimension
+some-choice d h = leb-true 1 (d .«n_choices») (and-left (leb 1 (d .«n_choices»)) (leb (d .«n_choices») 65536) h)
+
+-- dimensions that are not bad are at most 32, and each is valid
+or-left-no : (a b : Bool) → (a || b) ≡ false → a ≡ false
+or-left-no true b e = absurd (true≢false e)
+or-left-no false b e = refl
+
+or-right-no : (a b : Bool) → (a || b) ≡ false → b ≡ false
+or-right-no true b e = absurd (true≢false e)
+or-right-no false b e = e
+
+not-no : (b : Bool) → not b ≡ false → b ≡ true
+not-no true e = refl
+not-no false e = absurd (true≢false e)
+
+pub few : (dims : ℕ → Distribution) (n : ℕ) → badDimensions dims n ≡ false → n ≤ 32
+unfolding badDimensions
+few dims n h = borrow.Author.Tests.ltb-false 32 n (or-left-no (ltb 32 n) (not (allBelow (λ d. validDimension (dims d)) n)) h)
+
+pub each : (dims : ℕ → Distribution) (n : ℕ) → badDimensions dims n ≡ false → (i : ℕ) → i < n → validDimension (dims i) ≡ true
+unfolding badDimensions
+each dims n h = allBelow-each (λ d. validDimension (dims d)) n (not-no _ (or-right-no (ltb 32 n) (not (allBelow (λ d. validDimension (dims d)) n)) h))

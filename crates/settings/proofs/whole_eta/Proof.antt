@@ -1,0 +1,59 @@
+-- Between 0 and 99 the cast to a whole number asks nothing more.
+use mathlib.Core.Path.{_≡_, sym, ap, _∙_}
+use mathlib.Core.Bool.{Bool, true, false, _&&_}
+use lib.Dec.{T}
+use lib.IntN.{pos}
+use lib.Ieee.{Float, fin, binary64, ofBits, ofInt, toUnsigned, eq, le, lt}
+use Rattle.float_laws.proofs.Order.{lt-le-trans, le-lt-trans}
+use Rattle.list_laws.proofs.Bools.{and-left, and-right, true-T}
+use Rattle.model.specs.Real.{nought, within}
+use Rattle.model.specs.Refusal.{ninetyNine, wholeEta}
+use borrow.Author.Needs.{needs}
+use Rattle.settings.proofs.whole_eta.Statement.{statement}
+use Rattle.settings.proofs.whole_eta.Tie as tie
+
+held : (x : Float) (r t : Bool) → r ≡ within nought ninetyNine x → r ≡ t → within nought ninetyNine x ≡ t
+held x r t e h = sym e ∙ h
+
+-- a number from 0 to 99 can be cast
+castable : (x : Float) → within nought ninetyNine x ≡ true → T (lt (fin true 1 (pos 0)) x) × T (lt x (fin false 1 (pos 64)))
+unfolding ofBits lt
+castable x h = (
+  lt-le-trans (fin true 1 (pos 0)) nought x tt (true-T _ (and-left (le nought x) (le x ninetyNine) h)),
+  le-lt-trans x ninetyNine (fin false 1 (pos 64)) (true-T _ (and-right (le nought x) (le x ninetyNine) h)) tt,
+)
+
+is-eta : (x y : Float) (k : Prim.Native.Nat.ℕ) → within nought ninetyNine x ≡ true → k ≡ toUnsigned 64 x → y ≡ ofInt binary64 (pos k) → eq y x ≡ wholeEta x
+unfolding wholeEta
+is-eta x y k h e f = rw h (ap (λ z. eq z x) (f ∙ ap (λ n. ofInt binary64 (pos n)) e))
+
+no-eta : (x : Float) → within nought ninetyNine x ≡ false → false ≡ wholeEta x
+unfolding wholeEta
+no-eta x h = rw h
+
+real-within-requires : tie.Need-real-within-requires
+real-within-requires c κs = search needs
+
+truncating-f64-to-u64-requires : tie.Need-truncating-f64-to-u64-requires
+truncating-f64-to-u64-requires c κs = castable _ (held _ _ true (c .before .real-within .ensures) (c .if1 .taken))
+
+nearest-u64-to-f64-requires : tie.Need-nearest-u64-to-f64-requires
+nearest-u64-to-f64-requires c κs = search needs
+
+returns : tie.Need-returns
+returns c =
+    let b = c .before .before in
+    is-eta _ _ _ (held (b .before .before .args .x) _ true (b .before .real-within .ensures) (b .if1 .taken)) (c .before .truncating-f64-to-u64 .ensures) (c .nearest-u64-to-f64 .ensures)
+
+returns-2 : tie.Need-returns-2
+returns-2 c = no-eta _ (held (c .before .before .args .x) _ false (c .before .real-within .ensures) (c .if1 .left))
+
+pub whole-eta-spec : {M : Type 1} → statement M
+whole-eta-spec =
+    tie.close
+    (tie.spec
+    real-within-requires
+    truncating-f64-to-u64-requires
+    nearest-u64-to-f64-requires
+    returns
+    returns-2)

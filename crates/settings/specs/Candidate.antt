@@ -1,0 +1,27 @@
+-- Dimensions and candidates as arrays hold them.
+use Prim.Native.Nat.{ℕ}
+use mathlib.Core.List.{List}
+use lib.Ieee.{nan}
+use lib.ListN.{getD}
+use Rattle.model.specs.declared.DimensionInfo.{DimensionInfo}
+use Rattle.model.specs.declared.Distribution.{Distribution}
+use Rattle.model.specs.declared.ParamValue.{ParamValue}
+use Rattle.model.specs.declared.ParamValue.the-variants as value
+use Rattle.model.specs.Lists.{listBelow}
+use Rattle.model.specs.Session.{noDimension}
+use Rattle.settings.specs.declared.Slot.{Slot}
+
+-- the dimension at each place of an array
+abbrev pub dimensionsOf : List DimensionInfo → ℕ → Distribution
+dimensionsOf dims d = getD dims d noDimension .distribution
+
+-- what the logic reads past an array's end
+abbrev pub noSlot : Slot
+noSlot = record { value = value.Float nan }
+
+-- the setting at a place of a candidate, and the settings of its first n places
+abbrev pub slotOf : List Slot → ℕ → ParamValue
+slotOf params i = getD params i noSlot .value
+
+unfoldable pub settingsOf : List Slot → ℕ → List ParamValue
+settingsOf params n = listBelow (slotOf params) n

@@ -1,0 +1,4 @@
+pub mod Gap
+pub mod Exponent
+pub mod Crossing
+pub mod Mutating

@@ -1,0 +1,64 @@
+-- By cases on the distribution.
+use mathlib.Core.Path.{_≡_, sym, ap, _∙_}
+use mir.Syntax.{w64}
+use mir.Val.{toZ, ofZ}
+use mir.ValLaws.{toZ-ofZ}
+use Rattle.model.specs.declared.Distribution.{Distribution}
+use Rattle.model.specs.Setting.{mutateInt}
+use borrow.Author.Needs.{needs}
+use Rattle.variation.proofs.mutate_int.Statement.{statement}
+use Rattle.variation.proofs.mutate_int.Tie as tie
+
+module _ (c : tie.Start) where
+  en : toZ w64 (ofZ w64 (c .args .n)) ≡ c .args .n
+  en = toZ-ofZ w64 (c .args .n) (c .fits .n)
+
+enum-told : tie.Need-enum-told
+enum-told c = search needs
+
+unmoved-requires : tie.Need-unmoved-requires
+unmoved-requires c κs = search needs
+
+enum-known-d : tie.Need-enum-known-d
+enum-known-d c = search needs
+
+move-int-requires : tie.Need-move-int-requires
+move-int-requires c κs = search needs
+
+enum-told-2 : tie.Need-enum-told-2
+enum-told-2 c = search needs
+
+unmoved-requires-2 : tie.Need-unmoved-requires-2
+unmoved-requires-2 c κs = search needs
+
+returns : tie.Need-returns
+returns c =
+    let s = c .before .before .before in
+    let a = s .args in
+    (rw (en s) at (c .unmoved .ensures)) ∙ sym (ap (λ (d : Distribution). mutateInt d (a .n) (a .k) (a .rng .s)) (c .before .enum-told .given .1))
+
+returns-2 : tie.Need-returns-2
+returns-2 c =
+    let s = c .before .before .before .before in
+    let a = s .args in
+    (rw (en s) at (c .move-int .ensures)) ∙ sym (ap (λ (d : Distribution). mutateInt d (a .n) (a .k) (a .rng .s)) (c .before .before .d .given .1))
+
+returns-3 : tie.Need-returns-3
+returns-3 c =
+    let s = c .before .before .before in
+    let a = s .args in
+    (rw (en s) at (c .unmoved2 .ensures)) ∙ sym (ap (λ (d : Distribution). mutateInt d (a .n) (a .k) (a .rng .s)) (c .before .enum-told2 .given .1))
+
+pub mutate-int-spec : {M : Type 1} → statement M
+mutate-int-spec =
+    tie.close
+    (tie.spec
+    enum-told
+    unmoved-requires
+    enum-known-d
+    move-int-requires
+    enum-told-2
+    unmoved-requires-2
+    returns
+    returns-2
+    returns-3)
