@@ -13,3 +13,10 @@ wider a b high Broken h w = tt
 
 pub earlier : (a b high next : ℕ) → a ≤ b → b < high → Ahead b high next → Ahead a high next
 earlier a b high next h l w = let z = w .further l in record { from = omega arith; inside = w .inside; further = λ x. omega arith }
+
+-- two lines, one after the other
+pub both : {a m n high : ℕ} → Ahead a high m → Ahead m high n → Ahead a high n
+both {a} {m} {n} {high} v w =
+    let f = v .from in
+    let g = w .from in
+    record { from = omega arith; inside = w .inside; further = λ x. let z = v .further x in omega arith }
