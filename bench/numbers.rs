@@ -1,0 +1,168 @@
+//! Times the proved square root, P, R and draw beside the Rust's on the same
+//! inputs, each behind a call that is not inlined, and compares the square
+//! root with the hardware's. Exit code 1 where a value differs.
+
+use std::hint::black_box;
+use std::time::Instant;
+
+#[path = "../oracle/stand-ins/fastrand.rs"]
+mod fastrand;
+#[path = "../oracle/src/powers.rs"]
+mod powers;
+
+mod proved {
+    extern "C" {
+        pub fn numbers_sqrt(x: f64) -> f64;
+        pub fn numbers_power(y: f64, k: u64) -> f64;
+        pub fn numbers_root(v: f64, k: u64) -> f64;
+        pub fn numbers_draw_f64(state: &mut u64) -> f64;
+    }
+}
+
+/// eta 20, the usual index of mutation, makes the exponent 21.
+const K: u32 = 21;
+const INPUTS: usize = 1024;
+const ROUNDS: usize = 9;
+
+fn proved_sqrt(x: f64) -> f64 {
+    unsafe { proved::numbers_sqrt(x) }
+}
+
+fn proved_power(y: f64) -> f64 {
+    unsafe { proved::numbers_power(y, black_box(K) as u64) }
+}
+
+fn proved_root(v: f64) -> f64 {
+    unsafe { proved::numbers_root(v, black_box(K) as u64) }
+}
+
+#[inline(never)]
+extern "C" fn rust_sqrt(x: f64) -> f64 {
+    x.sqrt()
+}
+
+#[inline(never)]
+extern "C" fn rust_power(y: f64) -> f64 {
+    powers::power(y, black_box(K))
+}
+
+#[inline(never)]
+extern "C" fn rust_root(v: f64) -> f64 {
+    powers::root(v, black_box(K))
+}
+
+#[inline(never)]
+extern "C" fn rust_draw(rng: &mut fastrand::Rng) -> f64 {
+    rng.f64()
+}
+
+/// The inputs' own generator.
+fn splitmix(state: &mut u64) -> u64 {
+    *state = state.wrapping_add(0x9e37_79b9_7f4a_7c15);
+    let mut z = *state;
+    z = (z ^ (z >> 30)).wrapping_mul(0xbf58_476d_1ce4_e5b9);
+    z = (z ^ (z >> 27)).wrapping_mul(0x94d0_49bb_1331_11eb);
+    z ^ (z >> 31)
+}
+
+fn unit(state: &mut u64) -> f64 {
+    (splitmix(state) >> 11) as f64 / 9007199254740992.0
+}
+
+/// ns a call: the least of the rounds, over all inputs.
+fn timed(inputs: &[f64], passes: usize, mut f: impl FnMut(f64) -> f64) -> f64 {
+    let mut least = f64::INFINITY;
+    for _ in 0..ROUNDS {
+        let start = Instant::now();
+        for _ in 0..passes {
+            for &x in inputs {
+                black_box(f(black_box(x)));
+            }
+        }
+        least = least.min(start.elapsed().as_nanos() as f64);
+    }
+    least / (passes * inputs.len()) as f64
+}
+
+fn line(name: &str, ours: f64, rust: f64) {
+    println!(
+        "{name:<10} {ours:>9.1} ns {rust:>9.1} ns  ratio {:.2}",
+        ours / rust
+    );
+}
+
+fn same(x: f64, y: f64) -> bool {
+    x.to_bits() == y.to_bits() || (x.is_nan() && y.is_nan())
+}
+
+/// How many of the inputs the two functions answer differently.
+fn differing(inputs: &[f64], f: impl Fn(f64) -> f64, g: impl Fn(f64) -> f64) -> usize {
+    inputs.iter().filter(|&&x| !same(f(x), g(x))).count()
+}
+
+/// Every exponent and sign, with the significands next to the ends, the
+/// middle and each power of two.
+fn edge_patterns() -> Vec<f64> {
+    let mut digits = vec![];
+    for i in 0..52 {
+        let power = 1_u64 << i;
+        digits.extend([power - 1, power, power + 1, (1 << 52) - power]);
+    }
+    let mut patterns = vec![];
+    for top in 0..4096_u64 {
+        patterns.extend(digits.iter().map(|&d| f64::from_bits(top << 52 | d)));
+    }
+    patterns
+}
+
+fn main() {
+    let mut seed = 1;
+    let roots: Vec<f64> = (0..INPUTS).map(|_| unit(&mut seed) * 1e6).collect();
+    let powers: Vec<f64> = (0..INPUTS).map(|_| unit(&mut seed)).collect();
+    let values: Vec<f64> = (0..INPUTS).map(|_| unit(&mut seed) * 2.0).collect();
+
+    println!("           proved          Rust");
+    line(
+        "sqrt",
+        timed(&roots, 200, proved_sqrt),
+        timed(&roots, 200, |x| rust_sqrt(x)),
+    );
+    line(
+        "P, k 21",
+        timed(&powers, 200, proved_power),
+        timed(&powers, 200, |x| rust_power(x)),
+    );
+    line(
+        "R, k 21",
+        timed(&values, 4, proved_root),
+        timed(&values, 4, |x| rust_root(x)),
+    );
+    let (mut state, mut rng) = (7, fastrand::Rng::with_seed(7));
+    let ours = timed(&powers, 400, |_| unsafe {
+        proved::numbers_draw_f64(&mut state)
+    });
+    let rust = timed(&powers, 400, |_| rust_draw(&mut rng));
+    line("draw", ours, rust);
+
+    let random: Vec<f64> = (0..1_000_000)
+        .map(|_| f64::from_bits(splitmix(&mut seed)))
+        .collect();
+    let edges = edge_patterns();
+    let mut wrong = differing(&powers, proved_power, |x| rust_power(x));
+    wrong += differing(&values, proved_root, |x| rust_root(x));
+    wrong += (state != rng.s) as usize;
+    println!("P, R and draw: {wrong} differ");
+    let of_random = differing(&random, proved_sqrt, f64::sqrt);
+    let of_edges = differing(&edges, proved_sqrt, f64::sqrt);
+    println!(
+        "sqrt and the hardware's: {of_random} of {} random patterns differ",
+        random.len()
+    );
+    println!(
+        "sqrt and the hardware's: {of_edges} of {} edge patterns differ",
+        edges.len()
+    );
+    if wrong + of_random + of_edges > 0 {
+        std::process::exit(1);
+    }
+}

@@ -1,0 +1,311 @@
+// The oracle's lines (oracle/README.md): numbers below 2^64 in decimal, parted by single spaces, an input line and its answer line by turns.
+// And the tally of a replay: how many answers agree.
+use libc::STDOUT_FILENO;
+ghost use mathlib.Core.Path.{_≡_};
+ghost use mathlib.Core.Bool.{true};
+ghost use Prim.Native.Nat.{ℕ, _+_, _<_, _≤_};
+ghost use lib.ListN.{length, getD};
+ghost use Rattle.replay.specs.Post.{Within, Ahead};
+
+// A line's numbers.
+pub type Words = [u64; 4096];
+
+// What stands at a position: a number, with the position after it and after one space; the end of the line, with the start of the next one; the
+// end of the input; or something else.
+pub enum Found {
+    Number(u64, usize),
+    EndOfLine(usize),
+    EndOfInput,
+    Broken,
+}
+
+// A number with one digit more.
+enum Longer {
+    Number(u64),
+    NoDigit,
+    TooLarge,
+}
+
+fn wide(b: u8) -> u64
+    ensures { λ r. ⌜ r ≡ b ⌝ }
+{
+    b as u64
+}
+
+fn with_digit(n: u64, b: u8) -> Longer {
+    if b < 48 {
+        return Longer::NoDigit;
+    }
+    if 57 < b {
+        return Longer::NoDigit;
+    }
+    let d = wide(b) - 48;
+    if n < 1844674407370955161 {
+        return Longer::Number(n * 10 + d);
+    }
+    if 1844674407370955161 < n {
+        return Longer::TooLarge;
+    }
+    if 5 < d {
+        return Longer::TooLarge;
+    }
+    Longer::Number(n * 10 + d)
+}
+
+// The number n, whose digits end before i: one space after it is passed, a line's end is not.
+fn ended(bytes: &[u8], i: usize, n: u64) -> Found
+    requires { ⌜ i < length (now bytes) ⌝ }
+    ensures { λ r. ⌜ Within i (length (now (bytes .entry))) r ⌝ }
+{
+    let b = bytes[i];
+    if b == b' ' {
+        return Found::Number(n, i + 1);
+    }
+    if b == b'\n' {
+        return Found::Number(n, i);
+    }
+    Found::Broken
+}
+
+// The number that begins with the digits of `first` and goes on at `at`.
+fn digits(bytes: &[u8], at: usize, first: u64) -> Found
+    requires { ⌜ at ≤ length (now bytes) ⌝ }
+    ensures { λ r. ⌜ Within at (length (now (bytes .entry))) r ⌝ }
+{
+    let mut n = first;
+    let mut i = at;
+    while i < bytes.len() {
+        let step = with_digit(n, bytes[i]);
+        match step {
+            Longer::Number(more) => {
+                n = more;
+                i += 1;
+            }
+            Longer::NoDigit => return ended(bytes, i, n),
+            Longer::TooLarge => return Found::Broken,
+        }
+    }
+    Found::Number(n, i)
+}
+
+// What stands at a position.
+pub fn next_number(bytes: &[u8], at: usize) -> Found
+    ensures { λ r. ⌜ Within (at + 1) (length (now (bytes .entry))) r ⌝ }
+{
+    if bytes.len() <= at {
+        return Found::EndOfInput;
+    }
+    let b = bytes[at];
+    if b == b'\n' {
+        return Found::EndOfLine(at + 1);
+    }
+    let step = with_digit(0, b);
+    let Longer::Number(first) = step else {
+        return Found::Broken;
+    };
+    digits(bytes, at + 1, first)
+}
+
+// The start of the next line.
+fn skip_line(bytes: &[u8], at: usize) -> usize
+    requires { ⌜ at ≤ length (now bytes) ⌝ }
+    ensures { λ r. ⌜ Ahead at (length (now (bytes .entry))) r ⌝ }
+{
+    let mut i = at;
+    while i < bytes.len() {
+        let b = bytes[i];
+        i += 1;
+        if b == b'\n' {
+            return i;
+        }
+    }
+    i
+}
+
+// A line that was read: whether it is numbers and nothing else, at most 4,096; how many; and where the next line starts.
+pub struct Line {
+    pub whole: bool,
+    pub count: usize,
+    pub next: usize,
+}
+
+fn broken(bytes: &[u8], at: usize) -> Line
+    requires { ⌜ at ≤ length (now bytes) ⌝ }
+    ensures { λ r. ⌜ (r .count ≤ 4096) × Ahead at (length (now (bytes .entry))) (r .next) ⌝ }
+{
+    let next = skip_line(bytes, at);
+    Line {
+        whole: false,
+        count: 0,
+        next,
+    }
+}
+
+// Reads the line at a position.
+pub fn read_line(bytes: &[u8], at: usize, line: &mut Words) -> Line
+    requires { ⌜ at ≤ length (now bytes) ⌝ }
+    ensures { λ r. ⌜ (r .count ≤ 4096) × Ahead at (length (now (bytes .entry))) (r .next) ⌝ }
+{
+    let mut i = at;
+    let mut n: usize = 0;
+    while i < bytes.len() {
+        let found = next_number(bytes, i);
+        match found {
+            Found::Number(w, next) => {
+                if 4096 <= n {
+                    return broken(bytes, i);
+                }
+                line[n] = w;
+                n += 1;
+                i = next;
+            }
+            Found::EndOfLine(next) => {
+                return Line {
+                    whole: true,
+                    count: n,
+                    next,
+                };
+            }
+            Found::EndOfInput => return broken(bytes, i),
+            Found::Broken => return broken(bytes, i),
+        }
+    }
+    Line {
+        whole: true,
+        count: n,
+        next: i,
+    }
+}
+
+// The number at a place; 0 where there is none.
+pub fn word(line: &Words, i: usize) -> u64 {
+    if i < 4096 { line[i] } else { 0 }
+}
+
+// Writes a number and answers the next place; past the end it writes nothing.
+pub fn put(line: &mut Words, i: usize, w: u64) -> usize
+    ensures { λ r. ⌜ r ≤ 4097 ⌝ }
+{
+    if i < 4096 {
+        line[i] = w;
+        return i + 1;
+    }
+    4097
+}
+
+// The place k further on; 4,097 stands for any past the end.
+pub fn ahead(i: usize, k: usize) -> usize
+    ensures { λ r. ⌜ r ≤ 4097 ⌝ }
+{
+    if 4096 < i {
+        return 4097;
+    }
+    if 4096 - i < k {
+        return 4097;
+    }
+    i + k
+}
+
+// What became of a case. Passed over is one that is no command of the program, or that is out of what the function asks.
+pub enum Verdict {
+    Agrees,
+    Differs,
+    PassedOver,
+    Broken,
+}
+
+// Whether two lines begin with the same n numbers.
+fn same(a: &Words, b: &Words, n: usize) -> bool
+    requires { ⌜ n ≤ 4096 ⌝ }
+    ensures { λ r. ⌜ (r ≡ true → ((k : ℕ) → k < n → getD (now (a .entry)) k 0 ≡ getD (now (b .entry)) k 0)) ⌝ }
+{
+    let mut i: usize = 0;
+    while i < n {
+        if a[i] == b[i] {
+            i += 1;
+        } else {
+            return false;
+        }
+    }
+    true
+}
+
+// The n numbers given beside the k worked out; k is 0 for a case passed over.
+fn compared(given: &Words, n: usize, ours: &Words, k: usize) -> Verdict {
+    if k == 0 {
+        return Verdict::PassedOver;
+    }
+    if 4096 < k {
+        return Verdict::PassedOver;
+    }
+    if n != k {
+        return Verdict::Differs;
+    }
+    if same(given, ours, k) {
+        Verdict::Agrees
+    } else {
+        Verdict::Differs
+    }
+}
+
+// The verdict on an input line, its answer line and what was worked out.
+pub fn judged(input: Line, answer: Line, given: &Words, ours: &Words, k: usize) -> Verdict {
+    let whole = input.whole;
+    if whole {
+        let whole = answer.whole;
+        if whole {
+            let n = answer.count;
+            return compared(given, n, ours, k);
+        }
+    }
+    Verdict::Broken
+}
+
+// A case that was replayed, and where the next one starts.
+pub struct Step {
+    pub verdict: Verdict,
+    pub next: usize,
+}
+
+pub struct Tally {
+    pub agree: u64,
+    pub differ: u64,
+    pub passed_over: u64,
+    pub broken: u64,
+}
+
+pub fn none() -> Tally {
+    Tally {
+        agree: 0,
+        differ: 0,
+        passed_over: 0,
+        broken: 0,
+    }
+}
+
+fn one_more(n: u64) -> u64 {
+    std::num::wrapping_add_u64(n, 1)
+}
+
+pub fn counted(tally: Tally, verdict: Verdict) -> Tally {
+    let mut t = tally;
+    match verdict {
+        Verdict::Agrees => t.agree = one_more(t.agree),
+        Verdict::Differs => t.differ = one_more(t.differ),
+        Verdict::PassedOver => t.passed_over = one_more(t.passed_over),
+        Verdict::Broken => t.broken = one_more(t.broken),
+    }
+    t
+}
+
+fn number(n: u64, label: &[u8]) {
+    io::print_decimal(STDOUT_FILENO, n);
+    io::write_all(STDOUT_FILENO, label);
+}
+
+pub fn report(t: Tally) {
+    number(t.agree, b" agree, ");
+    number(t.differ, b" differ, ");
+    number(t.passed_over, b" passed over, ");
+    number(t.broken, b" broken\n");
+}

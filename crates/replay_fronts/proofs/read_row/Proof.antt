@@ -1,0 +1,70 @@
+-- `read_row`. Assumes nothing.
+use Prim.Native.Nat.{_-_, _≤_}
+use borrow.Author.Needs.{needs}
+use Rattle.replay_fronts.proofs.read_row.Statement.{statement}
+use Rattle.replay_fronts.proofs.read_row.Tie as tie
+
+abbrev Inv-loop : tie.InvT-loop
+Inv-loop input at m base rows₀ j₀ rows j = (j ≤ m) × ((m ≤ 8) × ((at ≤ 4097) × (base ≤ 8192)))
+
+abbrev μ-loop : tie.MeasureT-loop
+μ-loop input at m base rows₀ j₀ rows j = m - j
+
+loop-holds : tie.Need-loop-holds Inv-loop μ-loop
+loop-holds c = search needs
+
+add-real-at : tie.Need-add-real-at Inv-loop μ-loop
+add-real-at c = search needs
+
+real-at-requires : tie.Need-real-at-requires Inv-loop μ-loop
+real-at-requires c κs = search needs
+
+add-mark : tie.Need-add-mark Inv-loop μ-loop
+add-mark c = search needs
+
+mark-requires : tie.Need-mark-requires Inv-loop μ-loop
+mark-requires c κs = search needs
+
+to-minimize-requires : tie.Need-to-minimize-requires Inv-loop μ-loop
+to-minimize-requires c κs = search needs
+
+add-set-real : tie.Need-add-set-real Inv-loop μ-loop
+add-set-real c = search needs
+
+set-real-requires : tie.Need-set-real-requires Inv-loop μ-loop
+set-real-requires c κs = search needs
+
+add-j : tie.Need-add-j Inv-loop μ-loop
+add-j c = search needs
+
+loop-less : tie.Need-loop-less Inv-loop μ-loop
+loop-less c = search needs
+
+loop-again : tie.Need-loop-again Inv-loop μ-loop
+loop-again c = search needs
+
+ahead-requires : tie.Need-ahead-requires Inv-loop μ-loop
+ahead-requires c κs = search needs
+
+returns : tie.Need-returns Inv-loop μ-loop
+returns c = search needs
+
+pub read-row-spec : {M : Type 1} → statement M
+read-row-spec =
+    tie.close
+    (tie.spec
+    Inv-loop
+    μ-loop
+    loop-holds
+    add-real-at
+    real-at-requires
+    add-mark
+    mark-requires
+    to-minimize-requires
+    add-set-real
+    set-real-requires
+    add-j
+    loop-less
+    loop-again
+    ahead-requires
+    returns)
