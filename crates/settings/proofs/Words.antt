@@ -9,12 +9,9 @@ use Rattle.model.specs.Setting.{ofWord}
 use Rattle.real.specs.IntCode.{wordOfInt, intOfWord}
 
 pub wordOfInt-is : (z : ℤ) → wordOfInt z ≡ setting.wordOfInt z
-unfolding wordOfInt
-wordOfInt-is (pos n) = refl
-wordOfInt-is (negsuc n) = refl
+wordOfInt-is z = refl
 
 pub intOfWord-is : (w : ℕ) → intOfWord w ≡ setting.intOfWord w
-unfolding intOfWord setting.intOfWord
 intOfWord-is w = refl
 
 pub ofWord-other : (k w : ℕ) → (k ≡ 0 → ⊥) → (k ≡ 1 → ⊥) → ofWord k w ≡ value.Categorical w
