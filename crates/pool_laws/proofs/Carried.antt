@@ -151,6 +151,14 @@ pool-good r h p l =
 
 -- ---- the words and the file
 
+-- a plan as it stands in its block, beside the file's
+pub record Held (m : ℕ) (block p : Plan) : Type 0 where
+  pub rowLength : block .rowLength ≡ m
+  pub row : block .row ≡ p .row
+  pub constraintCount : block .constraintCount ≡ p .constraintCount
+  pub constraints : block .constraints ≡ take maxConstraints (p .constraints)
+  pub settingCount : block .settingCount ≡ 0
+
 -- the request that the parser's words form
 abbrev pub stored : Header → List ℕ → List ℕ → Request
 stored h directions pool =
@@ -192,6 +200,20 @@ module _ (file : List ℕ) (h : Header) (directions pool : List ℕ) (w : Pool f
   shape p l =
       let c = w .count in
       subst (λ (m : ℕ). Shape m (getD (f .plans) p noPlan)) (w .objectives) (whole .plans p (omega arith))
+
+  -- each plan of the pool has its row, its constraint count and its first 16 constraints in its block
+  pub held : (p : ℕ) → p < h .count → Held (h .m) (planAt pool p) (getD (w .form .plans) p noPlan)
+  held p l =
+      let e = w .plans small p l in
+      let s = shape p l in
+      let r = s .row in
+      record {
+        rowLength = ap (λ (q : Plan). q .rowLength) e ∙ s .rowLength;
+        row = ap (λ (q : Plan). q .row) e ∙ take-all 8 (getD (f .plans) p noPlan .row) (omega arith);
+        constraintCount = ap (λ (q : Plan). q .constraintCount) e;
+        constraints = ap (λ (q : Plan). q .constraints) e;
+        settingCount = ap (λ (q : Plan). q .settingCount) e;
+      }
 
   -- a plan with at most 16 constraints is stored as it is
   pub plan-same : (p : ℕ) → p < h .count → getD (f .plans) p noPlan .constraintCount ≤ maxConstraints → planAt words p ≡ getD (f .plans) p noPlan

@@ -44,7 +44,7 @@ dash-byte : length (ascii "-") ≡ 1
 unfolding ascii listBelow
 dash-byte = refl
 
-line-four : (l : ℕ) → (l < maxSize) ⊎ (l ≡ noLine) → length (lineText l) ≤ 4
+line-four : (l : ℕ) → (l ≤ maxSize) ⊎ (l ≡ noLine) → length (lineText l) ≤ 4
 unfolding lineText
 line-four l h = by-bool (eqb l noLine)
     (λ e. rw e (omega (arith, dash-byte)))
@@ -62,8 +62,8 @@ place-le kept p =
 pub record Small (count : ℕ) (sel : Selected) : Type 0 where
   pub plans : count ≤ maxSize
   pub kept : length (sel .kept) ≤ maxSize
-  pub fronts : (p : ℕ) → p < count → getD (sel .fronts) p 0 < maxSize
-  pub lines : (p : ℕ) → p < count → (getD (sel .lines) p 0 < maxSize) ⊎ (getD (sel .lines) p 0 ≡ noLine)
+  pub fronts : (p : ℕ) → p < count → getD (sel .fronts) p 0 ≤ maxSize
+  pub lines : (p : ℕ) → p < count → (getD (sel .lines) p 0 ≤ maxSize) ⊎ (getD (sel .lines) p 0 ≡ noLine)
 
 header-short : (count kept : ℕ) → count ≤ maxSize → kept ≤ maxSize → length (headerText count kept) ≤ 21
 unfolding headerText ascii listBelow

@@ -1,4 +1,5 @@
 pub mod Shortest
 pub mod Lengths
+pub mod Printed
 pub mod Shapes
 pub mod Carried

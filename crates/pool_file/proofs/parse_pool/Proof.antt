@@ -1,11 +1,12 @@
 -- `parse_pool`: header, marks, plans and end, each where the one before it leaves off.
+use native.Mathlib.Omega.{arith}
 use borrow.Author.Needs.{needs}
 use Rattle.pool_file.proofs.Whole.{parse-long, parse-no-header, parse-no-marks, parse-no-plans, parse-runs-on, parse-good}
 use Rattle.pool_file.proofs.parse_pool.Statement.{statement}
 use Rattle.pool_file.proofs.parse_pool.Tie as tie
 
 returns : tie.Need-returns
-returns c = parse-long _ (c .if1 .taken)
+returns c = parse-long _ (omega arith)
 
 read-header-requires : tie.Need-read-header-requires
 read-header-requires c κs = search needs

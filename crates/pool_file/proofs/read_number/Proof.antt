@@ -34,7 +34,7 @@ returns c =
     let l = w .before .before .before .loop in
     let s = w .before .before .before .before .before .args .bytes .now in
     ap (asRead (length s))
-    (sym (from-over s (l .k) (l .n) (l .p) (w .wide .result) (w .wide .ensures) (w .before .before .loop-test .taken) (c .before .if1 .taken) (c .if2 .taken))
+    (sym (from-over s (l .k) (l .n) (l .p) (w .wide .result) (w .wide .ensures) (w .before .before .loop-test .taken) (c .before .if1 .taken) (omega arith))
     ∙ l .inv .1 .1 .1)
 
 -- where the two ways to the sum meet: what holds of the group
@@ -63,7 +63,7 @@ returns-2 c =
     let s = w .before .before .before .before .before .args .bytes .now in
     let H = w .before .before .loop-test .taken in
     ap (asRead (length s))
-    (sym (from-padded s (l .k) (l .n) (l .p) (w .wide .result) (w .wide .ensures) H (c .before .if4 .taken) (c .if5 .taken)) ∙ l .inv .1 .1 .1)
+    (sym (from-padded s (l .k) (l .n) (l .p) (w .wide .result) (w .wide .ensures) H (c .before .if4 .taken) (omega arith)) ∙ l .inv .1 .1 .1)
 
 returns-3 : tie.Need-returns-3 Inv-loop μ-loop
 returns-3 c =
