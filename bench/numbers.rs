@@ -22,7 +22,7 @@ mod proved {
 /// eta 20, the usual index of mutation, makes the exponent 21.
 const K: u32 = 21;
 const INPUTS: usize = 1024;
-const ROUNDS: usize = 9;
+const ROUNDS: usize = 300;
 
 fn proved_sqrt(x: f64) -> f64 {
     unsafe { proved::numbers_sqrt(x) }
@@ -69,25 +69,36 @@ fn unit(state: &mut u64) -> f64 {
     (splitmix(state) >> 11) as f64 / 9007199254740992.0
 }
 
-/// ns a call: the least of the rounds, over all inputs.
-fn timed(inputs: &[f64], passes: usize, mut f: impl FnMut(f64) -> f64) -> f64 {
-    let mut least = f64::INFINITY;
-    for _ in 0..ROUNDS {
-        let start = Instant::now();
-        for _ in 0..passes {
-            for &x in inputs {
-                black_box(f(black_box(x)));
-            }
+/// ns of all the calls.
+fn once(inputs: &[f64], passes: usize, f: &mut impl FnMut(f64) -> f64) -> f64 {
+    let start = Instant::now();
+    for _ in 0..passes {
+        for &x in inputs {
+            black_box(f(black_box(x)));
         }
-        least = least.min(start.elapsed().as_nanos() as f64);
     }
-    least / (passes * inputs.len()) as f64
+    start.elapsed().as_nanos() as f64
 }
 
-fn line(name: &str, ours: f64, rust: f64) {
+/// Times two functions by turns and prints ns a call, the least of the rounds.
+fn timed(
+    name: &str,
+    inputs: &[f64],
+    passes: usize,
+    mut proved: impl FnMut(f64) -> f64,
+    mut rust: impl FnMut(f64) -> f64,
+) {
+    let (mut ours, mut theirs) = (f64::INFINITY, f64::INFINITY);
+    for _ in 0..ROUNDS {
+        ours = ours.min(once(inputs, passes, &mut proved));
+        theirs = theirs.min(once(inputs, passes, &mut rust));
+    }
+    let calls = (passes * inputs.len()) as f64;
+    let ratio = ours / theirs;
     println!(
-        "{name:<10} {ours:>9.1} ns {rust:>9.1} ns  ratio {:.2}",
-        ours / rust
+        "{name:<10} {:>9.1} ns {:>9.1} ns  ratio {ratio:.2}",
+        ours / calls,
+        theirs / calls
     );
 }
 
@@ -122,27 +133,12 @@ fn main() {
     let values: Vec<f64> = (0..INPUTS).map(|_| unit(&mut seed) * 2.0).collect();
 
     println!("           proved          Rust");
-    line(
-        "sqrt",
-        timed(&roots, 200, proved_sqrt),
-        timed(&roots, 200, |x| rust_sqrt(x)),
-    );
-    line(
-        "P, k 21",
-        timed(&powers, 200, proved_power),
-        timed(&powers, 200, |x| rust_power(x)),
-    );
-    line(
-        "R, k 21",
-        timed(&values, 4, proved_root),
-        timed(&values, 4, |x| rust_root(x)),
-    );
+    timed("sqrt", &roots, 8, proved_sqrt, |x| rust_sqrt(x));
+    timed("P, k 21", &powers, 50, proved_power, |x| rust_power(x));
+    timed("R, k 21", &values, 1, proved_root, |x| rust_root(x));
     let (mut state, mut rng) = (7, fastrand::Rng::with_seed(7));
-    let ours = timed(&powers, 400, |_| unsafe {
-        proved::numbers_draw_f64(&mut state)
-    });
-    let rust = timed(&powers, 400, |_| rust_draw(&mut rng));
-    line("draw", ours, rust);
+    let draw = |_| unsafe { proved::numbers_draw_f64(&mut state) };
+    timed("draw", &powers, 100, draw, |_| rust_draw(&mut rng));
 
     let random: Vec<f64> = (0..1_000_000)
         .map(|_| f64::from_bits(splitmix(&mut seed)))

@@ -196,6 +196,58 @@ fn constrained_dominance(input: &Words, n: usize, m: usize, out: &mut Words) -> 
     replay::put(out, 0, first_beats_constrained(&rows, m, &flags, &sums))
 }
 
+// The first m values in minimise-space.
+fn minimised(values: &[f64], marks: &[u8], m: usize, row: &mut [f64]) {
+    if m <= marks.len() {
+        if m <= values.len() {
+            if m <= row.len() {
+                pareto::to_minimize_space(values, &marks[..m], row);
+            }
+        }
+    }
+}
+
+fn minimised_row(values: &[f64; 16], marks: &[u8; 8], m: usize, row: &mut [f64; 8]) {
+    minimised(values, marks, m, row)
+}
+
+fn read_marks(input: &Words, m: usize, marks: &mut [u8; 8])
+    requires { ⌜ m ≤ 8 ⌝ }
+{
+    let mut j: usize = 0;
+    while j < m {
+        marks[j] = mark(input, j + 2);
+        j += 1;
+    }
+}
+
+fn put_row(row: &[f64; 8], m: usize, out: &mut Words) -> usize
+    requires { ⌜ m ≤ 8 ⌝ }
+{
+    let mut j: usize = 0;
+    while j < m {
+        replay::put(out, j, real::word_of_real(row[j]));
+        j += 1;
+    }
+    m
+}
+
+// 32: a row.
+fn minimize_space(input: &Words, n: usize, m: usize, out: &mut Words) -> usize
+    requires { ⌜ m ≤ 8 ⌝ }
+{
+    if n != m + m + 2 {
+        return 0;
+    }
+    let mut values = [0.0; 16];
+    let mut marks = [0u8; 8];
+    let mut row = [0.0; 8];
+    read_reals(input, m + 2, m, &mut values);
+    read_marks(input, m, &mut marks);
+    minimised_row(&values, &marks, m, &mut row);
+    put_row(&row, m, out)
+}
+
 // Whether no value of the n rows is a NaN.
 fn known(rows: &Rows, m: usize, n: usize) -> bool
     requires { ⌜ n * m ≤ 8192 ⌝ }
@@ -329,6 +381,7 @@ fn answer(input: &Words, n: usize, out: &mut Words) -> usize {
     match command {
         30 => dominance(input, n, m, out),
         31 => constrained_dominance(input, n, m, out),
+        32 => minimize_space(input, n, m, out),
         40 => fronts(input, n, m, false, out),
         41 => fronts(input, n, m, true, out),
         _ => 0,
