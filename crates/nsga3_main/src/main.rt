@@ -1,0 +1,119 @@
+// Runs document 01's example and calls around it through the public selection, and prints all that each leaves. What a call does not write stays 9.
+use libc::STDOUT_FILENO;
+use model::Outcome;
+use model::Rng;
+ghost use Prim.Native.Nat.{_+_, _*_, _≤_};
+ghost use lib.ListN.{length};
+
+// The words of a plan.
+const PLAN: usize = 124;
+
+fn text(t: &[u8]) {
+    io::write_all(STDOUT_FILENO, t);
+}
+
+// A label and a number.
+fn number(label: &[u8], n: u64) {
+    io::write_all(STDOUT_FILENO, label);
+    io::print_decimal(STDOUT_FILENO, n);
+}
+
+// A label and the entries of a list.
+fn list(label: &[u8], entries: &[usize]) {
+    text(label);
+    let mut i = 0;
+    while i < entries.len() {
+        let n = entries[i];
+        number(b" ", n as u64);
+        i += 1;
+    }
+}
+
+// Plan i: its number, its two values, no constraints and no settings.
+fn put_plan(pool: &mut [u64], i: usize, a: u64, b: u64)
+    requires { ⌜ (i ≤ 2) × (372 ≤ length (now pool)) ⌝ }
+{
+    let at = i * PLAN;
+    pool[at] = i as u64;
+    pool[at + 1] = 2;
+    pool[at + 2] = a;
+    pool[at + 3] = b;
+}
+
+// What a call answers.
+fn answered(outcome: Outcome) {
+    match outcome {
+        Outcome::Kept(n) => {
+            number(b"kept ", n as u64);
+        }
+        Outcome::Refused(n) => {
+            number(b"refused ", n as u64);
+        }
+    }
+}
+
+// Zero for an ideal's entry that is 0.0, else one for one that is not finite; two for any other.
+fn mark(x: f64) -> u64 {
+    if x == 0.0 {
+        return 0;
+    }
+    if x == 1.0 / 0.0 {
+        return 1;
+    }
+    2
+}
+
+// One selection from three plans with rows (0,0), (1,3) and (4,1), seed 5 and an ideal at infinity.
+fn call(m: usize, divisions: usize, size: usize, plans: usize)
+    requires { ⌜ (m ≤ 2) × (plans ≤ 3) ⌝ }
+{
+    let mut pool: [u64; 372] = [0; 372];
+    put_plan(&mut pool, 0, 0, 0);
+    put_plan(&mut pool, 1, 4607182418800017408, 4613937818241073152);
+    put_plan(&mut pool, 2, 4616189618054758400, 4607182418800017408);
+    let directions: [u8; 2] = [0; 2];
+    let mut ideal = [1.0 / 0.0; 2];
+    let mut kept: [usize; 8] = [9; 8];
+    let mut fronts: [usize; 4] = [9; 4];
+    let mut lines: [usize; 4] = [9; 4];
+    let words = plans * PLAN;
+    let s = nsga3::nsga3_select(
+        &pool[..words],
+        &directions[..m],
+        divisions,
+        size,
+        Rng { s: 5 },
+        &mut ideal,
+        &mut kept,
+        &mut fronts,
+        &mut lines,
+    );
+    let outcome = s.outcome;
+    let rng = s.rng;
+    answered(outcome);
+    list(b": list", &kept);
+    list(b", fronts", &fronts);
+    list(b", lines", &lines);
+    number(b", ideal ", mark(ideal[0]));
+    number(b" ", mark(ideal[1]));
+    number(b", state ", rng.s);
+    text(b"\n");
+}
+
+fn main() {
+    // the example: a front is split
+    call(2, 1, 2, 3);
+    // whole fronts fill the size
+    call(2, 1, 1, 3);
+    call(2, 1, 3, 3);
+    // a pool smaller than the size is padded
+    call(2, 1, 7, 3);
+    // refusals 2, 3, 4, 7, 8 and 10
+    call(0, 1, 2, 3);
+    call(2, 1, 0, 3);
+    call(2, 1, 1025, 3);
+    call(2, 200, 2, 3);
+    call(2, 1, 2, 0);
+    call(1, 1, 2, 3);
+    call(2, 1, 9, 3);
+}
