@@ -98,11 +98,14 @@ fn mutate_maybe(probability: f64, d: Distribution, v: ParamValue, k: u64, rng: R
 {
     let x = rng_util::f64_range(rng, 0.0, 1.0);
     let u = x.value;
-    let rng = x.rng;
+    let after = x.rng;
     if u >= probability {
-        return DrawnValue { value: v, rng };
+        return DrawnValue {
+            value: v,
+            rng: after,
+        };
     }
-    variation::mutate_one(d, v, k, rng)
+    variation::mutate_one(d, v, k, after)
 }
 
 // A candidate mutated: each of its n settings with probability 1 / n.

@@ -3,3 +3,4 @@ pub mod Words
 pub mod Valid
 pub mod Stepped
 pub mod Candidates
+pub mod InBounds

@@ -238,14 +238,17 @@ pub fn polynomial_mutation_f64(x: f64, low: f64, high: f64, k: u64, rng: Rng) ->
 {
     let d = rng_util::f64_range(rng, 0.0, 1.0);
     let u = d.value;
-    let rng = d.rng;
+    let after = d.rng;
     let range = high - low;
     if range <= 0.0 {
-        return DrawnF64 { value: x, rng };
+        return DrawnF64 {
+            value: x,
+            rng: after,
+        };
     }
     let shift = mutation_shift(x, low, high, range, k, u);
     let value = real::clamp(x + shift * range, low, high);
-    DrawnF64 { value, rng }
+    DrawnF64 { value, rng: after }
 }
 
 // A setting that stands as it is, without a draw.

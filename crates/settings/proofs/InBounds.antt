@@ -1,0 +1,65 @@
+-- "Every drawn setting is within its bounds": for a valid dimension whose numbers are such as an `f64` and an `i64` hold.
+use mathlib.Core.Path.{_≡_, refl, sym, ap, ap₂, _∙_}
+use mathlib.Core.Bool.{Bool, true, false, _&&_}
+use Prim.Native.Nat.{ℕ, _<_}
+use borrow.Author.Tests.{lt-ltb}
+use lib.Dec.{T}
+use lib.IntN.{ℤ, pos, _+ℤ_}
+use lib.Signed.{leZ, _≤ℤ_}
+use lib.Ieee.{Float, binary64, fits, ofBits}
+use mir.Syntax.{w64}
+use mir.Val.{SFits}
+use Rattle.list_laws.proofs.Bools.{T-true, true-T}
+use Rattle.rng_util.proofs.Draws.{drawUsize-below, drawI64-within, f64Range-within}
+use Rattle.model.specs.declared.Distribution.{Distribution}
+use Rattle.model.specs.declared.Distribution.the-variants as dist
+use Rattle.model.specs.declared.FloatDistribution.{FloatDistribution}
+use Rattle.model.specs.declared.IntDistribution.{IntDistribution}
+use Rattle.model.specs.declared.CategoricalDistribution.{CategoricalDistribution}
+use Rattle.model.specs.declared.OptionI64.{OptionI64}
+use Rattle.model.specs.declared.OptionI64.the-variants as optI64
+use Rattle.model.specs.Draw.{Drawn, drawWord}
+use Rattle.model.specs.Setting.{minWhole, maxWhole, stepAbove0, validDimension, inBounds, sampleInt, sampleRandom}
+use Rattle.settings.proofs.Valid.{FloatBounds, float-bounds, IntBounds, int-bounds, some-choice}
+use Rattle.settings.proofs.Stepped.{Stepping, rise, pick-low, pick-high, stepped-is}
+
+-- the numbers of a dimension are such as the machine holds
+abbrev pub HeldStep : OptionI64 → Type 0
+HeldStep optI64.None = Unit
+HeldStep (optI64.Some n) = SFits w64 n
+
+abbrev pub Held : Distribution → Type 0
+Held (dist.Float d) = T (fits binary64 (d .low)) × T (fits binary64 (d .high))
+Held (dist.Int d) = SFits w64 (d .low) × SFits w64 (d .high) × HeldStep (d .step)
+Held (dist.Categorical d) = Unit
+
+pub between : (low high n : ℤ) → low ≤ℤ n → n ≤ℤ high → (leZ low n && leZ n high) ≡ true
+between low high n h k = ap₂ (λ a b. a && b) (T-true (leZ low n) (h .le)) (T-true (leZ n high) (k .le))
+
+float-in : (d : FloatDistribution) (s : ℕ) → Held (dist.Float d) → FloatBounds d → inBounds (dist.Float d) (sampleRandom (dist.Float d) s .value) ≡ true
+unfolding inBounds sampleRandom ofBits
+float-in d s h b = T-true _ (f64Range-within (d .low) (d .high) s (h .0) (h .1) (b .ordered) (b .low-end) (b .high-end))
+
+whole-in : (low high : ℤ) (step : OptionI64) (s : ℕ) → SFits w64 low → SFits w64 high → HeldStep step → (low ≤ℤ high) → (minWhole ≤ℤ low)
+    → (high ≤ℤ maxWhole) → stepAbove0 step ≡ true → (leZ low (sampleInt low high step s .value) && leZ (sampleInt low high step s .value) high) ≡ true
+unfolding sampleInt
+whole-in low high optI64.None s fl fh fs o l h p = let w = drawI64-within low high s fl fh (o, l, h) in between low high _ (w .0) (w .1)
+whole-in low high (optI64.Some n) s fl fh fs o l h p =
+    let q : Stepping low high n = record { low-fits = fl; high-fits = fh; step-fits = fs; ordered = o; low-end = l; high-end = h; above = record { le = true-T (leZ (pos 1) n) p } } in
+    let w = drawWord s .value in
+    let e = ap (λ (d : Drawn ℤ). d .value) (stepped-is low high n q s w (drawWord s .state) refl) in
+    sym (ap (λ (z : ℤ). leZ low z && leZ z high) e) ∙ between low high (low +ℤ pos (rise low high n w)) (pick-low low high n q w) (pick-high low high n q w)
+
+int-in : (d : IntDistribution) (s : ℕ) → Held (dist.Int d) → IntBounds d → inBounds (dist.Int d) (sampleRandom (dist.Int d) s .value) ≡ true
+unfolding inBounds sampleRandom
+int-in d s h b = whole-in (d .low) (d .high) (d .step) s (h .0) (h .1) (h .2) (b .ordered) (b .low-end) (b .high-end) (b .step)
+
+choice-in : (d : CategoricalDistribution) (s : ℕ) → 0 < d .«n_choices» → inBounds (dist.Categorical d) (sampleRandom (dist.Categorical d) s .value) ≡ true
+unfolding inBounds sampleRandom
+choice-in d s h = lt-ltb _ (d .«n_choices») (drawUsize-below (d .«n_choices») s h)
+
+-- THE THEOREM
+pub sampled-in-bounds : (d : Distribution) (s : ℕ) → Held d → validDimension d ≡ true → inBounds d (sampleRandom d s .value) ≡ true
+sampled-in-bounds (dist.Float d) s h v = float-in d s h (float-bounds d v)
+sampled-in-bounds (dist.Int d) s h v = int-in d s h (int-bounds d v)
+sampled-in-bounds (dist.Categorical d) s h v = choice-in d s (some-choice d v)

@@ -1,0 +1,1 @@
+// Laws alone: children and mutants of settings within bounds are within bounds.
