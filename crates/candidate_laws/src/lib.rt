@@ -1,0 +1,1 @@
+// Laws of whole candidates: every setting lies within its dimension's bounds, and words hand candidates back.
