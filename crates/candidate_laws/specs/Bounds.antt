@@ -1,12 +1,12 @@
 -- Whole candidates whose settings lie within their dimensions' bounds.
-use Prim.Native.Nat.{ℕ, _+_, _*_, _<_}
+use Prim.Native.Nat.{ℕ, _<_}
 use mathlib.Core.Path.{_≡_}
 use mathlib.Core.Bool.{true}
 use mathlib.Core.List.{List, []}
 use lib.ListN.{length, getD}
 use Rattle.model.specs.declared.Distribution.{Distribution}
 use Rattle.model.specs.declared.ParamValue.{ParamValue}
-use Rattle.model.specs.Setting.{kindOfDimension, ofWord, inBounds, settingOf}
+use Rattle.model.specs.Setting.{inBounds, settingOf}
 
 -- a candidate has a setting for each of n dimensions, of its kind and within its bounds
 pub record Within (dims : ℕ → Distribution) (n : ℕ) (c : List ParamValue) : Type 0 where
@@ -17,7 +17,3 @@ pub record Within (dims : ℕ → Distribution) (n : ℕ) (c : List ParamValue) 
 pub record AllWithin (dims : ℕ → Distribution) (n count : ℕ) (cs : List (List ParamValue)) : Type 0 where
   pub whole : length cs ≡ count
   pub each : (i : ℕ) → i < count → Within dims n (getD cs i [])
-
--- the same of candidates that lie in words, candidate after candidate
-abbrev pub WordsWithin : (ℕ → Distribution) → ℕ → ℕ → List ℕ → Type 0
-WordsWithin dims n count words = (i d : ℕ) → i < count → d < n → inBounds (dims d) (ofWord (kindOfDimension (dims d)) (getD words (i * n + d) 0)) ≡ true

@@ -13,8 +13,8 @@ use Rattle.model.specs.Lists.{listBelow, over}
 use Rattle.model.specs.Plan.{planOf, planAt, maxValues}
 use Rattle.model.specs.Association.{Request, objectives}
 use Rattle.model.specs.Kept.{selected}
-use Rattle.model.specs.Setting.{Operators, generation, generationOf}
-use Rattle.model.specs.Session.{State, recordOf, breeds, requestOf, operatorsOf}
+use Rattle.model.specs.Setting.{Operators, generation, generationOf, WordsWithin}
+use Rattle.model.specs.Session.{State, bredFrom, breeds, requestOf, operatorsOf}
 use Rattle.model.specs.Property.{SessionOk}
 use Rattle.model.specs.Refusal.{Check, firstOf, Room, badDirections, badDivisions, goodPlan, badPool, selectRefusal, stepRefusal, sampleRefusal}
 use Rattle.model.specs.Demand3.{Demand3}
@@ -102,9 +102,17 @@ module _ (r : Request) (words : InWords r) where
   unfolding generation generationOf
   generation-kept o h = rw (le-ltb (r .count) 2 h)
 
-  pub steps : (o : Operators) (entry : Lent) (offspring : List ℕ) → Steps o r entry offspring (stepOf o r entry offspring)
+  -- what a step owes beside: its offspring lie within their bounds
+  pub steps : (o : Operators) (entry : Lent) (offspring : List ℕ)
+      → (stepRefusal o r (roomOf entry) (length offspring) ≡ none → WordsWithin (o .dims) (o .dimCount) (r .size) (stepOf o r entry offspring .offspring))
+      → Steps o r entry offspring (stepOf o r entry offspring)
   unfolding stepOf stepAccepted
-  steps o entry offspring = record { whole = refl; demand3 = λ e two enough. go e (subst (Demand3 r) (sym (generation-kept o two)) (demand3 r (step-accepted o (roomOf entry) (length offspring) e) enough)) }
+  steps o entry offspring bounds =
+      record {
+        whole = refl;
+        demand3 = λ e two enough. go e (subst (Demand3 r) (sym (generation-kept o two)) (demand3 r (step-accepted o (roomOf entry) (length offspring) e) enough));
+        bounds = bounds;
+      }
     where
       go : stepRefusal o r (roomOf entry) (length offspring) ≡ none → Demand3 r (generation o r .kept)
           → Demand3 r (handedOut (stepOf o r entry offspring .answer .outcome) (stepOf o r entry offspring .slices .kept))
@@ -123,7 +131,7 @@ sample-demand3 st d plan history ok e bred =
     r = requestOf st history
 
     words : InWords r
-    words p = planAt-row history (recordOf history (getD (st .plans) p 0))
+    words p = planAt-row (bredFrom st history) p
 
     divisions : badDivisions (objectives r) (r .divisions) ≡ false
     divisions =

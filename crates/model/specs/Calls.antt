@@ -26,7 +26,7 @@ use Rattle.model.specs.Plan.{planAt, planCount}
 use Rattle.model.specs.Association.{Request}
 use Rattle.model.specs.Kept.{Selected, selected}
 use Rattle.model.specs.Demand3.{Demand3}
-use Rattle.model.specs.Setting.{Operators, Generation, generation, wordsOf}
+use Rattle.model.specs.Setting.{Operators, Generation, generation, wordsOf, WordsWithin}
 use Rattle.model.specs.Session.{State, Answered, noDimension, given, opened, blank, accepted, state, breeds, requestOf, operatorsOf}
 use Rattle.model.specs.PoolFile.{PoolFile, parse, fileRequest, fileText, refusedText}
 use Rattle.model.specs.Refusal.{Room, selectRefusal, stepRefusal, openRefusal, sampleRefusal, chooseRefusal}
@@ -141,11 +141,12 @@ stepBy (some n) o r at offspring =
 unfoldable pub stepOf : Operators → Request → Lent → List ℕ → StepExit
 stepOf o r at offspring = stepBy (stepRefusal o r (roomOf at) (length offspring)) o r at offspring
 
--- THE PROMISE of `nsga3_generate_offspring`; it selects from a pool of two plans on
+-- THE PROMISE of `nsga3_generate_offspring`; it selects from a pool of two plans on, and hands out no setting outside its bounds
 pub record Steps (o : Operators) (r : Request) (entry : Lent) (offspring : List ℕ) (exit : StepExit) : Type 0 where
   pub whole : exit ≡ stepOf o r entry offspring
   pub demand3 : stepRefusal o r (roomOf entry) (length offspring) ≡ none → 2 ≤ r .count → r .size ≤ r .count
       → Demand3 r (handedOut (exit .answer .outcome) (exit .slices .kept))
+  pub bounds : stepRefusal o r (roomOf entry) (length offspring) ≡ none → WordsWithin (o .dims) (o .dimCount) (r .size) (exit .offspring)
 
 -- ---- `open`
 

@@ -1,5 +1,5 @@
 -- The session property: "a contract may ask of it a property that opening is proved to give and every call to keep, refused or not, and nothing more".
-use Prim.Native.Nat.{ℕ, _+_, _*_, _≤_, _<_, max}
+use Prim.Native.Nat.{ℕ, _≤_, _<_, max}
 use mathlib.Core.Path.{_≡_}
 use mathlib.Core.Bool.{Bool, true, false}
 use mathlib.Core.List.{List}
@@ -12,7 +12,7 @@ use Rattle.model.specs.declared.Phase.the-variants.{Discovery, Active}
 use Rattle.model.specs.declared.Config.{Config}
 use Rattle.model.specs.declared.Session.{Session}
 use Rattle.model.specs.Plan.{maxSettings}
-use Rattle.model.specs.Setting.{kindOfDimension, ofWord, validDimension, inBounds}
+use Rattle.model.specs.Setting.{validDimension, WordsWithin}
 use Rattle.model.specs.Session.{State, dimensionOf, longEnough, maxPlans}
 use Rattle.model.specs.Refusal.{badDirections, badDivisions, badOperators, goodIdeal, maxSize}
 
@@ -54,9 +54,7 @@ PhaseOk Active s = ActiveOk s
 pub record LentOk (st : State) : Type 0 where
   pub different : (i j : ℕ) → i < j → j < st .session .progress .«n_plans» → getD (st .plans) i 0 ≡ getD (st .plans) j 0 → ⊥
   pub next : (i : ℕ) → i < st .session .progress .«n_plans» → getD (st .nextDims) i 0 ≤ st .session .progress .«n_dims»
-  pub settings : (i d : ℕ) → i < st .session .progress .«n_candidates» → d < st .session .progress .«n_dims»
-      → inBounds (dimensionOf (st .session) d)
-      (ofWord (kindOfDimension (dimensionOf (st .session) d)) (getD (st .candidates) (i * st .session .progress .«n_dims» + d) 0)) ≡ true
+  pub settings : WordsWithin (dimensionOf (st .session)) (st .session .progress .«n_dims») (st .session .progress .«n_candidates») (st .candidates)
 
 -- Slices that are too short hold nothing that can be spoken of: they meet refusal 10, and the property asks nothing of them.
 pub record SessionOk (st : State) : Type 0 where

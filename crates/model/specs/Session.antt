@@ -22,10 +22,10 @@ use Rattle.model.specs.declared.Rng.{Rng}
 use Rattle.model.specs.declared.Config.{Config}
 use Rattle.model.specs.declared.Progress.{Progress}
 use Rattle.model.specs.declared.Session.{Session}
-use Rattle.model.specs.Lists.{allBelow, lastBelow, has, over}
+use Rattle.model.specs.Lists.{allBelow, lastBelow, listBelow, joinBelow, has, over}
 use Rattle.model.specs.Real.{nought, infinity}
 use Rattle.model.specs.Draw.{Drawn}
-use Rattle.model.specs.Plan.{Plan, planAt, planCount, maxValues, maxSettings}
+use Rattle.model.specs.Plan.{planAt, planCount, planWords, maxValues, maxSettings}
 use Rattle.model.specs.Reference.{divisionsOf, populationSize}
 use Rattle.model.specs.Association.{Request}
 use Rattle.model.specs.Setting.{kindOfDimension, toWord, ofWord, sampleRandom, sampleAll, sampleCandidates, Operators, Generation, generation, wordsOf}
@@ -241,9 +241,13 @@ evaluated st history =
     let size = st .session .config .«population_size» in
     leb size (st .session .progress .«n_plans») && allBelow (λ i. ltb (recordOf history (getD (st .plans) i 0)) (planCount history)) size
 
--- the plans bred from: the first size plans of the generation, as history has them
-abbrev pub bredFrom : State → List ℕ → ℕ → Plan
-bredFrom st history i = planAt history (recordOf history (getD (st .plans) i 0))
+-- the words of a record of the history
+abbrev pub blockOf : List ℕ → ℕ → List ℕ
+blockOf history k = listBelow (λ j. getD history (k * planWords + j) 0) planWords
+
+-- the plans bred from: the first size plans of the generation, as history has them, record after record
+unfoldable pub bredFrom : State → List ℕ → List ℕ
+bredFrom st history = joinBelow (λ i. blockOf history (recordOf history (getD (st .plans) i 0))) (st .session .config .«population_size»)
 
 -- the selection that a session's breeding makes, and its operators
 abbrev pub requestOf : State → List ℕ → Request
@@ -252,7 +256,7 @@ requestOf st history = record {
   divisions = st .session .config .divisions;
   size = st .session .config .«population_size»;
   count = st .session .config .«population_size»;
-  plans = bredFrom st history;
+  plans = planAt (bredFrom st history);
   ideal = take (st .session .config .«n_obj») (st .session .«ideal_point»);
   state = st .session .rng .s;
 }

@@ -1,5 +1,6 @@
 -- Document 01, "Setting and dimension": settings, bounds, sampling, extraction, crossover, mutation and the generation step.
-use Prim.Native.Nat.{ℕ, zero, suc, _+_, _*_, _/_, _%_, _^_, min}
+use Prim.Native.Nat.{ℕ, zero, suc, _+_, _*_, _/_, _%_, _^_, _<_, min}
+use mathlib.Core.Path.{_≡_}
 use mathlib.Core.Bool.{Bool, true, false, cond, not, _&&_}
 use mathlib.Core.List.{List, [], _∷_, _++_, map}
 use lib.IntN.{ℤ, pos, negsuc, _+ℤ_, _-ℤ_, _*ℤ_}
@@ -418,3 +419,7 @@ generation o r = byPool (ltb (r .count) 2) o r
 unfoldable pub wordsOf : List (List ParamValue) → List ℕ
 wordsOf [] = []
 wordsOf (c ∷ cs) = map toWord c ++ wordsOf cs
+
+-- every setting of so many candidates that lie so in words is of its dimension's kind and within its bounds
+abbrev pub WordsWithin : (ℕ → Distribution) → ℕ → ℕ → List ℕ → Type 0
+WordsWithin dims n count words = (i d : ℕ) → i < count → d < n → inBounds (dims d) (ofWord (kindOfDimension (dims d)) (getD words (i * n + d) 0)) ≡ true
