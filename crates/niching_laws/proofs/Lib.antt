@@ -1,10 +1,8 @@
-pub mod Lists
 pub mod Tally
 pub mod Sums
 pub mod Run
 pub mod Least
 pub mod Niched
-pub mod FloatOrder
 pub mod Choice
 pub mod Picks
 pub mod Procedure

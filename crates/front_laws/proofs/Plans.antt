@@ -21,12 +21,12 @@ use Rattle.model.specs.Row.{directionOf, toMinimize, rowOf, dominates, feasible
 use Rattle.list_laws.proofs.Bools.{T-true, true-T, T-false, false-T, and-left, and-right}
 use Rattle.list_laws.proofs.Built.{listBelow-length}
 use Rattle.list_laws.proofs.Tests.{allIn-each}
 use Rattle.front_laws.specs.Strict.{Strict}
 use Rattle.front_laws.proofs.Same.{Agree}
-use Rattle.pareto.specs.Flat.{Known}
-use Rattle.pareto.proofs.Domination.{dominates-irreflexive, dominates-asymmetric, dominates-transitive, dominates-paper, rule-irreflexive, rule-asymmetric, rule-transitive}
-use Rattle.pareto.proofs.FloatOrder.{le-not-nan}
-use Rattle.pareto.proofs.Violation.{feasible-none}
+use Rattle.front_laws.specs.Strict.{Known}
+use Rattle.front_laws.proofs.Domination.{dominates-irreflexive, dominates-asymmetric, dominates-transitive, dominates-paper, rule-irreflexive, rule-asymmetric, rule-transitive}
+use Rattle.float_laws.proofs.Order.{le-not-nan}
+use Rattle.front_laws.proofs.Violation.{feasible-none}
 
 -- ---- constrainedDominates, of any rows and constraints
 
@@ -84,7 +84,7 @@ neg-known nan e = e
 neg-known (inf s) e = refl
 neg-known (fin s m e') e = refl
 
-known-toMinimize : (d : Direction) (x : Float) → isNan x ≡ false → isNan (toMinimize d x) ≡ false
+pub known-toMinimize : (d : Direction) (x : Float) → isNan x ≡ false → isNan (toMinimize d x) ≡ false
 known-toMinimize Minimize x e = e
 known-toMinimize Maximize x e = neg-known x e
 

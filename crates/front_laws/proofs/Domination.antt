@@ -10,8 +10,10 @@ use Rattle.model.specs.Papers.Deb2002.{Dominates}
 use Rattle.model.specs.Row.{dominates, byFeasibility}
 use Rattle.list_laws.proofs.Bools.{by-bool, T-true, true-T, false-T, and-not-left, and-not-right}
 use Rattle.list_laws.proofs.Tests.{anyBelow-at, anyBelow-some, anyBelow-each, anyBelow-nowhere, anyBelow-same}
-use Rattle.pareto.specs.Flat.{Known}
-use Rattle.pareto.proofs.FloatOrder.{le-trans, lt→le, lt→nle, nlt→le, lt-irrefl, lt-le-trans, lt-trans}
+use Rattle.float_laws.proofs.Compared as compared
+use Rattle.float_laws.proofs.Compared.{lt-self}
+use Rattle.front_laws.specs.Strict.{Known}
+use Rattle.float_laws.proofs.Order.{le-trans, lt→le, lt→nle, nlt→le, lt-irrefl, lt-le-trans, lt-trans}
 
 -- ---- rows
 
@@ -89,18 +91,12 @@ dominates-paper m a b ka kb = (
 
 -- ---- the constraint rule
 
-less-irreflexive : (v : Float) → lt v v ≡ false
-less-irreflexive v = by-bool (lt v v) (λ e. absurd (lt-irrefl v (true-T (lt v v) e))) (λ e. e)
-
-less-transitive : (u v w : Float) → lt u v ≡ true → lt v w ≡ true → lt u w ≡ true
-less-transitive u v w h k = T-true (lt u w) (lt-trans u v w (true-T (lt u v) h) (true-T (lt v w) k))
-
 less-asymmetric : (u v : Float) → lt u v ≡ true → lt v u ≡ false
 less-asymmetric u v h = at-least v u (lt→le u v (true-T (lt u v) h))
 
 pub rule-irreflexive : (m : ℕ) (f : Bool) (v : Float) (a : ℕ → Float) → byFeasibility f f (lt v v) (dominates m a a) ≡ false
 rule-irreflexive m true v a = dominates-irreflexive m a
-rule-irreflexive m false v a = less-irreflexive v
+rule-irreflexive m false v a = lt-self v
 
 pub rule-asymmetric : (m : ℕ) (fa fb : Bool) (va vb : Float) (a b : ℕ → Float) → byFeasibility fa fb (lt va vb) (dominates m a b) ≡ true
     → byFeasibility fb fa (lt vb va) (dominates m b a) ≡ false
@@ -118,4 +114,4 @@ rule-transitive m true false true va vb vc a b c ka kb kc h k = absurd (false≢
 rule-transitive m true false false va vb vc a b c ka kb kc h k = refl
 rule-transitive m false true fc va vb vc a b c ka kb kc h k = absurd (false≢true h)
 rule-transitive m false false true va vb vc a b c ka kb kc h k = absurd (false≢true k)
-rule-transitive m false false false va vb vc a b c ka kb kc h k = less-transitive va vb vc h k
+rule-transitive m false false false va vb vc a b c ka kb kc h k = compared.lt-trans va vb vc h k

@@ -1,14 +1,14 @@
 -- A run of stores: one more at its end, and what stands where afterwards.
-use Prim.Native.Nat.{ℕ, zero, suc, _+_, _-_, _≤_, _<_}
+use Prim.Native.Nat.{ℕ, zero, suc, _+_, _-_, _*_, _≤_, _<_}
 use mathlib.Core.Path.{_≡_, refl, ap, sym, _∙_}
 use mathlib.Core.Logic.{⊎-elim}
 use mathlib.Core.List.{List, [], _∷_, _++_}
 use native.Mathlib.Omega.{arith}
-use native.Mathlib.Nat.{eq-or-lt-of-le, suc-add, add-suc, add-zero, sub-self}
+use native.Mathlib.Nat.{eq-or-lt-of-le, suc-add, add-suc, add-zero, sub-self, suc-mul, mul-le-mul-right}
 use lib.ListN.{length, getD, set, length-append, length-set}
 use lib.Seq.{sets, length-sets, getD-set-other, getD-set-same}
 
-pub sets-append : (l : List ℕ) (i : ℕ) (s t : List ℕ) → sets l i (s ++ t) ≡ sets (sets l i s) (i + length s) t
+pub sets-append : {A : Type 0} (l : List A) (i : ℕ) (s t : List A) → sets l i (s ++ t) ≡ sets (sets l i s) (i + length s) t
 sets-append l i [] t = ap (λ (k : ℕ). sets l k t) (sym (add-zero i))
 sets-append l i (x ∷ s) t =
     sets-append (set l i x) (suc i) s t
@@ -34,3 +34,9 @@ in-run l i (x ∷ s) zero h g = rw add-zero (before-run (set l i x) (suc i) s i 
 in-run l i (x ∷ s) (suc k) h g =
     ap (λ (t : ℕ). getD (sets (set l i x) (suc i) s) t 0) (add-suc i k ∙ sym (suc-add i k))
     ∙ in-run (set l i x) (suc i) s k (omega arith) (simp length-set (omega arith))
+
+-- ---- rows of m entries, one after the other
+
+-- row p of n lies within them
+pub row-inside : (p n m : ℕ) → p < n → p * m + m ≤ n * m
+row-inside p n m h = omega (arith, suc-mul p m, mul-le-mul-right m h)
