@@ -1,7 +1,7 @@
 -- Tests joined, and what a call that is not refused rules out.
 use mathlib.Core.Path.{_≡_, refl}
 use mathlib.Core.Bool.{Bool, true, false, cond, not, _&&_, _||_, true≢false, false≢true}
-use mathlib.Core.List.{List, _∷_}
+use mathlib.Core.List.{List, [], _∷_}
 use mathlib.Core.Option.{none, some}
 use Rattle.demand3_laws.proofs.Calls.{not-some}
 use Rattle.model.specs.Refusal.{Check, firstOf}
@@ -28,6 +28,10 @@ pub and-fails : (a b : Bool) → (a && b) ≡ false → a ≡ true → b ≡ fal
 and-fails true b e h = e
 and-fails false b e h = absurd (false≢true h)
 
+pub and-false : (a : Bool) → (a && false) ≡ false
+and-false true = refl
+and-false false = refl
+
 -- ---- the first number that applies
 
 -- where none is answered, the first does not apply, and of the others none is answered
@@ -47,3 +51,8 @@ passed-over c cs e = rw e
 pub not-later : (c : Check) (cs : List Check) → firstOf (c ∷ cs) ≡ none → firstOf cs ≡ none
 unfolding firstOf
 not-later c cs e = rw (not-first c cs e) at e
+
+-- and so is one after two others
+pub last-one : (a b c : Check) → c .applies ≡ false → firstOf (a ∷ b ∷ c ∷ []) ≡ firstOf (a ∷ b ∷ [])
+unfolding firstOf
+last-one a b c e = rw e
