@@ -1,3 +1,4 @@
 pub mod Tests
 pub mod Opened
 pub mod Request
+pub mod Steps

@@ -13,6 +13,7 @@ use Rattle.list_laws.proofs.Bools.{and-left, and-right}
 use Rattle.list_laws.proofs.Tests.{allBelow-every}
 use Rattle.list_laws.proofs.Built.{listBelow-length}
 use Rattle.model.specs.declared.Distribution.{Distribution}
+use Rattle.model.specs.declared.Session.{Session}
 use Rattle.model.specs.Lists.{joinBelow}
 use Rattle.model.specs.Plan.{planWords, planCount, maxSettings}
 use Rattle.model.specs.Association.{Request, objectives}
@@ -20,7 +21,7 @@ use Rattle.model.specs.Setting.{validDimension}
 use Rattle.model.specs.Session.{State, isActive, discovers, longEnough, blockOf, recordOf, bredFrom, breeds, requestOf, operatorsOf, dimensionOf, isNew, maxPlans, maxWords}
 use Rattle.model.specs.Refusal.{Check, check, firstOf, Room, noRoom, noStepRoom, badSize, badCount, badDivisions, badDimensions, badPool, badParents, stepRefusal, sampleRefusal, maxSize, maxHistory}
 use Rattle.model.specs.Calls.{wordRequest}
-use Rattle.model.specs.Property.{SessionOk}
+use Rattle.model.specs.Property.{DimensionsOk, SessionOk}
 use Rattle.session_laws.proofs.Tests.{or-both, and-false, passed-over, last-one}
 
 -- ---- the plans bred from are as many as the size
@@ -59,6 +60,13 @@ pub active-discovers : (st : State) (plan : ℕ) → isActive (st .session) ≡ 
 unfolding discovers
 active-discovers st plan e = rw e
 
+-- 6 applies to no dimension that is entered
+pub dimensions-good : (s : Session) → DimensionsOk s → badDimensions (dimensionOf s) (s .progress .«n_dims») ≡ false
+unfolding badDimensions
+dimensions-good s ok =
+    or-both _ _ (le-ltb maxSettings (s .progress .«n_dims») (ok .few))
+    (ap not (allBelow-every (λ d. validDimension (dimensionOf s d)) (s .progress .«n_dims») (ok .valid)))
+
 -- ---- refusals of the generation step that a session makes
 
 -- of a session's six checks a call that breeds leaves two
@@ -80,12 +88,6 @@ module _ (st : State) (history : List ℕ) (ok : SessionOk st) where
 
   request-size : badSize (st .session .config .«population_size») ≡ false
   request-size = or-both _ _ (ne-eqb (st .session .config .«population_size») 0 size-not-0) (le-ltb maxSize (st .session .config .«population_size») (ok .config .atMost))
-
-  request-dimensions : badDimensions (dimensionOf (st .session)) (st .session .progress .«n_dims») ≡ false
-  unfolding badDimensions
-  request-dimensions =
-      or-both _ _ (le-ltb maxSettings (st .session .progress .«n_dims») (ok .dimensions .few))
-      (ap not (allBelow-every (λ d. validDimension (dimensionOf (st .session) d)) (st .session .progress .«n_dims») (ok .dimensions .valid)))
 
   sample-refusal : (d : Distribution) (plan : ℕ) → breeds st history ≡ true → planCount history ≤ maxHistory
       → sampleRefusal st d plan history
@@ -127,7 +129,7 @@ module _ (st : State) (history : List ℕ) (ok : SessionOk st) where
     unfolding stepRefusal
     step-refusal =
         passed-over _ _ (ok .config .directions) ∙ passed-over _ _ request-size ∙ passed-over _ _ request-divisions
-        ∙ passed-over _ _ (ok .config .operators) ∙ passed-over _ _ request-dimensions ∙ passed-over _ _ request-size
+        ∙ passed-over _ _ (ok .config .operators) ∙ passed-over _ _ (dimensions-good (st .session) (ok .dimensions)) ∙ passed-over _ _ request-size
         ∙ last-one _ _ _ request-room
 
     -- and so is the session's call
