@@ -2,3 +2,4 @@ pub mod Tests
 pub mod Opened
 pub mod Request
 pub mod Steps
+pub mod Breed

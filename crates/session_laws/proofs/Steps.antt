@@ -59,7 +59,7 @@ pub overAt-long : (at : ℕ) (new old : List ℕ) → length old ≤ length (ove
 overAt-long at new old =
     omega (arith, length-append (take at old) (over new (drop at old)), length-take at old, over-long new (drop at old), length-drop at old)
 
-no-fewer : {d : ℕ} → d < 0 → ⊥
+pub no-fewer : {d : ℕ} → d < 0 → ⊥
 no-fewer l = omega arith
 
 -- ---- discovery
