@@ -1,3 +1,4 @@
 pub mod Sound
 pub mod Sampled
 pub mod Words
+pub mod Extracted
