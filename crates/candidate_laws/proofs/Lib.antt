@@ -2,3 +2,4 @@ pub mod Sound
 pub mod Sampled
 pub mod Words
 pub mod Extracted
+pub mod Bred
