@@ -35,7 +35,7 @@ clamp-fits : (low high x : Float) → T (fits binary64 low) → T (fits binary64
 clamp-fits low high x l h f = cond-fits binary64 (lt x low) low (cond (lt high x) high x) l (cond-fits binary64 (lt high x) high x h f)
 
 -- both of two
-abbrev HeldPair : Pair → Type 0
+abbrev pub HeldPair : Pair → Type 0
 HeldPair p = HeldValue (p .first) × HeldValue (p .second)
 
 float-held : (d : FloatDistribution) (p q : Float) (k s : ℕ) → Held (dist.Float d) → T (fits binary64 p) → T (fits binary64 q) → HeldPair (crossFloat d p q k s .value)

@@ -3,3 +3,5 @@ pub mod Sampled
 pub mod Words
 pub mod Extracted
 pub mod Bred
+pub mod KeptPlans
+pub mod Generations
