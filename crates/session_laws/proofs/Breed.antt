@@ -16,10 +16,13 @@ use Rattle.model.specs.Lists.{over}
 use Rattle.model.specs.Front.{listing}
 use Rattle.model.specs.Association.{Request, dominance}
 use Rattle.model.specs.Kept.{wholeFronts, before, isSplit, selectedWhole, selected}
-use Rattle.model.specs.Setting.{Operators, generation, generationOf, wordsOf, WordsWithin}
+use Rattle.model.specs.Setting.{Operators, generation, generationOf, wordsOf}
 use Rattle.model.specs.Session.{State, dimensionOf, breed, requestOf, operatorsOf}
 use Rattle.model.specs.Refusal.{goodIdeal, badParents}
 use Rattle.model.specs.Property.{SessionOk}
+use Rattle.candidate_laws.proofs.Sound.{AllHeld}
+use Rattle.candidate_laws.proofs.Generations.{generation-words}
+use Rattle.session_laws.proofs.Request.{dimensions-good}
 use Rattle.session_laws.proofs.Steps.{Long, over-long, no-fewer}
 
 -- ---- a selection of the whole pool
@@ -58,12 +61,12 @@ module _ (st : State) (history : List ℕ) (ok : SessionOk st) where
       ∙ ap (λ (n : ℕ). take (st .session .config .«n_obj») (st .session .«ideal_point») ++ drop n (st .session .«ideal_point»)) ideal-length
       ∙ take-append-drop (st .session .config .«n_obj») (st .session .«ideal_point»)
 
-  module _ (some : 1 ≤ st .session .progress .«n_dims»)
-      (offspring : WordsWithin (dimensionOf (st .session)) (st .session .progress .«n_dims») (st .session .config .«population_size»)
-      (over (wordsOf (generation (operatorsOf (st .session)) (requestOf st history) .offspring)) (st .candidates))) where
-    pub breed-ok-from : SessionOk (breed st history)
+  -- 9 does not apply to the plans bred from
+  module _ (some : 1 ≤ st .session .progress .«n_dims») (held : AllHeld (dimensionOf (st .session)) (st .session .progress .«n_dims»))
+      (parents : badParents (operatorsOf (st .session)) (requestOf st history) ≡ false) where
+    pub breed-ok : SessionOk (breed st history)
     unfolding breed
-    breed-ok-from =
+    breed-ok =
         record {
           config = ok .config;
           dimensions = record { few = ok .dimensions .few; valid = ok .dimensions .valid };
@@ -72,7 +75,7 @@ module _ (st : State) (history : List ℕ) (ok : SessionOk st) where
           lent = λ e. record {
             different = λ i j l k same. no-fewer k;
             next = λ i l. absurd (no-fewer l);
-            settings = offspring;
+            settings = generation-words (operatorsOf (st .session)) (requestOf st history) held (dimensions-good (st .session) (ok .dimensions)) parents (st .candidates);
           };
         }
 

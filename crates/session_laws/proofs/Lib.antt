@@ -3,3 +3,4 @@ pub mod Opened
 pub mod Request
 pub mod Steps
 pub mod Breed
+pub mod Sample

@@ -19,7 +19,9 @@ use Rattle.model.specs.Lists.{firstBelow, allIn, over}
 use Rattle.model.specs.Real.{infinity, unit}
 use Rattle.model.specs.Plan.{maxValues}
 use Rattle.model.specs.Reference.{binomial, pointCount, autoDivisions, divisionsOf, populationSize, orElse}
-use Rattle.model.specs.Session.{State, state, opened}
+use Rattle.model.specs.declared.OptionUsize.{OptionUsize}
+use Rattle.model.specs.Session.{state, given, opened}
+use Rattle.model.specs.Calls.{openOf, Opens}
 use Rattle.model.specs.Refusal.{firstOf, wholeEta, openRefusal, badDirections, badSessionSize, badSessionDivisions, badGivenDivisions, badDivisions, outsideDivisions, badOperators, measurable, isInfinity, goodIdeal, maxSize, maxLines}
 use Rattle.model.specs.Property.{ConfigOk, SessionOk}
 use Rattle.session_laws.proofs.Tests.{or-left, or-right, or-both, and-both}
@@ -125,6 +127,16 @@ module _ (marks : List ℕ) (seed : ℕ) (size divisions : Option ℕ) (probabil
     where
       none-below : {d : ℕ} → d < 0 → ⊥
       none-below l = omega arith
+
+-- the whole promise of `open`, of its definition
+pub opens : (directions : List ℕ) (seed : ℕ) (size divisions : OptionUsize) (probability crossoverEta mutationEta : Float)
+    → Opens directions seed size divisions probability crossoverEta mutationEta (openOf directions seed size divisions probability crossoverEta mutationEta)
+unfolding openOf
+opens directions seed size divisions probability crossoverEta mutationEta =
+    record {
+      whole = refl;
+      gives = λ e candidates plans nextDims. rw e (opened-ok directions seed (given size) (given divisions) probability crossoverEta mutationEta e candidates plans nextDims);
+    }
 
 -- ---- the property can be met: document 01's defaults for two objectives
 

@@ -64,7 +64,7 @@ no-fewer l = omega arith
 
 -- ---- discovery
 
-discovery-ok : (st : State) → SessionOk st → st .session .phase ≡ Discovery → DiscoveryOk (st .session)
+pub discovery-ok : (st : State) → SessionOk st → st .session .phase ≡ Discovery → DiscoveryOk (st .session)
 discovery-ok st ok e = subst (λ (p : Phase). PhaseOk p (st .session)) e (ok .phase)
 
 entered-valid : (infos : List DimensionInfo) (n : ℕ) (d : Distribution) → n < length infos
@@ -155,7 +155,7 @@ overflow-long st l =
       next = l .next;
     }
 
-active-ok : (st : State) → SessionOk st → st .session .phase ≡ Active → ActiveOk (st .session)
+pub active-ok : (st : State) → SessionOk st → st .session .phase ≡ Active → ActiveOk (st .session)
 active-ok st ok e = subst (λ (p : Phase). PhaseOk p (st .session)) e (ok .phase)
 
 module _ (st : State) (ok : SessionOk st) (active : st .session .phase ≡ Active) (lengths : Long st) (room : st .session .progress .«n_plans» < maxPlans) where
@@ -277,7 +277,7 @@ enlist-phase st plan = by-bool (ltb (st .session .progress .«n_plans») (st .se
 -- ---- a setting is answered
 
 -- whichever of two answers a test picks
-by-test : (b : Bool) (x y : Answered) → (b ≡ true → SessionOk (x .after)) → (b ≡ false → SessionOk (y .after)) → SessionOk (cond b x y .after)
+pub by-test : (b : Bool) (x y : Answered) → (b ≡ true → SessionOk (x .after)) → (b ≡ false → SessionOk (y .after)) → SessionOk (cond b x y .after)
 by-test true x y f g = f refl
 by-test false x y f g = g refl
 
