@@ -1,7 +1,7 @@
 -- Breeding keeps the session property: the pool is as large as the size, so no front is split and the ideal stays; the offspring lie within their bounds.
-use Prim.Native.Nat.{ℕ, zero, suc, _+_, _*_, _≤_, _<_}
-use mathlib.Core.Path.{_≡_, refl, sym, ap, _∙_, subst}
-use mathlib.Core.Bool.{Bool, true, false, _&&_}
+use Prim.Native.Nat.{ℕ, suc, _≤_}
+use mathlib.Core.Path.{_≡_, refl, ap, _∙_}
+use mathlib.Core.Bool.{Bool, false, _&&_}
 use mathlib.Core.List.{List, _++_}
 use native.Mathlib.Nat.{le-trans}
 use native.Mathlib.Omega.{arith}
@@ -79,11 +79,11 @@ module _ (st : State) (history : List ℕ) (ok : SessionOk st) where
           };
         }
 
-  pub breed-long : Long st → Long (breed st history)
-  unfolding breed
-  breed-long l =
-      record {
-        words = le-trans (l .words) (over-long (wordsOf (generation (operatorsOf (st .session)) (requestOf st history) .offspring)) (st .candidates));
-        plans = l .plans;
-        next = l .next;
-      }
+pub breed-long : (st : State) (history : List ℕ) → Long st → Long (breed st history)
+unfolding breed
+breed-long st history l =
+    record {
+      words = le-trans (l .words) (over-long (wordsOf (generation (operatorsOf (st .session)) (requestOf st history) .offspring)) (st .candidates));
+      plans = l .plans;
+      next = l .next;
+    }

@@ -1,28 +1,28 @@
 -- THE SESSION PROPERTY: every call keeps it, refused or not.
-use Prim.Native.Nat.{ℕ, _≤_, _<_}
-use mathlib.Core.Path.{_≡_, refl, sym, ap, _∙_, subst}
-use mathlib.Core.Bool.{Bool, true, false, cond, not, _&&_, _||_, true≢false, false≢true}
+use Prim.Native.Nat.{ℕ, _<_}
+use mathlib.Core.Path.{_≡_, refl, sym, ap, _∙_}
+use mathlib.Core.Bool.{true, false, not, _&&_, _||_, true≢false, false≢true}
 use mathlib.Core.List.{List, List·Memᴰ·head, List·Memᴰ·tail}
 use mathlib.Core.Option.{Option, none, some}
 use native.Mathlib.Omega.{arith}
-use lib.Dec.{leb, ltb}
+use lib.Dec.{leb}
 use lib.ListN.{length}
 use borrow.Author.Tests.{leb-false, not-true, not-false}
-use Rattle.list_laws.proofs.Bools.{by-bool, and-left, and-right}
+use Rattle.list_laws.proofs.Bools.{by-bool, and-left}
 use Rattle.demand3_laws.proofs.Calls.{applies-not, sample-demand3}
 use Rattle.model.specs.declared.Distribution.{Distribution}
 use Rattle.model.specs.declared.Phase.{Phase}
 use Rattle.model.specs.declared.Phase.the-variants.{Discovery, Active}
 use Rattle.model.specs.Plan.{maxSettings}
 use Rattle.model.specs.Setting.{validDimension}
-use Rattle.model.specs.Session.{State, dimensionOf, longEnough, isActive, pastDiscovery, discovers, discoversFor, isNew, breeds, breed, activate, discover, sampleFromCandidate, accepted, requestOf, operatorsOf, maxPlans}
+use Rattle.model.specs.Session.{State, dimensionOf, longEnough, isActive, pastDiscovery, discovers, isNew, breeds, breed, activate, discover, sampleFromCandidate, accepted, requestOf, operatorsOf, maxPlans}
 use Rattle.model.specs.Refusal.{sampleRefusal, badPool, badParents}
-use Rattle.model.specs.Property.{DiscoveryOk, PhaseOk, SessionOk}
+use Rattle.model.specs.Property.{SessionOk}
 use Rattle.model.specs.Calls.{sampleBy, sampleOf, Samples}
 use Rattle.candidate_laws.proofs.Sound.{AllHeld}
 use Rattle.session_laws.proofs.Tests.{or-left, or-right, and-both, and-fails}
 use Rattle.session_laws.proofs.Request.{breeds-active}
-use Rattle.session_laws.proofs.Steps.{Long, long, known, discovery-ok, active-ok, by-test, discover-ok, activate-ok, activate-long, sampleFromCandidate-ok}
+use Rattle.session_laws.proofs.Steps.{long, known, discovery-ok, active-ok, by-test, discover-ok, activate-ok, activate-long, sampleFromCandidate-ok}
 use Rattle.session_laws.proofs.Breed.{breed-ok, breed-long}
 
 -- ---- the two phases
@@ -38,23 +38,23 @@ discovery-phase Active e = absurd (true≢false e)
 -- ---- what a call that is not refused rules out
 
 module _ (st : State) (d : Distribution) (plan : ℕ) (history : List ℕ) (e : sampleRefusal st d plan history ≡ none) where
-  not-6 : (discovers st plan && (leb maxSettings (st .session .progress .«n_dims») || not (validDimension d))) ≡ false
+  pub not-6 : (discovers st plan && (leb maxSettings (st .session .progress .«n_dims») || not (validDimension d))) ≡ false
   unfolding sampleRefusal
   not-6 = applies-not (List·Memᴰ·head refl) e
 
-  not-8 : (breeds st history && badPool (requestOf st history)) ≡ false
+  pub not-8 : (breeds st history && badPool (requestOf st history)) ≡ false
   unfolding sampleRefusal
   not-8 = applies-not (List·Memᴰ·tail (List·Memᴰ·tail (List·Memᴰ·head refl))) e
 
-  not-9 : (breeds st history && badParents (operatorsOf (st .session)) (requestOf st history)) ≡ false
+  pub not-9 : (breeds st history && badParents (operatorsOf (st .session)) (requestOf st history)) ≡ false
   unfolding sampleRefusal
   not-9 = applies-not (List·Memᴰ·tail (List·Memᴰ·tail (List·Memᴰ·tail (List·Memᴰ·head refl)))) e
 
-  not-10 : longEnough st ≡ true
+  pub not-10 : longEnough st ≡ true
   unfolding sampleRefusal
   not-10 = not-false _ (applies-not (List·Memᴰ·tail (List·Memᴰ·tail (List·Memᴰ·tail (List·Memᴰ·tail (List·Memᴰ·head refl))))) e)
 
-  not-11 : (leb maxPlans (st .session .progress .«n_plans») && (isNew st plan && not (breeds st history))) ≡ false
+  pub not-11 : (leb maxPlans (st .session .progress .«n_plans») && (isNew st plan && not (breeds st history))) ≡ false
   unfolding sampleRefusal
   not-11 = applies-not (List·Memᴰ·tail (List·Memᴰ·tail (List·Memᴰ·tail (List·Memᴰ·tail (List·Memᴰ·tail (List·Memᴰ·head refl)))))) e
 
@@ -77,7 +77,7 @@ module _ (st : State) (d : Distribution) (plan : ℕ) (history : List ℕ) (ok :
         let first = discovery-phase (st .session .phase) inactive in
         let some = known (st .session .«discovery_trial_id») plan (st .session .progress .«n_dims») (and-fails (not (isActive (st .session))) _ h (ap not inactive))
         (discovery-ok st ok first .first) in
-        sampleFromCandidate-ok (activate st) plan (activate-ok st ok first some held) refl (activate-long st ok first some held (long st (not-10 st d plan history e)))
+        sampleFromCandidate-ok (activate st) plan (activate-ok st ok first some held) refl (activate-long st (long st (not-10 st d plan history e)))
         (λ new. omega arith) held
 
     bred : breeds st history ≡ true → SessionOk (sampleFromCandidate (breed st history) plan .after)
@@ -86,7 +86,7 @@ module _ (st : State) (d : Distribution) (plan : ℕ) (history : List ℕ) (ok :
         let some = active-ok st ok (active-phase (st .session .phase) (breeds-active st history h)) .someDimension in
         let parents = and-fails (breeds st history) _ (not-9 st d plan history e) h in
         sampleFromCandidate-ok (breed st history) plan (breed-ok st history ok some held parents) refl
-        (breed-long st history ok (long st (not-10 st d plan history e))) (λ new. omega arith) held
+        (breed-long st history (long st (not-10 st d plan history e))) (λ new. omega arith) held
 
     goes-on : isActive (st .session) ≡ true → breeds st history ≡ false → SessionOk (sampleFromCandidate st plan .after)
     goes-on a h = sampleFromCandidate-ok st plan ok (active-phase (st .session .phase) a) (long st (not-10 st d plan history e)) room held

@@ -1,10 +1,10 @@
 -- Each step of a call keeps the session property, where its condition holds.
 use Prim.Native.Nat.{ℕ, zero, suc, _+_, _-_, _*_, _≤_, _<_, max}
 use mathlib.Core.Path.{_≡_, refl, sym, ap, _∙_, subst}
-use mathlib.Core.Bool.{Bool, true, false, cond, not, _&&_, _||_, true≢false}
-use mathlib.Core.List.{List, [], _∷_, _++_, map}
+use mathlib.Core.Bool.{Bool, true, false, cond, true≢false}
+use mathlib.Core.List.{List, [], _∷_, map}
 use mathlib.Core.Logic.{⊎-elim}
-use native.Mathlib.Nat.{eq-or-lt-of-le, le-trans, mul-le-mul}
+use native.Mathlib.Nat.{eq-or-lt-of-le, le-trans, mul-le-mul, mul-le-mul-left}
 use native.Mathlib.Omega.{arith}
 use lib.Dec.{eqb, leb, ltb}
 use lib.ListN.{length, getD, set, take, drop, length-append, length-take, length-drop, length-set}
@@ -17,16 +17,15 @@ use Rattle.model.specs.declared.Phase.the-variants.{Discovery, Active}
 use Rattle.model.specs.declared.DimensionInfo.{DimensionInfo}
 use Rattle.model.specs.declared.OptionU64.{OptionU64}
 use Rattle.model.specs.declared.OptionU64.the-variants as optU64
-use Rattle.model.specs.declared.Session.{Session}
 use Rattle.model.specs.Lists.{over, has}
 use Rattle.model.specs.Plan.{maxSettings}
-use Rattle.model.specs.Setting.{validDimension, sampleRandom, sampleAll, sampleCandidates, toWord, wordsOf, WordsWithin}
+use Rattle.model.specs.Setting.{validDimension, sampleRandom, sampleAll, sampleCandidates, toWord, wordsOf}
 use Rattle.model.specs.Session.{State, state, dimensionOf, noDimension, longEnough, maxPlans, maxWords, overAt, discover, activate, overflow, enter, enlist, answer, plansOf, placeIn, isNew, sampleFromCandidate, discoversFor, withRng, Answered}
 use Rattle.model.specs.Refusal.{goodIdeal}
 use Rattle.model.specs.Property.{KnownBy, ConfigOk, DimensionsOk, DiscoveryOk, ActiveOk, PhaseOk, LentOk, SessionOk}
 use Rattle.candidate_laws.proofs.Sound.{AllHeld}
 use Rattle.candidate_laws.proofs.Sampled.{sampleAll-sound, sampleCandidates-sound}
-use Rattle.candidate_laws.proofs.Words.{words-within, words-put}
+use Rattle.candidate_laws.proofs.Words.{place-below, words-within, words-put}
 use Rattle.session_laws.proofs.Tests.{or-left, or-right, and-both}
 use Rattle.session_laws.proofs.Request.{dimensions-good}
 
@@ -50,6 +49,12 @@ long st e =
 pub long-enough : (st : State) → Long st → longEnough st ≡ true
 unfolding longEnough
 long-enough st l = and-both _ _ (le-leb maxWords _ (l .words)) (and-both _ _ (le-leb maxPlans _ (l .plans)) (le-leb maxPlans _ (l .next)))
+
+-- every setting of 2,048 candidates has its place
+pub setting-fits : (st : State) → DimensionsOk (st .session) → Long st → (i d : ℕ) → i < maxPlans → d < st .session .progress .«n_dims»
+    → i * st .session .progress .«n_dims» + d < length (st .candidates)
+setting-fits st ok l i d h k =
+    omega (arith, place-below i d (st .session .progress .«n_dims») maxPlans h k, mul-le-mul-left {m = st .session .progress .«n_dims»} {n = maxSettings} maxPlans (ok .few), l .words)
 
 -- a slice does not get shorter by what is written over it
 pub over-long : {A : Type 0} (new old : List A) → length old ≤ length (over new old)
@@ -126,9 +131,16 @@ module _ (st : State) (ok : SessionOk st) (discovery : st .session .phase ≡ Di
         };
       }
 
-  pub activate-long : Long st → Long (activate st)
-  unfolding activate
-  activate-long l = record { words = le-trans (l .words) (over-long (wordsOf (sampleCandidates (dimensionOf (st .session)) (st .session .progress .«n_dims») (st .session .config .«population_size») (st .session .rng .s) .value)) (st .candidates)); plans = l .plans; next = l .next }
+pub activate-long : (st : State) → Long st → Long (activate st)
+unfolding activate
+activate-long st l =
+    record {
+      words = le-trans (l .words)
+          (over-long (wordsOf (sampleCandidates (dimensionOf (st .session)) (st .session .progress .«n_dims») (st .session .config .«population_size») (st .session .rng .s) .value))
+          (st .candidates));
+      plans = l .plans;
+      next = l .next;
+    }
 
 -- ---- a plan more
 
@@ -313,7 +325,8 @@ module _ (st : State) (i : ℕ) (ok : SessionOk st) (active : st .session .phase
       (λ e. record {
         config = ok .config;
         dimensions = record { few = ok .dimensions .few; valid = ok .dimensions .valid };
-        phase = subst (λ (p : Phase). PhaseOk p (withRng (st .session) (sampleRandom (dimensionOf (st .session) (st .session .progress .«n_dims» - 1)) (st .session .rng .s) .state))) (sym active)
+        phase = subst (λ (p : Phase). PhaseOk p (withRng (st .session) (sampleRandom (dimensionOf (st .session) (st .session .progress .«n_dims» - 1)) (st .session .rng .s) .state)))
+            (sym active)
             (record { someDimension = at-active .someDimension; candidates = at-active .candidates; room = at-active .room });
         ideal = ok .ideal;
         lent = λ _. record { different = at-lent .different; next = at-lent .next; settings = at-lent .settings };
