@@ -7,6 +7,9 @@ use mathlib.Core.Option.{Option, none, some}
 use native.Mathlib.Omega.{arith}
 use lib.Dec.{leb}
 use lib.ListN.{length}
+use mir.Val.{Val}
+use denote.Laws.{Is}
+use denote.Struct.Declared as struct
 use borrow.Author.Tests.{leb-false, not-true, not-false}
 use Rattle.list_laws.proofs.Bools.{by-bool, and-left}
 use Rattle.demand3_laws.proofs.Calls.{applies-not, sample-demand3}
@@ -19,7 +22,9 @@ use Rattle.model.specs.Session.{State, dimensionOf, longEnough, isActive, pastD
 use Rattle.model.specs.Refusal.{sampleRefusal, badPool, badParents}
 use Rattle.model.specs.Property.{SessionOk}
 use Rattle.model.specs.Calls.{sampleBy, sampleOf, Samples}
+use Rattle.model.proofs.Session as session
 use Rattle.candidate_laws.proofs.Sound.{AllHeld}
+use Rattle.typed_laws.proofs.Held.{session-dimensions, session-held}
 use Rattle.session_laws.proofs.Tests.{or-left, or-right, and-both, and-fails}
 use Rattle.session_laws.proofs.Request.{breeds-active}
 use Rattle.session_laws.proofs.Steps.{long, known, discovery-ok, active-ok, by-test, discover-ok, activate-ok, activate-long, sampleFromCandidate-ok}
@@ -115,3 +120,11 @@ module _ (st : State) (d : Distribution) (plan : ℕ) (history : List ℕ) (ok :
   -- and the whole promise of `sample`, of its definition
   pub samples : Samples st d plan history (sampleOf st d plan history)
   samples = record { whole = refl; keeps = sample-ok; demand3 = sample-demand3 st d plan history ok }
+
+-- of a session that code is given the types promise it: `sample` asks the property alone. `good` stands at `c .good` of the code's proof.
+module _ (st : State) (d : Distribution) (plan : ℕ) (history : List ℕ) (ok : SessionOk st) (vs : List Val) (good : Is (struct.row session.the-type) (st .session) vs) where
+  pub given-held : AllHeld (dimensionOf (st .session)) (st .session .progress .«n_dims»)
+  given-held k l = session-held (st .session) vs good k (omega (arith, ok .dimensions .few))
+
+  pub given-samples : Samples st d plan history (sampleOf st d plan history)
+  given-samples = samples st d plan history ok given-held (session-dimensions (st .session) vs good)
