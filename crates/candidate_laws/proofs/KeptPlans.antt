@@ -12,11 +12,10 @@ use lib.Ieee.{Float}
 use lib.ListN.{length, getD, length-append}
 use Rattle.list_laws.proofs.Bools.{by-bool}
 use Rattle.list_laws.proofs.First.{firstBelow-before}
-use Rattle.list_laws.proofs.Members.{in-occ, under-in}
+use Rattle.list_laws.proofs.Members.{in-occ, under-in, in-snoc}
 use Rattle.rng_util.proofs.Draws.{drawUsize-below}
 use Rattle.front_laws.proofs.Rounds.{found}
 use Rattle.front_laws.proofs.Order.{listing-below}
-use Rattle.niching_laws.proofs.Lists.{in-snoc}
 use Rattle.nsga3_laws.proofs.Agree.{Below, picks-below}
 use Rattle.model.specs.Front.{front, listing}
 use Rattle.model.specs.Association.{Request, lineCount, dominance, association, lineOf}
