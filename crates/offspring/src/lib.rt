@@ -2,13 +2,21 @@
 // "Setting and dimension"). Candidates lie one after the other, a word a setting.
 ghost use mathlib.Core.Path.{_≡_};
 ghost use mathlib.Core.Bool.{true, false};
+ghost use mathlib.Core.List.{[], _∷_};
 ghost use Prim.Native.Nat.{ℕ, _+_, _*_, _-_, _≤_, _<_};
 ghost use lib.ListN.{length, getD, take};
 ghost use Rattle.model.specs.Lists.{allBelow, listBelow, over};
 ghost use Rattle.model.specs.Plan.{planAt, planCount};
 ghost use Rattle.model.specs.Row.{rowBeats};
 ghost use Rattle.model.specs.Front.{frontOf, frontList};
-ghost use Rattle.model.specs.Refusal.{goodPlan};
+ghost use Rattle.model.specs.Setting.{parentsOf, offspringOf, wordsOf};
+ghost use Rattle.model.specs.Session.{overAt};
+ghost use Rattle.model.specs.Refusal.{goodPlan, badDimensions, badOperators};
+ghost use Rattle.settings.specs.Candidate.{dimensionsOf, settingsOf};
+ghost use Rattle.genetic.specs.Parents.{parentsIn, operators};
+use model::DimensionInfo;
+use model::Rng;
+use settings::Slot;
 
 // The most plans of a pool and of a generation.
 const MAX_PLANS: usize = 1024;
@@ -65,4 +73,102 @@ pub fn fill_ranks(
     let mut fronts: [usize; MAX_PLANS] = [0; MAX_PLANS];
     front_ranks(pool, directions, &mut fronts);
     look_up(&fronts, kept, count, ranks);
+}
+
+// ---- parents
+
+// The settings of the first `count` kept plans, in the kept list's order; missing ones are drawn.
+pub fn fill_parents(
+    pool: &[u64],
+    kept: &[usize],
+    count: usize,
+    dims: [DimensionInfo; 32],
+    n: usize,
+    rng: Rng,
+    parents: &mut [u64],
+) -> Rng
+    requires { ⌜ (count ≤ length (now kept)) × ((i : ℕ) → i < count → getD (now kept) i 0 < planCount (now pool))
+        × (badDimensions (dimensionsOf dims) n ≡ false) × (count * n ≤ length (now parents)) ⌝ }
+    ensures words { λ _. ⌜ now (parents .exit)
+        ≡ over (wordsOf (parentsOf (dimensionsOf dims) n (planAt (now (pool .entry))) (take count (now (kept .entry))) (rng .s) .value)) (now (parents .entry)) ⌝ }
+    ensures state { λ r. ⌜ r .s ≡ parentsOf (dimensionsOf dims) n (planAt (now (pool .entry))) (take count (now (kept .entry))) (rng .s) .state ⌝ }
+{
+    let mut rng = rng;
+    let mut i = 0;
+    while i < count {
+        let p = kept[i];
+        let c = extraction::extract(pool, p, dims, n, rng);
+        let params = c.params;
+        candidates::put_candidate(params, n, i * n, parents);
+        rng = c.rng;
+        i += 1;
+    }
+    rng
+}
+
+// ---- offspring
+
+// Two children as candidates `at` and at + 1 of `size`; there may be room for the first only.
+fn put_children(
+    first: [Slot; 32],
+    second: [Slot; 32],
+    n: usize,
+    at: usize,
+    size: usize,
+    out: &mut [u64],
+)
+    requires { ⌜ (n ≤ 32) × (at < size) × (size * n ≤ length (now out)) ⌝ }
+    ensures { λ _. ⌜ now (out .exit)
+        ≡ overAt (at * n) (wordsOf (take (size - at) (settingsOf first n ∷ settingsOf second n ∷ []))) (now (out .entry)) ⌝ }
+{
+    candidates::put_candidate(first, n, at * n, out);
+    if at + 1 < size {
+        candidates::put_candidate(second, n, at * n + n, out);
+    }
+}
+
+// `size` candidates bred from `count` parents, two a brood. An odd size drops the last second child after its mutation.
+pub fn write_offspring(
+    parents: &[u64],
+    count: usize,
+    ranks: &[usize],
+    dims: [DimensionInfo; 32],
+    n: usize,
+    probability: f64,
+    crossover_eta: f64,
+    mutation_eta: f64,
+    size: usize,
+    rng: Rng,
+    offspring: &mut [u64],
+) -> Rng
+    requires { ⌜ (0 < count) × (count * n ≤ length (now parents)) × (count ≤ length (now ranks)) × (badDimensions (dimensionsOf dims) n ≡ false)
+        × (badOperators probability «crossover_eta» «mutation_eta» ≡ false) × (size * n ≤ length (now offspring)) × (size ≤ 1024) ⌝ }
+    ensures words { λ _. ⌜ now (offspring .exit)
+        ≡ over (wordsOf (offspringOf (operators (dimensionsOf dims) n probability «crossover_eta» «mutation_eta»)
+        (parentsIn (dimensionsOf dims) n (now (parents .entry)) count) (λ i. getD (now (ranks .entry)) i 0) size (rng .s) .value)) (now (offspring .entry)) ⌝ }
+    ensures state { λ r. ⌜ r .s
+        ≡ offspringOf (operators (dimensionsOf dims) n probability «crossover_eta» «mutation_eta»)
+        (parentsIn (dimensionsOf dims) n (now (parents .entry)) count) (λ i. getD (now (ranks .entry)) i 0) size (rng .s) .state ⌝ }
+{
+    let mut rng = rng;
+    let mut k = 0;
+    while k < (size + 1) / 2 {
+        let c = genetic::brood(
+            parents,
+            count,
+            ranks,
+            dims,
+            n,
+            probability,
+            crossover_eta,
+            mutation_eta,
+            rng,
+        );
+        let first = c.first;
+        let second = c.second;
+        put_children(first, second, n, 2 * k, size, offspring);
+        rng = c.rng;
+        k += 1;
+    }
+    rng
 }
