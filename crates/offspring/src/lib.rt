@@ -1,7 +1,7 @@
 // The parents of a generation, their ranks, and the offspring bred from them (Rust: nsga3_generate_offspring of sampler/nsga3.rs; document 01,
 // "Setting and dimension"). Candidates lie one after the other, a word a setting.
 ghost use mathlib.Core.Path.{_≡_};
-ghost use mathlib.Core.Bool.{true, false};
+ghost use mathlib.Core.Bool.{true, false, not};
 ghost use mathlib.Core.List.{[], _∷_};
 ghost use Prim.Native.Nat.{ℕ, _+_, _*_, _-_, _≤_, _<_};
 ghost use lib.ListN.{length, getD, take};
@@ -11,7 +11,7 @@ ghost use Rattle.model.specs.Row.{rowBeats};
 ghost use Rattle.model.specs.Front.{frontOf, frontList};
 ghost use Rattle.model.specs.Setting.{parentsOf, offspringOf, wordsOf};
 ghost use Rattle.model.specs.Session.{overAt};
-ghost use Rattle.model.specs.Refusal.{goodPlan, badDimensions, badOperators};
+ghost use Rattle.model.specs.Refusal.{goodPlan, badDimensions, badOperators, breedable};
 ghost use Rattle.settings.specs.Candidate.{dimensionsOf, settingsOf};
 ghost use Rattle.genetic.specs.Parents.{parentsIn, operators};
 use model::DimensionInfo;
@@ -76,6 +76,23 @@ pub fn fill_ranks(
 }
 
 // ---- parents
+
+// Refusal 9: a plan of the pool cannot be bred from.
+pub fn bad_parents(pool: &[u64], dims: [DimensionInfo; 32], n: usize) -> bool
+    requires { ⌜ n ≤ 32 ⌝ }
+    ensures { λ r. ⌜ r ≡ not (allBelow (λ p. breedable (dimensionsOf dims) n (planAt (now (pool .entry)) p)) (planCount (now (pool .entry)))) ⌝ }
+{
+    let count = plans::plan_count(pool);
+    let mut p = 0;
+    while p < count {
+        if extraction::breedable(pool, p, dims, n) {
+            p += 1;
+        } else {
+            return true;
+        }
+    }
+    false
+}
 
 // The settings of the first `count` kept plans, in the kept list's order; missing ones are drawn.
 pub fn fill_parents(
