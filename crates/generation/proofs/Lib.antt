@@ -1,2 +1,3 @@
 pub mod Accepted
+pub mod Breeding
 pub mod Refusals

@@ -60,7 +60,7 @@ bad-directions-requires c κs = search needs
 
 returns : tie.Need-returns
 returns c =
-    refused-2 _ _ _ _  (sym (c .before .bad-directions .ensures) ∙ c .if1 .taken)
+    refused-2 _ _ _ _ (sym (c .before .bad-directions .ensures) ∙ c .if1 .taken)
 
 bad-count-requires : tie.Need-bad-count-requires
 bad-count-requires c κs = search needs
