@@ -100,6 +100,10 @@ module _ (o : Operators) (r : Request) (room : Room) (offspring : ℕ) (e : step
   select-room h =
       ap (λ b. b && noRoom r room) (sym (le-leb 2 (r .count) h)) ∙ or-left (leb 2 (r .count) && noRoom r room) (ltb offspring (r .size * o .dimCount)) slices
 
+  pub kept-room : 2 ≤ r .count → r .size ≤ room .kept
+  unfolding noRoom
+  kept-room h = ltb-false (room .kept) (r .size) (or-left (ltb (room .kept) (r .size)) (ltb (room .fronts) (r .count) || ltb (room .lines) (r .count)) (select-room h))
+
   pub selects : 2 ≤ r .count → selectRefusal r room ≡ none
   unfolding selectRefusal firstOf
   selects h = rw (directions, size, divisions, count, pool, select-room h)

@@ -9,7 +9,7 @@ ghost use Rattle.model.specs.Lists.{allBelow, over};
 ghost use Rattle.model.specs.Plan.{planAt, planCount};
 ghost use Rattle.model.specs.Setting.{wordsOf};
 ghost use Rattle.model.specs.Refusal.{goodPlan, breedable, badDimensions, badOperators, stepRefusal};
-ghost use Rattle.model.specs.Calls.{wordRequest, lent, operators, stepAccepted, Steps};
+ghost use Rattle.model.specs.Calls.{wordRequest, lent, roomOf, operators, stepAccepted, Steps};
 ghost use Rattle.settings.specs.Candidate.{dimensionsOf};
 ghost use Rattle.nsga3.specs.Checked.{checked};
 ghost use Rattle.generation.specs.Bred.{bredFrom, exit};
@@ -155,4 +155,134 @@ fn breed(
         rng,
         offspring,
     )
+}
+
+// A generation step that meets no refusal. A pool of one breeds nothing and selects nothing: every setting is drawn.
+fn step(
+    pool: &[u64],
+    directions: &[u8],
+    divisions: usize,
+    size: usize,
+    rng: Rng,
+    dims: [DimensionInfo; 32],
+    n_dims: usize,
+    crossover_prob: f64,
+    crossover_eta: f64,
+    mutation_eta: f64,
+    ideal: &mut [f64],
+    kept: &mut [usize],
+    fronts: &mut [usize],
+    lines: &mut [usize],
+    offspring: &mut [u64],
+) -> Selection
+    requires { ⌜ stepRefusal (operators dims «n_dims» «crossover_prob» «crossover_eta» «mutation_eta»)
+        (wordRequest (now pool) (now directions) divisions size rng (now ideal))
+        (roomOf (lent (now kept) (now fronts) (now lines))) (length (now offspring)) ≡ none ⌝ }
+    ensures { λ r. ⌜ exit r (now (ideal .exit)) (now (kept .exit)) (now (fronts .exit)) (now (lines .exit)) (now (offspring .exit))
+        ≡ stepAccepted (operators dims «n_dims» «crossover_prob» «crossover_eta» «mutation_eta»)
+        (wordRequest (now (pool .entry)) (now (directions .entry)) divisions size rng (now (ideal .entry)))
+        (lent (now (kept .entry)) (now (fronts .entry)) (now (lines .entry))) (now (offspring .entry)) ⌝ }
+{
+    let n = plans::plan_count(pool);
+    if n < 2 {
+        let rng = candidates::sample_candidates(dims, n_dims, size, rng, offspring);
+        return Selection {
+            outcome: Outcome::Kept(0),
+            rng,
+        };
+    }
+    let selection = nsga3::nsga3_select(
+        pool,
+        directions,
+        divisions,
+        size,
+        rng,
+        ideal,
+        kept,
+        fronts,
+        lines,
+    );
+    let rng = breed(
+        pool,
+        directions,
+        kept,
+        size,
+        dims,
+        n_dims,
+        crossover_prob,
+        crossover_eta,
+        mutation_eta,
+        selection.rng,
+        offspring,
+    );
+    Selection {
+        outcome: Outcome::Kept(size),
+        rng,
+    }
+}
+
+// The offspring of a pool of plans, with the selection that they are bred from: document 01's generation step, or the number of the refusal that it
+// meets, with nothing written and no word drawn.
+pub fn nsga3_generate_offspring(
+    pool: &[u64],
+    directions: &[u8],
+    divisions: usize,
+    size: usize,
+    rng: Rng,
+    dimensions: [DimensionInfo; 32],
+    n_dims: usize,
+    crossover_prob: f64,
+    crossover_eta: f64,
+    mutation_eta: f64,
+    ideal: &mut [f64],
+    kept: &mut [usize],
+    fronts: &mut [usize],
+    lines: &mut [usize],
+    offspring: &mut [u64],
+) -> Selection
+    ensures { λ r. ⌜ Steps (operators dimensions «n_dims» «crossover_prob» «crossover_eta» «mutation_eta»)
+        (wordRequest (now (pool .entry)) (now (directions .entry)) divisions size rng (now (ideal .entry)))
+        (lent (now (kept .entry)) (now (fronts .entry)) (now (lines .entry))) (now (offspring .entry))
+        (record { answer = r; ideal = now (ideal .exit); slices = lent (now (kept .exit)) (now (fronts .exit)) (now (lines .exit)); offspring = now (offspring .exit) }) ⌝ }
+{
+    let check = refusal(
+        pool,
+        directions,
+        divisions,
+        size,
+        rng,
+        dimensions,
+        n_dims,
+        crossover_prob,
+        crossover_eta,
+        mutation_eta,
+        ideal,
+        kept.len(),
+        fronts.len(),
+        lines.len(),
+        offspring.len(),
+    );
+    match check {
+        Check::Refused(number) => Selection {
+            outcome: Outcome::Refused(number),
+            rng,
+        },
+        Check::Good => step(
+            pool,
+            directions,
+            divisions,
+            size,
+            rng,
+            dimensions,
+            n_dims,
+            crossover_prob,
+            crossover_eta,
+            mutation_eta,
+            ideal,
+            kept,
+            fronts,
+            lines,
+            offspring,
+        ),
+    }
 }
