@@ -131,7 +131,8 @@ module _ (r : Request) (entry : Lent) (x : SelectExit) (e : x ≡ selectOf r ent
         only-ten (badDirections (r .marks)) (badSize (r .size)) (badDivisions (objectives r) (r .divisions)) (badCount (r .count)) (badPool r) (noRoom r (roomOf entry))
         (ltb out (length (requestText r))) (through n h .none)
 
-    pub listed-exit : (out : List ℕ)
-        → textExit (listingText (r .count) (listed (take n (x .slices .kept)) (x .slices .fronts) (x .slices .lines))) out ≡ listExit r out
-    listed-exit out =
-        ap (λ (t : List ℕ). textExit t out) text-same ∙ sym (ap (λ (o : Option ℕ). chooseBy o (requestText r) out) (ten (length out)))
+    pub listed-exit : (out : List ℕ) (count : ℕ) → count ≡ r .count
+        → textExit (listingText count (listed (take n (x .slices .kept)) (x .slices .fronts) (x .slices .lines))) out ≡ listExit r out
+    listed-exit out count e =
+        ap (λ (c : ℕ). textExit (listingText c (listed (take n (x .slices .kept)) (x .slices .fronts) (x .slices .lines))) out) e
+        ∙ ap (λ (t : List ℕ). textExit t out) text-same ∙ sym (ap (λ (o : Option ℕ). chooseBy o (requestText r) out) (ten (length out)))
