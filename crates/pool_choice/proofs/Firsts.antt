@@ -1,12 +1,13 @@
 -- The first of six refusals that applies, by the tests alone: refusals 2, 3, 4, 7 and 8 come before 10.
 use Prim.Native.Nat.{ℕ}
 use mathlib.Core.Path.{_≡_, refl, ap}
-use mathlib.Core.Bool.{Bool, true, false, cond, true≢false}
+use mathlib.Core.Bool.{Bool, true, false, cond, true≢false, false≢true}
 use mathlib.Core.List.{List, [], _∷_}
 use mathlib.Core.Option.{Option, none, some}
 use Rattle.model.specs.Refusal.{check, firstOf}
 use Rattle.model.specs.Calls.{ChooseExit, chooseBy}
 use Rattle.pool_file.proofs.Options.{none-some}
+use Rattle.pool_choice.specs.Choice.{crowdedBy}
 use Rattle.demand3_laws.proofs.Calls.{not-some}
 
 abbrev pub six : Bool → Bool → Bool → Bool → Bool → Bool → Option ℕ
@@ -43,3 +44,17 @@ alike false false true d e x y s t out h = refl
 alike false false false true e x y s t out h = refl
 alike false false false false true x y s t out h = refl
 alike false false false false false x y s t out h = h refl refl
+
+-- 2 comes first; a pool of too many plans answers 2, 3, 4 or 7
+pub first-two : (a b c d e x : Bool) → a ≡ true → six a b c d e x ≡ some 2
+unfolding firstOf
+first-two true b c d e x h = refl
+first-two false b c d e x h = absurd (false≢true h)
+
+pub first-crowded : (a b c d e x : Bool) → d ≡ true → six a b c d e x ≡ some (crowdedBy a b c)
+unfolding firstOf
+first-crowded true b c d e x h = refl
+first-crowded false true c d e x h = refl
+first-crowded false false true d e x h = refl
+first-crowded false false false true e x h = refl
+first-crowded false false false false e x h = absurd (false≢true h)

@@ -1,6 +1,6 @@
 -- What `choose` answers and writes, for a request of words or of a file.
 use Prim.Native.Nat.{ℕ}
-use mathlib.Core.Bool.{cond}
+use mathlib.Core.Bool.{Bool, cond}
 use mathlib.Core.List.{List, [], _∷_}
 use mathlib.Core.Option.{Option, none, some}
 use lib.Dec.{ltb}
@@ -37,6 +37,9 @@ listRefusal r out = firstOf (
 abbrev pub listExit : Request → List ℕ → ChooseExit
 listExit r out = chooseBy (listRefusal r (length out)) (requestText r) out
 
--- the number that answers a pool of more than 1,024 plans
+-- the number that answers a pool of more than 1,024 plans, by what comes before 7
+abbrev pub crowdedBy : Bool → Bool → Bool → ℕ
+crowdedBy two three four = cond two 2 (cond three 3 (cond four 4 7))
+
 unfoldable pub crowdedNumber : List ℕ → ℕ → ℕ → ℕ
-crowdedNumber marks divisions size = cond (badDirections marks) 2 (cond (badSize size) 3 (cond (badDivisions (length marks) divisions) 4 7))
+crowdedNumber marks divisions size = crowdedBy (badDirections marks) (badSize size) (badDivisions (length marks) divisions)
