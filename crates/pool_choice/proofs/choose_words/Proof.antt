@@ -1,15 +1,13 @@
 -- `choose_words`: the selection's answer, and the listing of what it hands out
-use Prim.Native.Nat.{ℕ}
-use mathlib.Core.Path.{_≡_, ap, sym, _∙_}
+use mathlib.Core.Path.{ap, sym, _∙_}
 use mathlib.Core.List.{List}
-use lib.Ieee.{Float, binary64, div, ofBits}
-use lib.ListN.{length, replicate}
+use lib.Ieee.{Float}
+use lib.ListN.{length}
 use lib.Seq.{length-take-le}
 use native.Mathlib.Omega.{arith}
 use borrow.Author.Needs.{needs}
-use Rattle.model.specs.PoolFile.{listingText}
 use Rattle.model.specs.Calls.{wordRequest}
-use Rattle.pool_choice.specs.Choice.{textExit, listExit}
+use Rattle.pool_choice.specs.Choice.{listExit}
 use Rattle.pool_choice.proofs.Words.{ideal-start, refused-exit, through, limits, text-short, listed-exit}
 use Rattle.pool_choice.proofs.choose_words.Statement.{statement}
 use Rattle.pool_choice.proofs.choose_words.Tie as tie
@@ -18,9 +16,7 @@ array-borrow-prefix-ideal : tie.Need-array-borrow-prefix-ideal
 array-borrow-prefix-ideal c = search needs
 
 slice-aggregate-nsga3-select : tie.Need-slice-aggregate-nsga3-select
-slice-aggregate-nsga3-select c =
-    let s = c .before .before .before .before in
-    sym (length-take-le (length (s .args .directions .now)) (replicate 8 (div binary64 (ofBits binary64 4607182418800017408) (ofBits binary64 0))) (s .pre))
+slice-aggregate-nsga3-select c = sym (length-take-le _ _ (c .before .before .before .before .pre))
 
 slice-aggregate-nsga3-select-2 : tie.Need-slice-aggregate-nsga3-select-2
 slice-aggregate-nsga3-select-2 c = search needs
