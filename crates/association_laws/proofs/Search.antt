@@ -5,7 +5,7 @@ use mathlib.Core.Bool.{Bool, true, false}
 use native.Mathlib.Numerals.{add-one}
 use lib.Dec.{T, eqb→eq}
 use lib.IntN.{pos}
-use lib.Ieee.{Float, nan, inf, fin, binary64, up, down, lt, le, ofBits, fits}
+use lib.Ieee.{Float, nan, inf, fin, binary64, up, down, lt, le, isNan, ofBits, fits}
 use lib.Ieee.Fits.{add-fits, inf-fits, cond-fits}
 use Rattle.model.specs.Real.{_⊘_, infinity, sumTo}
 use Rattle.model.specs.Numbers.{sqrtOf}
@@ -13,6 +13,7 @@ use Rattle.model.specs.Association.{dot, smallNorm, offSquares, distance, near,
 use Rattle.list_laws.proofs.Bools.{by-bool, true-T, false-T}
 use Rattle.float_laws.proofs.Units.{zero-exponent}
 use Rattle.float_laws.proofs.Order.{lt→nle, nlt→le, le-not-nan}
+use Rattle.float_laws.proofs.Compared.{nan-below, below-nan}
 use Rattle.float_laws.proofs.Constants.{nought}
 use Rattle.real.proofs.Roots.Nearest.{from-zero}
 use Rattle.real.proofs.Roots.Monotone.{sqrt-mono}
@@ -50,18 +51,6 @@ squares-fit m p r =
 
 -- ---- roots in the order of squares
 
-below-nan : (x : Float) → lt x nan ≡ false
-unfolding lt
-below-nan nan = refl
-below-nan (inf s) = refl
-below-nan (fin s m e) = refl
-
-nan-below : (x : Float) → lt nan x ≡ false
-unfolding lt
-nan-below nan = refl
-nan-below (inf s) = refl
-nan-below (fin s m e) = refl
-
 minus-zero : T (le nought (fin true 0 (pos 0)))
 unfolding le
 minus-zero = tt
@@ -81,14 +70,15 @@ no-root (fin true zero e) X h = absurd (clash (le nought (fin true 0 e)) (subst 
 no-root (fin true (suc m) e) X h = refl
 
 pub root-order : (x y : Float) → T (fits binary64 x) → T (fits binary64 y) → lt x y ≡ false → lt (sqrtOf x) (sqrtOf y) ≡ false
+unfolding isNan
 root-order x y X Y h = by-bool (le nought x)
     (λ a. by-bool (le nought y)
     (λ b. let u = true-T (le nought x) a in
     let v = true-T (le nought y) b in
     let l = nlt→le x y (le-not-nan nought x u .1) (le-not-nan nought y v .1) (false-T (lt x y) h) in
     by-bool (lt (sqrtOf x) (sqrtOf y)) (λ e. absurd (lt→nle (sqrtOf x) (sqrtOf y) (true-T (lt (sqrtOf x) (sqrtOf y)) e) (sqrt-mono y x Y X v l))) (λ e. e))
-    (λ b. ap (lt (sqrtOf x)) (no-root y Y b) ∙ below-nan (sqrtOf x)))
-    (λ a. ap (λ t. lt t (sqrtOf y)) (no-root x X a) ∙ nan-below (sqrtOf y))
+    (λ b. ap (lt (sqrtOf x)) (no-root y Y b) ∙ below-nan (sqrtOf x) nan refl))
+    (λ a. ap (λ t. lt t (sqrtOf y)) (no-root x X a) ∙ nan-below nan (sqrtOf y) refl)
 
 -- ---- the search
 

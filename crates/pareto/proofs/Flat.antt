@@ -11,8 +11,9 @@ use Rattle.model.specs.Plan.{Plan}
 use Rattle.model.specs.Row.{rowOf, feasible, violation, constrainedDominates, rowBeats, beats}
 use Rattle.front_laws.specs.Strict.{Strict}
 use Rattle.front_laws.proofs.Same.{Agree}
+use Rattle.list_laws.proofs.Runs.{row-inside}
 use Rattle.pareto.specs.Flat.{rowAt, flatDominates, flatBeats, Pool, KnownRows, RowsOf, FlatOf}
-use Rattle.pareto.proofs.Domination.{dominates-same, dominates-irreflexive, dominates-transitive, rule-irreflexive, rule-transitive}
+use Rattle.front_laws.proofs.Domination.{dominates-same, dominates-irreflexive, dominates-transitive, rule-irreflexive, rule-transitive}
 
 -- `flatBeats` is the constraint rule, where flags and sums are those of two plans' constraints
 pub flatBeats-constrained : (rows : List Float) (m : ℕ) (flags : List Bool) (sums : List Float) (p q : ℕ) (cp cq : List Float)
@@ -42,12 +43,9 @@ pub flatBeats-rows : (rows : List Float) (m : ℕ) (flags : List Bool) (sums : L
 unfolding flatBeats
 flatBeats-rows rows m flags sums n h p q lp lq = rw (h p lp, h q lq)
 
--- the place of a row's entry, and the end of a row, are in the table
+-- the place of a row's entry is in the table
 pub row-lt : (p j n m : ℕ) → p < n → j < m → p * m + j < n * m
 row-lt p j n m h g = omega (arith, mul-le-mul-right m h, suc-mul p m)
-
-pub row-end : (p n m : ℕ) → p < n → p * m + m ≤ n * m
-row-end p n m h = omega (arith, mul-le-mul-right m h, suc-mul p m)
 
 -- rows without a NaN make both strict
 pub flatDominates-strict : (rows : List Float) (m n : ℕ) → KnownRows rows m n → Strict (flatDominates rows m) n
@@ -72,6 +70,6 @@ pub pool-pair : (rows : List Float) (m : ℕ) (flags : List Bool) (sums : List F
     → (p * m + m ≤ length rows) × (q * m + m ≤ length rows)
     × (p < length flags) × (q < length flags) × (p < length sums) × (q < length sums)
 pool-pair rows m flags sums n p q h lp lq =
-    let a = row-end p n m lp in
-    let b = row-end q n m lq in
+    let a = row-inside p n m lp in
+    let b = row-inside q n m lq in
     (omega arith, omega arith, omega arith, omega arith, omega arith, omega arith)

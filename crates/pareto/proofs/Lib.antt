@@ -1,7 +1,3 @@
-pub mod FloatOrder
-pub mod Domination
-pub mod Violation
-pub mod Plans
 pub mod Flat
 pub mod Writes
 pub mod Steps

@@ -11,21 +11,7 @@ use lib.Seq.{sets, length-sets, getD-set-other, getD-set-same}
 use Rattle.model.specs.Lists.{one, keepBelow}
 use Rattle.list_laws.proofs.Counts.{countBelow-le}
 use Rattle.list_laws.proofs.Kept.{keepBelow-none, keepBelow-yes, keepBelow-no, keepBelow-length}
-
-pub sets-append : (l : List ℕ) (i : ℕ) (s t : List ℕ) → sets l i (s ++ t) ≡ sets (sets l i s) (i + length s) t
-sets-append l i [] t = ap (λ k. sets l k t) (sym (add-zero i))
-sets-append l i (x ∷ s) t =
-    sets-append (set l i x) (suc i) s t ∙ ap (λ k. sets (sets (set l i x) (suc i) s) k t) (suc-add i (length s) ∙ sym (add-suc i (length s)))
-
--- at j, the place after the run
-pub sets-snoc : (l : List ℕ) (i j : ℕ) (s : List ℕ) (x : ℕ) → j ≡ i + length s → set (sets l i s) j x ≡ sets l i (s ++ (x ∷ []))
-sets-snoc l i j s x e = ap (λ k. set (sets l i s) k x) e ∙ sym (sets-append l i s (x ∷ []))
-
--- what stands before the run stays
-pub getD-sets-before : (l : List ℕ) (i : ℕ) (s : List ℕ) (j : ℕ) → j < i → getD (sets l i s) j 0 ≡ getD l j 0
-getD-sets-before l i [] j h = refl
-getD-sets-before l i (x ∷ s) j h =
-    getD-sets-before (set l i x) (suc i) s j (omega arith) ∙ getD-set-other l i j x 0 (λ e. omega arith)
+use Rattle.list_laws.proofs.Runs.{sets-snoc}
 
 -- the numbers below q that pass f stand in a list from `at` on, up to `len`; the rest is as in l
 pub record Picked (f : ℕ → Bool) (l : List ℕ) (at q : ℕ) (o : List ℕ) (len : ℕ) : Type 0 where

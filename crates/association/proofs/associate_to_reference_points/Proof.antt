@@ -6,7 +6,8 @@ use lib.ListN.{length, length-set}
 use lib.Seq.{sets}
 use Rattle.model.specs.Lists.{listBelow}
 use Rattle.association_laws.specs.Flat.{nearestAt}
-use Rattle.association_laws.proofs.Writes.{row-inside, run-none, front-more, front-done}
+use Rattle.list_laws.proofs.Runs.{row-inside}
+use Rattle.association_laws.proofs.Writes.{run-none, front-more, front-done}
 use Rattle.association.proofs.associate_to_reference_points.Statement.{statement}
 use Rattle.association.proofs.associate_to_reference_points.Tie as tie
 

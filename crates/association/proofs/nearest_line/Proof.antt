@@ -8,7 +8,7 @@ use lib.Ieee.{binary64, fits, div, ofBits}
 use Rattle.model.specs.Numbers.{sqrtOf}
 use Rattle.association_laws.specs.Flat.{from, distanceAt}
 use Rattle.association_laws.specs.Search.{Found}
-use Rattle.association_laws.proofs.Writes.{row-inside}
+use Rattle.list_laws.proofs.Runs.{row-inside}
 use Rattle.association_laws.proofs.Search.{distance-root, squares-fit, found-none}
 use Rattle.association.proofs.nearest_line.Statement.{statement}
 use Rattle.association.proofs.nearest_line.Tie as tie
