@@ -17,11 +17,11 @@ use Rattle.model.specs.Association.{Request, objectives}
 use Rattle.model.specs.PoolFile.{PoolFile, parse, fileRequest}
 use Rattle.model.specs.Refusal.{maxSize, badDirections, badSize, badDivisions, badCount, badPool, refusalOfParsed, fileRefusal, chooseRefusal}
 use Rattle.model.specs.Calls.{ChooseExit, chooseBy, textOf, chooseOf, Chooses, wordRequest}
-use Rattle.pool_laws.proofs.Demand3.{choose-demand3}
 use Rattle.pool_file.specs.declared.Header.{Header}
 use Rattle.pool_file.specs.declared.Parsed.{Parsed as Answer}
 use Rattle.pool_file.specs.declared.Parsed.the-variants as answer
 use Rattle.pool_file.specs.Parsing.{PoolIs, Pool, capped}
+use Rattle.pool_laws.proofs.Demand3.{choose-demand3}
 use Rattle.pool_laws.proofs.Carried.{Carried, carried, stored, directions-same}
 use Rattle.pool_choice.specs.Choice.{exit, requestText, listRefusal, listExit, crowdedBy, crowdedNumber}
 use Rattle.pool_choice.proofs.Firsts.{six, first-two, first-crowded, alike}

@@ -1,56 +1,18 @@
--- How long the lists are that a selection hands out, and the listing of slices that begin with them.
-use Prim.Native.Nat.{ℕ, zero, suc, _+_, _-_, _≤_, _<_}
-use mathlib.Core.Path.{_≡_, refl, ap, ap₂, sym, _∙_}
+-- A selection hands out as many fronts and lines as there are plans; the listing of slices that begin with its lists.
+use Prim.Native.Nat.{ℕ, _<_}
+use mathlib.Core.Path.{_≡_, ap, ap₂, sym, _∙_}
 use mathlib.Core.Bool.{Bool, true, false}
-use mathlib.Core.List.{List, [], _∷_, _++_}
+use mathlib.Core.List.{List, _++_}
 use native.Mathlib.Omega.{arith}
-use borrow.Author.Tests.{ltb-false}
-use lib.Dec.{ltb}
-use lib.Ieee.{Float}
-use lib.ListN.{length, getD, take, replicate, length-append, length-replicate, List·getD-append}
-use Rattle.model.specs.Lists.{over, joinBelow}
-use Rattle.model.specs.Front.{listing, frontList}
-use Rattle.model.specs.Association.{Request, lineOf, lineCount, dominance, association}
-use Rattle.model.specs.Kept.{Selected, selected, selectedSplit, selectedWhole, bySplit, isSplit, before, wholeFronts, splitFront, filled, picks, padding, noLine}
+use lib.ListN.{length, getD, take, length-replicate, List·getD-append}
+use Rattle.model.specs.Lists.{over}
+use Rattle.model.specs.Front.{frontList}
+use Rattle.model.specs.Association.{Request, lineOf}
+use Rattle.model.specs.Kept.{Selected, selected, selectedSplit, selectedWhole, bySplit, isSplit, noLine}
 use Rattle.model.specs.PoolFile.{headerText, planText, listingText}
-use Rattle.list_laws.proofs.First.{firstBelow-before}
 use Rattle.list_laws.proofs.Built.{listBelow-length, joinBelow-same, over-take}
+use Rattle.niching_laws.proofs.KeptLength.{kept-length}
 use Rattle.pool_text.specs.Text.{listed}
-
--- ---- the kept list is as long as the size
-
-whole-le : (d : ℕ → ℕ → Bool) (n size k : ℕ) → ((t : ℕ) → t < k → ltb size (length (listing d n (suc t))) ≡ false) → length (listing d n k) ≤ size
-unfolding listing
-whole-le d n size zero h = omega arith
-whole-le d n size (suc k) h = ltb-false size (length (listing d n (suc k))) (h k (omega arith))
-
-before-le : (r : Request) → length (before r) ≤ r .size
-unfolding before wholeFronts
-before-le r =
-    whole-le (dominance r) (r .count) (r .size) (wholeFronts r)
-    (λ t h. firstBelow-before (λ k. ltb (r .size) (length (listing (dominance r) (r .count) (suc k)))) (r .count) t h)
-
-picks-length : (line : ℕ → ℕ) (distance : ℕ → Float) (lines : ℕ) (b split : List ℕ) (n s : ℕ) → length (picks line distance lines b split n s .value) ≡ n
-unfolding picks
-picks-length line distance lines b split zero s = refl
-picks-length line distance lines b split (suc n) s = rw length-append (omega (arith, picks-length line distance lines b split n s))
-
-padding-length : (n k s : ℕ) → length (padding n k s .value) ≡ k
-unfolding padding
-padding-length n zero s = refl
-padding-length n (suc k) s = rw length-append (omega (arith, padding-length n k s))
-
-pub selected-size : (r : Request) → length (selected r .kept) ≡ r .size
-unfolding selected selectedSplit selectedWhole filled
-selected-size r = go (isSplit r)
-  where
-    go : (b : Bool) → length (bySplit b r .kept) ≡ r .size
-    go true =
-        let b = before-le r in
-        rw length-append (omega (arith, picks-length (lineOf r) (λ p. association r p .distance) (lineCount r) (before r) (splitFront r) (r .size - length (before r)) (r .state)))
-    go false =
-        let b = before-le r in
-        rw length-append (omega (arith, padding-length (r .count) (r .size - length (before r)) (r .state)))
 
 -- ---- fronts and lines are as many as the plans
 
@@ -86,6 +48,6 @@ listing-over r n e kept fronts lines k f l a b c =
     let m = fronts-count r in
     let o = lines-count r in
     listing-same (r .count) (listed (take n kept) fronts lines) (selected r)
-    (ap (take n) a ∙ over-take (selected r .kept) k n (selected-size r ∙ sym e))
+    (ap (take n) a ∙ over-take (selected r .kept) k n (kept-length r ∙ sym e))
     (λ p h. ap (λ t. getD t p 0) b ∙ List·getD-append (selected r .fronts) _ 0 p (omega arith))
     (λ p h. ap (λ t. getD t p 0) c ∙ List·getD-append (selected r .lines) _ 0 p (omega arith))
