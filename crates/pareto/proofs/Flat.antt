@@ -12,7 +12,7 @@ use Rattle.model.specs.Row.{rowOf, feasible, violation, constrainedDominates, r
 use Rattle.front_laws.specs.Strict.{Strict}
 use Rattle.front_laws.proofs.Same.{Agree}
 use Rattle.list_laws.proofs.Runs.{row-inside}
-use Rattle.pareto.specs.Flat.{rowAt, flatDominates, flatBeats, Pool, KnownRows, RowsOf, FlatOf}
+use Rattle.pareto.specs.Flat.{rowAt, flatDominates, flatBeats, Pool, Within, KnownRows, RowsOf, FlatOf}
 use Rattle.front_laws.proofs.Domination.{dominates-same, dominates-irreflexive, dominates-transitive, rule-irreflexive, rule-transitive}
 
 -- `flatBeats` is the constraint rule, where flags and sums are those of two plans' constraints
@@ -67,8 +67,7 @@ flatBeats-strict rows m flags sums n known =
 
 -- two plans of a pool in flat lists are within the lists
 pub pool-pair : (rows : List Float) (m : ℕ) (flags : List Bool) (sums : List Float) (n p q : ℕ) → Pool rows m flags sums n → p < n → q < n
-    → (p * m + m ≤ length rows) × (q * m + m ≤ length rows)
-    × (p < length flags) × (q < length flags) × (p < length sums) × (q < length sums)
+    → Within rows m flags sums p q
 pool-pair rows m flags sums n p q h lp lq =
     let a = row-inside p n m lp in
     let b = row-inside q n m lq in

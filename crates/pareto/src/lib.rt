@@ -6,10 +6,10 @@ ghost use mathlib.Core.List.{List};
 ghost use lib.Dec.{eqb};
 ghost use lib.ListN.{length, getD};
 ghost use lib.Seq.{sets};
-ghost use Rattle.model.specs.Lists.{countBelow, keepBelow, listBelow, over};
+ghost use Rattle.model.specs.Lists.{one, countBelow, keepBelow, listBelow, over};
 ghost use Rattle.model.specs.Row.{directionOf, toMinimize, feasible, violation, dominates};
 ghost use Rattle.model.specs.Refusal.{maxSize};
-ghost use Rattle.pareto.specs.Flat.{rowAt, minimised, flatDominates, flatBeats, Pool, KnownRows};
+ghost use Rattle.pareto.specs.Flat.{rowAt, minimised, flatDominates, flatBeats, Pool, Within, KnownRows};
 ghost use Rattle.pareto.specs.Post.{Freed, Releasable, Released, Ready, Passed, Sorted};
 
 // The most plans of a pool.
@@ -192,6 +192,25 @@ fn lower(counts: &mut [usize], order: &mut [usize], q: usize, len: usize) -> usi
     len
 }
 
+// Whether member p, whose turn to lower counts it is, dominates q. A count of zero says no: it would count p.
+fn dominates_counted(
+    rows: &[f64],
+    m: usize,
+    feasible: &[bool],
+    violations: &[f64],
+    p: usize,
+    q: usize,
+    count: usize,
+) -> bool
+    requires { ⌜ Within (now rows) m (now feasible) (now violations) p q × (one (flatBeats (now rows) m (now feasible) (now violations) p q) ≤ count) ⌝ }
+    ensures { λ r. ⌜ r ≡ flatBeats (now (rows .entry)) m (now (feasible .entry)) (now (violations .entry)) p q ⌝ }
+{
+    if count == 0 {
+        return false;
+    }
+    constrained_dominates(rows, m, feasible, violations, p, q)
+}
+
 // Member p lowers the counts of the plans that it dominates, rising index, and lists from `at` on those that reach zero.
 fn release(
     rows: &[f64],
@@ -212,7 +231,8 @@ fn release(
     let mut len = at;
     let mut q = 0;
     while q < n {
-        if constrained_dominates(rows, m, feasible, violations, p, q) {
+        let count = counts[q];
+        if dominates_counted(rows, m, feasible, violations, p, q, count) {
             len = lower(counts, order, q, len);
         }
         q += 1;
