@@ -13,7 +13,7 @@ use Rattle.front_laws.specs.Strict.{Strict}
 use Rattle.front_laws.proofs.Same.{Agree}
 use Rattle.list_laws.proofs.Runs.{row-inside}
 use Rattle.pareto.specs.Flat.{rowAt, flatDominates, flatBeats, Pool, Within, KnownRows, RowsOf, FlatOf}
-use Rattle.front_laws.proofs.Domination.{dominates-same, dominates-irreflexive, dominates-transitive, rule-irreflexive, rule-transitive}
+use Rattle.front_laws.proofs.Domination.{dominates-same, dominates-irreflexive, dominates-transitive, rule-irreflexive, rule-asymmetric, rule-transitive}
 
 -- `flatBeats` is the constraint rule, where flags and sums are those of two plans' constraints
 pub flatBeats-constrained : (rows : List Float) (m : ℕ) (flags : List Bool) (sums : List Float) (p q : ℕ) (cp cq : List Float)
@@ -55,11 +55,21 @@ flatDominates-strict rows m n known =
       transitive = λ p q r lp lq lr x y. dominates-transitive m (rowAt rows m p) (rowAt rows m q) (rowAt rows m r) (known p lp) (known q lq) (known r lr) x y;
     }
 
+pub flatBeats-self : (rows : List Float) (m : ℕ) (flags : List Bool) (sums : List Float) (p : ℕ) → flatBeats rows m flags sums p p ≡ false
+unfolding flatBeats
+flatBeats-self rows m flags sums p = rule-irreflexive m (getD flags p false) (getD sums p nan) (rowAt rows m p)
+
+pub flatBeats-asymmetric : (rows : List Float) (m : ℕ) (flags : List Bool) (sums : List Float) (p q : ℕ) → flatBeats rows m flags sums p q ≡ true
+    → flatBeats rows m flags sums q p ≡ false
+unfolding flatBeats
+flatBeats-asymmetric rows m flags sums p q =
+    rule-asymmetric m (getD flags p false) (getD flags q false) (getD sums p nan) (getD sums q nan) (rowAt rows m p) (rowAt rows m q)
+
 pub flatBeats-strict : (rows : List Float) (m : ℕ) (flags : List Bool) (sums : List Float) (n : ℕ) → KnownRows rows m n → Strict (flatBeats rows m flags sums) n
 unfolding flatBeats
 flatBeats-strict rows m flags sums n known =
     record {
-      irreflexive = λ p l. rule-irreflexive m (getD flags p false) (getD sums p nan) (rowAt rows m p);
+      irreflexive = λ p l. flatBeats-self rows m flags sums p;
       transitive = λ p q r lp lq lr x y.
           rule-transitive m (getD flags p false) (getD flags q false) (getD flags r false) (getD sums p nan) (getD sums q nan) (getD sums r nan)
           (rowAt rows m p) (rowAt rows m q) (rowAt rows m r) (known p lp) (known q lq) (known r lr) x y;
