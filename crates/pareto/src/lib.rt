@@ -141,7 +141,7 @@ fn winner_of(first: bool, second: bool) -> Winner
     Winner::Neither
 }
 
-// Rows p and q in one pass. A test at each value costs less than a jump out of the loop that can't be foreseen.
+// Rows p and q, both ways in one pass. It goes to the end: two tests at each value cost less than a jump that can't be foreseen.
 fn compare_rows(rows: &[f64], m: usize, p: usize, q: usize) -> Winner
     requires { ⌜ (p * m + m ≤ length (now rows)) × (q * m + m ≤ length (now rows)) ⌝ }
     ensures { λ r. ⌜ Decides r (flatDominates (now (rows .entry)) m p q) (flatDominates (now (rows .entry)) m q p) ⌝ }
@@ -152,12 +152,12 @@ fn compare_rows(rows: &[f64], m: usize, p: usize, q: usize) -> Winner
     let mut second = false;
     let mut j = 0;
     while j < m {
-        let x = rows[a + j];
-        let y = rows[b + j];
-        if x < y {
+        let u = rows[a + j];
+        let v = rows[b + j];
+        if u < v {
             first = true;
         }
-        if y < x {
+        if v < u {
             second = true;
         }
         j += 1;
@@ -187,12 +187,12 @@ fn compare(
     if feasible[q] {
         return Winner::Second;
     }
-    let x = violations[p];
-    let y = violations[q];
-    if x < y {
+    let u = violations[p];
+    let v = violations[q];
+    if u < v {
         return Winner::First;
     }
-    if y < x {
+    if v < u {
         return Winner::Second;
     }
     Winner::Neither
@@ -282,7 +282,7 @@ fn lower(counts: &mut [usize], order: &mut [usize], q: usize, len: usize) -> usi
     len
 }
 
-// Whether member p, whose turn to lower counts it is, dominates q. A count of zero says no: it would count p.
+// Whether member p, which is about to lower the counts, dominates q. A zero count answers no without a test: it would have counted p.
 fn dominates_counted(
     rows: &[f64],
     m: usize,

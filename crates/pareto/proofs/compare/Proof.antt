@@ -30,17 +30,17 @@ returns-3 : tie.Need-returns-3
 unfolding flatBeats
 returns-3 c = rw (c .before .before .if1 .left, c .if3 .taken) (refl, refl)
 
-mul-x : tie.Need-mul-x
-mul-x c = search needs
+mul-u : tie.Need-mul-u
+mul-u c = search needs
 
-shared-slice-read-x : tie.Need-shared-slice-read-x
-shared-slice-read-x c = search needs
+shared-slice-read-u : tie.Need-shared-slice-read-u
+shared-slice-read-u c = search needs
 
-mul-y : tie.Need-mul-y
-mul-y c = search needs
+mul-v : tie.Need-mul-v
+mul-v c = search needs
 
-shared-slice-read-y : tie.Need-shared-slice-read-y
-shared-slice-read-y c = search needs
+shared-slice-read-v : tie.Need-shared-slice-read-v
+shared-slice-read-v c = search needs
 
 returns-4 : tie.Need-returns-4
 unfolding flatBeats
@@ -76,10 +76,10 @@ compare-spec =
     returns-2
     shared-slice-read-if3
     returns-3
-    mul-x
-    shared-slice-read-x
-    mul-y
-    shared-slice-read-y
+    mul-u
+    shared-slice-read-u
+    mul-v
+    shared-slice-read-v
     returns-4
     returns-5
     returns-6)

@@ -30,23 +30,23 @@ mul-b c = omega arith
 loop-holds : tie.Need-loop-holds Inv-loop μ-loop
 loop-holds c = (omega arith, sym (anyBelow-none _), sym (anyBelow-none _))
 
-add-x : tie.Need-add-x Inv-loop μ-loop
-add-x c = omega arith
+add-u : tie.Need-add-u Inv-loop μ-loop
+add-u c = omega arith
 
-mul-x : tie.Need-mul-x Inv-loop μ-loop
-mul-x c = omega arith
+mul-u : tie.Need-mul-u Inv-loop μ-loop
+mul-u c = omega arith
 
-shared-slice-read-x : tie.Need-shared-slice-read-x Inv-loop μ-loop
-shared-slice-read-x c = omega arith
+shared-slice-read-u : tie.Need-shared-slice-read-u Inv-loop μ-loop
+shared-slice-read-u c = omega arith
 
-add-y : tie.Need-add-y Inv-loop μ-loop
-add-y c = omega arith
+add-v : tie.Need-add-v Inv-loop μ-loop
+add-v c = omega arith
 
-mul-y : tie.Need-mul-y Inv-loop μ-loop
-mul-y c = omega arith
+mul-v : tie.Need-mul-v Inv-loop μ-loop
+mul-v c = omega arith
 
-shared-slice-read-y : tie.Need-shared-slice-read-y Inv-loop μ-loop
-shared-slice-read-y c = omega arith
+shared-slice-read-v : tie.Need-shared-slice-read-v Inv-loop μ-loop
+shared-slice-read-v c = omega arith
 
 add-j : tie.Need-add-j Inv-loop μ-loop
 add-j c = omega arith
@@ -83,12 +83,12 @@ compare-rows-spec =
     mul-a
     mul-b
     loop-holds
-    add-x
-    mul-x
-    shared-slice-read-x
-    add-y
-    mul-y
-    shared-slice-read-y
+    add-u
+    mul-u
+    shared-slice-read-u
+    add-v
+    mul-v
+    shared-slice-read-v
     add-j
     loop-less
     loop-again
