@@ -1,11 +1,10 @@
 -- `first` says whether row p is better before column j, `second` whether row q is
-use Prim.Native.Nat.{_+_, _*_, _-_, _≤_, _<_}
+use Prim.Native.Nat.{_-_, _≤_}
 use mathlib.Core.Path.{_≡_, sym, _∙_}
 use mathlib.Core.Logic.{⊎-elim}
 use native.Mathlib.Omega.{arith}
 use borrow.Author.Needs.{needs}
 use lib.Ieee.{lt}
-use lib.ListN.{length}
 use Rattle.model.specs.Lists.{anyBelow}
 use Rattle.model.specs.Row.{dominates}
 use Rattle.list_laws.proofs.Tests.{anyBelow-none, anyBelow-yes, anyBelow-skip}

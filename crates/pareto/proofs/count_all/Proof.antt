@@ -1,9 +1,8 @@
 -- the plans below q have been compared with each other
-use Prim.Native.Nat.{ℕ, _-_, _≤_, _<_}
+use Prim.Native.Nat.{_-_, _≤_, _<_}
 use mathlib.Core.Path.{_≡_, refl, _∙_}
 use native.Mathlib.Omega.{arith}
-use borrow.Author.Needs.{needs}
-use lib.ListN.{length, getD, length-set}
+use lib.ListN.{length, length-set}
 use Rattle.pareto.specs.Flat.{flatBeats}
 use Rattle.pareto.proofs.Counting.{Counted, counted-low, counted-more}
 use Rattle.pareto.proofs.Flat.{flatBeats-self}
