@@ -1,0 +1,175 @@
+-- Candidates as words: where a setting lies, that it is read back, and that words of candidates within their bounds are within them.
+use Prim.Native.Nat.{ℕ, zero, suc, _+_, _*_, _<_, _≤_}
+use mathlib.Core.Path.{_≡_, refl, sym, ap, ap₂, _∙_, subst}
+use mathlib.Core.Bool.{true, false, true≢false}
+use mathlib.Core.List.{List, [], _∷_, _++_, map}
+use mathlib.Core.Logic.{⊎-elim}
+use native.Mathlib.Nat.{not-suc-le-zero, le-of-suc-le-suc, eq-or-lt-of-le, zero-mul, zero-add, suc-mul, add-mul, one-mul, mul-le-mul-right}
+use native.Mathlib.Numerals.{add-one}
+use native.Mathlib.Omega.{arith}
+use lib.ListN.{length, getD, take, drop, length-append, length-map, List·getD-append}
+use lib.Seq.{getD-append-add, getD-take, length-take-le, ext-getD}
+use lib.Ieee.{binary64}
+use lib.Ieee.Bits.{ofBits-toBits}
+use Rattle.list_laws.proofs.Built.{listBelow-length, listBelow-at}
+use Rattle.real.proofs.Ints.{int-of-word-of}
+use Rattle.model.specs.declared.Distribution.{Distribution}
+use Rattle.model.specs.declared.Distribution.the-variants as dist
+use Rattle.model.specs.declared.ParamValue.{ParamValue}
+use Rattle.model.specs.declared.ParamValue.the-variants as value
+use Rattle.model.specs.Lists.{listBelow, over}
+use Rattle.model.specs.Setting.{kindOfDimension, toWord, ofWord, inBounds, noValue, settingOf, wordsOf, WordsWithin}
+use Rattle.model.specs.Session.{overAt}
+use Rattle.variation_laws.proofs.Children.{HeldValue}
+use Rattle.candidate_laws.specs.Bounds.{Within, AllWithin}
+use Rattle.candidate_laws.proofs.Sound.{Sound, AllSound, all-within}
+
+-- ---- one setting
+
+wrong : {C : Type 0} → false ≡ true → C
+wrong e = absurd (true≢false (sym e))
+
+-- a setting within its dimension's bounds is of its kind, so that its word hands it back
+pub word-back : (d : Distribution) (v : ParamValue) → HeldValue v → inBounds d v ≡ true → ofWord (kindOfDimension d) (toWord v) ≡ v
+unfolding inBounds
+word-back (dist.Float d) (value.Float x) h b = ap value.Float (ofBits-toBits binary64 x h)
+word-back (dist.Float d) (value.Int n) h b = wrong b
+word-back (dist.Float d) (value.Categorical c) h b = wrong b
+word-back (dist.Int d) (value.Float x) h b = wrong b
+word-back (dist.Int d) (value.Int n) h b = ap value.Int (int-of-word-of n)
+word-back (dist.Int d) (value.Categorical c) h b = wrong b
+word-back (dist.Categorical d) (value.Float x) h b = wrong b
+word-back (dist.Categorical d) (value.Int n) h b = wrong b
+word-back (dist.Categorical d) (value.Categorical c) h b = refl
+
+-- ---- where it lies
+
+pub map-at : {A B : Type 0} (f : A → B) (l : List A) (i : ℕ) (z : B) (y : A) → i < length l → getD (map f l) i z ≡ f (getD l i y)
+map-at f [] i z y h = absurd (not-suc-le-zero h)
+map-at f (a ∷ l) zero z y h = refl
+map-at f (a ∷ l) (suc i) z y h = map-at f l i z y (le-of-suc-le-suc h)
+
+-- every candidate of n settings
+abbrev pub AllLong : ℕ → List (List ParamValue) → Type 0
+AllLong n cs = (i : ℕ) → i < length cs → length (getD cs i []) ≡ n
+
+pub long-length : (n : ℕ) (cs : List (List ParamValue)) → AllLong n cs → length (wordsOf cs) ≡ length cs * n
+unfolding wordsOf
+long-length n [] l = sym (zero-mul n)
+long-length n (c ∷ cs) l =
+    let e = long-length n cs (λ i h. l (suc i) (omega arith)) in
+    let g = l 0 (omega arith) in
+    let m = length-map c toWord in
+    length-append (map toWord c) (wordsOf cs) ∙ omega (arith, suc-mul (length cs) n)
+
+pub long-at : (n : ℕ) (cs : List (List ParamValue)) → AllLong n cs → (i d : ℕ) → i < length cs → d < n → getD (wordsOf cs) (i * n + d) 0 ≡ toWord (settingOf (getD cs i []) d)
+unfolding wordsOf
+long-at n [] l i d h k = absurd (not-suc-le-zero h)
+long-at n (c ∷ cs) l zero d h k =
+    let g = l 0 (omega arith) in
+    let m = length-map c toWord in
+    ap (λ (j : ℕ). getD (map toWord c ++ wordsOf cs) j 0) (ap (λ (j : ℕ). j + d) (zero-mul n) ∙ zero-add d)
+    ∙ List·getD-append (map toWord c) (wordsOf cs) 0 d (omega arith)
+    ∙ map-at toWord c d 0 noValue (omega arith)
+long-at n (c ∷ cs) l (suc i) d h k =
+    let g = l 0 (omega arith) in
+    let m = length-map c toWord in
+    ap (λ (j : ℕ). getD (map toWord c ++ wordsOf cs) j 0) (place (length (map toWord c)) (suc-mul i n) (m ∙ g))
+    ∙ getD-append-add (map toWord c) (wordsOf cs) (i * n + d) 0
+    ∙ long-at n cs (λ j u. l (suc j) (omega arith)) i d (le-of-suc-le-suc h) k
+  where
+    place : (x : ℕ) → suc i * n ≡ i * n + n → x ≡ n → suc i * n + d ≡ x + (i * n + d)
+    place x e f = omega arith
+
+-- place i * n + d is before place count * n
+pub place-below : (i d n count : ℕ) → i < count → d < n → i * n + d < count * n
+place-below i d n count h k =
+    let g = mul-le-mul-right {m = i + 1} {n = count} n (omega arith) in
+    omega (arith, add-mul i 1 n, one-mul n)
+
+module _ (dims : ℕ → Distribution) (n count : ℕ) (cs : List (List ParamValue)) (a : AllWithin dims n count cs) where
+  long : AllLong n cs
+  long i h = let e = a .whole in a .each i (omega arith) .whole
+
+  pub words-length : length (wordsOf cs) ≡ count * n
+  words-length = long-length n cs long ∙ ap (λ (k : ℕ). k * n) (a .whole)
+
+  pub words-at : (i d : ℕ) → i < count → d < n → getD (wordsOf cs) (i * n + d) 0 ≡ toWord (settingOf (getD cs i []) d)
+  words-at i d h k = let e = a .whole in long-at n cs long i d (omega arith) k
+
+  -- with anything behind them, as in `over (wordsOf cs) old`
+  pub words-front : (rest : List ℕ) (i d : ℕ) → i < count → d < n → getD (wordsOf cs ++ rest) (i * n + d) 0 ≡ toWord (settingOf (getD cs i []) d)
+  words-front rest i d h k =
+      let e = words-length in
+      let p = place-below i d n count h k in
+      List·getD-append (wordsOf cs) rest 0 (i * n + d) (omega arith) ∙ words-at i d h k
+
+-- ---- read back
+
+-- a candidate as it is read from words, and so many
+abbrev pub readAt : (ℕ → Distribution) → ℕ → List ℕ → ℕ → List ParamValue
+readAt dims n words p = listBelow (λ j. ofWord (kindOfDimension (dims j)) (getD words (p * n + j) 0)) n
+
+abbrev pub readAll : (ℕ → Distribution) → ℕ → List ℕ → ℕ → List (List ParamValue)
+readAll dims n words count = listBelow (readAt dims n words) count
+
+module _ (dims : ℕ → Distribution) (n count : ℕ) (cs : List (List ParamValue)) (a : AllSound dims n count cs) (rest : List ℕ) where
+  within : AllWithin dims n count cs
+  within = all-within dims n count cs a
+
+  read-back : (i d : ℕ) → i < count → d < n → ofWord (kindOfDimension (dims d)) (getD (wordsOf cs ++ rest) (i * n + d) 0) ≡ settingOf (getD cs i []) d
+  read-back i d h k =
+      ap (ofWord (kindOfDimension (dims d))) (words-front dims n count cs within rest i d h k)
+      ∙ word-back (dims d) (settingOf (getD cs i []) d) (a .each i h .held d k) (a .each i h .bounds d k)
+
+  -- words of candidates within their bounds are within them
+  pub words-within : WordsWithin dims n count (wordsOf cs ++ rest)
+  words-within i d h k = ap (inBounds (dims d)) (read-back i d h k) ∙ a .each i h .bounds d k
+
+  row-back : (i : ℕ) → i < count → readAt dims n (wordsOf cs ++ rest) i ≡ getD cs i []
+  row-back i h =
+      let u = listBelow-length (λ j. ofWord (kindOfDimension (dims j)) (getD (wordsOf cs ++ rest) (i * n + j) 0)) n in
+      let w = a .each i h .whole in
+      ext-getD noValue (readAt dims n (wordsOf cs ++ rest) i) (getD cs i []) (omega arith)
+      (λ j l. listBelow-at (λ j. ofWord (kindOfDimension (dims j)) (getD (wordsOf cs ++ rest) (i * n + j) 0)) n noValue j (omega arith) ∙ read-back i j h (omega arith))
+
+  -- and hand the candidates back
+  pub parents-back : readAll dims n (wordsOf cs ++ rest) count ≡ cs
+  parents-back =
+      let u = listBelow-length (readAt dims n (wordsOf cs ++ rest)) count in
+      let w = a .whole in
+      ext-getD [] (readAll dims n (wordsOf cs ++ rest) count) cs (omega arith)
+      (λ i l. listBelow-at (readAt dims n (wordsOf cs ++ rest)) count [] i (omega arith) ∙ row-back i (omega arith))
+
+-- ---- a candidate put behind k others
+
+module _ (dims : ℕ → Distribution) (n k : ℕ) (c : List ParamValue) (old : List ℕ) (s : Sound dims n c) (w : WordsWithin dims n k old) (room : (k + 1) * n ≤ length old) where
+  front : length (take (k * n) old) ≡ k * n
+  front = length-take-le (k * n) old (omega (arith, add-mul k 1 n, one-mul n))
+
+  -- what lay before it stands, and it lies behind
+  pub put-before : (i d : ℕ) → i < k → d < n → getD (overAt (k * n) (map toWord c) old) (i * n + d) 0 ≡ getD old (i * n + d) 0
+  put-before i d h l =
+      let p = place-below i d n k h l in
+      let f = front in
+      List·getD-append (take (k * n) old) (over (map toWord c) (drop (k * n) old)) 0 (i * n + d) (omega arith) ∙ getD-take (k * n) old (i * n + d) 0 p
+
+  pub put-at : (d : ℕ) → d < n → getD (overAt (k * n) (map toWord c) old) (k * n + d) 0 ≡ toWord (settingOf c d)
+  put-at d l =
+      let new = over (map toWord c) (drop (k * n) old) in
+      let m = length-map c toWord in
+      let g = s .whole in
+      ap (λ (x : ℕ). getD (take (k * n) old ++ new) (x + d) 0) (sym front)
+      ∙ getD-append-add (take (k * n) old) new d 0
+      ∙ List·getD-append (map toWord c) (drop (length (map toWord c)) (drop (k * n) old)) 0 d (omega arith)
+      ∙ map-at toWord c d 0 noValue (omega arith)
+
+  pub words-put : WordsWithin dims n (k + 1) (overAt (k * n) (map toWord c) old)
+  words-put i d h l =
+      let g : i ≤ k = omega arith in
+      ⊎-elim
+      (λ e. ap (λ (x : ℕ). inBounds (dims d) (ofWord (kindOfDimension (dims d)) (getD (overAt (k * n) (map toWord c) old) (x * n + d) 0))) e
+      ∙ ap (λ (x : ℕ). inBounds (dims d) (ofWord (kindOfDimension (dims d)) x)) (put-at d l)
+      ∙ ap (inBounds (dims d)) (word-back (dims d) (settingOf c d) (s .held d l) (s .bounds d l)) ∙ s .bounds d l)
+      (λ m. ap (λ (x : ℕ). inBounds (dims d) (ofWord (kindOfDimension (dims d)) x)) (put-before i d m l) ∙ w i d m l)
+      (eq-or-lt-of-le g)

@@ -1,0 +1,141 @@
+-- What `open` gives: a session that is opened has the session property.
+use Prim.Native.Nat.{ℕ, zero, suc, _+_, _≤_, _<_, max}
+use mathlib.Core.Path.{_≡_, refl, sym, ap, _∙_}
+use mathlib.Core.Bool.{Bool, true, false, cond, not, _&&_, _||_}
+use mathlib.Core.List.{List, [], _∷_, _++_, List·Memᴰ·head, List·Memᴰ·tail}
+use mathlib.Core.Option.{Option, none, some}
+use native.Mathlib.Omega.{arith}
+use lib.Dec.{eqb, leb, ltb}
+use lib.Ieee.{Float, binary64, eq, le, lt, ofBits, ofInt, toUnsigned}
+use lib.ListN.{length, getD, take, drop, replicate, length-append, length-take, length-replicate, getD-replicate}
+use lib.Seq.{getD-take}
+use borrow.Author.Tests.{ltb-true, ltb-false, le-leb, le-ltb, eq-eqb, not-false}
+use Rattle.list_laws.proofs.Bools.{by-bool}
+use Rattle.list_laws.proofs.Tests.{allIn-every}
+use Rattle.list_laws.proofs.Built.{over-take}
+use Rattle.demand3_laws.proofs.Calls.{applies-not}
+use Rattle.demand3_laws.proofs.Accepted.{some-objectives}
+use Rattle.model.specs.Lists.{firstBelow, allIn, over}
+use Rattle.model.specs.Real.{infinity, unit}
+use Rattle.model.specs.Plan.{maxValues}
+use Rattle.model.specs.Reference.{binomial, pointCount, autoDivisions, divisionsOf, populationSize, orElse}
+use Rattle.model.specs.Session.{State, state, opened}
+use Rattle.model.specs.Refusal.{firstOf, wholeEta, openRefusal, badDirections, badSessionSize, badSessionDivisions, badGivenDivisions, badDivisions, outsideDivisions, badOperators, measurable, isInfinity, goodIdeal, maxSize, maxLines}
+use Rattle.model.specs.Property.{ConfigOk, SessionOk}
+use Rattle.session_laws.proofs.Tests.{or-left, or-right, or-both, and-both}
+
+-- ---- the ideal that a session starts from: plus infinity everywhere
+
+infinity-good : (measurable infinity || isInfinity infinity) ≡ true
+unfolding measurable eq le ofBits
+infinity-good = refl
+
+pub infinite-ideal : (m : ℕ) → m ≤ maxValues → goodIdeal m (take m (replicate maxValues infinity)) ≡ true
+unfolding goodIdeal
+infinite-ideal m h =
+    let whole : length (take m (replicate maxValues infinity)) ≡ m = omega (arith, length-take m (replicate maxValues infinity), length-replicate maxValues infinity) in
+    and-both _ _ (eq-eqb _ m whole)
+    (allIn-every _ infinity (take m (replicate maxValues infinity))
+    (λ k l. ap (λ (x : Float). measurable x || isInfinity x)
+    (getD-take m (replicate maxValues infinity) k infinity (omega arith) ∙ getD-replicate maxValues k infinity infinity (omega arith))
+    ∙ infinity-good))
+
+-- ---- divisions: those given are 1 to 199, and so are automatic ones
+
+within-199 : (h : ℕ) → 1 ≤ h → h ≤ 199 → outsideDivisions h ≡ false
+within-199 h a b = ap not (and-both _ _ (le-leb 1 h a) (le-leb h 199 b))
+
+auto-within : (m target : ℕ) → outsideDivisions (autoDivisions m target) ≡ false
+unfolding autoDivisions
+auto-within m target = go (firstBelow (λ i. leb target (pointCount m (suc i))) 199)
+  where
+    go : (i : ℕ) → outsideDivisions (cond (ltb i 199) (suc i) 12) ≡ false
+    go i = by-bool (ltb i 199)
+        (λ e. let h = ltb-true i 199 e in rw e (within-199 (suc i) (omega arith) (omega arith)))
+        (λ e. rw e)
+
+divisions-within : (m : ℕ) (size divisions : Option ℕ) → badGivenDivisions divisions ≡ false → outsideDivisions (divisionsOf m size divisions) ≡ false
+unfolding divisionsOf
+divisions-within m size none e = auto-within m (orElse size 100)
+divisions-within m size (some h) e = e
+
+-- ---- the size: what is given, or the point count, and never under 4
+
+size-within : (m : ℕ) (size divisions : Option ℕ) → badSessionSize size ≡ false → ltb maxLines (pointCount m (divisionsOf m size divisions)) ≡ false
+    → (4 ≤ populationSize m size divisions) × (populationSize m size divisions ≤ maxSize)
+unfolding populationSize
+size-within m none divisions e f = let h = ltb-false maxLines (pointCount m (divisionsOf m none divisions)) f in (omega arith, omega arith)
+size-within m (some size) divisions e f = let h = ltb-false maxSize size e in (omega arith, omega arith)
+
+-- ---- opening
+
+module _ (marks : List ℕ) (seed : ℕ) (size divisions : Option ℕ) (probability crossoverEta mutationEta : Float)
+    (accepted : openRefusal marks size divisions probability crossoverEta mutationEta ≡ none) where
+  directions-good : badDirections marks ≡ false
+  unfolding openRefusal
+  directions-good = applies-not (List·Memᴰ·head refl) accepted
+
+  size-good : badSessionSize size ≡ false
+  unfolding openRefusal
+  size-good = applies-not (List·Memᴰ·tail (List·Memᴰ·head refl)) accepted
+
+  divisions-good : badSessionDivisions (length marks) size divisions ≡ false
+  unfolding openRefusal
+  divisions-good = applies-not (List·Memᴰ·tail (List·Memᴰ·tail (List·Memᴰ·head refl))) accepted
+
+  operators-good : badOperators probability crossoverEta mutationEta ≡ false
+  unfolding openRefusal
+  operators-good = applies-not (List·Memᴰ·tail (List·Memᴰ·tail (List·Memᴰ·tail (List·Memᴰ·head refl)))) accepted
+
+  given-good : badGivenDivisions divisions ≡ false
+  unfolding badSessionDivisions
+  given-good = or-left _ _ divisions-good
+
+  few-lines : ltb maxLines (pointCount (length marks) (divisionsOf (length marks) size divisions)) ≡ false
+  unfolding badSessionDivisions
+  few-lines = or-right (badGivenDivisions divisions) _ divisions-good
+
+  config-good : ConfigOk (opened marks seed size divisions probability crossoverEta mutationEta .config)
+  unfolding opened badDivisions
+  config-good =
+      record {
+        directions = ap badDirections (over-take marks (replicate maxValues 0) (length marks) refl) ∙ directions-good;
+        objectives = omega (arith, length-append marks (drop (length marks) (replicate maxValues 0)));
+        divisions = or-both _ _ (divisions-within (length marks) size divisions given-good) few-lines;
+        atLeast4 = size-within (length marks) size divisions size-good few-lines .0;
+        atMost = size-within (length marks) size divisions size-good few-lines .1;
+        operators = operators-good;
+      }
+
+  -- THE THEOREM: the field `gives` of `Opens`, whatever slices are lent
+  pub opened-ok : (candidates plans nextDims : List ℕ) → SessionOk (state (opened marks seed size divisions probability crossoverEta mutationEta) candidates plans nextDims)
+  unfolding opened
+  opened-ok candidates plans nextDims =
+      record {
+        config = config-good;
+        dimensions = record { few = omega arith; valid = λ d l. absurd (none-below l) };
+        phase = record { first = refl; noCandidates = refl; noPlans = refl };
+        ideal = infinite-ideal (length marks) (some-objectives marks directions-good .1);
+        lent = λ e. record {
+          different = λ i j l k same. none-below k;
+          next = λ i l. absurd (none-below l);
+          settings = λ i d l k. absurd (none-below l);
+        };
+      }
+    where
+      none-below : {d : ℕ} → d < 0 → ⊥
+      none-below l = omega arith
+
+-- ---- the property can be met: document 01's defaults for two objectives
+
+-- an eta of 20
+abbrev twenty : Float
+twenty = ofBits binary64 0x4034_0000_0000_0000
+
+defaults-accepted : openRefusal (0 ∷ 0 ∷ []) none none unit twenty twenty ≡ none
+unfolding openRefusal firstOf badDirections badSessionDivisions badOperators wholeEta divisionsOf autoDivisions pointCount binomial firstBelow allIn
+    eq le lt ofBits ofInt toUnsigned
+defaults-accepted = refl
+
+pub some-session : SessionOk (state (opened (0 ∷ 0 ∷ []) 0 none none unit twenty twenty) [] [] [])
+some-session = opened-ok (0 ∷ 0 ∷ []) 0 none none unit twenty twenty defaults-accepted [] [] []
