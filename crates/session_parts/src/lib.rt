@@ -194,3 +194,93 @@ pub fn open(
     );
     Opened { outcome, session }
 }
+
+// ---- the plans of a generation, and their records
+
+// The place of record j of n, counted from the end.
+fn from_end(n: usize, j: usize) -> usize
+    requires { ⌜ j < n ⌝ }
+    ensures { λ r. ⌜ r ≡ n - 1 - j ⌝ }
+{
+    n - 1 - j
+}
+
+// The place of a plan number's last record in a history, or the number of records where it has none.
+pub fn record_of(history: &[u64], plan: u64) -> usize
+    ensures { λ r. ⌜ r ≡ recordOf (now (history .entry)) plan ⌝ }
+{
+    let n = plans::plan_count(history);
+    let mut j = 0;
+    while j < n {
+        let k = from_end(n, j);
+        if history[k * plans::PLAN_WORDS] == plan {
+            return k;
+        }
+        j += 1;
+    }
+    n
+}
+
+// The first `size` plans of a generation have come, and all stand in history.
+pub fn evaluated(history: &[u64], plans: &[u64], n_plans: usize, size: usize) -> bool
+    requires { ⌜ size ≤ length (now plans) ⌝ }
+    ensures { λ r. ⌜ r ≡ (leb size «n_plans» && allBelow (λ i. ltb (recordOf (now (history .entry)) (getD (now (plans .entry)) i 0)) (planCount (now (history .entry)))) size) ⌝ }
+{
+    if n_plans < size {
+        return false;
+    }
+    let n = plans::plan_count(history);
+    let mut i = 0;
+    while i < size {
+        let k = record_of(history, plans[i]);
+        if k < n {
+            i += 1;
+        } else {
+            return false;
+        }
+    }
+    true
+}
+
+// Record k of a history, as plan i of a pool.
+fn copy_record(history: &[u64], k: usize, i: usize, pool: &mut [u64])
+    requires { ⌜ (k < planCount (now history)) × (i * 124 + 124 ≤ length (now pool)) ⌝ }
+    ensures { λ _. ⌜ now (pool .exit) ≡ overAt (i * 124) (blockOf (now (history .entry)) k) (now (pool .entry)) ⌝ }
+{
+    let from = k * plans::PLAN_WORDS;
+    let to = i * plans::PLAN_WORDS;
+    let mut j = 0;
+    while j < plans::PLAN_WORDS {
+        pool[to + j] = history[from + j];
+        j += 1;
+    }
+}
+
+// The plans bred from: the first `size` plans of the generation as history has them, at the pool's front.
+pub fn gather(history: &[u64], plans: &[u64], size: usize, pool: &mut [u64])
+    requires { ⌜ (size ≤ length (now plans)) × (size * 124 ≤ length (now pool))
+        × (allBelow (λ i. ltb (recordOf (now history) (getD (now plans) i 0)) (planCount (now history))) size ≡ true) ⌝ }
+    ensures { λ _. ⌜ now (pool .exit) ≡ over (joinBelow (λ i. blockOf (now (history .entry)) (recordOf (now (history .entry)) (getD (now (plans .entry)) i 0))) size) (now (pool .entry)) ⌝ }
+{
+    let mut i = 0;
+    while i < size {
+        let k = record_of(history, plans[i]);
+        copy_record(history, k, i, pool);
+        i += 1;
+    }
+}
+
+// The place of a number among a generation's first n plans, or n where it is new.
+pub fn place_in(plans: &[u64], n: usize, plan: u64) -> usize
+    requires { ⌜ n ≤ length (now plans) ⌝ }
+    ensures { λ r. ⌜ r ≡ placeIn (take n (now (plans .entry))) plan ⌝ }
+{
+    let mut i = 0;
+    while i < n {
+        if plans[i] == plan {
+            return i;
+        }
+        i += 1;
+    }
+    n
+}
