@@ -1,11 +1,10 @@
 -- Candidates as words: where a setting lies, that it is read back, and that words of candidates within their bounds are within them.
 use Prim.Native.Nat.{ℕ, zero, suc, _+_, _*_, _<_, _≤_}
-use mathlib.Core.Path.{_≡_, refl, sym, ap, ap₂, _∙_, subst}
+use mathlib.Core.Path.{_≡_, refl, sym, ap, _∙_}
 use mathlib.Core.Bool.{true, false, true≢false}
 use mathlib.Core.List.{List, [], _∷_, _++_, map}
 use mathlib.Core.Logic.{⊎-elim}
 use native.Mathlib.Nat.{not-suc-le-zero, le-of-suc-le-suc, eq-or-lt-of-le, zero-mul, zero-add, suc-mul, add-mul, one-mul, mul-le-mul-right}
-use native.Mathlib.Numerals.{add-one}
 use native.Mathlib.Omega.{arith}
 use lib.ListN.{length, getD, take, drop, length-append, length-map, List·getD-append}
 use lib.Seq.{getD-append-add, getD-take, length-take-le, ext-getD}
@@ -21,7 +20,7 @@ use Rattle.model.specs.Lists.{listBelow, over}
 use Rattle.model.specs.Setting.{kindOfDimension, toWord, ofWord, inBounds, noValue, settingOf, wordsOf, WordsWithin}
 use Rattle.model.specs.Session.{overAt}
 use Rattle.variation_laws.proofs.Children.{HeldValue}
-use Rattle.candidate_laws.specs.Bounds.{Within, AllWithin}
+use Rattle.candidate_laws.specs.Bounds.{AllWithin}
 use Rattle.candidate_laws.proofs.Sound.{Sound, AllSound, all-within}
 
 -- ---- one setting

@@ -1,3 +1,6 @@
 pub mod Tests
 pub mod Opened
 pub mod Request
+pub mod Steps
+pub mod Breed
+pub mod Sample

@@ -1,25 +1,27 @@
 -- What `open` gives: a session that is opened has the session property.
-use Prim.Native.Nat.{ℕ, zero, suc, _+_, _≤_, _<_, max}
-use mathlib.Core.Path.{_≡_, refl, sym, ap, _∙_}
-use mathlib.Core.Bool.{Bool, true, false, cond, not, _&&_, _||_}
-use mathlib.Core.List.{List, [], _∷_, _++_, List·Memᴰ·head, List·Memᴰ·tail}
+use Prim.Native.Nat.{ℕ, suc, _≤_, _<_}
+use mathlib.Core.Path.{_≡_, refl, ap, _∙_}
+use mathlib.Core.Bool.{true, false, cond, not, _||_}
+use mathlib.Core.List.{List, [], _∷_, List·Memᴰ·head, List·Memᴰ·tail}
 use mathlib.Core.Option.{Option, none, some}
 use native.Mathlib.Omega.{arith}
-use lib.Dec.{eqb, leb, ltb}
+use lib.Dec.{leb, ltb}
 use lib.Ieee.{Float, binary64, eq, le, lt, ofBits, ofInt, toUnsigned}
-use lib.ListN.{length, getD, take, drop, replicate, length-append, length-take, length-replicate, getD-replicate}
+use lib.ListN.{length, take, drop, replicate, length-append, length-take, length-replicate, getD-replicate}
 use lib.Seq.{getD-take}
-use borrow.Author.Tests.{ltb-true, ltb-false, le-leb, le-ltb, eq-eqb, not-false}
+use borrow.Author.Tests.{ltb-true, ltb-false, le-leb, eq-eqb}
 use Rattle.list_laws.proofs.Bools.{by-bool}
 use Rattle.list_laws.proofs.Tests.{allIn-every}
 use Rattle.list_laws.proofs.Built.{over-take}
 use Rattle.demand3_laws.proofs.Calls.{applies-not}
 use Rattle.demand3_laws.proofs.Accepted.{some-objectives}
-use Rattle.model.specs.Lists.{firstBelow, allIn, over}
+use Rattle.model.specs.Lists.{firstBelow, allIn}
 use Rattle.model.specs.Real.{infinity, unit}
 use Rattle.model.specs.Plan.{maxValues}
 use Rattle.model.specs.Reference.{binomial, pointCount, autoDivisions, divisionsOf, populationSize, orElse}
-use Rattle.model.specs.Session.{State, state, opened}
+use Rattle.model.specs.declared.OptionUsize.{OptionUsize}
+use Rattle.model.specs.Session.{state, given, opened}
+use Rattle.model.specs.Calls.{openOf, Opens}
 use Rattle.model.specs.Refusal.{firstOf, wholeEta, openRefusal, badDirections, badSessionSize, badSessionDivisions, badGivenDivisions, badDivisions, outsideDivisions, badOperators, measurable, isInfinity, goodIdeal, maxSize, maxLines}
 use Rattle.model.specs.Property.{ConfigOk, SessionOk}
 use Rattle.session_laws.proofs.Tests.{or-left, or-right, or-both, and-both}
@@ -125,6 +127,16 @@ module _ (marks : List ℕ) (seed : ℕ) (size divisions : Option ℕ) (probabil
     where
       none-below : {d : ℕ} → d < 0 → ⊥
       none-below l = omega arith
+
+-- the whole promise of `open`, of its definition
+pub opens : (directions : List ℕ) (seed : ℕ) (size divisions : OptionUsize) (probability crossoverEta mutationEta : Float)
+    → Opens directions seed size divisions probability crossoverEta mutationEta (openOf directions seed size divisions probability crossoverEta mutationEta)
+unfolding openOf
+opens directions seed size divisions probability crossoverEta mutationEta =
+    record {
+      whole = refl;
+      gives = λ e candidates plans nextDims. rw e (opened-ok directions seed (given size) (given divisions) probability crossoverEta mutationEta e candidates plans nextDims);
+    }
 
 -- ---- the property can be met: document 01's defaults for two objectives
 

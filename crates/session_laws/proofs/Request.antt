@@ -1,27 +1,27 @@
 -- The selection that a session's breeding makes, as code makes it: from the words bred from, and refused just where the session's call is.
-use Prim.Native.Nat.{ℕ, zero, suc, _+_, _*_, _/_, _≤_, _<_}
-use mathlib.Core.Path.{_≡_, refl, sym, ap, _∙_}
-use mathlib.Core.Bool.{Bool, true, false, cond, not, _&&_, _||_}
-use mathlib.Core.List.{List, [], _∷_, _++_}
-use mathlib.Core.Option.{Option, none, some}
+use Prim.Native.Nat.{ℕ, zero, suc, _*_, _≤_}
+use mathlib.Core.Path.{_≡_, sym, ap, _∙_}
+use mathlib.Core.Bool.{Bool, true, false, not, _&&_, _||_, and-false}
+use mathlib.Core.List.{List, [], _∷_}
 use native.Mathlib.Nat.{zero-mul, suc-mul, mul-le-mul}
 use native.Mathlib.Omega.{arith}
-use lib.Dec.{eqb, leb, ltb}
+use lib.Dec.{leb, ltb}
 use lib.ListN.{length, getD, take, length-append, length-take}
 use borrow.Author.Tests.{le-ltb, ne-eqb}
 use Rattle.list_laws.proofs.Bools.{and-left, and-right}
 use Rattle.list_laws.proofs.Tests.{allBelow-every}
 use Rattle.list_laws.proofs.Built.{listBelow-length}
 use Rattle.model.specs.declared.Distribution.{Distribution}
+use Rattle.model.specs.declared.Session.{Session}
 use Rattle.model.specs.Lists.{joinBelow}
 use Rattle.model.specs.Plan.{planWords, planCount, maxSettings}
 use Rattle.model.specs.Association.{Request, objectives}
 use Rattle.model.specs.Setting.{validDimension}
 use Rattle.model.specs.Session.{State, isActive, discovers, longEnough, blockOf, recordOf, bredFrom, breeds, requestOf, operatorsOf, dimensionOf, isNew, maxPlans, maxWords}
-use Rattle.model.specs.Refusal.{Check, check, firstOf, Room, noRoom, noStepRoom, badSize, badCount, badDivisions, badDimensions, badPool, badParents, stepRefusal, sampleRefusal, maxSize, maxHistory}
+use Rattle.model.specs.Refusal.{check, firstOf, Room, noRoom, noStepRoom, badSize, badDivisions, badDimensions, badPool, badParents, stepRefusal, sampleRefusal, maxSize, maxHistory}
 use Rattle.model.specs.Calls.{wordRequest}
-use Rattle.model.specs.Property.{SessionOk}
-use Rattle.session_laws.proofs.Tests.{or-both, and-false, passed-over, last-one}
+use Rattle.model.specs.Property.{DimensionsOk, SessionOk}
+use Rattle.session_laws.proofs.Tests.{or-both, passed-over, last-one}
 
 -- ---- the plans bred from are as many as the size
 
@@ -59,6 +59,13 @@ pub active-discovers : (st : State) (plan : ℕ) → isActive (st .session) ≡ 
 unfolding discovers
 active-discovers st plan e = rw e
 
+-- 6 applies to no dimension that is entered
+pub dimensions-good : (s : Session) → DimensionsOk s → badDimensions (dimensionOf s) (s .progress .«n_dims») ≡ false
+unfolding badDimensions
+dimensions-good s ok =
+    or-both _ _ (le-ltb maxSettings (s .progress .«n_dims») (ok .few))
+    (ap not (allBelow-every (λ d. validDimension (dimensionOf s d)) (s .progress .«n_dims») (ok .valid)))
+
 -- ---- refusals of the generation step that a session makes
 
 -- of a session's six checks a call that breeds leaves two
@@ -81,11 +88,9 @@ module _ (st : State) (history : List ℕ) (ok : SessionOk st) where
   request-size : badSize (st .session .config .«population_size») ≡ false
   request-size = or-both _ _ (ne-eqb (st .session .config .«population_size») 0 size-not-0) (le-ltb maxSize (st .session .config .«population_size») (ok .config .atMost))
 
-  request-dimensions : badDimensions (dimensionOf (st .session)) (st .session .progress .«n_dims») ≡ false
-  unfolding badDimensions
-  request-dimensions =
-      or-both _ _ (le-ltb maxSettings (st .session .progress .«n_dims») (ok .dimensions .few))
-      (ap not (allBelow-every (λ d. validDimension (dimensionOf (st .session) d)) (st .session .progress .«n_dims») (ok .dimensions .valid)))
+  -- the words of a generation's candidates
+  pub offspring-fit : st .session .config .«population_size» * st .session .progress .«n_dims» ≤ maxWords
+  offspring-fit = omega (arith, mul-le-mul (ok .config .atMost) (ok .dimensions .few))
 
   sample-refusal : (d : Distribution) (plan : ℕ) → breeds st history ≡ true → planCount history ≤ maxHistory
       → sampleRefusal st d plan history
@@ -119,7 +124,7 @@ module _ (st : State) (history : List ℕ) (ok : SessionOk st) where
         fits-lines = omega (arith, ok .config .atMost)
 
         fits-words : st .session .config .«population_size» * st .session .progress .«n_dims» ≤ offspring
-        fits-words = omega (arith, mul-le-mul (ok .config .atMost) (ok .dimensions .few))
+        fits-words = omega (arith, offspring-fit)
 
     -- the step is refused by 8 or 9, or not at all
     pub step-refusal : stepRefusal (operatorsOf (st .session)) (requestOf st history) room offspring
@@ -127,10 +132,18 @@ module _ (st : State) (history : List ℕ) (ok : SessionOk st) where
     unfolding stepRefusal
     step-refusal =
         passed-over _ _ (ok .config .directions) ∙ passed-over _ _ request-size ∙ passed-over _ _ request-divisions
-        ∙ passed-over _ _ (ok .config .operators) ∙ passed-over _ _ request-dimensions ∙ passed-over _ _ request-size
+        ∙ passed-over _ _ (ok .config .operators) ∙ passed-over _ _ (dimensions-good (st .session) (ok .dimensions)) ∙ passed-over _ _ request-size
         ∙ last-one _ _ _ request-room
 
     -- and so is the session's call
     pub breed-refusal : (d : Distribution) (plan : ℕ) → breeds st history ≡ true → planCount history ≤ maxHistory
         → sampleRefusal st d plan history ≡ stepRefusal (operatorsOf (st .session)) (requestOf st history) room offspring
     breed-refusal d plan bred few = sample-refusal d plan bred few ∙ sym step-refusal
+
+    -- as code asks it, of the words bred from
+    pub breed-refusal-words : (d : Distribution) (plan : ℕ) → breeds st history ≡ true → planCount history ≤ maxHistory
+        → sampleRefusal st d plan history ≡ stepRefusal (operatorsOf (st .session))
+        (wordRequest (bredFrom st history) (take (st .session .config .«n_obj») (st .session .config .directions)) (st .session .config .divisions)
+        (st .session .config .«population_size») (st .session .rng) (take (st .session .config .«n_obj») (st .session .«ideal_point»))) room offspring
+    breed-refusal-words d plan bred few =
+        breed-refusal d plan bred few ∙ ap (λ (r : Request). stepRefusal (operatorsOf (st .session)) r room offspring) (sym (bred-request st history))

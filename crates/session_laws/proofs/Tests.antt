@@ -1,9 +1,7 @@
--- Tests joined, and what a call that is not refused rules out.
+-- Tests joined, and numbers of refusals that do not apply.
 use mathlib.Core.Path.{_≡_, refl}
-use mathlib.Core.Bool.{Bool, true, false, cond, not, _&&_, _||_, true≢false, false≢true}
+use mathlib.Core.Bool.{Bool, true, false, _&&_, _||_, true≢false, false≢true}
 use mathlib.Core.List.{List, [], _∷_}
-use mathlib.Core.Option.{none, some}
-use Rattle.demand3_laws.proofs.Calls.{not-some}
 use Rattle.model.specs.Refusal.{Check, firstOf}
 
 -- a disjunction that fails fails on both sides, and one whose sides fail fails
@@ -28,29 +26,12 @@ pub and-fails : (a b : Bool) → (a && b) ≡ false → a ≡ true → b ≡ fal
 and-fails true b e h = e
 and-fails false b e h = absurd (false≢true h)
 
-pub and-false : (a : Bool) → (a && false) ≡ false
-and-false true = refl
-and-false false = refl
-
 -- ---- the first number that applies
-
--- where none is answered, the first does not apply, and of the others none is answered
-pub not-first : (c : Check) (cs : List Check) → firstOf (c ∷ cs) ≡ none → c .applies ≡ false
-unfolding firstOf
-not-first c cs e = go (c .applies) e
-  where
-    go : (b : Bool) → cond b (some (c .number)) (firstOf cs) ≡ none → b ≡ false
-    go true k = absurd (not-some (c .number) k)
-    go false k = refl
 
 -- a number that does not apply is passed over
 pub passed-over : (c : Check) (cs : List Check) → c .applies ≡ false → firstOf (c ∷ cs) ≡ firstOf cs
 unfolding firstOf
 passed-over c cs e = rw e
-
-pub not-later : (c : Check) (cs : List Check) → firstOf (c ∷ cs) ≡ none → firstOf cs ≡ none
-unfolding firstOf
-not-later c cs e = rw (not-first c cs e) at e
 
 -- and so is one after two others
 pub last-one : (a b c : Check) → c .applies ≡ false → firstOf (a ∷ b ∷ c ∷ []) ≡ firstOf (a ∷ b ∷ [])

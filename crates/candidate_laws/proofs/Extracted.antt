@@ -1,0 +1,79 @@
+-- The settings of a plan that may be bred from, with drawn ones where it lacks some, are a candidate within its bounds.
+use Prim.Native.Nat.{ℕ, zero, suc, _<_}
+use mathlib.Core.Path.{_≡_, sym, ap, _∙_}
+use mathlib.Core.Bool.{Bool, true, false, _||_}
+use mathlib.Core.List.{List, [], _∷_}
+use native.Mathlib.Omega.{arith}
+use borrow.Author.Tests.{ltb-true, lt-leb}
+use lib.Dec.{eqb, leb, ltb}
+use lib.Ieee.{binary64}
+use lib.Ieee.Bits.{ofBits-fits}
+use lib.ListN.{length, getD}
+use Rattle.list_laws.proofs.Bools.{by-bool, and-right}
+use Rattle.list_laws.proofs.Tests.{allBelow-each}
+use Rattle.model.specs.declared.Distribution.{Distribution}
+use Rattle.model.specs.Plan.{Plan, Setting}
+use Rattle.model.specs.Setting.{kindOfDimension, ofWord, validDimension, inBounds, noSetting, sortByParam, extractOne, extract, parentsOf}
+use Rattle.model.specs.Refusal.{badDimensions, namedOnce, fitsDimension, breedable}
+use Rattle.settings.proofs.Valid.{each}
+use Rattle.settings.proofs.InBounds.{Held, sampled-in-bounds}
+use Rattle.variation_laws.proofs.Children.{HeldValue}
+use Rattle.candidate_laws.specs.Bounds.{Within, AllWithin}
+use Rattle.candidate_laws.proofs.Sound.{AllHeld, AllValid, Sound, sound-within, sound-none, sound-more, AllSound, all-within, all-none, all-cons}
+use Rattle.candidate_laws.proofs.Sampled.{sampled-held}
+
+-- every word is that of a double
+pub word-held : (k w : ℕ) → HeldValue (ofWord k w)
+word-held zero w = ofBits-fits binary64 w
+word-held (suc zero) w = tt
+word-held (suc (suc k)) w = tt
+
+-- setting i of the sorted ones fits dimension i, or there is none
+abbrev FitsAt : (ℕ → Distribution) → List Setting → ℕ → Type 0
+FitsAt dims sorted i = (leb (length sorted) i || fitsDimension (dims i) (getD sorted i noSetting)) ≡ true
+
+breedable-fits : (dims : ℕ → Distribution) (n : ℕ) (p : Plan) → breedable dims n p ≡ true → (i : ℕ) → i < n → FitsAt dims (sortByParam (p .settings)) i
+unfolding breedable
+breedable-fits dims n p h = allBelow-each _ n (and-right (namedOnce (p .settings)) _ (and-right (leb (p .settingCount) 32) _ h))
+
+there : (d : Distribution) (x : Setting) → fitsDimension d x ≡ true → inBounds d (ofWord (x .kind) (x .value)) ≡ true
+unfolding fitsDimension
+there d x h = and-right (eqb (x .kind) (kindOfDimension d)) _ h
+
+module _ (dims : ℕ → Distribution) (sorted : List Setting) where
+  one-in : (i s : ℕ) → Held (dims i) → validDimension (dims i) ≡ true → FitsAt dims sorted i
+      → (inBounds (dims i) (extractOne (dims i) sorted i s .value) ≡ true) × HeldValue (extractOne (dims i) sorted i s .value)
+  unfolding extractOne
+  one-in i s h v f = by-bool (ltb i (length sorted))
+      (λ e. rw e (
+      let x = getD sorted i noSetting in
+      let l = ltb-true i (length sorted) e in
+      (there (dims i) x (sym (ap (λ (b : Bool). b || fitsDimension (dims i) x) (lt-leb (length sorted) i l)) ∙ f), word-held (x .kind) (x .value))))
+      (λ e. rw e (sampled-in-bounds (dims i) s h v, sampled-held (dims i) s))
+
+  all-in : (n s : ℕ) → AllHeld dims n → AllValid dims n → ((i : ℕ) → i < n → FitsAt dims sorted i) → Sound dims n (extract dims n sorted s .value)
+  unfolding extract
+  all-in zero s h v f = sound-none dims
+  all-in (suc n) s h v f =
+      let o = one-in n (extract dims n sorted s .state) (h n (omega arith)) (v n (omega arith)) (f n (omega arith)) in
+      sound-more dims n _ _ (all-in n s (λ d l. h d (omega arith)) (λ d l. v d (omega arith)) (λ d l. f d (omega arith))) (o .0) (o .1)
+
+module _ (dims : ℕ → Distribution) (n : ℕ) (h : AllHeld dims n) (b : badDimensions dims n ≡ false) where
+  pub extract-sound : (p : Plan) (s : ℕ) → breedable dims n p ≡ true → Sound dims n (extract dims n (sortByParam (p .settings)) s .value)
+  extract-sound p s f = all-in dims (sortByParam (p .settings)) n s h (each dims n b) (breedable-fits dims n p f)
+
+  pub extract-within : (p : Plan) (s : ℕ) → breedable dims n p ≡ true → Within dims n (extract dims n (sortByParam (p .settings)) s .value)
+  extract-within p s f = sound-within dims n _ (extract-sound p s f)
+
+  -- the kept plans' settings
+  pub parentsOf-sound : (plans : ℕ → Plan) (kept : List ℕ) (s : ℕ) → ((i : ℕ) → i < length kept → breedable dims n (plans (getD kept i 0)) ≡ true)
+      → AllSound dims n (length kept) (parentsOf dims n plans kept s .value)
+  unfolding parentsOf
+  parentsOf-sound plans [] s f = all-none dims n
+  parentsOf-sound plans (p ∷ ps) s f =
+      all-cons dims n (length ps) _ _ (extract-sound (plans p) s (f 0 (omega arith)))
+      (parentsOf-sound plans ps (extract dims n (sortByParam (plans p .settings)) s .state) (λ i l. f (suc i) (omega arith)))
+
+  pub parentsOf-within : (plans : ℕ → Plan) (kept : List ℕ) (s : ℕ) → ((i : ℕ) → i < length kept → breedable dims n (plans (getD kept i 0)) ≡ true)
+      → AllWithin dims n (length kept) (parentsOf dims n plans kept s .value)
+  parentsOf-within plans kept s f = all-within dims n (length kept) _ (parentsOf-sound plans kept s f)

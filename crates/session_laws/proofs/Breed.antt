@@ -1,0 +1,89 @@
+-- Breeding keeps the session property: the pool is as large as the size, so no front is split and the ideal stays; the offspring lie within their bounds.
+use Prim.Native.Nat.{ℕ, suc, _≤_}
+use mathlib.Core.Path.{_≡_, refl, ap, _∙_}
+use mathlib.Core.Bool.{Bool, false, _&&_}
+use mathlib.Core.List.{List, _++_}
+use native.Mathlib.Nat.{le-trans}
+use native.Mathlib.Omega.{arith}
+use lib.Dec.{ltb}
+use lib.Ieee.{Float}
+use lib.ListN.{length, take, drop, take-append-drop}
+use borrow.Author.Tests.{le-ltb, eqb-true}
+use Rattle.list_laws.proofs.Bools.{and-left}
+use Rattle.list_laws.proofs.First.{firstBelow-nowhere}
+use Rattle.front_laws.proofs.Order.{listing-room}
+use Rattle.model.specs.Lists.{over}
+use Rattle.model.specs.Front.{listing}
+use Rattle.model.specs.Association.{Request, dominance}
+use Rattle.model.specs.Kept.{wholeFronts, before, isSplit, selectedWhole, selected}
+use Rattle.model.specs.Setting.{Operators, generation, generationOf, wordsOf}
+use Rattle.model.specs.Session.{State, dimensionOf, breed, requestOf, operatorsOf}
+use Rattle.model.specs.Refusal.{goodIdeal, badParents}
+use Rattle.model.specs.Property.{SessionOk}
+use Rattle.candidate_laws.proofs.Sound.{AllHeld}
+use Rattle.candidate_laws.proofs.Generations.{generation-words}
+use Rattle.session_laws.proofs.Request.{dimensions-good}
+use Rattle.session_laws.proofs.Steps.{Long, over-long, no-fewer}
+
+-- ---- a selection of the whole pool
+
+module _ (r : Request) (whole : r .size ≡ r .count) where
+  all-fronts : wholeFronts r ≡ r .count
+  unfolding wholeFronts
+  all-fronts = firstBelow-nowhere _ (r .count) (λ k l. le-ltb (r .size) (length (listing (dominance r) (r .count) (suc k))) (omega (arith, listing-room (dominance r) (r .count) (suc k))))
+
+  -- splits no front
+  pub whole-pool : isSplit r ≡ false
+  unfolding isSplit
+  whole-pool = ap (λ (b : Bool). b && ltb (length (before r)) (r .size)) (le-ltb (wholeFronts r) (r .count) (omega (arith, all-fronts)))
+
+  -- so the ideal stays
+  pub whole-ideal : selected r .ideal ≡ r .ideal
+  unfolding selected selectedWhole
+  whole-ideal = rw whole-pool
+
+  pub generation-ideal : (o : Operators) → 2 ≤ r .count → generation o r .ideal ≡ r .ideal
+  unfolding generation generationOf
+  generation-ideal o two = rw (le-ltb (r .count) 2 two) whole-ideal
+
+-- ---- breeding
+
+module _ (st : State) (history : List ℕ) (ok : SessionOk st) where
+  ideal-length : length (take (st .session .config .«n_obj») (st .session .«ideal_point»)) ≡ st .session .config .«n_obj»
+  unfolding goodIdeal
+  ideal-length = eqb-true _ _ (and-left _ _ (ok .ideal))
+
+  -- the ideal as it was, entry for entry
+  pub breed-ideal : breed st history .session .«ideal_point» ≡ st .session .«ideal_point»
+  unfolding breed
+  breed-ideal =
+      ap (λ (l : List Float). over l (st .session .«ideal_point»)) (generation-ideal (requestOf st history) refl (operatorsOf (st .session)) (omega (arith, ok .config .atLeast4)))
+      ∙ ap (λ (n : ℕ). take (st .session .config .«n_obj») (st .session .«ideal_point») ++ drop n (st .session .«ideal_point»)) ideal-length
+      ∙ take-append-drop (st .session .config .«n_obj») (st .session .«ideal_point»)
+
+  -- 9 does not apply to the plans bred from
+  module _ (some : 1 ≤ st .session .progress .«n_dims») (held : AllHeld (dimensionOf (st .session)) (st .session .progress .«n_dims»))
+      (parents : badParents (operatorsOf (st .session)) (requestOf st history) ≡ false) where
+    pub breed-ok : SessionOk (breed st history)
+    unfolding breed
+    breed-ok =
+        record {
+          config = ok .config;
+          dimensions = record { few = ok .dimensions .few; valid = ok .dimensions .valid };
+          phase = record { someDimension = some; candidates = omega arith; room = omega arith };
+          ideal = ap (λ (l : List Float). goodIdeal (st .session .config .«n_obj») (take (st .session .config .«n_obj») l)) breed-ideal ∙ ok .ideal;
+          lent = λ e. record {
+            different = λ i j l k same. no-fewer k;
+            next = λ i l. absurd (no-fewer l);
+            settings = generation-words (operatorsOf (st .session)) (requestOf st history) held (dimensions-good (st .session) (ok .dimensions)) parents (st .candidates);
+          };
+        }
+
+pub breed-long : (st : State) (history : List ℕ) → Long st → Long (breed st history)
+unfolding breed
+breed-long st history l =
+    record {
+      words = le-trans (l .words) (over-long (wordsOf (generation (operatorsOf (st .session)) (requestOf st history) .offspring)) (st .candidates));
+      plans = l .plans;
+      next = l .next;
+    }

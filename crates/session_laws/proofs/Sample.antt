@@ -1,0 +1,130 @@
+-- THE SESSION PROPERTY: every call keeps it, refused or not.
+use Prim.Native.Nat.{ℕ, _<_}
+use mathlib.Core.Path.{_≡_, refl, sym, ap, _∙_}
+use mathlib.Core.Bool.{true, false, not, _&&_, _||_, true≢false, false≢true}
+use mathlib.Core.List.{List, List·Memᴰ·head, List·Memᴰ·tail}
+use mathlib.Core.Option.{Option, none, some}
+use native.Mathlib.Omega.{arith}
+use lib.Dec.{leb}
+use lib.ListN.{length}
+use mir.Val.{Val}
+use denote.Laws.{Is}
+use denote.Struct.Declared as struct
+use borrow.Author.Tests.{leb-false, not-true, not-false}
+use Rattle.list_laws.proofs.Bools.{by-bool, and-left}
+use Rattle.demand3_laws.proofs.Calls.{applies-not, sample-demand3}
+use Rattle.model.specs.declared.Distribution.{Distribution}
+use Rattle.model.specs.declared.Phase.{Phase}
+use Rattle.model.specs.declared.Phase.the-variants.{Discovery, Active}
+use Rattle.model.specs.Plan.{maxSettings}
+use Rattle.model.specs.Setting.{validDimension}
+use Rattle.model.specs.Session.{State, dimensionOf, longEnough, isActive, pastDiscovery, discovers, isNew, breeds, breed, activate, discover, sampleFromCandidate, accepted, requestOf, operatorsOf, maxPlans}
+use Rattle.model.specs.Refusal.{sampleRefusal, badPool, badParents}
+use Rattle.model.specs.Property.{SessionOk}
+use Rattle.model.specs.Calls.{sampleBy, sampleOf, Samples}
+use Rattle.model.proofs.Session as session
+use Rattle.candidate_laws.proofs.Sound.{AllHeld}
+use Rattle.typed_laws.proofs.Held.{session-dimensions, session-held}
+use Rattle.session_laws.proofs.Tests.{or-left, or-right, and-both, and-fails}
+use Rattle.session_laws.proofs.Request.{breeds-active}
+use Rattle.session_laws.proofs.Steps.{long, known, discovery-ok, active-ok, by-test, discover-ok, activate-ok, activate-long, sampleFromCandidate-ok}
+use Rattle.session_laws.proofs.Breed.{breed-ok, breed-long}
+
+-- ---- the two phases
+
+pub active-phase : (p : Phase) → pastDiscovery p ≡ true → p ≡ Active
+active-phase Discovery e = absurd (false≢true e)
+active-phase Active e = refl
+
+pub discovery-phase : (p : Phase) → pastDiscovery p ≡ false → p ≡ Discovery
+discovery-phase Discovery e = refl
+discovery-phase Active e = absurd (true≢false e)
+
+-- ---- what a call that is not refused rules out
+
+module _ (st : State) (d : Distribution) (plan : ℕ) (history : List ℕ) (e : sampleRefusal st d plan history ≡ none) where
+  pub not-6 : (discovers st plan && (leb maxSettings (st .session .progress .«n_dims») || not (validDimension d))) ≡ false
+  unfolding sampleRefusal
+  not-6 = applies-not (List·Memᴰ·head refl) e
+
+  pub not-8 : (breeds st history && badPool (requestOf st history)) ≡ false
+  unfolding sampleRefusal
+  not-8 = applies-not (List·Memᴰ·tail (List·Memᴰ·tail (List·Memᴰ·head refl))) e
+
+  pub not-9 : (breeds st history && badParents (operatorsOf (st .session)) (requestOf st history)) ≡ false
+  unfolding sampleRefusal
+  not-9 = applies-not (List·Memᴰ·tail (List·Memᴰ·tail (List·Memᴰ·tail (List·Memᴰ·head refl)))) e
+
+  pub not-10 : longEnough st ≡ true
+  unfolding sampleRefusal
+  not-10 = not-false _ (applies-not (List·Memᴰ·tail (List·Memᴰ·tail (List·Memᴰ·tail (List·Memᴰ·tail (List·Memᴰ·head refl))))) e)
+
+  pub not-11 : (leb maxPlans (st .session .progress .«n_plans») && (isNew st plan && not (breeds st history))) ≡ false
+  unfolding sampleRefusal
+  not-11 = applies-not (List·Memᴰ·tail (List·Memᴰ·tail (List·Memᴰ·tail (List·Memᴰ·tail (List·Memᴰ·tail (List·Memᴰ·head refl)))))) e
+
+-- ---- an accepted call
+
+-- beside the property, what types promise of code's parameters: numbers of the dimensions that the machine holds, and an array of 32
+module _ (st : State) (d : Distribution) (plan : ℕ) (history : List ℕ) (ok : SessionOk st)
+    (held : AllHeld (dimensionOf (st .session)) (st .session .progress .«n_dims»)) (array : length (st .session .dimensions) ≡ maxSettings) where
+  module _ (e : sampleRefusal st d plan history ≡ none) where
+    adds : discovers st plan ≡ true → SessionOk (discover st d plan .after)
+    unfolding discovers
+    adds h =
+        let good = and-fails (discovers st plan) _ (not-6 st d plan history e) h in
+        discover-ok st d plan ok (discovery-phase (st .session .phase) (not-true _ (and-left _ _ h)))
+        (leb-false maxSettings _ (or-left _ _ good)) (not-false _ (or-right (leb maxSettings (st .session .progress .«n_dims»)) _ good)) array
+
+    after-discovery : discovers st plan ≡ false → isActive (st .session) ≡ false → SessionOk (sampleFromCandidate (activate st) plan .after)
+    unfolding discovers activate
+    after-discovery h inactive =
+        let first = discovery-phase (st .session .phase) inactive in
+        let some = known (st .session .«discovery_trial_id») plan (st .session .progress .«n_dims») (and-fails (not (isActive (st .session))) _ h (ap not inactive))
+        (discovery-ok st ok first .first) in
+        sampleFromCandidate-ok (activate st) plan (activate-ok st ok first some held) refl (activate-long st (long st (not-10 st d plan history e)))
+        (λ new. omega arith) held
+
+    bred : breeds st history ≡ true → SessionOk (sampleFromCandidate (breed st history) plan .after)
+    unfolding breed
+    bred h =
+        let some = active-ok st ok (active-phase (st .session .phase) (breeds-active st history h)) .someDimension in
+        let parents = and-fails (breeds st history) _ (not-9 st d plan history e) h in
+        sampleFromCandidate-ok (breed st history) plan (breed-ok st history ok some held parents) refl
+        (breed-long st history (long st (not-10 st d plan history e))) (λ new. omega arith) held
+
+    goes-on : isActive (st .session) ≡ true → breeds st history ≡ false → SessionOk (sampleFromCandidate st plan .after)
+    goes-on a h = sampleFromCandidate-ok st plan ok (active-phase (st .session .phase) a) (long st (not-10 st d plan history e)) room held
+      where
+        room : isNew st plan ≡ true → st .session .progress .«n_plans» < maxPlans
+        room new = by-bool (leb maxPlans (st .session .progress .«n_plans»))
+            (λ full. absurd (true≢false (sym (and-both _ _ new (ap not h)) ∙ and-fails _ _ (not-11 st d plan history e) full)))
+            (λ some. leb-false maxPlans _ some)
+
+    pub accepted-ok : SessionOk (accepted st d plan history .after)
+    unfolding accepted
+    accepted-ok = by-test (discovers st plan) _ _ adds
+        (λ h. by-bool (isActive (st .session))
+        (λ a. by-bool (breeds st history) (λ b. rw (a, b) (bred b)) (λ b. rw (a, b) (goes-on a b)))
+        (λ a. rw a (after-discovery h a)))
+
+  -- THE THEOREM: refused or not, the field `keeps` of `Samples`
+  pub sample-ok : SessionOk (sampleOf st d plan history .after)
+  unfolding sampleOf
+  sample-ok = by-refusal (sampleRefusal st d plan history) refl
+    where
+      by-refusal : (r : Option ℕ) → sampleRefusal st d plan history ≡ r → SessionOk (sampleBy r st (accepted st d plan history) .after)
+      by-refusal none e = accepted-ok e
+      by-refusal (some n) e = ok
+
+  -- and the whole promise of `sample`, of its definition
+  pub samples : Samples st d plan history (sampleOf st d plan history)
+  samples = record { whole = refl; keeps = sample-ok; demand3 = sample-demand3 st d plan history ok }
+
+-- of a session that code is given the types promise it: `sample` asks the property alone. `good` stands at `c .good` of the code's proof.
+module _ (st : State) (d : Distribution) (plan : ℕ) (history : List ℕ) (ok : SessionOk st) (vs : List Val) (good : Is (struct.row session.the-type) (st .session) vs) where
+  pub given-held : AllHeld (dimensionOf (st .session)) (st .session .progress .«n_dims»)
+  given-held k l = session-held (st .session) vs good k (omega (arith, ok .dimensions .few))
+
+  pub given-samples : Samples st d plan history (sampleOf st d plan history)
+  given-samples = samples st d plan history ok given-held (session-dimensions (st .session) vs good)

@@ -1,0 +1,95 @@
+-- A value that code is given or holds is one that its type has: `Is R x vs`, which a proof finds at `c .good`. Of dimensions this says that their numbers are held.
+use Prim.Native.Nat.{ℕ, zero, suc, _<_}
+use mathlib.Core.Path.{_≡_, sym, _∙_}
+use mathlib.Core.List.{List, [], _∷_, map}
+use native.Mathlib.Omega.{arith}
+use lib.ListN.{length, getD, length-map}
+use mir.Val.{Val}
+use base.Fml.{Fml}
+use denote.Shadow.{shadow}
+use denote.Laws.{Is}
+use denote.Array.{each, Array}
+use denote.Struct.Declared as struct
+use denote.Enum.Declared as enum
+use Rattle.list_laws.proofs.Bools.{true-T}
+use Rattle.model.proofs.OptionI64 as step
+use Rattle.model.proofs.Distribution as distribution
+use Rattle.model.proofs.DimensionInfo as info
+use Rattle.model.proofs.Session as session
+use Rattle.model.specs.declared.OptionI64.{OptionI64}
+use Rattle.model.specs.declared.OptionI64.the-variants as optI64
+use Rattle.model.specs.declared.Distribution.{Distribution}
+use Rattle.model.specs.declared.Distribution.the-variants as dist
+use Rattle.model.specs.declared.DimensionInfo.{DimensionInfo}
+use Rattle.model.specs.declared.Session.{Session}
+use Rattle.model.specs.Session.{noDimension, dimensionOf}
+use Rattle.settings.proofs.InBounds.{Held, HeldStep}
+
+-- ---- a dimension
+
+step-held : (o : OptionI64) (vs : List Val) → Is (enum.row step.the-type) o vs → HeldStep o
+step-held optI64.None vs p = tt
+step-held (optI64.Some n) vs p = record { sfits = p .1 .1 .1 .1 .0 .1 }
+
+pub dimension-held : (d : Distribution) (vs : List Val) → Is (enum.row distribution.the-type) d vs → Held d
+dimension-held (dist.Float d) vs p =
+    let q = p .1 .1 .1 .1 .0 .1 .1 in
+    (true-T _ (q .0 .1), true-T _ (q .1 .0 .1))
+dimension-held (dist.Int d) vs p =
+    let q = p .1 .1 .1 .1 .0 .1 .1 in
+    (record { sfits = q .0 .1 }, record { sfits = q .1 .0 .1 }, step-held (d .step) _ (q .1 .1 .1 .0))
+dimension-held (dist.Categorical d) vs p = tt
+
+info-held : (x : DimensionInfo) (vs : List Val) → Is (struct.row info.the-type) x vs → Held (x .distribution)
+info-held x vs p = dimension-held (x .distribution) _ (p .1 .1 .0)
+
+-- ---- an array of them
+
+no-fewer : {i : ℕ} → i < 0 → ⊥
+no-fewer h = omega arith
+
+-- what holds of each element by its type holds of the element at each place
+module _ {A : Type 0} (f : A → List Val → Fml) (P : A → Type 0) (one : (x : A) (vs : List Val) → shadow (f x vs) → P x) (z : A) where
+  each-at : (xs : List A) (us : List Val) → shadow (each A f xs us) → (i : ℕ) → i < length xs → P (getD xs i z)
+  each-at [] us p i h = absurd (no-fewer h)
+  each-at (x ∷ xs) [] p i h = absurd p
+  each-at (x ∷ xs) (u ∷ us) p zero h = one x (u ∷ []) (p .0)
+  each-at (x ∷ xs) (u ∷ us) p (suc i) h = each-at xs us (p .1) i (omega arith)
+
+-- elements of a field that is an array, as its type has them
+each-map : {A D : Type 0} (f : D → List Val → Fml) (into : A → D) (xs : List A) (us : List Val) → shadow (each D f (map into xs) us)
+    → shadow (each A (λ x vs. f (into x) vs) xs us)
+each-map f into [] [] p = p
+each-map f into [] (u ∷ us) p = p
+each-map f into (x ∷ xs) [] p = p
+each-map f into (x ∷ xs) (u ∷ us) p = (p .0, each-map f into xs us (p .1))
+
+infos-held : (dims : List DimensionInfo) (us : List Val) → shadow (each DimensionInfo (struct.row info.the-type .own) dims us) → (d : ℕ) → d < length dims
+    → Held (getD dims d noDimension .distribution)
+infos-held = each-at (struct.row info.the-type .own) (λ (x : DimensionInfo). Held (x .distribution)) info-held noDimension
+
+-- `dims: [DimensionInfo; 32]`
+module _ (dims : List DimensionInfo) (vs : List Val) (p : Is (Array (struct.row info.the-type) 32) dims vs) where
+  pub array-length : length dims ≡ 32
+  array-length = p .1 .0 .1
+
+  pub array-held : (d : ℕ) → d < 32 → Held (getD dims d noDimension .distribution)
+  array-held d h = let e = array-length in infos-held dims (p .0) (p .1 .1) d (omega arith)
+
+-- ---- a session's
+
+module _ (s : Session) (vs : List Val) (p : Is (struct.row session.the-type) s vs) where
+  pub session-dimensions : length (s .dimensions) ≡ 32
+  session-dimensions = sym (length-map (s .dimensions) _) ∙ p .1 .1 .1 .1 .1 .1 .0 .1 .0 .1
+
+  pub session-held : (d : ℕ) → d < 32 → Held (dimensionOf s d)
+  session-held d h =
+      let e = session-dimensions in
+      let q = p .1 .1 .1 .1 .1 .1 .0 in
+      infos-held (s .dimensions) (q .0) (each-map _ _ (s .dimensions) (q .0) (q .1 .1)) d (omega arith)
+
+  pub session-ideal : length (s .«ideal_point») ≡ 8
+  session-ideal = sym (length-map (s .«ideal_point») _) ∙ p .1 .1 .1 .1 .1 .1 .1 .0 .1 .0 .1
+
+  pub session-directions : length (s .config .directions) ≡ 8
+  session-directions = sym (length-map (s .config .directions) _) ∙ p .1 .1 .0 .1 .1 .1 .0 .1 .0 .1
