@@ -49,5 +49,6 @@ settled a = record { answer = sampling.Setting (a .setting); after = a .after }
 -- what a state past discovery needs to be drawn from
 pub record Ready (s : Session) : Type 0 where
   pub dims : badDimensions (dimensionOf s) (s .progress .«n_dims») ≡ false
+  pub few : s .progress .«n_dims» ≤ maxSettings
   pub some : 1 ≤ s .progress .«n_dims»
   pub room : s .progress .«n_plans» ≤ maxPlans
