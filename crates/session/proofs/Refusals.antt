@@ -21,7 +21,7 @@ use Rattle.model.specs.Calls.{SampleExit, sampleBy, sampleOf}
 use Rattle.session_laws.proofs.Tests.{or-left, or-right}
 use Rattle.session_parts.proofs.Records.{has-place}
 use Rattle.session_parts.specs.Exits.{exit, settled}
-use Rattle.session.specs.Refused.{refusedBy}
+use Rattle.session.specs.Exits.{refusedWith}
 
 -- ---- the six tests
 
@@ -80,7 +80,7 @@ module _ (s : Session) (cs ps ns : List ℕ) (d : Distribution) (plan : ℕ) (hi
   abbrev refusal : Option ℕ
   refusal = sampleRefusal st d plan history
 
-  pub leaves-refused : (n : ℕ) → refusal ≡ some n → exit (refusedBy n s) cs ps ns ≡ sampleOf st d plan history
+  pub leaves-refused : (n : ℕ) → refusal ≡ some n → exit (refusedWith n s) cs ps ns ≡ sampleOf st d plan history
   unfolding sampleOf
   leaves-refused n e = ap (λ (o : Option ℕ). sampleBy o st (accepted st d plan history)) (sym e)
 

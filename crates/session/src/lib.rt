@@ -2,7 +2,7 @@
 // generation is bred first.
 ghost use mathlib.Core.Path.{_≡_};
 ghost use mathlib.Core.Bool.{Bool, true, false, not, _&&_, _||_};
-ghost use mathlib.Core.List.{List};
+ghost use mathlib.Core.List.{List, []};
 ghost use mathlib.Core.Option.{none};
 ghost use Prim.Native.Nat.{ℕ, _+_, _*_, _≤_, _<_};
 ghost use lib.Dec.{leb, ltb};
@@ -10,17 +10,22 @@ ghost use lib.ListN.{length, take};
 ghost use Rattle.model.specs.Lists.{has};
 ghost use Rattle.model.specs.Plan.{planCount};
 ghost use Rattle.model.specs.Setting.{validDimension};
-ghost use Rattle.model.specs.Session.{state, pastDiscovery, discoversFor, discovers, longEnough};
-ghost use Rattle.model.specs.Calls.{sampleOf};
+ghost use Rattle.model.specs.Session.{state, pastDiscovery, discoversFor, discovers, longEnough, evaluated, breeds};
+ghost use Rattle.model.specs.Calls.{refusedBy, sampleOf, Samples};
 ghost use Rattle.model.specs.Property.{SessionOk};
+ghost use Rattle.model.specs.declared.Distribution.{Distribution};
 ghost use Rattle.model.specs.declared.Phase.the-variants as phase;
 ghost use Rattle.session_parts.specs.Exits.{exit};
-ghost use Rattle.session.specs.Refused.{refusedBy};
+ghost use Rattle.session.specs.Exits.{refusedWith, stepped, stepOn, bredSession, bredExit, breedOf};
 use model::Distribution;
 use model::OptionU64;
+use model::Outcome;
 use model::Phase;
+use model::Progress;
+use model::Rng;
 use model::Sampled;
 use model::Sampling;
+use model::Selection;
 use model::Session;
 
 // The most dimensions of a session, records of a history and plans of a generation, and the words of its candidates.
@@ -31,6 +36,9 @@ const MAX_HISTORY: usize = 4096;
 const MAX_PLANS: usize = 2048;
 
 const MAX_WORDS: usize = 65536;
+
+// The words of a pool of 1,024 plans.
+const POOL_WORDS: usize = 126976;
 
 // ---- tests
 
@@ -88,7 +96,7 @@ fn full(plans: &[u64], n: usize, plan: u64) -> bool
 
 // A refusal leaves the session as it was.
 fn refused(session: Session, number: u8) -> Sampled
-    ensures { λ r. ⌜ r ≡ refusedBy number session ⌝ }
+    ensures { λ r. ⌜ r ≡ refusedWith number session ⌝ }
 {
     let outcome = Sampling::Refused(number);
     Sampled { outcome, session }
@@ -118,4 +126,108 @@ fn sample_discovering(
         return session_parts::discover(session, distribution, plan);
     }
     refused(session, 10)
+}
+
+// ---- breeding
+
+// The step of a session's generation, from the pool of the plans that it breeds from. The kept list, the fronts and the lines are not handed out.
+fn step(session: Session, pool: &[u64], ideal: &mut [f64], candidates: &mut [u64]) -> Selection
+    requires { ⌜ session .config .«n_obj» ≤ length (session .config .directions) ⌝ }
+    ensures { λ r. ⌜ stepped r (now (ideal .exit)) (now (candidates .exit)) ≡ stepOn session (now (pool .entry)) (now (ideal .entry)) (now (candidates .entry)) ⌝ }
+{
+    let config = session.config;
+    let n_obj = config.n_obj;
+    let directions = config.directions;
+    let dimensions = session.dimensions;
+    let progress = session.progress;
+    let rng = session.rng;
+    let mut kept = [0usize; 1024];
+    let mut fronts = [0usize; 1024];
+    let mut lines = [0usize; 1024];
+    generation::nsga3_generate_offspring(
+        pool,
+        &directions[..n_obj],
+        config.divisions,
+        config.population_size,
+        rng,
+        dimensions,
+        progress.n_dims,
+        config.crossover_prob,
+        config.crossover_eta,
+        config.mutation_eta,
+        ideal,
+        &mut kept,
+        &mut fronts,
+        &mut lines,
+        candidates,
+    )
+}
+
+// The session after breeding: its candidates are new, and no plan has come.
+fn bred_session(session: Session, rng: Rng, ideal_point: [f64; 8]) -> Session
+    ensures { λ r. ⌜ r ≡ bredSession session (rng .s) «ideal_point» ⌝ }
+{
+    let config = session.config;
+    let phase = Phase::Active;
+    let discovery_trial_id = session.discovery_trial_id;
+    let dimensions = session.dimensions;
+    let before = session.progress;
+    let progress = Progress {
+        n_dims: before.n_dims,
+        n_candidates: config.population_size,
+        n_plans: 0,
+        generation: std::num::wrapping_add_u64(before.generation, 1),
+    };
+    Session {
+        config,
+        phase,
+        discovery_trial_id,
+        rng,
+        dimensions,
+        ideal_point,
+        progress,
+    }
+}
+
+// What breeding answers: the refusal that it meets, with the session as it was, or the session after it.
+struct Bred {
+    outcome: Outcome,
+    session: Session,
+}
+
+// A new generation, bred from the first `size` plans of the present one, which the pool has room for.
+fn breed(
+    session: Session,
+    history: &[u64],
+    plans: &[u64],
+    pool: &mut [u64],
+    candidates: &mut [u64],
+) -> Bred
+    requires { ⌜ 126976 ≤ length (now pool) ⌝ }
+    requires { ⌜ SessionOk (state session (now candidates) (now plans) []) × (evaluated (state session (now candidates) (now plans) []) (now history) ≡ true)
+        × (2048 ≤ length (now plans)) × (65536 ≤ length (now candidates)) ⌝ }
+    ensures { λ r. ⌜ ((ns : List ℕ) → bredExit (refusedBy (r .outcome)) (state (r .session) (now (candidates .exit)) (now (plans .entry)) ns)
+        ≡ breedOf (state session (now (candidates .entry)) (now (plans .entry)) ns) (now (history .entry))) ⌝ }
+{
+    let config = session.config;
+    let n_obj = config.n_obj;
+    let size = config.population_size;
+    let mut ideal_point = session.ideal_point;
+    session_parts::gather(history, plans, size, pool);
+    let words = size * plans::PLAN_WORDS;
+    let selection = step(
+        session,
+        &pool[..words],
+        &mut ideal_point[..n_obj],
+        candidates,
+    );
+    let outcome = selection.outcome;
+    let rng = selection.rng;
+    match outcome {
+        Outcome::Refused(_) => Bred { outcome, session },
+        Outcome::Kept(_) => {
+            let session = bred_session(session, rng, ideal_point);
+            Bred { outcome, session }
+        }
+    }
 }
