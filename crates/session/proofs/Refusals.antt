@@ -32,23 +32,23 @@ at-6 : (a b c d e f : Bool) → a ≡ true → checks a b c d e f ≡ some 6
 unfolding firstOf
 at-6 a b c d e f ea = rw ea
 
-at-7 : (a b c d e f : Bool) → a ≡ false → b ≡ true → checks a b c d e f ≡ some 7
+pub at-7 : (a b c d e f : Bool) → a ≡ false → b ≡ true → checks a b c d e f ≡ some 7
 unfolding firstOf
 at-7 a b c d e f ea eb = rw (ea, eb)
 
-at-10 : (a b c d e f : Bool) → a ≡ false → b ≡ false → c ≡ false → d ≡ false → e ≡ true → checks a b c d e f ≡ some 10
+pub at-10 : (a b c d e f : Bool) → a ≡ false → b ≡ false → c ≡ false → d ≡ false → e ≡ true → checks a b c d e f ≡ some 10
 unfolding firstOf
 at-10 a b c d e f ea eb ec ed ee = rw (ea, eb, ec, ed, ee)
 
-at-11 : (a b c d e f : Bool) → a ≡ false → b ≡ false → c ≡ false → d ≡ false → e ≡ false → f ≡ true → checks a b c d e f ≡ some 11
+pub at-11 : (a b c d e f : Bool) → a ≡ false → b ≡ false → c ≡ false → d ≡ false → e ≡ false → f ≡ true → checks a b c d e f ≡ some 11
 unfolding firstOf
 at-11 a b c d e f ea eb ec ed ee ef = rw (ea, eb, ec, ed, ee, ef)
 
-at-none : (a b c d e f : Bool) → a ≡ false → b ≡ false → c ≡ false → d ≡ false → e ≡ false → f ≡ false → checks a b c d e f ≡ none
+pub at-none : (a b c d e f : Bool) → a ≡ false → b ≡ false → c ≡ false → d ≡ false → e ≡ false → f ≡ false → checks a b c d e f ≡ none
 unfolding firstOf
 at-none a b c d e f ea eb ec ed ee ef = rw (ea, eb, ec, ed, ee, ef)
 
-no-and : (a b : Bool) → a ≡ false → (a && b) ≡ false
+pub no-and : (a b : Bool) → a ≡ false → (a && b) ≡ false
 no-and a b e = ap (λ (x : Bool). x && b) e
 
 -- a dimension that is not refused, and a plan's place

@@ -231,3 +231,137 @@ fn breed(
         }
     }
 }
+
+// ---- a call that adds no dimension
+
+// A call that breeds: the plan takes the first candidate of the new generation.
+fn sample_bred(
+    session: Session,
+    plan: u64,
+    history: &[u64],
+    candidates: &mut [u64],
+    plans: &mut [u64],
+    next_dims: &mut [usize],
+) -> Sampled
+    requires { ⌜ SessionOk (state session (now candidates) (now plans) (now «next_dims»))
+        × (breeds (state session (now candidates) (now plans) (now «next_dims»)) (now history) ≡ true) × (planCount (now history) ≤ 4096) ⌝ }
+    ensures { λ r. ⌜ ((d : Distribution) → exit r (now (candidates .exit)) (now (plans .exit)) (now («next_dims» .exit))
+        ≡ sampleOf (state session (now (candidates .entry)) (now (plans .entry)) (now («next_dims» .entry))) d plan (now (history .entry))) ⌝ }
+{
+    let mut pool = [0u64; POOL_WORDS];
+    let bred = breed(session, history, plans, &mut pool, candidates);
+    let outcome = bred.outcome;
+    let session = bred.session;
+    match outcome {
+        Outcome::Refused(number) => refused(session, number),
+        Outcome::Kept(_) => {
+            session_parts::sample_from_candidate(session, plan, candidates, plans, next_dims)
+        }
+    }
+}
+
+// A call past discovery: it breeds where the generation's plans all stand in history.
+fn sample_active(
+    session: Session,
+    plan: u64,
+    history: &[u64],
+    candidates: &mut [u64],
+    plans: &mut [u64],
+    next_dims: &mut [usize],
+) -> Sampled
+    requires { ⌜ SessionOk (state session (now candidates) (now plans) (now «next_dims»)) × (session .phase ≡ phase.Active)
+        × (longEnough (state session (now candidates) (now plans) (now «next_dims»)) ≡ true) × (planCount (now history) ≤ 4096) ⌝ }
+    ensures { λ r. ⌜ ((d : Distribution) → exit r (now (candidates .exit)) (now (plans .exit)) (now («next_dims» .exit))
+        ≡ sampleOf (state session (now (candidates .entry)) (now (plans .entry)) (now («next_dims» .entry))) d plan (now (history .entry))) ⌝ }
+{
+    let config = session.config;
+    let size = config.population_size;
+    let progress = session.progress;
+    let n = progress.n_plans;
+    if session_parts::evaluated(history, plans, n, size) {
+        return sample_bred(session, plan, history, candidates, plans, next_dims);
+    }
+    if full(plans, n, plan) {
+        return refused(session, 11);
+    }
+    session_parts::sample_from_candidate(session, plan, candidates, plans, next_dims)
+}
+
+// The call that ends discovery: the first generation's candidates are drawn.
+fn sample_first(
+    session: Session,
+    plan: u64,
+    history: &[u64],
+    candidates: &mut [u64],
+    plans: &mut [u64],
+    next_dims: &mut [usize],
+) -> Sampled
+    requires { ⌜ SessionOk (state session (now candidates) (now plans) (now «next_dims»)) × (session .phase ≡ phase.Discovery)
+        × (discoversFor (session .«discovery_trial_id») plan ≡ false)
+        × (longEnough (state session (now candidates) (now plans) (now «next_dims»)) ≡ true) × (planCount (now history) ≤ 4096) ⌝ }
+    ensures { λ r. ⌜ ((d : Distribution) → exit r (now (candidates .exit)) (now (plans .exit)) (now («next_dims» .exit))
+        ≡ sampleOf (state session (now (candidates .entry)) (now (plans .entry)) (now («next_dims» .entry))) d plan (now (history .entry))) ⌝ }
+{
+    let session = session_parts::activate(session, candidates);
+    session_parts::sample_from_candidate(session, plan, candidates, plans, next_dims)
+}
+
+// ---- the call
+
+// What a call answers and leaves.
+fn answered(
+    session: Session,
+    distribution: Distribution,
+    plan: u64,
+    history: &[u64],
+    candidates: &mut [u64],
+    plans: &mut [u64],
+    next_dims: &mut [usize],
+) -> Sampled
+    requires { ⌜ SessionOk (state session (now candidates) (now plans) (now «next_dims»)) ⌝ }
+    ensures { λ r. ⌜ exit r (now (candidates .exit)) (now (plans .exit)) (now («next_dims» .exit))
+        ≡ sampleOf (state session (now (candidates .entry)) (now (plans .entry)) (now («next_dims» .entry))) distribution plan (now (history .entry)) ⌝ }
+{
+    let phase = session.phase;
+    let first = session.discovery_trial_id;
+    let long = long_enough(candidates.len(), plans.len(), next_dims.len());
+    if discovers(phase, first, plan) {
+        return sample_discovering(session, distribution, plan, history, long);
+    }
+    if MAX_HISTORY < plans::plan_count(history) {
+        return refused(session, 7);
+    }
+    if long {
+        return match phase {
+            Phase::Discovery => sample_first(session, plan, history, candidates, plans, next_dims),
+            Phase::Active => sample_active(session, plan, history, candidates, plans, next_dims),
+        };
+    }
+    refused(session, 10)
+}
+
+// A plan asks for its next setting; the answer, or the number of the refusal that the call meets. `history` has the evaluated plans; the other slices are lent
+// with the session to every call. Where the plans of the generation all stand in history, the call breeds the next one.
+pub fn sample(
+    session: Session,
+    distribution: Distribution,
+    plan: u64,
+    history: &[u64],
+    candidates: &mut [u64],
+    plans: &mut [u64],
+    next_dims: &mut [usize],
+) -> Sampled
+    requires { ⌜ SessionOk (state session (now candidates) (now plans) (now «next_dims»)) ⌝ }
+    ensures { λ r. ⌜ Samples (state session (now (candidates .entry)) (now (plans .entry)) (now («next_dims» .entry))) distribution plan (now (history .entry))
+        (record { answer = r .outcome; after = state (r .session) (now (candidates .exit)) (now (plans .exit)) (now («next_dims» .exit)) }) ⌝ }
+{
+    answered(
+        session,
+        distribution,
+        plan,
+        history,
+        candidates,
+        plans,
+        next_dims,
+    )
+}
