@@ -1,0 +1,21 @@
+// One generator serves every step of a call and is moved on in place (document 01, "Draw"): the draw over a generator that is lent.
+ghost use mathlib.Core.Path.{_≡_};
+ghost use Rattle.model.specs.Draw.{drawn, wordOf, drawWord};
+use model::Rng;
+
+// The word of a state.
+fn word(s: u64) -> u64
+    ensures { λ r. ⌜ r ≡ wordOf s ⌝ }
+{
+    s ^ (s >> 32)
+}
+
+// The next word. The generator's one word of state is taken out, moved on and put back.
+pub fn draw(rng: &mut Rng) -> u64
+    ensures { λ r. ⌜ drawn r (now (rng .exit) .s) ≡ drawWord (now (rng .entry) .s) ⌝ }
+{
+    let before = rng.s;
+    let next = rng_util::step(before);
+    rng.s = next;
+    word(next)
+}
