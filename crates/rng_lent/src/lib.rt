@@ -19,3 +19,24 @@ pub fn draw(rng: &mut Rng) -> u64
     rng.s = next;
     word(next)
 }
+
+// Two words in a row, and the state after them.
+pub struct Twice {
+    pub first: u64,
+    pub second: u64,
+    pub state: u64,
+}
+
+// One generator, started at the seed, is lent to two draws.
+pub fn draw_twice(seed: u64) -> Twice
+    ensures { λ r. ⌜ (r .first ≡ drawWord seed .value) × (drawn (r .second) (r .state) ≡ drawWord (drawWord seed .state)) ⌝ }
+{
+    let mut rng = Rng { s: seed };
+    let first = draw(&mut rng);
+    let second = draw(&mut rng);
+    Twice {
+        first,
+        second,
+        state: rng.s,
+    }
+}
