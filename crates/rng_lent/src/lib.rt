@@ -1,23 +1,24 @@
 // One generator serves every step of a call and is moved on in place (document 01, "Draw"): the draw over a generator that is lent.
 ghost use mathlib.Core.Path.{_≡_};
-ghost use Rattle.model.specs.Draw.{drawn, wordOf, drawWord};
+ghost use Rattle.model.specs.Draw.{drawn, drawWord};
 use model::Rng;
 
-// The word of a state.
-fn word(s: u64) -> u64
-    ensures { λ r. ⌜ r ≡ wordOf s ⌝ }
+// The next word, over the state alone.
+fn draw_word(s: &mut u64) -> u64
+    ensures { λ r. ⌜ drawn r (now (s .exit)) ≡ drawWord (now (s .entry)) ⌝ }
 {
-    s ^ (s >> 32)
+    let before = *s;
+    let d = rng_util::next(Rng { s: before });
+    let after = d.rng;
+    *s = after.s;
+    d.value
 }
 
-// The next word. The generator's one word of state is taken out, moved on and put back.
+// The next word. The generator's one word of state is lent in its place.
 pub fn draw(rng: &mut Rng) -> u64
     ensures { λ r. ⌜ drawn r (now (rng .exit) .s) ≡ drawWord (now (rng .entry) .s) ⌝ }
 {
-    let before = rng.s;
-    let next = rng_util::step(before);
-    rng.s = next;
-    word(next)
+    draw_word(&mut rng.s)
 }
 
 // Two words in a row, and the state after them.
