@@ -232,15 +232,16 @@ fn nearer(best: Best, line: usize, squares: f64) -> Best
     ensures { λ r. ⌜ ((d : ℕ → Float) → Found d line (best .line) (best .squares) → Square squares → sqrtOf squares ≡ d line
         → Found d (line + 1) (r .line) (r .squares)) ⌝ }
 {
-    if squares < best.squares {
-        if squares < best.squares * 0.9990234375 {
+    let least_squares = best.squares;
+    if squares < least_squares {
+        if squares < least_squares * 0.9990234375 {
             return Best {
                 line: line,
                 squares: squares,
             };
         }
         let distance = real::sqrt(squares);
-        let least = real::sqrt(best.squares);
+        let least = real::sqrt(least_squares);
         if distance < least {
             return Best {
                 line: line,

@@ -7,7 +7,7 @@ use Rattle.association.proofs.nearer.Tie as tie
 
 returns : tie.Need-returns
 unfolding ofBits
-returns c = λ d f S own. found-clear d _ _ _ _ f S own (c .before .before .if1 .taken) (c .if2 .taken)
+returns c = λ d f S own. found-clear d _ _ _ _ f S own (c .before .if1 .taken) (c .if2 .taken)
 
 sqrt-requires : tie.Need-sqrt-requires
 sqrt-requires c κs = search needs
