@@ -227,14 +227,14 @@ pub struct Nearest {
 }
 
 // The nearer of the best line so far and the next one, which must be strictly nearer. Distances decide, since two squares can have one root; but no root need be
-// taken of a square that is not below the best one, nor of one that is below 1023/1024 of it.
+// taken of a square that is not below the best one, nor of one that is below it by one in 2^30 (0.9999999990686774 is 1 - 2^-30).
 fn nearer(best: Best, line: usize, squares: f64) -> Best
     ensures { λ r. ⌜ ((d : ℕ → Float) → Found d line (best .line) (best .squares) → Square squares → sqrtOf squares ≡ d line
         → Found d (line + 1) (r .line) (r .squares)) ⌝ }
 {
     let least_squares = best.squares;
     if squares < least_squares {
-        if squares < least_squares * 0.9990234375 {
+        if squares < least_squares * 0.9999999990686774 {
             return Best {
                 line: line,
                 squares: squares,

@@ -1,5 +1,5 @@
--- One more turn of the search for the nearest line. A square that is not below the best one has no root below the best one's, and one that is below 1023/1024 of
--- it has: in neither case need a root be taken.
+-- One more turn of the search for the nearest line. A square that is not below the best one has no root below the best one's, and one that is below it
+-- times 1 - 2 ^ -30 has: in neither case need a root be taken.
 use Prim.Native.Nat.{ℕ, zero, suc, _+_, _*_}
 use mathlib.Core.Path.{_≡_, refl, ap, ap₂, sym, subst, _∙_}
 use mathlib.Core.Bool.{Bool, true, false, not}

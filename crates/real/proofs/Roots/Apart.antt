@@ -1,4 +1,5 @@
--- A double from 0 on that is below 1023/1024 of another has a root below the other's, also after both are rounded (`sqrt-apart`). Assumes nothing.
+-- A double from 0 on that is below another times 1 - 2 ^ -30 has a root below the other's, also after both are rounded (`sqrt-apart`). Assumes nothing.
+-- In numerals, 1073741824 is 2 ^ 30 and 1099511627776 is 2 ^ 40.
 use mathlib.Core.Path.{_≡_, refl, sym, ap, _∙_, subst}
 use Prim.Native.Nat.{ℕ, zero, suc, _+_, _-_, _*_, _/_, _^_, _≤_, _<_, zero-le}
 use native.Mathlib.Nat.{le-trans, le-of-eq, le-of-lt, lt-of-lt-of-le, lt-of-not-le, not-le-of-lt, zero-mul, mul-assoc, mul-left-comm, mul-mul-mul-comm, mul-pos, mul-le-mul-left, mul-le-mul-right, mul-lt-mul-of-pos-right, zero-lt-suc, le-div-iff-mul-le, div-lt-iff-lt-mul}
@@ -20,16 +21,16 @@ use Rattle.real.proofs.Roots.Whole.{nearRoot-near, square-mono}
 use Rattle.real.proofs.Roots.Units.{shiftOf, counted, rootUnits, rootUnits-zero, root-counted}
 use Rattle.real.proofs.Roots.Monotone.{kept-ge}
 
--- ---- the square of a root in units, beside the number: within one in 2 ^ 20, where digits are dropped
+-- ---- the square of a root in units, beside the number: within one in 2 ^ 40, where digits are dropped
 
 near-none : nearRoot 0 ≡ 0
 unfolding nearRoot size
 near-none = refl
 
-lower : (Q q v : ℕ) → 2 ^ 52 * q ≤ Q → Q < v + q → 1048575 * Q ≤ 1048576 * v
+lower : (Q q v : ℕ) → 2 ^ 52 * q ≤ Q → Q < v + q → 1099511627775 * Q ≤ 1099511627776 * v
 lower Q q v a b = omega arith
 
-higher : (Q q v : ℕ) → 2 ^ 52 ≤ q → 2 ^ 52 * q ≤ Q → v ≤ Q + q → 1048576 * (v + 1) ≤ 1048577 * Q
+higher : (Q q v : ℕ) → 2 ^ 52 ≤ q → 2 ^ 52 * q ≤ Q → v ≤ Q + q → 1099511627776 * (v + 1) ≤ 1099511627777 * Q
 higher Q q v k a b = omega arith
 
 module _ (n : ℕ) (h : 0 < dropped n) where
@@ -59,19 +60,19 @@ module _ (n : ℕ) (h : 0 < dropped n) where
       let e : v ≡ 0 = omega arith in
       not-le-of-lt (pow-pos 52) (subst (λ (x : ℕ). 2 ^ 52 ≤ x) near-none (subst (λ (x : ℕ). 2 ^ 52 ≤ nearRoot x) e (kept-ge n h))))
 
-  not-above : 1048575 * (rootUnits n * rootUnits n) ≤ 1048576 * n
+  not-above : 1099511627775 * (rootUnits n * rootUnits n) ≤ 1099511627776 * n
   not-above =
       let a = mul-le-mul-right U (lower (q * q) q v large (nearRoot-near v .1 some)) in
-      let b = mul-le-mul-left 1048576 (le-div-iff-mul-le (pow-pos (2 * k)) .0 (le-of-eq refl)) in
-      subst (λ (x : ℕ). 1048575 * x ≤ 1048576 * n) (sym square)
-      (le-trans (le-of-eq (sym (mul-assoc 1048575 (q * q) U))) (le-trans a (le-trans (le-of-eq (mul-assoc 1048576 v U)) b)))
+      let b = mul-le-mul-left 1099511627776 (le-div-iff-mul-le (pow-pos (2 * k)) .0 (le-of-eq refl)) in
+      subst (λ (x : ℕ). 1099511627775 * x ≤ 1099511627776 * n) (sym square)
+      (le-trans (le-of-eq (sym (mul-assoc 1099511627775 (q * q) U))) (le-trans a (le-trans (le-of-eq (mul-assoc 1099511627776 v U)) b)))
 
-  not-below : 1048576 * n ≤ 1048577 * (rootUnits n * rootUnits n)
+  not-below : 1099511627776 * n ≤ 1099511627777 * (rootUnits n * rootUnits n)
   not-below =
       let a = mul-le-mul-right U (higher (q * q) q v (kept-ge n h) large (nearRoot-near v .0)) in
-      let b = mul-le-mul-left 1048576 (le-of-lt (div-lt-iff-lt-mul (pow-pos (2 * k)) .0 (one-more v))) in
-      subst (λ (x : ℕ). 1048576 * n ≤ 1048577 * x) (sym square)
-      (le-trans b (le-trans (le-of-eq (sym (mul-assoc 1048576 (v + 1) U))) (le-trans a (le-of-eq (mul-assoc 1048577 (q * q) U)))))
+      let b = mul-le-mul-left 1099511627776 (le-of-lt (div-lt-iff-lt-mul (pow-pos (2 * k)) .0 (one-more v))) in
+      subst (λ (x : ℕ). 1099511627776 * n ≤ 1099511627777 * x) (sym square)
+      (le-trans b (le-trans (le-of-eq (sym (mul-assoc 1099511627776 (v + 1) U))) (le-trans a (le-of-eq (mul-assoc 1099511627777 (q * q) U)))))
     where
       one-more : (v : ℕ) → v < v + 1
       one-more v = omega arith
@@ -84,50 +85,50 @@ drops g p = lt-of-not-le (λ (l : dropped (g * 2 ^ 1074) ≤ 0).
     few : (z : ℕ) → (z - 105) / 2 ≤ 0 → z ≤ 1074
     few z h = omega arith
 
-clear : (a b x y : ℕ) → 1048575 * x ≤ 1048576 * a → 1048576 * b ≤ 1048577 * y → y ≤ x → 1024 * a < 1023 * b → ⊥
+clear : (a b x y : ℕ) → 1099511627775 * x ≤ 1099511627776 * a → 1099511627776 * b ≤ 1099511627777 * y → y ≤ x → 1073741824 * a < 1073741823 * b → ⊥
 clear a b x y h k l m = omega arith
 
-apart-units : (a b : ℕ) → 0 < dropped a → 0 < dropped b → 1024 * a < 1023 * b → rootUnits a < rootUnits b
+apart-units : (a b : ℕ) → 0 < dropped a → 0 < dropped b → 1073741824 * a < 1073741823 * b → rootUnits a < rootUnits b
 apart-units a b A B h = lt-of-not-le (λ (l : rootUnits b ≤ rootUnits a).
     clear a b (rootUnits a * rootUnits a) (rootUnits b * rootUnits b) (not-above a A) (not-below b B) (square-mono (rootUnits b) (rootUnits a) l) h)
 
 -- ---- floats
 
--- 1023/1024
+-- 1 - 2 ^ -30
 abbrev pub nearlyOne : Float
-nearlyOne = fin false 1023 (negsuc 9)
+nearlyOne = fin false 1073741823 (negsuc 29)
 
-nearlyOne-counts : Counts binary64 nearlyOne (1023 * 2 ^ 1064) 0
-nearlyOne-counts = (1023 * 2 ^ 1064, refl, refl)
+nearlyOne-counts : Counts binary64 nearlyOne (1073741823 * 2 ^ 1044) 0
+nearlyOne-counts = (1073741823 * 2 ^ 1044, refl, refl)
 
--- a product with 1023/1024 is no more than what 1024 parts of it fill
-room : (g h D L : ℕ) → L ≡ 1024 * D → 1023 * h ≤ 1024 * g → h * (1023 * D) * L + 0 * (L * L) ≤ g * (L * L) + 0 * L
+-- g is at least h * (1 - 2 ^ -30): over the units L, which are 2 ^ 30 times D
+room : (g h D L : ℕ) → L ≡ 1073741824 * D → 1073741823 * h ≤ 1073741824 * g → h * (1073741823 * D) * L + 0 * (L * L) ≤ g * (L * L) + 0 * L
 room g h D L e l =
-    let a : 1023 * h * (D * L) ≤ 1024 * g * (D * L) = mul-le-mul-right (D * L) l in
-    let b : h * (1023 * D) * L ≡ 1023 * h * (D * L) = simp (mul-assoc, mul-left-comm) refl in
-    let c : g * (L * L) ≡ g * (1024 * D * L) = ap (λ (x : ℕ). g * (x * L)) e in
-    let d : g * (1024 * D * L) ≡ 1024 * g * (D * L) = simp (mul-assoc, mul-left-comm) refl in
+    let a : 1073741823 * h * (D * L) ≤ 1073741824 * g * (D * L) = mul-le-mul-right (D * L) l in
+    let b : h * (1073741823 * D) * L ≡ 1073741823 * h * (D * L) = simp (mul-assoc, mul-left-comm) refl in
+    let c : g * (L * L) ≡ g * (1073741824 * D * L) = ap (λ (x : ℕ). g * (x * L)) e in
+    let d : g * (1073741824 * D * L) ≡ 1073741824 * g * (D * L) = simp (mul-assoc, mul-left-comm) refl in
     let z = zero-mul L in
     let w = zero-mul (L * L) in
     omega arith
 
-below : (s b : Float) (g h : ℕ) → T (fits binary64 s) → Counts binary64 s g 0 → Counts binary64 b h 0 → T (lt s (mul binary64 b nearlyOne)) → 1024 * g < 1023 * h
-below s b g h S a c l = lt-of-not-le (λ (k : 1023 * h ≤ 1024 * g).
+below : (s b : Float) (g h : ℕ) → T (fits binary64 s) → Counts binary64 s g 0 → Counts binary64 b h 0 → T (lt s (mul binary64 b nearlyOne)) → 1073741824 * g < 1073741823 * h
+below s b g h S a c l = lt-of-not-le (λ (k : 1073741823 * h ≤ 1073741824 * g).
     lt→nle s (mul binary64 b nearlyOne) l
-    (rounded-le binary64 (mul binary64 b nearlyOne) s (h * (1023 * 2 ^ 1064)) 0 (2 ^ 1074 * 2 ^ 1074) g 0 (mul-pos (pow-pos 1074) (pow-pos 1074))
-    (mul-count binary64 b nearlyOne h (1023 * 2 ^ 1064) c nearlyOne-counts) S a (room g h (2 ^ 1064) (2 ^ 1074) refl k)))
+    (rounded-le binary64 (mul binary64 b nearlyOne) s (h * (1073741823 * 2 ^ 1044)) 0 (2 ^ 1074 * 2 ^ 1074) g 0 (mul-pos (pow-pos 1074) (pow-pos 1074))
+    (mul-count binary64 b nearlyOne h (1073741823 * 2 ^ 1044) c nearlyOne-counts) S a (room g h (2 ^ 1044) (2 ^ 1074) refl k)))
 
-scaled : (g h L : ℕ) → 1024 * g < 1023 * h → 0 < L → 1024 * (g * L) < 1023 * (h * L)
+scaled : (g h L : ℕ) → 1073741824 * g < 1073741823 * h → 0 < L → 1073741824 * (g * L) < 1073741823 * (h * L)
 scaled g h L l p =
     let a = mul-lt-mul-of-pos-right l p in
-    let b = mul-assoc 1024 g L in
-    let c = mul-assoc 1023 h L in
+    let b = mul-assoc 1073741824 g L in
+    let c = mul-assoc 1073741823 h L in
     omega arith
 
-some-units : (g h : ℕ) → 1024 * g < 1023 * h → 0 < h
+some-units : (g h : ℕ) → 1073741824 * g < 1073741823 * h → 0 < h
 some-units g h l = omega arith
 
-apart-counts : (g h : ℕ) → 1024 * g < 1023 * h → rootUnits (g * 2 ^ 1074) < rootUnits (h * 2 ^ 1074)
+apart-counts : (g h : ℕ) → 1073741824 * g < 1073741823 * h → rootUnits (g * 2 ^ 1074) < rootUnits (h * 2 ^ 1074)
 apart-counts zero h l =
     let d = drops h (some-units 0 h l) in
     subst (λ (x : ℕ). x < rootUnits (h * 2 ^ 1074)) (sym (ap rootUnits (zero-mul (2 ^ 1074)) ∙ rootUnits-zero))
