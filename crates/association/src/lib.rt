@@ -272,11 +272,13 @@ fn nearest_line(
         squares: 1.0 / 0.0,
     };
     let mut l = 0;
+    let mut line_at = 0;
     while l < n_lines {
         let norm = line_norm(table, m, l, norms, known);
-        let squares = distance_squared(points, at, table, l * m, m, norm);
+        let squares = distance_squared(points, at, table, line_at, m, norm);
         best = nearer(best, l, squares);
         l += 1;
+        line_at += m;
     }
     Nearest {
         line: best.line,
