@@ -1,11 +1,11 @@
 -- No square of a distance is below 0: it may be -0, where there are no terms, an infinity or a NaN. Assumes nothing.
 use Prim.Native.Nat.{ℕ, zero, suc, _*_}
-use mathlib.Core.Path.{_≡_, refl, sym, subst}
+use mathlib.Core.Path.{refl, sym, subst}
 use mathlib.Core.Bool.{true, false, not}
 use lib.Dec.{T}
 use lib.Ieee.{Float, nan, inf, fin, binary64, up, down, lt, le, add, mul, isNan, ofBits, fits}
 use lib.Ieee.Fits.{mul-fits}
-use Rattle.model.specs.Real.{_⊕_, _⊗_, _⊖_, _⊘_, sumTo}
+use Rattle.model.specs.Real.{_⊕_, _⊗_, sumTo}
 use Rattle.model.specs.Numbers.{square}
 use Rattle.model.specs.Association.{dot, smallNorm}
 use Rattle.list_laws.proofs.Bools.{by-bool, true-T, false-T}

@@ -8,7 +8,7 @@ use Rattle.model.specs.Numbers.{sqrtOf}
 use Rattle.model.specs.Association.{nearestOf}
 use Rattle.float_laws.proofs.Constants.{nought}
 
--- a double that is not below 0; a NaN is none that is
+-- a double that is not below 0, or a NaN
 pub record Square (s : Float) : Type 0 where
   pub held : T (fits binary64 s)
   pub low : T (not (lt s nought))

@@ -1,10 +1,8 @@
 -- the norms that are worked out are those of the lines that the table holds
-use Prim.Native.Nat.{_*_}
 use native.Mathlib.Omega.{arith}
 use native.Mathlib.Nat.{mul-le-mul-right}
 use borrow.Author.Needs.{needs}
 use lib.Ieee.{nan}
-use Rattle.association_laws.specs.Flat.{normAt}
 use Rattle.association_laws.proofs.Places.{over-below}
 use Rattle.association.proofs.associate_to_reference_points.Statement.{statement}
 use Rattle.association.proofs.associate_to_reference_points.Tie as tie
