@@ -209,7 +209,8 @@ fn from_end(n: usize, j: usize) -> usize
     requires { ⌜ j < n ⌝ }
     ensures { λ r. ⌜ r ≡ n - 1 - j ⌝ }
 {
-    n - 1 - j
+    let last = n - 1;
+    last - j
 }
 
 // The place of a plan number's last record in a history, or the number of records where it has none.
