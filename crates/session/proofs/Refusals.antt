@@ -9,7 +9,7 @@ use borrow.Author.Tests.{lt-ltb, le-ltb, le-leb, lt-leb, leb-true, leb-false, no
 use lib.Dec.{leb, ltb}
 use lib.ListN.{length, take}
 use lib.Seq.{length-take-le}
-use Rattle.list_laws.proofs.Bools.{by-bool, and-left, and-right, and-not-left}
+use Rattle.list_laws.proofs.Bools.{by-bool, and-left, and-right, and-not-left, or-left, or-right}
 use Rattle.model.specs.declared.Distribution.{Distribution}
 use Rattle.model.specs.declared.Session.{Session}
 use Rattle.model.specs.Lists.{has}
@@ -18,7 +18,6 @@ use Rattle.model.specs.Setting.{validDimension}
 use Rattle.model.specs.Session.{State, Answered, state, discovers, discover, activate, breed, breeds, isActive, pastDiscovery, discoversFor, longEnough, evaluated, isNew, placeIn, requestOf, operatorsOf, accepted, sampleFromCandidate, maxPlans}
 use Rattle.model.specs.Refusal.{Check, check, firstOf, sampleRefusal, badPool, badParents, maxHistory}
 use Rattle.model.specs.Calls.{SampleExit, sampleBy, sampleOf}
-use Rattle.session_laws.proofs.Tests.{or-left, or-right}
 use Rattle.session_parts.specs.Exits.{exit, settled}
 use Rattle.session.specs.Exits.{refusedWith}
 
