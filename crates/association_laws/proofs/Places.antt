@@ -14,7 +14,8 @@ use Rattle.list_laws.proofs.Built.{listBelow-length, listBelow-at}
 use Rattle.das_dennis.proofs.Count.{lattice-count}
 use Rattle.das_dennis.proofs.Table.{lattice-table}
 use Rattle.association_laws.specs.Flat.{flatRows}
-use Rattle.association_laws.proofs.Writes.{row-inside, rows-length}
+use Rattle.list_laws.proofs.Runs.{row-inside}
+use Rattle.association_laws.proofs.Writes.{rows-length}
 
 -- what a slice holds at its front
 pub over-at : {A : Type 0} (new old : List A) (i : ℕ) (d : A) → i < length new → getD (over new old) i d ≡ getD new i d

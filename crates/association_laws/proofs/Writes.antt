@@ -9,21 +9,11 @@ use lib.Ieee.{Float}
 use lib.ListN.{length, getD, drop, set, length-append}
 use lib.Seq.{sets, sets-eq, length-sets, getD-set-other}
 use Rattle.model.specs.Lists.{listBelow, joinBelow, over}
+use Rattle.list_laws.proofs.Runs.{sets-append}
 use Rattle.association_laws.specs.Flat.{flatRows}
 use Rattle.list_laws.proofs.Built.{listBelow-none, listBelow-more, listBelow-length}
 
--- ---- places of a flat list
-
--- row p of n lies within the list
-pub row-inside : (p n m : ℕ) → p < n → p * m + m ≤ n * m
-row-inside p n m h = omega (arith, suc-mul p m, mul-le-mul-right m h)
-
 module _ {A : Type 0} where
-  sets-append : (l : List A) (i : ℕ) (s t : List A) → sets l i (s ++ t) ≡ sets (sets l i s) (i + length s) t
-  sets-append l i [] t = ap (λ k. sets l k t) (sym (add-zero i))
-  sets-append l i (x ∷ s) t =
-      sets-append (set l i x) (suc i) s t ∙ ap (λ k. sets (sets (set l i x) (suc i) s) k t) (suc-add i (length s) ∙ sym (add-suc i (length s)))
-
   -- one more value stored behind the run
   pub run-more : (f : ℕ → A) (l l₀ : List A) (at n : ℕ) (x : A) → l ≡ sets l₀ at (listBelow f n) → x ≡ f n
       → set l (at + n) x ≡ sets l₀ at (listBelow f (n + 1))

@@ -5,3 +5,5 @@ pub mod Extracted
 pub mod Bred
 pub mod KeptPlans
 pub mod Generations
+pub mod FromZero
+pub mod RootArguments

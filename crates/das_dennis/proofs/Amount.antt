@@ -17,6 +17,7 @@ use lib.Ieee.Order.{transfer, round-mono}
 use lib.Ieee.Positive.{num, den, den-pos, value→cross}
 use lib.Ieee.Scale.{finite, round-same, round-val, round-under, grid}
 use Rattle.model.specs.Real.{_⊕_, _⊗_, _⊘_, minusNought}
+use Rattle.list_laws.proofs.Bools.{or-split}
 
 -- finite and without a sign
 abbrev pub amount : Float → Bool
@@ -37,10 +38,6 @@ value-amount (fin true m e) a c h = absurd (true≢false (h .0))
 value-amount (fin false m e) a c h = tt
 
 -- ---- the order, as one of fractions
-
-or-split : (a b : Bool) → T (a || b) → T a ⊎ T b
-or-split true b t = inl tt
-or-split false b t = inr t
 
 lt-or-eq : (a b : ℕ) → T (ltb a b || (eqb a b && true)) → a ≤ b
 lt-or-eq a b t = ⊎-elim (λ u. le-of-lt (ltb→lt a b u)) (λ u. le-of-eq (eqb→eq a b (and-l (eqb a b) true u))) (or-split (ltb a b) (eqb a b && true) t)

@@ -14,30 +14,19 @@ use Rattle.model.specs.Lists.{allBelow, allIn}
 use Rattle.model.specs.Reference.{binomial, pointCount}
 use Rattle.model.specs.Plan.{maxConstraints}
 use Rattle.model.specs.Row.{directionOf, toMinimize, rowOf}
-use Rattle.model.specs.Association.{Request, objectives, lineCount, valueOf, distanceTo, lineOf}
+use Rattle.model.specs.Association.{Request, objectives, lineCount, valueOf, dominance, distanceTo, lineOf}
 use Rattle.model.specs.Kept.{before, isSplit, splitFront, filled, selected}
 use Rattle.model.specs.Refusal.{badDirections, badDivisions, measurable, goodPlan, badPool}
 use Rattle.model.specs.Demand3.{Demand3}
 use Rattle.niching_laws.specs.Niching.{ByProcedure}
-use Rattle.demand3_laws.specs.Facts.{Accepted}
-use Rattle.demand3_laws.proofs.Counts.{allBelow-at}
+use Rattle.list_laws.proofs.Bools.{or-left, and-left, and-right}
+use Rattle.front_laws.proofs.Plans.{known-toMinimize, measurable-known, beats-strict}
+use Rattle.demand3_laws.specs.Facts.{Strict, Accepted}
+use Rattle.list_laws.proofs.Tests.{allBelow-each, allIn-each}
 use Rattle.demand3_laws.proofs.Covered.{front-facts}
-use Rattle.demand3_laws.proofs.Strict.{dominance-strict}
 use Rattle.demand3_laws.proofs.Demand3.{demand3-facts, filled-procedure}
 
 -- ---- tests joined
-
-or-left : (a b : Bool) → (a || b) ≡ false → a ≡ false
-or-left true b e = absurd (true≢false e)
-or-left false b e = refl
-
-pub and-left : (a b : Bool) → (a && b) ≡ true → a ≡ true
-and-left true b e = refl
-and-left false b e = absurd (false≢true e)
-
-pub and-right : (a b : Bool) → (a && b) ≡ true → b ≡ true
-and-right true b e = e
-and-right false b e = absurd (false≢true e)
 
 -- ---- a line at least: the point count is not 0 for 1 to 8 objectives and 1 to 199 divisions, by computation
 
@@ -52,34 +41,9 @@ points-some : (m h : ℕ) → 1 ≤ m → m ≤ 8 → 1 ≤ h → h ≤ 199 → 
 points-some zero h a b c e = absurd (omega arith)
 points-some (suc m) zero a b c e = absurd (omega arith)
 points-some (suc m) (suc h) a b c e =
-    ltb-true 0 (pointCount (suc m) (suc h)) (allBelow-at (some-lines h) 8 m (omega arith) (allBelow-at (λ h. allBelow (some-lines h) 8) 199 h (omega arith) lines-table))
+    ltb-true 0 (pointCount (suc m) (suc h)) (allBelow-each (some-lines h) 8 (allBelow-each (λ h. allBelow (some-lines h) 8) 199 lines-table h (omega arith)) m (omega arith))
 
 -- ---- no value is a NaN
-
-le-nan : (x : Float) → le x nan ≡ false
-unfolding le lt eq
-le-nan nan = refl
-le-nan (inf s) = refl
-le-nan (fin s m e) = refl
-
-measurable-real : (x : Float) → measurable x ≡ true → isNan x ≡ false
-unfolding measurable isNan
-measurable-real nan e = absurd (false≢true (sym (le-nan _) ∙ and-left _ _ e))
-measurable-real (inf s) e = refl
-measurable-real (fin s m d) e = refl
-
-minimize-real : (d : Direction) (x : Float) → isNan x ≡ false → isNan (toMinimize d x) ≡ false
-unfolding neg isNan
-minimize-real Minimize x e = e
-minimize-real Maximize nan e = e
-minimize-real Maximize (inf s) e = refl
-minimize-real Maximize (fin s m d) e = refl
-
-allIn-at : (f : Float → Bool) (l : List Float) (j : ℕ) → allIn f l ≡ true → j < length l → f (getD l j nan) ≡ true
-unfolding allIn
-allIn-at f [] j e h = absurd (omega arith)
-allIn-at f (x ∷ l) zero e h = and-left (f x) (allIn f l) e
-allIn-at f (x ∷ l) (suc j) e h = allIn-at f l j (and-right (f x) (allIn f l) e) (omega arith)
 
 -- ---- what each refusal rules out
 
@@ -91,7 +55,7 @@ some-objectives marks h =
 
 pub pool-plan : (r : Request) → badPool r ≡ false → (p : ℕ) → p < r .count → goodPlan (objectives r) (r .plans p) ≡ true
 unfolding badPool
-pool-plan r e p h = allBelow-at (λ p. goodPlan (objectives r) (r .plans p)) (r .count) p h (and-left _ _ (not-false _ e))
+pool-plan r e p h = allBelow-each (λ p. goodPlan (objectives r) (r .plans p)) (r .count) (and-left _ _ (not-false _ e)) p h
 
 -- ---- an accepted request
 
@@ -119,13 +83,16 @@ module _ (r : Request) (accepted : Accepted r) where
   pub values-real : (p j : ℕ) → p < r .count → j < objectives r → isNan (valueOf r p j) ≡ false
   unfolding rowOf
   values-real p j h k =
-      minimize-real (directionOf (getD (r .marks) j 0)) (getD (r .plans p .row) j nan)
-      (measurable-real _ (allIn-at measurable (r .plans p .row) j (row-measurable p h) (omega (arith, accepted .rows p h))))
+      known-toMinimize (directionOf (getD (r .marks) j 0)) (getD (r .plans p .row) j nan)
+      (measurable-known (getD (r .plans p .row) j nan) (allIn-each measurable nan (r .plans p .row) (row-measurable p h) j (omega (arith, accepted .rows p h))))
+
+  dominance-strict : Strict (dominance r) (r .count)
+  dominance-strict = beats-strict (r .marks) (r .plans) (r .count) (λ p h j k. values-real p j h k)
 
   -- THE THEOREM, split or not
   pub demand3 : r .size ≤ r .count → Demand3 r (selected r .kept)
-  demand3 enough = demand3-facts r (front-facts (dominance-strict r values-real)) enough accepted-lines
+  demand3 enough = demand3-facts r (front-facts dominance-strict) enough accepted-lines
 
   -- and where a front is split, the plans picked from it are those of the paper's niching procedure
   pub niching-procedure : isSplit r ≡ true → ByProcedure (before r) (splitFront r) (lineOf r) (λ p. distanceTo r p (lineOf r p)) (lineCount r) (filled r .value)
-  niching-procedure split = filled-procedure r (front-facts (dominance-strict r values-real)) accepted-lines split
+  niching-procedure split = filled-procedure r (front-facts dominance-strict) accepted-lines split

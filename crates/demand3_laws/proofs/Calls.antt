@@ -19,8 +19,9 @@ use Rattle.model.specs.Property.{SessionOk}
 use Rattle.model.specs.Refusal.{Check, firstOf, Room, badDirections, badDivisions, goodPlan, badPool, selectRefusal, stepRefusal, sampleRefusal}
 use Rattle.model.specs.Demand3.{Demand3}
 use Rattle.model.specs.Calls.{Lent, roomOf, handedOut, selectAccepted, selectOf, Selects, stepAccepted, stepOf, Steps}
+use Rattle.list_laws.proofs.Bools.{and-left}
 use Rattle.demand3_laws.specs.Facts.{Accepted}
-use Rattle.demand3_laws.proofs.Accepted.{and-left, some-objectives, pool-plan, demand3}
+use Rattle.demand3_laws.proofs.Accepted.{some-objectives, pool-plan, demand3}
 
 -- ---- where no refusal is given, none of the numbers applies
 

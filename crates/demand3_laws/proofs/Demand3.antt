@@ -15,12 +15,13 @@ use Rattle.model.specs.Kept.{nicheCount, wholeFronts, before, isSplit, splitFro
 use Rattle.model.specs.Demand3.{Split, Filling, finalCount, fillingCount, sumOfSquares, Served, Waits, Demand3}
 use Rattle.niching_laws.specs.Niching as Niching
 use Rattle.niching_laws.specs.Niching.{ByProcedure}
-use Rattle.niching_laws.proofs.Tally.{tally-append}
+use Rattle.list_laws.proofs.Members.{tally-append}
 use Rattle.niching_laws.proofs.Picks.{picks-niched}
 use Rattle.niching_laws.proofs.Procedure.{picks-procedure, procedure-other}
 use Rattle.niching_laws.proofs.Association.{lineOf-inside, kept-distance}
 use Rattle.demand3_laws.specs.Facts.{FrontFacts}
-use Rattle.demand3_laws.proofs.Counts.{by-bool, Exactly, tally-exactly}
+use Rattle.list_laws.proofs.Bools.{by-bool}
+use Rattle.demand3_laws.proofs.Counts.{Exactly, tally-exactly}
 use Rattle.demand3_laws.proofs.Fronts.{inFirst-more, inFront-new, inFront-first, dominators-first, listing-exactly, front-exactly}
 use Rattle.demand3_laws.proofs.Sizes.{sizeOf-len, split-room, split-short, split-kept, split-only, whole-fill, whole-kept, whole-none}
 

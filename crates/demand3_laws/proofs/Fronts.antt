@@ -9,9 +9,12 @@ use native.Mathlib.Omega.{arith}
 use lib.ListN.{length, length-append}
 use Rattle.model.specs.Lists.{In, Distinct, anyBelow, countBelow}
 use Rattle.model.specs.Front.{front, listing}
+use Rattle.list_laws.specs.Occ.{occ}
 use Rattle.model.specs.Papers.Deb2002.{undominatedOfRest, inFirst, inFront}
 use Rattle.demand3_laws.specs.Facts.{FrontFacts}
-use Rattle.demand3_laws.proofs.Counts.{by-bool, Exactly, exactly-of, length-exactly, anyBelow-at}
+use Rattle.list_laws.proofs.Bools.{by-bool}
+use Rattle.demand3_laws.proofs.Counts.{Exactly, exactly-of, length-exactly}
+use Rattle.list_laws.proofs.Tests.{anyBelow-at}
 
 -- ---- for any d, by the paper's definition
 
@@ -67,6 +70,7 @@ module _ (d : ℕ → ℕ → Bool) (n : ℕ) where
 module _ {d : ℕ → ℕ → Bool} {n : ℕ} (facts : FrontFacts d n) where
   -- the first k fronts
   pub listing-exactly : (k : ℕ) → Exactly (inFirst d n k) n (listing d n k)
+  unfolding occ
   listing-exactly k = exactly-of (inFirst d n k) n (listing d n k) (facts .below k) (facts .once k)
 
   pub listing-size : (k : ℕ) → length (listing d n k) ≡ countBelow (inFirst d n k) n
@@ -103,13 +107,3 @@ module _ {d : ℕ → ℕ → Bool} {n : ℕ} (facts : FrontFacts d n) where
       fresh : (p : ℕ) → In p (front d n k) → inFirst d n k p ≡ false
       fresh p m = by-bool (inFirst d n k p)
           (λ e. absurd (front-apart k p (listing-exactly k .every p (facts .below (suc k) p (front-listed k p m)) e) m)) (λ e. e)
-
-  -- the sizes: one front more, and later ones
-  pub listing-grows : (k : ℕ) → length (listing d n (suc k)) ≡ length (listing d n k) + length (front d n k)
-  unfolding listing
-  listing-grows k = length-append (listing d n k) (front d n k)
-
-  pub listing-mono : (k j : ℕ) → k ≤ j → length (listing d n k) ≤ length (listing d n j)
-  listing-mono k zero h = let same : k ≡ 0 = omega arith in rw same (omega arith)
-  listing-mono k (suc j) h =
-      ⊎-elim (λ same. rw same (omega arith)) (λ less. omega (arith, listing-grows j, listing-mono k j (omega arith))) (eq-or-lt-of-le h)

@@ -3,8 +3,6 @@ pub mod Fronts
 pub mod Covered
 pub mod Sizes
 pub mod Demand3
-pub mod Strict
 pub mod Accepted
 pub mod Calls
-pub mod PoolFile
 pub mod ListedOrder

@@ -13,8 +13,11 @@ use Rattle.model.specs.Association.{Request, dominance}
 use Rattle.model.specs.Kept.{wholeFronts, before, isSplit, splitFront, filled, padding, selectedSplit, selectedWhole, selected}
 use Rattle.model.specs.Demand3.{sizeOfFirst, Split}
 use Rattle.demand3_laws.specs.Facts.{FrontFacts}
-use Rattle.demand3_laws.proofs.Counts.{by-bool, count-all, first-le, first-passes, first-before}
-use Rattle.demand3_laws.proofs.Fronts.{listing-size, listing-grows, listing-mono}
+use Rattle.list_laws.proofs.Bools.{by-bool, and-left, and-right}
+use Rattle.list_laws.proofs.Counts.{countBelow-all}
+use Rattle.list_laws.proofs.First.{firstBelow-le, firstBelow-passes, firstBelow-before}
+use Rattle.front_laws.proofs.Listings.{listing-grows, listing-up}
+use Rattle.demand3_laws.proofs.Fronts.{listing-size}
 
 module _ (r : Request) (facts : FrontFacts (dominance r) (r .count)) where
   -- the size of the first k fronts
@@ -27,7 +30,7 @@ module _ (r : Request) (facts : FrontFacts (dominance r) (r .count)) where
   -- the whole fronts fit
   pub whole-fit : length (before r) ≤ r .size
   unfolding before wholeFronts listing
-  whole-fit = go (wholeFronts r) (λ j h. first-before (λ k. ltb (r .size) (len (suc k))) (r .count) j h)
+  whole-fit = go (wholeFronts r) (λ j h. firstBelow-before (λ k. ltb (r .size) (len (suc k))) (r .count) j h)
     where
       go : (k : ℕ) → ((j : ℕ) → j < k → ltb (r .size) (len (suc j)) ≡ false) → len k ≤ r .size
       go zero h = omega arith
@@ -37,21 +40,17 @@ module _ (r : Request) (facts : FrontFacts (dominance r) (r .count)) where
   pub next-exceeds : wholeFronts r < r .count → r .size < length (before r) + length (splitFront r)
   unfolding before splitFront wholeFronts
   next-exceeds h =
-      omega (arith, listing-grows facts (wholeFronts r), ltb-true (r .size) (len (suc (wholeFronts r))) (first-passes (λ k. ltb (r .size) (len (suc k))) (r .count) h))
-
-  and-both : (a b : Bool) → (a && b) ≡ true → (a ≡ true) × (b ≡ true)
-  and-both true b e = (refl, e)
-  and-both false b e = absurd (false≢true e)
+      omega (arith, listing-grows (dominance r) (r .count) (wholeFronts r), ltb-true (r .size) (len (suc (wholeFronts r))) (firstBelow-passes (λ k. ltb (r .size) (len (suc k))) (r .count) h))
 
   -- where a front is split
   module _ (split : isSplit r ≡ true) where
     pub split-inside : wholeFronts r < r .count
     unfolding isSplit
-    split-inside = ltb-true (wholeFronts r) (r .count) (and-both (ltb (wholeFronts r) (r .count)) (ltb (length (before r)) (r .size)) split .0)
+    split-inside = ltb-true (wholeFronts r) (r .count) (and-left (ltb (wholeFronts r) (r .count)) (ltb (length (before r)) (r .size)) split)
 
     pub split-short : length (before r) < r .size
     unfolding isSplit
-    split-short = ltb-true (length (before r)) (r .size) (and-both (ltb (wholeFronts r) (r .count)) (ltb (length (before r)) (r .size)) split .1)
+    split-short = ltb-true (length (before r)) (r .size) (and-right (ltb (wholeFronts r) (r .count)) (ltb (length (before r)) (r .size)) split)
 
     -- it has more plans than there are open places
     pub split-room : r .size - length (before r) ≤ length (splitFront r)
@@ -68,9 +67,9 @@ module _ (r : Request) (facts : FrontFacts (dominance r) (r .count)) where
         let short : len k < r .size = omega (arith, sizeOf-len k, s .fallShort) in
         let over : r .size < len (suc k) = omega (arith, sizeOf-len (suc k), s .exceed) in
         by-bool (ltb k (wholeFronts r))
-        (λ e. absurd (omega (arith, split-short, listing-mono facts (suc k) (wholeFronts r) (ltb-true k (wholeFronts r) e))))
+        (λ e. absurd (omega (arith, split-short, listing-up (dominance r) (r .count) (suc k) (wholeFronts r) (ltb-true k (wholeFronts r) e))))
         (λ e. by-bool (ltb (wholeFronts r) k)
-        (λ v. absurd (omega (arith, next-exceeds split-inside, listing-grows facts (wholeFronts r), listing-mono facts (suc (wholeFronts r)) k (ltb-true (wholeFronts r) k v))))
+        (λ v. absurd (omega (arith, next-exceeds split-inside, listing-grows (dominance r) (r .count) (wholeFronts r), listing-up (dominance r) (r .count) (suc (wholeFronts r)) k (ltb-true (wholeFronts r) k v))))
         (λ v. omega (arith, ltb-false k (wholeFronts r) e, ltb-false (wholeFronts r) k v)))
 
   -- where none is, from a pool of at least the size
@@ -81,11 +80,11 @@ module _ (r : Request) (facts : FrontFacts (dominance r) (r .count)) where
     whole-fill = by-bool (ltb (wholeFronts r) (r .count))
         (λ e. omega (arith, whole-fit, ltb-false (len (wholeFronts r)) (r .size) (rw e at whole)))
         (λ e. let last : wholeFronts r ≡ r .count = last-one (ltb-false (wholeFronts r) (r .count) e) in
-        let all : len (r .count) ≡ r .count = listing-size facts (r .count) ∙ count-all (inFirst (dominance r) (r .count) (r .count)) (r .count) (facts .covered) in
+        let all : len (r .count) ≡ r .count = listing-size facts (r .count) ∙ countBelow-all (inFirst (dominance r) (r .count) (r .count)) (r .count) (facts .covered) in
         omega (arith, whole-fit, ap len last))
       where
         last-one : r .count ≤ wholeFronts r → wholeFronts r ≡ r .count
-        last-one h = omega (arith, first-le (λ k. ltb (r .size) (len (suc k))) (r .count))
+        last-one h = omega (arith, firstBelow-le (λ k. ltb (r .size) (len (suc k))) (r .count))
 
     pub whole-kept : selected r .kept ≡ before r
     unfolding selected selectedWhole padding
@@ -100,5 +99,5 @@ module _ (r : Request) (facts : FrontFacts (dominance r) (r .count)) where
         let short : len k < r .size = omega (arith, sizeOf-len k, s .fallShort) in
         let over : r .size < len (suc k) = omega (arith, sizeOf-len (suc k), s .exceed) in
         by-bool (ltb k (wholeFronts r))
-        (λ e. omega (arith, whole-fill, listing-mono facts (suc k) (wholeFronts r) (ltb-true k (wholeFronts r) e)))
-        (λ e. omega (arith, whole-fill, listing-mono facts (wholeFronts r) k (ltb-false k (wholeFronts r) e)))
+        (λ e. omega (arith, whole-fill, listing-up (dominance r) (r .count) (suc k) (wholeFronts r) (ltb-true k (wholeFronts r) e)))
+        (λ e. omega (arith, whole-fill, listing-up (dominance r) (r .count) (wholeFronts r) k (ltb-false k (wholeFronts r) e)))

@@ -1,6 +1,7 @@
 -- From the order of all floats to what the product says of draws, normalised rows and bit patterns.
 pub mod Units
 pub mod Order
+pub mod Compared
 pub mod Rounding
 pub mod Constants
 pub mod Arithmetic

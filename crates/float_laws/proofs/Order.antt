@@ -11,6 +11,7 @@ use lib.Dec.{T, nltb→le}
 use lib.Ieee.{Float, nan, inf, fin, up, down, below, le, lt, eq, isNan}
 use lib.Ieee.Fits.{down-pos}
 use lib.Ieee.Exact.{HasValue}
+use Rattle.list_laws.proofs.Bools.{or-l, or-r}
 use Rattle.float_laws.proofs.Units.{SLe, SLt, sle→, →sle, →slt, le→sle, sle→le}
 
 sle-trans : (s t u : Bool) (a b c : ℕ) → SLe s a t b → SLe t b u c → SLe s a u c
@@ -70,17 +71,9 @@ le-trans (fin s m e) (fin t n d) (inf true) h k = absurd k
 le-trans (fin s m e) (fin t n d) (inf false) h k = tt
 le-trans (fin s m e) (fin t n d) (fin u l i) h k = fin-trans s m e t n d u l i h k
 
-or-l : (a b : Bool) → T a → T (a || b)
-or-l true b t = tt
-or-l false b t = absurd t
-
 pub lt→le : (x y : Float) → T (lt x y) → T (le x y)
 unfolding le
 lt→le x y h = or-l (lt x y) _ h
-
-or-r : (a b : Bool) → T b → T (a || b)
-or-r true b t = tt
-or-r false b t = t
 
 pub eq→le : (x y : Float) → T (eq x y) → T (le x y)
 unfolding le

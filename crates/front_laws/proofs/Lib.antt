@@ -5,3 +5,7 @@ pub mod Ranks
 pub mod Empty
 pub mod Same
 pub mod Theorems
+pub mod Listings
+pub mod Domination
+pub mod Violation
+pub mod Plans

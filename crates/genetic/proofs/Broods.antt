@@ -16,6 +16,7 @@ use Rattle.model.specs.Real.{nought, unit, within}
 use Rattle.model.specs.Draw.{Drawn, drawn, drawUsize}
 use Rattle.model.specs.Setting.{Children, children, exponentOf, crossover, mutate, tournament, brood}
 use Rattle.model.specs.Refusal.{wholeEta, badOperators}
+use borrow.Author.Tests.{not-false}
 use Rattle.genetic.specs.Parents.{parentAt, parentsIn, operators}
 use Rattle.genetic.proofs.Steps.{drawn-below}
 
@@ -53,14 +54,10 @@ row-within i count n len h l =
     omega arith
 
 -- operators that are not bad have etas that can be cast
-not-no : (b : Bool) → not b ≡ false → b ≡ true
-not-no true e = refl
-not-no false e = absurd (mathlib.Core.Bool.true≢false e)
-
 module _ (probability crossoverEta mutationEta : Float) (h : badOperators probability crossoverEta mutationEta ≡ false) where
   good : (within nought unit probability && (wholeEta crossoverEta && wholeEta mutationEta)) ≡ true
   unfolding badOperators
-  good = not-no _ h
+  good = not-false _ h
 
   pub crossover-eta : wholeEta crossoverEta ≡ true
   crossover-eta = and-left (wholeEta crossoverEta) (wholeEta mutationEta) (and-right (within nought unit probability) (wholeEta crossoverEta && wholeEta mutationEta) good)

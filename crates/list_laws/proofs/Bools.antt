@@ -1,6 +1,7 @@
 -- Tests as values: cases on a test, its number, and the halves of a conjunction.
 use Prim.Native.Nat.{ℕ, _≤_}
 use mathlib.Core.Path.{_≡_, refl}
+use mathlib.Core.Logic.{_⊎_, inl, inr}
 use mathlib.Core.Bool.{Bool, true, false, not, _&&_, _||_, false≢true, true≢false}
 use native.Mathlib.Omega.{arith}
 use lib.Dec.{T}
@@ -28,6 +29,11 @@ T-false false t = refl
 pub false-T : (b : Bool) → b ≡ false → T (not b)
 false-T true e = absurd (true≢false e)
 false-T false e = tt
+
+-- one that cannot pass fails
+pub no-pass : (b : Bool) → (b ≡ true → ⊥) → b ≡ false
+no-pass true h = absurd (h refl)
+no-pass false h = refl
 
 pub one-le : (b : Bool) → one b ≤ 1
 one-le true = omega arith
@@ -63,3 +69,29 @@ and-not-right false c e = e
 pub and-no : (a c : Bool) → c ≡ false → (a && c) ≡ false
 and-no true c e = e
 and-no false c e = refl
+
+-- neither half of a disjunction that fails passes
+pub or-left : (a c : Bool) → (a || c) ≡ false → a ≡ false
+or-left true c e = e
+or-left false c e = refl
+
+pub or-right : (a c : Bool) → (a || c) ≡ false → c ≡ false
+or-right true c e = absurd (true≢false e)
+or-right false c e = e
+
+-- the same as facts
+pub and-i : (a c : Bool) → T a → T c → T (a && c)
+and-i true c t u = u
+and-i false c t u = t
+
+pub or-l : (a c : Bool) → T a → T (a || c)
+or-l true c t = tt
+or-l false c t = absurd t
+
+pub or-r : (a c : Bool) → T c → T (a || c)
+or-r true c t = tt
+or-r false c t = t
+
+pub or-split : (a c : Bool) → T (a || c) → T a ⊎ T c
+or-split true c t = inl tt
+or-split false c t = inr t

@@ -1,7 +1,7 @@
 -- Laws of `listBelow`, `joinBelow` and `over`.
 use Prim.Native.Nat.{ℕ, zero, suc, _+_, _≤_, _<_}
 use mathlib.Core.Path.{_≡_, refl, ap, ap₂, sym, _∙_}
-use mathlib.Core.List.{List, [], _∷_, _++_}
+use mathlib.Core.List.{List, [], _∷_, _++_, append-assoc}
 use mathlib.Core.Logic.{⊎-elim}
 use native.Mathlib.Nat.{not-suc-le-zero, eq-or-lt-of-le}
 use native.Mathlib.Numerals.{add-one}
@@ -96,3 +96,10 @@ module _ {A : Type 0} where
 
   pub over-size : (f : ℕ → A) (j : ℕ) (l : List A) → j ≤ length l → length (over (listBelow f j) l) ≡ length l
   over-size f j l h = over-length (listBelow f j) l (omega (arith, listBelow-length f j))
+
+-- one entry more behind what stands at the front
+pub over-snoc : (v old : List ℕ) (j r : ℕ) → length v ≡ j → j < length old → set (over v old) j r ≡ over (v ++ (r ∷ [])) old
+over-snoc v old j r e h =
+    let z : length (v ++ (r ∷ [])) ≡ suc j = length-append v (r ∷ []) ∙ omega (arith, e) in
+    ap (λ t. set (v ++ t) j r) (ap (λ m. drop m old) e ∙ drop-cons old j 0 h) ∙ set-at v (getD old j 0) (drop (suc j) old) r j e
+    ∙ sym (append-assoc v (r ∷ []) (drop (length (v ++ (r ∷ []))) old) ∙ ap (λ m. v ++ (r ∷ drop m old)) z)

@@ -5,3 +5,4 @@ pub mod First
 pub mod Members
 pub mod Kept
 pub mod Built
+pub mod Runs

@@ -2,8 +2,8 @@
 use Prim.Native.Nat.{ℕ, zero, suc, _+_, _≤_, _<_}
 use mathlib.Core.Path.{_≡_, refl, ap, sym, _∙_}
 use mathlib.Core.Bool.{Bool, true, false, cond, _&&_, _||_, and-true, true≢false}
-use mathlib.Core.List.{List, [], _∷_, _++_, List·Memᴰ, List·Memᴰ·head, List·Memᴰ·tail, List·Memᴰ·not-nil, List·Memᴰ·cases-cons, List·Mem, List·Nodup, Pairwise·nil, Pairwise·cons}
-use mathlib.Core.Logic.{⊎-elim, ∥∥₁-elim}
+use mathlib.Core.List.{List, [], _∷_, _++_, List·Memᴰ, List·Memᴰ·head, List·Memᴰ·tail, List·Memᴰ·not-nil, List·Memᴰ·cases-cons, List·Memᴰ·append-cases, List·Memᴰ·eq-of-singleton, Memᴰ·append-right, Memᴰ·cast, List·Mem, List·Nodup, Pairwise·nil, Pairwise·cons, nodup-cons, nodup-nil, nodup-append}
+use mathlib.Core.Logic.{_⊎_, inl, inr, ⊎-elim, ∥∥₁-elim}
 use mathlib.Core.HLevel.{⊥-prop}
 use native.Mathlib.Nat.{not-suc-le-zero}
 use native.Mathlib.Omega.{arith}
@@ -282,3 +282,42 @@ tally-below f g n l a h =
 -- such a list has as many entries as numbers pass
 pub length-below : (g : ℕ → Bool) (n : ℕ) (l : List ℕ) → AllUnder n l → ((q : ℕ) → q < n → occ q l ≡ one (g q)) → length l ≡ countBelow g n
 length-below g n l a h = sym (tally-all l) ∙ tally-below (λ t. true) g n l a h ∙ countBelow-same _ _ n (λ t u. and-true (g t))
+
+-- ---- one more at the end
+
+pub in-last : (l : List ℕ) (p : ℕ) → In p (l ++ (p ∷ []))
+in-last l p = Memᴰ·append-right l (List·Memᴰ·head refl)
+
+pub in-snoc : (l : List ℕ) (p q : ℕ) → In q (l ++ (p ∷ [])) → In q l ⊎ (q ≡ p)
+in-snoc l p q m = go (List·Memᴰ·append-cases l m)
+  where
+    go : In q l ⊎ In q (p ∷ []) → In q l ⊎ (q ≡ p)
+    go (inl h) = inl h
+    go (inr h) = inr (List·Memᴰ·eq-of-singleton h)
+
+pub distinct-snoc : (l : List ℕ) (p : ℕ) → Distinct l → (In p l → ⊥) → Distinct (l ++ (p ∷ []))
+distinct-snoc l p d h =
+    nodup-append .1 (
+      d,
+      nodup-cons .1 (λ m. ∥∥₁-elim m ⊥-prop List·Memᴰ·not-nil, nodup-nil),
+      λ q m k. ∥∥₁-elim m ⊥-prop (λ m′. ∥∥₁-elim k ⊥-prop (λ k′. h (Memᴰ·cast (sym (List·Memᴰ·eq-of-singleton k′)) m′))),
+    )
+
+pub tally-snoc : (f : ℕ → Bool) (l : List ℕ) (p : ℕ) → tally f (l ++ (p ∷ [])) ≡ tally f l + one (f p)
+unfolding tally
+tally-snoc f l p = omega (arith, tally-append f l (p ∷ []))
+
+-- the first of a list of different numbers is not among the others
+pub first-apart : {p : ℕ} {l : List ℕ} → Distinct (p ∷ l) → In p l → ⊥
+first-apart d m = nodup-cons .0 d .0 ∣ m ∣₁
+
+-- ---- by place
+
+pub empty-of : (l : List ℕ) → length l ≡ 0 → l ≡ []
+empty-of [] h = refl
+empty-of (x ∷ l) h = absurd (omega arith)
+
+pub getD-in : (l : List ℕ) (i : ℕ) → i < length l → In (getD l i 0) l
+getD-in [] i h = absurd (omega arith)
+getD-in (p ∷ l) zero h = List·Memᴰ·head refl
+getD-in (p ∷ l) (suc i) h = List·Memᴰ·tail (getD-in l i (omega arith))

@@ -16,8 +16,9 @@ use Rattle.list_laws.proofs.Bools.{by-bool, and-left}
 use Rattle.list_laws.proofs.Counts.{countBelow-yes, countBelow-up}
 use Rattle.list_laws.proofs.Tests.{allIn-every, allIn-member}
 use Rattle.list_laws.proofs.Kept.{keepBelow-same, keepBelow-in, in-keepBelow}
+use Rattle.list_laws.proofs.Members.{getD-in}
 use Rattle.niching.specs.Niche.{Open, countOf, hasWaiting, isLeast, lesser, leastBelow}
-use Rattle.niching.proofs.Places.{keep-keepBelow, getD-in}
+use Rattle.niching.proofs.Places.{keep-keepBelow}
 
 -- m is the least niche count of the lines below n with waiting members
 pub record IsLeastOf (counts waits : List ℕ) (n m : ℕ) : Type 0 where

@@ -6,4 +6,3 @@ pub mod Nearest
 pub mod Picking
 pub mod Filling
 pub mod Selecting
-pub mod Padding

@@ -17,7 +17,7 @@ use Rattle.model.specs.Kept.{nearestFrom, nearest}
 use Rattle.list_laws.specs.Occ.{occ}
 use Rattle.list_laws.proofs.Bools.{by-bool}
 use Rattle.list_laws.proofs.Counts.{countBelow-yes, countBelow-no, countBelow-same}
-use Rattle.list_laws.proofs.Members.{keep-append, keep-yes, keep-no, keep-nil, occ-in, occ-cons}
+use Rattle.list_laws.proofs.Members.{keep-append, keep-yes, keep-no, keep-nil, occ-in, occ-cons, getD-in}
 use Rattle.list_laws.proofs.Kept.{keepBelow-none, keepBelow-yes, keepBelow-no, keepBelow-length, keepBelow-room}
 use Rattle.niching.specs.Niche.{Kth}
 
@@ -155,14 +155,6 @@ countBelow-drop f g (suc n) i h a b s =
     (eq-or-lt-of-le u)
 
 -- ---- different entries stand at different places
-
-getD-occ : (l : List ℕ) (i : ℕ) → i < length l → 0 < occ (getD l i 0) l
-getD-occ [] i h = absurd (not-suc-le-zero h)
-getD-occ (x ∷ l) zero h = omega (arith, occ-cons x x l, ap one (eq-eqb x x refl))
-getD-occ (x ∷ l) (suc i) h = omega (arith, occ-cons (getD l i 0) x l, getD-occ l i (omega arith))
-
-pub getD-in : (l : List ℕ) (i : ℕ) → i < length l → In (getD l i 0) l
-getD-in l i h = occ-in (getD l i 0) l (getD-occ l i h)
 
 pub different-places : (l : List ℕ) → Distinct l → (i j : ℕ) → i < length l → j < length l → getD l i 0 ≡ getD l j 0 → i ≡ j
 different-places [] d i j h k e = absurd (not-suc-le-zero h)

@@ -14,16 +14,9 @@ use Rattle.model.specs.Lists.{over}
 use Rattle.model.specs.Draw.{Drawn, drawn}
 use Rattle.model.specs.Kept.{nicheCount, pickOne, picks}
 use Rattle.list_laws.proofs.Bools.{by-bool}
+use Rattle.list_laws.proofs.Built.{over-snoc}
 use Rattle.niching.specs.Niche.{lineIn, distanceIn, planAt, countOf, Zeros, OnLines, Ready, Took, Splits, picksOf, NichingSelects}
 use Rattle.niching.proofs.Filling.{Given, Holds, holds-first, holds-pick, holds-ready, holds-more}
-
--- one entry more at the front of a slice
-pub over-more : (v old : List ℕ) (j r : ℕ) → length v ≡ j → j < length old → set (over v old) j r ≡ over (v ++ (r ∷ [])) old
-over-more v old j r e h =
-    let z : length (v ++ (r ∷ [])) ≡ suc j = length-append v (r ∷ []) ∙ omega (arith, e) in
-    ap (λ t. set (v ++ t) j r) (ap (λ m. drop m old) e ∙ drop-cons old j 0 h) ∙ set-at v (getD old j 0) (drop (suc j) old) r j e
-    ∙ sym (append-assoc v (r ∷ []) (drop (length (v ++ (r ∷ []))) old)
-    ∙ ap (λ m. v ++ (r ∷ drop m old)) z)
 
 -- one pick more
 pub picks-next : (line : ℕ → ℕ) (distance : ℕ → Float) (n : ℕ) (before front : List ℕ) (j s r u : ℕ)
@@ -65,7 +58,7 @@ module _ {before front lines : List ℕ} {distances : List Float} {n s : ℕ} {o
   selecting-more {counts′} {waits′} {taken′} {r} {u} v k = record {
     holds = rw value (holds-more (h .holds) g k);
     size = rw (value, length-append) (omega (arith, h .size));
-    written = ap (λ o. set o j r) (h .written) ∙ over-more (picks (lineIn lines) (distanceIn distances) n before front j s .value) old j r (h .size) v ∙ ap (λ l. over l old) (sym value);
+    written = ap (λ o. set o j r) (h .written) ∙ over-snoc (picks (lineIn lines) (distanceIn distances) n before front j s .value) old j r (h .size) v ∙ ap (λ l. over l old) (sym value);
     state = sym (ap (λ (d : Drawn (List ℕ)). d .state) whole);
   }
     where

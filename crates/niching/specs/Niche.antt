@@ -153,8 +153,3 @@ picksOf order start end lines distances n vacant s =
 pub record NichingSelects (order : List ℕ) (start end : ℕ) (lines : List ℕ) (distances : List Float) (n vacant s : ℕ) (picked₀ picked : List ℕ) (t : ℕ) : Type 0 where
   pub written : picked ≡ over (picksOf order start end lines distances n vacant s .value) picked₀
   pub state : t ≡ picksOf order start end lines distances n vacant s .state
-
--- THE PROMISE of pad: from place `from` on the slice holds document 01's padding up to `size`, the rest is as it was
-pub record Pads (n from size s : ℕ) (kept₀ kept : List ℕ) (t : ℕ) : Type 0 where
-  pub written : kept ≡ take from kept₀ ++ over (padding n (size - from) s .value) (drop from kept₀)
-  pub state : t ≡ padding n (size - from) s .state

@@ -7,7 +7,7 @@ ghost use Rattle.model.specs.Lists.{countBelow, keepBelow};
 ghost use Rattle.model.specs.Draw.{drawn, drawUsize};
 ghost use Rattle.model.specs.Kept.{nicheCount, leastLines, drawFrom, nearest, drawMember};
 ghost use Rattle.niching.specs.Niche.{lineIn, distanceIn, planAt, countOf, hasWaiting, isLeast, lesser, leastBelow, waitsOn, places, members, placeDistance, nearerOf};
-ghost use Rattle.niching.specs.Niche.{Kth, OnLines, Zeros, Open, Listed, Measured, MemberOf, Ready, Took, Splits, NichingSelects, Pads};
+ghost use Rattle.niching.specs.Niche.{Kth, OnLines, Zeros, Open, Listed, Measured, MemberOf, Ready, Took, Splits, NichingSelects};
 use model::Rng;
 use rng_util::DrawnUsize;
 
@@ -305,22 +305,6 @@ pub fn niching_select(
         picked[at] = d.value;
         rng = d.rng;
         at += 1;
-    }
-    rng
-}
-
-// Fills the kept list from place `from` up to `size` with draws below n.
-pub fn pad(rng: Rng, n: usize, from: usize, size: usize, kept: &mut [usize]) -> Rng
-    requires { ⌜ (0 < n) × (from ≤ size) × (size ≤ length (now kept)) ⌝ }
-    ensures { λ r. ⌜ Pads n from size (rng .s) (now (kept .entry)) (now (kept .exit)) (r .s) ⌝ }
-{
-    let mut rng = rng;
-    let mut i = from;
-    while i < size {
-        let d = draw_one(rng, n);
-        kept[i] = d.value;
-        rng = d.rng;
-        i += 1;
     }
     rng
 }

@@ -10,7 +10,7 @@ use Rattle.model.specs.Real.{infinity}
 use Rattle.model.specs.Association.{Request, lineCount, distanceTo, near, nearestOf, association, lineOf}
 use Rattle.model.specs.Papers.DebJain2014.{Associated}
 use Rattle.niching_laws.specs.Nearest.{NearestLine}
-use Rattle.niching_laws.proofs.FloatOrder.{lt-self, lt-down, lt-past, nan-below, below-nan}
+use Rattle.float_laws.proofs.Compared.{lt-self, lt-down, lt-past, nan-below, below-nan}
 
 -- ---- what is not below infinity is a NaN or infinity
 

@@ -13,15 +13,11 @@ use borrow.Author.Tests.{eqb-true, eq-eqb, leb-true, leb-false, le-leb}
 use Rattle.model.specs.Lists.{In, has, keep, allIn}
 use Rattle.model.specs.Draw.{drawWord, drawUsize}
 use Rattle.model.specs.Kept.{openLines, leastLines, drawFrom, nearestFrom, nearest, drawMember}
-use Rattle.niching_laws.proofs.Lists.{listed-has, has-listed, in-keep, keep-in, in-keepBelow, keepBelow-in}
-use Rattle.niching_laws.proofs.FloatOrder.{lt-self, lt-down}
+use Rattle.list_laws.proofs.Members.{in-has, has-in, keep-in, in-keep, getD-in}
+use Rattle.list_laws.proofs.Kept.{keepBelow-in, in-keepBelow}
+use Rattle.float_laws.proofs.Compared.{lt-self, lt-down}
 
 -- ---- what is drawn of a list that is not empty is in it
-
-getD-in : (ps : List ℕ) (i : ℕ) → i < length ps → In (getD ps i 0) ps
-getD-in [] i h = absurd (omega arith)
-getD-in (p ∷ ps) zero h = List·Memᴰ·head refl
-getD-in (p ∷ ps) (suc i) h = List·Memᴰ·tail (getD-in ps i (omega arith))
 
 in-length : {p : ℕ} {ps : List ℕ} → In p ps → 0 < length ps
 in-length (List·Memᴰ·head e) = omega arith
@@ -141,14 +137,14 @@ least-in counts [] m = absurd (List·Memᴰ·not-nil m)
 least-in counts (q ∷ qs) m =
     let t = least-met counts q qs in (
       t .0,
-      in-keep (λ l. allIn (λ k. leb (counts l) (counts k)) (q ∷ qs)) (q ∷ qs) (t .0) (t .1)
+      keep-in (λ l. allIn (λ k. leb (counts l) (counts k)) (q ∷ qs)) (q ∷ qs) (t .0) (t .1)
           (all-allIn (λ k. leb (counts (t .0)) (counts k)) (q ∷ qs) (λ k i. le-leb (counts (t .0)) (counts k) (t .2 k i))),
     )
 
 pub least-le : (counts : ℕ → ℕ) (ps : List ℕ) (l : ℕ) → In l (leastLines counts ps) → (k : ℕ) → In k ps → counts l ≤ counts k
 least-le counts ps l m k i =
     leb-true (counts l) (counts k)
-    (allIn-all (λ k. leb (counts l) (counts k)) ps (keep-in (λ l. allIn (λ k. leb (counts l) (counts k)) ps) ps l m .1) k i)
+    (allIn-all (λ k. leb (counts l) (counts k)) ps (in-keep (λ l. allIn (λ k. leb (counts l) (counts k)) ps) ps l m .1) k i)
 
 -- ---- the place
 
@@ -161,13 +157,13 @@ pub record Chosen (line : ℕ → ℕ) (distance : ℕ → Float) (counts : ℕ 
 module _ (line : ℕ → ℕ) (distance : ℕ → Float) (lines : ℕ) (counts : ℕ → ℕ) (waits : List ℕ) (inside : (p : ℕ) → In p waits → line p < lines) where
   -- the line of a plan that waits is open
   line-open : (p : ℕ) → In p waits → In (line p) (openLines line lines waits)
-  line-open p m = in-keepBelow (has (map line waits)) lines (line p) (inside p m) (listed-has (map line waits) (line p) (Memᴰ·map line m))
+  line-open p m = keepBelow-in (has (map line waits)) lines (line p) (inside p m) (in-has (map line waits) (line p) (Memᴰ·map line m))
 
   -- an open line has a member that waits
   open-member : (l : ℕ) → In l (openLines line lines waits) → (q : ℕ) × In q (keep (λ p. eqb (line p) l) waits)
   open-member l m =
-      let t = Memᴰ·of-map line waits (has-listed (map line waits) l (keepBelow-in (has (map line waits)) lines l m .1)) in
-      (t .0, in-keep (λ p. eqb (line p) l) waits (t .0) (t .1) (eq-eqb (line (t .0)) l (t .2)))
+      let t = Memᴰ·of-map line waits (has-in (map line waits) l (in-keepBelow (has (map line waits)) lines l m .1)) in
+      (t .0, keep-in (λ p. eqb (line p) l) waits (t .0) (t .1) (eq-eqb (line (t .0)) l (t .2)))
 
   -- any member taken of a line with the least count is chosen as asked
   chosen-on : (l s : ℕ) → In l (leastLines counts (openLines line lines waits))
@@ -175,14 +171,14 @@ module _ (line : ℕ → ℕ) (distance : ℕ → Float) (lines : ℕ) (counts :
   chosen-on l s m =
       let on : ℕ → Bool = λ p. eqb (line p) l in
       let q : ℕ = drawMember distance (counts l) (keep on waits) s .value in
-      let isOpen = keep-in (λ l. allIn (λ k. leb (counts l) (counts k)) (openLines line lines waits)) (openLines line lines waits) l m .0 in
-      let k = keep-in on waits q (drawMember-in distance s (counts l) (keep on waits) (open-member l isOpen .1)) in
+      let isOpen = in-keep (λ l. allIn (λ k. leb (counts l) (counts k)) (openLines line lines waits)) (openLines line lines waits) l m .0 in
+      let k = in-keep on waits q (drawMember-in distance s (counts l) (keep on waits) (open-member l isOpen .1)) in
       let same : line q ≡ l = eqb-true (line q) l (k .1) in
       record {
         listed = k .0;
         least = λ r i. rw same (least-le counts (openLines line lines waits) l m (line r) (line-open r i));
         nearest = λ z r i e. drawMember-nearest distance s (counts l) (keep on waits) (ap counts (sym same) ∙ z) r
-            (in-keep on waits r i (eq-eqb (line r) l (e ∙ same)));
+            (keep-in on waits r i (eq-eqb (line r) l (e ∙ same)));
       }
 
   pub chosen : (s p : ℕ) → In p waits

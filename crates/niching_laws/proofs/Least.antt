@@ -10,7 +10,8 @@ use borrow.Author.Tests.{eqb-true, ltb-true, ltb-false}
 use Rattle.model.specs.Lists.{In, sumBelow}
 use Rattle.model.specs.Kept.{nicheCount}
 use Rattle.niching_laws.specs.Niching.{Served, Waited, Filling, Balanced, Least}
-use Rattle.niching_laws.proofs.Tally.{tally-append, tally-found, pigeonhole, Extra}
+use Rattle.list_laws.proofs.Members.{tally-append}
+use Rattle.niching_laws.proofs.Tally.{tally-found, pigeonhole, Extra}
 use Rattle.niching_laws.proofs.Sums.{sum-le, sum-add, sum-scale, total}
 
 -- ---- one line, ours with count c and the other filling's with count c′; K is one below the largest count of a served line

@@ -1,12 +1,11 @@
-pub mod Lists
 pub mod Tally
 pub mod Sums
 pub mod Run
 pub mod Least
 pub mod Niched
-pub mod FloatOrder
 pub mod Choice
 pub mod Picks
 pub mod Procedure
 pub mod Association
 pub mod Steps
+pub mod KeptLength

@@ -10,8 +10,9 @@ use borrow.Author.Tests.{not-true}
 use Rattle.model.specs.Lists.{In, Distinct, has}
 use Rattle.model.specs.Kept.{nicheCount, waiting, pickOne, picks}
 use Rattle.niching_laws.specs.Niching.{Split, Waiting, Pick, Run, start, next, Niched}
-use Rattle.niching_laws.proofs.Lists.{listed-has, has-listed, in-keep, keep-in}
-use Rattle.niching_laws.proofs.Tally.{tally-all, pigeonhole}
+use Rattle.list_laws.proofs.Members.{in-has, has-in, keep-in, in-keep}
+use Rattle.list_laws.proofs.Members.{tally-all}
+use Rattle.niching_laws.proofs.Tally.{pigeonhole}
 use Rattle.niching_laws.proofs.Run.{run-fills}
 use Rattle.niching_laws.proofs.Niched.{run-niched}
 use Rattle.niching_laws.proofs.Choice.{Chosen, chosen}
@@ -19,16 +20,16 @@ use Rattle.niching_laws.proofs.Choice.{Chosen, chosen}
 -- the list of the waiting holds just those that wait
 module _ (front picked : List ℕ) (p : ℕ) where
   pub waiting-in : Waiting front picked p → In p (waiting front picked)
-  waiting-in w = in-keep (λ q. not (has picked q)) front p (w .member) (go (has picked p) refl)
+  waiting-in w = keep-in (λ q. not (has picked q)) front p (w .member) (go (has picked p) refl)
     where
       go : (b : Bool) → has picked p ≡ b → not b ≡ true
-      go true e = absurd (w .unpicked (has-listed picked p e))
+      go true e = absurd (w .unpicked (has-in picked p e))
       go false e = refl
 
   pub in-waiting : In p (waiting front picked) → Waiting front picked p
   in-waiting m =
-      let t = keep-in (λ q. not (has picked q)) front p m in
-      record { member = t .0; unpicked = λ h. true≢false (sym (listed-has picked p h) ∙ not-true (has picked p) (t .1)) }
+      let t = in-keep (λ q. not (has picked q)) front p m in
+      record { member = t .0; unpicked = λ h. true≢false (sym (in-has picked p h) ∙ not-true (has picked p) (t .1)) }
 
 -- while fewer plans are picked than the front has, one waits
 pub some-waits : (front picked : List ℕ) → Distinct front → length picked < length front → (p : ℕ) × Waiting front picked p

@@ -15,7 +15,7 @@ use Rattle.model.specs.Lists.{In, has}
 use Rattle.model.specs.Kept.{nicheCount, waiting, picks}
 use Rattle.model.specs.Papers.DebJain2014.{Candidate, Least, Reached, start, exclude, pickNearest, pickAny}
 use Rattle.niching_laws.specs.Niching.{Split, ByProcedure}
-use Rattle.niching_laws.proofs.Lists.{has-listed, listed-has}
+use Rattle.list_laws.proofs.Members.{has-in, in-has}
 use Rattle.niching_laws.proofs.Run.{run-fills}
 use Rattle.niching_laws.proofs.Choice.{Chosen}
 use Rattle.niching_laws.proofs.Picks.{waiting-in, in-waiting, pickOne-chosen, picks-run}
@@ -78,8 +78,8 @@ module _ (before front : List ℕ) (line : ℕ → ℕ) (distance : ℕ → Floa
 
         go : (a : Bool) → eqb (count m) c ≡ a → (b : Bool) → has (t .excluded) m ≡ b → Cleared picked c (suc m)
         go false e b k = stay (λ h. absurd (eqb-false (count m) c e h))
-        go true e true k = stay (λ _. has-listed (t .excluded) m k)
-        go true e false k = add (eqb-true (count m) c e) (λ i. true≢false (sym (listed-has (t .excluded) m i) ∙ k))
+        go true e true k = stay (λ _. has-in (t .excluded) m k)
+        go true e false k = add (eqb-true (count m) c e) (λ i. true≢false (sym (in-has (t .excluded) m i) ∙ k))
 
     -- all lines of count c
     clear-level : (c : ℕ) → ((j p : ℕ) → Candidate before front line distance lines picked j p → nicheCount line (before ++ picked) j ≢ c)

@@ -11,8 +11,8 @@ use borrow.Author.Tests.{eqb-true, eqb-false, eq-eqb, ne-eqb}
 use Rattle.model.specs.Lists.{In}
 use Rattle.model.specs.Kept.{nicheCount}
 use Rattle.niching_laws.specs.Niching.{Served, Waited, Run, start, next, Filling, Balanced}
-use Rattle.niching_laws.proofs.Lists.{in-snoc, distinct-snoc}
-use Rattle.niching_laws.proofs.Tally.{tally-snoc}
+use Rattle.list_laws.proofs.Members.{in-snoc, distinct-snoc}
+use Rattle.list_laws.proofs.Members.{tally-snoc}
 
 -- a plan counts once on its line, and on no other
 module _ (line : ℕ → ℕ) (ps : List ℕ) (p : ℕ) where

@@ -10,7 +10,8 @@ use lib.Ieee.{Float, lt}
 use borrow.Author.Tests.{eqb-true, eqb-false, le-leb, leb-true}
 use Rattle.model.specs.Lists.{In, has, keep, keepBelow, allIn}
 use Rattle.model.specs.Kept.{leastLines, nearestFrom, pickOne, picks}
-use Rattle.niching_laws.proofs.Lists.{no-pass}
+use Rattle.list_laws.proofs.Bools.{no-pass}
+use Rattle.list_laws.proofs.Members.{keep-append, keep-same}
 use Rattle.niching_laws.proofs.Choice.{all-allIn, allIn-all}
 
 -- ---- one more at the end
@@ -22,15 +23,6 @@ has-snoc (r ∷ rs) p q = go (eqb r q) (has-snoc rs p q)
   where
     go : (b : Bool) → has (rs ++ (p ∷ [])) q ≡ (has rs q || eqb p q) → (b || has (rs ++ (p ∷ [])) q) ≡ ((b || has rs q) || eqb p q)
     go true h = refl
-    go false h = h
-
-pub keep-append : (f : ℕ → Bool) (s t : List ℕ) → keep f (s ++ t) ≡ keep f s ++ keep f t
-unfolding keep
-keep-append f [] t = refl
-keep-append f (p ∷ ps) t = go (f p) (keep-append f ps t)
-  where
-    go : (b : Bool) → keep f (ps ++ t) ≡ keep f ps ++ keep f t → cond b (p ∷ keep f (ps ++ t)) (keep f (ps ++ t)) ≡ cond b (p ∷ keep f ps) (keep f ps) ++ keep f t
-    go true h = ap {B = List ℕ} (λ r. p ∷ r) h
     go false h = h
 
 pub nearestFrom-snoc : (distance : ℕ → Float) (best : ℕ) (ps : List ℕ) (p : ℕ)
@@ -64,11 +56,6 @@ keep-keepBelow f g (suc n) = keep-append g (keepBelow f n) (cond (f n) (n ∷ []
         → keep g (keepBelow f n) ++ keep g (cond b (n ∷ []) []) ≡ keepBelow (λ l. f l && g l) n ++ cond (b && g n) (n ∷ []) []
     go true h = ap (λ (r : List ℕ). r ++ cond (g n) (n ∷ []) []) h
     go false h = ap (λ (r : List ℕ). r ++ []) h
-
-keep-same : (f g : ℕ → Bool) (ps : List ℕ) → ((p : ℕ) → In p ps → f p ≡ g p) → keep f ps ≡ keep g ps
-unfolding keep
-keep-same f g [] h = refl
-keep-same f g (p ∷ ps) h = rw (h p (List·Memᴰ·head refl), keep-same f g ps (λ q m. h q (List·Memᴰ·tail m)))
 
 -- if l has the least count of some lines, those of least count are those that count as many
 pub least-lines : (counts : ℕ → ℕ) (ps : List ℕ) (l : ℕ) → In l ps → ((k : ℕ) → In k ps → counts l ≤ counts k)

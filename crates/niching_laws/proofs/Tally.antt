@@ -7,13 +7,7 @@ use mathlib.Core.List.{List, [], _∷_, _++_, List·Memᴰ·head, List·Memᴰ·
 use native.Mathlib.Omega.{arith}
 use lib.ListN.{length}
 use Rattle.model.specs.Lists.{In, has, tally}
-use Rattle.niching_laws.proofs.Lists.{listed-has, has-listed, first-apart}
-
--- with a test that every plan passes, the tally is the length
-pub tally-all : (ps : List ℕ) → tally (λ _. true) ps ≡ length ps
-unfolding tally
-tally-all [] = refl
-tally-all (p ∷ ps) = omega (arith, tally-all ps)
+use Rattle.list_laws.proofs.Members.{in-has, has-in, first-apart}
 
 -- the list ps less one x: no plan but x is lost, and the tally falls by x alone
 record Less (f : ℕ → Bool) (x : ℕ) (ps : List ℕ) : Type 0 where
@@ -29,16 +23,6 @@ pub record Extra (f : ℕ → Bool) (xs ys : List ℕ) : Type 0 where
   pub absent : In plan ys → ⊥
 
 module _ (f : ℕ → Bool) where
-  pub tally-append : (s t : List ℕ) → tally f (s ++ t) ≡ tally f s + tally f t
-  unfolding tally
-  tally-append [] t = omega arith
-  tally-append (p ∷ ps) t = omega (arith, tally-append ps t)
-
-  -- one more at the end
-  pub tally-snoc : (ps : List ℕ) (p : ℕ) → tally f (ps ++ (p ∷ [])) ≡ tally f ps + cond (f p) 1 0
-  unfolding tally
-  tally-snoc ps p = omega (arith, tally-append ps (p ∷ []))
-
   -- where the tally is not 0, some plan passes
   pub tally-found : (ps : List ℕ) → 0 < tally f ps → (p : ℕ) × In p ps × (f p ≡ true)
   unfolding tally
@@ -92,8 +76,8 @@ module _ (f : ℕ → Bool) where
 
       go : (b : Bool) → f x ≡ b → (k : Bool) → has ys x ≡ k → tally f ys < cond b 1 0 + tally f xs → ((zs : List ℕ) → tally f zs < tally f xs → Extra f xs zs) → Extra f (x ∷ xs) ys
       go false e k i less-than ih = further (ih ys (omega arith))
-      go true e false i less-than ih = record { plan = x; listed = List·Memᴰ·head refl; passes = e; absent = λ m. true≢false (sym (listed-has ys x m) ∙ i) }
+      go true e false i less-than ih = record { plan = x; listed = List·Memᴰ·head refl; passes = e; absent = λ m. true≢false (sym (in-has ys x m) ∙ i) }
       go true e true i less-than ih =
-          let r : Less f x ys = less x ys (has-listed ys x i) in
+          let r : Less f x ys = less x ys (has-in ys x i) in
           let drop : tally f ys ≡ 1 + tally f (r .rest) = rw e at (r .falls) in
           out r (ih (r .rest) (omega arith))

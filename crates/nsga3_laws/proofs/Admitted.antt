@@ -5,29 +5,17 @@ use mathlib.Core.Bool.{Bool, true, false, not, _&&_, _||_, true≢false}
 use mathlib.Core.List.{List·Memᴰ·head, List·Memᴰ·tail}
 use mathlib.Core.Option.{none}
 use native.Mathlib.Omega.{arith}
-use borrow.Author.Tests.{leb-true, ltb-false, eqb-true, eqb-false}
+use borrow.Author.Tests.{leb-true, ltb-false, eqb-true, eqb-false, not-false}
 use lib.Dec.{eqb, leb, ltb}
 use lib.ListN.{length}
 use Rattle.model.specs.Lists.{allBelow, allIn}
 use Rattle.model.specs.Association.{Request, objectives, lineCount}
 use Rattle.model.specs.Refusal.{Room, badDirections, badSize, outsideDivisions, badDivisions, badCount, badPool, noRoom, goodPlan, goodIdeal, maxSize, maxLines, selectRefusal}
-use Rattle.list_laws.proofs.Bools.{and-left, and-right}
+use Rattle.list_laws.proofs.Bools.{and-left, and-right, or-left, or-right}
 use Rattle.demand3_laws.proofs.Accepted.{some-objectives}
 use Rattle.demand3_laws.proofs.Calls.{applies-not}
 use Rattle.association_laws.proofs.Coordinates.{lines-some}
 use Rattle.nsga3_laws.specs.Admitted.{Admitted}
-
-or-left : (a b : Bool) → (a || b) ≡ false → a ≡ false
-or-left true b e = e
-or-left false b e = refl
-
-or-right : (a b : Bool) → (a || b) ≡ false → b ≡ false
-or-right true b e = absurd (true≢false e)
-or-right false b e = e
-
-not-false : (a : Bool) → not a ≡ false → a ≡ true
-not-false true e = refl
-not-false false e = absurd (true≢false e)
 
 module _ (r : Request) (room : Room) (e : selectRefusal r room ≡ none) where
   directions : badDirections (r .marks) ≡ false

@@ -11,8 +11,7 @@ use lib.ListN.{getD}
 use Rattle.model.specs.Lists.{In, has, keep, keepBelow}
 use Rattle.model.specs.Draw.{Drawn, drawn, drawUsize}
 use Rattle.model.specs.Kept.{nicheCount, waiting, openLines, leastLines, drawFrom, nearestFrom, nearest, drawMember, pickOne, picks}
-use Rattle.list_laws.proofs.Members.{tally-same, keep-same, in-keep}
-use Rattle.niching_laws.proofs.Lists.{in-snoc}
+use Rattle.list_laws.proofs.Members.{tally-same, keep-same, in-keep, in-snoc}
 
 -- every entry is below n
 abbrev pub Below : ℕ → List ℕ → Type 0

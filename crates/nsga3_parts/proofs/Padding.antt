@@ -9,13 +9,7 @@ use lib.Seq.{set-at, drop-cons}
 use Rattle.model.specs.Lists.{over}
 use Rattle.model.specs.Draw.{Drawn, drawn, drawUsize}
 use Rattle.model.specs.Kept.{padding}
-
--- one entry more at the front of a slice
-snoc-over : (v old : List ℕ) (j r : ℕ) → length v ≡ j → j < length old → set (over v old) j r ≡ over (v ++ (r ∷ [])) old
-snoc-over v old j r e h =
-    let z : length (v ++ (r ∷ [])) ≡ suc j = length-append v (r ∷ []) ∙ omega (arith, e) in
-    ap (λ t. set (v ++ t) j r) (ap (λ m. drop m old) e ∙ drop-cons old j 0 h) ∙ set-at v (getD old j 0) (drop (suc j) old) r j e
-    ∙ sym (append-assoc v (r ∷ []) (drop (length (v ++ (r ∷ []))) old) ∙ ap (λ m. v ++ (r ∷ drop m old)) z)
+use Rattle.list_laws.proofs.Built.{over-snoc}
 
 -- the first j places are drawn
 pub record Padded (n s : ℕ) (old : List ℕ) (j : ℕ) (out : List ℕ) (t : ℕ) : Type 0 where
@@ -39,6 +33,6 @@ module _ (n s : ℕ) (old : List ℕ) (j : ℕ) (out : List ℕ) (t : ℕ) (h : 
   padded-more = record {
     same = length-set out j r ∙ h .same;
     count = ap (λ d. length (d .value)) next ∙ length-append (padding n j s .value) (r ∷ []) ∙ omega (arith, h .count);
-    written = ap (λ l. set l j r) (h .written) ∙ snoc-over (padding n j s .value) old j r (h .count) room ∙ ap (λ d. over (d .value) old) (sym next);
+    written = ap (λ l. set l j r) (h .written) ∙ over-snoc (padding n j s .value) old j r (h .count) room ∙ ap (λ d. over (d .value) old) (sym next);
     state = ap (λ d. d .state) (sym next);
   }

@@ -1,10 +1,7 @@
-pub mod FloatOrder
-pub mod Domination
-pub mod Violation
-pub mod Plans
 pub mod Flat
 pub mod Writes
 pub mod Steps
+pub mod Counting
 pub mod Passing
 pub mod Sorting
 pub mod Meaning

@@ -18,7 +18,7 @@ use Rattle.front_laws.proofs.Theorems.{front-undominated}
 use Rattle.pareto.specs.Flat.{flatDominates, flatBeats, KnownRows, RowsOf, FlatOf}
 use Rattle.pareto.specs.Post.{Sorted}
 use Rattle.pareto.proofs.Flat.{flatBeats-beats, flatDominates-rowBeats}
-use Rattle.pareto.proofs.Plans.{Accepted, accepted-known, rowBeats-strict, beats-strict, solutionOf, beats-paper, beats-unconstrained}
+use Rattle.front_laws.proofs.Plans.{Accepted, accepted-known, rowBeats-strict, beats-strict, solutionOf, beats-paper, beats-unconstrained}
 use Rattle.pareto.proofs.Sorting.{sorted-same}
 
 module _ (marks : List ℕ) (plans : ℕ → Plan) (n : ℕ) where

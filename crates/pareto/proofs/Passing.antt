@@ -14,7 +14,7 @@ use Rattle.front_laws.specs.Ranks.{mark}
 use Rattle.front_laws.proofs.Lowering.{lowerAll-count, lowerAll-append, freedAll-append, freed-same}
 use Rattle.front_laws.proofs.Ranks.{mark-append}
 use Rattle.pareto.specs.Post.{of, freedAt, Released}
-use Rattle.pareto.proofs.Writes.{sets-append, getD-sets-before}
+use Rattle.list_laws.proofs.Runs.{sets-append, before-run}
 
 -- a part one longer
 pub slice-snoc : (f i : ℕ) (l : List ℕ) → f ≤ i → i < length l → slice f (i + 1) l ≡ slice f i l ++ (getD l i 0 ∷ [])
@@ -53,7 +53,7 @@ module _ (d : ℕ → ℕ → Bool) (n k start end : ℕ) (cs₀ o₀ r₀ : Lis
     (h : Passing d n k start end cs₀ o₀ r₀ i cs o r len) where
   -- the member at place i is the one that stood there at first
   pub member-still : i < end → getD o i 0 ≡ getD o₀ i 0
-  member-still l = ap (λ t. getD t i 0) (h .order) ∙ getD-sets-before o₀ end (freedAll d n (slice start i o₀) (of cs₀)) i l
+  member-still l = ap (λ t. getD t i 0) (h .order) ∙ before-run o₀ end (freedAll d n (slice start i o₀) (of cs₀)) i l
 
   -- no count is lowered below zero
   pub passing-fair : start ≤ i → i < end → end ≤ length o₀ → (t : ℕ) → t < n → tally (λ p. d p t) (slice start end o₀) ≤ getD cs₀ t 0

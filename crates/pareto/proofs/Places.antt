@@ -18,11 +18,8 @@ use Rattle.front_laws.specs.Strict.{Strict}
 use Rattle.front_laws.proofs.Empty.{listing-still, listing-all}
 use Rattle.front_laws.proofs.Order.{listing-room}
 use Rattle.front_laws.proofs.Theorems.{front-empty, listing-length-n}
+use Rattle.front_laws.proofs.Listings.{listing-more}
 use Rattle.pareto.specs.Post.{frontCount, frontEnd, Sorted}
-
-listing-step : (d : ℕ → ℕ → Bool) (n k : ℕ) → listing d n (suc k) ≡ listing d n k ++ front d n k
-unfolding listing
-listing-step d n k = refl
 
 -- a listing of more fronts begins with that of fewer
 pub listing-begins : (d : ℕ → ℕ → Bool) (n k j : ℕ) → (rest : List ℕ) × (listing d n (k + j) ≡ listing d n k ++ rest)
@@ -30,7 +27,7 @@ listing-begins d n k zero = ([], ap (listing d n) (add-zero k) ∙ sym (append-n
 listing-begins d n k (suc j) =
     let r = listing-begins d n k j in (
       r .0 ++ front d n (k + j),
-      ap (listing d n) (add-suc k j) ∙ listing-step d n (k + j) ∙ ap (λ l. l ++ front d n (k + j)) (r .1)
+      ap (listing d n) (add-suc k j) ∙ listing-more d n (k + j) ∙ ap (λ l. l ++ front d n (k + j)) (r .1)
           ∙ append-assoc (listing d n k) (r .0) (front d n (k + j)),
     )
 
@@ -43,12 +40,12 @@ listing-take d n k j h =
 
 -- the end of front k is the start of front k + 1, as far as its members go on
 pub frontEnd-more : (d : ℕ → ℕ → Bool) (n k : ℕ) → frontEnd d n k ≡ length (listing d n k) + length (front d n k)
-frontEnd-more d n k = ap length (listing-step d n k) ∙ length-append (listing d n k) (front d n k)
+frontEnd-more d n k = ap length (listing-more d n k) ∙ length-append (listing d n k) (front d n k)
 
 -- front k stands between the end of the front before and its own
 pub front-slice : (d : ℕ → ℕ → Bool) (n k j : ℕ) → k < j → slice (length (listing d n k)) (frontEnd d n k) (listing d n j) ≡ front d n k
 front-slice d n k j h =
-    ap (drop (length (listing d n k))) (listing-take d n (suc k) j h ∙ listing-step d n k)
+    ap (drop (length (listing d n k))) (listing-take d n (suc k) j h ∙ listing-more d n k)
     ∙ drop-at (listing d n k) (front d n k) (length (listing d n k)) refl
 
 module _ (d : ℕ → ℕ → Bool) (n : ℕ) (s : Strict d n) where

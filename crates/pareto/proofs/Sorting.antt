@@ -15,7 +15,7 @@ use Rattle.model.specs.Lists.{countBelow, firstBelow, keepBelow, listBelow, ove
 use Rattle.list_laws.proofs.Built.{listBelow-same, over-filled}
 use Rattle.list_laws.proofs.First.{firstBelow-nowhere, firstBelow-at, firstBelow-same}
 use Rattle.list_laws.proofs.Kept.{keepBelow-same}
-use Rattle.list_laws.proofs.Members.{under-at}
+use Rattle.list_laws.proofs.Members.{under-at, empty-of}
 use Rattle.front_laws.specs.Ranks.{mark, ranked}
 use Rattle.front_laws.specs.Strict.{Strict}
 use Rattle.front_laws.proofs.Empty.{first-empty, listing-all}
@@ -24,6 +24,7 @@ use Rattle.front_laws.proofs.Order.{listing-below, listing-room, listing-whole}
 use Rattle.front_laws.proofs.Rounds.{fair}
 use Rattle.front_laws.proofs.Same.{Agree, front-same, listing-same, frontList-same}
 use Rattle.front_laws.proofs.Theorems.{ranked-frontList}
+use Rattle.front_laws.proofs.Listings.{listing-more}
 use Rattle.pareto.specs.Post.{of, Ready, Passed, frontCount, frontEnd, Sorted}
 use Rattle.pareto.proofs.Writes.{filled-more}
 
@@ -53,15 +54,7 @@ drop-later a b x y h e =
     let s : b ≡ a + (b - a) = omega arith in
     ap (λ t. drop t x) s ∙ sym (drop-drop (b - a) a x) ∙ ap (drop (b - a)) e ∙ drop-drop (b - a) a y ∙ ap (λ t. drop t y) (sym s)
 
-empty-of : (l : List ℕ) → length l ≡ 0 → l ≡ []
-empty-of [] h = refl
-empty-of (x ∷ l) h = absurd (omega arith)
-
 -- one front more in the listing
-listing-more : (d : ℕ → ℕ → Bool) (n k : ℕ) → listing d n (suc k) ≡ listing d n k ++ front d n k
-unfolding listing
-listing-more d n k = refl
-
 end-room : (d : ℕ → ℕ → Bool) (n k : ℕ) → length (listing d n k) + length (front d n k) ≤ n
 end-room d n k = omega (arith, listing-room d n (suc k), ap length (listing-more d n k), length-append (listing d n k) (front d n k))
 

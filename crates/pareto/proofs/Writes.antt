@@ -1,31 +1,17 @@
 -- A run of stores, one more at its end, and what it leaves alone.
-use Prim.Native.Nat.{ℕ, suc, _+_, _≤_, _<_}
+use Prim.Native.Nat.{ℕ, _+_, _≤_, _<_}
 use mathlib.Core.Path.{_≡_, refl, ap, sym, _∙_}
 use mathlib.Core.Bool.{Bool, true, false, cond}
 use mathlib.Core.Logic.{⊎-elim}
-use mathlib.Core.List.{List, [], _∷_, _++_}
+use mathlib.Core.List.{List, [], _∷_}
 use native.Mathlib.Omega.{arith}
-use native.Mathlib.Nat.{eq-or-lt-of-le, suc-add, add-suc, add-zero}
-use lib.ListN.{length, getD, set, length-append}
+use native.Mathlib.Nat.{eq-or-lt-of-le, add-zero}
+use lib.ListN.{length, getD, set, length-append, length-set}
 use lib.Seq.{sets, length-sets, getD-set-other, getD-set-same}
 use Rattle.model.specs.Lists.{one, keepBelow}
 use Rattle.list_laws.proofs.Counts.{countBelow-le}
 use Rattle.list_laws.proofs.Kept.{keepBelow-none, keepBelow-yes, keepBelow-no, keepBelow-length}
-
-pub sets-append : (l : List ℕ) (i : ℕ) (s t : List ℕ) → sets l i (s ++ t) ≡ sets (sets l i s) (i + length s) t
-sets-append l i [] t = ap (λ k. sets l k t) (sym (add-zero i))
-sets-append l i (x ∷ s) t =
-    sets-append (set l i x) (suc i) s t ∙ ap (λ k. sets (sets (set l i x) (suc i) s) k t) (suc-add i (length s) ∙ sym (add-suc i (length s)))
-
--- at j, the place after the run
-pub sets-snoc : (l : List ℕ) (i j : ℕ) (s : List ℕ) (x : ℕ) → j ≡ i + length s → set (sets l i s) j x ≡ sets l i (s ++ (x ∷ []))
-sets-snoc l i j s x e = ap (λ k. set (sets l i s) k x) e ∙ sym (sets-append l i s (x ∷ []))
-
--- what stands before the run stays
-pub getD-sets-before : (l : List ℕ) (i : ℕ) (s : List ℕ) (j : ℕ) → j < i → getD (sets l i s) j 0 ≡ getD l j 0
-getD-sets-before l i [] j h = refl
-getD-sets-before l i (x ∷ s) j h =
-    getD-sets-before (set l i x) (suc i) s j (omega arith) ∙ getD-set-other l i j x 0 (λ e. omega arith)
+use Rattle.list_laws.proofs.Runs.{sets-snoc}
 
 -- the numbers below q that pass f stand in a list from `at` on, up to `len`; the rest is as in l
 pub record Picked (f : ℕ → Bool) (l : List ℕ) (at q : ℕ) (o : List ℕ) (len : ℕ) : Type 0 where
@@ -73,3 +59,31 @@ filled-more f l q v h e g t u = ⊎-elim
   where
     below : t ≤ q
     below = omega arith
+
+-- a list on its way to the values of f: below q it has them, from q on it is as it was
+pub record Partly (f : ℕ → ℕ) (l₀ : List ℕ) (q : ℕ) (l : List ℕ) : Type 0 where
+  pub size : length l ≡ length l₀
+  pub under : (t : ℕ) → t < q → getD l t 0 ≡ f t
+  pub over : (t : ℕ) → q ≤ t → getD l t 0 ≡ getD l₀ t 0
+
+pub partly-none : (f : ℕ → ℕ) (l : List ℕ) → Partly f l 0 l
+partly-none f l = record { size = refl; under = λ t h. absurd (omega arith); over = λ t h. refl }
+
+module _ (f : ℕ → ℕ) (l₀ : List ℕ) (q : ℕ) (l : List ℕ) (h : Partly f l₀ q l) where
+  pub partly-set : (v : ℕ) → q < length l₀ → v ≡ f q → Partly f l₀ (q + 1) (set l q v)
+  partly-set v u e = record {
+    size = length-set l q v ∙ h .size;
+    under = filled-more f l q v (omega arith) e (h .under);
+    over = λ t w. getD-set-other l q t v 0 (λ z. omega arith) ∙ h .over t (omega arith);
+  }
+
+  -- a value that is to stay as it was
+  pub partly-keep : f q ≡ getD l₀ q 0 → Partly f l₀ (q + 1) l
+  partly-keep e = record {
+    size = h .size;
+    under = λ t u. ⊎-elim (λ w. ap (λ i. getD l i 0) w ∙ h .over q (omega arith) ∙ sym e ∙ ap f (sym w)) (λ m. h .under t m) (eq-or-lt-of-le (below t u));
+    over = λ t u. h .over t (omega arith);
+  }
+    where
+      below : (t : ℕ) → t < q + 1 → t ≤ q
+      below t u = omega arith

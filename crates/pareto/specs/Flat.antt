@@ -3,10 +3,11 @@ use Prim.Native.Nat.{ℕ, _+_, _*_, _≤_, _<_}
 use mathlib.Core.Path.{_≡_}
 use mathlib.Core.Bool.{Bool, false}
 use mathlib.Core.List.{List}
-use lib.Ieee.{Float, nan, lt, isNan}
+use lib.Ieee.{Float, nan, lt}
 use lib.ListN.{length, getD}
 use Rattle.model.specs.Plan.{Plan}
 use Rattle.model.specs.Row.{toMinimize, directionOf, rowOf, dominates, byFeasibility, feasible, violation}
+use Rattle.front_laws.specs.Strict.{Known}
 
 -- row p, which starts at p * m
 abbrev pub rowAt : List Float → ℕ → ℕ → ℕ → Float
@@ -27,11 +28,13 @@ pub record Pool (rows : List Float) (m : ℕ) (feasible : List Bool) (violations
   pub flags : n ≤ length feasible
   pub sums : n ≤ length violations
 
--- none of a row's m values is a NaN
-abbrev pub Known : ℕ → (ℕ → Float) → Type 0
-Known m a = (j : ℕ) → j < m → isNan (a j) ≡ false
+-- plans p and q stand in the lists
+abbrev pub Within : List Float → ℕ → List Bool → List Float → ℕ → ℕ → Type 0
+Within rows m feasible violations p q =
+    (p * m + m ≤ length rows) × (q * m + m ≤ length rows)
+    × (p < length feasible) × (q < length feasible) × (p < length violations) × (q < length violations)
 
--- nor any of the n rows'
+-- none of the n rows has a NaN
 abbrev pub KnownRows : List Float → ℕ → ℕ → Type 0
 KnownRows rows m n = (p : ℕ) → p < n → Known m (rowAt rows m p)
 

@@ -20,42 +20,24 @@ use Rattle.list_laws.proofs.First.{firstBelow-le, firstBelow-nowhere, firstBelo
 use Rattle.front_laws.specs.Strict.{Strict}
 use Rattle.front_laws.proofs.Order.{ended, listing-room, listing-whole}
 use Rattle.pareto.specs.Post.{frontCount, frontEnd, Sorted}
+use Rattle.front_laws.proofs.Listings.{listing-none, listing-more, listing-grows, listing-up}
+use Rattle.list_laws.proofs.Members.{empty-of}
 use Rattle.plans.specs.declared.Cut.{Cut}
 use Rattle.plans.specs.Fitting.{fitting, startOf, cutOf}
 use Rattle.plans.proofs.Fitting.{fitting-le, cut-split, cut-filled, cut-none}
 
 -- ---- listings
 
-empty-of : (l : List ℕ) → length l ≡ 0 → l ≡ []
-empty-of [] h = refl
-empty-of (x ∷ l) h = absurd (omega arith)
-
 module _ (d : ℕ → ℕ → Bool) (n : ℕ) where
-  listing-none : length (listing d n 0) ≡ 0
-  unfolding listing
-  listing-none = refl
-
-  listing-more : (k : ℕ) → listing d n (suc k) ≡ listing d n k ++ front d n k
-  unfolding listing
-  listing-more k = refl
-
-  pub listing-grows : (k : ℕ) → length (listing d n (suc k)) ≡ length (listing d n k) + length (front d n k)
-  listing-grows k = ap length (listing-more k) ∙ length-append (listing d n k) (front d n k)
-
   -- a listing begins with every shorter one
-  pub listing-up : (k j : ℕ) → k ≤ j → length (listing d n k) ≤ length (listing d n j)
-  listing-up k zero h = let e : k ≡ 0 = omega arith in rw e (omega arith)
-  listing-up k (suc j) h =
-      ⊎-elim (λ e. rw e (omega arith)) (λ l. omega (arith, listing-grows j, listing-up k j (omega arith))) (eq-or-lt-of-le h)
-
   pub listing-prefix : (k j : ℕ) → k ≤ j → take (length (listing d n k)) (listing d n j) ≡ listing d n k
   listing-prefix k zero h =
       let e : k ≡ 0 = omega arith in rw e (take-length (listing d n 0))
   listing-prefix k (suc j) h = ⊎-elim
       (λ e. rw e (take-length (listing d n (suc j))))
       (λ l. let g : k ≤ j = omega arith in
-      ap (take (length (listing d n k))) (listing-more j)
-      ∙ take-append-le (length (listing d n k)) (listing d n j) (front d n j) (listing-up k j g) ∙ listing-prefix k j g)
+      ap (take (length (listing d n k))) (listing-more d n j)
+      ∙ take-append-le (length (listing d n k)) (listing d n j) (front d n j) (listing-up d n k j g) ∙ listing-prefix k j g)
       (eq-or-lt-of-le h)
 
   -- the fronts end with the first empty one

@@ -16,13 +16,13 @@ use Rattle.model.specs.Front.{listing, frontList}
 use Rattle.list_laws.proofs.Bools.{and-left, and-right}
 use Rattle.list_laws.proofs.Built.{listBelow-length, listBelow-at, over-take}
 use Rattle.list_laws.proofs.Tests.{allBelow-each}
-use Rattle.front_laws.specs.Strict.{Strict}
+use Rattle.front_laws.specs.Strict.{Strict, Known}
 use Rattle.front_laws.proofs.Same.{Agree}
 use Rattle.front_laws.proofs.Theorems.{listing-length-n}
-use Rattle.pareto.specs.Flat.{flatBeats, Known, KnownRows, FlatOf}
+use Rattle.pareto.specs.Flat.{flatBeats, KnownRows, FlatOf}
 use Rattle.pareto.specs.Post.{Sorted}
 use Rattle.pareto.proofs.Flat.{flatBeats-beats}
-use Rattle.pareto.proofs.Plans.{words-accepted, accepted-known}
+use Rattle.front_laws.proofs.Plans.{words-accepted, accepted-known}
 use Rattle.pareto.proofs.Sorting.{sorted-same}
 use Rattle.plans.specs.Filled.{RowsOf, ConstraintsOf}
 

@@ -11,10 +11,10 @@ use Rattle.model.specs.Row.{rowOf}
 use Rattle.model.specs.Refusal.{goodPlan}
 use Rattle.model.specs.Front.{listing, frontList}
 use Rattle.model.specs.Association.{Request, objectives, dominance}
-use Rattle.front_laws.specs.Strict.{Strict}
-use Rattle.pareto.specs.Flat.{flatBeats, Known}
+use Rattle.front_laws.specs.Strict.{Strict, Known}
+use Rattle.pareto.specs.Flat.{flatBeats}
 use Rattle.pareto.specs.Post.{Sorted}
-use Rattle.pareto.proofs.Plans.{beats-strict}
+use Rattle.front_laws.proofs.Plans.{beats-strict}
 use Rattle.plans.specs.declared.Cut.{Cut}
 use Rattle.plans.specs.Filled.{RowsOf, ConstraintsOf}
 use Rattle.plans.specs.Fitting.{cutOf}

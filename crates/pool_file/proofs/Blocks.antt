@@ -23,7 +23,7 @@ use Rattle.pool_file.specs.declared.End.{End}
 use Rattle.pool_file.specs.declared.End.the-variants as end
 use Rattle.pool_file.specs.Parsing.{Words, WordsIs, Block, roomed}
 use Rattle.pool_file.proofs.Options.{many-length}
-use Rattle.pool_file.proofs.Stores.{before-run, past-run, in-run}
+use Rattle.list_laws.proofs.Runs.{before-run, past-run, in-run}
 
 -- ---- the plan that words form
 

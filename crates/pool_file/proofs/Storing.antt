@@ -12,7 +12,7 @@ use Rattle.model.specs.Plan.{maxValues}
 use Rattle.pool_file.specs.Reading.{read, Ends}
 use Rattle.pool_file.specs.Parsing.{Words, Marks, capped}
 use Rattle.pool_file.proofs.Options.{many-zero, many-more, many-stop, many-length}
-use Rattle.pool_file.proofs.Stores.{sets-snoc}
+use Rattle.list_laws.proofs.Runs.{sets-snoc}
 
 -- one more value: there is room for it, or there is not
 take-room : (keep i : ℕ) (vs : List ℕ) (v : ℕ) → length vs ≡ i → i < keep → take keep (vs ++ (v ∷ [])) ≡ take keep vs ++ (v ∷ [])

@@ -8,7 +8,7 @@ use native.Mathlib.Omega.{arith}
 use lib.ListN.{length, getD, take, drop, set, length-append}
 use lib.Seq.{sets, sets-eq, length-sets, take-suc, take-length, length-take-le}
 use Rattle.model.specs.Lists.{over}
-use Rattle.pool_file.proofs.Stores.{sets-append, sets-snoc}
+use Rattle.list_laws.proofs.Runs.{sets-append, sets-snoc}
 use Rattle.pool_text.specs.Text.{Put}
 
 pub put-nothing : (o : List ℕ) (at : ℕ) → Put o at [] o at

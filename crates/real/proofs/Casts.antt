@@ -13,6 +13,7 @@ use lib.Ieee.Fits.{down-pos}
 use Rattle.float_laws.proofs.Units.{→sle, →slt}
 use Rattle.float_laws.proofs.Order.{nlt→le, lt-or-le, le-not-nan}
 use Rattle.float_laws.proofs.Constants.{exp2}
+use Rattle.list_laws.proofs.Bools.{true-T, false-T}
 
 -- 2^63 and -(2^63)
 abbrev pub bottom : Float
@@ -48,19 +49,13 @@ at-bottom (fin true m e) h =
     least n h = omega arith
 at-bottom (fin false m e) h = absurd h
 
-is-not : (b : Bool) → b ≡ false → T (not b)
-is-not b e = subst (λ (z : Bool). T (not z)) (sym e) tt
-
-is : (b : Bool) → b ≡ true → T b
-is b e = subst T (sym e) tt
-
 real : (s : Bool) (m : ℕ) (e : ℤ) → T (not (isNan (fin s m e)))
 unfolding isNan
 real s m e = tt
 
 -- by the tests that the code makes
 pub above-range : (x : Float) → le bottom x ≡ true → lt x (exp2 63) ≡ false → pos (2 ^ 63 - 1) ≡ toSigned 63 x
-above-range x h k = at-top x (nlt→le x (exp2 63) (le-not-nan bottom x (is _ h) .1) (real false 1 (pos 63)) (is-not _ k))
+above-range x h k = at-top x (nlt→le x (exp2 63) (le-not-nan bottom x (true-T _ h) .1) (real false 1 (pos 63)) (false-T _ k))
 
 pub below-range : (x : Float) → le bottom x ≡ false → T (not (isNan x)) → negsuc (2 ^ 63 - 1) ≡ toSigned 63 x
 below-range x h k = elim (lt-or-le x bottom k (real true 1 (pos 63))) [ inl l ↦ at-bottom x l | inr g ↦ absurd (subst T h g) ]
@@ -73,7 +68,7 @@ small-below : (n : ℕ) → T (inFloat binary64 (negsuc n)) → n < 2 ^ 53
 unfolding inFloat
 small-below n h = ltb→lt n (2 ^ 53) h
 
--- ---- up to 2^53 a whole number is a double, and comes back
+-- ---- up to 2^53 a whole number true-T a double, and comes back
 pub there-and-back : (n : ℤ) → T (inFloat binary64 n) → toSigned 63 (ofInt binary64 n) ≡ n
 there-and-back (pos n) h = positive-back binary64 63 n h (let l = small n h in omega arith) .1
 there-and-back (negsuc n) h = negative-back binary64 63 n h (let l = small-below n h in omega arith) .1

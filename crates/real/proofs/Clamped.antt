@@ -5,13 +5,7 @@ use lib.Dec.{T}
 use lib.Ieee.{Float, le, lt, isNan}
 use Rattle.float_laws.proofs.Order.{le-refl, le-not-nan, nlt→le}
 use Rattle.model.specs.Real.{within, clamp}
-
-both : (a b : Bool) → T a → T b → T (a && b)
-both true b h k = k
-both false b h k = h
-
-is-not : (b : Bool) → b ≡ false → T (not b)
-is-not b e = subst (λ (z : Bool). T (not z)) (sym e) tt
+use Rattle.list_laws.proofs.Bools.{false-T, and-i}
 
 pub clamp-within : (low high x : Float) → T (le low high) → T (not (isNan x)) → T (within low high (clamp low high x))
 clamp-within low high x h k = go (lt x low) refl (lt high x) refl
@@ -23,6 +17,6 @@ clamp-within low high x h k = go (lt x low) refl (lt high x) refl
     H = le-not-nan low high h .1
 
     go : (p : Bool) → lt x low ≡ p → (q : Bool) → lt high x ≡ q → T (within low high (cond p low (cond q high x)))
-    go true a q b = both (le low low) (le low high) (le-refl low L) h
-    go false a true b = both (le low high) (le high high) h (le-refl high H)
-    go false a false b = both (le low x) (le x high) (nlt→le x low k L (is-not (lt x low) a)) (nlt→le high x H k (is-not (lt high x) b))
+    go true a q b = and-i (le low low) (le low high) (le-refl low L) h
+    go false a true b = and-i (le low high) (le high high) h (le-refl high H)
+    go false a false b = and-i (le low x) (le x high) (nlt→le x low k L (false-T (lt x low) a)) (nlt→le high x H k (false-T (lt high x) b))

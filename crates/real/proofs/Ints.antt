@@ -10,7 +10,7 @@ use lib.IntN.{ℤ, pos, negsuc, natAbs, _-ℤ_}
 use lib.Signed.{nonNeg, leZ}
 use mir.Syntax.{w64}
 use mir.Val.{Fits, SFits}
-use Rattle.real.specs.IntCode.{wordOfInt, intOfWord}
+use Rattle.model.specs.Setting.{wordOfInt, intOfWord}
 
 -- ---- there and back
 pub int-of-word-of : (z : ℤ) → intOfWord (wordOfInt z) ≡ z

@@ -9,7 +9,7 @@ ghost use lib.IntN.{pos};
 ghost use lib.Ieee.{fin, binary64, lt, ofBits, toBits, toSigned, ofInt};
 ghost use Rattle.model.specs.Real.{nought, clamp};
 ghost use Rattle.model.specs.Numbers.{roundOf, midpoint, nearRoot, rooted, sqrtOf, P, R};
-ghost use Rattle.real.specs.IntCode.{wordOfInt, intOfWord};
+ghost use Rattle.model.specs.Setting.{wordOfInt, intOfWord};
 
 // ---- words
 

@@ -18,6 +18,7 @@ use Rattle.float_laws.proofs.Constants.{nought, nought-counts, one, one-counts,
 use Rattle.float_laws.proofs.InRange as in-range
 use Rattle.model.specs.Real.{within}
 use Rattle.model.specs.Draw.{step, wordOf, drawWord, unitOf, drawF64, drawUsize, drawI64, f64Range}
+use Rattle.list_laws.proofs.Bools.{and-i}
 use Rattle.rng_util.proofs.Xor.{xorLow-below}
 use Rattle.rng_util.proofs.Unit.{upper-below, unit-counts}
 use Rattle.rng_util.proofs.Span.{pick-low, pick-high}
@@ -60,10 +61,6 @@ pub drawI64-within : (a b : ℤ) (s : ℕ) → SFits w64 a → SFits w64 b → (
 unfolding drawI64
 drawI64-within a b s fa fb h = (pick-low a b fa fb h (drawWord s .value), pick-high a b fa fb h (drawWord s .value))
 
-both : (a b : Bool) → T a → T b → T (a && b)
-both true b h k = k
-both false b h k = h
-
 wider : T (le (minus-exp2 1000) (minus-exp2 53)) × T (le (exp2 53) (exp2 1000))
 unfolding le
 wider = (tt, tt)
@@ -80,4 +77,4 @@ f64Range-within low high s fl fh h kl kh =
     let d =
     in-range.drawn low high (unitOf w) (w / 2 ^ 12) (bounded binary64 low 53 53 fl kl (le-trans low high top h kh)) (bounded binary64 high 53 53 fh (le-trans bottom low high kl h) kh) h
     (le-trans (minus-exp2 1000) bottom low (wider .0) kl) (le-trans high top (exp2 1000) kh (wider .1)) (upper-below w b) (unit-counts w b) in
-    both (le low _) (le _ high) (d .0) (d .1)
+    and-i (le low _) (le _ high) (d .0) (d .1)

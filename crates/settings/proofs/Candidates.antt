@@ -18,7 +18,7 @@ pub settings-none : (params : List Slot) → settingsOf params 0 ≡ []
 unfolding settingsOf
 settings-none params = listBelow-none (slotOf params)
 
-less : (i t : ℕ) → t < i → t ≡ i → ⊥
+pub less : (i t : ℕ) → t < i → t ≡ i → ⊥
 less i t l e = omega arith
 
 -- one place more

@@ -2,12 +2,12 @@
 use mathlib.Core.Path.{_≡_, refl, sym, ap, _∙_}
 use mathlib.Core.Bool.{Bool, true, false, not, _&&_, _||_, false≢true, true≢false}
 use Prim.Native.Nat.{ℕ, _≤_, _<_}
-use borrow.Author.Tests.{leb-true}
+use borrow.Author.Tests.{leb-true, not-false}
 use lib.Dec.{T, leb, ltb}
 use lib.IntN.{ℤ, pos}
 use lib.Signed.{leZ, _≤ℤ_}
 use lib.Ieee.{Float, le}
-use Rattle.list_laws.proofs.Bools.{and-left, and-right, true-T}
+use Rattle.list_laws.proofs.Bools.{and-left, and-right, true-T, or-left, or-right}
 use Rattle.list_laws.proofs.Tests.{allBelow-each}
 use Rattle.model.specs.declared.Distribution.{Distribution}
 use Rattle.model.specs.declared.Distribution.the-variants as dist
@@ -69,22 +69,10 @@ unfolding validDimension
 some-choice d h = leb-true 1 (d .«n_choices») (and-left (leb 1 (d .«n_choices»)) (leb (d .«n_choices») 65536) h)
 
 -- dimensions that are not bad are at most 32, and each is valid
-or-left-no : (a b : Bool) → (a || b) ≡ false → a ≡ false
-or-left-no true b e = absurd (true≢false e)
-or-left-no false b e = refl
-
-or-right-no : (a b : Bool) → (a || b) ≡ false → b ≡ false
-or-right-no true b e = absurd (true≢false e)
-or-right-no false b e = e
-
-not-no : (b : Bool) → not b ≡ false → b ≡ true
-not-no true e = refl
-not-no false e = absurd (true≢false e)
-
 pub few : (dims : ℕ → Distribution) (n : ℕ) → badDimensions dims n ≡ false → n ≤ 32
 unfolding badDimensions
-few dims n h = borrow.Author.Tests.ltb-false 32 n (or-left-no (ltb 32 n) (not (allBelow (λ d. validDimension (dims d)) n)) h)
+few dims n h = borrow.Author.Tests.ltb-false 32 n (or-left (ltb 32 n) (not (allBelow (λ d. validDimension (dims d)) n)) h)
 
 pub each : (dims : ℕ → Distribution) (n : ℕ) → badDimensions dims n ≡ false → (i : ℕ) → i < n → validDimension (dims i) ≡ true
 unfolding badDimensions
-each dims n h = allBelow-each (λ d. validDimension (dims d)) n (not-no _ (or-right-no (ltb 32 n) (not (allBelow (λ d. validDimension (dims d)) n)) h))
+each dims n h = allBelow-each (λ d. validDimension (dims d)) n (not-false _ (or-right (ltb 32 n) (not (allBelow (λ d. validDimension (dims d)) n)) h))

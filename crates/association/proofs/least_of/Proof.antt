@@ -5,7 +5,7 @@ use mathlib.Core.Logic.{⊎-elim}
 use native.Mathlib.Omega.{arith}
 use Rattle.model.specs.Association.{leastFrom}
 use Rattle.association_laws.specs.Flat.{column}
-use Rattle.association_laws.proofs.Writes.{row-inside}
+use Rattle.list_laws.proofs.Runs.{row-inside}
 use Rattle.association_laws.proofs.Steps.{least-none, least-yes, least-no}
 use Rattle.association.proofs.least_of.Statement.{statement}
 use Rattle.association.proofs.least_of.Tie as tie

@@ -5,7 +5,8 @@ use native.Mathlib.Omega.{arith}
 use lib.ListN.{length}
 use lib.Seq.{sets}
 use Rattle.association_laws.specs.Flat.{normalAt, flatRows}
-use Rattle.association_laws.proofs.Writes.{row-inside, rows-none, rows-more, rows-done}
+use Rattle.list_laws.proofs.Runs.{row-inside}
+use Rattle.association_laws.proofs.Writes.{rows-none, rows-more, rows-done}
 use Rattle.association.proofs.normalize_objectives.Statement.{statement}
 use Rattle.association.proofs.normalize_objectives.Tie as tie
 

@@ -10,7 +10,7 @@ use lib.ListN.{length}
 use Rattle.model.specs.Lists.{anyBelow}
 use Rattle.list_laws.proofs.Tests.{anyBelow-none, anyBelow-yes, anyBelow-no, anyBelow-skip}
 use Rattle.pareto.specs.Flat.{rowAt}
-use Rattle.pareto.proofs.Domination.{dominates-worse, dominates-better}
+use Rattle.front_laws.proofs.Domination.{dominates-worse, dominates-better}
 use Rattle.pareto.proofs.dominates.Statement.{statement}
 use Rattle.pareto.proofs.dominates.Tie as tie
 

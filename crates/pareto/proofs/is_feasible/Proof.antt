@@ -9,7 +9,7 @@ use lib.ListN.{length, getD}
 use Rattle.model.specs.Lists.{allBelow}
 use Rattle.model.specs.Real.{nought}
 use Rattle.list_laws.proofs.Tests.{allBelow-none, allBelow-yes, allBelow-no}
-use Rattle.pareto.proofs.Violation.{feasible-below}
+use Rattle.front_laws.proofs.Violation.{feasible-below}
 use Rattle.pareto.proofs.is_feasible.Statement.{statement}
 use Rattle.pareto.proofs.is_feasible.Tie as tie
 

@@ -7,7 +7,7 @@ use borrow.Author.Needs.{needs}
 use lib.Ieee.{nan, neg, ofBits}
 use lib.ListN.{length, getD}
 use Rattle.model.specs.Real.{_⊕_, nought}
-use Rattle.pareto.proofs.Violation.{violationTo, violation-none, violation-yes, violation-no, violation-all}
+use Rattle.front_laws.proofs.Violation.{violationTo, violation-none, violation-yes, violation-no, violation-all}
 use Rattle.pareto.proofs.total_violation.Statement.{statement}
 use Rattle.pareto.proofs.total_violation.Tie as tie
 

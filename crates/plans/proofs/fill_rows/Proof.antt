@@ -4,7 +4,7 @@ use mathlib.Core.Path.{_≡_, refl, _∙_}
 use native.Mathlib.Omega.{arith}
 use lib.ListN.{length}
 use Rattle.model.specs.Plan.{planAt}
-use Rattle.pareto.proofs.Flat.{row-end}
+use Rattle.list_laws.proofs.Runs.{row-inside}
 use Rattle.plans.proofs.Rows.{RowsTo, rows-none, rows-more, rows-done}
 use Rattle.plans.proofs.fill_rows.Statement.{statement}
 use Rattle.plans.proofs.fill_rows.Tie as tie
@@ -23,7 +23,7 @@ fill-row-requires c κs =
     let a = c .before .before .before .before .before .before in
     let l = c .before .before .loop in
     let u = c .before .loop-test .taken in
-    (omega arith, a .pre .0 .1, a .pre .1 (l .p) u, omega (arith, row-end (l .p) (a .args .n) (length (a .args .directions .now)) u, a .pre .0 .2, l .inv .1))
+    (omega arith, a .pre .0 .1, a .pre .1 (l .p) u, omega (arith, row-inside (l .p) (a .args .n) (length (a .args .directions .now)) u, a .pre .0 .2, l .inv .1))
 
 add-p : tie.Need-add-p Inv-loop μ-loop
 add-p c = omega arith

@@ -7,6 +7,7 @@ use lib.Ieee.{Float, binary64, ofBits, fits, neg, lt, isNan}
 use lib.Ieee.Fits.{neg-fits}
 use Rattle.float_laws.proofs.Order.{lt→le, nlt→le, le-not-nan}
 use Rattle.float_laws.proofs.Constants.{nought, exp2}
+use Rattle.list_laws.proofs.Bools.{true-T, false-T}
 use Rattle.real.proofs.Halves.{round-by-neg, above-zero, from-whole, from-whole-neg, zero-or-nan}
 use Rattle.real.proofs.round.Statement.{statement}
 use Rattle.real.proofs.round.Tie as tie
@@ -14,24 +15,18 @@ use Rattle.real.proofs.round.Tie as tie
 held : (c : tie.Start) → T (fits binary64 (c .args .x))
 held c = subst T (sym (c .good .0 .1)) tt
 
-is : (b : Bool) → b ≡ true → T b
-is b e = subst T (sym e) tt
-
-is-not : (b : Bool) → b ≡ false → T (not b)
-is-not b e = subst (λ (z : Bool). T (not z)) (sym e) tt
-
 -- above zero, and not below 2^52
 far : (x : Float) → T (lt nought x) → lt x (exp2 52) ≡ false → T (lib.Ieee.le (exp2 52) x)
 unfolding isNan
-far x h k = nlt→le x (exp2 52) (le-not-nan nought x (lt→le nought x h) .1) tt (is-not (lt x (exp2 52)) k)
+far x h k = nlt→le x (exp2 52) (le-not-nan nought x (lt→le nought x h) .1) tt (false-T (lt x (exp2 52)) k)
 
 round-above-zero-requires : tie.Need-round-above-zero-requires
 unfolding ofBits
-round-above-zero-requires c κs = (is _ (c .before .if1 .taken), is _ (c .if2 .taken))
+round-above-zero-requires c κs = (true-T _ (c .before .if1 .taken), true-T _ (c .if2 .taken))
 
 round-above-zero-requires-2 : tie.Need-round-above-zero-requires-2
 unfolding ofBits
-round-above-zero-requires-2 c κs = (above-zero _ (is _ (c .before .if3 .taken)), is _ (c .if4 .taken))
+round-above-zero-requires-2 c κs = (above-zero _ (true-T _ (c .before .if3 .taken)), true-T _ (c .if4 .taken))
 
 returns : tie.Need-returns
 returns c = search needs
@@ -40,7 +35,7 @@ returns-2 : tie.Need-returns-2
 unfolding ofBits
 returns-2 c =
     let s = c .before .before in
-    from-whole (s .args .x) (held s) (far (s .args .x) (is _ (c .before .if1 .taken)) (c .if2 .left))
+    from-whole (s .args .x) (held s) (far (s .args .x) (true-T _ (c .before .if1 .taken)) (c .if2 .left))
 
 returns-3 : tie.Need-returns-3
 returns-3 c = ap neg (c .round-above-zero2 .ensures) ∙ round-by-neg (c .before .before .before .before .args .x)
@@ -50,7 +45,7 @@ unfolding ofBits
 returns-4 c =
     let s = c .before .before .before in
     let x = s .args .x in
-    from-whole-neg x (neg-fits binary64 x (held s)) (far (neg x) (above-zero x (is _ (c .before .if3 .taken))) (c .if4 .left))
+    from-whole-neg x (neg-fits binary64 x (held s)) (far (neg x) (above-zero x (true-T _ (c .before .if3 .taken))) (c .if4 .left))
 
 returns-5 : tie.Need-returns-5
 unfolding ofBits

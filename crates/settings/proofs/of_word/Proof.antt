@@ -4,7 +4,7 @@ use Prim.Native.Nat.{ℕ}
 use Rattle.model.specs.declared.ParamValue.the-variants as value
 use Rattle.model.specs.Setting.{ofWord}
 use Rattle.settings.proofs.Signed.{back}
-use Rattle.settings.proofs.Words.{intOfWord-is, ofWord-other}
+use Rattle.settings.proofs.Words.{ofWord-other}
 use borrow.Author.Needs.{needs}
 use Rattle.settings.proofs.of_word.Statement.{statement}
 use Rattle.settings.proofs.of_word.Tie as tie
@@ -22,7 +22,7 @@ int-of-word-requires c κs = search needs
 returns-2 : tie.Need-returns-2
 returns-2 c =
     let w = c .before .before .before .args .w in
-    ap value.Int (back (c .int-of-word .result) (c .int-of-word .ok) ∙ c .int-of-word .ensures ∙ intOfWord-is w) ∙ sym (ap (λ (k : ℕ). ofWord k w) (c .before .if2 .taken))
+    ap value.Int (back (c .int-of-word .result) (c .int-of-word .ok) ∙ c .int-of-word .ensures) ∙ sym (ap (λ (k : ℕ). ofWord k w) (c .before .if2 .taken))
 
 returns-3 : tie.Need-returns-3
 returns-3 c = let a = c .before .before .args in sym (ofWord-other (a .kind) (a .w) (c .before .if1 .left) (c .if2 .left))

@@ -1,5 +1,4 @@
 -- By cases on the setting.
-use Rattle.settings.proofs.Words.{wordOfInt-is}
 use Rattle.settings.proofs.Signed.{back}
 use mathlib.Core.Path.{_≡_, sym, ap, _∙_}
 use Rattle.model.specs.Setting.{toWord}
@@ -28,7 +27,7 @@ returns c = c .word-of-real .ensures ∙ sym (ap toWord (c .before .before .v .g
 returns-2 : tie.Need-returns-2
 returns-2 c =
     let n = c .before .before .v2 .given .0 .0 in
-    (rw (back n (c .before .known-told2 .given .0 .1)) at (c .word-of-int .ensures)) ∙ wordOfInt-is n ∙ sym (ap toWord (c .before .before .v2 .given .1))
+    (rw (back n (c .before .known-told2 .given .0 .1)) at (c .word-of-int .ensures)) ∙ sym (ap toWord (c .before .before .v2 .given .1))
 
 returns-3 : tie.Need-returns-3
 returns-3 c = search needs

@@ -1,0 +1,376 @@
+-- "For other v, in breeding never above 2^51": every v that crossover and mutation hand to R lies within 0..2^51. Assumes nothing.
+use Prim.Native.Nat.{ℕ, suc, _+_, _-_, _*_, _/_, _^_, _≤_, _<_, zero-le}
+use mathlib.Core.Path.{_≡_, refl, ap, ap₂, subst}
+use mathlib.Core.Bool.{true, false, _&&_, cond}
+use native.Mathlib.Nat.{zero-add, add-zero, one-mul, add-mul, mul-assoc, mul-pos, mul-le-mul-right}
+use native.Mathlib.Omega.{arith}
+use mathlib.Core.Logic.{inl, inr}
+use lib.Dec.{T, lit<, lit≤, leb→le}
+use lib.IntN.{ℤ, pos, negsuc}
+use lib.Signed.{leZ, _≤ℤ_}
+use lib.Pow.{pow-pos}
+use lib.Ieee.{Float, binary64, fits, isNan, ofBits, ofInt, add, sub, mul, div, le, lt}
+use lib.Ieee.Fits.{add-fits, sub-fits, mul-fits, ofInt-fits, round-fits}
+use Rattle.list_laws.proofs.Bools.{by-bool, T-true, true-T, false-T, and-left, and-right}
+use Rattle.float_laws.proofs.Units.{Number, Counts, counts→le}
+use Rattle.float_laws.proofs.Order as order
+use Rattle.float_laws.proofs.Rounding.{rounded-exact, le-rounded, add-rounded, sub-rounded, round-sle}
+use Rattle.float_laws.proofs.Constants as constants
+use Rattle.float_laws.proofs.Constants.{nought-counts, nought-number, one, one-counts, one-number, exp2, minus-exp2, bounded}
+use Rattle.float_laws.proofs.Arithmetic.{sub-from-zero, sub-mono-left, sub-number, mul-count, mul-mono, div-mono-left, ratio}
+use Rattle.float_laws.proofs.Magnitude.{exp2-below, div-within}
+use Rattle.real.proofs.Between.{root-under, next-over}
+use Rattle.rng_util.proofs.Draws.{word-below}
+use Rattle.rng_util.proofs.Unit.{upper-below, unit-counts}
+use Rattle.model.specs.declared.Distribution.the-variants as dist
+use Rattle.model.specs.declared.FloatDistribution.{FloatDistribution}
+use Rattle.model.specs.declared.IntDistribution.{IntDistribution}
+use Rattle.model.specs.declared.ParamValue.the-variants as value
+use Rattle.model.specs.Real.{_⊕_, _⊖_, _⊗_, _⊘_, real, nought, half, unit, two, within}
+use Rattle.model.specs.Draw.{step, wordOf, drawWord, unitOf, drawF64, f64Range}
+use Rattle.model.specs.Numbers.{P, R, halvings}
+use Rattle.model.specs.Setting.{minWhole, maxWhole, validDimension, inBounds, drawUnit, spread, ofWhole, mutationShift}
+use Rattle.settings.proofs.Valid.{float-bounds, int-bounds}
+use Rattle.settings.proofs.InBounds.{Held}
+use Rattle.candidate_laws.proofs.FromZero.{Upto, number, upto-wider, sub-anti, add-upto, mul-upto, one-times-one, power-upto, rest-upto, share}
+
+-- ---- the arguments
+
+-- within 0..2^51
+pub record RootArgument (v : Float) : Type 0 where
+  pub from : T (le constants.nought v)
+  pub to : T (le v (exp2 51))
+
+-- what crossover hands to R for a draw u
+abbrev pub spreadArgument : Float → Float
+spreadArgument u = cond (le u half) (two ⊗ u) (unit ⊘ (two ⊗ (unit ⊖ u)))
+
+pub spread-is : (u : Float) (k : ℕ) → spread u k ≡ R (spreadArgument u) k
+unfolding spread
+spread-is u k = refl
+
+-- and what mutation does, below one half and from there on
+abbrev pub belowArgument : Float → Float → Float → ℕ → Float → Float
+belowArgument x low range k u = (two ⊗ u) ⊕ ((unit ⊖ (two ⊗ u)) ⊗ P (unit ⊖ ((x ⊖ low) ⊘ range)) k)
+
+abbrev pub aboveArgument : Float → Float → Float → ℕ → Float → Float
+aboveArgument x high range k u = (two ⊗ (unit ⊖ u)) ⊕ ((two ⊗ (u ⊖ half)) ⊗ P (unit ⊖ ((high ⊖ x) ⊘ range)) k)
+
+abbrev pub mutationArgument : Float → Float → Float → Float → ℕ → Float → Float
+mutationArgument x low high range k u = cond (lt u half) (belowArgument x low range k u) (aboveArgument x high range k u)
+
+pub shift-is : (x low high range : Float) (k : ℕ) (u : Float)
+    → mutationShift x low high range k u ≡ cond (lt u half) (R (mutationArgument x low high range k u) k ⊖ unit) (unit ⊖ R (mutationArgument x low high range k u) k)
+unfolding mutationShift
+shift-is x low high range k u = by-bool (lt u half) (λ e. rw e) (λ e. rw e)
+
+-- ---- the draw: k / 2^52 for a k below 2^52
+
+abbrev L : ℕ
+L = 2 ^ 1074
+
+record Draw (u : Float) : Type 0 where
+  held : T (fits binary64 u)
+  part : ℕ
+  small : part < 2 ^ 52
+  counts : Counts binary64 u (part * 2 ^ 1022) 0
+
+product : (g l : ℕ) → g * l * l + 0 * (l * l) ≡ g * (l * l) + 0 * l
+product g l = let e = mul-assoc g l l in omega arith
+
+summed : (g l : ℕ) → (0 + g) * l + 0 * l ≡ g * l + (0 + 0) * l
+summed g l = ap (λ (z : ℕ). z * l + 0 * l) (zero-add g)
+
+draw-times-one : (d : Float) → Draw d → Draw (d ⊗ one)
+draw-times-one d u = record {
+  held = mul-fits binary64 d one;
+  part = u .part;
+  small = u .small;
+  counts = rounded-exact binary64 (d ⊗ one) d (u .part * 2 ^ 1022 * L) 0 (L * L) (u .part * 2 ^ 1022) 0 (mul-pos (pow-pos 1074) (pow-pos 1074))
+      (mul-count binary64 d one (u .part * 2 ^ 1022) L (u .counts) (one-counts binary64)) (u .held) (u .counts) (product (u .part * 2 ^ 1022) L);
+}
+
+nought-plus-draw : (d : Float) → Draw d → Draw (constants.nought ⊕ d)
+nought-plus-draw d u = record {
+  held = add-fits binary64 constants.nought d;
+  part = u .part;
+  small = u .small;
+  counts = rounded-exact binary64 (constants.nought ⊕ d) d (0 + u .part * 2 ^ 1022) (0 + 0) L (u .part * 2 ^ 1022) 0 (pow-pos 1074)
+      (add-rounded binary64 constants.nought d 0 0 (u .part * 2 ^ 1022) 0 (nought-counts binary64) (u .counts)) (u .held) (u .counts) (summed (u .part * 2 ^ 1022) L);
+}
+
+unitOf-fits : (w : ℕ) → T (fits binary64 (unitOf w))
+unfolding unitOf
+unitOf-fits w = round-fits binary64 false (w / 2 ^ 12) (2 ^ 52)
+
+word-draw : (s : ℕ) → Draw (drawF64 s .value)
+unfolding drawF64 drawWord
+word-draw s =
+    let w = wordOf (step s) in
+    let b = word-below (step s) in
+    record { held = unitOf-fits w; part = w / 2 ^ 12; small = upper-below w b; counts = unit-counts w b }
+
+unit-draw : (s : ℕ) → Draw (drawUnit s .value)
+unfolding f64Range ofBits sub
+unit-draw s = nought-plus-draw (drawF64 s .value ⊗ one) (draw-times-one (drawF64 s .value) (word-draw s))
+
+-- 1/2, 2, 2^-52 and 2^-51
+abbrev halfOf : Float
+halfOf = exp2-below 0
+
+abbrev twoOf : Float
+twoOf = exp2 1
+
+record Known : Type 0 where
+  half-number : Number binary64 halfOf
+  two-number : Number binary64 twoOf
+  step-number : Number binary64 (exp2-below 51)
+  two-upto : Upto twoOf twoOf
+  two-top : T (le twoOf (exp2 51))
+  above : T (lt constants.nought (exp2-below 50))
+
+known : Known
+unfolding fits le lt
+known = record {
+  half-number = record { held = tt; finite = tt };
+  two-number = record { held = tt; finite = tt };
+  step-number = record { held = tt; finite = tt };
+  two-upto = record { held = tt; from = tt; to = tt };
+  two-top = tt;
+  above = tt;
+}
+
+-- a draw lies within 0..1, and leaves at least 2^-52 of 1
+below-one : (k : ℕ) → k < 2 ^ 52 → k * 2 ^ 1022 + 0 ≤ L + 0
+below-one k h = small (k * 2 ^ 1022) (2 ^ 52 * 2 ^ 1022) L refl (mul-le-mul-right {m = k} {n = 2 ^ 52} (2 ^ 1022) (omega arith))
+  where
+    small : (a b c : ℕ) → b ≡ c → a ≤ b → a + 0 ≤ c + 0
+    small a b c e h = omega arith
+
+draw-upto : (u : Float) → Draw u → Upto one u
+draw-upto u d = record {
+  held = d .held;
+  from = counts→le binary64 constants.nought u 0 0 (d .part * 2 ^ 1022) 0 (nought-counts binary64) (d .counts) zero-le;
+  to = counts→le binary64 u one (d .part * 2 ^ 1022) 0 L 0 (d .counts) (one-counts binary64) (below-one (d .part) (d .small));
+}
+
+step-counts : Counts binary64 (exp2-below 51) (2 ^ 1022) 0
+step-counts = (2 ^ 1022, refl, refl)
+
+left : (k : ℕ) → k < 2 ^ 52 → 2 ^ 1022 * L + (0 + k * 2 ^ 1022) * L ≤ (L + 0) * L + 0 * L
+left k h = over (2 ^ 1022) (k * 2 ^ 1022) L L (next k (2 ^ 1022) L refl h)
+  where
+    next : (k q l : ℕ) → l ≡ 2 ^ 52 * q → k < 2 ^ 52 → q + k * q ≤ l
+    next k q l e h =
+        let m = mul-le-mul-right {m = k + 1} {n = 2 ^ 52} q (omega arith) in
+        omega (arith, add-mul k 1 q, one-mul q)
+
+    over : (a b c l : ℕ) → a + b ≤ c → a * l + (0 + b) * l ≤ (c + 0) * l + 0 * l
+    over a b c l h =
+        let m = mul-le-mul-right l h in
+        omega (arith, add-mul a b l, ap (λ (z : ℕ). z * l) (zero-add b), ap (λ (z : ℕ). z * l) (add-zero c))
+
+draw-leaves : (u : Float) → Draw u → T (le (exp2-below 51) (sub binary64 one u))
+draw-leaves u d =
+    le-rounded binary64 (sub binary64 one u) (exp2-below 51) (L + 0) (0 + d .part * 2 ^ 1022) L (2 ^ 1022) 0 (pow-pos 1074)
+    (sub-rounded binary64 one u L 0 (d .part * 2 ^ 1022) 0 (one-counts binary64) (d .counts)) (known .step-number .held) step-counts (left (d .part) (d .small))
+
+-- ---- crossover
+
+two-steps : mul binary64 twoOf (exp2-below 51) ≡ exp2-below 50
+unfolding mul
+two-steps = refl
+
+two-times-one : mul binary64 twoOf one ≡ twoOf
+unfolding mul
+two-times-one = refl
+
+argument : (v : Float) → Upto (exp2 51) v → RootArgument v
+argument v u = record { from = u .from; to = u .to }
+
+module _ (u : Float) (d : Draw u) where
+  D : Upto one u
+  D = draw-upto u d
+
+  lower-spread : RootArgument (mul binary64 twoOf u)
+  lower-spread = argument _ (upto-wider twoOf (exp2 51) _ (known .two-top) (mul-upto twoOf one twoOf u (known .two-number) (one-number binary64) (known .two-upto) D twoOf two-times-one))
+
+  abbrev divisor : Float
+  divisor = mul binary64 twoOf (sub binary64 one u)
+
+  divisor-upto : Upto twoOf divisor
+  divisor-upto = mul-upto twoOf one twoOf (sub binary64 one u) (known .two-number) (one-number binary64) (known .two-upto) (rest-upto u D) twoOf two-times-one
+
+  divisor-least : T (le (exp2-below 50) divisor)
+  unfolding le
+  divisor-least = subst (λ (z : Float). T (le z divisor)) two-steps
+      (mul-mono binary64 twoOf twoOf (exp2-below 51) (sub binary64 one u) (known .two-number) (known .two-number) (known .step-number) (number one _ (one-number binary64) (rest-upto u D)) tt tt tt (draw-leaves u d))
+
+  upper-spread : RootArgument (div binary64 one divisor)
+  unfolding le fits
+  upper-spread =
+      let Y = number twoOf divisor (known .two-number) divisor-upto in
+      let p = order.lt-le-trans constants.nought (exp2-below 50) divisor (known .above) divisor-least in
+      let w = div-within 0 50 one divisor (lit< tt) (lit≤ tt) (record { held = tt; low = tt; high = tt }) Y divisor-least in
+      let r = ratio binary64 constants.nought divisor (nought-number binary64) Y tt (divisor-upto .from) p in
+      record { from = order.le-trans constants.nought (div binary64 constants.nought divisor) (div binary64 one divisor) (r .0) (div-mono-left binary64 constants.nought one divisor (nought-number binary64) (one-number binary64) Y p tt); to = w .high }
+
+-- THEOREM for crossover
+pub spread-argument : (s : ℕ) → RootArgument (spreadArgument (drawUnit s .value))
+unfolding ofBits
+spread-argument s =
+    let u = drawUnit s .value in
+    let d = unit-draw s in
+    by-bool (le u half) (λ e. rw e (lower-spread u d)) (λ e. rw e (upper-spread u d))
+
+-- ---- mutation
+
+-- x lies within low..high, and these are at most 2^53 in magnitude
+pub record Inside (low high x : Float) : Type 0 where
+  pub low-held : T (fits binary64 low)
+  pub high-held : T (fits binary64 high)
+  pub held : T (fits binary64 x)
+  pub low-end : T (le (minus-exp2 53) low)
+  pub high-end : T (le high (exp2 53))
+  pub above : T (le low x)
+  pub below : T (le x high)
+
+two-halves : mul binary64 twoOf halfOf ≡ one
+unfolding mul
+two-halves = refl
+
+one-less-half : sub binary64 one halfOf ≡ halfOf
+unfolding sub
+one-less-half = refl
+
+one-and-one : add binary64 one one ≡ twoOf
+unfolding add
+one-and-one = refl
+
+wide : T (le (minus-exp2 1000) (minus-exp2 53)) × T (le (exp2 53) (exp2 1000))
+unfolding le
+wide = (tt, tt)
+
+-- a + b × c, all within 0..1
+sum-argument : (a b c : Float) → Upto one a → Upto one b → Upto one c → RootArgument (add binary64 a (mul binary64 b c))
+sum-argument a b c A B C =
+    argument _ (upto-wider twoOf (exp2 51) _ (known .two-top)
+    (add-upto one one a (mul binary64 b c) (one-number binary64) (one-number binary64) A (mul-upto one one b c (one-number binary64) (one-number binary64) B C one one-times-one) twoOf one-and-one))
+
+twice-upto : (a : Float) → Upto halfOf a → Upto one (mul binary64 twoOf a)
+twice-upto a A = mul-upto twoOf halfOf twoOf a (known .two-number) (known .half-number) (known .two-upto) A one two-halves
+
+module _ (low high x : Float) (i : Inside low high x) (some : le (high ⊖ low) nought ≡ false) where
+  ordered : T (le low high)
+  ordered = order.le-trans low x high (i .above) (i .below)
+
+  LO : Number binary64 low
+  LO = bounded binary64 low 53 53 (i .low-held) (i .low-end) (order.le-trans low high (exp2 53) ordered (i .high-end))
+
+  HI : Number binary64 high
+  HI = bounded binary64 high 53 53 (i .high-held) (order.le-trans (minus-exp2 53) low high (i .low-end) ordered) (i .high-end)
+
+  X : Number binary64 x
+  X = bounded binary64 x 53 53 (i .held) (order.le-trans (minus-exp2 53) low x (i .low-end) (i .above)) (order.le-trans x high (exp2 53) (i .below) (i .high-end))
+
+  range : Number binary64 (high ⊖ low)
+  range = sub-number high low HI LO (order.le-trans high (exp2 53) (exp2 1000) (i .high-end) (wide .1)) (order.le-trans (minus-exp2 1000) (minus-exp2 53) low (wide .0) (i .low-end)) ordered
+
+  range-above : T (lt constants.nought (high ⊖ low))
+  unfolding ofBits
+  range-above = elim (order.lt-or-le constants.nought (high ⊖ low) constants.nought-not-nan
+      (order.le-not-nan constants.nought (high ⊖ low) (sub-from-zero binary64 high low HI LO ordered) .1)) [ inl l ↦ l | inr g ↦ absurd (subst T some g) ]
+
+  -- how far x lies from each end, as a share of the range
+  low-share : Upto one ((x ⊖ low) ⊘ (high ⊖ low))
+  low-share = share (x ⊖ low) (high ⊖ low) range
+      (record { held = sub-fits binary64 x low; from = sub-from-zero binary64 x low X LO (i .above); to = sub-mono-left binary64 x high low X HI LO (i .below) }) range-above
+
+  high-share : Upto one ((high ⊖ x) ⊘ (high ⊖ low))
+  high-share = share (high ⊖ x) (high ⊖ low) range
+      (record { held = sub-fits binary64 high x; from = sub-from-zero binary64 high x HI X (i .below); to = sub-anti high x low HI X LO (i .above) }) range-above
+
+  module _ (k : ℕ) (u : Float) (d : Upto one u) where
+    below-argument : lt u half ≡ true → RootArgument (belowArgument x low (high ⊖ low) k u)
+    unfolding ofBits
+    below-argument e =
+        let t = twice-upto u (record { held = d .held; from = d .from; to = order.lt→le u halfOf (true-T _ e) }) in
+        sum-argument _ _ _ t (rest-upto _ t) (power-upto _ (rest-upto _ low-share) (k - 1))
+
+    above-argument : lt u half ≡ false → RootArgument (aboveArgument x high (high ⊖ low) k u)
+    unfolding ofBits isNan
+    above-argument e =
+        let U = number one u (one-number binary64) d in
+        let h = order.nlt→le u halfOf (order.le-not-nan u one (d .to) .0) tt (false-T _ e) in
+        let r : Upto halfOf (sub binary64 one u) = record {
+          held = sub-fits binary64 one u;
+          from = rest-upto u d .from;
+          to = subst (λ (z : Float). T (le (sub binary64 one u) z)) one-less-half (sub-anti one u halfOf (one-number binary64) U (known .half-number) h);
+        } in
+        let p : Upto halfOf (sub binary64 u halfOf) = record {
+          held = sub-fits binary64 u halfOf;
+          from = sub-from-zero binary64 u halfOf U (known .half-number) h;
+          to = subst (λ (z : Float). T (le (sub binary64 u halfOf) z)) one-less-half (sub-mono-left binary64 u one halfOf U (one-number binary64) (known .half-number) (d .to));
+        } in
+        sum-argument _ _ _ (twice-upto _ r) (twice-upto _ p) (power-upto _ (rest-upto _ high-share) (k - 1))
+
+  -- THEOREM for mutation; where the range is 0 or less nothing is handed to R
+  pub mutation-argument : (k s : ℕ) → RootArgument (mutationArgument x low high (high ⊖ low) k (drawUnit s .value))
+  mutation-argument k s =
+      let u = drawUnit s .value in
+      let d = draw-upto u (unit-draw s) in
+      by-bool (lt u half) (λ e. rw e (below-argument k u d e)) (λ e. rw e (above-argument k u d e))
+
+-- ---- of dimensions
+
+pub float-argument : (d : FloatDistribution) (x : Float) → Held (dist.Float d) → validDimension (dist.Float d) ≡ true → T (fits binary64 x) → inBounds (dist.Float d) (value.Float x) ≡ true
+    → le (d .high ⊖ d .low) nought ≡ false → (k s : ℕ) → RootArgument (mutationArgument x (d .low) (d .high) (d .high ⊖ d .low) k (drawUnit s .value))
+unfolding inBounds ofBits
+float-argument d x h v f b some =
+    let e = float-bounds d v in
+    mutation-argument (d .low) (d .high) x (record {
+      low-held = h .0;
+      high-held = h .1;
+      held = f;
+      low-end = e .low-end;
+      high-end = e .high-end;
+      above = true-T _ (and-left (le (d .low) x) (le x (d .high)) b);
+      below = true-T _ (and-right (le (d .low) x) (le x (d .high)) b);
+    }) some
+
+-- whole numbers as doubles keep their order
+whole-mono : (a b : ℤ) → a ≤ℤ b → T (le (ofWhole a) (ofWhole b))
+unfolding ofInt
+whole-mono (pos a) (pos b) h = let l = leb→le a b (h .le) in round-sle binary64 false a 1 false b 1 (omega arith) (omega arith) (omega arith)
+whole-mono (pos a) (negsuc b) h = absurd (h .le)
+whole-mono (negsuc a) (pos b) h = round-sle binary64 true (suc a) 1 false b 1 (omega arith) (omega arith) tt
+whole-mono (negsuc a) (negsuc b) h = let l = leb→le b a (h .le) in round-sle binary64 true (suc a) 1 true (suc b) 1 (omega arith) (omega arith) (omega arith)
+
+ends : (ofWhole minWhole ≡ minus-exp2 53) × (ofWhole maxWhole ≡ exp2 53)
+unfolding ofInt
+ends = (refl, refl)
+
+pub int-argument : (d : IntDistribution) (n : ℤ) → validDimension (dist.Int d) ≡ true → inBounds (dist.Int d) (value.Int n) ≡ true → le (ofWhole (d .high) ⊖ ofWhole (d .low)) nought ≡ false
+    → (k s : ℕ) → RootArgument (mutationArgument (ofWhole n) (ofWhole (d .low)) (ofWhole (d .high)) (ofWhole (d .high) ⊖ ofWhole (d .low)) k (drawUnit s .value))
+unfolding inBounds
+int-argument d n v b some =
+    let e = int-bounds d v in
+    mutation-argument (ofWhole (d .low)) (ofWhole (d .high)) (ofWhole n) (record {
+      low-held = ofInt-fits binary64 (d .low);
+      high-held = ofInt-fits binary64 (d .high);
+      held = ofInt-fits binary64 n;
+      low-end = subst (λ (z : Float). T (le z (ofWhole (d .low)))) (ends .0) (whole-mono minWhole (d .low) (e .low-end));
+      high-end = subst (λ (z : Float). T (le (ofWhole (d .high)) z)) (ends .1) (whole-mono (d .high) maxWhole (e .high-end));
+      above = whole-mono (d .low) n (record { le = true-T _ (and-left (leZ (d .low) n) (leZ n (d .high)) b) });
+      below = whole-mono n (d .high) (record { le = true-T _ (and-right (leZ (d .low) n) (leZ n (d .high)) b) });
+    }) some
+
+-- ---- what it is for
+
+pub argument-within : (v : Float) → RootArgument v → within nought (ofBits binary64 0x4320_0000_0000_0000) v ≡ true
+unfolding ofBits
+argument-within v a = ap₂ (λ p q. p && q) (T-true (le constants.nought v) (a .from)) (T-true (le v (exp2 51)) (a .to))
+
+-- "keeping P(lower) <= v < P(upper)" holds of each such v above 0, to the end
+pub root-keeps : (v : Float) (k : ℕ) → RootArgument v → T (lt constants.nought v) → T (le (P (R v k) k) v) × T (lt v (P (real (suc (halvings v k 63 .lower))) k))
+root-keeps v k a h = (root-under v k h (a .to), next-over v k h (a .to))

@@ -1,0 +1,178 @@
+-- The two dominations of the plans of a pool: strict on accepted plans, the paper's, and what flat lists of the pool give.
+use Prim.Native.Nat.{ℕ, _+_, _*_, _≤_, _<_, min}
+use mathlib.Core.Path.{_≡_, refl, ap, _∙_}
+use mathlib.Core.Bool.{Bool, true, false, _&&_, false≢true}
+use mathlib.Core.List.{List, []}
+use mathlib.Core.Logic.{_↔_}
+use native.Mathlib.Nat.{suc-mul, mul-le-mul-right}
+use native.Mathlib.Omega.{arith}
+use borrow.Author.Tests.{eqb-true}
+use lib.Dec.{eqb, leb}
+use lib.Ieee.{Float, nan, inf, fin, binary64, ofBits, lt, le, neg, isNan}
+use lib.ListN.{length, getD}
+use Rattle.model.specs.declared.Direction.{Direction}
+use Rattle.model.specs.declared.Direction.the-variants.{Minimize, Maximize}
+use Rattle.model.specs.Lists.{allIn}
+use Rattle.model.specs.Papers.Deb2002.{Dominates, Solution, ConstrainedDominates, onlyFeasible, lessViolation, bothFeasible}
+use Rattle.model.specs.Plan.{Plan, maxValues, maxConstraints, planOf}
+use Rattle.model.specs.Real.{real}
+use Rattle.model.specs.Refusal.{measurable, goodPlan}
+use Rattle.model.specs.Row.{directionOf, toMinimize, rowOf, dominates, feasible, violation, byFeasibility, constrainedDominates, rowBeats, beats}
+use Rattle.list_laws.proofs.Bools.{T-true, true-T, T-false, false-T, and-left, and-right}
+use Rattle.list_laws.proofs.Built.{listBelow-length}
+use Rattle.list_laws.proofs.Tests.{allIn-each}
+use Rattle.front_laws.specs.Strict.{Strict}
+use Rattle.front_laws.proofs.Same.{Agree}
+use Rattle.front_laws.specs.Strict.{Known}
+use Rattle.front_laws.proofs.Domination.{dominates-irreflexive, dominates-asymmetric, dominates-transitive, dominates-paper, rule-irreflexive, rule-asymmetric, rule-transitive}
+use Rattle.float_laws.proofs.Order.{le-not-nan}
+use Rattle.front_laws.proofs.Violation.{feasible-none}
+
+-- ---- constrainedDominates, of any rows and constraints
+
+pub constrained-irreflexive : (m : ℕ) (a : ℕ → Float) (ca : List Float) → constrainedDominates m a ca a ca ≡ false
+unfolding constrainedDominates
+constrained-irreflexive m a ca = rule-irreflexive m (feasible ca) (violation ca) a
+
+pub constrained-asymmetric : (m : ℕ) (a : ℕ → Float) (ca : List Float) (b : ℕ → Float) (cb : List Float)
+    → constrainedDominates m a ca b cb ≡ true → constrainedDominates m b cb a ca ≡ false
+unfolding constrainedDominates
+constrained-asymmetric m a ca b cb e = rule-asymmetric m (feasible ca) (feasible cb) (violation ca) (violation cb) a b e
+
+pub constrained-transitive : (m : ℕ) (a : ℕ → Float) (ca : List Float) (b : ℕ → Float) (cb : List Float) (c : ℕ → Float) (cc : List Float)
+    → Known m a → Known m b → Known m c
+    → constrainedDominates m a ca b cb ≡ true → constrainedDominates m b cb c cc ≡ true → constrainedDominates m a ca c cc ≡ true
+unfolding constrainedDominates
+constrained-transitive m a ca b cb c cc ka kb kc h k =
+    rule-transitive m (feasible ca) (feasible cb) (feasible cc) (violation ca) (violation cb) (violation cc) a b c ka kb kc h k
+
+-- a row and constraints as the paper's rule sees them
+abbrev pub solution : (ℕ → Float) → List Float → Solution
+solution a ca = record { values = a; isFeasible = feasible ca; overall = violation ca }
+
+-- the rule's cases, for any feasibility and violation
+toPaper : (m : ℕ) (a b : Solution) → Known m (a .values) → Known m (b .values) → (fa fb : Bool) → a .isFeasible ≡ fa → b .isFeasible ≡ fb
+    → byFeasibility fa fb (lt (a .overall) (b .overall)) (dominates m (a .values) (b .values)) ≡ true → ConstrainedDominates m a b
+toPaper m a b ka kb true true x y e =
+    bothFeasible (true-T (a .isFeasible) x) (true-T (b .isFeasible) y) (dominates-paper m (a .values) (b .values) ka kb .0 e)
+toPaper m a b ka kb true false x y e = onlyFeasible (true-T (a .isFeasible) x) (false-T (b .isFeasible) y)
+toPaper m a b ka kb false true x y e = absurd (false≢true e)
+toPaper m a b ka kb false false x y e =
+    lessViolation (false-T (a .isFeasible) x) (false-T (b .isFeasible) y) (true-T (lt (a .overall) (b .overall)) e)
+
+ofPaper : (m : ℕ) (a b : Solution) → Known m (a .values) → Known m (b .values) → ConstrainedDominates m a b
+    → byFeasibility (a .isFeasible) (b .isFeasible) (lt (a .overall) (b .overall)) (dominates m (a .values) (b .values)) ≡ true
+ofPaper m a b ka kb (onlyFeasible x y) = rw (T-true (a .isFeasible) x, T-false (b .isFeasible) y)
+ofPaper m a b ka kb (lessViolation x y l) = rw (T-false (a .isFeasible) x, T-false (b .isFeasible) y) (T-true (lt (a .overall) (b .overall)) l)
+ofPaper m a b ka kb (bothFeasible x y d) =
+    rw (T-true (a .isFeasible) x, T-true (b .isFeasible) y) (dominates-paper m (a .values) (b .values) ka kb .1 d)
+
+-- the paper's constrained domination
+pub constrained-paper : (m : ℕ) (a : ℕ → Float) (ca : List Float) (b : ℕ → Float) (cb : List Float) → Known m a → Known m b
+    → (constrainedDominates m a ca b cb ≡ true) ↔ ConstrainedDominates m (solution a ca) (solution b cb)
+unfolding constrainedDominates
+constrained-paper m a ca b cb ka kb = (
+  λ e. toPaper m (solution a ca) (solution b cb) ka kb (feasible ca) (feasible cb) refl refl e,
+  λ h. ofPaper m (solution a ca) (solution b cb) ka kb h,
+)
+
+-- ---- accepted plans
+
+neg-known : (x : Float) → isNan x ≡ false → isNan (neg x) ≡ false
+unfolding isNan neg
+neg-known nan e = e
+neg-known (inf s) e = refl
+neg-known (fin s m e') e = refl
+
+pub known-toMinimize : (d : Direction) (x : Float) → isNan x ≡ false → isNan (toMinimize d x) ≡ false
+known-toMinimize Minimize x e = e
+known-toMinimize Maximize x e = neg-known x e
+
+-- a value that is measured is no NaN
+pub measurable-known : (x : Float) → measurable x ≡ true → isNan x ≡ false
+unfolding measurable
+measurable-known x e =
+    T-false (isNan x)
+    (le-not-nan (ofBits binary64 0xfe70_0000_0000_0000) x
+    (true-T (le (ofBits binary64 0xfe70_0000_0000_0000) x)
+    (and-left (le (ofBits binary64 0xfe70_0000_0000_0000) x) (le x (ofBits binary64 0x7e70_0000_0000_0000)) e)) .1)
+
+-- A plan that passes refusal 8 and has the m values that it claims, as every plan of a slice of words has.
+pub record Accepted (m : ℕ) (plan : Plan) : Type 0 where
+  pub good : goodPlan m plan ≡ true
+  pub whole : length (plan .row) ≡ m
+
+-- its row has no NaN, whatever the directions
+pub accepted-known : (marks : List ℕ) (m : ℕ) (plan : Plan) → Accepted m plan → Known m (rowOf marks plan)
+unfolding rowOf goodPlan
+accepted-known marks m plan h j l =
+    let rest = and-right (eqb (plan .rowLength) m) (leb (plan .constraintCount) maxConstraints && (allIn measurable (plan .row) && allIn measurable (plan .constraints))) (h .good) in
+    let lists = and-right (leb (plan .constraintCount) maxConstraints) (allIn measurable (plan .row) && allIn measurable (plan .constraints)) rest in
+    let row = and-left (allIn measurable (plan .row)) (allIn measurable (plan .constraints)) lists in
+    known-toMinimize (directionOf (getD marks j 0)) (getD (plan .row) j nan)
+    (measurable-known (getD (plan .row) j nan) (allIn-each measurable nan (plan .row) row j (omega (arith, h .whole))))
+
+-- a plan of words that passes refusal 8, where there are at most 8 objectives
+pub words-accepted : (m : ℕ) (word : ℕ → ℕ) → m ≤ maxValues → goodPlan m (planOf word) ≡ true → Accepted m (planOf word)
+unfolding planOf goodPlan
+words-accepted m word h e =
+    let n = eqb-true (word 1) m (and-left (eqb (word 1) m) _ e) in
+    record {
+      good = e;
+      whole = listBelow-length (λ j. real (word (2 + j))) (min (word 1) maxValues) ∙ omega arith;
+    }
+
+module _ (marks : List ℕ) (plans : ℕ → Plan) (n : ℕ) (known : (p : ℕ) → p < n → Known (length marks) (rowOf marks (plans p))) where
+  pub rowBeats-strict : Strict (rowBeats marks plans) n
+  unfolding rowBeats
+  rowBeats-strict = record {
+    irreflexive = λ p l. dominates-irreflexive (length marks) (rowOf marks (plans p));
+    transitive = λ p q r lp lq lr h k.
+        dominates-transitive (length marks) (rowOf marks (plans p)) (rowOf marks (plans q)) (rowOf marks (plans r)) (known p lp) (known q lq) (known r lr) h k;
+  }
+
+  pub beats-strict : Strict (beats marks plans) n
+  unfolding beats
+  beats-strict = record {
+    irreflexive = λ p l. constrained-irreflexive (length marks) (rowOf marks (plans p)) (plans p .constraints);
+    transitive = λ p q r lp lq lr h k.
+        constrained-transitive (length marks) (rowOf marks (plans p)) (plans p .constraints) (rowOf marks (plans q)) (plans q .constraints)
+        (rowOf marks (plans r)) (plans r .constraints) (known p lp) (known q lq) (known r lr) h k;
+  }
+
+-- neither of two plans dominates the other where that one dominates it
+pub rowBeats-asymmetric : (marks : List ℕ) (plans : ℕ → Plan) (p q : ℕ) → rowBeats marks plans p q ≡ true → rowBeats marks plans q p ≡ false
+unfolding rowBeats
+rowBeats-asymmetric marks plans p q e = dominates-asymmetric (length marks) (rowOf marks (plans p)) (rowOf marks (plans q)) e
+
+pub beats-asymmetric : (marks : List ℕ) (plans : ℕ → Plan) (p q : ℕ) → beats marks plans p q ≡ true → beats marks plans q p ≡ false
+unfolding beats
+beats-asymmetric marks plans p q e =
+    constrained-asymmetric (length marks) (rowOf marks (plans p)) (plans p .constraints) (rowOf marks (plans q)) (plans q .constraints) e
+
+-- a plan as the paper's rule sees it
+abbrev pub solutionOf : List ℕ → Plan → Solution
+solutionOf marks plan = solution (rowOf marks plan) (plan .constraints)
+
+-- of accepted plans both are the paper's
+pub rowBeats-paper : (marks : List ℕ) (plans : ℕ → Plan) (p q : ℕ) → Accepted (length marks) (plans p) → Accepted (length marks) (plans q)
+    → (rowBeats marks plans p q ≡ true) ↔ Dominates (length marks) (rowOf marks (plans p)) (rowOf marks (plans q))
+unfolding rowBeats
+rowBeats-paper marks plans p q a b =
+    dominates-paper (length marks) (rowOf marks (plans p)) (rowOf marks (plans q))
+    (accepted-known marks (length marks) (plans p) a) (accepted-known marks (length marks) (plans q) b)
+
+pub beats-paper : (marks : List ℕ) (plans : ℕ → Plan) (p q : ℕ) → Accepted (length marks) (plans p) → Accepted (length marks) (plans q)
+    → (beats marks plans p q ≡ true) ↔ ConstrainedDominates (length marks) (solutionOf marks (plans p)) (solutionOf marks (plans q))
+unfolding beats
+beats-paper marks plans p q a b =
+    constrained-paper (length marks) (rowOf marks (plans p)) (plans p .constraints) (rowOf marks (plans q)) (plans q .constraints)
+    (accepted-known marks (length marks) (plans p) a) (accepted-known marks (length marks) (plans q) b)
+
+-- ---- where no plan has constraints the two dominations are one
+
+pub beats-unconstrained : (marks : List ℕ) (plans : ℕ → Plan) (n : ℕ) → ((p : ℕ) → p < n → plans p .constraints ≡ [])
+    → Agree (beats marks plans) (rowBeats marks plans) n
+unfolding beats rowBeats constrainedDominates
+beats-unconstrained marks plans n h p q lp lq =
+    rw (ap feasible (h p lp) ∙ feasible-none, ap feasible (h q lq) ∙ feasible-none)

@@ -1,0 +1,42 @@
+-- A run of stores: one more at its end, and what stands where afterwards.
+use Prim.Native.Nat.{ℕ, zero, suc, _+_, _-_, _*_, _≤_, _<_}
+use mathlib.Core.Path.{_≡_, refl, ap, sym, _∙_}
+use mathlib.Core.Logic.{⊎-elim}
+use mathlib.Core.List.{List, [], _∷_, _++_}
+use native.Mathlib.Omega.{arith}
+use native.Mathlib.Nat.{eq-or-lt-of-le, suc-add, add-suc, add-zero, sub-self, suc-mul, mul-le-mul-right}
+use lib.ListN.{length, getD, set, length-append, length-set}
+use lib.Seq.{sets, length-sets, getD-set-other, getD-set-same}
+
+pub sets-append : {A : Type 0} (l : List A) (i : ℕ) (s t : List A) → sets l i (s ++ t) ≡ sets (sets l i s) (i + length s) t
+sets-append l i [] t = ap (λ (k : ℕ). sets l k t) (sym (add-zero i))
+sets-append l i (x ∷ s) t =
+    sets-append (set l i x) (suc i) s t
+    ∙ ap (λ (k : ℕ). sets (sets (set l i x) (suc i) s) k t) (suc-add i (length s) ∙ sym (add-suc i (length s)))
+
+-- at j, the place after the run
+pub sets-snoc : (l : List ℕ) (i j : ℕ) (s : List ℕ) (x : ℕ) → j ≡ i + length s → set (sets l i s) j x ≡ sets l i (s ++ (x ∷ []))
+sets-snoc l i j s x e = ap (λ (k : ℕ). set (sets l i s) k x) e ∙ sym (sets-append l i s (x ∷ []))
+
+-- what stands before the run and past it stays
+pub before-run : (l : List ℕ) (i : ℕ) (s : List ℕ) (j : ℕ) → j < i → getD (sets l i s) j 0 ≡ getD l j 0
+before-run l i [] j h = refl
+before-run l i (x ∷ s) j h = before-run (set l i x) (suc i) s j (omega arith) ∙ getD-set-other l i j x 0 (λ e. omega arith)
+
+pub past-run : (l : List ℕ) (i : ℕ) (s : List ℕ) (j : ℕ) → i + length s ≤ j → getD (sets l i s) j 0 ≡ getD l j 0
+past-run l i [] j h = refl
+past-run l i (x ∷ s) j h = past-run (set l i x) (suc i) s j (omega arith) ∙ getD-set-other l i j x 0 (λ e. omega arith)
+
+-- and in it stands what was stored
+pub in-run : (l : List ℕ) (i : ℕ) (s : List ℕ) (k : ℕ) → k < length s → i + k < length l → getD (sets l i s) (i + k) 0 ≡ getD s k 0
+in-run l i [] k h g = absurd (omega arith)
+in-run l i (x ∷ s) zero h g = rw add-zero (before-run (set l i x) (suc i) s i (omega arith) ∙ getD-set-same l i x 0 (omega arith))
+in-run l i (x ∷ s) (suc k) h g =
+    ap (λ (t : ℕ). getD (sets (set l i x) (suc i) s) t 0) (add-suc i k ∙ sym (suc-add i k))
+    ∙ in-run (set l i x) (suc i) s k (omega arith) (simp length-set (omega arith))
+
+-- ---- rows of m entries, one after the other
+
+-- row p of n lies within them
+pub row-inside : (p n m : ℕ) → p < n → p * m + m ≤ n * m
+row-inside p n m h = omega (arith, suc-mul p m, mul-le-mul-right m h)

@@ -1,0 +1,46 @@
+-- `read_plans`. Assumes nothing.
+use Prim.Native.Nat.{_*_, _-_, _≤_}
+use borrow.Author.Needs.{needs}
+use Rattle.replay_kept.proofs.read_plans.Statement.{statement}
+use Rattle.replay_kept.proofs.read_plans.Tie as tie
+
+abbrev Inv-loop : tie.InvT-loop
+Inv-loop input at n pool₀ place₀ base₀ p₀ pool place base p = (p ≤ n) × ((n ≤ 1025) × ((place ≤ 8193) × (base ≤ 124 * p)))
+
+abbrev μ-loop : tie.MeasureT-loop
+μ-loop input at n pool₀ place₀ base₀ p₀ pool place base p = n - p
+
+loop-holds : tie.Need-loop-holds Inv-loop μ-loop
+loop-holds c = search needs
+
+read-plan-requires : tie.Need-read-plan-requires Inv-loop μ-loop
+read-plan-requires c κs = search needs
+
+add-base : tie.Need-add-base Inv-loop μ-loop
+add-base c = search needs
+
+add-p : tie.Need-add-p Inv-loop μ-loop
+add-p c = search needs
+
+loop-less : tie.Need-loop-less Inv-loop μ-loop
+loop-less c = search needs
+
+loop-again : tie.Need-loop-again Inv-loop μ-loop
+loop-again c = search needs
+
+returns : tie.Need-returns Inv-loop μ-loop
+returns c = search needs
+
+pub read-plans-spec : {M : Type 1} → statement M
+read-plans-spec =
+    tie.close
+    (tie.spec
+    Inv-loop
+    μ-loop
+    loop-holds
+    read-plan-requires
+    add-base
+    add-p
+    loop-less
+    loop-again
+    returns)

@@ -1,0 +1,80 @@
+-- `selection`. Assumes nothing.
+use borrow.Author.Needs.{needs}
+use mathlib.Core.Path.{sym}
+use native.Mathlib.Omega.{arith}
+use lib.Seq.{length-take-le}
+use Rattle.replay_kept.proofs.selection.Statement.{statement}
+use Rattle.replay_kept.proofs.selection.Tie as tie
+
+mul-words : tie.Need-mul-words
+mul-words c = search needs
+
+slice-aggregate-nsga3-select : tie.Need-slice-aggregate-nsga3-select
+slice-aggregate-nsga3-select c = sym (length-take-le _ _ (omega arith))
+
+slice-aggregate-nsga3-select-2 : tie.Need-slice-aggregate-nsga3-select-2
+slice-aggregate-nsga3-select-2 c = sym (length-take-le _ _ (omega arith))
+
+slice-relend-prefix-nsga3-select : tie.Need-slice-relend-prefix-nsga3-select
+slice-relend-prefix-nsga3-select c = search needs
+
+slice-aggregate-nsga3-select-3 : tie.Need-slice-aggregate-nsga3-select-3
+slice-aggregate-nsga3-select-3 c = sym (length-take-le _ _ (omega arith))
+
+slice-relend-prefix-nsga3-select-2 : tie.Need-slice-relend-prefix-nsga3-select-2
+slice-relend-prefix-nsga3-select-2 c = search needs
+
+slice-aggregate-nsga3-select-4 : tie.Need-slice-aggregate-nsga3-select-4
+slice-aggregate-nsga3-select-4 c = sym (length-take-le _ _ (omega arith))
+
+slice-relend-prefix-nsga3-select-3 : tie.Need-slice-relend-prefix-nsga3-select-3
+slice-relend-prefix-nsga3-select-3 c = search needs
+
+slice-aggregate-nsga3-select-5 : tie.Need-slice-aggregate-nsga3-select-5
+slice-aggregate-nsga3-select-5 c = sym (length-take-le _ _ (omega arith))
+
+slice-relend-prefix-nsga3-select-4 : tie.Need-slice-relend-prefix-nsga3-select-4
+slice-relend-prefix-nsga3-select-4 c = search needs
+
+slice-aggregate-nsga3-select-6 : tie.Need-slice-aggregate-nsga3-select-6
+slice-aggregate-nsga3-select-6 c = sym (length-take-le _ _ (omega arith))
+
+nsga3-select-requires : tie.Need-nsga3-select-requires
+nsga3-select-requires c κs = search needs
+
+same-length : tie.Need-same-length
+same-length c = search needs
+
+same-length-2 : tie.Need-same-length-2
+same-length-2 c = search needs
+
+same-length-3 : tie.Need-same-length-3
+same-length-3 c = search needs
+
+same-length-4 : tie.Need-same-length-4
+same-length-4 c = search needs
+
+returns : tie.Need-returns
+returns c = search needs
+
+pub selection-spec : {M : Type 1} → statement M
+selection-spec =
+    tie.close
+    (tie.spec
+    mul-words
+    slice-aggregate-nsga3-select
+    slice-aggregate-nsga3-select-2
+    slice-relend-prefix-nsga3-select
+    slice-aggregate-nsga3-select-3
+    slice-relend-prefix-nsga3-select-2
+    slice-aggregate-nsga3-select-4
+    slice-relend-prefix-nsga3-select-3
+    slice-aggregate-nsga3-select-5
+    slice-relend-prefix-nsga3-select-4
+    slice-aggregate-nsga3-select-6
+    nsga3-select-requires
+    same-length
+    same-length-2
+    same-length-3
+    same-length-4
+    returns)
