@@ -1,23 +1,20 @@
 -- The refusals of a session call, one after the other, and what it leaves in each case.
 use Prim.Native.Nat.{ℕ, _≤_, _<_}
-use mathlib.Core.Path.{_≡_, refl, sym, ap, ap₂, _∙_, subst}
-use mathlib.Core.Bool.{Bool, true, false, cond, not, _&&_, _||_, true≢false}
+use mathlib.Core.Path.{_≡_, sym, ap, ap₂, _∙_}
+use mathlib.Core.Bool.{Bool, true, false, not, _&&_, _||_, true≢false}
 use mathlib.Core.List.{List, [], _∷_}
 use mathlib.Core.Option.{Option, none, some}
 use native.Mathlib.Omega.{arith}
-use borrow.Author.Tests.{lt-ltb, le-ltb, le-leb, lt-leb, leb-true, leb-false, not-false}
-use lib.Dec.{leb, ltb}
-use lib.ListN.{length, take}
-use lib.Seq.{length-take-le}
-use Rattle.list_laws.proofs.Bools.{by-bool, and-left, and-right, and-not-left, or-left, or-right}
+use borrow.Author.Tests.{lt-ltb, le-ltb, lt-leb, leb-false}
+use lib.Dec.{leb}
+use Rattle.list_laws.proofs.Bools.{by-bool, and-not-left, or-left, or-right}
 use Rattle.model.specs.declared.Distribution.{Distribution}
 use Rattle.model.specs.declared.Session.{Session}
-use Rattle.model.specs.Lists.{has}
 use Rattle.model.specs.Plan.{planCount, maxSettings}
 use Rattle.model.specs.Setting.{validDimension}
-use Rattle.model.specs.Session.{State, Answered, state, discovers, discover, activate, breed, breeds, isActive, pastDiscovery, discoversFor, longEnough, evaluated, isNew, placeIn, requestOf, operatorsOf, accepted, sampleFromCandidate, maxPlans}
-use Rattle.model.specs.Refusal.{Check, check, firstOf, sampleRefusal, badPool, badParents, maxHistory}
-use Rattle.model.specs.Calls.{SampleExit, sampleBy, sampleOf}
+use Rattle.model.specs.Session.{State, Answered, state, discovers, discover, breeds, isActive, pastDiscovery, discoversFor, longEnough, isNew, accepted, maxPlans}
+use Rattle.model.specs.Refusal.{check, firstOf, sampleRefusal, maxHistory}
+use Rattle.model.specs.Calls.{sampleBy, sampleOf}
 use Rattle.session_parts.specs.Exits.{exit, settled}
 use Rattle.session.specs.Exits.{refusedWith}
 

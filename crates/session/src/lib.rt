@@ -1,15 +1,11 @@
 // The session call (document 01, "Session"; Rust: sampler/nsga3.rs): a plan asks for a setting, and where the generation's plans all stand in history a new
 // generation is bred first.
 ghost use mathlib.Core.Path.{_≡_};
-ghost use mathlib.Core.Bool.{Bool, true, false, not, _&&_, _||_};
+ghost use mathlib.Core.Bool.{true, false, not, _&&_};
 ghost use mathlib.Core.List.{List, []};
-ghost use mathlib.Core.Option.{none};
-ghost use Prim.Native.Nat.{ℕ, _+_, _*_, _≤_, _<_};
-ghost use lib.Dec.{leb, ltb};
-ghost use lib.ListN.{length, take};
-ghost use Rattle.model.specs.Lists.{has};
+ghost use Prim.Native.Nat.{ℕ, _*_, _≤_, _<_};
+ghost use lib.ListN.{length};
 ghost use Rattle.model.specs.Plan.{planCount};
-ghost use Rattle.model.specs.Setting.{validDimension};
 ghost use Rattle.model.specs.Session.{state, pastDiscovery, discoversFor, discovers, longEnough, evaluated, breeds};
 ghost use Rattle.model.specs.Calls.{refusedBy, sampleOf, Samples};
 ghost use Rattle.model.specs.Property.{SessionOk};

@@ -1,8 +1,8 @@
 -- The refusals of an opening, one after the other.
 use Prim.Native.Nat.{ℕ}
 use mathlib.Core.Path.{_≡_, refl, sym, ap, ap₂, _∙_, subst}
-use mathlib.Core.Bool.{Bool, true, false, cond}
-use mathlib.Core.List.{List, [], _∷_, List·Memᴰ·head, List·Memᴰ·tail}
+use mathlib.Core.Bool.{Bool, true, false}
+use mathlib.Core.List.{List, List·Memᴰ·head, List·Memᴰ·tail}
 use mathlib.Core.Option.{Option, none, some}
 use native.Mathlib.Omega.{arith}
 use lib.Ieee.{Float}
@@ -19,7 +19,7 @@ use Rattle.model.specs.Reference.{divisionsOf, populationSize}
 use Rattle.model.specs.Session.{blank, given, opened}
 use Rattle.model.specs.Calls.{openBy, openOf, Opens}
 use Rattle.session_laws.proofs.Opened.{opens}
-use Rattle.model.specs.Refusal.{Check, check, firstOf, openRefusal, badDirections, badSessionSize, badSessionDivisions, badOperators}
+use Rattle.model.specs.Refusal.{firstOf, openRefusal, badDirections, badSessionSize, badSessionDivisions, badOperators}
 use Rattle.session_parts.specs.Exits.{openingBy, start}
 
 module _ (marks : List ℕ) (size divisions : Option ℕ) (probability crossoverEta mutationEta : Float) where

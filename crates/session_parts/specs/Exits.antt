@@ -1,7 +1,7 @@
 -- What the parts of a session answer, in the words of the calls' definitions.
 use Prim.Native.Nat.{ℕ, _+_, _%_, _^_, _≤_}
 use mathlib.Core.Path.{_≡_}
-use mathlib.Core.Bool.{Bool, true, false}
+use mathlib.Core.Bool.{false}
 use mathlib.Core.List.{List}
 use mathlib.Core.Option.{Option, none, some}
 use lib.Ieee.{Float}
@@ -16,7 +16,7 @@ use Rattle.model.specs.declared.Sampled.{Sampled}
 use Rattle.model.specs.declared.Sampling.the-variants as sampling
 use Rattle.model.specs.Real.{infinity}
 use Rattle.model.specs.Plan.{maxValues, maxSettings}
-use Rattle.model.specs.Session.{State, Answered, state, progress, blankDimension, dimensionOf, isNew, maxPlans, maxWords}
+use Rattle.model.specs.Session.{Answered, state, progress, blankDimension, dimensionOf, maxPlans}
 use Rattle.model.specs.Refusal.{badDimensions}
 use Rattle.model.specs.Calls.{SampleExit}
 

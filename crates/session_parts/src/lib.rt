@@ -21,7 +21,6 @@ use model::Opened;
 use model::Opening;
 use model::OptionU64;
 use model::OptionUsize;
-use model::ParamValue;
 use model::Phase;
 use model::Progress;
 use model::Rng;
