@@ -5,5 +5,4 @@ pub mod Sizes
 pub mod Demand3
 pub mod Accepted
 pub mod Calls
-pub mod PoolFile
 pub mod ListedOrder

@@ -8,3 +8,4 @@ pub mod Picks
 pub mod Procedure
 pub mod Association
 pub mod Steps
+pub mod KeptLength

@@ -20,6 +20,7 @@ use Rattle.model.specs.Calls.{maxText}
 use Rattle.list_laws.proofs.Bools.{by-bool}
 use Rattle.list_laws.proofs.First.{firstBelow-le, firstBelow-before}
 use Rattle.list_laws.proofs.Built.{listBelow-at}
+use Rattle.niching_laws.proofs.KeptLength.{before-le, picks-length, padding-length}
 use Rattle.pool_laws.proofs.Lengths.{Small, listing-short}
 
 front-le : (d : ℕ → ℕ → Bool) (n p : ℕ) → p < n → getD (frontList d n) p 0 ≤ n
@@ -35,30 +36,7 @@ line-le : (r : Request) (p : ℕ) → lineOf r p ≤ lineCount r
 unfolding association
 line-le r p = nearest-le (distanceTo r p) (lineCount r)
 
--- ---- the kept list is as long as the size
-
-whole-le : (d : ℕ → ℕ → Bool) (n size k : ℕ) → ((t : ℕ) → t < k → ltb size (length (listing d n (suc t))) ≡ false) → length (listing d n k) ≤ size
-unfolding listing
-whole-le d n size zero h = omega arith
-whole-le d n size (suc k) h = ltb-false size (length (listing d n (suc k))) (h k (omega arith))
-
-before-le : (r : Request) → length (before r) ≤ r .size
-unfolding before wholeFronts
-before-le r =
-    whole-le (dominance r) (r .count) (r .size) (wholeFronts r)
-    (λ t h. firstBelow-before (λ k. ltb (r .size) (length (listing (dominance r) (r .count) (suc k)))) (r .count) t h)
-
-picks-length : (line : ℕ → ℕ) (distance : ℕ → Float) (lines : ℕ) (b split : List ℕ) (n s : ℕ) → length (picks line distance lines b split n s .value) ≡ n
-unfolding picks
-picks-length line distance lines b split zero s = refl
-picks-length line distance lines b split (suc n) s = rw length-append (omega (arith, picks-length line distance lines b split n s))
-
-padding-length : (n k s : ℕ) → length (padding n k s .value) ≡ k
-unfolding padding
-padding-length n zero s = refl
-padding-length n (suc k) s = rw length-append (omega (arith, padding-length n k s))
-
--- ---- so its numbers are small
+-- ---- the numbers of a selection are small
 
 module _ (r : Request) (size : r .size ≤ maxSize) (count : r .count ≤ maxSize) (lines : lineCount r ≤ maxSize) where
   split-small : Small (r .count) (selectedSplit r)

@@ -1,0 +1,42 @@
+-- The kept list of any request has the size wanted.
+use Prim.Native.Nat.{ℕ, zero, suc, _+_, _-_, _<_, _≤_}
+use mathlib.Core.Path.{_≡_, refl}
+use mathlib.Core.Bool.{Bool, false}
+use mathlib.Core.List.{List, [], _∷_, _++_}
+use native.Mathlib.Omega.{arith}
+use borrow.Author.Tests.{ltb-false}
+use lib.Dec.{ltb}
+use lib.Ieee.{Float}
+use lib.ListN.{length, length-append}
+use Rattle.model.specs.Front.{front, listing}
+use Rattle.model.specs.Association.{Request, lineCount, dominance, association, lineOf}
+use Rattle.model.specs.Kept.{picks, wholeFronts, before, isSplit, splitFront, filled, padding, selectedSplit, selectedWhole, selected}
+use Rattle.list_laws.proofs.Bools.{by-bool}
+use Rattle.list_laws.proofs.First.{firstBelow-before}
+
+fronts-le : (d : ℕ → ℕ → Bool) (n size k : ℕ) → ((t : ℕ) → t < k → ltb size (length (listing d n (suc t))) ≡ false) → length (listing d n k) ≤ size
+unfolding listing
+fronts-le d n size zero h = omega arith
+fronts-le d n size (suc k) h = ltb-false size (length (listing d n (suc k))) (h k (omega arith))
+
+pub before-le : (r : Request) → length (before r) ≤ r .size
+unfolding before wholeFronts
+before-le r = fronts-le (dominance r) (r .count) (r .size) (wholeFronts r) (firstBelow-before (λ k. ltb (r .size) (length (listing (dominance r) (r .count) (suc k)))) (r .count))
+
+pub picks-length : (line : ℕ → ℕ) (distance : ℕ → Float) (lines : ℕ) (b split : List ℕ) (n s : ℕ) → length (picks line distance lines b split n s .value) ≡ n
+unfolding picks
+picks-length line distance lines b split zero s = refl
+picks-length line distance lines b split (suc n) s = rw length-append (omega (arith, picks-length line distance lines b split n s))
+
+pub padding-length : (n k s : ℕ) → length (padding n k s .value) ≡ k
+unfolding padding
+padding-length n zero s = refl
+padding-length n (suc k) s = rw length-append (omega (arith, padding-length n k s))
+
+pub kept-length : (r : Request) → length (selected r .kept) ≡ r .size
+unfolding selected selectedSplit selectedWhole filled
+kept-length r =
+    let b = before-le r in
+    by-bool (isSplit r)
+    (λ e. rw (e, length-append) (omega (arith, picks-length (lineOf r) (λ p. association r p .distance) (lineCount r) (before r) (splitFront r) (r .size - length (before r)) (r .state))))
+    (λ e. rw (e, length-append) (omega (arith, padding-length (r .count) (r .size - length (before r)) (r .state))))
