@@ -1,8 +1,8 @@
--- `select_nsga3`. Assumes nothing.
+-- `locustdomino_select`. Assumes nothing.
 use borrow.Author.Needs.{needs}
-use Rattle.select_export.proofs.Export.{exported}
-use Rattle.select_export.proofs.select_nsga3.Statement.{statement}
-use Rattle.select_export.proofs.select_nsga3.Tie as tie
+use Rattle.locustdomino.proofs.Export.{select-coded}
+use Rattle.locustdomino.proofs.locustdomino_select.Statement.{statement}
+use Rattle.locustdomino.proofs.locustdomino_select.Tie as tie
 
 nsga3-select-requires : tie.Need-nsga3-select-requires
 nsga3-select-requires c κs = search needs
@@ -23,10 +23,10 @@ same-length-4 : tie.Need-same-length-4
 same-length-4 c = search needs
 
 returns : tie.Need-returns
-returns c = exported _ _ _ _ (c .before .before .before .before .before .before .before .before .before .before .nsga3-select .ensures) (c .code .ensures)
+returns c = select-coded _ _ _ _ (c .before .before .before .before .before .before .before .before .before .before .nsga3-select .ensures) (c .code .ensures)
 
-pub select-nsga3-spec : {M : Type 1} → statement M
-select-nsga3-spec =
+pub locustdomino-select-spec : {M : Type 1} → statement M
+locustdomino-select-spec =
     tie.close
     (tie.spec
     nsga3-select-requires

@@ -1,7 +1,7 @@
 -- `code`. Assumes nothing.
 use borrow.Author.Needs.{needs}
-use Rattle.select_export.proofs.code.Statement.{statement}
-use Rattle.select_export.proofs.code.Tie as tie
+use Rattle.locustdomino.proofs.code.Statement.{statement}
+use Rattle.locustdomino.proofs.code.Tie as tie
 
 enum-known-outcome : tie.Need-enum-known-outcome
 enum-known-outcome c = search needs

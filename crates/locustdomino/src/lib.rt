@@ -1,0 +1,116 @@
+// The public calls under C names, for controllers and stations in other languages. include/locustdomino.h says how each is called.
+// A call answers 0, or the number of the refusal. A refused call leaves all that it was lent as it was.
+use model::Outcome;
+use model::Rng;
+ghost use mathlib.Core.Path.{_≡_};
+ghost use Rattle.model.specs.Calls.{wordRequest, lent, selectOf, stepOf};
+ghost use Rattle.locustdomino.specs.Coded.{codeOf, keptOf, selected, stepped, rngOf, wordOperators};
+
+fn wide(n: u8) -> u64
+    ensures { λ r. ⌜ r ≡ n ⌝ }
+{
+    n as u64
+}
+
+fn code(outcome: Outcome) -> u64
+    ensures { λ r. ⌜ r ≡ codeOf outcome ⌝ }
+{
+    match outcome {
+        Outcome::Kept(n) => 0,
+        Outcome::Refused(n) => wide(n),
+    }
+}
+
+fn count(outcome: Outcome, old: usize) -> usize
+    ensures { λ r. ⌜ r ≡ keptOf outcome old ⌝ }
+{
+    match outcome {
+        Outcome::Kept(n) => n,
+        Outcome::Refused(n) => old,
+    }
+}
+
+// `nsga3_select`: the generator's state moves on in place. The kept list is as long as the size.
+#[no_mangle]
+pub extern "C" fn locustdomino_select(
+    pool: &[u64],
+    directions: &[u8],
+    divisions: usize,
+    size: usize,
+    state: &mut u64,
+    ideal: &mut [f64],
+    kept: &mut [usize],
+    fronts: &mut [usize],
+    lines: &mut [usize],
+) -> u64
+    ensures { λ r. ⌜ record { code = r; state = now (state .exit); ideal = now (ideal .exit); slices = lent (now (kept .exit)) (now (fronts .exit)) (now (lines .exit)) }
+        ≡ selected (selectOf (wordRequest (now (pool .entry)) (now (directions .entry)) divisions size (rngOf (now (state .entry))) (now (ideal .entry)))
+        (lent (now (kept .entry)) (now (fronts .entry)) (now (lines .entry)))) ⌝ }
+{
+    let answer = nsga3::nsga3_select(
+        pool,
+        directions,
+        divisions,
+        size,
+        Rng { s: *state },
+        ideal,
+        kept,
+        fronts,
+        lines,
+    );
+    let rng = answer.rng;
+    *state = rng.s;
+    let outcome = answer.outcome;
+    code(outcome)
+}
+
+// `nsga3_generate_offspring`: the dimensions are as many as their slice has whole, six words each. `n_kept` is the kept list's length: the size, or 0 for a pool
+// of one plan.
+#[no_mangle]
+pub extern "C" fn locustdomino_generate_offspring(
+    pool: &[u64],
+    directions: &[u8],
+    divisions: usize,
+    size: usize,
+    state: &mut u64,
+    dimensions: &[u64],
+    crossover_prob: f64,
+    crossover_eta: f64,
+    mutation_eta: f64,
+    ideal: &mut [f64],
+    kept: &mut [usize],
+    fronts: &mut [usize],
+    lines: &mut [usize],
+    offspring: &mut [u64],
+    n_kept: &mut usize,
+) -> u64
+    ensures { λ r. ⌜ record { code = r; kept = now («n_kept» .exit); state = now (state .exit); ideal = now (ideal .exit); slices = lent (now (kept .exit)) (now (fronts .exit)) (now (lines .exit)); offspring = now (offspring .exit) }
+        ≡ stepped (now («n_kept» .entry)) (stepOf (wordOperators (now (dimensions .entry)) «crossover_prob» «crossover_eta» «mutation_eta»)
+        (wordRequest (now (pool .entry)) (now (directions .entry)) divisions size (rngOf (now (state .entry))) (now (ideal .entry)))
+        (lent (now (kept .entry)) (now (fronts .entry)) (now (lines .entry))) (now (offspring .entry))) ⌝ }
+{
+    let n_dims = dimensions.len() / session_words::DIMENSION_WORDS;
+    let infos = session_words::dimensions_of_words(dimensions, 0);
+    let answer = generation::nsga3_generate_offspring(
+        pool,
+        directions,
+        divisions,
+        size,
+        Rng { s: *state },
+        infos,
+        n_dims,
+        crossover_prob,
+        crossover_eta,
+        mutation_eta,
+        ideal,
+        kept,
+        fronts,
+        lines,
+        offspring,
+    );
+    let rng = answer.rng;
+    *state = rng.s;
+    let outcome = answer.outcome;
+    *n_kept = count(outcome, *n_kept);
+    code(outcome)
+}
