@@ -2,10 +2,12 @@
 use Prim.Native.Nat.{ℕ}
 use mathlib.Core.List.{List}
 use lib.Ieee.{Float}
+use Rattle.model.specs.declared.Chosen.{Chosen}
+use Rattle.model.specs.declared.Chosen.the-variants as chosen
 use Rattle.model.specs.declared.Outcome.{Outcome}
 use Rattle.model.specs.declared.Outcome.the-variants as outcome
 use Rattle.model.specs.declared.Rng.{Rng}
-use Rattle.model.specs.Calls.{Lent, SelectExit, StepExit, operators}
+use Rattle.model.specs.Calls.{Lent, SelectExit, StepExit, ChooseExit, operators}
 use Rattle.model.specs.Setting.{Operators}
 use Rattle.session_words.specs.Coding.{dimensionsAt, dimensionCount}
 
@@ -54,3 +56,22 @@ stepped old e = record {
 -- the operators of a step whose dimensions are given as words: as many as are there whole
 abbrev pub wordOperators : List ℕ → Float → Float → Float → Operators
 wordOperators dims probability crossoverEta mutationEta = operators (dimensionsAt dims 0) (dimensionCount dims) probability crossoverEta mutationEta
+
+-- ---- the choice for a pool file
+
+abbrev pub chosenCode : Chosen → ℕ
+chosenCode (chosen.Written n) = 0
+chosenCode (chosen.Refused n) = n
+
+-- the text's length; a refusal leaves the number that was there
+abbrev pub chosenLength : Chosen → ℕ → ℕ
+chosenLength (chosen.Written n) old = n
+chosenLength (chosen.Refused n) old = old
+
+pub record Listed : Type 0 where
+  pub code : ℕ
+  pub length : ℕ
+  pub out : List ℕ
+
+abbrev pub listed : ℕ → ChooseExit → Listed
+listed old e = record { code = chosenCode (e .answer); length = chosenLength (e .answer) old; out = e .out }

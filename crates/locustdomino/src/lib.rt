@@ -1,10 +1,11 @@
 // The public calls under C names, for controllers and stations in other languages. include/locustdomino.h says how each is called.
 // A call answers 0, or the number of the refusal. A refused call leaves all that it was lent as it was.
+use model::Chosen;
 use model::Outcome;
 use model::Rng;
 ghost use mathlib.Core.Path.{_≡_};
-ghost use Rattle.model.specs.Calls.{wordRequest, lent, selectOf, stepOf};
-ghost use Rattle.locustdomino.specs.Coded.{codeOf, keptOf, selected, stepped, rngOf, wordOperators};
+ghost use Rattle.model.specs.Calls.{wordRequest, lent, selectOf, stepOf, chooseOf};
+ghost use Rattle.locustdomino.specs.Coded.{codeOf, keptOf, selected, stepped, rngOf, wordOperators, chosenCode, chosenLength, listed};
 
 fn wide(n: u8) -> u64
     ensures { λ r. ⌜ r ≡ n ⌝ }
@@ -113,4 +114,33 @@ pub extern "C" fn locustdomino_generate_offspring(
     let outcome = answer.outcome;
     *n_kept = count(outcome, *n_kept);
     code(outcome)
+}
+
+fn chosen_code(answer: Chosen) -> u64
+    ensures { λ r. ⌜ r ≡ chosenCode answer ⌝ }
+{
+    match answer {
+        Chosen::Written(n) => 0,
+        Chosen::Refused(n) => wide(n),
+    }
+}
+
+fn chosen_length(answer: Chosen, old: usize) -> usize
+    ensures { λ r. ⌜ r ≡ chosenLength answer old ⌝ }
+{
+    match answer {
+        Chosen::Written(n) => n,
+        Chosen::Refused(n) => old,
+    }
+}
+
+// `choose`: the text for a pool file, and its length.
+#[no_mangle]
+pub extern "C" fn locustdomino_choose(file: &[u8], out: &mut [u8], length: &mut usize) -> u64
+    ensures { λ r. ⌜ record { code = r; length = now (length .exit); out = now (out .exit) }
+        ≡ listed (now (length .entry)) (chooseOf (now (file .entry)) (now (out .entry))) ⌝ }
+{
+    let answer = pool_choice::choose(file, out);
+    *length = chosen_length(answer, *length);
+    chosen_code(answer)
 }
