@@ -1,11 +1,13 @@
 // The public calls under C names, for controllers and stations in other languages. include/locustdomino.h says how each is called.
 // A call answers 0, or the number of the refusal. A refused call leaves all that it was lent as it was.
 use model::Chosen;
+use model::Opening;
+use model::OptionUsize;
 use model::Outcome;
 use model::Rng;
 ghost use mathlib.Core.Path.{_≡_};
 ghost use Rattle.model.specs.Calls.{wordRequest, lent, selectOf, stepOf, chooseOf};
-ghost use Rattle.locustdomino.specs.Coded.{codeOf, keptOf, selected, stepped, rngOf, wordOperators, chosenCode, chosenLength, listed};
+ghost use Rattle.locustdomino.specs.Coded.{codeOf, keptOf, selected, stepped, rngOf, wordOperators, chosenCode, chosenLength, listed, optional, OpensWords};
 
 fn wide(n: u8) -> u64
     ensures { λ r. ⌜ r ≡ n ⌝ }
@@ -114,6 +116,58 @@ pub extern "C" fn locustdomino_generate_offspring(
     let outcome = answer.outcome;
     *n_kept = count(outcome, *n_kept);
     code(outcome)
+}
+
+// What may be left out: a mark of 0 says that it is.
+fn optional(has: u8, n: usize) -> OptionUsize
+    ensures { λ r. ⌜ r ≡ optional has n ⌝ }
+{
+    if has == 0 {
+        return OptionUsize::None;
+    }
+    OptionUsize::Some(n)
+}
+
+// `open`: the session's words go to the slice's front. A slice of fewer than 222 words meets 10, where no other number applies.
+#[no_mangle]
+pub extern "C" fn locustdomino_open(
+    directions: &[u8],
+    seed: u64,
+    has_size: u8,
+    size: usize,
+    has_divisions: u8,
+    divisions: usize,
+    crossover_prob: f64,
+    crossover_eta: f64,
+    mutation_eta: f64,
+    session: &mut [u64],
+) -> u64
+    ensures { λ r. ⌜ OpensWords (now (directions .entry)) seed (optional «has_size» size) (optional «has_divisions» divisions) «crossover_prob» «crossover_eta» «mutation_eta»
+        (now (session .entry)) r (now (session .exit)) ⌝ }
+{
+    let size = optional(has_size, size);
+    let divisions = optional(has_divisions, divisions);
+    let opened = session_parts::open(
+        directions,
+        seed,
+        size,
+        divisions,
+        crossover_prob,
+        crossover_eta,
+        mutation_eta,
+    );
+    let outcome = opened.outcome;
+    match outcome {
+        Opening::Refused(n) => wide(n),
+        Opening::Ready => {
+            if session.len() < session_words::SESSION_WORDS {
+                return 10;
+            }
+            let state = opened.session;
+            session_words::words_of_session(state, session);
+            0
+        }
+    }
 }
 
 fn chosen_code(answer: Chosen) -> u64
