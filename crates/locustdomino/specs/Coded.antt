@@ -1,7 +1,7 @@
 -- What each public call leaves, in numbers and lists alone, as a program in another language takes it.
-use Prim.Native.Nat.{ℕ, zero, suc}
+use Prim.Native.Nat.{ℕ, zero, suc, _≤_}
 use mathlib.Core.Path.{_≡_}
-use mathlib.Core.Bool.{Bool, true, false, cond}
+use mathlib.Core.Bool.{Bool, true, false, cond, _||_}
 use mathlib.Core.List.{List}
 use lib.Dec.{ltb}
 use lib.Ieee.{Float}
@@ -13,16 +13,18 @@ use Rattle.model.specs.declared.Opening.{Opening}
 use Rattle.model.specs.declared.Opening.the-variants as opening
 use Rattle.model.specs.declared.OptionUsize.{OptionUsize}
 use Rattle.model.specs.declared.OptionUsize.the-variants as optUsize
+use Rattle.model.specs.declared.Sampling.{Sampling}
+use Rattle.model.specs.declared.Sampling.the-variants as sampling
 use Rattle.model.specs.declared.Session.{Session}
 use Rattle.model.specs.declared.Outcome.{Outcome}
 use Rattle.model.specs.declared.Outcome.the-variants as outcome
 use Rattle.model.specs.declared.Rng.{Rng}
-use Rattle.model.specs.Calls.{Lent, SelectExit, StepExit, ChooseExit, operators, openOf}
+use Rattle.model.specs.Calls.{Lent, SelectExit, StepExit, ChooseExit, SampleExit, operators, openOf, sampleOf}
 use Rattle.model.specs.Lists.{over}
-use Rattle.model.specs.Setting.{Operators}
-use Rattle.model.specs.Session.{state}
+use Rattle.model.specs.Setting.{Operators, kindOf, toWord}
+use Rattle.model.specs.Session.{State, state}
 use Rattle.model.specs.Property.{SessionOk}
-use Rattle.session_words.specs.Coding.{dimensionsAt, dimensionCount, sessionWidth, sessionWords, sessionOf}
+use Rattle.session_words.specs.Coding.{dimensionAt, dimensionsAt, dimensionCount, dimensionWidth, sessionWidth, sessionWords, sessionOf}
 
 abbrev pub rngOf : ℕ → Rng
 rngOf n = record { s = n }
@@ -98,6 +100,41 @@ pub record OpensWords (directions : List ℕ) (seed : ℕ) (size divisions : Opt
       ≡ openedBy (openOf directions seed size divisions probability crossoverEta mutationEta .outcome) (openOf directions seed size divisions probability crossoverEta mutationEta .session) entry
   pub holds : code ≡ 0 → sessionOf exit ≡ openOf directions seed size divisions probability crossoverEta mutationEta .session
   pub gives : code ≡ 0 → (candidates plans nextDims : List ℕ) → SessionOk (state (sessionOf exit) candidates plans nextDims)
+
+-- ---- a session call
+
+-- the number answered, the setting's kind and word, the session's words, and the state that these and the lent slices stand for
+pub record SampledWords : Type 0 where
+  pub code : ℕ
+  pub kind : ℕ
+  pub value : ℕ
+  pub words : List ℕ
+  pub after : State
+
+abbrev pub sampledWords : ℕ → ℕ → ℕ → List ℕ → State → SampledWords
+sampledWords n k v ws st = record { code = n; kind = k; value = v; words = ws; after = st }
+
+-- a refusal leaves the words, the kind and the value that were there
+abbrev pub sampledBy : Sampling → State → ℕ → ℕ → List ℕ → SampledWords
+sampledBy (sampling.Setting x) st k v ws = sampledWords 0 (kindOf x) (toWord x) (over (sessionWords (st .session)) ws) st
+sampledBy (sampling.Refused n) st k v ws = sampledWords n k v ws st
+
+abbrev pub sampledExit : SampleExit → ℕ → ℕ → List ℕ → SampledWords
+sampledExit e k v ws = sampledBy (e .answer) (e .after) k v ws
+
+-- too few words for a session or for a dimension
+abbrev pub tooShort : List ℕ → List ℕ → Bool
+tooShort ws ds = ltb (length ws) sessionWidth || ltb (length ds) dimensionWidth
+
+unfoldable pub sampleWords : List ℕ → List ℕ → ℕ → List ℕ → List ℕ → List ℕ → List ℕ → ℕ → ℕ → SampledWords
+sampleWords ws ds plan history cs ps ns k v =
+    let st = state (sessionOf ws) cs ps ns in
+    cond (tooShort ws ds) (sampledWords 10 k v ws st) (sampledExit (sampleOf st (dimensionAt ds 0) plan history) k v ws)
+
+-- THE PROMISE of `locustdomino_sample`. `after` is what the words and slices at exit stand for: the state that the call leaves, which has the property again
+pub record SamplesWords (ws ds : List ℕ) (plan : ℕ) (history cs ps ns : List ℕ) (k v : ℕ) (exit : SampledWords) : Type 0 where
+  pub whole : exit ≡ sampleWords ws ds plan history cs ps ns k v
+  pub keeps : sessionWidth ≤ length ws → SessionOk (exit .after)
 
 -- ---- the choice for a pool file
 

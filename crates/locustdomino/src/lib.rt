@@ -4,10 +4,18 @@ use model::Chosen;
 use model::Opening;
 use model::OptionUsize;
 use model::Outcome;
+use model::ParamValue;
 use model::Rng;
+use model::Sampling;
 ghost use mathlib.Core.Path.{_≡_};
+ghost use Prim.Native.Nat.{_≤_};
+ghost use lib.ListN.{length};
+ghost use Rattle.model.specs.Setting.{kindOf};
+ghost use Rattle.model.specs.Session.{state};
+ghost use Rattle.model.specs.Property.{SessionOk};
+ghost use Rattle.session_words.specs.Coding.{sessionOf};
 ghost use Rattle.model.specs.Calls.{wordRequest, lent, selectOf, stepOf, chooseOf};
-ghost use Rattle.locustdomino.specs.Coded.{codeOf, keptOf, selected, stepped, rngOf, wordOperators, chosenCode, chosenLength, listed, optional, OpensWords};
+ghost use Rattle.locustdomino.specs.Coded.{codeOf, keptOf, selected, stepped, rngOf, wordOperators, chosenCode, chosenLength, listed, optional, OpensWords, sampledWords, SamplesWords};
 
 fn wide(n: u8) -> u64
     ensures { λ r. ⌜ r ≡ n ⌝ }
@@ -165,6 +173,67 @@ pub extern "C" fn locustdomino_open(
             }
             let state = opened.session;
             session_words::words_of_session(state, session);
+            0
+        }
+    }
+}
+
+// The number of a setting's kind: 0 Float, 1 Int, 2 Categorical.
+fn kind_of(v: ParamValue) -> u64
+    ensures { λ r. ⌜ r ≡ kindOf v ⌝ }
+{
+    match v {
+        ParamValue::Float(_) => 0,
+        ParamValue::Int(_) => 1,
+        ParamValue::Categorical(_) => 2,
+    }
+}
+
+// `sample`: the session's words are read, and those of the session that it answers are written; a refusal writes none. Asked of the caller is the session
+// property of the words and of what is lent beside them, which `locustdomino_open` gives and this call keeps. A session slice of fewer than 222 words, or a
+// dimension of fewer than six, meets 10, and nothing is asked of it.
+#[no_mangle]
+pub extern "C" fn locustdomino_sample(
+    session: &mut [u64],
+    dimension: &[u64],
+    plan: u64,
+    history: &[u64],
+    candidates: &mut [u64],
+    plans: &mut [u64],
+    next_dims: &mut [usize],
+    kind: &mut u64,
+    value: &mut u64,
+) -> u64
+    requires { ⌜ (222 ≤ length (now session) → SessionOk (state (sessionOf (now session)) (now candidates) (now plans) (now «next_dims»))) ⌝ }
+    ensures { λ r. ⌜ SamplesWords (now (session .entry)) (now (dimension .entry)) plan (now (history .entry)) (now (candidates .entry)) (now (plans .entry)) (now («next_dims» .entry))
+        (now (kind .entry)) (now (value .entry))
+        (sampledWords r (now (kind .exit)) (now (value .exit)) (now (session .exit)) (state (sessionOf (now (session .exit))) (now (candidates .exit)) (now (plans .exit)) (now («next_dims» .exit)))) ⌝ }
+{
+    if session.len() < session_words::SESSION_WORDS {
+        return 10;
+    }
+    if dimension.len() < session_words::DIMENSION_WORDS {
+        return 10;
+    }
+    let before = session_words::session_of_words(session);
+    let distribution = session_words::dimension_of_words(dimension, 0);
+    let sampled = session::sample(
+        before,
+        distribution,
+        plan,
+        history,
+        candidates,
+        plans,
+        next_dims,
+    );
+    let outcome = sampled.outcome;
+    match outcome {
+        Sampling::Refused(n) => wide(n),
+        Sampling::Setting(v) => {
+            let after = sampled.session;
+            session_words::words_of_session(after, session);
+            *kind = kind_of(v);
+            *value = settings::to_word(v);
             0
         }
     }
