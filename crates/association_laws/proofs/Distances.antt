@@ -61,7 +61,7 @@ zero-sum : T (fits binary64 minusNought) × T (le nought minusNought) × T (le n
 unfolding ofBits fits le add
 zero-sum = (tt, tt, tt)
 
-sum-low : (x y : Float) → Number binary64 x → Number binary64 y → T (le nought x) → T (le nought y) → T (le nought (x ⊕ y))
+pub sum-low : (x y : Float) → Number binary64 x → Number binary64 y → T (le nought x) → T (le nought y) → T (le nought (x ⊕ y))
 sum-low x y X Y a b =
     le-trans nought (nought ⊕ nought) (x ⊕ y) (zero-sum .2) (add-mono binary64 nought x nought y (nought-number binary64) X (nought-number binary64) Y a b)
 

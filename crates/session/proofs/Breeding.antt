@@ -25,7 +25,8 @@ use Rattle.model.specs.Refusal.{goodIdeal, measurable, isInfinity, stepRefusal,
 use Rattle.model.specs.Calls.{refusedBy, wordRequest, roomOf, stepAccepted, stepBy, stepOf}
 use Rattle.model.specs.Property.{SessionOk}
 use Rattle.session_laws.proofs.Request.{bred-length, bred-request, step-refusal}
-use Rattle.session.specs.Exits.{Stepped, stepped, takenOf, blankLent, stepOn, bredSession, breedRefusal, bredExit, breedBy, breedOf}
+use Rattle.session_parts.specs.Exits.{bredSession}
+use Rattle.session.specs.Exits.{Stepped, stepped, takenOf, blankLent, stepOn, breedRefusal, bredExit, breedBy, breedOf}
 
 -- an ideal that is good has its m entries
 pub ideal-room : (m : ℕ) (ideal : List Float) → goodIdeal m (take m ideal) ≡ true → m ≤ length ideal

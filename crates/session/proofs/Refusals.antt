@@ -19,7 +19,6 @@ use Rattle.model.specs.Session.{State, Answered, state, discovers, discover, ac
 use Rattle.model.specs.Refusal.{Check, check, firstOf, sampleRefusal, badPool, badParents, maxHistory}
 use Rattle.model.specs.Calls.{SampleExit, sampleBy, sampleOf}
 use Rattle.session_laws.proofs.Tests.{or-left, or-right}
-use Rattle.session_parts.proofs.Records.{has-place}
 use Rattle.session_parts.specs.Exits.{exit, settled}
 use Rattle.session.specs.Exits.{refusedWith}
 
@@ -51,19 +50,12 @@ at-none a b c d e f ea eb ec ed ee ef = rw (ea, eb, ec, ed, ee, ef)
 pub no-and : (a b : Bool) → a ≡ false → (a && b) ≡ false
 no-and a b e = ap (λ (x : Bool). x && b) e
 
--- a dimension that is not refused, and a plan's place
+-- a dimension that is not refused
 pub few-dimensions : (n : ℕ) (d : Distribution) → (leb maxSettings n || not (validDimension d)) ≡ false → n < 32
 few-dimensions n d e = leb-false maxSettings n (or-left (leb maxSettings n) _ e)
 
 pub valid-one : (n : ℕ) (d : Distribution) → (leb maxSettings n || not (validDimension d)) ≡ false → validDimension d ≡ true
 valid-one n d e = by-bool (validDimension d) (λ v. v) (λ v. absurd (true≢false (ap not (sym v) ∙ or-right (leb maxSettings n) _ e)))
-
-pub is-new-by : (ps : List ℕ) (n plan i : ℕ) → n ≤ length ps → i ≡ placeIn (take n ps) plan → not (has (take n ps) plan) ≡ leb n i
-is-new-by ps n plan i h e =
-    ap not (has-place (take n ps) plan ∙ ap₂ (λ (a b : ℕ). ltb a b) (sym e) (length-take-le n ps h))
-    ∙ by-bool (leb n i)
-    (λ b. ap not (le-ltb i n (leb-true n i b)) ∙ sym b)
-    (λ b. ap not (lt-ltb i n (leb-false n i b)) ∙ sym b)
 
 -- the test for a call that adds a dimension, of a state
 pub adds : (s : Session) (plan : ℕ) (cs ps ns : List ℕ) → (not (pastDiscovery (s .phase)) && discoversFor (s .«discovery_trial_id») plan) ≡ true
