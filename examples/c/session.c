@@ -65,7 +65,7 @@ int main(void)
     const uint8_t directions[2] = {0, 0};
     const uint64_t dimensions[DIMENSIONS][LOCUSTDOMINO_DIMENSION_WORDS] = {
         {LOCUSTDOMINO_FLOAT, bits(0.1), bits(2.5), 0, 0, 0},
-        {LOCUSTDOMINO_INT, word_of_int(2), word_of_int(12), 0, 1, word_of_int(2)},
+        {LOCUSTDOMINO_INT, word_of_int(2), word_of_int(12), 0, 0, 0},
         {LOCUSTDOMINO_CATEGORICAL, 3, 0, 0, 0, 0},
     };
     size_t tried = 0;

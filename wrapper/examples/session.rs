@@ -21,7 +21,7 @@ fn main() -> Result<(), Refusal> {
     let directions = Directions::new(&[Direction::Minimize, Direction::Minimize])?;
     let dimensions = [
         Dimension::float(0.1, 2.5)?,
-        Dimension::stepped(2, 12, 2)?,
+        Dimension::int(2, 12)?,
         Dimension::categorical(3)?,
     ];
     let mut session = Session::open(&directions, 7, Some(SIZE), None, &Operators::default())?;
