@@ -45,8 +45,8 @@ use plans::Plan;
 use sampler::{genetic, nsga3};
 
 unsafe extern "C" {
-    /// The crate `select_export`: a slice is its start and its length.
-    fn select_nsga3(
+    /// The crate `locustdomino`: a slice is its start and its length.
+    fn locustdomino_select(
         pool: *const u64,
         words: usize,
         directions: *const u8,
@@ -146,7 +146,7 @@ impl Proved {
     fn select(&mut self) -> u64 {
         // Every slice is given with its own length, and they are apart.
         unsafe {
-            select_nsga3(
+            locustdomino_select(
                 self.words.as_ptr(),
                 self.words.len(),
                 self.directions.as_ptr(),

@@ -1,0 +1,269 @@
+// The public calls under C names, for controllers and stations in other languages. include/locustdomino.h says how each is called.
+// A call answers 0, or the number of the refusal. A refused call leaves all that it was lent as it was.
+use model::Chosen;
+use model::Opening;
+use model::OptionUsize;
+use model::Outcome;
+use model::ParamValue;
+use model::Rng;
+use model::Sampling;
+ghost use mathlib.Core.Path.{_≡_};
+ghost use Prim.Native.Nat.{_≤_};
+ghost use lib.ListN.{length};
+ghost use Rattle.model.specs.Setting.{kindOf};
+ghost use Rattle.model.specs.Session.{state};
+ghost use Rattle.model.specs.Property.{SessionOk};
+ghost use Rattle.session_words.specs.Coding.{sessionOf};
+ghost use Rattle.model.specs.Calls.{wordRequest, lent, selectOf, stepOf, chooseOf};
+ghost use Rattle.locustdomino.specs.Coded.{codeOf, keptOf, selected, stepped, rngOf, wordOperators, chosenCode, chosenLength, listed, optional, OpensWords, sampledWords, SamplesWords};
+
+fn wide(n: u8) -> u64
+    ensures { λ r. ⌜ r ≡ n ⌝ }
+{
+    n as u64
+}
+
+fn code(outcome: Outcome) -> u64
+    ensures { λ r. ⌜ r ≡ codeOf outcome ⌝ }
+{
+    match outcome {
+        Outcome::Kept(n) => 0,
+        Outcome::Refused(n) => wide(n),
+    }
+}
+
+fn count(outcome: Outcome, old: usize) -> usize
+    ensures { λ r. ⌜ r ≡ keptOf outcome old ⌝ }
+{
+    match outcome {
+        Outcome::Kept(n) => n,
+        Outcome::Refused(n) => old,
+    }
+}
+
+// `nsga3_select`: the generator's state moves on in place. The kept list is as long as the size.
+#[no_mangle]
+pub extern "C" fn locustdomino_select(
+    pool: &[u64],
+    directions: &[u8],
+    divisions: usize,
+    size: usize,
+    state: &mut u64,
+    ideal: &mut [f64],
+    kept: &mut [usize],
+    fronts: &mut [usize],
+    lines: &mut [usize],
+) -> u64
+    ensures { λ r. ⌜ record { code = r; state = now (state .exit); ideal = now (ideal .exit); slices = lent (now (kept .exit)) (now (fronts .exit)) (now (lines .exit)) }
+        ≡ selected (selectOf (wordRequest (now (pool .entry)) (now (directions .entry)) divisions size (rngOf (now (state .entry))) (now (ideal .entry)))
+        (lent (now (kept .entry)) (now (fronts .entry)) (now (lines .entry)))) ⌝ }
+{
+    let answer = nsga3::nsga3_select(
+        pool,
+        directions,
+        divisions,
+        size,
+        Rng { s: *state },
+        ideal,
+        kept,
+        fronts,
+        lines,
+    );
+    let rng = answer.rng;
+    *state = rng.s;
+    let outcome = answer.outcome;
+    code(outcome)
+}
+
+// `nsga3_generate_offspring`: the dimensions are as many as their slice has whole, six words each. `n_kept` is the kept list's length: the size, or 0 for a pool
+// of one plan.
+#[no_mangle]
+pub extern "C" fn locustdomino_generate_offspring(
+    pool: &[u64],
+    directions: &[u8],
+    divisions: usize,
+    size: usize,
+    state: &mut u64,
+    dimensions: &[u64],
+    crossover_prob: f64,
+    crossover_eta: f64,
+    mutation_eta: f64,
+    ideal: &mut [f64],
+    kept: &mut [usize],
+    fronts: &mut [usize],
+    lines: &mut [usize],
+    offspring: &mut [u64],
+    n_kept: &mut usize,
+) -> u64
+    ensures { λ r. ⌜ record { code = r; kept = now («n_kept» .exit); state = now (state .exit); ideal = now (ideal .exit); slices = lent (now (kept .exit)) (now (fronts .exit)) (now (lines .exit)); offspring = now (offspring .exit) }
+        ≡ stepped (now («n_kept» .entry)) (stepOf (wordOperators (now (dimensions .entry)) «crossover_prob» «crossover_eta» «mutation_eta»)
+        (wordRequest (now (pool .entry)) (now (directions .entry)) divisions size (rngOf (now (state .entry))) (now (ideal .entry)))
+        (lent (now (kept .entry)) (now (fronts .entry)) (now (lines .entry))) (now (offspring .entry))) ⌝ }
+{
+    let n_dims = dimensions.len() / session_words::DIMENSION_WORDS;
+    let infos = session_words::dimensions_of_words(dimensions, 0);
+    let answer = generation::nsga3_generate_offspring(
+        pool,
+        directions,
+        divisions,
+        size,
+        Rng { s: *state },
+        infos,
+        n_dims,
+        crossover_prob,
+        crossover_eta,
+        mutation_eta,
+        ideal,
+        kept,
+        fronts,
+        lines,
+        offspring,
+    );
+    let rng = answer.rng;
+    *state = rng.s;
+    let outcome = answer.outcome;
+    *n_kept = count(outcome, *n_kept);
+    code(outcome)
+}
+
+// What may be left out: a mark of 0 says that it is.
+fn optional(has: u8, n: usize) -> OptionUsize
+    ensures { λ r. ⌜ r ≡ optional has n ⌝ }
+{
+    if has == 0 {
+        return OptionUsize::None;
+    }
+    OptionUsize::Some(n)
+}
+
+// `open`: the session's words go to the slice's front. A slice of fewer than 222 words meets 10, where no other number applies.
+#[no_mangle]
+pub extern "C" fn locustdomino_open(
+    directions: &[u8],
+    seed: u64,
+    has_size: u8,
+    size: usize,
+    has_divisions: u8,
+    divisions: usize,
+    crossover_prob: f64,
+    crossover_eta: f64,
+    mutation_eta: f64,
+    session: &mut [u64],
+) -> u64
+    ensures { λ r. ⌜ OpensWords (now (directions .entry)) seed (optional «has_size» size) (optional «has_divisions» divisions) «crossover_prob» «crossover_eta» «mutation_eta»
+        (now (session .entry)) r (now (session .exit)) ⌝ }
+{
+    let size = optional(has_size, size);
+    let divisions = optional(has_divisions, divisions);
+    let opened = session_parts::open(
+        directions,
+        seed,
+        size,
+        divisions,
+        crossover_prob,
+        crossover_eta,
+        mutation_eta,
+    );
+    let outcome = opened.outcome;
+    match outcome {
+        Opening::Refused(n) => wide(n),
+        Opening::Ready => {
+            if session.len() < session_words::SESSION_WORDS {
+                return 10;
+            }
+            let state = opened.session;
+            session_words::words_of_session(state, session);
+            0
+        }
+    }
+}
+
+// The number of a setting's kind: 0 Float, 1 Int, 2 Categorical.
+fn kind_of(v: ParamValue) -> u64
+    ensures { λ r. ⌜ r ≡ kindOf v ⌝ }
+{
+    match v {
+        ParamValue::Float(_) => 0,
+        ParamValue::Int(_) => 1,
+        ParamValue::Categorical(_) => 2,
+    }
+}
+
+// `sample`: the session's words are read, and those of the session that it answers are written; a refusal writes none. Asked of the caller is the session
+// property of the words and of what is lent beside them, which `locustdomino_open` gives and this call keeps. A session slice of fewer than 222 words, or a
+// dimension of fewer than six, meets 10, and nothing is asked of it.
+#[no_mangle]
+pub extern "C" fn locustdomino_sample(
+    session: &mut [u64],
+    dimension: &[u64],
+    plan: u64,
+    history: &[u64],
+    candidates: &mut [u64],
+    plans: &mut [u64],
+    next_dims: &mut [usize],
+    kind: &mut u64,
+    value: &mut u64,
+) -> u64
+    requires { ⌜ (222 ≤ length (now session) → SessionOk (state (sessionOf (now session)) (now candidates) (now plans) (now «next_dims»))) ⌝ }
+    ensures { λ r. ⌜ SamplesWords (now (session .entry)) (now (dimension .entry)) plan (now (history .entry)) (now (candidates .entry)) (now (plans .entry)) (now («next_dims» .entry))
+        (now (kind .entry)) (now (value .entry))
+        (sampledWords r (now (kind .exit)) (now (value .exit)) (now (session .exit)) (state (sessionOf (now (session .exit))) (now (candidates .exit)) (now (plans .exit)) (now («next_dims» .exit)))) ⌝ }
+{
+    if session.len() < session_words::SESSION_WORDS {
+        return 10;
+    }
+    if dimension.len() < session_words::DIMENSION_WORDS {
+        return 10;
+    }
+    let before = session_words::session_of_words(session);
+    let distribution = session_words::dimension_of_words(dimension, 0);
+    let sampled = session::sample(
+        before,
+        distribution,
+        plan,
+        history,
+        candidates,
+        plans,
+        next_dims,
+    );
+    let outcome = sampled.outcome;
+    match outcome {
+        Sampling::Refused(n) => wide(n),
+        Sampling::Setting(v) => {
+            let after = sampled.session;
+            session_words::words_of_session(after, session);
+            *kind = kind_of(v);
+            *value = settings::to_word(v);
+            0
+        }
+    }
+}
+
+fn chosen_code(answer: Chosen) -> u64
+    ensures { λ r. ⌜ r ≡ chosenCode answer ⌝ }
+{
+    match answer {
+        Chosen::Written(n) => 0,
+        Chosen::Refused(n) => wide(n),
+    }
+}
+
+fn chosen_length(answer: Chosen, old: usize) -> usize
+    ensures { λ r. ⌜ r ≡ chosenLength answer old ⌝ }
+{
+    match answer {
+        Chosen::Written(n) => n,
+        Chosen::Refused(n) => old,
+    }
+}
+
+// `choose`: the text for a pool file, and its length.
+#[no_mangle]
+pub extern "C" fn locustdomino_choose(file: &[u8], out: &mut [u8], length: &mut usize) -> u64
+    ensures { λ r. ⌜ record { code = r; length = now (length .exit); out = now (out .exit) }
+        ≡ listed (now (length .entry)) (chooseOf (now (file .entry)) (now (out .entry))) ⌝ }
+{
+    let answer = pool_choice::choose(file, out);
+    *length = chosen_length(answer, *length);
+    chosen_code(answer)
+}

@@ -1,0 +1,4 @@
+pub mod Marks
+pub mod Laid
+pub mod Stored
+pub mod Typed

@@ -1,0 +1,33 @@
+-- Field by field.
+use borrow.Author.Needs.{needs}
+use Rattle.session_words.proofs.float_words.Statement.{statement}
+use Rattle.session_words.proofs.float_words.Tie as tie
+
+word-of-real-requires : tie.Need-word-of-real-requires
+word-of-real-requires c κs = search needs
+
+word-of-real-requires-2 : tie.Need-word-of-real-requires-2
+word-of-real-requires-2 c κs = search needs
+
+mark-requires : tie.Need-mark-requires
+mark-requires c κs = search needs
+
+has-step-f64-requires : tie.Need-has-step-f64-requires
+has-step-f64-requires c κs = search needs
+
+step-word-f64-requires : tie.Need-step-word-f64-requires
+step-word-f64-requires c κs = search needs
+
+returns : tie.Need-returns
+returns c = cc
+
+pub float-words-spec : {M : Type 1} → statement M
+float-words-spec =
+    tie.close
+    (tie.spec
+    word-of-real-requires
+    word-of-real-requires-2
+    mark-requires
+    has-step-f64-requires
+    step-word-f64-requires
+    returns)

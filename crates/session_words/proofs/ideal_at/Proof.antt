@@ -1,0 +1,47 @@
+-- Place by place.
+use Rattle.session_words.specs.Coding.{idealAt}
+use borrow.Author.Needs.{needs}
+use Rattle.session_words.proofs.ideal_at.Statement.{statement}
+use Rattle.session_words.proofs.ideal_at.Tie as tie
+
+real-at-requires : tie.Need-real-at-requires
+real-at-requires c κs = search needs
+
+real-at-requires-2 : tie.Need-real-at-requires-2
+real-at-requires-2 c κs = search needs
+
+real-at-requires-3 : tie.Need-real-at-requires-3
+real-at-requires-3 c κs = search needs
+
+real-at-requires-4 : tie.Need-real-at-requires-4
+real-at-requires-4 c κs = search needs
+
+real-at-requires-5 : tie.Need-real-at-requires-5
+real-at-requires-5 c κs = search needs
+
+real-at-requires-6 : tie.Need-real-at-requires-6
+real-at-requires-6 c κs = search needs
+
+real-at-requires-7 : tie.Need-real-at-requires-7
+real-at-requires-7 c κs = search needs
+
+real-at-requires-8 : tie.Need-real-at-requires-8
+real-at-requires-8 c κs = search needs
+
+returns : tie.Need-returns
+unfolding idealAt
+returns c = cc
+
+pub ideal-at-spec : {M : Type 1} → statement M
+ideal-at-spec =
+    tie.close
+    (tie.spec
+    real-at-requires
+    real-at-requires-2
+    real-at-requires-3
+    real-at-requires-4
+    real-at-requires-5
+    real-at-requires-6
+    real-at-requires-7
+    real-at-requires-8
+    returns)

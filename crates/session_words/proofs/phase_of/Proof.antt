@@ -1,0 +1,16 @@
+-- A mark that is not 0 is yes.
+use mathlib.Core.Path.{refl, sym}
+use Rattle.session_words.proofs.Marks.{by-suc}
+use Rattle.session_words.specs.Coding.{phaseOf}
+use borrow.Author.Needs.{needs}
+use Rattle.session_words.proofs.phase_of.Statement.{statement}
+use Rattle.session_words.proofs.phase_of.Tie as tie
+
+returns : tie.Need-returns
+returns c = search needs
+
+returns-2 : tie.Need-returns-2
+returns-2 c = sym (by-suc phaseOf _ (λ k. refl) (c .before .args .w) (c .if1 .left))
+
+pub phase-of-spec : {M : Type 1} → statement M
+phase-of-spec = tie.close (tie.spec returns returns-2)

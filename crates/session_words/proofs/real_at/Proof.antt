@@ -1,0 +1,16 @@
+-- A word, read as a real.
+use borrow.Author.Needs.{needs}
+use Rattle.session_words.proofs.real_at.Statement.{statement}
+use Rattle.session_words.proofs.real_at.Tie as tie
+
+word-at-requires : tie.Need-word-at-requires
+word-at-requires c κs = search needs
+
+real-of-word-requires : tie.Need-real-of-word-requires
+real-of-word-requires c κs = search needs
+
+returns : tie.Need-returns
+returns c = cc
+
+pub real-at-spec : {M : Type 1} → statement M
+real-at-spec = tie.close (tie.spec word-at-requires real-of-word-requires returns)

@@ -1,0 +1,55 @@
+-- Field by field.
+use Rattle.session_words.specs.Coding.{sessionOf}
+use borrow.Author.Needs.{needs}
+use Rattle.session_words.proofs.session_of_words.Statement.{statement}
+use Rattle.session_words.proofs.session_of_words.Tie as tie
+
+config-at-requires : tie.Need-config-at-requires
+config-at-requires c κs = search needs
+
+word-at-requires : tie.Need-word-at-requires
+word-at-requires c κs = search needs
+
+phase-of-requires : tie.Need-phase-of-requires
+phase-of-requires c κs = search needs
+
+word-at-requires-2 : tie.Need-word-at-requires-2
+word-at-requires-2 c κs = search needs
+
+word-at-requires-3 : tie.Need-word-at-requires-3
+word-at-requires-3 c κs = search needs
+
+first-of-requires : tie.Need-first-of-requires
+first-of-requires c κs = search needs
+
+word-at-requires-4 : tie.Need-word-at-requires-4
+word-at-requires-4 c κs = search needs
+
+dimensions-of-words-requires : tie.Need-dimensions-of-words-requires
+dimensions-of-words-requires c κs = search needs
+
+ideal-at-requires : tie.Need-ideal-at-requires
+ideal-at-requires c κs = search needs
+
+progress-at-requires : tie.Need-progress-at-requires
+progress-at-requires c κs = search needs
+
+returns : tie.Need-returns
+unfolding sessionOf
+returns c = cc
+
+pub session-of-words-spec : {M : Type 1} → statement M
+session-of-words-spec =
+    tie.close
+    (tie.spec
+    config-at-requires
+    word-at-requires
+    phase-of-requires
+    word-at-requires-2
+    word-at-requires-3
+    first-of-requires
+    word-at-requires-4
+    dimensions-of-words-requires
+    ideal-at-requires
+    progress-at-requires
+    returns)

@@ -1,0 +1,174 @@
+-- A session and its dimensions as words. Any words stand for some session, and the words of a session stand for it.
+use Prim.Native.Nat.{ℕ, zero, suc, _+_, _*_, _%_, _/_}
+use mathlib.Core.Bool.{Bool, true, false}
+use mathlib.Core.List.{List, [], _∷_, _++_}
+use lib.Ieee.{Float, nan}
+use lib.ListN.{length, getD}
+use Rattle.model.specs.declared.Distribution.{Distribution}
+use Rattle.model.specs.declared.Distribution.the-variants as dist
+use Rattle.model.specs.declared.DimensionInfo.{DimensionInfo}
+use Rattle.model.specs.declared.OptionF64.{OptionF64}
+use Rattle.model.specs.declared.OptionF64.the-variants as optF64
+use Rattle.model.specs.declared.OptionI64.{OptionI64}
+use Rattle.model.specs.declared.OptionI64.the-variants as optI64
+use Rattle.model.specs.declared.OptionU64.{OptionU64}
+use Rattle.model.specs.declared.OptionU64.the-variants as optU64
+use Rattle.model.specs.declared.Phase.{Phase}
+use Rattle.model.specs.declared.Phase.the-variants.{Discovery, Active}
+use Rattle.model.specs.declared.Config.{Config}
+use Rattle.model.specs.declared.Progress.{Progress}
+use Rattle.model.specs.declared.Session.{Session}
+use Rattle.model.specs.Lists.{one, listBelow, joinBelow}
+use Rattle.model.specs.Real.{real, bits}
+use Rattle.model.specs.Setting.{wordOfInt, intOfWord}
+use Rattle.model.specs.Session.{dimensionOf, progress}
+
+-- a mark: 0 is no, any other word is yes
+abbrev pub marked : ℕ → Bool
+marked zero = false
+marked (suc n) = true
+
+-- ---- a dimension is six words: kind (0 Float, 1 Int, else Categorical), low or the number of choices, high, log scale, whether there is a step, step
+
+abbrev pub dimensionWidth : ℕ
+dimensionWidth = 6
+
+abbrev pub hasStepF64 : OptionF64 → ℕ
+hasStepF64 optF64.None = 0
+hasStepF64 (optF64.Some x) = 1
+
+abbrev pub stepWordF64 : OptionF64 → ℕ
+stepWordF64 optF64.None = 0
+stepWordF64 (optF64.Some x) = bits x
+
+abbrev pub hasStepI64 : OptionI64 → ℕ
+hasStepI64 optI64.None = 0
+hasStepI64 (optI64.Some n) = 1
+
+abbrev pub stepWordI64 : OptionI64 → ℕ
+stepWordI64 optI64.None = 0
+stepWordI64 (optI64.Some n) = wordOfInt n
+
+abbrev pub dimensionWords : Distribution → List ℕ
+dimensionWords (dist.Float d) =
+    0 ∷ bits (d .low) ∷ bits (d .high) ∷ one (d .«log_scale») ∷ hasStepF64 (d .step) ∷ stepWordF64 (d .step) ∷ []
+dimensionWords (dist.Int d) =
+    1 ∷ wordOfInt (d .low) ∷ wordOfInt (d .high) ∷ one (d .«log_scale») ∷ hasStepI64 (d .step) ∷ stepWordI64 (d .step) ∷ []
+dimensionWords (dist.Categorical d) = 2 ∷ d .«n_choices» ∷ 0 ∷ 0 ∷ 0 ∷ 0 ∷ []
+
+abbrev pub stepF64 : ℕ → ℕ → OptionF64
+stepF64 zero w = optF64.None
+stepF64 (suc n) w = optF64.Some (real w)
+
+abbrev pub stepI64 : ℕ → ℕ → OptionI64
+stepI64 zero w = optI64.None
+stepI64 (suc n) w = optI64.Some (intOfWord w)
+
+abbrev pub distributionOf : ℕ → ℕ → ℕ → ℕ → ℕ → ℕ → Distribution
+distributionOf zero low high log has step =
+    dist.Float (record { low = real low; high = real high; «log_scale» = marked log; step = stepF64 has step })
+distributionOf (suc zero) low high log has step =
+    dist.Int (record { low = intOfWord low; high = intOfWord high; «log_scale» = marked log; step = stepI64 has step })
+distributionOf (suc (suc k)) low high log has step = dist.Categorical (record { «n_choices» = low })
+
+-- the dimension whose words begin at a place; past the end of a slice every word reads as 0
+abbrev pub dimensionAt : List ℕ → ℕ → Distribution
+dimensionAt ws at =
+    distributionOf (getD ws at 0) (getD ws (at + 1) 0) (getD ws (at + 2) 0) (getD ws (at + 3) 0) (getD ws (at + 4) 0) (getD ws (at + 5) 0)
+
+-- the first 32 dimensions from a place on
+abbrev pub infoAt : List ℕ → ℕ → ℕ → DimensionInfo
+infoAt ws from d = record { distribution = dimensionAt ws (from + d * dimensionWidth) }
+
+unfoldable pub dimensionsAt : List ℕ → ℕ → List DimensionInfo
+dimensionsAt ws from = listBelow (infoAt ws from) 32
+
+-- how many dimensions a slice holds: those that are there whole
+abbrev pub dimensionCount : List ℕ → ℕ
+dimensionCount ws = length ws / dimensionWidth
+
+-- ---- a session is 222 words: 30 of its own, and 32 dimensions
+
+abbrev pub headWidth : ℕ
+headWidth = 30
+
+abbrev pub sessionWidth : ℕ
+sessionWidth = 222
+
+abbrev pub phaseWord : Phase → ℕ
+phaseWord Discovery = 0
+phaseWord Active = 1
+
+abbrev pub phaseOf : ℕ → Phase
+phaseOf zero = Discovery
+phaseOf (suc n) = Active
+
+abbrev pub hasFirst : OptionU64 → ℕ
+hasFirst optU64.None = 0
+hasFirst (optU64.Some plan) = 1
+
+abbrev pub firstWord : OptionU64 → ℕ
+firstWord optU64.None = 0
+firstWord (optU64.Some plan) = plan
+
+abbrev pub firstOf : ℕ → ℕ → OptionU64
+firstOf zero w = optU64.None
+firstOf (suc n) w = optU64.Some w
+
+-- eight places of an array
+abbrev pub eight : {A : Type 0} → (ℕ → A) → List A
+eight f = f 0 ∷ f 1 ∷ f 2 ∷ f 3 ∷ f 4 ∷ f 5 ∷ f 6 ∷ f 7 ∷ []
+
+-- 0 objectives, 1 to 8 directions, 9 divisions, 10 size, 11 crossover probability, 12 crossover eta, 13 mutation eta
+unfoldable pub configWords : Config → List ℕ
+configWords c =
+    c .«n_obj» ∷ eight (λ i. getD (c .directions) i 0)
+    ++ (c .divisions ∷ c .«population_size» ∷ bits (c .«crossover_prob») ∷ bits (c .«crossover_eta») ∷ bits (c .«mutation_eta») ∷ [])
+
+-- 14 phase (0 discovery, else active), 15 whether there is a first plan, 16 its number, 17 generator, 18 dimensions, 19 candidates, 20 plans, 21 generation
+unfoldable pub stateWords : Session → List ℕ
+stateWords s =
+    let p = s .progress in
+    phaseWord (s .phase) ∷ hasFirst (s .«discovery_trial_id») ∷ firstWord (s .«discovery_trial_id») ∷ s .rng .s
+    ∷ p .«n_dims» ∷ p .«n_candidates» ∷ p .«n_plans» ∷ p .generation ∷ []
+
+-- 22 to 29 ideal
+unfoldable pub idealWords : List Float → List ℕ
+idealWords ideal = eight (λ i. bits (getD ideal i nan))
+
+-- and from 30 on the dimensions
+unfoldable pub sessionWords : Session → List ℕ
+sessionWords s =
+    configWords (s .config) ++ (stateWords s ++ (idealWords (s .«ideal_point») ++ joinBelow (λ d. dimensionWords (dimensionOf s d)) 32))
+
+-- a direction is a byte
+unfoldable pub marksAt : List ℕ → List ℕ
+marksAt ws = eight (λ i. getD ws (1 + i) 0 % 256)
+
+unfoldable pub idealAt : List ℕ → List Float
+idealAt ws = eight (λ i. real (getD ws (22 + i) 0))
+
+abbrev pub configAt : List ℕ → Config
+configAt ws = record {
+  «n_obj» = getD ws 0 0;
+  directions = marksAt ws;
+  divisions = getD ws 9 0;
+  «population_size» = getD ws 10 0;
+  «crossover_prob» = real (getD ws 11 0);
+  «crossover_eta» = real (getD ws 12 0);
+  «mutation_eta» = real (getD ws 13 0);
+}
+
+abbrev pub progressAt : List ℕ → Progress
+progressAt ws = progress (getD ws 18 0) (getD ws 19 0) (getD ws 20 0) (getD ws 21 0)
+
+unfoldable pub sessionOf : List ℕ → Session
+sessionOf ws = record {
+  config = configAt ws;
+  phase = phaseOf (getD ws 14 0);
+  «discovery_trial_id» = firstOf (getD ws 15 0) (getD ws 16 0);
+  rng = record { s = getD ws 17 0 };
+  dimensions = dimensionsAt ws headWidth;
+  «ideal_point» = idealAt ws;
+  progress = progressAt ws;
+}

@@ -1,0 +1,137 @@
+/* Locustdomino: which plans of a pool to keep (NSGA-III), the next plans to try, and sessions that ask for settings one by one.
+ *
+ * Link with the archive that `rt staticlib locustdomino` writes. Each call is proved to do what its definition says
+ * (crates/model/specs/Calls.antt). A slice is a pointer and a number of entries.
+ *
+ * What every call asks of its caller:
+ *   - a pointer is aligned and points to as many entries as its length says, and is not null, also where that length is 0;
+ *   - what is lent for writing overlaps nothing else that is passed.
+ * What every call answers: LOCUSTDOMINO_ACCEPTED, or the number of the first refusal that applies. A refused call writes
+ * nothing, and leaves the generator where it was.
+ *
+ * A real as a word is its 64 IEEE bits; every NaN is one. An Int n as a word is 2n from zero up and -2n - 1 below. */
+#ifndef LOCUSTDOMINO_H
+#define LOCUSTDOMINO_H
+
+#include <stddef.h>
+#include <stdint.h>
+
+#ifdef __cplusplus
+extern "C" {
+#endif
+
+enum {
+    LOCUSTDOMINO_ACCEPTED = 0,
+    LOCUSTDOMINO_BAD_FORM = 1,       /* a pool file's form is broken */
+    LOCUSTDOMINO_BAD_DIRECTIONS = 2, /* objectives are not 1 to 8, or a direction is neither 0 nor 1 */
+    LOCUSTDOMINO_BAD_SIZE = 3,       /* a session's size is above 1,024; another's is 0 or above 1,024 */
+    LOCUSTDOMINO_BAD_DIVISIONS = 4,  /* divisions are not 1 to 199, or there would be over 1,024 lines */
+    LOCUSTDOMINO_BAD_OPERATORS = 5,  /* an eta is no whole number 0 to 99, or the probability is not within 0..1 */
+    LOCUSTDOMINO_BAD_DIMENSION = 6,  /* a dimension is not valid, or is the 33rd */
+    LOCUSTDOMINO_BAD_COUNT = 7,      /* a pool is empty or above 1,024 plans, or a history is above 4,096 */
+    LOCUSTDOMINO_BAD_PLAN = 8,       /* a plan's row, constraints or the ideal: a wrong length, a NaN, or beyond 2^1000 */
+    LOCUSTDOMINO_BAD_PARENT = 9,     /* a plan to be bred from has settings that do not fit its dimensions */
+    LOCUSTDOMINO_NO_ROOM = 10,       /* a lent slice is shorter than the call's full answer */
+    LOCUSTDOMINO_FULL = 11           /* a new plan number, and the generation has 2,048 plans */
+};
+
+/* A plan is 124 words. Pools and histories are plans one after the other; words after the last whole plan are not looked at.
+ *   0 number · 1 row length · 2.. 8 values · 10 constraint count · 11.. 16 constraints · 27 setting count ·
+ *   28.. 32 settings of three words: parameter number, kind, value
+ * What stands past a count is not looked at. */
+#define LOCUSTDOMINO_PLAN_WORDS 124
+#define LOCUSTDOMINO_PLAN_NUMBER 0
+#define LOCUSTDOMINO_PLAN_ROW_LENGTH 1
+#define LOCUSTDOMINO_PLAN_ROW 2
+#define LOCUSTDOMINO_PLAN_CONSTRAINT_COUNT 10
+#define LOCUSTDOMINO_PLAN_CONSTRAINTS 11
+#define LOCUSTDOMINO_PLAN_SETTING_COUNT 27
+#define LOCUSTDOMINO_PLAN_SETTINGS 28
+
+/* The kinds of settings and dimensions. A Categorical's value is its choice's number. */
+#define LOCUSTDOMINO_FLOAT 0
+#define LOCUSTDOMINO_INT 1
+#define LOCUSTDOMINO_CATEGORICAL 2
+
+/* A dimension is six words: kind, low (a Categorical: its number of choices), high, log scale, whether there is a step, step.
+ * A mark of 0 is no and any other yes. A kind other than 0 and 1 is Categorical. */
+#define LOCUSTDOMINO_DIMENSION_WORDS 6
+
+/* "No line", where a selection splits no front. */
+#define LOCUSTDOMINO_NO_LINE SIZE_MAX
+
+/* Sizes of what is lent with a session. The words of a session are not to be changed by the caller; they may be stored and
+ * brought back. */
+#define LOCUSTDOMINO_SESSION_WORDS 222
+#define LOCUSTDOMINO_CANDIDATE_WORDS 65536
+#define LOCUSTDOMINO_MAX_PLANS 2048
+#define LOCUSTDOMINO_MAX_HISTORY 4096
+
+/* The plans to keep: `kept` gets `size` places in the pool, `fronts` each plan's front and `lines` each plan's reference line.
+ * `state` is the generator's, `ideal` the ideal point; both move on. Refusals: 2, 3, 4, 7, 8, 10. */
+uint64_t locustdomino_select(
+    const uint64_t *pool, size_t pool_words,
+    const uint8_t *directions, size_t objectives, /* 0 minimise, 1 maximise */
+    size_t divisions, size_t size,
+    uint64_t *state,
+    double *ideal, size_t ideal_length,
+    size_t *kept, size_t kept_length,
+    size_t *fronts, size_t fronts_length,
+    size_t *lines, size_t lines_length);
+
+/* A generation step: selects, breeds from what is kept and writes the settings of `size` new plans to `offspring`, plan after
+ * plan, a word a setting, of the kind of its dimension. `dimensions` has six words a dimension. `n_kept` gets the length of the
+ * kept list: the size; or 0 for a pool of one plan, whose step selects nothing and writes neither kept, fronts nor lines.
+ * Refusals: 2 to 10. */
+uint64_t locustdomino_generate_offspring(
+    const uint64_t *pool, size_t pool_words,
+    const uint8_t *directions, size_t objectives,
+    size_t divisions, size_t size,
+    uint64_t *state,
+    const uint64_t *dimensions, size_t dimension_words,
+    double crossover_prob, double crossover_eta, double mutation_eta,
+    double *ideal, size_t ideal_length,
+    size_t *kept, size_t kept_length,
+    size_t *fronts, size_t fronts_length,
+    size_t *lines, size_t lines_length,
+    uint64_t *offspring, size_t offspring_words,
+    size_t *n_kept);
+
+/* Opens a session: its LOCUSTDOMINO_SESSION_WORDS words go to `session`. A size and divisions count where their mark is not 0.
+ * Refusals: 2, 3, 4, 5, 10. */
+uint64_t locustdomino_open(
+    const uint8_t *directions, size_t objectives,
+    uint64_t seed,
+    uint8_t has_size, size_t size,
+    uint8_t has_divisions, size_t divisions,
+    double crossover_prob, double crossover_eta, double mutation_eta,
+    uint64_t *session, size_t session_words);
+
+/* The next setting of plan `plan`. Its kind goes to `kind` and its word to `value`. While the first plan asks, each call adds
+ * `dimension` (six words) to the session; afterwards the dimension is ignored, but its six words must be there. `history` has the
+ * plans that were tried, with their values; once it has the present generation's plans, the next is bred.
+ * `candidates`, `plans` and `next_dims` are lent with every call and are the session's: 65,536, 2,048 and 2,048 entries at least.
+ * ASKED of the caller, and not checked: the session's words and the three slices are as locustdomino_open or the last
+ * locustdomino_sample left them (after opening the three may hold anything). A session slice of fewer than 222 words or a
+ * dimension of fewer than six meets 10, whatever else applies. Refusals: 6 to 11. */
+uint64_t locustdomino_sample(
+    uint64_t *session, size_t session_words,
+    const uint64_t *dimension, size_t dimension_words,
+    uint64_t plan,
+    const uint64_t *history, size_t history_words,
+    uint64_t *candidates, size_t candidate_words,
+    uint64_t *plans, size_t plans_length,
+    size_t *next_dims, size_t next_dims_length,
+    uint64_t *kind, uint64_t *value);
+
+/* The listing for a pool file; `length` gets its length, at most 20,501 bytes. Refusals: 1, 2, 3, 4, 7, 8, 10. */
+uint64_t locustdomino_choose(
+    const uint8_t *file, size_t file_length,
+    uint8_t *out, size_t out_length,
+    size_t *length);
+
+#ifdef __cplusplus
+}
+#endif
+
+#endif

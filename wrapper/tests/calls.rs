@@ -1,0 +1,97 @@
+//! Each call once accepted and once refused, and what a refusal leaves.
+
+use locustdomino::{
+    Dimension, Direction, Directions, Ideal, Operators, Plan, Refusal, Rng, Session, Setting, choose,
+    generate_offspring, select,
+};
+
+fn two() -> Directions {
+    Directions::new(&[Direction::Minimize, Direction::Maximize]).unwrap()
+}
+
+/// Plans on a line: each is better in one objective and worse in the other.
+fn pool(n: u64) -> Vec<Plan> {
+    let plan = |i| {
+        let settings = [(0, Setting::Float(i as f64 / n as f64)), (1, Setting::Int(-(i as i64)))];
+        Plan::new(i, &[i as f64, i as f64], &[], &settings).unwrap()
+    };
+    (0..n).map(plan).collect()
+}
+
+#[test]
+fn selection() {
+    let mut rng = Rng::with_seed(1);
+    let mut ideal = Ideal::unknown(&two());
+    let chosen = select(&pool(8), &two(), 4, 3, &mut rng, &mut ideal).unwrap();
+    assert_eq!(chosen.kept.len(), 3);
+    assert_eq!(chosen.fronts, [0; 8]);
+    assert!(chosen.lines.iter().all(|l| l.is_some_and(|l| l < 5)));
+    assert_eq!(ideal.values(), [0.0, -7.0]);
+
+    let state = rng.state();
+    assert_eq!(select(&pool(8), &two(), 4, 0, &mut rng, &mut ideal), Err(Refusal::Size));
+    assert_eq!(select(&pool(8), &two(), 4, usize::MAX, &mut rng, &mut ideal), Err(Refusal::Size));
+    assert_eq!(select(&[], &two(), 4, 3, &mut rng, &mut ideal), Err(Refusal::Count));
+    let nan = [Plan::new(0, &[f64::NAN, 0.0], &[], &[]).unwrap()];
+    assert_eq!(select(&nan, &two(), 4, 1, &mut rng, &mut ideal), Err(Refusal::Plan));
+    assert_eq!(rng.state(), state);
+}
+
+#[test]
+fn step() {
+    let dimensions = [Dimension::float(0.0, 1.0).unwrap(), Dimension::int(-10, 0).unwrap()];
+    let mut ideal = Ideal::unknown(&two());
+    let operators = Operators::default();
+    let mut rng = Rng::with_seed(1);
+    let bred = generate_offspring(&pool(8), &two(), 4, 5, &mut rng, &dimensions, &operators, &mut ideal).unwrap();
+    assert_eq!(bred.selection.kept.len(), 5);
+    assert_eq!(bred.plans.len(), 5);
+    for plan in &bred.plans {
+        let [Setting::Float(x), Setting::Int(n)] = plan[..] else { panic!("another kind") };
+        assert!((0.0..=1.0).contains(&x) && (-10..=0).contains(&n));
+    }
+    let one = generate_offspring(&pool(1), &two(), 4, 5, &mut rng, &dimensions, &operators, &mut ideal).unwrap();
+    assert!(one.selection.kept.is_empty() && one.plans.len() == 5);
+    let narrow = [Dimension::float(0.0, 0.5).unwrap()];
+    let refused = generate_offspring(&pool(8), &two(), 4, 5, &mut rng, &narrow, &operators, &mut ideal);
+    assert_eq!(refused, Err(Refusal::Parent));
+}
+
+#[test]
+fn session() {
+    let bad = Operators { crossover_prob: 2.0, ..Operators::default() };
+    assert_eq!(Session::open(&two(), 1, None, None, &bad).unwrap_err(), Refusal::Operators);
+    let mut session = Session::open(&two(), 1, Some(4), None, &Operators::default()).unwrap();
+    assert_eq!((session.size(), session.generation(), session.dimensions()), (4, 0, 0));
+    let x = Dimension::float(-1.0, 1.0).unwrap();
+    let mut history = vec![];
+    for number in 0..9 {
+        let setting = session.sample(&x, number, &history).unwrap();
+        let Setting::Float(v) = setting else { panic!("another kind") };
+        assert!((-1.0..=1.0).contains(&v));
+        history.push(Plan::new(number, &[v, v * v], &[], &[(0, setting)]).unwrap());
+    }
+    assert_eq!((session.generation(), session.dimensions()), (1, 1));
+    assert_eq!(session.plans(), [5, 6, 7, 8]);
+    let mut copy = session.clone();
+    let wrong = vec![history[0]; 4097];
+    assert_eq!(session.sample(&x, 9, &wrong), Err(Refusal::Count));
+    assert_eq!(session.sample(&x, 9, &history), copy.sample(&x, 9, &history));
+    assert_eq!(session.generation(), 2);
+}
+
+#[test]
+fn limits() {
+    assert_eq!(Directions::new(&[]), Err(Refusal::Directions));
+    assert_eq!(Dimension::float(1.0, 0.0), Err(Refusal::Dimension));
+    assert_eq!(Dimension::float(f64::NAN, 0.0), Err(Refusal::Dimension));
+    assert_eq!(Dimension::stepped(0, 4, 0), Err(Refusal::Dimension));
+    assert_eq!(Dimension::categorical(0), Err(Refusal::Dimension));
+    assert_eq!(Plan::new(0, &[0.0; 9], &[], &[]), Err(Refusal::Plan));
+    assert_eq!(Refusal::Full.number(), 11);
+}
+
+#[test]
+fn file() {
+    assert_eq!(choose(b"no pool"), Err(Refusal::Form));
+}
