@@ -1,0 +1,38 @@
+-- `no_step_room`: slice after slice
+use Prim.Native.Nat.{_*_, _≤_}
+use native.Mathlib.Omega.{arith}
+use Rattle.offspring.proofs.Ranks.{product}
+use Rattle.generation.proofs.Refusals.{room-offspring, room-of-one, room-kept, room-fronts, room-lines}
+use Rattle.generation.proofs.no_step_room.Statement.{statement}
+use Rattle.generation.proofs.no_step_room.Tie as tie
+
+mul-if1 : tie.Need-mul-if1
+mul-if1 c = let f = product (c .args .size) (c .args .n-dims) 1024 32 (c .pre .0) (c .pre .1) in record { fits = omega arith }
+
+returns : tie.Need-returns
+returns c =
+    let a = c .before .args in
+    room-offspring (a .size) (a .n) (a .n-dims) (a .kept) (a .fronts) (a .lines) (a .offspring) (c .if1 .taken)
+
+returns-2 : tie.Need-returns-2
+returns-2 c =
+    let a = c .before .before .args in
+    room-of-one (a .size) (a .n) (a .n-dims) (a .kept) (a .fronts) (a .lines) (a .offspring) (c .before .if1 .left) (c .if2 .taken)
+
+returns-3 : tie.Need-returns-3
+returns-3 c =
+    let a = c .before .before .before .args in
+    room-kept (a .size) (a .n) (a .n-dims) (a .kept) (a .fronts) (a .lines) (a .offspring) (c .before .before .if1 .left) (c .before .if2 .left) (c .if3 .taken)
+
+returns-4 : tie.Need-returns-4
+returns-4 c =
+    let a = c .before .before .before .before .args in
+    room-fronts (a .size) (a .n) (a .n-dims) (a .kept) (a .fronts) (a .lines) (a .offspring) (c .before .before .before .if1 .left) (c .before .before .if2 .left) (c .before .if3 .left) (c .if4 .taken)
+
+returns-5 : tie.Need-returns-5
+returns-5 c =
+    let a = c .before .before .before .before .args in
+    room-lines (a .size) (a .n) (a .n-dims) (a .kept) (a .fronts) (a .lines) (a .offspring) (c .before .before .before .if1 .left) (c .before .before .if2 .left) (c .before .if3 .left) (c .if4 .left)
+
+pub no-step-room-spec : {M : Type 1} → statement M
+no-step-room-spec = tie.close (tie.spec mul-if1 returns returns-2 returns-3 returns-4 returns-5)

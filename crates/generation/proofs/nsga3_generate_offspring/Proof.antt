@@ -1,0 +1,88 @@
+-- `nsga3_generate_offspring`: the refusal's number, or the step
+use Prim.Native.Nat.{ℕ, _≤_, _<_}
+use mathlib.Core.Path.{_≡_, ap, sym, _∙_}
+use mathlib.Core.Bool.{false}
+use native.Mathlib.Omega.{arith}
+use borrow.Author.Needs.{needs}
+use Rattle.model.specs.Setting.{Operators}
+use Rattle.model.specs.Refusal.{badDimensions}
+use Rattle.model.specs.Calls.{operators, Lent, lent}
+use Rattle.settings.specs.Candidate.{dimensionsOf}
+use Rattle.settings.proofs.Valid.{few}
+use Rattle.nsga3.specs.Checked.{checked}
+use Rattle.candidate_laws.proofs.Sound.{AllHeld}
+use Rattle.typed_laws.proofs.Held.{array-held}
+use Rattle.generation.proofs.Answer.{refused-so, stepped-so}
+use Rattle.generation.proofs.nsga3_generate_offspring.Statement.{statement}
+use Rattle.generation.proofs.nsga3_generate_offspring.Tie as tie
+
+abbrev ops : tie.Start → Operators
+ops s = operators (s .args .dimensions) (s .args .n-dims) (s .args .crossover-prob) (s .args .crossover-eta) (s .args .mutation-eta)
+
+abbrev at : tie.Start → Lent
+at s = lent (s .args .kept .now) (s .args .fronts .now) (s .args .lines .now)
+
+-- the dimensions' numbers are such as the machine holds
+held : (s : tie.Start) → badDimensions (dimensionsOf (s .args .dimensions)) (s .args .n-dims) ≡ false → AllHeld (dimensionsOf (s .args .dimensions)) (s .args .n-dims)
+held s good d h = let f = few _ _ good in array-held (s .args .dimensions) _ (s .good .1 .1 .1 .1 .1 .0) d (omega arith)
+
+refusal-requires : tie.Need-refusal-requires
+refusal-requires c κs = search needs
+
+enum-known-check : tie.Need-enum-known-check
+enum-known-check c = search needs
+
+enum-told : tie.Need-enum-told
+enum-told c = search needs
+
+step-requires : tie.Need-step-requires
+step-requires c κs = sym (sym (ap checked (c .before .before .before .before .before .enum-told .given .1)) ∙ c .before .before .before .before .before .before .before .refusal .ensures)
+
+same-length : tie.Need-same-length
+same-length c = search needs
+
+returns : tie.Need-returns
+returns c =
+    let s = c .before .before .before .before .before .before .before .before .before .before .before .before in
+    let a = s .args in
+    refused-so (ops s) (a .pool .now) (a .directions .now) (a .divisions) (a .size) (a .rng) (a .ideal .now) (at s) (a .offspring .now) (held s) _
+    (sym (ap checked (c .before .check .given .1)) ∙ c .before .before .before .refusal .ensures)
+
+same-length-2 : tie.Need-same-length-2
+same-length-2 c = search needs
+
+same-length-3 : tie.Need-same-length-3
+same-length-3 c = search needs
+
+same-length-4 : tie.Need-same-length-4
+same-length-4 c = search needs
+
+same-length-5 : tie.Need-same-length-5
+same-length-5 c = search needs
+
+same-length-6 : tie.Need-same-length-6
+same-length-6 c = search needs
+
+returns-2 : tie.Need-returns-2
+returns-2 c =
+    let s = c .before .before .before .before .before .before .before .before .before .before .before .before .before .before .before .before .before .before .before .before .before .before .before .before .before .before .before in
+    let a = s .args in
+    stepped-so (ops s) (a .pool .now) (a .directions .now) (a .divisions) (a .size) (a .rng) (a .ideal .now) (at s) (a .offspring .now) (held s)
+    (sym (ap checked (c .before .before .before .before .before .before .before .before .before .before .before .before .before .before .before .before .enum-told .given .1)) ∙ c .before .before .before .before .before .before .before .before .before .before .before .before .before .before .before .before .before .before .refusal .ensures) _ (c .before .before .before .before .before .before .before .before .before .before .step .ensures)
+
+pub nsga3-generate-offspring-spec : {M : Type 1} → statement M
+nsga3-generate-offspring-spec =
+    tie.close
+    (tie.spec
+    refusal-requires
+    enum-known-check
+    enum-told
+    step-requires
+    same-length
+    returns
+    same-length-2
+    same-length-3
+    same-length-4
+    same-length-5
+    same-length-6
+    returns-2)

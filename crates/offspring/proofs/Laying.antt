@@ -1,0 +1,195 @@
+-- Candidates laid at a slice's front, some after the others, with the generator after them.
+use mathlib.Core.Path.{_≡_, refl, sym, ap, ap₂, subst, _∙_}
+use mathlib.Core.List.{List, [], _∷_, _++_, map, append-assoc, append-nil}
+use Prim.Native.Nat.{ℕ, zero, suc, _+_, _-_, _*_, _/_, _≤_, _<_, min}
+use native.Mathlib.Nat.{add-mul, one-mul, mul-le-mul-right}
+use native.Mathlib.Numerals.{add-one}
+use native.Mathlib.Omega.{arith}
+use lib.ListN.{length, getD, take, drop, length-append, length-map, length-take}
+use lib.Seq.{length-take-le, take-all, take-suc, take-append-add, drop-append-add}
+use Rattle.list_laws.proofs.Built.{over-length}
+use Rattle.model.specs.declared.Distribution.{Distribution}
+use Rattle.model.specs.declared.ParamValue.{ParamValue}
+use Rattle.model.specs.Lists.{over}
+use Rattle.model.specs.Draw.{Drawn, drawn}
+use Rattle.model.specs.Plan.{Plan}
+use Rattle.model.specs.Setting.{toWord, wordsOf, extract, sortByParam, parentsOf, Operators, Children, children, brood, broods, offspringOf}
+use Rattle.model.specs.Session.{overAt}
+use Rattle.candidates.proofs.Laid.{over-next}
+
+-- ---- words
+
+words-append : (a b : List (List ParamValue)) → wordsOf (a ++ b) ≡ wordsOf a ++ wordsOf b
+unfolding wordsOf
+words-append [] b = refl
+words-append (c ∷ a) b = ap (λ t. map toWord c ++ t) (words-append a b) ∙ sym (append-assoc (map toWord c) (wordsOf a) (wordsOf b))
+
+words-one : (a : List ParamValue) → wordsOf (a ∷ []) ≡ map toWord a
+unfolding wordsOf
+words-one a = append-nil (map toWord a)
+
+words-two : (a b : List ParamValue) → wordsOf (a ∷ b ∷ []) ≡ map toWord a ++ map toWord b
+unfolding wordsOf
+words-two a b = ap (λ t. map toWord a ++ t) (append-nil (map toWord b))
+
+-- ---- two children, or the first where there is room for it only
+
+-- what comes next after words from a place on
+at-next : (at k : ℕ) (ws w l : List ℕ) → at ≤ length l → length ws ≡ k → overAt (at + k) w (overAt at ws l) ≡ overAt at (ws ++ w) l
+at-next at k ws w l h e =
+    let x = take at l in
+    let y = over ws (drop at l) in
+    let z : length x ≡ at = length-take-le at l h in
+    ap₂ (λ a b. a ++ over w b) (ap (λ m. take (m + k) (x ++ y)) (sym z) ∙ take-append-add x y k) (ap (λ m. drop (m + k) (x ++ y)) (sym z) ∙ drop-append-add x y k)
+    ∙ append-assoc x (take k y) (over w (drop k y))
+    ∙ ap (λ t. x ++ t) (over-next ws w (drop at l) k e)
+
+-- the second fits where there is one
+pub second-fits : (at size n len : ℕ) → at + 1 < size → size * n ≤ len → at * n + n + n ≤ len
+second-fits at size n len h l =
+    let e = add-mul at 2 n in
+    let g = mul-le-mul-right {m = at + 2} {n = size} n (omega arith) in
+    omega arith
+
+module _ (a b : List ParamValue) (n at size : ℕ) (l l′ l″ : List ℕ) (first : l′ ≡ overAt (at * n) (map toWord a) l) where
+  pub both : length (map toWord a) ≡ n → at * n ≤ length l → at + 1 < size → l″ ≡ overAt (at * n + n) (map toWord b) l′
+      → l″ ≡ overAt (at * n) (wordsOf (take (size - at) (a ∷ b ∷ []))) l
+  both z h room second =
+      second ∙ ap (overAt (at * n + n) (map toWord b)) first ∙ at-next (at * n) n (map toWord a) (map toWord b) l h z
+      ∙ ap (λ t. overAt (at * n) t l) (sym (words-two a b) ∙ ap wordsOf (sym (take-all (size - at) (a ∷ b ∷ []) (omega arith))))
+
+  pub one : at < size → size ≤ at + 1 → l′ ≡ overAt (at * n) (wordsOf (take (size - at) (a ∷ b ∷ []))) l
+  one h room =
+      let e : size - at ≡ 1 = omega arith in
+      first ∙ ap (λ t. overAt (at * n) t l) (sym (words-one a)) ∙ ap (λ k. overAt (at * n) (wordsOf (take k (a ∷ b ∷ []))) l) (sym e)
+
+-- ---- the loops' state
+
+pub record LaidOut (old : List ℕ) (k : ℕ) (d : Drawn (List (List ParamValue))) (out : List ℕ) (t : ℕ) : Type 0 where
+  pub same : length out ≡ length old
+  pub words : length (wordsOf (d .value)) ≡ k
+  pub written : out ≡ over (wordsOf (d .value)) old
+  pub state : t ≡ d .state
+
+laid-none : (old : List ℕ) (s : ℕ) → LaidOut old 0 (drawn [] s) old s
+unfolding wordsOf
+laid-none old s = record { same = refl; words = refl; written = refl; state = refl }
+
+laid-more : (old : List ℕ) (k : ℕ) (d : Drawn (List (List ParamValue))) (out : List ℕ) (t : ℕ) → LaidOut old k d out t
+    → (cs : List (List ParamValue)) (w : ℕ) (out′ : List ℕ) (u : ℕ) → length (wordsOf cs) ≡ w → k + w ≤ length old → out′ ≡ overAt k (wordsOf cs) out
+    → LaidOut old (k + w) (drawn (d .value ++ cs) u) out′ u
+laid-more old k d out t h cs w out′ u z room e =
+    let count : length (wordsOf (d .value ++ cs)) ≡ k + w = ap length (words-append (d .value) cs) ∙ length-append (wordsOf (d .value)) (wordsOf cs) ∙ omega (arith, h .words) in
+    let put : out′ ≡ over (wordsOf (d .value ++ cs)) old = e ∙ ap (overAt k (wordsOf cs)) (h .written) ∙ over-next (wordsOf (d .value)) (wordsOf cs) old k (h .words)
+    ∙ ap (λ x. over x old) (sym (words-append (d .value) cs)) in
+    record {
+      same = ap length put ∙ over-length (wordsOf (d .value ++ cs)) old (omega (arith, count));
+      words = count;
+      written = put;
+      state = refl;
+    }
+
+-- ---- parents
+
+module _ (dims : ℕ → Distribution) (n : ℕ) (plans : ℕ → Plan) where
+  abbrev settings-of : ℕ → ℕ → Drawn (List ParamValue)
+  settings-of p s = extract dims n (sortByParam (plans p .settings)) s
+
+  -- one more plan at the list's end
+  parents-snoc : (ps : List ℕ) (p s : ℕ) → parentsOf dims n plans (ps ++ (p ∷ [])) s
+      ≡ drawn (parentsOf dims n plans ps s .value ++ (settings-of p (parentsOf dims n plans ps s .state) .value ∷ [])) (settings-of p (parentsOf dims n plans ps s .state) .state)
+  unfolding parentsOf
+  parents-snoc [] p s = refl
+  parents-snoc (q ∷ ps) p s =
+      ap (λ (d : Drawn (List (List ParamValue))). drawn (settings-of q s .value ∷ d .value) (d .state)) (parents-snoc ps p (settings-of q s .state))
+
+  module _ (kept : List ℕ) (s : ℕ) where
+    abbrev pub parentsTo : ℕ → Drawn (List (List ParamValue))
+    parentsTo i = parentsOf dims n plans (take i kept) s
+
+    parents-next : (i : ℕ) → i < length kept → parentsTo (i + 1)
+        ≡ drawn (parentsTo i .value ++ (settings-of (getD kept i 0) (parentsTo i .state) .value ∷ [])) (settings-of (getD kept i 0) (parentsTo i .state) .state)
+    parents-next i h = ap (λ l. parentsOf dims n plans l s) (ap (λ k. take k kept) (add-one i) ∙ take-suc kept i 0 h) ∙ parents-snoc (take i kept) (getD kept i 0) s
+
+    pub parents-none : (old : List ℕ) → LaidOut old (0 * n) (parentsTo 0) old s
+    unfolding parentsOf
+    parents-none old = subst (λ k. LaidOut old k (drawn [] s) old s) (omega arith) (laid-none old s)
+
+    pub parents-more : (old : List ℕ) (i : ℕ) (out : List ℕ) (t : ℕ) → LaidOut old (i * n) (parentsTo i) out t → i < length kept
+        → (v : List ParamValue) (u : ℕ) (out′ : List ℕ) → drawn v u ≡ settings-of (getD kept i 0) t → length (map toWord v) ≡ n → i * n + n ≤ length old
+        → out′ ≡ overAt (i * n) (map toWord v) out → LaidOut old ((i + 1) * n) (parentsTo (i + 1)) out′ u
+    parents-more old i out t h l v u out′ e z room put =
+        let g : drawn v u ≡ settings-of (getD kept i 0) (parentsTo i .state) = e ∙ ap (settings-of (getD kept i 0)) (h .state) in
+        let k : i * n + n ≡ (i + 1) * n = sym (add-mul i 1 n ∙ ap (λ t. i * n + t) (one-mul n)) in
+        let m = laid-more old (i * n) (parentsTo i) out t h (v ∷ []) n out′ u (ap length (words-one v) ∙ z) room (put ∙ ap (λ w. overAt (i * n) w out) (sym (words-one v))) in
+        subst (λ d. LaidOut old ((i + 1) * n) d out′ u)
+        (ap (λ (d : Drawn (List ParamValue)). drawn (parentsTo i .value ++ (d .value ∷ [])) (d .state)) g ∙ sym (parents-next i l))
+        (subst (λ j. LaidOut old j (drawn (parentsTo i .value ++ (v ∷ [])) u) out′ u) k m)
+
+-- ---- offspring
+
+module _ (o : Operators) (parents : List (List ParamValue)) (ranks : ℕ → ℕ) (s : ℕ) where
+  broods-length : (k : ℕ) → length (broods o parents ranks k s .value) ≡ 2 * k
+  unfolding broods
+  broods-length zero = refl
+  broods-length (suc k) = length-append (broods o parents ranks k s .value) _ ∙ omega (arith, broods-length k)
+
+  broods-next : (k : ℕ) → broods o parents ranks (k + 1) s
+      ≡ (let b = broods o parents ranks k s in let c = brood o parents ranks (b .state) in drawn (b .value ++ (c .value .first ∷ c .value .second ∷ [])) (c .state))
+  unfolding broods
+  broods-next k = ap (λ j. broods o parents ranks j s) (add-one k)
+
+  module _ (size : ℕ) where
+    -- those of so many broods that the size has room for
+    abbrev pub bredBy : ℕ → Drawn (List (List ParamValue))
+    bredBy k = drawn (take size (broods o parents ranks k s .value)) (broods o parents ranks k s .state)
+
+    pub bred-done : bredBy ((size + 1) / 2) ≡ offspringOf o parents ranks size s
+    unfolding offspringOf
+    bred-done = refl
+
+    all-so-far : (k : ℕ) → 2 * k < size → take size (broods o parents ranks k s .value) ≡ broods o parents ranks k s .value
+    all-so-far k h = take-all size (broods o parents ranks k s .value) (omega (arith, broods-length k))
+
+    bred-next : (k : ℕ) → 2 * k < size → (a b : List ParamValue) (u : ℕ) → drawn (children a b) u ≡ brood o parents ranks (broods o parents ranks k s .state)
+        → bredBy (k + 1) ≡ drawn (bredBy k .value ++ take (size - 2 * k) (a ∷ b ∷ [])) u
+    bred-next k h a b u e =
+        let bs = broods o parents ranks k s .value in
+        let z = broods-length k in
+        let f : length bs + (size - 2 * k) ≡ size = omega arith in
+        ap (λ (d : Drawn (List (List ParamValue))). drawn (take size (d .value)) (d .state))
+        (broods-next k ∙ sym (ap (λ (c : Drawn Children). drawn (bs ++ (c .value .first ∷ c .value .second ∷ [])) (c .state)) e))
+        ∙ ap (λ l. drawn l u) (ap (λ j. take j (bs ++ (a ∷ b ∷ []))) (sym f) ∙ take-append-add bs (a ∷ b ∷ []) (size - 2 * k) ∙ ap (λ l. l ++ take (size - 2 * k) (a ∷ b ∷ [])) (sym (all-so-far k h)))
+
+    pub bred-none : (old : List ℕ) (n : ℕ) → LaidOut old (min (2 * 0) size * n) (bredBy 0) old s
+    unfolding broods
+    bred-none old n =
+        let m : min (2 * 0) size ≡ 0 = omega arith in
+        let e : min (2 * 0) size * n ≡ 0 = ap (λ j. j * n) m ∙ omega arith in
+        subst (λ l. LaidOut old (min (2 * 0) size * n) (drawn l s) old s) (sym (take-all size [] (omega arith))) (subst (λ k. LaidOut old k (drawn [] s) old s) (sym e) (laid-none old s))
+
+    module _ (n : ℕ) (a b : List ParamValue) (za : length (map toWord a) ≡ n) (zb : length (map toWord b) ≡ n) where
+      -- their words
+      room-words : (r : ℕ) → length (wordsOf (take r (a ∷ b ∷ []))) ≡ min r 2 * n
+      unfolding wordsOf
+      room-words zero = let e : min 0 2 ≡ 0 = omega arith in omega (arith, ap (λ j. j * n) e)
+      room-words (suc zero) =
+          let e : min 1 2 ≡ 1 = omega arith in
+          ap length (words-one a) ∙ za ∙ sym (one-mul n) ∙ ap (λ j. j * n) (sym e)
+      room-words (suc (suc r)) =
+          let e : min (suc (suc r)) 2 ≡ 2 = omega arith in
+          ap (λ l. length (wordsOf (a ∷ b ∷ l))) (take-all r [] (omega arith)) ∙ ap length (words-two a b) ∙ length-append (map toWord a) (map toWord b)
+          ∙ omega (arith, ap (λ j. j * n) e)
+
+      pub bred-more : (old : List ℕ) (k : ℕ) (out : List ℕ) (t : ℕ) → LaidOut old (min (2 * k) size * n) (bredBy k) out t → 2 * k < size → size * n ≤ length old
+          → (u : ℕ) (out′ : List ℕ) → drawn (children a b) u ≡ brood o parents ranks t → out′ ≡ overAt (2 * k * n) (wordsOf (take (size - 2 * k) (a ∷ b ∷ []))) out
+          → LaidOut old (min (2 * (k + 1)) size * n) (bredBy (k + 1)) out′ u
+      bred-more old k out t h room fits u out′ e put =
+          let m : min (2 * k) size ≡ 2 * k = omega arith in
+          let r : 2 * k + min (size - 2 * k) 2 ≡ min (2 * (k + 1)) size = omega arith in
+          let q : 2 * k * n + min (size - 2 * k) 2 * n ≡ min (2 * (k + 1)) size * n = sym (add-mul (2 * k) (min (size - 2 * k) 2) n) ∙ ap (λ j. j * n) r in
+          let fit : min (2 * (k + 1)) size * n ≤ size * n = mul-le-mul-right {m = min (2 * (k + 1)) size} {n = size} n (omega arith) in
+          let g = subst (λ j. LaidOut old (j * n) (bredBy k) out t) m h in
+          let x = laid-more old (2 * k * n) (bredBy k) out t g (take (size - 2 * k) (a ∷ b ∷ [])) (min (size - 2 * k) 2 * n) out′ u (room-words (size - 2 * k)) (omega (arith, q, fit)) put in
+          subst (λ d. LaidOut old (min (2 * (k + 1)) size * n) d out′ u) (sym (bred-next k room a b u (e ∙ ap (brood o parents ranks) (h .state))))
+          (subst (λ j. LaidOut old j (drawn (bredBy k .value ++ take (size - 2 * k) (a ∷ b ∷ [])) u) out′ u) q x)

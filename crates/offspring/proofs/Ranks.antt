@@ -1,0 +1,50 @@
+-- The ranks of kept plans: each plan's front in the pool by rows only.
+use Prim.Native.Nat.{ℕ, _*_, _≤_, _<_}
+use mathlib.Core.Path.{_≡_, refl, ap, sym, _∙_}
+use mathlib.Core.Bool.{Bool}
+use mathlib.Core.List.{List}
+use native.Mathlib.Nat.{mul-le-mul-left, mul-le-mul-right}
+use native.Mathlib.Omega.{arith}
+use lib.Ieee.{Float}
+use lib.ListN.{length, getD, drop, List·getD-append}
+use Rattle.model.specs.Lists.{listBelow, over}
+use Rattle.model.specs.Plan.{Plan}
+use Rattle.model.specs.Row.{rowBeats}
+use Rattle.model.specs.Front.{frontOf, frontList}
+use Rattle.list_laws.proofs.Built.{listBelow-length, listBelow-at, listBelow-same}
+use Rattle.pareto.specs.Flat.{flatDominates}
+use Rattle.pareto.specs.Post.{Sorted}
+use Rattle.pareto.proofs.Flat.{flatDominates-rowBeats}
+use Rattle.pareto.proofs.Sorting.{sorted-same}
+use Rattle.plans.specs.Filled.{RowsOf}
+
+-- factors within their limits have a product within the limits' product
+pub product : (a b n m : ℕ) → a ≤ n → b ≤ m → a * b ≤ n * m
+product a b n m h k = omega (arith, mul-le-mul-right b h, mul-le-mul-left n k)
+
+-- the rows of a pool fit their table
+pub few-values : (n m : ℕ) → n ≤ 1024 → m ≤ 8 → n * m ≤ 8192
+few-values n m h k = product n m 1024 8 h k
+
+-- the sort of a pool's rows gives its plans' fronts
+pub rows-fronts : (marks : List ℕ) (plans : ℕ → Plan) (n : ℕ) (rows₀ rows : List Float) (o₀ o r₀ r e₀ e : List ℕ) (x : ℕ) → RowsOf marks plans n rows₀ rows
+    → Sorted (flatDominates rows (length marks)) n o₀ o r₀ r e₀ e x → r ≡ over (frontList (rowBeats marks plans) n) r₀
+rows-fronts marks plans n rows₀ rows o₀ o r₀ r e₀ e x filled s =
+    sorted-same (flatDominates rows (length marks)) (rowBeats marks plans) n o₀ o r₀ r e₀ e x (flatDominates-rowBeats marks plans n rows (filled .values)) s .ranks
+
+module _ (d : ℕ → ℕ → Bool) (n : ℕ) where
+  front-length : length (frontList d n) ≡ n
+  unfolding frontList
+  front-length = listBelow-length (frontOf d n) n
+
+  front-at : (r₀ : List ℕ) (p : ℕ) → p < n → getD (over (frontList d n) r₀) p 0 ≡ frontOf d n p
+  unfolding frontList
+  front-at r₀ p h =
+      List·getD-append (listBelow (frontOf d n) n) (drop (length (listBelow (frontOf d n) n)) r₀) 0 p (omega (arith, listBelow-length (frontOf d n) n))
+      ∙ listBelow-at (frontOf d n) n 0 p h
+
+  -- those that a list points at
+  pub fronts-of : (r₀ r kept : List ℕ) (count : ℕ) → r ≡ over (frontList d n) r₀ → ((i : ℕ) → i < count → getD kept i 0 < n)
+      → listBelow (λ i. getD r (getD kept i 0) 0) count ≡ listBelow (λ i. frontOf d n (getD kept i 0)) count
+  fronts-of r₀ r kept count e h =
+      listBelow-same _ _ count (λ i l. ap (λ t. getD t (getD kept i 0) 0) e ∙ front-at r₀ (getD kept i 0) (h i l))

@@ -1,0 +1,101 @@
+-- the parents of the first i kept plans are laid
+use Prim.Native.Nat.{ℕ, _+_, _-_, _*_, _≤_, _<_}
+use mathlib.Core.Path.{_≡_, ap, _∙_}
+use mathlib.Core.List.{map}
+use native.Mathlib.Omega.{arith}
+use borrow.Author.Needs.{needs}
+use lib.ListN.{length}
+use Rattle.model.specs.Lists.{over}
+use Rattle.model.specs.Plan.{planAt}
+use Rattle.model.specs.Setting.{toWord, wordsOf}
+use Rattle.settings.specs.Candidate.{dimensionsOf, settingsOf}
+use Rattle.settings.proofs.Valid.{few}
+use Rattle.candidates.proofs.Laid.{words-length, row-fits}
+use Rattle.offspring.proofs.Laying.{LaidOut, parentsTo, parents-none, parents-more}
+use Rattle.offspring.proofs.fill_parents.Statement.{statement}
+use Rattle.offspring.proofs.fill_parents.Tie as tie
+
+abbrev Inv-loop : tie.InvT-loop
+Inv-loop pool kept count dims n parents₀ rng₀ i₀ parents rng i =
+    (i ≤ count) × LaidOut parents₀ (i * n) (parentsTo (dimensionsOf dims) n (planAt pool) kept (rng₀ .s) i) parents (rng .s)
+
+abbrev μ-loop : tie.MeasureT-loop
+μ-loop pool kept count dims n parents₀ rng₀ i₀ parents rng i = count - i
+
+loop-holds : tie.Need-loop-holds Inv-loop μ-loop
+loop-holds c =
+    let a = c .before .before .before .args in
+    (omega arith, parents-none (dimensionsOf (a .dims)) (a .n) (planAt (a .pool .now)) (a .kept .now) (a .rng .s) (a .parents .now))
+
+mul-p : tie.Need-mul-p Inv-loop μ-loop
+mul-p c = search needs
+
+shared-slice-read-p : tie.Need-shared-slice-read-p Inv-loop μ-loop
+shared-slice-read-p c = search needs
+
+extract-requires : tie.Need-extract-requires Inv-loop μ-loop
+extract-requires c κs =
+    let s = c .before .before .before .before .before .before in
+    (s .pre .1 (c .before .before .loop .i) (c .before .loop-test .taken), s .pre .2)
+
+mul-put-candidate : tie.Need-mul-put-candidate Inv-loop μ-loop
+mul-put-candidate c =
+    let s = c .before .before .before .before .before .before .before .before in
+    let f = row-fits (c .before .before .before .before .loop .i) (s .args .count) (s .args .n) (length (s .args .parents .now)) (c .before .before .before .loop-test .taken) (s .pre .3) in
+    record { fits = omega arith }
+
+put-candidate-requires : tie.Need-put-candidate-requires Inv-loop μ-loop
+put-candidate-requires c κs =
+    let s = c .before .before .before .before .before .before .before .before .before in
+    let l = c .before .before .before .before .before .loop in
+    let f = row-fits (l .i) (s .args .count) (s .args .n) (length (s .args .parents .now)) (c .before .before .before .before .loop-test .taken) (s .pre .3) in
+    (few _ _ (s .pre .2), omega (arith, l .inv .1 .same))
+
+add-i : tie.Need-add-i Inv-loop μ-loop
+add-i c = omega arith
+
+loop-less : tie.Need-loop-less Inv-loop μ-loop
+loop-less c = omega arith
+
+loop-again : tie.Need-loop-again Inv-loop μ-loop
+loop-again c =
+    let s = c .before .before .before .before .before .before .before .before .before .before .before .before .before in
+    let a = s .args in
+    let l = c .before .before .before .before .before .before .before .before .before .loop in
+    let t = c .before .before .before .before .before .before .before .before .loop-test .taken in
+    let v = c .before .before .before .before .before .before .extract in (
+      omega arith,
+      parents-more (dimensionsOf (a .dims)) (a .n) (planAt (a .pool .now)) (a .kept .now) (a .rng .s) (a .parents .now) (l .i) (l .parents) _ (l .inv .1)
+          (omega (arith, s .pre .0)) _ _ _ (v .ensures) (words-length (v .result .params) (a .n))
+          (row-fits (l .i) (a .count) (a .n) (length (a .parents .now)) t (s .pre .3)) (c .before .before .before .put-candidate .ensures),
+    )
+
+same-length : tie.Need-same-length Inv-loop μ-loop
+same-length c = c .before .loop .inv .1 .same
+
+returns : tie.Need-returns Inv-loop μ-loop
+returns c =
+    let l = c .before .loop in
+    let a = c .before .before .before .before .before .args in
+    let e : l .i ≡ a .count = omega arith in (
+      l .inv .1 .written ∙ ap (λ k. over (wordsOf (parentsTo (dimensionsOf (a .dims)) (a .n) (planAt (a .pool .now)) (a .kept .now) (a .rng .s) k .value)) (a .parents .now)) e,
+      l .inv .1 .state ∙ ap (λ k. parentsTo (dimensionsOf (a .dims)) (a .n) (planAt (a .pool .now)) (a .kept .now) (a .rng .s) k .state) e,
+    )
+
+pub fill-parents-spec : {M : Type 1} → statement M
+fill-parents-spec =
+    tie.close
+    (tie.spec
+    Inv-loop
+    μ-loop
+    loop-holds
+    mul-p
+    shared-slice-read-p
+    extract-requires
+    mul-put-candidate
+    put-candidate-requires
+    add-i
+    loop-less
+    loop-again
+    same-length
+    returns)
