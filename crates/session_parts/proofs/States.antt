@@ -1,0 +1,173 @@
+-- What a call leaves, from the answers of its parts.
+use Prim.Native.Nat.{ℕ, zero, suc, _+_, _-_, _*_, _≤_, _<_}
+use mathlib.Core.Path.{_≡_, refl, sym, ap, ap₂, _∙_, subst}
+use mathlib.Core.Bool.{Bool, true, false, cond, not}
+use mathlib.Core.List.{List, [], _∷_, _++_, map}
+use native.Mathlib.Nat.{add-mul, one-mul, mul-le-mul}
+use native.Mathlib.Omega.{arith}
+use borrow.Author.Tests.{lt-ltb, le-ltb, ltb-true, ltb-false}
+use lib.Dec.{ltb}
+use lib.ListN.{length, getD, set}
+use lib.Seq.{length-take-le}
+use Rattle.list_laws.proofs.Bools.{by-bool}
+use Rattle.model.specs.declared.Distribution.{Distribution}
+use Rattle.model.specs.declared.ParamValue.{ParamValue}
+use Rattle.model.specs.declared.OptionU64.the-variants as optU64
+use Rattle.model.specs.declared.Phase.the-variants.{Discovery, Active}
+use Rattle.model.specs.declared.Rng.{Rng}
+use Rattle.model.specs.declared.Session.{Session}
+use Rattle.model.specs.declared.Sampled.{Sampled}
+use Rattle.model.specs.declared.Sampling.the-variants as sampling
+use Rattle.model.specs.Lists.{has, over}
+use Rattle.model.specs.Draw.{Drawn, drawn}
+use Rattle.model.specs.Setting.{kindOfDimension, toWord, ofWord, sampleRandom, sampleAll, sampleCandidates, wordsOf}
+use Rattle.model.specs.Session.{State, Answered, state, progress, dimensionOf, withRng, withProgress, overAt, discover, activate, overflow, enter, enlist, answer, isNew, placeIn, plansOf, sampleFromCandidate}
+use Rattle.model.specs.Calls.{SampleExit}
+use Rattle.session_parts.specs.Exits.{exit, settled, Ready}
+use Rattle.session_parts.proofs.Records.{has-place}
+
+-- ---- discovery
+
+module _ (s : Session) (d : Distribution) (plan : ℕ) where
+  -- the session with a dimension more, and a generator
+  abbrev entered : ℕ → Session
+  entered g = record {
+    config = s .config;
+    phase = Discovery;
+    «discovery_trial_id» = optU64.Some plan;
+    rng = record { s = g };
+    dimensions = set (s .dimensions) (s .progress .«n_dims») (record { distribution = d });
+    «ideal_point» = s .«ideal_point»;
+    progress = progress (s .progress .«n_dims» + 1) (s .progress .«n_candidates») (s .progress .«n_plans») (s .progress .generation);
+  }
+
+  pub discover-is : (v : ParamValue) (g : ℕ) (cs ps ns : List ℕ) → drawn v g ≡ sampleRandom d (s .rng .s)
+      → exit (record { outcome = sampling.Setting v; session = entered g }) cs ps ns ≡ settled (discover (state s cs ps ns) d plan)
+  unfolding discover
+  discover-is v g cs ps ns e = ap (λ (x : Drawn ParamValue). exit (record { outcome = sampling.Setting (x .value); session = entered (x .state) }) cs ps ns) e
+
+module _ (s : Session) where
+  abbrev active : ℕ → Session
+  active g = record {
+    config = s .config;
+    phase = Active;
+    «discovery_trial_id» = s .«discovery_trial_id»;
+    rng = record { s = g };
+    dimensions = s .dimensions;
+    «ideal_point» = s .«ideal_point»;
+    progress = progress (s .progress .«n_dims») (s .config .«population_size») 0 (s .progress .generation);
+  }
+
+  abbrev first-ones : Drawn (List (List ParamValue))
+  first-ones = sampleCandidates (dimensionOf s) (s .progress .«n_dims») (s .config .«population_size») (s .rng .s)
+
+  pub activate-is : (g : ℕ) (cs ps ns after : List ℕ) → after ≡ over (wordsOf (first-ones .value)) cs → g ≡ first-ones .state
+      → state (active g) after ps ns ≡ activate (state s cs ps ns)
+  unfolding activate
+  activate-is g cs ps ns after e f = ap₂ (λ (x : ℕ) (y : List ℕ). state (active x) y ps ns) f e
+
+-- ---- a plan's calls past discovery
+
+-- a candidate fits where there are fewer than 2,048
+pub fits-more : (k n len : ℕ) → k < 2048 → n ≤ 32 → 65536 ≤ len → k * n + n ≤ len
+fits-more k n len h i l = omega (arith, add-mul k 1 n, one-mul n, mul-le-mul {n₁ = k + 1} {m₁ = n} {n₂ = 2048} {m₂ = 32} (omega arith) i)
+
+pub overflow-is : (s : Session) (c : List ParamValue) (g : ℕ) (cs ps ns after : List ℕ) (t u : Session)
+    → drawn c g ≡ sampleAll (dimensionOf s) (s .progress .«n_dims») (s .rng .s)
+    → after ≡ overAt (s .progress .«n_candidates» * s .progress .«n_dims») (map toWord c) cs
+    → t ≡ withRng s g → u ≡ withProgress t (progress (s .progress .«n_dims») (s .progress .«n_candidates» + 1) (s .progress .«n_plans») (s .progress .generation))
+    → state u after ps ns ≡ overflow (state s cs ps ns)
+unfolding overflow
+overflow-is s c g cs ps ns after t u e f h k =
+    let more = progress (s .progress .«n_dims») (s .progress .«n_candidates» + 1) (s .progress .«n_plans») (s .progress .generation) in
+    let at = s .progress .«n_candidates» * s .progress .«n_dims» in
+    ap₂ (λ (x : Session) (y : List ℕ). state x y ps ns) (k ∙ ap (λ (x : Session). withProgress x more) h) f
+    ∙ ap (λ (x : Drawn (List ParamValue)). state (withProgress (withRng s (x .state)) more) (overAt at (map toWord (x .value)) cs) ps ns) e
+
+pub enter-is : (s : Session) (plan : ℕ) (cs ps ns : List ℕ) (u : Session)
+    → u ≡ withProgress s (progress (s .progress .«n_dims») (s .progress .«n_candidates») (s .progress .«n_plans» + 1) (s .progress .generation))
+    → state u cs (set ps (s .progress .«n_plans») plan) (set ns (s .progress .«n_plans») 0) ≡ enter (state s cs ps ns) plan
+unfolding enter
+enter-is s plan cs ps ns u e = ap (λ (x : Session). state x cs (set ps (s .progress .«n_plans») plan) (set ns (s .progress .«n_plans») 0)) e
+
+pub enlist-next : (st : State) (plan : ℕ) → st .session .progress .«n_plans» < st .session .progress .«n_candidates» → enter st plan ≡ enlist st plan
+unfolding enlist
+enlist-next st plan h = ap (λ (b : Bool). enter (cond b st (overflow st)) plan) (sym (lt-ltb _ _ h))
+
+pub enlist-over : (st : State) (plan : ℕ) → st .session .progress .«n_candidates» ≤ st .session .progress .«n_plans» → enter (overflow st) plan ≡ enlist st plan
+unfolding enlist
+enlist-over st plan h = ap (λ (b : Bool). enter (cond b st (overflow st)) plan) (sym (le-ltb _ _ h))
+
+overflow-plans : (st : State) → overflow st .session .progress .«n_plans» ≡ st .session .progress .«n_plans»
+unfolding overflow
+overflow-plans st = refl
+
+pub overflowed-plans : (st : State) (u : Session) (cs ps ns : List ℕ) → state u cs ps ns ≡ overflow st → u .progress .«n_plans» ≡ st .session .progress .«n_plans»
+overflowed-plans st u cs ps ns e = ap (λ (x : State). x .session .progress .«n_plans») e ∙ overflow-plans st
+
+-- a plan more leaves a state that can be drawn from
+entered-ready : (st : State) (plan : ℕ) → Ready (st .session) → st .session .progress .«n_plans» < 2048 → Ready (enter st plan .session)
+unfolding enter
+entered-ready st plan r h = record { dims = r .dims; few = r .few; some = r .some; room = omega arith }
+
+overflow-ready : (st : State) → Ready (st .session) → Ready (overflow st .session)
+unfolding overflow
+overflow-ready st r = record { dims = r .dims; few = r .few; some = r .some; room = r .room }
+
+enlist-ready : (st : State) (plan : ℕ) → Ready (st .session) → st .session .progress .«n_plans» < 2048 → Ready (enlist st plan .session)
+enlist-ready st plan r h = by-bool (ltb (st .session .progress .«n_plans») (st .session .progress .«n_candidates»))
+    (λ b. subst (λ (x : State). Ready (x .session)) (enlist-next st plan (ltb-true _ _ b)) (entered-ready st plan r h))
+    (λ b. subst (λ (x : State). Ready (x .session)) (enlist-over st plan (ltb-false _ _ b))
+    (entered-ready (overflow st) plan (overflow-ready st r) (subst (λ (n : ℕ). n < 2048) (sym (overflow-plans st)) h)))
+
+pub enlisted-ready : (st : State) (plan : ℕ) (u : Session) (cs ps ns : List ℕ) → Ready (st .session) → st .session .progress .«n_plans» < 2048
+    → state u cs ps ns ≡ enlist st plan → Ready u
+enlisted-ready st plan u cs ps ns r h e = subst (λ (x : State). Ready (x .session)) (sym e) (enlist-ready st plan r h)
+
+-- ---- answers
+
+module _ (s : Session) (i : ℕ) (cs ps ns : List ℕ) where
+  abbrev asked : ℕ
+  asked = getD ns i 0
+
+  abbrev kind : ℕ
+  kind = kindOfDimension (dimensionOf s asked)
+
+  abbrev word : ℕ
+  word = getD cs (i * s .progress .«n_dims» + asked) 0
+
+  pub answer-stored : (v : ParamValue) (k : ℕ) → asked < s .progress .«n_dims» → v ≡ ofWord k word → k ≡ kind
+      → exit (record { outcome = sampling.Setting v; session = s }) cs ps (set ns i (asked + 1)) ≡ settled (answer (state s cs ps ns) i)
+  unfolding answer
+  answer-stored v k h e f =
+      rw (lt-ltb asked (s .progress .«n_dims») h)
+      (ap (λ (x : ParamValue). exit (record { outcome = sampling.Setting x; session = s }) cs ps (set ns i (asked + 1))) (e ∙ ap (λ (x : ℕ). ofWord x word) f))
+
+  pub answer-drawn : (v : ParamValue) (g : ℕ) (u : Session) → s .progress .«n_dims» ≤ asked
+      → drawn v g ≡ sampleRandom (dimensionOf s (s .progress .«n_dims» - 1)) (s .rng .s) → u ≡ withRng s g
+      → exit (record { outcome = sampling.Setting v; session = u }) cs ps ns ≡ settled (answer (state s cs ps ns) i)
+  unfolding answer
+  answer-drawn v g u h e f =
+      rw (le-ltb asked (s .progress .«n_dims») h)
+      (ap (λ (x : Session). exit (record { outcome = sampling.Setting v; session = x }) cs ps ns) f
+      ∙ ap (λ (x : Drawn ParamValue). exit (record { outcome = sampling.Setting (x .value); session = withRng s (x .state) }) cs ps ns) e)
+
+-- ---- a plan by its number
+
+module _ (st : State) (plan i : ℕ) (room : st .session .progress .«n_plans» ≤ length (st .plans)) (e : i ≡ placeIn (plansOf st) plan) where
+  abbrev count : ℕ
+  count = st .session .progress .«n_plans»
+
+  listed : has (plansOf st) plan ≡ ltb i count
+  listed = has-place (plansOf st) plan ∙ ap₂ (λ (a b : ℕ). ltb a b) (sym e) (length-take-le count (st .plans) room)
+
+  pub is-new : count ≤ i → isNew st plan ≡ true
+  is-new h = ap not (listed ∙ le-ltb i count h)
+
+  pub known-plan : i < count → answer st i ≡ sampleFromCandidate st plan
+  unfolding sampleFromCandidate
+  known-plan h = ap (answer st) e ∙ ap (λ (b : Bool). cond b (answer (enlist st plan) count) (answer st (placeIn (plansOf st) plan))) (sym (ap not (listed ∙ lt-ltb i count h)))
+
+  pub new-plan : count ≤ i → answer (enlist st plan) count ≡ sampleFromCandidate st plan
+  unfolding sampleFromCandidate
+  new-plan h = ap (λ (b : Bool). cond b (answer (enlist st plan) count) (answer st (placeIn (plansOf st) plan))) (sym (is-new h))

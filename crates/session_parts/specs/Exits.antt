@@ -1,0 +1,54 @@
+-- What the parts of a session answer, in the words of the calls' definitions.
+use Prim.Native.Nat.{ℕ, zero, suc, _≤_, _<_}
+use mathlib.Core.Path.{_≡_}
+use mathlib.Core.Bool.{Bool, true, false}
+use mathlib.Core.List.{List}
+use mathlib.Core.Option.{Option, none, some}
+use lib.ListN.{length, replicate}
+use Rattle.model.specs.declared.Opening.{Opening}
+use Rattle.model.specs.declared.Opening.the-variants as opening
+use Rattle.model.specs.declared.OptionU64.the-variants as optU64
+use Rattle.model.specs.declared.Phase.the-variants.{Discovery}
+use Rattle.model.specs.declared.Config.{Config}
+use Rattle.model.specs.declared.Session.{Session}
+use Rattle.model.specs.declared.Sampled.{Sampled}
+use Rattle.model.specs.declared.Sampling.the-variants as sampling
+use Rattle.model.specs.Real.{infinity}
+use Rattle.model.specs.Plan.{maxValues, maxSettings}
+use Rattle.model.specs.Session.{State, Answered, state, progress, blankDimension, dimensionOf, isNew, maxPlans, maxWords}
+use Rattle.model.specs.Refusal.{badDimensions}
+use Rattle.model.specs.Calls.{SampleExit}
+
+-- ---- opening
+
+abbrev pub openingBy : Option ℕ → Opening
+openingBy none = opening.Ready
+openingBy (some n) = opening.Refused n
+
+-- a session without a dimension, a candidate or a plan
+abbrev pub start : Config → ℕ → Session
+start c seed = record {
+  config = c;
+  phase = Discovery;
+  «discovery_trial_id» = optU64.None;
+  rng = record { s = seed };
+  dimensions = replicate maxSettings blankDimension;
+  «ideal_point» = replicate maxValues infinity;
+  progress = progress 0 0 0 0;
+}
+
+-- ---- calls
+
+-- what a call leaves, and what it leaves where it is accepted
+abbrev pub exit : Sampled → List ℕ → List ℕ → List ℕ → SampleExit
+exit r cs ps ns = record { answer = r .outcome; after = state (r .session) cs ps ns }
+
+abbrev pub settled : Answered → SampleExit
+settled a = record { answer = sampling.Setting (a .setting); after = a .after }
+
+-- what a state past discovery needs to be drawn from
+pub record Ready (s : Session) : Type 0 where
+  pub dims : badDimensions (dimensionOf s) (s .progress .«n_dims») ≡ false
+  pub few : s .progress .«n_dims» ≤ maxSettings
+  pub some : 1 ≤ s .progress .«n_dims»
+  pub room : s .progress .«n_plans» ≤ maxPlans
