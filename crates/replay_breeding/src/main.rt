@@ -1,6 +1,7 @@
 // Replays the oracle's stored answers of breeding: draws of settings, crossover, mutation, the tournament, and the generation step, for which a line's plans
 // are laid out as the pool of words that the function takes.
 use model::DimensionInfo;
+use model::Distribution;
 use model::Outcome;
 use model::Rng;
 use model::Selection;
@@ -8,6 +9,9 @@ use replay::Tally;
 use replay::Words;
 use replay_values::Marks;
 use replay_values::Reals;
+use rng_util::DrawnUsize;
+use settings::DrawnCandidate;
+use settings::Slot;
 ghost use Prim.Native.Nat.{_*_, _<_, _≤_};
 ghost use lib.ListN.{length};
 
@@ -21,16 +25,10 @@ type Offspring = [u64; 32768];
 
 // ---- settings and operators
 
-// 80: a draw from a dimension.
-fn sample_random(input: &Words, n: usize, out: &mut Words) -> usize {
-    let read = replay_values::read_dimension(input, 2);
-    let d = read.distribution;
-    if read.next != n {
-        return 0;
-    }
+// A setting drawn from a dimension.
+fn put_draw(d: Distribution, rng: Rng, out: &mut Words) -> usize {
     if settings::valid_dimension(d) {
-        let s = replay::word(input, 1);
-        let drawn = settings::sample_random(d, Rng { s });
+        let drawn = settings::sample_random(d, rng);
         let value = drawn.value;
         let rng = drawn.rng;
         let place = replay_values::put_setting(out, 0, value);
@@ -39,9 +37,49 @@ fn sample_random(input: &Words, n: usize, out: &mut Words) -> usize {
     0
 }
 
-// 81: the settings of a plan.
+// 80
+fn sample_random(input: &Words, n: usize, out: &mut Words) -> usize {
+    let read = replay_values::read_dimension(input, 2);
+    let d = read.distribution;
+    if read.next != n {
+        return 0;
+    }
+    let s = replay::word(input, 1);
+    put_draw(d, Rng { s }, out)
+}
+
+fn put_candidate(drawn: DrawnCandidate, n: usize, out: &mut Words) -> usize
+    requires { ⌜ n ≤ 32 ⌝ }
+{
+    let params = drawn.params;
+    let rng = drawn.rng;
+    let place = replay_values::put_settings(out, 0, params, n);
+    replay::put(out, place, rng.s)
+}
+
+// The settings of the one plan of a pool.
+fn put_extract(
+    pool: &[u64; 124],
+    dims: [DimensionInfo; 32],
+    n: usize,
+    rng: Rng,
+    out: &mut Words,
+) -> usize
+    requires { ⌜ n ≤ 32 ⌝ }
+{
+    if settings::bad_dimensions(dims, n) {
+        return 0;
+    }
+    let drawn = extraction::extract(pool, 0, dims, n, rng);
+    put_candidate(drawn, n, out)
+}
+
+// 81
 fn extract(input: &Words, n: usize, out: &mut Words) -> usize {
     let count = replay::word(input, 2) as usize;
+    if 32 < count {
+        return 0;
+    }
     let read = replay_values::read_dimensions(input, 3, count);
     let dims = read.dims;
     let mut pool = [0u64; 124];
@@ -49,26 +87,27 @@ fn extract(input: &Words, n: usize, out: &mut Words) -> usize {
     if end != n {
         return 0;
     }
-    if settings::bad_dimensions(dims, count) {
-        return 0;
-    }
     let s = replay::word(input, 1);
-    let drawn = extraction::extract(&pool, 0, dims, count, Rng { s });
-    let params = drawn.params;
-    let rng = drawn.rng;
-    let place = replay_values::put_settings(out, 0, params, count);
-    replay::put(out, place, rng.s)
+    put_extract(&pool, dims, count, Rng { s }, out)
+}
+
+// An operator's exponent; 0 for an eta that has none.
+fn exponent(eta: f64) -> u64 {
+    if settings::whole_eta(eta) {
+        return variation::exponent_of(eta);
+    }
+    0
 }
 
 // 82: the children of two parents.
 fn crossover(input: &Words, n: usize, out: &mut Words) -> usize {
-    let eta = replay_values::real_at(input, 3);
+    let k = exponent(replay_values::real_at(input, 3));
     let count = replay::word(input, 4) as usize;
-    let read = replay_values::read_dimensions(input, 5, count);
-    let dims = read.dims;
-    if 32 < count {
+    if k == 0 || 32 < count {
         return 0;
     }
+    let read = replay_values::read_dimensions(input, 5, count);
+    let dims = read.dims;
     let first = replay_values::read_settings(input, read.next, count);
     let p = first.params;
     let second = replay_values::read_settings(input, first.next, count);
@@ -76,90 +115,85 @@ fn crossover(input: &Words, n: usize, out: &mut Words) -> usize {
     if second.next != n {
         return 0;
     }
-    if settings::whole_eta(eta) {
-        let s = replay::word(input, 1);
-        let probability = replay_values::real_at(input, 2);
-        let k = variation::exponent_of(eta);
-        let drawn = genetic::crossover(dims, count, probability, k, p, q, Rng { s });
-        let a = drawn.first;
-        let b = drawn.second;
-        let rng = drawn.rng;
-        let middle = replay_values::put_settings(out, 0, a, count);
-        let place = replay_values::put_settings(out, middle, b, count);
-        return replay::put(out, place, rng.s);
-    }
-    0
+    let s = replay::word(input, 1);
+    let probability = replay_values::real_at(input, 2);
+    let drawn = genetic::crossover(dims, count, probability, k, p, q, Rng { s });
+    let a = drawn.first;
+    let b = drawn.second;
+    let rng = drawn.rng;
+    let middle = replay_values::put_settings(out, 0, a, count);
+    let place = replay_values::put_settings(out, middle, b, count);
+    replay::put(out, place, rng.s)
 }
 
 // 83: two reals crossed.
 fn sbx(input: &Words, n: usize, out: &mut Words) -> usize {
-    let eta = replay_values::real_at(input, 6);
-    if n != 7 {
+    let k = exponent(replay_values::real_at(input, 6));
+    if k == 0 || n != 7 {
         return 0;
     }
-    if settings::whole_eta(eta) {
-        let s = replay::word(input, 1);
-        let p = replay_values::real_at(input, 2);
-        let q = replay_values::real_at(input, 3);
-        let low = replay_values::real_at(input, 4);
-        let high = replay_values::real_at(input, 5);
-        let k = variation::exponent_of(eta);
-        let drawn = variation::sbx_crossover_f64(p, q, low, high, k, Rng { s });
-        let rng = drawn.rng;
-        let first = replay_values::put_real(out, 0, drawn.first);
-        let second = replay_values::put_real(out, first, drawn.second);
-        return replay::put(out, second, rng.s);
-    }
-    0
+    let s = replay::word(input, 1);
+    let p = replay_values::real_at(input, 2);
+    let q = replay_values::real_at(input, 3);
+    let low = replay_values::real_at(input, 4);
+    let high = replay_values::real_at(input, 5);
+    let drawn = variation::sbx_crossover_f64(p, q, low, high, k, Rng { s });
+    let rng = drawn.rng;
+    let first = replay_values::put_real(out, 0, drawn.first);
+    let second = replay_values::put_real(out, first, drawn.second);
+    replay::put(out, second, rng.s)
 }
 
-// 84: a candidate mutated.
-fn mutate(input: &Words, n: usize, out: &mut Words) -> usize {
-    let eta = replay_values::real_at(input, 2);
-    let count = replay::word(input, 3) as usize;
-    let read = replay_values::read_dimensions(input, 4, count);
-    let dims = read.dims;
-    if 32 < count {
+// A candidate mutated.
+fn put_mutant(
+    dims: [DimensionInfo; 32],
+    n: usize,
+    params: [Slot; 32],
+    k: u64,
+    rng: Rng,
+    out: &mut Words,
+) -> usize
+    requires { ⌜ n ≤ 32 ⌝ }
+{
+    if settings::bad_dimensions(dims, n) {
         return 0;
     }
+    let drawn = genetic::mutate(dims, n, params, k, rng);
+    put_candidate(drawn, n, out)
+}
+
+// 84
+fn mutate(input: &Words, n: usize, out: &mut Words) -> usize {
+    let k = exponent(replay_values::real_at(input, 2));
+    let count = replay::word(input, 3) as usize;
+    if k == 0 || 32 < count {
+        return 0;
+    }
+    let read = replay_values::read_dimensions(input, 4, count);
+    let dims = read.dims;
     let old = replay_values::read_settings(input, read.next, count);
     let params = old.params;
     if old.next != n {
         return 0;
     }
-    if settings::bad_dimensions(dims, count) {
-        return 0;
-    }
-    if settings::whole_eta(eta) {
-        let s = replay::word(input, 1);
-        let k = variation::exponent_of(eta);
-        let drawn = genetic::mutate(dims, count, params, k, Rng { s });
-        let params = drawn.params;
-        let rng = drawn.rng;
-        let place = replay_values::put_settings(out, 0, params, count);
-        return replay::put(out, place, rng.s);
-    }
-    0
+    let s = replay::word(input, 1);
+    put_mutant(dims, count, params, k, Rng { s }, out)
 }
 
 // 85: a real mutated.
 fn polynomial(input: &Words, n: usize, out: &mut Words) -> usize {
-    let eta = replay_values::real_at(input, 5);
-    if n != 6 {
+    let k = exponent(replay_values::real_at(input, 5));
+    if k == 0 || n != 6 {
         return 0;
     }
-    if settings::whole_eta(eta) {
-        let s = replay::word(input, 1);
-        let x = replay_values::real_at(input, 2);
-        let low = replay_values::real_at(input, 3);
-        let high = replay_values::real_at(input, 4);
-        let k = variation::exponent_of(eta);
-        let drawn = variation::polynomial_mutation_f64(x, low, high, k, Rng { s });
-        let rng = drawn.rng;
-        let place = replay_values::put_real(out, 0, drawn.value);
-        return replay::put(out, place, rng.s);
-    }
-    0
+    let s = replay::word(input, 1);
+    let x = replay_values::real_at(input, 2);
+    let low = replay_values::real_at(input, 3);
+    let high = replay_values::real_at(input, 4);
+    let drawn = variation::polynomial_mutation_f64(x, low, high, k, Rng { s });
+    let rng = drawn.rng;
+    let place = replay_values::put_real(out, 0, drawn.value);
+    replay::put(out, place, rng.s)
 }
 
 fn read_places(input: &Words, at: usize, n: usize, places: &mut Places)
@@ -170,6 +204,12 @@ fn read_places(input: &Words, at: usize, n: usize, places: &mut Places)
         places[i] = replay::word(input, at + i) as usize;
         i += 1;
     }
+}
+
+fn winner(ranks: &Places, n: usize, rng: Rng) -> DrawnUsize
+    requires { ⌜ (0 < n) × (n ≤ 1025) ⌝ }
+{
+    genetic::tournament_select_rank(ranks, n, rng)
 }
 
 // 86: the winner of a tournament.
@@ -187,7 +227,7 @@ fn tournament(input: &Words, n: usize, out: &mut Words) -> usize {
     let mut ranks = [0usize; 1025];
     read_places(input, 3, count, &mut ranks);
     let s = replay::word(input, 1);
-    let drawn = genetic::tournament_select_rank(&ranks, count, Rng { s });
+    let drawn = winner(&ranks, count, Rng { s });
     let rng = drawn.rng;
     let place = replay::put(out, 0, drawn.value as u64);
     replay::put(out, place, rng.s)
@@ -218,13 +258,22 @@ struct Room {
     offspring: usize,
 }
 
+// The words of so many candidates.
+fn words_of(size: usize, n_dims: usize) -> usize
+    requires { ⌜ size * «n_dims» ≤ 32768 ⌝ }
+    ensures { λ r. ⌜ r ≤ 32768 ⌝ }
+{
+    size * n_dims
+}
+
 // The lengths of the full answer; where `short` is 1, 2, 3 or 4 the kept list's, the fronts', the lines' or the offspring's slice lacks one place.
 fn room_for(size: usize, n: usize, n_dims: usize, short: u64) -> Room
     requires { ⌜ n ≤ 1025 ⌝ }
     ensures { λ r. ⌜ (r .kept ≤ 1025) × (r .fronts ≤ 1025) × (r .lines ≤ 1025) × (r .offspring ≤ 32768) ⌝ }
 {
     let most = replay_values::least(size, 1024);
-    let words = replay_values::least(most * replay_values::least(n_dims, 32), 32768);
+    let dims = replay_values::least(n_dims, 32);
+    let words = words_of(most, dims);
     let mut room = Room {
         kept: most,
         fronts: n,
@@ -300,7 +349,15 @@ fn step_of(
     requires { ⌜ (room .kept ≤ 1025) × (room .fronts ≤ 1025) × (room .lines ≤ 1025) × (room .offspring ≤ 32768) ⌝ }
 {
     stepped(
-        pool, marks, call, room, ideal, kept, fronts, lines, offspring,
+        pool,
+        marks,
+        call,
+        room,
+        ideal,
+        kept,
+        fronts,
+        lines,
+        offspring,
     )
 }
 
@@ -370,15 +427,42 @@ fn answered(
     }
 }
 
-// The way in which a slice can be short: a pool of one asks for room for the offspring only, and offspring without settings ask for none.
-fn can_lack(way: u64, plans: usize, n_dims: usize) -> bool {
+// What is answered where a slice is short in the way given; 0 where it cannot be, as a pool of one asks for room for the offspring only, and offspring
+// without settings ask for none. An answer that is no refusal is told as 99, which is none.
+fn tried(
+    input: &Words,
+    at: usize,
+    call: Call,
+    pool: &Pool,
+    marks: &Marks,
+    way: u64,
+    out: &mut Words,
+) -> u64
+    requires { ⌜ (at ≤ 4097) × (call .m ≤ 16) × (call .ideal ≤ 16) × (call .plans ≤ 1025) ⌝ }
+{
     if way == 4 {
-        return n_dims != 0;
+        if call.n_dims == 0 {
+            return 0;
+        }
+    } else if call.plans < 2 {
+        return 0;
     }
-    1 < plans
+    let k = answered(input, at, call, pool, marks, way, out);
+    if k == 1 { replay::word(out, 0) } else { 99 }
 }
 
-// A call that the line says is short: each slice is tried short, and the last answer stands where all are one number, the same.
+// The number that two tries agree on; 0 is none.
+fn agreed(a: u64, b: u64) -> u64 {
+    if a == 0 {
+        return b;
+    }
+    if b == 0 {
+        return a;
+    }
+    if a == b { a } else { 99 }
+}
+
+// A call that the line says is short: each slice is tried short, and all must be refused alike.
 fn answered_short(
     input: &Words,
     at: usize,
@@ -389,36 +473,54 @@ fn answered_short(
 ) -> usize
     requires { ⌜ (at ≤ 4097) × (call .m ≤ 16) × (call .ideal ≤ 16) × (call .plans ≤ 1025) ⌝ }
 {
-    let mut seen: u64 = 0;
-    let mut end: usize = 0;
-    let mut way: u64 = 1;
-    while way < 5 {
-        if can_lack(way, call.plans, call.n_dims) {
-            end = answered(input, at, call, pool, marks, way, out);
-            let number = replay::word(out, 0);
-            if seen != 0 && seen != number {
-                return replay::put(out, 0, 0);
-            }
-            seen = number;
-        }
-        way += 1;
-    }
-    end
+    let a = tried(input, at, call, pool, marks, 1, out);
+    let b = tried(input, at, call, pool, marks, 2, out);
+    let c = tried(input, at, call, pool, marks, 3, out);
+    let d = tried(input, at, call, pool, marks, 4, out);
+    replay::put(out, 0, agreed(agreed(a, b), agreed(c, d)))
 }
 
-// 87: after the marks stand divisions, size, state, the ideal, probability, etas, dimensions and plans.
-fn step(input: &Words, n: usize, out: &mut Words) -> usize {
-    let m = replay::word(input, 2) as usize;
-    if 16 < m {
-        return 0;
+// The call of a line whose ideal of k reals stands at `at`, whose operators and dimensions come after it, and whose plans are in the pool.
+fn step_call(
+    input: &Words,
+    at: usize,
+    m: usize,
+    k: usize,
+    dims: [DimensionInfo; 32],
+    plans: usize,
+    pool: &Pool,
+    out: &mut Words,
+) -> usize
+    requires { ⌜ (at ≤ 23) × (m ≤ 16) × (k ≤ 16) × (plans ≤ 1025) ⌝ }
+{
+    let mut marks = [0u8; 16];
+    replay_values::read_marks(input, 3, m, &mut marks);
+    let call = Call {
+        m,
+        divisions: replay::word(input, m + 3) as usize,
+        size: replay::word(input, m + 4) as usize,
+        state: replay::word(input, m + 5),
+        ideal: k,
+        probability: replay_values::real_at(input, at + k),
+        crossover_eta: replay_values::real_at(input, at + k + 1),
+        mutation_eta: replay_values::real_at(input, at + k + 2),
+        dims,
+        n_dims: replay::word(input, at + k + 3) as usize,
+        plans,
+    };
+    if replay::word(input, 1) == 0 {
+        answered(input, at, call, pool, &marks, 0, out)
+    } else {
+        answered_short(input, at, call, pool, &marks, out)
     }
-    let k = replay::word(input, m + 6) as usize;
-    if 16 < k {
-        return 0;
-    }
-    let at = m + k + 7;
-    let n_dims = replay::word(input, at + 3) as usize;
-    let read = replay_values::read_dimensions(input, at + 4, n_dims);
+}
+
+// Reads dimensions and plans, which stand after the operators.
+fn step_from(input: &Words, n: usize, at: usize, m: usize, k: usize, out: &mut Words) -> usize
+    requires { ⌜ (at ≤ 23) × (m ≤ 16) × (k ≤ 16) ⌝ }
+{
+    let n_dims = replay::word(input, at + k + 3) as usize;
+    let read = replay_values::read_dimensions(input, at + k + 4, n_dims);
     let dims = read.dims;
     let next = read.next;
     let plans = replay::word(input, next) as usize;
@@ -430,26 +532,20 @@ fn step(input: &Words, n: usize, out: &mut Words) -> usize {
     if end != n {
         return 0;
     }
-    let mut marks = [0u8; 16];
-    replay_values::read_marks(input, 3, m, &mut marks);
-    let call = Call {
-        m,
-        divisions: replay::word(input, m + 3) as usize,
-        size: replay::word(input, m + 4) as usize,
-        state: replay::word(input, m + 5),
-        ideal: k,
-        probability: replay_values::real_at(input, at),
-        crossover_eta: replay_values::real_at(input, at + 1),
-        mutation_eta: replay_values::real_at(input, at + 2),
-        dims,
-        n_dims,
-        plans,
-    };
-    if replay::word(input, 1) == 0 {
-        answered(input, m + 7, call, &pool, &marks, 0, out)
-    } else {
-        answered_short(input, m + 7, call, &pool, &marks, out)
+    step_call(input, at, m, k, dims, plans, &pool, out)
+}
+
+// 87: after the marks stand divisions, size, state and the ideal.
+fn step(input: &Words, n: usize, out: &mut Words) -> usize {
+    let m = replay::word(input, 2) as usize;
+    if 16 < m {
+        return 0;
     }
+    let k = replay::word(input, m + 6) as usize;
+    if 16 < k {
+        return 0;
+    }
+    step_from(input, n, m + 7, m, k, out)
 }
 
 // ---- the replay

@@ -301,7 +301,11 @@ pub fn read_dimension(input: &Words, at: usize) -> ReadDimension
     }
     let log_scale = replay::word(input, at + 3) == 1;
     if form == 3 {
-        return read(float(input, at, log_scale, float_step(input, at + 4)), at, 6);
+        return read(
+            float(input, at, log_scale, float_step(input, at + 4)),
+            at,
+            6,
+        );
     }
     if form == 4 {
         return read(int(input, at, log_scale, int_step(input, at + 4)), at, 6);
