@@ -18,7 +18,7 @@ type Table = [f64; 8192];
 // The values of n rows of m.
 fn values_of(n: usize, m: usize) -> usize
     requires { ⌜ n * m ≤ 4096 ⌝ }
-    ensures { λ r. ⌜ r ≡ n * m ⌝ }
+    ensures { λ r. ⌜ (r ≡ n * m) × (r ≤ 4096) ⌝ }
 {
     n * m
 }
@@ -125,8 +125,10 @@ fn normalize(input: &Words, words: usize, m: usize, out: &mut Words) -> usize
 
 // ---- the nearest lines
 
+// The table, and how many lines it has; none where the divisions are refused.
 fn fill_table(m: usize, h: usize, table: &mut Table) -> usize
     requires { ⌜ (1 ≤ m) × (m ≤ 8) ⌝ }
+    ensures { λ r. ⌜ r * m ≤ 8192 ⌝ }
 {
     if das_dennis::bad_divisions(m, h) {
         return 0;
@@ -168,7 +170,7 @@ fn associated(rows: &Rows, n: usize, m: usize, h: usize, out: &mut Words) -> usi
 {
     let mut table = [0.0; 8192];
     let n_lines = fill_table(m, h, &mut table);
-    if n_lines == 0 || 1024 < n_lines {
+    if n_lines == 0 {
         return 0;
     }
     let mut lines = [0usize; 1024];
