@@ -1,0 +1,128 @@
+-- each way is as the definition has it
+use Prim.Native.Nat.{ℕ, _≤_, _<_}
+use mathlib.Core.Path.{_≡_, refl, sym, ap, ap₂, _∙_}
+use mathlib.Core.Bool.{Bool, true, false, not, _&&_}
+use lib.ListN.{length}
+use Rattle.model.specs.declared.Sampled.{Sampled}
+use Rattle.model.specs.Session.{State, state, sampleFromCandidate, pastDiscovery}
+use Rattle.session_parts.specs.Exits.{exit, settled}
+use Rattle.model.specs.Plan.{planCount}
+use Rattle.session.proofs.Refusals.{leaves-refused}
+use Rattle.session.proofs.Ways.{others, other-7, other-10, long-by, discovery-plans, first-of}
+use native.Mathlib.Omega.{arith}
+use borrow.Author.Needs.{needs}
+use Rattle.session.proofs.answered.Statement.{statement}
+use Rattle.session.proofs.answered.Tie as tie
+
+long-enough-requires : tie.Need-long-enough-requires
+long-enough-requires c κs = tt
+
+discovers-requires : tie.Need-discovers-requires
+discovers-requires c κs = tt
+
+sample-discovering-requires : tie.Need-sample-discovering-requires
+sample-discovering-requires c κs =
+    let s = c .before .before .before .before .before .before .before in
+    let a = s .args in
+    let e = sym (c .before .discovers .ensures) ∙ c .if1 .taken in
+    (e, discovery-plans (a .session) (a .candidates .now) (a .plans .now) (a .next-dims .now) (a .distribution) (a .plan) (a .history .now) (s .pre) e)
+
+returns : tie.Need-returns
+returns c =
+    let a = c .before .before .before .before .before .before .before .before .args in
+    c .sample-discovering .ensures (a .candidates .now) (a .plans .now) (a .next-dims .now) (long-by (a .session) (a .candidates .now) (a .plans .now) (a .next-dims .now) (a .distribution) (a .plan) (a .history .now) _ (c .before .before .before .long-enough .ensures))
+
+plan-count-requires : tie.Need-plan-count-requires
+plan-count-requires c κs = tt
+
+refused-requires : tie.Need-refused-requires
+refused-requires c κs = tt
+
+returns-2 : tie.Need-returns-2
+returns-2 c =
+    let a = c .before .before .before .before .before .before .before .before .before .before .args in
+    let many : 4096 < planCount (a .history .now) = omega (arith, c .before .if2 .taken, c .before .before .plan-count .ensures) in
+    ap (λ (r : Sampled). exit r (a .candidates .now) (a .plans .now) (a .next-dims .now)) (c .refused .ensures)
+    ∙ leaves-refused (a .session) (a .candidates .now) (a .plans .now) (a .next-dims .now) (a .distribution) (a .plan) (a .history .now) 7 (other-7 (a .session) (a .candidates .now) (a .plans .now) (a .next-dims .now) (a .distribution) (a .plan) (a .history .now) (others (a .session) (a .candidates .now) (a .plans .now) (a .next-dims .now) (a .distribution) (a .plan) (a .history .now) (sym (c .before .before .before .before .discovers .ensures) ∙ c .before .before .before .if1 .left)) many)
+
+enum-told : tie.Need-enum-told
+enum-told c = search needs
+
+sample-first-requires : tie.Need-sample-first-requires
+sample-first-requires c κs =
+    let s = c .before .before .before .before .before .before .before .before .before .before .before .before .before .before .before in
+    let a = s .args in
+    let few : planCount (a .history .now) ≤ 4096 = omega (arith, c .before .before .before .before .before .before .if2 .left, c .before .before .before .before .before .before .before .plan-count .ensures) in
+    let p = c .before .before .before .enum-told .given .1 in
+    (s .pre, p, first-of (a .session) (a .candidates .now) (a .plans .now) (a .next-dims .now) (a .distribution) (a .plan) (a .history .now) p (sym (c .before .before .before .before .before .before .before .before .before .discovers .ensures) ∙ c .before .before .before .before .before .before .before .before .if1 .left), long-by (a .session) (a .candidates .now) (a .plans .now) (a .next-dims .now) (a .distribution) (a .plan) (a .history .now) _ (c .before .before .before .before .before .before .before .before .before .before .long-enough .ensures) ∙ c .before .before .before .before .before .if3 .taken, few)
+
+enum-told-2 : tie.Need-enum-told-2
+enum-told-2 c = search needs
+
+sample-active-requires : tie.Need-sample-active-requires
+sample-active-requires c κs =
+    let s = c .before .before .before .before .before .before .before .before .before .before .before .before .before .before .before in
+    let a = s .args in
+    let few : planCount (a .history .now) ≤ 4096 = omega (arith, c .before .before .before .before .before .before .if2 .left, c .before .before .before .before .before .before .before .plan-count .ensures) in
+    (s .pre, c .before .before .before .enum-told2 .given .1, long-by (a .session) (a .candidates .now) (a .plans .now) (a .next-dims .now) (a .distribution) (a .plan) (a .history .now) _ (c .before .before .before .before .before .before .before .before .before .before .long-enough .ensures) ∙ c .before .before .before .before .before .if3 .taken, few)
+
+same-length : tie.Need-same-length
+same-length c = c .before .before .before .before .before .before .sample-first .kept .1 .1 .1 .0
+
+same-length-2 : tie.Need-same-length-2
+same-length-2 c = c .before .before .before .before .before .before .sample-first .kept .1 .1 .1 .1 .0
+
+same-length-3 : tie.Need-same-length-3
+same-length-3 c = c .before .before .before .before .before .before .sample-first .kept .1 .1 .1 .1 .1 .0
+
+returns-3 : tie.Need-returns-3
+returns-3 c = c .before .before .before .before .before .before .sample-first .ensures _
+
+same-length-4 : tie.Need-same-length-4
+same-length-4 c = c .before .before .before .before .before .before .sample-active .kept .1 .1 .1 .0
+
+same-length-5 : tie.Need-same-length-5
+same-length-5 c = c .before .before .before .before .before .before .sample-active .kept .1 .1 .1 .1 .0
+
+same-length-6 : tie.Need-same-length-6
+same-length-6 c = c .before .before .before .before .before .before .sample-active .kept .1 .1 .1 .1 .1 .0
+
+returns-4 : tie.Need-returns-4
+returns-4 c = c .before .before .before .before .before .before .sample-active .ensures _
+
+refused-requires-2 : tie.Need-refused-requires-2
+refused-requires-2 c κs = tt
+
+returns-5 : tie.Need-returns-5
+returns-5 c =
+    let a = c .before .before .before .before .before .before .before .before .before .before .before .args in
+    let few : planCount (a .history .now) ≤ 4096 = omega (arith, c .before .before .if2 .left, c .before .before .before .plan-count .ensures) in
+    ap (λ (r : Sampled). exit r (a .candidates .now) (a .plans .now) (a .next-dims .now)) (c .refused2 .ensures)
+    ∙ leaves-refused (a .session) (a .candidates .now) (a .plans .now) (a .next-dims .now) (a .distribution) (a .plan) (a .history .now) 10
+    (other-10 (a .session) (a .candidates .now) (a .plans .now) (a .next-dims .now) (a .distribution) (a .plan) (a .history .now) (others (a .session) (a .candidates .now) (a .plans .now) (a .next-dims .now) (a .distribution) (a .plan) (a .history .now) (sym (c .before .before .before .before .before .discovers .ensures) ∙ c .before .before .before .before .if1 .left)) few (long-by (a .session) (a .candidates .now) (a .plans .now) (a .next-dims .now) (a .distribution) (a .plan) (a .history .now) _ (c .before .before .before .before .before .before .long-enough .ensures) ∙ c .before .if3 .left))
+
+pub answered-spec : {M : Type 1} → statement M
+answered-spec =
+    tie.close
+    (tie.spec
+    long-enough-requires
+    discovers-requires
+    sample-discovering-requires
+    returns
+    plan-count-requires
+    refused-requires
+    returns-2
+    enum-told
+    sample-first-requires
+    enum-told-2
+    sample-active-requires
+    same-length
+    same-length-2
+    same-length-3
+    returns-3
+    same-length-4
+    same-length-5
+    same-length-6
+    returns-4
+    refused-requires-2
+    returns-5)

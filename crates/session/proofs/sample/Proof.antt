@@ -1,0 +1,31 @@
+-- the answer is the definition's, of which the rest is proved
+use mathlib.Core.Path.{_≡_, sym, subst}
+use Rattle.model.specs.Session.{state}
+use Rattle.model.specs.Calls.{Samples}
+use Rattle.session_laws.proofs.Sample.{given-samples}
+use native.Mathlib.Omega.{arith}
+use borrow.Author.Needs.{needs}
+use Rattle.session.proofs.sample.Statement.{statement}
+use Rattle.session.proofs.sample.Tie as tie
+
+answered-requires : tie.Need-answered-requires
+answered-requires c κs = c .before .before .before .before .before .before .before .pre
+
+same-length : tie.Need-same-length
+same-length c = c .before .before .before .before .before .before .answered .kept .1 .1 .1 .1 .0
+
+same-length-2 : tie.Need-same-length-2
+same-length-2 c = c .before .before .before .before .before .before .answered .kept .1 .1 .1 .1 .1 .0
+
+same-length-3 : tie.Need-same-length-3
+same-length-3 c = c .before .before .before .before .before .before .answered .kept .1 .1 .1 .1 .1 .1 .0
+
+returns : tie.Need-returns
+returns c =
+    let s = c .before .before .before .before .before .before .before .before .before .before .before .before .before .before in
+    let a = s .args in
+    subst (Samples (state (a .session) (a .candidates .now) (a .plans .now) (a .next-dims .now)) (a .distribution) (a .plan) (a .history .now)) (sym (c .before .before .before .before .before .before .answered .ensures)) (given-samples (state (a .session) (a .candidates .now) (a .plans .now) (a .next-dims .now)) (a .distribution) (a .plan) (a .history .now) (s .pre) _ (s .good .0))
+
+pub sample-spec : {M : Type 1} → statement M
+sample-spec =
+    tie.close (tie.spec answered-requires same-length same-length-2 same-length-3 returns)

@@ -1,0 +1,367 @@
+// The session call (document 01, "Session"; Rust: sampler/nsga3.rs): a plan asks for a setting, and where the generation's plans all stand in history a new
+// generation is bred first.
+ghost use mathlib.Core.Path.{_≡_};
+ghost use mathlib.Core.Bool.{Bool, true, false, not, _&&_, _||_};
+ghost use mathlib.Core.List.{List, []};
+ghost use mathlib.Core.Option.{none};
+ghost use Prim.Native.Nat.{ℕ, _+_, _*_, _≤_, _<_};
+ghost use lib.Dec.{leb, ltb};
+ghost use lib.ListN.{length, take};
+ghost use Rattle.model.specs.Lists.{has};
+ghost use Rattle.model.specs.Plan.{planCount};
+ghost use Rattle.model.specs.Setting.{validDimension};
+ghost use Rattle.model.specs.Session.{state, pastDiscovery, discoversFor, discovers, longEnough, evaluated, breeds};
+ghost use Rattle.model.specs.Calls.{refusedBy, sampleOf, Samples};
+ghost use Rattle.model.specs.Property.{SessionOk};
+ghost use Rattle.model.specs.declared.Distribution.{Distribution};
+ghost use Rattle.model.specs.declared.Phase.the-variants as phase;
+ghost use Rattle.session_parts.specs.Exits.{exit};
+ghost use Rattle.session.specs.Exits.{refusedWith, stepped, stepOn, bredSession, bredExit, breedOf};
+use model::Distribution;
+use model::OptionU64;
+use model::Outcome;
+use model::Phase;
+use model::Progress;
+use model::Rng;
+use model::Sampled;
+use model::Sampling;
+use model::Selection;
+use model::Session;
+
+// The most dimensions of a session, records of a history and plans of a generation, and the words of its candidates.
+const MAX_DIMS: usize = 32;
+
+const MAX_HISTORY: usize = 4096;
+
+const MAX_PLANS: usize = 2048;
+
+const MAX_WORDS: usize = 65536;
+
+// The words of a pool of 1,024 plans.
+const POOL_WORDS: usize = 126976;
+
+// ---- tests
+
+// The call adds a dimension: discovery still lasts, and the plan is the first that came.
+fn discovers(phase: Phase, first: OptionU64, plan: u64) -> bool
+    ensures { λ r. ⌜ r ≡ (not (pastDiscovery phase) && discoversFor first plan) ⌝ }
+{
+    match phase {
+        Phase::Active => false,
+        Phase::Discovery => match first {
+            OptionU64::None => true,
+            OptionU64::Some(number) => number == plan,
+        },
+    }
+}
+
+// The lent slices have room for what they must hold.
+fn long_enough(candidates: usize, plans: usize, next_dims: usize) -> bool
+    ensures { λ r. ⌜ r ≡ (leb 65536 candidates && (leb 2048 plans && leb 2048 «next_dims»)) ⌝ }
+{
+    if candidates < MAX_WORDS {
+        return false;
+    }
+    if plans < MAX_PLANS {
+        return false;
+    }
+    MAX_PLANS <= next_dims
+}
+
+// Refusal 6 for the dimension that a session of n dimensions would add.
+fn bad_dimension(n: usize, distribution: Distribution) -> bool
+    ensures { λ r. ⌜ r ≡ (leb 32 n || not (validDimension distribution)) ⌝ }
+{
+    if MAX_DIMS <= n {
+        return true;
+    }
+    if settings::valid_dimension(distribution) {
+        return false;
+    }
+    true
+}
+
+// A generation of n plans is full, and the plan is not among them.
+fn full(plans: &[u64], n: usize, plan: u64) -> bool
+    requires { ⌜ n ≤ length (now plans) ⌝ }
+    ensures { λ r. ⌜ r ≡ (leb 2048 n && not (has (take n (now (plans .entry))) plan)) ⌝ }
+{
+    if n < MAX_PLANS {
+        return false;
+    }
+    n <= session_parts::place_in(plans, n, plan)
+}
+
+// ---- the call
+
+// A refusal leaves the session as it was.
+fn refused(session: Session, number: u8) -> Sampled
+    ensures { λ r. ⌜ r ≡ refusedWith number session ⌝ }
+{
+    let outcome = Sampling::Refused(number);
+    Sampled { outcome, session }
+}
+
+// A call that adds a dimension.
+fn sample_discovering(
+    session: Session,
+    distribution: Distribution,
+    plan: u64,
+    history: &[u64],
+    long: bool,
+) -> Sampled
+    requires { ⌜ ((not (pastDiscovery (session .phase)) && discoversFor (session .«discovery_trial_id») plan) ≡ true) × (session .progress .«n_plans» ≡ 0) ⌝ }
+    ensures { λ r. ⌜ ((cs ps ns : List ℕ) → longEnough (state session cs ps ns) ≡ long
+        → exit r cs ps ns ≡ sampleOf (state session cs ps ns) distribution plan (now (history .entry))) ⌝ }
+{
+    let progress = session.progress;
+    let n = progress.n_dims;
+    if bad_dimension(n, distribution) {
+        return refused(session, 6);
+    }
+    if MAX_HISTORY < plans::plan_count(history) {
+        return refused(session, 7);
+    }
+    if long {
+        return session_parts::discover(session, distribution, plan);
+    }
+    refused(session, 10)
+}
+
+// ---- breeding
+
+// The step of a session's generation, from the pool of the plans that it breeds from. The kept list, the fronts and the lines are not handed out.
+fn step(session: Session, pool: &[u64], ideal: &mut [f64], candidates: &mut [u64]) -> Selection
+    requires { ⌜ session .config .«n_obj» ≤ length (session .config .directions) ⌝ }
+    ensures { λ r. ⌜ stepped r (now (ideal .exit)) (now (candidates .exit)) ≡ stepOn session (now (pool .entry)) (now (ideal .entry)) (now (candidates .entry)) ⌝ }
+{
+    let config = session.config;
+    let n_obj = config.n_obj;
+    let directions = config.directions;
+    let dimensions = session.dimensions;
+    let progress = session.progress;
+    let rng = session.rng;
+    let mut kept = [0usize; 1024];
+    let mut fronts = [0usize; 1024];
+    let mut lines = [0usize; 1024];
+    generation::nsga3_generate_offspring(
+        pool,
+        &directions[..n_obj],
+        config.divisions,
+        config.population_size,
+        rng,
+        dimensions,
+        progress.n_dims,
+        config.crossover_prob,
+        config.crossover_eta,
+        config.mutation_eta,
+        ideal,
+        &mut kept,
+        &mut fronts,
+        &mut lines,
+        candidates,
+    )
+}
+
+// The session after breeding: its candidates are new, and no plan has come.
+fn bred_session(session: Session, rng: Rng, ideal_point: [f64; 8]) -> Session
+    ensures { λ r. ⌜ r ≡ bredSession session (rng .s) «ideal_point» ⌝ }
+{
+    let config = session.config;
+    let phase = Phase::Active;
+    let discovery_trial_id = session.discovery_trial_id;
+    let dimensions = session.dimensions;
+    let before = session.progress;
+    let progress = Progress {
+        n_dims: before.n_dims,
+        n_candidates: config.population_size,
+        n_plans: 0,
+        generation: std::num::wrapping_add_u64(before.generation, 1),
+    };
+    Session {
+        config,
+        phase,
+        discovery_trial_id,
+        rng,
+        dimensions,
+        ideal_point,
+        progress,
+    }
+}
+
+// What breeding answers: the refusal that it meets, with the session as it was, or the session after it.
+struct Bred {
+    outcome: Outcome,
+    session: Session,
+}
+
+// A new generation, bred from the first `size` plans of the present one, which the pool has room for.
+fn breed(
+    session: Session,
+    history: &[u64],
+    plans: &[u64],
+    pool: &mut [u64],
+    candidates: &mut [u64],
+) -> Bred
+    requires { ⌜ 126976 ≤ length (now pool) ⌝ }
+    requires { ⌜ SessionOk (state session (now candidates) (now plans) []) × (evaluated (state session (now candidates) (now plans) []) (now history) ≡ true)
+        × (2048 ≤ length (now plans)) × (65536 ≤ length (now candidates)) ⌝ }
+    ensures { λ r. ⌜ ((ns : List ℕ) → bredExit (refusedBy (r .outcome)) (state (r .session) (now (candidates .exit)) (now (plans .entry)) ns)
+        ≡ breedOf (state session (now (candidates .entry)) (now (plans .entry)) ns) (now (history .entry))) ⌝ }
+{
+    let config = session.config;
+    let n_obj = config.n_obj;
+    let size = config.population_size;
+    let mut ideal_point = session.ideal_point;
+    session_parts::gather(history, plans, size, pool);
+    let words = size * plans::PLAN_WORDS;
+    let selection = step(
+        session,
+        &pool[..words],
+        &mut ideal_point[..n_obj],
+        candidates,
+    );
+    let outcome = selection.outcome;
+    let rng = selection.rng;
+    match outcome {
+        Outcome::Refused(_) => Bred { outcome, session },
+        Outcome::Kept(_) => {
+            let session = bred_session(session, rng, ideal_point);
+            Bred { outcome, session }
+        }
+    }
+}
+
+// ---- a call that adds no dimension
+
+// A call that breeds: the plan takes the first candidate of the new generation.
+fn sample_bred(
+    session: Session,
+    plan: u64,
+    history: &[u64],
+    candidates: &mut [u64],
+    plans: &mut [u64],
+    next_dims: &mut [usize],
+) -> Sampled
+    requires { ⌜ SessionOk (state session (now candidates) (now plans) (now «next_dims»))
+        × (breeds (state session (now candidates) (now plans) (now «next_dims»)) (now history) ≡ true) × (planCount (now history) ≤ 4096) ⌝ }
+    ensures { λ r. ⌜ ((d : Distribution) → exit r (now (candidates .exit)) (now (plans .exit)) (now («next_dims» .exit))
+        ≡ sampleOf (state session (now (candidates .entry)) (now (plans .entry)) (now («next_dims» .entry))) d plan (now (history .entry))) ⌝ }
+{
+    let mut pool = [0u64; POOL_WORDS];
+    let bred = breed(session, history, plans, &mut pool, candidates);
+    let outcome = bred.outcome;
+    let session = bred.session;
+    match outcome {
+        Outcome::Refused(number) => refused(session, number),
+        Outcome::Kept(_) => {
+            session_parts::sample_from_candidate(session, plan, candidates, plans, next_dims)
+        }
+    }
+}
+
+// A call past discovery: it breeds where the generation's plans all stand in history.
+fn sample_active(
+    session: Session,
+    plan: u64,
+    history: &[u64],
+    candidates: &mut [u64],
+    plans: &mut [u64],
+    next_dims: &mut [usize],
+) -> Sampled
+    requires { ⌜ SessionOk (state session (now candidates) (now plans) (now «next_dims»)) × (session .phase ≡ phase.Active)
+        × (longEnough (state session (now candidates) (now plans) (now «next_dims»)) ≡ true) × (planCount (now history) ≤ 4096) ⌝ }
+    ensures { λ r. ⌜ ((d : Distribution) → exit r (now (candidates .exit)) (now (plans .exit)) (now («next_dims» .exit))
+        ≡ sampleOf (state session (now (candidates .entry)) (now (plans .entry)) (now («next_dims» .entry))) d plan (now (history .entry))) ⌝ }
+{
+    let config = session.config;
+    let size = config.population_size;
+    let progress = session.progress;
+    let n = progress.n_plans;
+    if session_parts::evaluated(history, plans, n, size) {
+        return sample_bred(session, plan, history, candidates, plans, next_dims);
+    }
+    if full(plans, n, plan) {
+        return refused(session, 11);
+    }
+    session_parts::sample_from_candidate(session, plan, candidates, plans, next_dims)
+}
+
+// The call that ends discovery: the first generation's candidates are drawn.
+fn sample_first(
+    session: Session,
+    plan: u64,
+    history: &[u64],
+    candidates: &mut [u64],
+    plans: &mut [u64],
+    next_dims: &mut [usize],
+) -> Sampled
+    requires { ⌜ SessionOk (state session (now candidates) (now plans) (now «next_dims»)) × (session .phase ≡ phase.Discovery)
+        × (discoversFor (session .«discovery_trial_id») plan ≡ false)
+        × (longEnough (state session (now candidates) (now plans) (now «next_dims»)) ≡ true) × (planCount (now history) ≤ 4096) ⌝ }
+    ensures { λ r. ⌜ ((d : Distribution) → exit r (now (candidates .exit)) (now (plans .exit)) (now («next_dims» .exit))
+        ≡ sampleOf (state session (now (candidates .entry)) (now (plans .entry)) (now («next_dims» .entry))) d plan (now (history .entry))) ⌝ }
+{
+    let session = session_parts::activate(session, candidates);
+    session_parts::sample_from_candidate(session, plan, candidates, plans, next_dims)
+}
+
+// ---- the call
+
+// What a call answers and leaves.
+fn answered(
+    session: Session,
+    distribution: Distribution,
+    plan: u64,
+    history: &[u64],
+    candidates: &mut [u64],
+    plans: &mut [u64],
+    next_dims: &mut [usize],
+) -> Sampled
+    requires { ⌜ SessionOk (state session (now candidates) (now plans) (now «next_dims»)) ⌝ }
+    ensures { λ r. ⌜ exit r (now (candidates .exit)) (now (plans .exit)) (now («next_dims» .exit))
+        ≡ sampleOf (state session (now (candidates .entry)) (now (plans .entry)) (now («next_dims» .entry))) distribution plan (now (history .entry)) ⌝ }
+{
+    let phase = session.phase;
+    let first = session.discovery_trial_id;
+    let long = long_enough(candidates.len(), plans.len(), next_dims.len());
+    if discovers(phase, first, plan) {
+        return sample_discovering(session, distribution, plan, history, long);
+    }
+    if MAX_HISTORY < plans::plan_count(history) {
+        return refused(session, 7);
+    }
+    if long {
+        return match phase {
+            Phase::Discovery => sample_first(session, plan, history, candidates, plans, next_dims),
+            Phase::Active => sample_active(session, plan, history, candidates, plans, next_dims),
+        };
+    }
+    refused(session, 10)
+}
+
+// A plan asks for its next setting; the answer, or the number of the refusal that the call meets. `history` has the evaluated plans; the other slices are lent
+// with the session to every call. Where the plans of the generation all stand in history, the call breeds the next one.
+pub fn sample(
+    session: Session,
+    distribution: Distribution,
+    plan: u64,
+    history: &[u64],
+    candidates: &mut [u64],
+    plans: &mut [u64],
+    next_dims: &mut [usize],
+) -> Sampled
+    requires { ⌜ SessionOk (state session (now candidates) (now plans) (now «next_dims»)) ⌝ }
+    ensures { λ r. ⌜ Samples (state session (now (candidates .entry)) (now (plans .entry)) (now («next_dims» .entry))) distribution plan (now (history .entry))
+        (record { answer = r .outcome; after = state (r .session) (now (candidates .exit)) (now (plans .exit)) (now («next_dims» .exit)) }) ⌝ }
+{
+    answered(
+        session,
+        distribution,
+        plan,
+        history,
+        candidates,
+        plans,
+        next_dims,
+    )
+}
