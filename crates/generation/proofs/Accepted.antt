@@ -1,11 +1,11 @@
 -- A generation step that meets no refusal: each limit that it keeps, and that its selection meets none either.
 use Prim.Native.Nat.{ℕ, zero, suc, _*_, _≤_, _<_}
 use mathlib.Core.Path.{_≡_, refl, sym, ap, _∙_}
-use mathlib.Core.Bool.{Bool, true, false, not, _&&_, _||_, true≢false}
+use mathlib.Core.Bool.{Bool, true, false, _&&_, _||_, true≢false}
 use mathlib.Core.List.{List·Memᴰ·head, List·Memᴰ·tail}
 use mathlib.Core.Option.{none}
 use native.Mathlib.Omega.{arith}
-use borrow.Author.Tests.{ltb-false, le-leb}
+use borrow.Author.Tests.{not-false, ltb-false, le-leb}
 use lib.Dec.{eqb, leb, ltb}
 use Rattle.list_laws.proofs.Bools.{and-left}
 use Rattle.model.specs.Lists.{allBelow}
@@ -23,17 +23,28 @@ or-right : (a b : Bool) → (a || b) ≡ false → b ≡ false
 or-right true b e = absurd (true≢false e)
 or-right false b e = e
 
-not-no : (a : Bool) → not a ≡ false → a ≡ true
-not-no true e = refl
-not-no false e = absurd (true≢false e)
-
 -- a size or a count is 1 to 1,024
-pub limits : (n : ℕ) → badCount n ≡ false → (0 < n) × (n ≤ 1024)
-limits n e = (go n (or-left (eqb n 0) (ltb 1024 n) e), ltb-false 1024 n (or-right (eqb n 0) (ltb 1024 n) e))
+pub one-to-1024 : (n : ℕ) → badCount n ≡ false → (0 < n) × (n ≤ 1024)
+one-to-1024 n e = (go n (or-left (eqb n 0) (ltb 1024 n) e), ltb-false 1024 n (or-right (eqb n 0) (ltb 1024 n) e))
   where
     go : (n : ℕ) → eqb n 0 ≡ false → 0 < n
     go zero h = absurd (true≢false h)
     go (suc n) h = omega arith
+
+-- each limit that it keeps
+pub record Limits (o : Operators) (r : Request) (room : Room) (offspring : ℕ) : Type 0 where
+  pub narrow : objectives r ≤ 8
+  pub some : 0 < r .size
+  pub few : r .size ≤ 1024
+  pub operators : badOperators (o .probability) (o .crossoverEta) (o .mutationEta) ≡ false
+  pub dimensions : badDimensions (o .dims) (o .dimCount) ≡ false
+  pub fewPlans : r .count ≤ 1024
+  pub good : allBelow (λ p. goodPlan (objectives r) (r .plans p)) (r .count) ≡ true
+  pub parents : badParents o r ≡ false
+  pub able : allBelow (λ p. breedable (o .dims) (o .dimCount) (r .plans p)) (r .count) ≡ true
+  pub places : r .size * o .dimCount ≤ offspring
+  pub kept : 2 ≤ r .count → r .size ≤ room .kept
+  pub selects : 2 ≤ r .count → selectRefusal r room ≡ none
 
 module _ (o : Operators) (r : Request) (room : Room) (offspring : ℕ) (e : stepRefusal o r room offspring ≡ none) where
   directions : badDirections (r .marks) ≡ false
@@ -48,11 +59,11 @@ module _ (o : Operators) (r : Request) (room : Room) (offspring : ℕ) (e : step
   unfolding stepRefusal
   divisions = applies-not (List·Memᴰ·tail (List·Memᴰ·tail (List·Memᴰ·head refl))) e
 
-  pub good-operators : badOperators (o .probability) (o .crossoverEta) (o .mutationEta) ≡ false
+  good-operators : badOperators (o .probability) (o .crossoverEta) (o .mutationEta) ≡ false
   unfolding stepRefusal
   good-operators = applies-not (List·Memᴰ·tail (List·Memᴰ·tail (List·Memᴰ·tail (List·Memᴰ·head refl)))) e
 
-  pub good-dimensions : badDimensions (o .dims) (o .dimCount) ≡ false
+  good-dimensions : badDimensions (o .dims) (o .dimCount) ≡ false
   unfolding stepRefusal
   good-dimensions = applies-not (List·Memᴰ·tail (List·Memᴰ·tail (List·Memᴰ·tail (List·Memᴰ·tail (List·Memᴰ·head refl))))) e
 
@@ -64,7 +75,7 @@ module _ (o : Operators) (r : Request) (room : Room) (offspring : ℕ) (e : step
   unfolding stepRefusal
   pool = applies-not (List·Memᴰ·tail (List·Memᴰ·tail (List·Memᴰ·tail (List·Memᴰ·tail (List·Memᴰ·tail (List·Memᴰ·tail (List·Memᴰ·head refl))))))) e
 
-  pub good-parents : badParents o r ≡ false
+  good-parents : badParents o r ≡ false
   unfolding stepRefusal
   good-parents = applies-not (List·Memᴰ·tail (List·Memᴰ·tail (List·Memᴰ·tail (List·Memᴰ·tail (List·Memᴰ·tail (List·Memᴰ·tail (List·Memᴰ·tail (List·Memᴰ·head refl)))))))) e
 
@@ -72,25 +83,15 @@ module _ (o : Operators) (r : Request) (room : Room) (offspring : ℕ) (e : step
   unfolding stepRefusal
   slices = applies-not (List·Memᴰ·tail (List·Memᴰ·tail (List·Memᴰ·tail (List·Memᴰ·tail (List·Memᴰ·tail (List·Memᴰ·tail (List·Memᴰ·tail (List·Memᴰ·tail (List·Memᴰ·head refl))))))))) e
 
-  -- the limits
-  pub few-objectives : objectives r ≤ 8
-  few-objectives = some-objectives (r .marks) directions .1
-
-  pub sizes : (0 < r .size) × (r .size ≤ 1024)
-  sizes = limits (r .size) size
-
-  pub counts : (0 < r .count) × (r .count ≤ 1024)
-  counts = limits (r .count) count
-
-  pub good-plans : allBelow (λ p. goodPlan (objectives r) (r .plans p)) (r .count) ≡ true
+  good-plans : allBelow (λ p. goodPlan (objectives r) (r .plans p)) (r .count) ≡ true
   unfolding badPool
-  good-plans = and-left (allBelow (λ p. goodPlan (objectives r) (r .plans p)) (r .count)) (goodIdeal (objectives r) (r .ideal)) (not-no _ pool)
+  good-plans = and-left (allBelow (λ p. goodPlan (objectives r) (r .plans p)) (r .count)) (goodIdeal (objectives r) (r .ideal)) (not-false _ pool)
 
-  pub all-breedable : allBelow (λ p. breedable (o .dims) (o .dimCount) (r .plans p)) (r .count) ≡ true
+  all-breedable : allBelow (λ p. breedable (o .dims) (o .dimCount) (r .plans p)) (r .count) ≡ true
   unfolding badParents
-  all-breedable = not-no _ good-parents
+  all-breedable = not-false _ good-parents
 
-  pub offspring-room : r .size * o .dimCount ≤ offspring
+  offspring-room : r .size * o .dimCount ≤ offspring
   unfolding noStepRoom
   offspring-room = ltb-false offspring (r .size * o .dimCount) (or-right (leb 2 (r .count) && noRoom r room) (ltb offspring (r .size * o .dimCount)) slices)
 
@@ -100,10 +101,26 @@ module _ (o : Operators) (r : Request) (room : Room) (offspring : ℕ) (e : step
   select-room h =
       ap (λ b. b && noRoom r room) (sym (le-leb 2 (r .count) h)) ∙ or-left (leb 2 (r .count) && noRoom r room) (ltb offspring (r .size * o .dimCount)) slices
 
-  pub kept-room : 2 ≤ r .count → r .size ≤ room .kept
+  kept-room : 2 ≤ r .count → r .size ≤ room .kept
   unfolding noRoom
   kept-room h = ltb-false (room .kept) (r .size) (or-left (ltb (room .kept) (r .size)) (ltb (room .fronts) (r .count) || ltb (room .lines) (r .count)) (select-room h))
 
-  pub selects : 2 ≤ r .count → selectRefusal r room ≡ none
+  selects : 2 ≤ r .count → selectRefusal r room ≡ none
   unfolding selectRefusal firstOf
   selects h = rw (directions, size, divisions, count, pool, select-room h)
+
+  pub limits : Limits o r room offspring
+  limits = record {
+    narrow = some-objectives (r .marks) directions .1;
+    some = one-to-1024 (r .size) size .0;
+    few = one-to-1024 (r .size) size .1;
+    operators = good-operators;
+    dimensions = good-dimensions;
+    fewPlans = one-to-1024 (r .count) count .1;
+    good = good-plans;
+    parents = good-parents;
+    able = all-breedable;
+    places = offspring-room;
+    kept = kept-room;
+    selects = selects;
+  }

@@ -1,15 +1,14 @@
 -- The answer of a generation step, from what its parts leave.
-use Prim.Native.Nat.{ℕ, zero, suc, _*_, _≤_, _<_}
+use Prim.Native.Nat.{ℕ, suc, _≤_, _<_}
 use mathlib.Core.Path.{_≡_, refl, ap, ap₂, sym, subst, _∙_}
-use mathlib.Core.Bool.{true, false}
+use mathlib.Core.Bool.{false}
 use mathlib.Core.List.{List, [], _∷_}
-use mathlib.Core.Option.{Option, none, some}
+use mathlib.Core.Option.{none, some}
 use native.Mathlib.Omega.{arith}
 use borrow.Author.Tests.{lt-ltb, le-ltb}
 use lib.Ieee.{Float}
-use lib.ListN.{length, getD, take, drop}
+use lib.ListN.{length, getD, take}
 use Rattle.list_laws.proofs.Built.{over-take}
-use Rattle.model.specs.declared.DimensionInfo.{DimensionInfo}
 use Rattle.model.specs.declared.Distribution.{Distribution}
 use Rattle.model.specs.declared.ParamValue.{ParamValue}
 use Rattle.model.specs.declared.Outcome.the-variants as outcome
@@ -22,14 +21,14 @@ use Rattle.model.specs.Front.{frontOf}
 use Rattle.model.specs.Association.{Request}
 use Rattle.model.specs.Kept.{selected}
 use Rattle.model.specs.Setting.{Operators, Generation, wordsOf, WordsWithin, sampleCandidates, parentsOf, offspringOf, rankOf, generationOf, generationOfOne, byPool, generation}
-use Rattle.model.specs.Refusal.{badDimensions, selectRefusal, stepRefusal}
-use Rattle.model.specs.Calls.{wordRequest, Lent, lent, roomOf, SelectExit, answered, selectAccepted, selectBy, selectOf, Selects, StepExit, stepAccepted, stepBy, stepOf, Steps}
+use Rattle.model.specs.Refusal.{badDimensions, stepRefusal}
+use Rattle.model.specs.Calls.{wordRequest, Lent, roomOf, SelectExit, answered, selectAccepted, selectBy, selectOf, Selects, StepExit, stepAccepted, stepBy, stepOf, Steps}
 use Rattle.demand3_laws.proofs.Calls.{planAt-row, steps}
 use Rattle.candidate_laws.proofs.Sound.{AllHeld}
 use Rattle.candidate_laws.proofs.KeptPlans.{kept-length, kept-below}
 use Rattle.candidate_laws.proofs.Generations.{generation-words}
 use Rattle.generation.specs.Bred.{rankAt, bredFrom, exit}
-use Rattle.generation.proofs.Accepted.{selects, sizes, good-dimensions, good-parents}
+use Rattle.generation.proofs.Accepted.{limits}
 use Rattle.generation.proofs.Breeding.{offspring-same, front-place}
 
 parents-length : (dims : ℕ → Distribution) (n : ℕ) (plans : ℕ → Plan) (ps : List ℕ) (s : ℕ) → length (parentsOf dims n plans ps s .value) ≡ length ps
@@ -65,7 +64,7 @@ module _ (o : Operators) (pool directions : List ℕ) (divisions size : ℕ) (g 
     -- the selection is not refused
     pub select-exit : (x : SelectExit) → Selects r at x → x ≡ selectAccepted r at
     unfolding selectOf
-    select-exit x h = h .whole ∙ ap (λ n. selectBy n r at) (selects o r (roomOf at) (length old) refused two)
+    select-exit x h = h .whole ∙ ap (λ n. selectBy n r at) (limits o r (roomOf at) (length old) refused .selects two)
 
     module _ (x : SelectExit) (e : x ≡ selectAccepted r at) where
       kept-is : x .slices .kept ≡ over (selected r .kept) (at .kept)
@@ -92,7 +91,7 @@ module _ (o : Operators) (pool directions : List ℕ) (divisions size : ℕ) (g 
           let taken : take size (x .slices .kept) ≡ selected r .kept = ap (take size) kept-is ∙ over-take (selected r .kept) (at .kept) size (kept-length r) in
           let ps = parentsOf (o .dims) (o .dimCount) (planAt pool) (selected r .kept) (selected r .state) in
           let z : length (ps .value) ≡ size = parents-length (o .dims) (o .dimCount) (planAt pool) (selected r .kept) (selected r .state) ∙ kept-length r in
-          let some : 0 < size = sizes o r (roomOf at) (length old) refused .0 in
+          let some : 0 < size = limits o r (roomOf at) (length old) refused .some in
           ap₂ (λ k s. let p = parentsOf (o .dims) (o .dimCount) (planAt pool) k s in offspringOf o (p .value) (rankAt pool directions (x .slices .kept)) size (p .state)) taken state-is
           ∙ offspring-same o (ps .value) (rankAt pool directions (x .slices .kept)) (rankAt pool directions (selected r .kept)) (omega arith)
           (λ i h. ap (frontOf (rowBeats directions (planAt pool)) (planCount pool)) (place-is i (omega arith)))
@@ -116,9 +115,9 @@ module _ (o : Operators) (pool directions : List ℕ) (divisions size : ℕ) (g 
     bounds : stepRefusal o r (roomOf at) (length old) ≡ none → WordsWithin (o .dims) (o .dimCount) size (stepOf o r at old .offspring)
     unfolding stepOf stepAccepted
     bounds e =
-        let good = good-dimensions o r (roomOf at) (length old) e in
+        let ok = limits o r (roomOf at) (length old) e in
         subst (λ n. WordsWithin (o .dims) (o .dimCount) size (stepBy n o r at old .offspring)) (sym e)
-        (generation-words o r (held good) good (good-parents o r (roomOf at) (length old) e) old)
+        (generation-words o r (held (ok .dimensions)) (ok .dimensions) (ok .parents) old)
 
     promise : (x : StepExit) → x ≡ stepOf o r at old → Steps o r at old x
     promise x e = subst (Steps o r at old) (sym e) (steps r (planAt-row pool) o at old bounds)

@@ -1,5 +1,5 @@
 -- Breeding looks at the ranks of its parents only; the offspring of a kept list from the words of its parents and a list of their ranks.
-use Prim.Native.Nat.{ℕ, zero, suc, _+_, _*_, _/_, _≤_, _<_}
+use Prim.Native.Nat.{ℕ, zero, suc, _+_, _/_, _≤_, _<_}
 use mathlib.Core.Path.{_≡_, refl, ap, ap₂, sym, subst, _∙_}
 use mathlib.Core.Bool.{true, false, cond}
 use mathlib.Core.List.{List, [], _∷_, _++_}
@@ -7,14 +7,13 @@ use native.Mathlib.Omega.{arith}
 use lib.Dec.{leb}
 use lib.ListN.{length, getD, take, drop, List·getD-append}
 use lib.Seq.{length-take-le, getD-take}
-use Rattle.list_laws.proofs.Built.{listBelow-length, listBelow-at, over-take}
+use Rattle.list_laws.proofs.Built.{listBelow-length, listBelow-at}
 use Rattle.list_laws.proofs.Tests.{allBelow-each}
 use Rattle.rng_util.proofs.Draws.{drawUsize-below}
-use Rattle.model.specs.declared.Distribution.{Distribution}
 use Rattle.model.specs.declared.ParamValue.{ParamValue}
 use Rattle.model.specs.Lists.{allBelow, listBelow, over}
 use Rattle.model.specs.Draw.{Drawn, drawn, drawUsize}
-use Rattle.model.specs.Plan.{Plan, planAt, planCount}
+use Rattle.model.specs.Plan.{planAt, planCount}
 use Rattle.model.specs.Setting.{wordsOf, exponentOf, crossover, mutate, Children, children, Operators, tournament, brood, broods, offspringOf, parentsOf}
 use Rattle.model.specs.Refusal.{badDimensions, breedable}
 use Rattle.genetic.specs.Parents.{parentAt, parentsIn}

@@ -183,8 +183,8 @@ fn step(
         (wordRequest (now (pool .entry)) (now (directions .entry)) divisions size rng (now (ideal .entry)))
         (lent (now (kept .entry)) (now (fronts .entry)) (now (lines .entry))) (now (offspring .entry)) ⌝ }
 {
-    let n = plans::plan_count(pool);
-    if n < 2 {
+    let count = plans::plan_count(pool);
+    if count < 2 {
         let rng = candidates::sample_candidates(dims, n_dims, size, rng, offspring);
         return Selection {
             outcome: Outcome::Kept(0),

@@ -1,6 +1,6 @@
 -- The ranks of kept plans: each plan's front in the pool by rows only.
 use Prim.Native.Nat.{ℕ, _*_, _≤_, _<_}
-use mathlib.Core.Path.{_≡_, refl, ap, sym, _∙_}
+use mathlib.Core.Path.{_≡_, ap, _∙_}
 use mathlib.Core.Bool.{Bool}
 use mathlib.Core.List.{List}
 use native.Mathlib.Nat.{mul-le-mul-left, mul-le-mul-right}
@@ -33,10 +33,6 @@ rows-fronts marks plans n rows₀ rows o₀ o r₀ r e₀ e x filled s =
     sorted-same (flatDominates rows (length marks)) (rowBeats marks plans) n o₀ o r₀ r e₀ e x (flatDominates-rowBeats marks plans n rows (filled .values)) s .ranks
 
 module _ (d : ℕ → ℕ → Bool) (n : ℕ) where
-  front-length : length (frontList d n) ≡ n
-  unfolding frontList
-  front-length = listBelow-length (frontOf d n) n
-
   front-at : (r₀ : List ℕ) (p : ℕ) → p < n → getD (over (frontList d n) r₀) p 0 ≡ frontOf d n p
   unfolding frontList
   front-at r₀ p h =

@@ -1,5 +1,5 @@
 -- A pool in flat lists: its domination is that of its plans, and strict where no row has a NaN.
-use Prim.Native.Nat.{ℕ, _+_, _*_, _≤_, _<_}
+use Prim.Native.Nat.{ℕ, _+_, _*_, _<_}
 use mathlib.Core.Path.{_≡_}
 use mathlib.Core.Bool.{Bool, true, false}
 use mathlib.Core.List.{List}
@@ -12,8 +12,8 @@ use Rattle.model.specs.Row.{rowOf, feasible, violation, constrainedDominates, r
 use Rattle.front_laws.specs.Strict.{Strict}
 use Rattle.front_laws.proofs.Same.{Agree}
 use Rattle.list_laws.proofs.Runs.{row-inside}
-use Rattle.pareto.specs.Flat.{rowAt, flatDominates, flatBeats, Pool, KnownRows, RowsOf, FlatOf}
-use Rattle.front_laws.proofs.Domination.{dominates-same, dominates-irreflexive, dominates-transitive, rule-irreflexive, rule-transitive}
+use Rattle.pareto.specs.Flat.{rowAt, flatDominates, flatBeats, Pool, Within, KnownRows, RowsOf, FlatOf}
+use Rattle.front_laws.proofs.Domination.{dominates-same, dominates-irreflexive, dominates-transitive, rule-irreflexive, rule-asymmetric, rule-transitive}
 
 -- `flatBeats` is the constraint rule, where flags and sums are those of two plans' constraints
 pub flatBeats-constrained : (rows : List Float) (m : ℕ) (flags : List Bool) (sums : List Float) (p q : ℕ) (cp cq : List Float)
@@ -55,11 +55,21 @@ flatDominates-strict rows m n known =
       transitive = λ p q r lp lq lr x y. dominates-transitive m (rowAt rows m p) (rowAt rows m q) (rowAt rows m r) (known p lp) (known q lq) (known r lr) x y;
     }
 
+pub flatBeats-self : (rows : List Float) (m : ℕ) (flags : List Bool) (sums : List Float) (p : ℕ) → flatBeats rows m flags sums p p ≡ false
+unfolding flatBeats
+flatBeats-self rows m flags sums p = rule-irreflexive m (getD flags p false) (getD sums p nan) (rowAt rows m p)
+
+pub flatBeats-asymmetric : (rows : List Float) (m : ℕ) (flags : List Bool) (sums : List Float) (p q : ℕ) → flatBeats rows m flags sums p q ≡ true
+    → flatBeats rows m flags sums q p ≡ false
+unfolding flatBeats
+flatBeats-asymmetric rows m flags sums p q =
+    rule-asymmetric m (getD flags p false) (getD flags q false) (getD sums p nan) (getD sums q nan) (rowAt rows m p) (rowAt rows m q)
+
 pub flatBeats-strict : (rows : List Float) (m : ℕ) (flags : List Bool) (sums : List Float) (n : ℕ) → KnownRows rows m n → Strict (flatBeats rows m flags sums) n
 unfolding flatBeats
 flatBeats-strict rows m flags sums n known =
     record {
-      irreflexive = λ p l. rule-irreflexive m (getD flags p false) (getD sums p nan) (rowAt rows m p);
+      irreflexive = λ p l. flatBeats-self rows m flags sums p;
       transitive = λ p q r lp lq lr x y.
           rule-transitive m (getD flags p false) (getD flags q false) (getD flags r false) (getD sums p nan) (getD sums q nan) (getD sums r nan)
           (rowAt rows m p) (rowAt rows m q) (rowAt rows m r) (known p lp) (known q lq) (known r lr) x y;
@@ -67,8 +77,7 @@ flatBeats-strict rows m flags sums n known =
 
 -- two plans of a pool in flat lists are within the lists
 pub pool-pair : (rows : List Float) (m : ℕ) (flags : List Bool) (sums : List Float) (n p q : ℕ) → Pool rows m flags sums n → p < n → q < n
-    → (p * m + m ≤ length rows) × (q * m + m ≤ length rows)
-    × (p < length flags) × (q < length flags) × (p < length sums) × (q < length sums)
+    → Within rows m flags sums p q
 pool-pair rows m flags sums n p q h lp lq =
     let a = row-inside p n m lp in
     let b = row-inside q n m lq in

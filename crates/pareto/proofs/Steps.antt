@@ -2,54 +2,32 @@
 use Prim.Native.Nat.{ℕ, _+_, _-_, _≤_, _<_}
 use mathlib.Core.Path.{_≡_, refl, ap, sym, _∙_}
 use mathlib.Core.Bool.{Bool, true, false, _&&_}
-use mathlib.Core.Logic.{⊎-elim}
 use mathlib.Core.List.{List}
-use native.Mathlib.Nat.{eq-or-lt-of-le}
 use native.Mathlib.Omega.{arith}
 use borrow.Author.Tests.{eq-eqb}
 use lib.Dec.{eqb}
-use lib.ListN.{length, getD, set, length-set}
-use lib.Seq.{getD-set-other}
+use lib.ListN.{length, getD, set}
 use Rattle.model.specs.Front.{lower, freed}
 use Rattle.model.specs.Lists.{one}
 use Rattle.list_laws.proofs.Kept.{keepBelow-room}
 use Rattle.pareto.specs.Post.{of, freedAt, Freed}
-use Rattle.pareto.proofs.Writes.{Picked, picked-none, picked-no, picked-length, picked-more, filled-more}
+use Rattle.pareto.proofs.Writes.{Picked, picked-none, picked-no, picked-length, picked-more, Partly, partly-none, partly-set, partly-keep}
 
 -- p frees q
 abbrev pub frees : (ℕ → ℕ → Bool) → ℕ → List ℕ → ℕ → Bool
 frees d p cs q = d p q && eqb (lower d p (of cs) q) 0
 
-pub record Lowered (d : ℕ → ℕ → Bool) (p : ℕ) (cs₀ : List ℕ) (q : ℕ) (cs : List ℕ) : Type 0 where
-  pub size : length cs ≡ length cs₀
-  pub under : (t : ℕ) → t < q → getD cs t 0 ≡ lower d p (of cs₀) t
-  pub over : (t : ℕ) → q ≤ t → getD cs t 0 ≡ getD cs₀ t 0
-
-pub lowered-none : (d : ℕ → ℕ → Bool) (p : ℕ) (cs : List ℕ) → Lowered d p cs 0 cs
-lowered-none d p cs = record { size = refl; under = λ t h. absurd (omega arith); over = λ t h. refl }
+abbrev pub Lowered : (ℕ → ℕ → Bool) → ℕ → List ℕ → ℕ → List ℕ → Type 0
+Lowered d p cs₀ q cs = Partly (lower d p (of cs₀)) cs₀ q cs
 
 module _ (d : ℕ → ℕ → Bool) (p : ℕ) (cs₀ : List ℕ) (q : ℕ) (cs : List ℕ) (h : Lowered d p cs₀ q cs) where
   pub lowered-yes : q < length cs₀ → d p q ≡ true → Lowered d p cs₀ (q + 1) (set cs q (getD cs q 0 - 1))
   unfolding lower
-  lowered-yes l e = record {
-    size = length-set cs q (getD cs q 0 - 1) ∙ h .size;
-    under = filled-more (lower d p (of cs₀)) cs q (getD cs q 0 - 1) (omega arith)
-        (omega (arith, h .over q (omega arith), ap one e)) (h .under);
-    over = λ t u. getD-set-other cs q t (getD cs q 0 - 1) 0 (λ w. omega arith) ∙ h .over t (omega arith);
-  }
+  lowered-yes l e = partly-set (lower d p (of cs₀)) cs₀ q cs h (getD cs q 0 - 1) l (omega (arith, h .over q (omega arith), ap one e))
 
   pub lowered-no : d p q ≡ false → Lowered d p cs₀ (q + 1) cs
   unfolding lower
-  lowered-no e = record {
-    size = h .size;
-    under = λ t u. ⊎-elim
-        (λ w. h .over t (omega arith) ∙ omega (arith, ap (λ i. one (d p i)) w ∙ ap one e))
-        (λ m. h .under t m) (eq-or-lt-of-le (below t u));
-    over = λ t u. h .over t (omega arith);
-  }
-    where
-      below : (t : ℕ) → t < q + 1 → t ≤ q
-      below t u = omega arith
+  lowered-no e = partly-keep (lower d p (of cs₀)) cs₀ q cs h (omega (arith, ap one e))
 
   -- the test that the turn makes says whether p frees q
   pub frees-now : d p q ≡ true → frees d p cs₀ q ≡ eqb (getD cs q 0 - 1) 0
@@ -71,7 +49,7 @@ pub record Releasing (d : ℕ → ℕ → Bool) (p : ℕ) (cs₀ o₀ : List ℕ
   pub size : length o ≡ length o₀
 
 pub releasing-first : (d : ℕ → ℕ → Bool) (p : ℕ) (cs₀ o₀ : List ℕ) (at : ℕ) → Releasing d p cs₀ o₀ at 0 cs₀ o₀ at
-releasing-first d p cs₀ o₀ at = record { lowered = lowered-none d p cs₀; picked = picked-none (frees d p cs₀) o₀ at; size = refl }
+releasing-first d p cs₀ o₀ at = record { lowered = partly-none (lower d p (of cs₀)) cs₀; picked = picked-none (frees d p cs₀) o₀ at; size = refl }
 
 module _ (d : ℕ → ℕ → Bool) (p : ℕ) (cs₀ o₀ : List ℕ) (at q : ℕ) (cs o : List ℕ) (len : ℕ) (h : Releasing d p cs₀ o₀ at q cs o len) where
   -- what lowering q's count asks, where p dominates q

@@ -1,12 +1,12 @@
 -- A run of stores, one more at its end, and what it leaves alone.
-use Prim.Native.Nat.{ℕ, suc, _+_, _≤_, _<_}
+use Prim.Native.Nat.{ℕ, _+_, _≤_, _<_}
 use mathlib.Core.Path.{_≡_, refl, ap, sym, _∙_}
 use mathlib.Core.Bool.{Bool, true, false, cond}
 use mathlib.Core.Logic.{⊎-elim}
-use mathlib.Core.List.{List, [], _∷_, _++_}
+use mathlib.Core.List.{List, [], _∷_}
 use native.Mathlib.Omega.{arith}
-use native.Mathlib.Nat.{eq-or-lt-of-le, suc-add, add-suc, add-zero}
-use lib.ListN.{length, getD, set, length-append}
+use native.Mathlib.Nat.{eq-or-lt-of-le, add-zero}
+use lib.ListN.{length, getD, set, length-append, length-set}
 use lib.Seq.{sets, length-sets, getD-set-other, getD-set-same}
 use Rattle.model.specs.Lists.{one, keepBelow}
 use Rattle.list_laws.proofs.Counts.{countBelow-le}
@@ -59,3 +59,31 @@ filled-more f l q v h e g t u = ⊎-elim
   where
     below : t ≤ q
     below = omega arith
+
+-- a list on its way to the values of f: below q it has them, from q on it is as it was
+pub record Partly (f : ℕ → ℕ) (l₀ : List ℕ) (q : ℕ) (l : List ℕ) : Type 0 where
+  pub size : length l ≡ length l₀
+  pub under : (t : ℕ) → t < q → getD l t 0 ≡ f t
+  pub over : (t : ℕ) → q ≤ t → getD l t 0 ≡ getD l₀ t 0
+
+pub partly-none : (f : ℕ → ℕ) (l : List ℕ) → Partly f l 0 l
+partly-none f l = record { size = refl; under = λ t h. absurd (omega arith); over = λ t h. refl }
+
+module _ (f : ℕ → ℕ) (l₀ : List ℕ) (q : ℕ) (l : List ℕ) (h : Partly f l₀ q l) where
+  pub partly-set : (v : ℕ) → q < length l₀ → v ≡ f q → Partly f l₀ (q + 1) (set l q v)
+  partly-set v u e = record {
+    size = length-set l q v ∙ h .size;
+    under = filled-more f l q v (omega arith) e (h .under);
+    over = λ t w. getD-set-other l q t v 0 (λ z. omega arith) ∙ h .over t (omega arith);
+  }
+
+  -- a value that is to stay as it was
+  pub partly-keep : f q ≡ getD l₀ q 0 → Partly f l₀ (q + 1) l
+  partly-keep e = record {
+    size = h .size;
+    under = λ t u. ⊎-elim (λ w. ap (λ i. getD l i 0) w ∙ h .over q (omega arith) ∙ sym e ∙ ap f (sym w)) (λ m. h .under t m) (eq-or-lt-of-le (below t u));
+    over = λ t u. h .over t (omega arith);
+  }
+    where
+      below : (t : ℕ) → t < q + 1 → t ≤ q
+      below t u = omega arith

@@ -28,6 +28,12 @@ pub record Pool (rows : List Float) (m : ℕ) (feasible : List Bool) (violations
   pub flags : n ≤ length feasible
   pub sums : n ≤ length violations
 
+-- plans p and q stand in the lists
+abbrev pub Within : List Float → ℕ → List Bool → List Float → ℕ → ℕ → Type 0
+Within rows m feasible violations p q =
+    (p * m + m ≤ length rows) × (q * m + m ≤ length rows)
+    × (p < length feasible) × (q < length feasible) × (p < length violations) × (q < length violations)
+
 -- none of the n rows has a NaN
 abbrev pub KnownRows : List Float → ℕ → ℕ → Type 0
 KnownRows rows m n = (p : ℕ) → p < n → Known m (rowAt rows m p)

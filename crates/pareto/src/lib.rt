@@ -1,15 +1,16 @@
 // Domination and non-dominated fronts (Rust: pareto.rs), over flat rows in minimise-space: row p has m entries and starts at p * m.
 ghost use mathlib.Core.Path.{_≡_};
 ghost use Prim.Native.Nat.{ℕ, _+_, _*_, _-_, _<_, _≤_};
-ghost use mathlib.Core.Bool.{Bool, true, false};
+ghost use mathlib.Core.Bool.{Bool, true, false, not, _&&_};
 ghost use mathlib.Core.List.{List};
 ghost use lib.Dec.{eqb};
 ghost use lib.ListN.{length, getD};
 ghost use lib.Seq.{sets};
-ghost use Rattle.model.specs.Lists.{countBelow, keepBelow, listBelow, over};
+ghost use Rattle.model.specs.Lists.{one, countBelow, keepBelow, listBelow, over};
 ghost use Rattle.model.specs.Row.{directionOf, toMinimize, feasible, violation, dominates};
 ghost use Rattle.model.specs.Refusal.{maxSize};
-ghost use Rattle.pareto.specs.Flat.{rowAt, minimised, flatDominates, flatBeats, Pool, KnownRows};
+ghost use Rattle.pareto.specs.Flat.{rowAt, minimised, flatDominates, flatBeats, Pool, Within, KnownRows};
+ghost use Rattle.pareto.specs.Compared.{Decides, Countable, Raised};
 ghost use Rattle.pareto.specs.Post.{Freed, Releasable, Released, Ready, Passed, Sorted};
 
 // The most plans of a pool.
@@ -117,30 +118,118 @@ pub fn constrained_dominates(
     violations[p] < violations[q]
 }
 
-// How many of the n plans dominate plan q.
-fn count_dominators(
+// Which of two plans dominates the other.
+enum Winner {
+    First,
+    Second,
+    Neither,
+}
+
+// The winner, by whether each of the two is somewhere better.
+fn winner_of(first: bool, second: bool) -> Winner
+    ensures { λ r. ⌜ Decides r (not second && first) (not first && second) ⌝ }
+{
+    if first {
+        if second {
+            return Winner::Neither;
+        }
+        return Winner::First;
+    }
+    if second {
+        return Winner::Second;
+    }
+    Winner::Neither
+}
+
+// Rows p and q, both ways in one pass. It goes to the end: two tests at each value cost less than a jump that can't be foreseen.
+fn compare_rows(rows: &[f64], m: usize, p: usize, q: usize) -> Winner
+    requires { ⌜ (p * m + m ≤ length (now rows)) × (q * m + m ≤ length (now rows)) ⌝ }
+    ensures { λ r. ⌜ Decides r (flatDominates (now (rows .entry)) m p q) (flatDominates (now (rows .entry)) m q p) ⌝ }
+{
+    let a = p * m;
+    let b = q * m;
+    let mut first = false;
+    let mut second = false;
+    let mut j = 0;
+    while j < m {
+        let u = rows[a + j];
+        let v = rows[b + j];
+        if u < v {
+            first = true;
+        }
+        if v < u {
+            second = true;
+        }
+        j += 1;
+    }
+    winner_of(first, second)
+}
+
+// Plans p and q under the constraint rule, both ways at once.
+fn compare(
+    rows: &[f64],
+    m: usize,
+    feasible: &[bool],
+    violations: &[f64],
+    p: usize,
+    q: usize,
+) -> Winner
+    requires { ⌜ Within (now rows) m (now feasible) (now violations) p q ⌝ }
+    ensures { λ r. ⌜ Decides r (flatBeats (now (rows .entry)) m (now (feasible .entry)) (now (violations .entry)) p q)
+        (flatBeats (now (rows .entry)) m (now (feasible .entry)) (now (violations .entry)) q p) ⌝ }
+{
+    if feasible[p] {
+        if feasible[q] {
+            return compare_rows(rows, m, p, q);
+        }
+        return Winner::First;
+    }
+    if feasible[q] {
+        return Winner::Second;
+    }
+    let u = violations[p];
+    let v = violations[q];
+    if u < v {
+        return Winner::First;
+    }
+    if v < u {
+        return Winner::Second;
+    }
+    Winner::Neither
+}
+
+// Plan q beside the plans before it: raises the count of each that q dominates; how many of them dominate q.
+fn count_earlier(
     rows: &[f64],
     m: usize,
     feasible: &[bool],
     violations: &[f64],
     n: usize,
     q: usize,
+    counts: &mut [usize],
 ) -> usize
-    requires { ⌜ Pool (now rows) m (now feasible) (now violations) n × (q < n) ⌝ }
-    ensures { λ r. ⌜ r ≡ countBelow (λ p. flatBeats (now (rows .entry)) m (now (feasible .entry)) (now (violations .entry)) p q) n ⌝ }
+    requires { ⌜ Pool (now rows) m (now feasible) (now violations) n × Countable n q (now counts) ⌝ }
+    ensures { λ r. ⌜ Raised (flatBeats (now (rows .entry)) m (now (feasible .entry)) (now (violations .entry))) q (now (counts .entry)) (now (counts .exit)) r ⌝ }
 {
     let mut c: usize = 0;
     let mut p = 0;
-    while p < n {
-        if constrained_dominates(rows, m, feasible, violations, p, q) {
-            c += 1;
+    while p < q {
+        let found = compare(rows, m, feasible, violations, p, q);
+        match found {
+            Winner::First => {
+                c += 1;
+            }
+            Winner::Second => {
+                counts[p] += 1;
+            }
+            Winner::Neither => {}
         }
         p += 1;
     }
     c
 }
 
-// Each plan's count of dominators.
+// Each plan's count of dominators; each pair is compared once.
 fn count_all(
     rows: &[f64],
     m: usize,
@@ -155,7 +244,8 @@ fn count_all(
 {
     let mut q = 0;
     while q < n {
-        counts[q] = count_dominators(rows, m, feasible, violations, n, q);
+        let c = count_earlier(rows, m, feasible, violations, n, q, counts);
+        counts[q] = c;
         q += 1;
     }
 }
@@ -192,6 +282,25 @@ fn lower(counts: &mut [usize], order: &mut [usize], q: usize, len: usize) -> usi
     len
 }
 
+// Whether member p, which is about to lower the counts, dominates q. A zero count answers no without a test: it would have counted p.
+fn dominates_counted(
+    rows: &[f64],
+    m: usize,
+    feasible: &[bool],
+    violations: &[f64],
+    p: usize,
+    q: usize,
+    count: usize,
+) -> bool
+    requires { ⌜ Within (now rows) m (now feasible) (now violations) p q × (one (flatBeats (now rows) m (now feasible) (now violations) p q) ≤ count) ⌝ }
+    ensures { λ r. ⌜ r ≡ flatBeats (now (rows .entry)) m (now (feasible .entry)) (now (violations .entry)) p q ⌝ }
+{
+    if count == 0 {
+        return false;
+    }
+    constrained_dominates(rows, m, feasible, violations, p, q)
+}
+
 // Member p lowers the counts of the plans that it dominates, rising index, and lists from `at` on those that reach zero.
 fn release(
     rows: &[f64],
@@ -212,7 +321,8 @@ fn release(
     let mut len = at;
     let mut q = 0;
     while q < n {
-        if constrained_dominates(rows, m, feasible, violations, p, q) {
+        let count = counts[q];
+        if dominates_counted(rows, m, feasible, violations, p, q, count) {
             len = lower(counts, order, q, len);
         }
         q += 1;

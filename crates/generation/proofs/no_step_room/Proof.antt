@@ -1,5 +1,4 @@
 -- `no_step_room`: slice after slice
-use Prim.Native.Nat.{_*_, _≤_}
 use native.Mathlib.Omega.{arith}
 use Rattle.offspring.proofs.Ranks.{product}
 use Rattle.generation.proofs.Refusals.{room-offspring, room-of-one, room-kept, room-fronts, room-lines}

@@ -1,5 +1,4 @@
 -- `nsga3_generate_offspring`: the refusal's number, or the step
-use Prim.Native.Nat.{ℕ, _≤_, _<_}
 use mathlib.Core.Path.{_≡_, ap, sym, _∙_}
 use mathlib.Core.Bool.{false}
 use native.Mathlib.Omega.{arith}

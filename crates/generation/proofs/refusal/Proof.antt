@@ -1,10 +1,8 @@
 -- `refusal`: each test in turn
-use Prim.Native.Nat.{_*_, _≤_}
+use Prim.Native.Nat.{_*_}
 use mathlib.Core.Path.{_≡_, ap, sym, _∙_}
 use mathlib.Core.Bool.{false, _&&_, _||_}
-use native.Mathlib.Omega.{arith}
 use borrow.Author.Needs.{needs}
-use borrow.Author.Tests.{ltb-false}
 use lib.Dec.{leb, ltb}
 use lib.ListN.{length}
 use Rattle.model.specs.Calls.{wordRequest, operators}
@@ -14,7 +12,7 @@ use Rattle.model.specs.Refusal.{badDirections, badSize, badDivisions, badOperat
 use Rattle.demand3_laws.proofs.Accepted.{some-objectives}
 use Rattle.settings.specs.Candidate.{dimensionsOf}
 use Rattle.settings.proofs.Valid.{few}
-use Rattle.generation.proofs.Accepted.{limits}
+use Rattle.generation.proofs.Accepted.{one-to-1024}
 use Rattle.generation.proofs.Refusals.{refused-2, refused-3, refused-4, refused-5, refused-6, refused-7, refused-8, refused-9, refused-10, not-refused}
 use Rattle.generation.proofs.refusal.Statement.{statement}
 use Rattle.generation.proofs.refusal.Tie as tie
@@ -117,7 +115,7 @@ returns-8 c =
     refused-9 _ _ _ _ (good-directions (c .before .before .before .before .before .before .before .before .before .before .before .before .before .before .before)) (good-size (c .before .before .before .before .before .before .before .before .before .before .before .before .before)) (good-divisions (c .before .before .before .before .before .before .before .before .before .before .before)) (good-operators (c .before .before .before .before .before .before .before .before .before)) (good-dimensions (c .before .before .before .before .before .before .before)) (good-count (c .before .before .before .before)) (good-pool (c .before .before)) (sym (c .before .bad-parents .ensures) ∙ c .if8 .taken)
 
 no-step-room-requires : tie.Need-no-step-room-requires
-no-step-room-requires c κs = (limits _ (good-size (c .before .before .before .before .before .before .before .before .before .before .before .before .before)) .1, few _ _ (good-dimensions (c .before .before .before .before .before .before .before)))
+no-step-room-requires c κs = (one-to-1024 _ (good-size (c .before .before .before .before .before .before .before .before .before .before .before .before .before)) .1, few _ _ (good-dimensions (c .before .before .before .before .before .before .before)))
 
 returns-9 : tie.Need-returns-9
 unfolding noStepRoom noRoom

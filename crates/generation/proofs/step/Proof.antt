@@ -1,16 +1,14 @@
 -- `step`: a pool of one draws, any other selects and breeds
-use Prim.Native.Nat.{ℕ, _*_, _≤_, _<_}
-use mathlib.Core.Path.{_≡_, refl}
-use mathlib.Core.Option.{none}
+use Prim.Native.Nat.{ℕ, _≤_}
+use mathlib.Core.Path.{_≡_}
 use native.Mathlib.Omega.{arith}
 use borrow.Author.Needs.{needs}
 use lib.ListN.{length}
 use Rattle.model.specs.Association.{Request}
 use Rattle.model.specs.Setting.{Operators}
 use Rattle.model.specs.Plan.{planCount}
-use Rattle.model.specs.Refusal.{stepRefusal}
-use Rattle.model.specs.Calls.{wordRequest, operators, Lent, lent, roomOf, SelectExit, selectAccepted}
-use Rattle.generation.proofs.Accepted.{good-dimensions, good-operators, offspring-room, few-objectives, sizes, counts, good-plans, all-breedable, kept-room}
+use Rattle.model.specs.Calls.{wordRequest, operators, Lent, lent, roomOf}
+use Rattle.generation.proofs.Accepted.{Limits, limits}
 use Rattle.generation.proofs.Answer.{one-exit, select-exit, kept-in-pool, bred-exit}
 use Rattle.generation.proofs.step.Statement.{statement}
 use Rattle.generation.proofs.step.Tie as tie
@@ -27,6 +25,9 @@ at s = lent (s .args .kept .now) (s .args .fronts .now) (s .args .lines .now)
 abbrev room : tie.Start → ℕ
 room s = length (s .args .offspring .now)
 
+abbrev given : (s : tie.Start) → Limits (ops s) (request s) (roomOf (at s)) (room s)
+given s = limits (ops s) (request s) (roomOf (at s)) (room s) (s .pre)
+
 -- ---- a pool of one
 
 plan-count-requires : tie.Need-plan-count-requires
@@ -35,7 +36,7 @@ plan-count-requires c κs = search needs
 sample-candidates-requires : tie.Need-sample-candidates-requires
 sample-candidates-requires c κs =
     let s = c .before .before .before .before .before .before .before .before .before .before in
-    (good-dimensions (ops s) (request s) (roomOf (at s)) (room s) (s .pre), offspring-room (ops s) (request s) (roomOf (at s)) (room s) (s .pre))
+    (given s .dimensions, given s .places)
 
 same-length : tie.Need-same-length
 same-length c = search needs
@@ -63,22 +64,15 @@ breed-requires c κs =
     let h = two (c .before .before .before .before .before .before .before .before .before .before .before .before .before .before .before) in
     let n = c .before .before .before .before .before .before .before .before .before .before .nsga3-select in
     let e = select-exit (ops s) (a .pool .now) (a .directions .now) (a .divisions) (a .size) (a .rng) (a .ideal .now) (at s) (a .offspring .now) (s .pre) h _ (n .ensures) in
-    let z = sizes (ops s) (request s) (roomOf (at s)) (room s) (s .pre) in
+    let ok = given s in
     let kept : length (n .last .1 .1 .1 .1 .1 .1 .0) ≡ length (a .kept .now) = n .kept .1 .1 .1 .1 .1 .1 .0 in (
+      (ok .fewPlans, ok .narrow, ok .good, ok .able, ok .dimensions, ok .operators),
       (
-        counts (ops s) (request s) (roomOf (at s)) (room s) (s .pre) .1,
-        few-objectives (ops s) (request s) (roomOf (at s)) (room s) (s .pre),
-        good-plans (ops s) (request s) (roomOf (at s)) (room s) (s .pre),
-        all-breedable (ops s) (request s) (roomOf (at s)) (room s) (s .pre),
-        good-dimensions (ops s) (request s) (roomOf (at s)) (room s) (s .pre),
-        good-operators (ops s) (request s) (roomOf (at s)) (room s) (s .pre),
-      ),
-      (
-        z .0,
-        z .1,
-        omega (arith, kept, kept-room (ops s) (request s) (roomOf (at s)) (room s) (s .pre) h),
+        ok .some,
+        ok .few,
+        omega (arith, kept, ok .kept h),
         kept-in-pool (ops s) (a .pool .now) (a .directions .now) (a .divisions) (a .size) (a .rng) (a .ideal .now) (at s) (a .offspring .now) (s .pre) h _ e,
-        offspring-room (ops s) (request s) (roomOf (at s)) (room s) (s .pre),
+        ok .places,
       ),
     )
 

@@ -1,14 +1,13 @@
 -- the parents of the first i kept plans are laid
-use Prim.Native.Nat.{ℕ, _+_, _-_, _*_, _≤_, _<_}
+use Prim.Native.Nat.{_-_, _*_, _≤_}
 use mathlib.Core.Path.{_≡_, ap, _∙_}
-use mathlib.Core.List.{map}
 use native.Mathlib.Omega.{arith}
 use borrow.Author.Needs.{needs}
 use lib.ListN.{length}
 use Rattle.model.specs.Lists.{over}
 use Rattle.model.specs.Plan.{planAt}
-use Rattle.model.specs.Setting.{toWord, wordsOf}
-use Rattle.settings.specs.Candidate.{dimensionsOf, settingsOf}
+use Rattle.model.specs.Setting.{wordsOf}
+use Rattle.settings.specs.Candidate.{dimensionsOf}
 use Rattle.settings.proofs.Valid.{few}
 use Rattle.candidates.proofs.Laid.{words-length, row-fits}
 use Rattle.offspring.proofs.Laying.{LaidOut, parentsTo, parents-none, parents-more}

@@ -1,10 +1,9 @@
 -- the children of k broods are laid, up to the size
-use Prim.Native.Nat.{ℕ, _+_, _-_, _*_, _/_, _≤_, _<_, min}
+use Prim.Native.Nat.{ℕ, _+_, _-_, _*_, _/_, _≤_, min}
 use mathlib.Core.Path.{_≡_, ap, _∙_}
 use mathlib.Core.List.{List}
 use native.Mathlib.Omega.{arith}
-use borrow.Author.Needs.{needs}
-use lib.ListN.{length, getD}
+use lib.ListN.{getD}
 use Rattle.model.specs.declared.ParamValue.{ParamValue}
 use Rattle.model.specs.Lists.{over}
 use Rattle.model.specs.Setting.{Operators, wordsOf}

@@ -3,7 +3,6 @@ use Prim.Native.Nat.{_-_, _≤_, _<_}
 use mathlib.Core.Path.{_≡_, sym, _∙_}
 use mathlib.Core.Logic.{⊎-elim}
 use native.Mathlib.Omega.{arith}
-use borrow.Author.Needs.{needs}
 use lib.ListN.{length}
 use Rattle.model.specs.Front.{freed}
 use Rattle.pareto.specs.Flat.{flatBeats}
@@ -22,17 +21,28 @@ abbrev μ-loop : tie.MeasureT-loop
 loop-holds : tie.Need-loop-holds Inv-loop μ-loop
 loop-holds c = (omega arith, releasing-first _ _ _ _ _)
 
-constrained-dominates-requires : tie.Need-constrained-dominates-requires Inv-loop μ-loop
-constrained-dominates-requires c κs =
-    let a = c .before .before .before .before .before .before .before in
-    pool-pair _ _ _ _ (a .args .n) (a .args .p) (c .before .loop .q) (a .pre .0) (a .pre .1 .plan) (c .loop-test .taken)
+mul-count : tie.Need-mul-count Inv-loop μ-loop
+mul-count c = omega arith
+
+slice-read-count : tie.Need-slice-read-count Inv-loop μ-loop
+slice-read-count c = omega arith
+
+dominates-counted-requires : tie.Need-dominates-counted-requires Inv-loop μ-loop
+dominates-counted-requires c κs =
+    let h = c .before in
+    let a = h .before .before .before .before .before .before .before in
+    let q = h .before .loop .q in
+    let u = h .loop-test .taken in (
+      pool-pair _ _ _ _ (a .args .n) (a .args .p) q (a .pre .0) (a .pre .1 .plan) u,
+      omega (arith, a .pre .1 .fair q u, h .before .loop .inv .1 .lowered .over q (omega arith)),
+    )
 
 lower-requires : tie.Need-lower-requires Inv-loop μ-loop
 lower-requires c κs =
-    let h = c .before .before .before .before in
+    let h = c .before .before .before .before .before in
     let a = h .before .before .before .before .before .before .before in
     let l = h .before .loop in
-    let e = sym (c .before .before .before .constrained-dominates .ensures) ∙ c .before .before .if1 .taken in
+    let e = sym (c .before .before .before .dominates-counted .ensures) ∙ c .before .before .if1 .taken in
     releasing-asks _ _ _ _ _ _ _ _ _ (l .inv .1) (a .args .n) (h .loop-test .taken) (a .pre .1 .counted) (a .pre .1 .fair (l .q) (h .loop-test .taken)) (a .pre .1 .room) e
 
 add-q : tie.Need-add-q Inv-loop μ-loop
@@ -43,9 +53,9 @@ loop-less c = omega arith
 
 loop-again : tie.Need-loop-again Inv-loop μ-loop
 loop-again c =
-    let h = c .before .before in
+    let h = c .before .before .before in
     let l = h .before .loop in
-    let d = sym (c .before .constrained-dominates .ensures) in
+    let d = sym (c .before .dominates-counted .ensures) in
     let room : l .q < length (h .before .before .before .before .before .before .before .args .counts .now) = omega arith in (
       omega arith,
       ⊎-elim
@@ -75,7 +85,9 @@ release-spec =
     Inv-loop
     μ-loop
     loop-holds
-    constrained-dominates-requires
+    mul-count
+    slice-read-count
+    dominates-counted-requires
     lower-requires
     add-q
     loop-less

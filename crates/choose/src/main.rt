@@ -1,0 +1,54 @@
+// Reads a pool file from standard input and prints the listing of its selection, or `refused N` (document 01, "Pool file").
+use libc::STDERR_FILENO;
+use libc::STDIN_FILENO;
+use libc::STDOUT_FILENO;
+use model::Chosen;
+ghost use Prim.Native.Nat.{_≤_};
+ghost use lib.ListN.{length};
+ghost use Rattle.choose.specs.Printing.{Prints};
+
+// The text for a file's bytes, at the front of the array lent, which has room for the longest; answers its length.
+fn answer(file: &[u8], out: &mut [u8; 20501]) -> usize
+    ensures { λ r. ⌜ Prints (now (file .entry)) (now (out .entry)) (now (out .exit)) r ⌝ }
+{
+    let chosen = pool_choice::choose(file, out);
+    match chosen {
+        Chosen::Written(n) => n,
+        Chosen::Refused(number) => pool_text::write_refused(number as usize, out),
+    }
+}
+
+// Reads standard input to its end, or until the buffer is full; answers how many bytes it held. Where a read fails the file has not come to its end:
+// it counts as empty, which ends early (refusal 1).
+fn read_input(buffer: &mut [u8]) -> usize
+    ensures { λ r. ⌜ r ≤ length (now (buffer .exit)) ⌝ }
+{
+    let mut done = 0;
+    while done < buffer.len() {
+        let got = libc::read(STDIN_FILENO, &mut buffer[done..]);
+        if got < 0 {
+            io::write_all(STDERR_FILENO, b"choose: standard input could not be read\n");
+            return 0;
+        }
+        let n = io::count(got, &buffer[done..]);
+        if n == 0 {
+            return done;
+        }
+        done += n;
+    }
+    done
+}
+
+// One byte more than the longest file is read, so that a longer one is told.
+fn main() {
+    let mut buffer = [0u8; 65537];
+    let mut out = [0u8; 20501];
+    let n = read_input(&mut buffer);
+    let length = answer(&buffer[..n], &mut out);
+    if !io::write_all(STDOUT_FILENO, &out[..length]) {
+        io::write_all(
+            STDERR_FILENO,
+            b"choose: standard output could not be written\n",
+        );
+    }
+}

@@ -1,0 +1,138 @@
+-- From a selection's answer to the listing's: 1,024 entries are room for every list that is handed out.
+use Prim.Native.Nat.{ℕ, zero, suc, _≤_, _<_}
+use mathlib.Core.Path.{_≡_, refl, ap, sym, _∙_}
+use mathlib.Core.Bool.{Bool, true, false, cond, _||_, true≢false}
+use mathlib.Core.List.{List, _∷_}
+use mathlib.Core.Option.{Option, none, some}
+use native.Mathlib.Nat.{not-suc-le-zero}
+use native.Mathlib.Omega.{arith}
+use borrow.Author.Tests.{ltb-false, le-ltb}
+use lib.Dec.{eqb, ltb}
+use lib.Ieee.{Float, binary64, div, ofBits}
+use lib.ListN.{length, take, replicate}
+use Rattle.model.specs.declared.Chosen.the-variants as chosen
+use Rattle.model.specs.declared.Outcome.{Outcome}
+use Rattle.model.specs.declared.Outcome.the-variants as outcome
+use Rattle.model.specs.Lists.{over}
+use Rattle.model.specs.Real.{infinity}
+use Rattle.model.specs.Association.{Request, objectives}
+use Rattle.model.specs.Kept.{selected}
+use Rattle.model.specs.Refusal.{Room, maxSize, firstOf, badDirections, badSize, badDivisions, badCount, badPool, noRoom, selectRefusal}
+use Rattle.model.specs.Calls.{Lent, lent, roomOf, SelectExit, selectAccepted, selectBy, selectOf, chooseBy, maxText}
+use Rattle.pool_file.proofs.Options.{by-option}
+use Rattle.nsga3_laws.specs.Admitted.{Admitted}
+use Rattle.nsga3_laws.proofs.Admitted.{admitted}
+use Rattle.pool_laws.proofs.Printed.{selected-short}
+use Rattle.pool_text.specs.Text.{listed}
+use Rattle.model.specs.PoolFile.{listingText}
+use Rattle.pool_choice.specs.Choice.{exit, textExit, requestText, listRefusal, listExit}
+use Rattle.pool_choice.proofs.Firsts.{same-number, only-ten}
+use Rattle.pool_choice.proofs.Lengths.{listing-over}
+
+-- ---- the ideal starts at infinity
+
+take-replicate : (x : Float) (n m : ℕ) → m ≤ n → take m (replicate n x) ≡ replicate m x
+take-replicate x n zero h = refl
+take-replicate x zero (suc m) h = absurd (not-suc-le-zero h)
+take-replicate x (suc n) (suc m) h = ap (λ (l : List Float). x ∷ l) (take-replicate x n m (omega arith))
+
+pub ideal-start : (m : ℕ) → m ≤ 8 → take m (replicate 8 (div binary64 (ofBits binary64 4607182418800017408) (ofBits binary64 0))) ≡ replicate m infinity
+unfolding div ofBits
+ideal-start m h = take-replicate infinity 8 m h
+
+-- ---- there is room
+
+or-right : (a b : Bool) → (a || b) ≡ false → b ≡ false
+or-right true b e = absurd (true≢false e)
+or-right false b e = e
+
+module _ (r : Request) (room : Room) (k : maxSize ≤ room .kept) (f : maxSize ≤ room .fronts) (l : maxSize ≤ room .lines) where
+  enough : badSize (r .size) ≡ false → badCount (r .count) ≡ false → noRoom r room ≡ false
+  unfolding noRoom
+  enough a b =
+      let s = ltb-false maxSize (r .size) (or-right (eqb (r .size) 0) _ a) in
+      let n = ltb-false maxSize (r .count) (or-right (eqb (r .count) 0) _ b) in
+      rw (le-ltb (room .kept) (r .size) (omega arith), le-ltb (room .fronts) (r .count) (omega arith), le-ltb (room .lines) (r .count) (omega arith))
+
+  refused-too : (n out : ℕ) → selectRefusal r room ≡ some n → listRefusal r out ≡ some n
+  unfolding selectRefusal listRefusal
+  refused-too n out e =
+      same-number (badDirections (r .marks)) (badSize (r .size)) (badDivisions (objectives r) (r .divisions)) (badCount (r .count)) (badPool r) (noRoom r room)
+      (ltb out (length (requestText r))) n enough e
+
+-- ---- a selection's answer, by cases
+
+module _ (r : Request) (entry : Lent) (x : SelectExit) (e : x ≡ selectOf r entry) where
+  by : (o : Option ℕ) → selectRefusal r (roomOf entry) ≡ o → x ≡ selectBy o r entry
+  unfolding selectOf
+  by o h = e ∙ ap (λ (t : Option ℕ). selectBy t r entry) h
+
+  outcome-by : (o : Option ℕ) → selectRefusal r (roomOf entry) ≡ o → x .answer .outcome ≡ selectBy o r entry .answer .outcome
+  outcome-by o h = ap (λ (t : SelectExit). t .answer .outcome) (by o h)
+
+  kept-not : {C : Type 0} (a b : ℕ) → _≡_ {A = Outcome} (outcome.Kept a) (outcome.Refused b) → C
+  kept-not a b h = let z : _≡_ {A = ℕ} 0 1 = cc in absurd (omega arith)
+
+  number : (n : ℕ) → x .answer .outcome ≡ outcome.Refused n → selectRefusal r (roomOf entry) ≡ some n
+  unfolding selectAccepted
+  number n h = by-option (selectRefusal r (roomOf entry))
+      (λ o. kept-not (r .size) n (sym (outcome-by none o) ∙ h))
+      (λ k o. o ∙ ap some (same k n (sym (outcome-by (some k) o) ∙ h)))
+    where
+      same : (a b : ℕ) → _≡_ {A = Outcome} (outcome.Refused a) (outcome.Refused b) → a ≡ b
+      same a b h = cc
+
+  -- a selection that went through
+  pub record Through (n : ℕ) : Type 0 where
+    pub none : selectRefusal r (roomOf entry) ≡ none
+    pub size : n ≡ r .size
+    pub kept : x .slices .kept ≡ over (selected r .kept) (entry .kept)
+    pub fronts : x .slices .fronts ≡ over (selected r .fronts) (entry .fronts)
+    pub lines : x .slices .lines ≡ over (selected r .lines) (entry .lines)
+
+  pub through : (n : ℕ) → x .answer .outcome ≡ outcome.Kept n → Through n
+  unfolding selectAccepted
+  through n h = by-option (selectRefusal r (roomOf entry))
+      (λ o. record {
+        none = o;
+        size = same n (r .size) (sym h ∙ outcome-by none o);
+        kept = ap (λ (t : SelectExit). t .slices .kept) (by none o);
+        fronts = ap (λ (t : SelectExit). t .slices .fronts) (by none o);
+        lines = ap (λ (t : SelectExit). t .slices .lines) (by none o);
+      })
+      (λ k o. kept-not n k (sym h ∙ outcome-by (some k) o))
+    where
+      same : (a b : ℕ) → _≡_ {A = Outcome} (outcome.Kept a) (outcome.Kept b) → a ≡ b
+      same a b h = cc
+
+  -- ---- the listing's answer
+
+  module _ (k : maxSize ≤ length (entry .kept)) (f : maxSize ≤ length (entry .fronts)) (l : maxSize ≤ length (entry .lines)) where
+    pub refused-exit : (n : ℕ) (out : List ℕ) → x .answer .outcome ≡ outcome.Refused n → exit (chosen.Refused n) out ≡ listExit r out
+    refused-exit n out h = sym (ap (λ (o : Option ℕ). chooseBy o (requestText r) out) (refused-too r (roomOf entry) k f l n (length out) (number n h)))
+
+  module _ (n : ℕ) (h : x .answer .outcome ≡ outcome.Kept n) where
+    pub limits : Admitted r (roomOf entry)
+    limits = admitted r (roomOf entry) (through n h .none)
+
+    pub text-same : listingText (r .count) (listed (take n (x .slices .kept)) (x .slices .fronts) (x .slices .lines)) ≡ requestText r
+    text-same =
+        let t = through n h in
+        listing-over r n (t .size) (x .slices .kept) (x .slices .fronts) (x .slices .lines) (entry .kept) (entry .fronts) (entry .lines) (t .kept) (t .fronts) (t .lines)
+
+    pub text-short : length (listingText (r .count) (listed (take n (x .slices .kept)) (x .slices .fronts) (x .slices .lines))) ≤ maxText
+    text-short =
+        let a = limits in
+        rw text-same (selected-short r (a .few) (a .fewPlans) (a .fewLines))
+
+    ten : (out : ℕ) → listRefusal r out ≡ cond (ltb out (length (requestText r))) (some 10) none
+    unfolding selectRefusal listRefusal
+    ten out =
+        only-ten (badDirections (r .marks)) (badSize (r .size)) (badDivisions (objectives r) (r .divisions)) (badCount (r .count)) (badPool r) (noRoom r (roomOf entry))
+        (ltb out (length (requestText r))) (through n h .none)
+
+    pub listed-exit : (out : List ℕ) (count : ℕ) → count ≡ r .count
+        → textExit (listingText count (listed (take n (x .slices .kept)) (x .slices .fronts) (x .slices .lines))) out ≡ listExit r out
+    listed-exit out count e =
+        ap (λ (c : ℕ). textExit (listingText c (listed (take n (x .slices .kept)) (x .slices .fronts) (x .slices .lines))) out) e
+        ∙ ap (λ (t : List ℕ). textExit t out) text-same ∙ sym (ap (λ (o : Option ℕ). chooseBy o (requestText r) out) (ten (length out)))
