@@ -194,6 +194,22 @@ fn put_outcome(out: &mut Words, at: usize, outcome: Sampling) -> usize {
     }
 }
 
+// The answer of a call with short slices. Such a call does not breed, so it meets 10 where the oracle, which lends none, may name 8 or 9
+// (docs/DECISIONS.md, "The session's lent state"): there `theirs` stands.
+fn put_short(out: &mut Words, at: usize, outcome: Sampling, theirs: u64) -> usize {
+    match outcome {
+        Sampling::Setting(_) => put_outcome(out, at, outcome),
+        Sampling::Refused(number) => {
+            if number == 10 {
+                if theirs == 8 || theirs == 9 {
+                    return replay::put(out, at, theirs);
+                }
+            }
+            replay::put(out, at, number as u64)
+        }
+    }
+}
+
 fn active(phase: Phase) -> bool {
     match phase {
         Phase::Active => true,
@@ -355,7 +371,13 @@ fn take_history(
     requires { ⌜ at ≤ 4097 ⌝ }
     ensures { λ r. ⌜ (r .next ≤ 4097) × (r .held ≤ 4097) ⌝ }
 {
-    if 4097 < keep || 4097 < count {
+    if 4097 < keep {
+        return Taken {
+            next: 4097,
+            held: 0,
+        };
+    }
+    if 4097 < count {
         return Taken {
             next: 4097,
             held: 0,
@@ -397,6 +419,7 @@ fn answer_call(
     candidates: &mut Candidates,
     plans: &mut Numbers,
     next_dims: &mut NextDims,
+    given: &Words,
     out: &mut Words,
 ) -> Stand
     requires { ⌜ SessionOk (state (stand .session) (now candidates) (now plans) (now «next_dims»)) ⌝ }
@@ -412,7 +435,7 @@ fn answer_call(
         let r = tried_short(session, d, asked.plan, history, held);
         let outcome = r.outcome;
         let after = r.session;
-        let a = put_outcome(out, stand.put, outcome);
+        let a = put_short(out, stand.put, outcome, replay::word(given, stand.put));
         let put = put_state(out, a, after, asked.full, candidates, plans, next_dims);
         return Stand {
             session,
@@ -495,6 +518,7 @@ fn next_call(
     candidates: &mut Candidates,
     plans: &mut Numbers,
     next_dims: &mut NextDims,
+    given: &Words,
     out: &mut Words,
 ) -> Stand
     requires { ⌜ SessionOk (state (stand .session) (now candidates) (now plans) (now «next_dims»)) ⌝ }
@@ -511,11 +535,28 @@ fn next_call(
         put: stand.put,
         held: read.held,
     };
-    answer_call(now, asked, history, candidates, plans, next_dims, out)
+    answer_call(
+        now,
+        asked,
+        history,
+        candidates,
+        plans,
+        next_dims,
+        given,
+        out,
+    )
 }
 
 // The calls of a line of n numbers; how many numbers the answer has.
-fn calls(input: &Words, n: usize, at: usize, count: u64, session: Session, out: &mut Words) -> usize
+fn calls(
+    input: &Words,
+    n: usize,
+    at: usize,
+    count: u64,
+    session: Session,
+    given: &Words,
+    out: &mut Words,
+) -> usize
     requires { ⌜ ((cs ps ns : List ℕ) → SessionOk (state session cs ps ns)) ⌝ }
     requires { ⌜ at ≤ 4097 ⌝ }
 {
@@ -539,6 +580,7 @@ fn calls(input: &Words, n: usize, at: usize, count: u64, session: Session, out: 
             &mut candidates,
             &mut plans,
             &mut next_dims,
+            given,
             out,
         );
         i += 1;
@@ -588,7 +630,14 @@ fn opened_by(input: &Words, at: usize, marks: &Marks, m: usize) -> Opened
 }
 
 // An opening and what follows it; an opening that is to be short, which `open` cannot be, is passed over where nothing else refuses it.
-fn follow(input: &Words, n: usize, at: usize, opened: Opened, out: &mut Words) -> usize
+fn follow(
+    input: &Words,
+    n: usize,
+    at: usize,
+    opened: Opened,
+    given: &Words,
+    out: &mut Words,
+) -> usize
     requires { ⌜ at ≤ 19 ⌝ }
     requires { ⌜ usableBy (opened .outcome) (opened .session) ⌝ }
 {
@@ -600,13 +649,14 @@ fn follow(input: &Words, n: usize, at: usize, opened: Opened, out: &mut Words) -
             if replay::word(input, 1) == 1 {
                 return 0;
             }
-            calls(input, n, at + 9, replay::word(input, at + 8), session, out)
+            let count = replay::word(input, at + 8);
+            calls(input, n, at + 9, count, session, given, out)
         }
     }
 }
 
-// 90. The answer to an input line of n numbers; how many numbers it has, 0 for a case passed over.
-fn answer(input: &Words, n: usize, out: &mut Words) -> usize {
+// 90. The answer to an input line of n numbers, beside the one given; how many numbers it has, 0 for a case passed over.
+fn answer(input: &Words, n: usize, given: &Words, out: &mut Words) -> usize {
     let m = replay::word(input, 2) as usize;
     if 16 < m {
         return 0;
@@ -617,7 +667,7 @@ fn answer(input: &Words, n: usize, out: &mut Words) -> usize {
     let mut marks = [0u8; 16];
     replay_values::read_marks(input, 3, m, &mut marks);
     let opened = opened_by(input, m + 3, &marks, m);
-    follow(input, n, m + 3, opened, out)
+    follow(input, n, m + 3, opened, given, out)
 }
 
 // Every case of the input.
@@ -630,7 +680,7 @@ fn replayed(bytes: &[u8]) -> Tally {
     while at < bytes.len() {
         let case = replay_values::next_case(bytes, at, &mut input, &mut given);
         let line = case.input;
-        let k = answer(&input, line.count, &mut ours);
+        let k = answer(&input, line.count, &given, &mut ours);
         tally = replay_values::tallied(tally, case, &given, &ours, k);
         at = case.next;
     }
