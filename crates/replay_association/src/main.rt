@@ -73,14 +73,7 @@ fn normalized_of(
 }
 
 // The ideal after, the intercepts, and the normalised rows.
-fn put_normalized(
-    rows: &Rows,
-    n: usize,
-    m: usize,
-    k: usize,
-    start: Reals,
-    out: &mut Words,
-) -> usize
+fn put_normalized(rows: &Rows, n: usize, m: usize, k: usize, start: Reals, out: &mut Words) -> usize
     requires { ⌜ (m ≤ 8) × (n * m ≤ 4096) ⌝ }
 {
     let mut ideal = start;

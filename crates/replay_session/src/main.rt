@@ -251,13 +251,7 @@ fn put_dimensions(out: &mut Words, at: usize, dims: [DimensionInfo; 32], n: usiz
 }
 
 // Each of the n plans of the generation: its number and its next dimension.
-fn put_plans(
-    out: &mut Words,
-    at: usize,
-    plans: &Numbers,
-    next_dims: &NextDims,
-    n: usize,
-) -> usize {
+fn put_plans(out: &mut Words, at: usize, plans: &Numbers, next_dims: &NextDims, n: usize) -> usize {
     let mut place = at;
     let mut i: usize = 0;
     while i < n {
@@ -487,14 +481,7 @@ fn read_call(input: &Words, at: usize, history: &mut History) -> ReadCall
     let keep = replay::word(input, place + 1) as usize;
     let copies = replay::word(input, place + 2) as usize;
     let count = replay::word(input, place + 3) as usize;
-    let taken = take_history(
-        input,
-        replay::ahead(place, 4),
-        keep,
-        copies,
-        count,
-        history,
-    );
+    let taken = take_history(input, replay::ahead(place, 4), keep, copies, count, history);
     let full = replay::word(input, taken.next) == 1;
     let asked = Asked {
         times,
