@@ -13,122 +13,23 @@ use model::Session;
 use replay::Tally;
 use replay::Words;
 use replay_values::Marks;
+use session_calls::Candidates;
+use session_calls::History;
+use session_calls::NextDims;
+use session_calls::Numbers;
 ghost use mathlib.Core.Path.{_≡_};
 ghost use mathlib.Core.Bool.{false};
 ghost use mathlib.Core.List.{List};
-ghost use Prim.Native.Nat.{ℕ, _*_, _≤_};
+ghost use Prim.Native.Nat.{ℕ, _≤_};
 ghost use lib.ListN.{length};
 ghost use Rattle.model.specs.Session.{state, longEnough};
 ghost use Rattle.model.specs.Property.{SessionOk};
-ghost use Rattle.replay_session.specs.Usable.{usableBy};
-
-type Candidates = [u64; 65536];
-
-type Numbers = [u64; 2048];
-
-type NextDims = [usize; 2048];
-
-// 4,097 records of 124 words: one more than is accepted.
-type History = [u64; 508028];
+ghost use Rattle.session_calls.specs.Usable.{usableBy};
 
 // The input, of which 65,536 bytes are not enough.
 type Input = [u8; 131072];
 
 // ---- the calls of `sample`
-
-// A call on the first n records of a history.
-fn sampled(
-    session: Session,
-    distribution: Distribution,
-    plan: u64,
-    history: &[u64],
-    n: usize,
-    candidates: &mut [u64],
-    plans: &mut [u64],
-    next_dims: &mut [usize],
-) -> Sampled
-    requires { ⌜ SessionOk (state session (now candidates) (now plans) (now «next_dims»)) ⌝ }
-    requires { ⌜ (n ≤ 4097) × (508028 ≤ length (now history)) ⌝ }
-    ensures { λ r. ⌜ SessionOk (state (r .session) (now (candidates .exit)) (now (plans .exit)) (now («next_dims» .exit))) ⌝ }
-{
-    let words = n * 124;
-    session::sample(
-        session,
-        distribution,
-        plan,
-        &history[..words],
-        candidates,
-        plans,
-        next_dims,
-    )
-}
-
-// Of whole arrays.
-fn called(
-    session: Session,
-    distribution: Distribution,
-    plan: u64,
-    history: &History,
-    n: usize,
-    candidates: &mut Candidates,
-    plans: &mut Numbers,
-    next_dims: &mut NextDims,
-) -> Sampled
-    requires { ⌜ SessionOk (state session (now candidates) (now plans) (now «next_dims»)) ⌝ }
-    requires { ⌜ n ≤ 4097 ⌝ }
-    ensures { λ r. ⌜ SessionOk (state (r .session) (now (candidates .exit)) (now (plans .exit)) (now («next_dims» .exit))) ⌝ }
-{
-    sampled(
-        session,
-        distribution,
-        plan,
-        history,
-        n,
-        candidates,
-        plans,
-        next_dims,
-    )
-}
-
-// The call made so many times, the plan's number rising by one; the last answer.
-fn repeated(
-    session: Session,
-    distribution: Distribution,
-    plan: u64,
-    times: u64,
-    history: &History,
-    n: usize,
-    candidates: &mut Candidates,
-    plans: &mut Numbers,
-    next_dims: &mut NextDims,
-) -> Sampled
-    requires { ⌜ SessionOk (state session (now candidates) (now plans) (now «next_dims»)) ⌝ }
-    requires { ⌜ n ≤ 4097 ⌝ }
-    ensures { λ r. ⌜ SessionOk (state (r .session) (now (candidates .exit)) (now (plans .exit)) (now («next_dims» .exit))) ⌝ }
-{
-    let mut last = Sampled {
-        outcome: Sampling::Refused(0),
-        session,
-    };
-    let mut number = plan;
-    let mut i: u64 = 0;
-    while i < times {
-        let s = last.session;
-        last = called(
-            s,
-            distribution,
-            number,
-            history,
-            n,
-            candidates,
-            plans,
-            next_dims,
-        );
-        number = std::num::wrapping_add_u64(number, 1);
-        i += 1;
-    }
-    last
-}
 
 // A call whose lent slices are too short.
 fn called_short(
@@ -144,7 +45,7 @@ fn called_short(
     requires { ⌜ ((cs ps ns : List ℕ) → longEnough (state session cs ps ns) ≡ false → SessionOk (state session cs ps ns)) ⌝ }
     requires { ⌜ n ≤ 4097 ⌝ }
 {
-    sampled(
+    session_calls::sampled(
         session,
         distribution,
         plan,
@@ -438,7 +339,7 @@ fn answer_call(
             held,
         };
     }
-    let r = repeated(
+    let r = session_calls::repeated(
         session,
         d,
         asked.plan,
@@ -598,7 +499,7 @@ fn opened(input: &Words, at: usize, marks: &[u8], m: usize) -> Opened
     let crossover_eta = replay_values::real_at(input, at + 5);
     let mutation_eta = replay_values::real_at(input, at + 6);
     let seed = replay::word(input, at + 7);
-    session_parts::open(
+    session_calls::opened(
         &marks[..m],
         seed,
         size,

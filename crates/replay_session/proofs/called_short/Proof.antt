@@ -1,6 +1,6 @@
 -- `called_short`. Assumes nothing.
 use native.Mathlib.Omega.{arith}
-use Rattle.replay_session.proofs.Property.{too-short}
+use Rattle.session_calls.proofs.Property.{too-short}
 use borrow.Author.Needs.{needs}
 use Rattle.replay_session.proofs.called_short.Statement.{statement}
 use Rattle.replay_session.proofs.called_short.Tie as tie

@@ -2,7 +2,6 @@
 use mathlib.Core.Path.{sym}
 use native.Mathlib.Omega.{arith}
 use lib.Seq.{length-take-le}
-use Rattle.replay_session.proofs.Property.{usable}
 use borrow.Author.Needs.{needs}
 use Rattle.replay_session.proofs.opened.Statement.{statement}
 use Rattle.replay_session.proofs.opened.Tie as tie
@@ -58,14 +57,14 @@ add-word-4 c = search needs
 word-requires-5 : tie.Need-word-requires-5
 word-requires-5 c κs = search needs
 
-slice-aggregate-open : tie.Need-slice-aggregate-open
-slice-aggregate-open c = sym (length-take-le _ _ (omega arith))
+slice-aggregate-opened : tie.Need-slice-aggregate-opened
+slice-aggregate-opened c = sym (length-take-le _ _ (omega arith))
 
-open-requires : tie.Need-open-requires
-open-requires c κs = search needs
+opened-requires : tie.Need-opened-requires
+opened-requires c κs = search needs
 
 returns : tie.Need-returns
-returns c = usable _ _ _ _ _ _ _ (c .«open» .result) (c .«open» .ensures)
+returns c = search needs
 
 pub opened-spec : {M : Type 1} → statement M
 opened-spec =
@@ -88,6 +87,6 @@ opened-spec =
     real-at-requires-3
     add-word-4
     word-requires-5
-    slice-aggregate-open
-    open-requires
+    slice-aggregate-opened
+    opened-requires
     returns)

@@ -16,7 +16,7 @@ use Rattle.model.specs.Session.{state, longEnough, given, opened}
 use Rattle.model.specs.Property.{SessionOk}
 use Rattle.model.specs.Refusal.{openRefusal}
 use Rattle.model.specs.Calls.{Opens, openBy, openOf}
-use Rattle.replay_session.specs.Usable.{usableBy}
+use Rattle.session_calls.specs.Usable.{usableBy}
 
 -- slices that are too short say nothing
 pub short-ok : (s : Session) (cs ps ns cs' ps' ns' : List ℕ) → SessionOk (state s cs ps ns) → longEnough (state s cs' ps' ns') ≡ false

@@ -3,8 +3,8 @@ use Prim.Native.Nat.{_-_, _≤_}
 use borrow.Author.Needs.{needs}
 use Rattle.model.specs.Session.{state}
 use Rattle.model.specs.Property.{SessionOk}
-use Rattle.replay_session.proofs.repeated.Statement.{statement}
-use Rattle.replay_session.proofs.repeated.Tie as tie
+use Rattle.session_calls.proofs.repeated.Statement.{statement}
+use Rattle.session_calls.proofs.repeated.Tie as tie
 
 abbrev Inv-loop : tie.InvT-loop
 Inv-loop distribution plan times history n candidates₀ plans₀ next-dims₀ last₀ number₀ i₀ candidates plans next-dims last number i = (i ≤ times) × ((n ≤ 4097) × SessionOk (state (last .session) candidates plans next-dims))

@@ -3,8 +3,8 @@ use mathlib.Core.Path.{sym}
 use native.Mathlib.Omega.{arith}
 use lib.Seq.{length-take-le}
 use borrow.Author.Needs.{needs}
-use Rattle.replay_session.proofs.sampled.Statement.{statement}
-use Rattle.replay_session.proofs.sampled.Tie as tie
+use Rattle.session_calls.proofs.sampled.Statement.{statement}
+use Rattle.session_calls.proofs.sampled.Tie as tie
 
 mul-words : tie.Need-mul-words
 mul-words c = search needs
