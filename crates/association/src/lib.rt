@@ -2,15 +2,14 @@
 use real;
 ghost use mathlib.Core.Path.{_≡_};
 ghost use Prim.Native.Nat.{ℕ, _+_, _*_, _<_, _≤_};
-ghost use lib.Dec.{T};
-ghost use lib.Ieee.{Float, binary64, fits};
+ghost use lib.Ieee.{Float};
 ghost use lib.ListN.{length};
 ghost use lib.Seq.{sets};
 ghost use Rattle.model.specs.Lists.{listBelow, over};
 ghost use Rattle.model.specs.Numbers.{sqrtOf};
 ghost use Rattle.model.specs.Association.{leastFrom, greatest, interceptFrom, dot, offSquares, distance, nearestOf, Request, lineCount};
-ghost use Rattle.association_laws.specs.Flat.{column, from, flatRows, leastAt, interceptAt, normalAt, squaresOf, distanceAt, nearestAt};
-ghost use Rattle.association_laws.specs.Search.{Found};
+ghost use Rattle.association_laws.specs.Flat.{column, from, flatRows, leastAt, interceptAt, normalAt, squaresOf, normAt, NormsIn, distanceAt, nearestAt};
+ghost use Rattle.association_laws.specs.Search.{Square, Found};
 ghost use Rattle.association_laws.specs.Request.{Pool, StartIn, LinesIn, Associates};
 
 // ---- the scale
@@ -154,12 +153,43 @@ fn off_squares(points: &[f64], at: usize, table: &[f64], line_at: usize, m: usiz
     sum
 }
 
-// The square of the distance of a point from a line; of a line that is too short, infinity.
-fn distance_squared(points: &[f64], at: usize, table: &[f64], line_at: usize, m: usize) -> f64
-    requires { ⌜ (at + m ≤ length (now points)) × («line_at» + m ≤ length (now table)) ⌝ }
+// Each line's r·r, at its place, for the first n lines.
+fn line_norms(table: &[f64], n: usize, m: usize, norms: &mut [f64])
+    requires { ⌜ (n * m ≤ length (now table)) × (n ≤ length (now norms)) ⌝ }
+    ensures { λ _. ⌜ now (norms .exit) ≡ over (listBelow (normAt (now (table .entry)) m) n) (now (norms .entry)) ⌝ }
+{
+    let mut l = 0;
+    while l < n {
+        norms[l] = dot_product(table, l * m, table, l * m, m);
+        l += 1;
+    }
+}
+
+// The line's r·r, which `norms` holds of the first `known` lines.
+fn line_norm(table: &[f64], m: usize, line: usize, norms: &[f64], known: usize) -> f64
+    requires { ⌜ (line * m + m ≤ length (now table)) × (known ≤ length (now norms)) × NormsIn (now table) m (now norms) known ⌝ }
+    ensures { λ r. ⌜ r ≡ normAt (now (table .entry)) m line ⌝ }
+{
+    if line < known {
+        norms[line]
+    } else {
+        dot_product(table, line * m, table, line * m, m)
+    }
+}
+
+// The square of the distance of a point from a line whose r·r is `norm`; of a line that is too short, infinity.
+fn distance_squared(
+    points: &[f64],
+    at: usize,
+    table: &[f64],
+    line_at: usize,
+    m: usize,
+    norm: f64,
+) -> f64
+    requires { ⌜ (at + m ≤ length (now points)) × («line_at» + m ≤ length (now table))
+        × (norm ≡ dot m (from (now table) «line_at») (from (now table) «line_at»)) ⌝ }
     ensures { λ r. ⌜ r ≡ squaresOf m (from (now (points .entry)) at) (from (now (table .entry)) «line_at») ⌝ }
 {
-    let norm = dot_product(table, line_at, table, line_at, m);
     if norm < 1e-30 {
         return 1.0 / 0.0;
     }
@@ -178,30 +208,43 @@ pub fn perpendicular_distance(
     requires { ⌜ (at + m ≤ length (now points)) × («line_at» + m ≤ length (now table)) ⌝ }
     ensures { λ r. ⌜ r ≡ distance m (from (now (points .entry)) at) (from (now (table .entry)) «line_at») ⌝ }
 {
-    real::sqrt(distance_squared(points, at, table, line_at, m))
+    let norm = dot_product(table, line_at, table, line_at, m);
+    real::sqrt(distance_squared(points, at, table, line_at, m, norm))
 }
 
 // ---- the nearest line
 
-// A line, the distance from it, and the square that the distance is the root of.
+// A line, and the square of the distance from it.
+struct Best {
+    line: usize,
+    squares: f64,
+}
+
+// A line, and the distance from it.
 pub struct Nearest {
     pub line: usize,
     pub distance: f64,
-    pub squares: f64,
 }
 
-// The nearer of the best line so far and the next one, which must be strictly nearer. Distances decide, since two squares can have one root; but the root of a
-// square that is not below the best one need not be taken.
-fn nearer(best: Nearest, line: usize, squares: f64) -> Nearest
-    ensures { λ r. ⌜ ((d : ℕ → Float) → Found d line (best .line) (best .distance) (best .squares) → T (fits binary64 squares) → sqrtOf squares ≡ d line
-        → Found d (line + 1) (r .line) (r .distance) (r .squares)) ⌝ }
+// The nearer of the best line so far and the next one, which must be strictly nearer. Distances decide, since two squares can have one root; but no root need be
+// taken of a square that is not below the best one, nor of one that is below it by one in 2^30 (0.9999999990686774 is 1 - 2^-30).
+fn nearer(best: Best, line: usize, squares: f64) -> Best
+    ensures { λ r. ⌜ ((d : ℕ → Float) → Found d line (best .line) (best .squares) → Square squares → sqrtOf squares ≡ d line
+        → Found d (line + 1) (r .line) (r .squares)) ⌝ }
 {
-    if squares < best.squares {
-        let distance = real::sqrt(squares);
-        if distance < best.distance {
-            return Nearest {
+    let least_squares = best.squares;
+    if squares < least_squares {
+        if squares < least_squares * 0.9999999990686774 {
+            return Best {
                 line: line,
-                distance: distance,
+                squares: squares,
+            };
+        }
+        let distance = real::sqrt(squares);
+        let least = real::sqrt(least_squares);
+        if distance < least {
+            return Best {
+                line: line,
                 squares: squares,
             };
         }
@@ -210,23 +253,78 @@ fn nearer(best: Nearest, line: usize, squares: f64) -> Nearest
 }
 
 // The line nearest to a point: the first strictly smaller distance wins, from line 0.
-fn nearest_line(points: &[f64], at: usize, m: usize, table: &[f64], n_lines: usize) -> Nearest
-    requires { ⌜ (at + m ≤ length (now points)) × («n_lines» * m ≤ length (now table)) ⌝ }
+fn nearest_line(
+    points: &[f64],
+    at: usize,
+    m: usize,
+    table: &[f64],
+    n_lines: usize,
+    norms: &[f64],
+    known: usize,
+) -> Nearest
+    requires { ⌜ (at + m ≤ length (now points)) × («n_lines» * m ≤ length (now table)) × (known ≤ length (now norms))
+        × NormsIn (now table) m (now norms) known ⌝ }
     ensures { λ r. ⌜ (r .line ≡ nearestOf (distanceAt (now (points .entry)) at m (now (table .entry))) «n_lines» .line)
         × (r .distance ≡ nearestOf (distanceAt (now (points .entry)) at m (now (table .entry))) «n_lines» .distance) ⌝ }
 {
-    let mut best = Nearest {
+    let mut best = Best {
         line: 0,
-        distance: 1.0 / 0.0,
         squares: 1.0 / 0.0,
     };
     let mut l = 0;
+    let mut line_at = 0;
     while l < n_lines {
-        let squares = distance_squared(points, at, table, l * m, m);
+        let norm = line_norm(table, m, l, norms, known);
+        let squares = distance_squared(points, at, table, line_at, m, norm);
         best = nearer(best, l, squares);
         l += 1;
+        line_at += m;
     }
-    best
+    Nearest {
+        line: best.line,
+        distance: real::sqrt(best.squares),
+    }
+}
+
+// Each plan's nearest line, and its distance from it.
+fn nearest_lines(
+    normalized: &[f64],
+    n: usize,
+    m: usize,
+    table: &[f64],
+    n_lines: usize,
+    norms: &[f64],
+    known: usize,
+    lines: &mut [usize],
+    distances: &mut [f64],
+)
+    requires { ⌜ (n * m ≤ length (now normalized)) × («n_lines» * m ≤ length (now table)) × (known ≤ length (now norms))
+        × NormsIn (now table) m (now norms) known × (n ≤ length (now lines)) × (n ≤ length (now distances)) ⌝ }
+    ensures { λ _. ⌜ (now (lines .exit) ≡ over (listBelow (λ p. nearestAt (now (normalized .entry)) m (now (table .entry)) «n_lines» p .line) n) (now (lines .entry)))
+        × (now (distances .exit)
+        ≡ over (listBelow (λ p. nearestAt (now (normalized .entry)) m (now (table .entry)) «n_lines» p .distance) n) (now (distances .entry))) ⌝ }
+{
+    let mut p = 0;
+    while p < n {
+        let near = nearest_line(normalized, p * m, m, table, n_lines, norms, known);
+        lines[p] = near.line;
+        distances[p] = near.distance;
+        p += 1;
+    }
+}
+
+// How many lines' r·r are worked out once, and not again for each plan.
+const MAX_NORMS: usize = 1024;
+
+// So many, or all.
+fn known_norms(n_lines: usize) -> usize
+    ensures { λ r. ⌜ (r ≤ «n_lines») × (r ≤ 1024) ⌝ }
+{
+    if n_lines < MAX_NORMS {
+        n_lines
+    } else {
+        MAX_NORMS
+    }
 }
 
 // Each plan's nearest line, and its distance from it.
@@ -244,13 +342,20 @@ pub fn associate_to_reference_points(
         × (now (distances .exit)
         ≡ over (listBelow (λ p. nearestAt (now (normalized .entry)) m (now (table .entry)) «n_lines» p .distance) n) (now (distances .entry))) ⌝ }
 {
-    let mut p = 0;
-    while p < n {
-        let near = nearest_line(normalized, p * m, m, table, n_lines);
-        lines[p] = near.line;
-        distances[p] = near.distance;
-        p += 1;
-    }
+    let known = known_norms(n_lines);
+    let mut norms = [0.0; MAX_NORMS];
+    line_norms(table, known, m, &mut norms);
+    nearest_lines(
+        normalized,
+        n,
+        m,
+        table,
+        n_lines,
+        &norms,
+        known,
+        lines,
+        distances,
+    );
 }
 
 // ---- all of it

@@ -20,7 +20,7 @@ use Rattle.float_laws.proofs.Units.{Number, le→counts}
 use Rattle.float_laws.proofs.Order.{le-trans, le-total, le-not-nan}
 use Rattle.float_laws.proofs.Rounding.{le-neg, between-finite, div-rounded, rounded-le, le-rounded}
 use Rattle.float_laws.proofs.Constants.{nought, one, exp2, nought-number, nought-fits, nought-counts, exp2-counts}
-use Rattle.float_laws.proofs.Arithmetic.{count, add-mono, mul-mono, mul-from-zero}
+use Rattle.float_laws.proofs.Arithmetic.{count, add-mono, mul-mono, mul-from-zero, neg-number}
 use Rattle.association_laws.proofs.Within.{Upto}
 
 -- a number between 0 and 2 ^ k
@@ -61,7 +61,7 @@ zero-sum : T (fits binary64 minusNought) × T (le nought minusNought) × T (le n
 unfolding ofBits fits le add
 zero-sum = (tt, tt, tt)
 
-sum-low : (x y : Float) → Number binary64 x → Number binary64 y → T (le nought x) → T (le nought y) → T (le nought (x ⊕ y))
+pub sum-low : (x y : Float) → Number binary64 x → Number binary64 y → T (le nought x) → T (le nought y) → T (le nought (x ⊕ y))
 sum-low x y X Y a b =
     le-trans nought (nought ⊕ nought) (x ⊕ y) (zero-sum .2) (add-mono binary64 nought x nought y (nought-number binary64) X (nought-number binary64) Y a b)
 
@@ -195,16 +195,10 @@ squares = (
   record { first = tt; second = tt; result = tt },
 )
 
-neg-finite : (x : Float) → Number binary64 x → Number binary64 (neg x)
-unfolding neg
-neg-finite nan X = absurd (X .finite)
-neg-finite (inf s) X = absurd (X .finite)
-neg-finite (fin s m e) X = record { held = neg-fits binary64 (fin s m e) (X .held); finite = tt }
-
 square-upto : (x : Float) → Number binary64 x → T (le (neg (exp2 14)) x) → T (le x (exp2 14)) → Upto 28 (square x)
 square-upto x X a b = ⊎-elim
     (λ l. let Y : Upto 14 x = record { number = X; low = l; high = b } in mul-upto 14 14 28 (squares .0) x x Y Y)
-    (λ l. let n = neg-finite x X in
+    (λ l. let n = neg-number x X in
     let Y : Upto 14 (neg x) = record {
       number = n;
       low = le-trans nought (neg nought) (neg x) (closed-off .5) (le-neg x nought l);
@@ -223,11 +217,11 @@ sub-le x y z w h = h
 -- p - y for p within 0..1 and y up to 2 ^ 14
 pub off-upto : (p y : Float) → Upto 0 p → Upto 14 y → Upto 28 (square (p ⊖ y))
 off-upto p y P Y =
-    let a = add-mono binary64 nought p (neg (exp2 14)) (neg y) (nought-number binary64) (P .number) (neg-finite (exp2 14) (power-number 14 (closed-off .0))) (neg-finite y (Y .number)) (P .low) (le-neg y (exp2 14) (Y .high)) in
-    let b = add-mono binary64 p one (neg y) (neg nought) (P .number) (power-number 0 (closed-off .6)) (neg-finite y (Y .number)) (neg-finite nought (nought-number binary64)) (P .high) (le-neg nought y (Y .low)) in
+    let a = add-mono binary64 nought p (neg (exp2 14)) (neg y) (nought-number binary64) (P .number) (neg-number (exp2 14) (power-number 14 (closed-off .0))) (neg-number y (Y .number)) (P .low) (le-neg y (exp2 14) (Y .high)) in
+    let b = add-mono binary64 p one (neg y) (neg nought) (P .number) (power-number 0 (closed-off .6)) (neg-number y (Y .number)) (neg-number nought (nought-number binary64)) (P .high) (le-neg nought y (Y .low)) in
     let low = le-trans (neg (exp2 14)) (nought ⊖ exp2 14) (p ⊖ y) (closed-off .2) (sub-le nought (exp2 14) p y a) in
     let high = le-trans (p ⊖ y) (one ⊖ nought) (exp2 14) (sub-le p y one nought b) (closed-off .3) in
     square-upto (p ⊖ y) (record { held = sub-fits binary64 p y; finite = between-finite (neg (exp2 14)) (p ⊖ y) (exp2 14) finite-neg tt low high }) low high
   where
     finite-neg : T (finite (neg (exp2 14)))
-    finite-neg = neg-finite (exp2 14) (power-number 14 (closed-off .0)) .finite
+    finite-neg = neg-number (exp2 14) (power-number 14 (closed-off .0)) .finite

@@ -9,4 +9,5 @@ pub mod Within
 pub mod Good
 pub mod Coordinates
 pub mod Distances
+pub mod Squares
 pub mod Finite

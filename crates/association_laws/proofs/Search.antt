@@ -1,24 +1,26 @@
--- One more turn of the search for the nearest line. A square that is not below the best one has no root below the best one's, so its root need not be taken.
+-- One more turn of the search for the nearest line. A square that is not below the best one has no root below the best one's, and one that is below it
+-- times 1 - 2 ^ -30 has: in neither case need a root be taken.
 use Prim.Native.Nat.{ℕ, zero, suc, _+_, _*_}
 use mathlib.Core.Path.{_≡_, refl, ap, ap₂, sym, subst, _∙_}
-use mathlib.Core.Bool.{Bool, true, false}
+use mathlib.Core.Bool.{Bool, true, false, not}
 use native.Mathlib.Numerals.{add-one}
 use lib.Dec.{T, eqb→eq}
 use lib.IntN.{pos}
 use lib.Ieee.{Float, nan, inf, fin, binary64, up, down, lt, le, isNan, ofBits, fits}
 use lib.Ieee.Fits.{add-fits, inf-fits, cond-fits}
-use Rattle.model.specs.Real.{_⊘_, infinity, sumTo}
+use Rattle.model.specs.Real.{_⊗_, _⊘_, infinity, sumTo}
 use Rattle.model.specs.Numbers.{sqrtOf}
 use Rattle.model.specs.Association.{dot, smallNorm, offSquares, distance, near, nearestOf}
-use Rattle.list_laws.proofs.Bools.{by-bool, true-T, false-T}
+use Rattle.list_laws.proofs.Bools.{by-bool, T-true, true-T, false-T}
 use Rattle.float_laws.proofs.Units.{zero-exponent}
-use Rattle.float_laws.proofs.Order.{lt→nle, nlt→le, le-not-nan}
+use Rattle.float_laws.proofs.Order.{lt→nle, lt→le, nlt→le, le-not-nan}
 use Rattle.float_laws.proofs.Compared.{nan-below, below-nan}
-use Rattle.float_laws.proofs.Constants.{nought}
+use Rattle.float_laws.proofs.Constants.{nought, nought-not-nan}
 use Rattle.real.proofs.Roots.Nearest.{from-zero}
 use Rattle.real.proofs.Roots.Monotone.{sqrt-mono}
+use Rattle.real.proofs.Roots.Apart.{nearlyOne, sqrt-apart}
 use Rattle.association_laws.specs.Flat.{squaresOf}
-use Rattle.association_laws.specs.Search.{Found}
+use Rattle.association_laws.specs.Search.{Square, Found}
 
 -- ---- the distance is the root of its square
 
@@ -39,7 +41,7 @@ module _ (m : ℕ) (p r : ℕ → Float) where
   pub distance-long : lt (dot m r r) smallNorm ≡ false → distance m p r ≡ sqrtOf (offSquares m p r (dot m p r ⊘ dot m r r))
   distance-long h = distance-root ∙ ap sqrtOf (squares-long (dot m r r) refl h)
 
-sum-fits : (f : ℕ → Float) (n : ℕ) → T (fits binary64 (sumTo f n))
+pub sum-fits : (f : ℕ → Float) (n : ℕ) → T (fits binary64 (sumTo f n))
 unfolding sumTo fits ofBits
 sum-fits f zero = tt
 sum-fits f (suc n) = add-fits binary64 (sumTo f n) (f n)
@@ -50,6 +52,9 @@ squares-fit m p r =
     cond-fits binary64 (lt (dot m r r) smallNorm) infinity (offSquares m p r (dot m p r ⊘ dot m r r)) (inf-fits binary64 false) (sum-fits _ m)
 
 -- ---- roots in the order of squares
+
+from-nought : (s q : Float) → T (not (lt s nought)) → T (lt s q) → T (le nought s)
+from-nought s q h k = nlt→le s nought (le-not-nan s q (lt→le s q k) .0) nought-not-nan h
 
 minus-zero : T (le nought (fin true 0 (pos 0)))
 unfolding le
@@ -90,24 +95,36 @@ nearest-no : (d : ℕ → Float) (n : ℕ) → lt (d n) (nearestOf d n .distance
 unfolding nearestOf
 nearest-no d n e = ap (nearestOf d) (add-one n) ∙ rw e
 
-pub found-none : (d : ℕ → Float) → Found d 0 0 infinity infinity
+pub found-none : (d : ℕ → Float) → Found d 0 0 infinity
 unfolding nearestOf sqrtOf
-found-none d = record { nearest = refl; least = refl; root = refl; held = inf-fits binary64 false }
+found-none d = record { nearest = refl; root = refl; held = inf-fits binary64 false }
 
--- y is the root of s, and the next line's distance
-module _ (d : ℕ → Float) (n l : ℕ) (x q s y : Float) (f : Found d n l x q) (S : T (fits binary64 s)) (own : sqrtOf s ≡ d n) where
-  module _ (g : y ≡ sqrtOf s) where
-    pub found-nearer : lt y x ≡ true → Found d (n + 1) n y s
-    found-nearer e =
-        let here = nearest-yes d n (ap₂ lt (sym (g ∙ own)) (sym (f .least)) ∙ e) in
-        record { nearest = sym (ap (λ b. b .line) here); least = g ∙ own ∙ sym (ap (λ b. b .distance) here); root = g; held = S }
+-- s is the next line's square
+module _ (d : ℕ → Float) (n l : ℕ) (q s : Float) (f : Found d n l q) (S : Square s) (own : sqrtOf s ≡ d n) where
+  taken : lt (sqrtOf s) (sqrtOf q) ≡ true → Found d (n + 1) n s
+  taken e =
+      let here = nearest-yes d n (ap₂ lt (sym own) (sym (f .root)) ∙ e) in
+      record { nearest = sym (ap (λ b. b .line) here); root = own ∙ sym (ap (λ b. b .distance) here); held = S .held }
 
-    pub found-same : lt y x ≡ false → Found d (n + 1) l x q
-    found-same e =
-        let here = nearest-no d n (ap₂ lt (sym (g ∙ own)) (sym (f .least)) ∙ e) in
-        record { nearest = f .nearest ∙ sym (ap (λ b. b .line) here); least = f .least ∙ sym (ap (λ b. b .distance) here); root = f .root; held = f .held }
+  passed : lt (sqrtOf s) (sqrtOf q) ≡ false → Found d (n + 1) l q
+  passed e =
+      let here = nearest-no d n (ap₂ lt (sym own) (sym (f .root)) ∙ e) in
+      record { nearest = f .nearest ∙ sym (ap (λ b. b .line) here); root = f .root ∙ sym (ap (λ b. b .distance) here); held = f .held }
 
--- a square that is not below the best one
-pub found-farther : (d : ℕ → Float) (n l : ℕ) (x q s : Float) → Found d n l x q → T (fits binary64 s) → sqrtOf s ≡ d n → lt s q ≡ false → Found d (n + 1) l x q
-found-farther d n l x q s f S own e =
-    found-same d n l x q s (sqrtOf s) f S own refl (ap (lt (sqrtOf s)) (f .root) ∙ root-order s q S (f .held) e)
+  -- a square that is clearly below the best one
+  pub found-clear : lt s q ≡ true → lt s (q ⊗ nearlyOne) ≡ true → Found d (n + 1) n s
+  found-clear a b =
+      let k = true-T (lt s q) a in
+      taken (T-true (lt (sqrtOf s) (sqrtOf q)) (sqrt-apart s q (S .held) (f .held) (from-nought s q (S .low) k) k (true-T (lt s (q ⊗ nearlyOne)) b)))
+
+  -- y and x are the roots of the two
+  module _ (y x : Float) (g : y ≡ sqrtOf s) (h : x ≡ sqrtOf q) where
+    pub found-nearer : lt y x ≡ true → Found d (n + 1) n s
+    found-nearer e = taken (ap₂ lt (sym g) (sym h) ∙ e)
+
+    pub found-same : lt y x ≡ false → Found d (n + 1) l q
+    found-same e = passed (ap₂ lt (sym g) (sym h) ∙ e)
+
+  -- a square that is not below the best one
+  pub found-farther : lt s q ≡ false → Found d (n + 1) l q
+  found-farther e = passed (root-order s q (S .held) (f .held) e)

@@ -1,5 +1,6 @@
 -- Document 01's association over flat lists: plan p's value at objective j is entry p * m + j of its rows, coordinate j of line l entry l * m + j of its table.
-use Prim.Native.Nat.{ℕ, _+_, _*_}
+use Prim.Native.Nat.{ℕ, _+_, _*_, _<_}
+use mathlib.Core.Path.{_≡_}
 use mathlib.Core.Bool.{cond}
 use mathlib.Core.List.{List}
 use lib.Ieee.{Float, nan, lt}
@@ -35,6 +36,13 @@ normalAt rows m ideal intercepts p j = (column rows m j p ⊖ getD ideal j nan) 
 -- the square of a distance, before its root is taken
 unfoldable pub squaresOf : ℕ → (ℕ → Float) → (ℕ → Float) → Float
 squaresOf m p r = cond (lt (dot m r r) smallNorm) infinity (offSquares m p r (dot m p r ⊘ dot m r r))
+
+-- r·r of line l of a table, and a list that holds it for each of the first n lines
+abbrev pub normAt : List Float → ℕ → ℕ → Float
+normAt table m l = dot m (from table (l * m)) (from table (l * m))
+
+abbrev pub NormsIn : List Float → ℕ → List Float → ℕ → Type 0
+NormsIn table m norms n = (l : ℕ) → l < n → getD norms l nan ≡ normAt table m l
 
 -- the distance of the point at `at` from line l of a table
 abbrev pub distanceAt : List Float → ℕ → ℕ → List Float → ℕ → Float

@@ -9,7 +9,7 @@ use Rattle.float_laws.proofs.Units.{Number}
 use Rattle.float_laws.proofs.Order as order
 use Rattle.float_laws.proofs.Rounding.{le-neg, between-finite}
 use Rattle.float_laws.proofs.Constants.{nought, nought-number, one, one-number}
-use Rattle.float_laws.proofs.Arithmetic.{add-mono, sub-from-zero, mul-from-zero, mul-mono, ratio}
+use Rattle.float_laws.proofs.Arithmetic.{add-mono, sub-from-zero, mul-from-zero, mul-mono, ratio, neg-number}
 use Rattle.model.specs.Numbers.{powerUp}
 
 pub record Upto (b x : Float) : Type 0 where
@@ -29,12 +29,6 @@ unfolding isNan
 itself nan X = absurd (X .finite)
 itself (inf s) X = absurd (X .finite)
 itself (fin s m e) X = order.le-refl (fin s m e) tt
-
-neg-number : (x : Float) → Number binary64 x → Number binary64 (neg x)
-unfolding neg
-neg-number nan X = absurd (X .finite)
-neg-number (inf s) X = absurd (X .finite)
-neg-number (fin s m e) X = record { held = neg-fits binary64 (fin s m e) (X .held); finite = tt }
 
 -- a difference falls as what is taken away grows
 pub sub-anti : (x y z : Float) → Number binary64 x → Number binary64 y → Number binary64 z → T (le z y) → T (le (sub binary64 x y) (sub binary64 x z))

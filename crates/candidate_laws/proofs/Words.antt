@@ -10,7 +10,7 @@ use lib.ListN.{length, getD, take, drop, length-append, length-map, List·getD-a
 use lib.Seq.{getD-append-add, getD-take, length-take-le, ext-getD}
 use lib.Ieee.{binary64}
 use lib.Ieee.Bits.{ofBits-toBits}
-use Rattle.list_laws.proofs.Built.{listBelow-length, listBelow-at}
+use Rattle.list_laws.proofs.Built.{listBelow-length, listBelow-at, map-at}
 use Rattle.real.proofs.Ints.{int-of-word-of}
 use Rattle.model.specs.declared.Distribution.{Distribution}
 use Rattle.model.specs.declared.Distribution.the-variants as dist
@@ -20,6 +20,7 @@ use Rattle.model.specs.Lists.{listBelow, over}
 use Rattle.model.specs.Setting.{kindOfDimension, toWord, ofWord, inBounds, noValue, settingOf, wordsOf, WordsWithin}
 use Rattle.model.specs.Session.{overAt}
 use Rattle.variation_laws.proofs.Children.{HeldValue}
+use Rattle.settings.specs.Candidate.{parentAt, parentsIn}
 use Rattle.candidate_laws.specs.Bounds.{AllWithin}
 use Rattle.candidate_laws.proofs.Sound.{Sound, AllSound, all-within}
 
@@ -42,11 +43,6 @@ word-back (dist.Categorical d) (value.Int n) h b = wrong b
 word-back (dist.Categorical d) (value.Categorical c) h b = refl
 
 -- ---- where it lies
-
-pub map-at : {A B : Type 0} (f : A → B) (l : List A) (i : ℕ) (z : B) (y : A) → i < length l → getD (map f l) i z ≡ f (getD l i y)
-map-at f [] i z y h = absurd (not-suc-le-zero h)
-map-at f (a ∷ l) zero z y h = refl
-map-at f (a ∷ l) (suc i) z y h = map-at f l i z y (le-of-suc-le-suc h)
 
 -- every candidate of n settings
 abbrev pub AllLong : ℕ → List (List ParamValue) → Type 0
@@ -105,13 +101,6 @@ module _ (dims : ℕ → Distribution) (n count : ℕ) (cs : List (List ParamVal
 
 -- ---- read back
 
--- a candidate as it is read from words, and so many
-abbrev pub readAt : (ℕ → Distribution) → ℕ → List ℕ → ℕ → List ParamValue
-readAt dims n words p = listBelow (λ j. ofWord (kindOfDimension (dims j)) (getD words (p * n + j) 0)) n
-
-abbrev pub readAll : (ℕ → Distribution) → ℕ → List ℕ → ℕ → List (List ParamValue)
-readAll dims n words count = listBelow (readAt dims n words) count
-
 module _ (dims : ℕ → Distribution) (n count : ℕ) (cs : List (List ParamValue)) (a : AllSound dims n count cs) (rest : List ℕ) where
   within : AllWithin dims n count cs
   within = all-within dims n count cs a
@@ -125,20 +114,22 @@ module _ (dims : ℕ → Distribution) (n count : ℕ) (cs : List (List ParamVal
   pub words-within : WordsWithin dims n count (wordsOf cs ++ rest)
   words-within i d h k = ap (inBounds (dims d)) (read-back i d h k) ∙ a .each i h .bounds d k
 
-  row-back : (i : ℕ) → i < count → readAt dims n (wordsOf cs ++ rest) i ≡ getD cs i []
+  row-back : (i : ℕ) → i < count → parentAt dims n (wordsOf cs ++ rest) i ≡ getD cs i []
+  unfolding parentAt
   row-back i h =
       let u = listBelow-length (λ j. ofWord (kindOfDimension (dims j)) (getD (wordsOf cs ++ rest) (i * n + j) 0)) n in
       let w = a .each i h .whole in
-      ext-getD noValue (readAt dims n (wordsOf cs ++ rest) i) (getD cs i []) (omega arith)
+      ext-getD noValue (parentAt dims n (wordsOf cs ++ rest) i) (getD cs i []) (omega arith)
       (λ j l. listBelow-at (λ j. ofWord (kindOfDimension (dims j)) (getD (wordsOf cs ++ rest) (i * n + j) 0)) n noValue j (omega arith) ∙ read-back i j h (omega arith))
 
   -- and hand the candidates back
-  pub parents-back : readAll dims n (wordsOf cs ++ rest) count ≡ cs
+  pub parents-back : parentsIn dims n (wordsOf cs ++ rest) count ≡ cs
+  unfolding parentsIn
   parents-back =
-      let u = listBelow-length (readAt dims n (wordsOf cs ++ rest)) count in
+      let u = listBelow-length (parentAt dims n (wordsOf cs ++ rest)) count in
       let w = a .whole in
-      ext-getD [] (readAll dims n (wordsOf cs ++ rest) count) cs (omega arith)
-      (λ i l. listBelow-at (readAt dims n (wordsOf cs ++ rest)) count [] i (omega arith) ∙ row-back i (omega arith))
+      ext-getD [] (parentsIn dims n (wordsOf cs ++ rest) count) cs (omega arith)
+      (λ i l. listBelow-at (parentAt dims n (wordsOf cs ++ rest)) count [] i (omega arith) ∙ row-back i (omega arith))
 
 -- ---- a candidate put behind k others
 

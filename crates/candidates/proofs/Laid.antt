@@ -130,11 +130,3 @@ module _ (dims : ℕ → Distribution) (n s : ℕ) where
       ap₂ (λ a b. overAt (k * n) (map toWord a) b) (ap (λ (x : Drawn (List ParamValue)). x .value) d ∙ ap (λ x. sampleAll dims n x .value) e) f
       ∙ over-next (laid k) (map toWord (sampleAll dims n (left k) .value)) l (k * n) (laid-length k)
       ∙ ap (λ x. over x l) (sym (laid-more k))
-
--- a row more than k fits where there are more rows
-pub row-fits : (k count n len : ℕ) → k < count → count * n ≤ len → k * n + n ≤ len
-row-fits k count n len h l =
-    let e = add-mul k 1 n in
-    let o = one-mul n in
-    let g = mul-le-mul-right {m = k + 1} {n = count} n (omega arith) in
-    omega arith

@@ -64,7 +64,7 @@ bad-by-lines m h p a b e = rw (inside-holds h a b, e)
 
 -- ---- a session's
 
-auto-inside : (m target : ℕ) → outsideDivisions (autoDivisions m target) ≡ false
+pub auto-inside : (m target : ℕ) → outsideDivisions (autoDivisions m target) ≡ false
 unfolding autoDivisions
 auto-inside m target = by-test (firstBelow (reaches m target) 199) (ltb (firstBelow (reaches m target) 199) 199) refl
   where

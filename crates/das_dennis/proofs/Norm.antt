@@ -18,6 +18,7 @@ use Rattle.model.specs.Numbers.{sqrtOf}
 use Rattle.model.specs.Reference.{ratio, lattice, dasDennis, pointCount}
 use Rattle.model.specs.Association.{dot, offSquares, distance, smallNorm}
 use Rattle.model.specs.Papers.DasDennis1998.{total, IsPoint}
+use Rattle.list_laws.proofs.Built.{map-at}
 use Rattle.das_dennis.proofs.Count.{lattice-count}
 use Rattle.das_dennis.proofs.Table.{lattice-table}
 use Rattle.das_dennis.proofs.Rows.{line}
@@ -93,18 +94,13 @@ getD-member [] l d h = absurd (omega arith)
 getD-member (x ∷ xs) zero d h = List·Memᴰ·head refl
 getD-member (x ∷ xs) (suc l) d h = List·Memᴰ·tail (getD-member xs l d (omega arith))
 
-getD-mapped : {A B : Type 0} (f : A → B) (xs : List A) (j : ℕ) (d : B) (e : A) → j < length xs → getD (map f xs) j d ≡ f (getD xs j e)
-getD-mapped f [] j d e h = absurd (omega arith)
-getD-mapped f (x ∷ xs) zero d e h = refl
-getD-mapped f (x ∷ xs) (suc j) d e h = getD-mapped f xs j d e (omega arith)
-
 -- ---- a line of the table
 
 line-is : (m h l j : ℕ) → j < length (getD (lattice m h) l []) → line m h l j ≡ ratio h (getD (getD (lattice m h) l []) j 0)
 unfolding dasDennis
 line-is m h l j g =
     ap (λ (r : List Float). getD r j nan) (List·getD-map (λ (t : List ℕ). map (ratio h) t) (lattice m h) l [])
-    ∙ getD-mapped (ratio h) (getD (lattice m h) l []) j nan 0 g
+    ∙ map-at (ratio h) (getD (lattice m h) l []) j nan 0 g
 
 -- 1 / 64, by its bit pattern
 abbrev pub sixtyFourth : Float

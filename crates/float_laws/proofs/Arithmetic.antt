@@ -7,13 +7,19 @@ use native.Mathlib.Omega.{arith}
 use mathlib.Core.Bool.{Bool, true, false}
 use lib.Dec.{T}
 use lib.Pow.{pow-pos}
-use lib.Ieee.{Float, nan, inf, fin, Format, binary64, low, up, down, le, lt, add, sub, mul, div, unlike, fits}
-use lib.Ieee.Fits.{down-pos, sub-fits}
+use lib.Ieee.{Float, nan, inf, fin, Format, binary64, low, up, down, le, lt, add, sub, mul, div, neg, unlike, fits}
+use lib.Ieee.Fits.{down-pos, sub-fits, neg-fits}
 use lib.Ieee.Scale.{finite, round-same}
 use Rattle.float_laws.proofs.Units.{Number, Sgn, Counts, le→counts, lt→counts, counts-of, counts-same, sgn-same}
 use Rattle.float_laws.proofs.Order.{le-trans}
 use Rattle.float_laws.proofs.Rounding.{Rounded, rounded-mono, rounded-le, le-rounded, add-rounded, sub-rounded, div-rounded, between-finite}
 use Rattle.float_laws.proofs.Constants.{nought, nought-counts, nought-fits, one, one-counts, one-fits, exp2, exp2-counts, minus-exp2}
+
+pub neg-number : (x : Float) → Number binary64 x → Number binary64 (neg x)
+unfolding neg
+neg-number nan X = absurd (X .finite)
+neg-number (inf s) X = absurd (X .finite)
+neg-number (fin s m e) X = record { held = neg-fits binary64 (fin s m e) (X .held); finite = tt }
 
 -- sums times one number
 pub scaled : (a b c d L : ℕ) → a + b ≤ c + d → a * L + b * L ≤ c * L + d * L

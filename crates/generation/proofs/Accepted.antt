@@ -7,21 +7,13 @@ use mathlib.Core.Option.{none}
 use native.Mathlib.Omega.{arith}
 use borrow.Author.Tests.{not-false, ltb-false, le-leb}
 use lib.Dec.{eqb, leb, ltb}
-use Rattle.list_laws.proofs.Bools.{and-left}
+use Rattle.list_laws.proofs.Bools.{and-left, or-left, or-right}
 use Rattle.model.specs.Lists.{allBelow}
 use Rattle.model.specs.Association.{Request, objectives}
 use Rattle.model.specs.Setting.{Operators}
 use Rattle.model.specs.Refusal.{Room, firstOf, badDirections, badSize, badDivisions, badOperators, badDimensions, badCount, goodPlan, goodIdeal, badPool, breedable, badParents, noRoom, noStepRoom, selectRefusal, stepRefusal}
 use Rattle.demand3_laws.proofs.Calls.{applies-not}
 use Rattle.demand3_laws.proofs.Accepted.{some-objectives}
-
-or-left : (a b : Bool) → (a || b) ≡ false → a ≡ false
-or-left true b e = e
-or-left false b e = refl
-
-or-right : (a b : Bool) → (a || b) ≡ false → b ≡ false
-or-right true b e = absurd (true≢false e)
-or-right false b e = e
 
 -- a size or a count is 1 to 1,024
 pub one-to-1024 : (n : ℕ) → badCount n ≡ false → (0 < n) × (n ≤ 1024)

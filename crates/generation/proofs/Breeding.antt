@@ -16,7 +16,7 @@ use Rattle.model.specs.Draw.{Drawn, drawn, drawUsize}
 use Rattle.model.specs.Plan.{planAt, planCount}
 use Rattle.model.specs.Setting.{wordsOf, exponentOf, crossover, mutate, Children, children, Operators, tournament, brood, broods, offspringOf, parentsOf}
 use Rattle.model.specs.Refusal.{badDimensions, breedable}
-use Rattle.genetic.specs.Parents.{parentAt, parentsIn}
+use Rattle.settings.specs.Candidate.{parentAt, parentsIn}
 use Rattle.candidate_laws.proofs.Sound.{AllHeld, AllSound}
 use Rattle.candidate_laws.proofs.Words.{parents-back}
 use Rattle.candidate_laws.proofs.Extracted.{parentsOf-sound}

@@ -17,7 +17,8 @@ use Rattle.model.specs.Draw.{Drawn, drawn, drawUsize}
 use Rattle.model.specs.Setting.{Children, children, exponentOf, crossover, mutate, tournament, brood}
 use Rattle.model.specs.Refusal.{wholeEta, badOperators}
 use borrow.Author.Tests.{not-false}
-use Rattle.genetic.specs.Parents.{parentAt, parentsIn, operators}
+use Rattle.settings.specs.Candidate.{parentAt, parentsIn}
+use Rattle.genetic.specs.Parents.{operators}
 use Rattle.genetic.proofs.Steps.{drawn-below}
 
 module _ (T : ℕ → Drawn ℕ) (X : List ParamValue → List ParamValue → ℕ → Drawn Children) (M : List ParamValue → ℕ → Drawn (List ParamValue)) (get : ℕ → List ParamValue) where
@@ -46,13 +47,6 @@ winner-below ranks n s i t h e =
     by-bool (leb (ranks (a .value)) (ranks (b .value))) (λ q. omega (arith, v ∙ ap (λ c. cond c (a .value) (b .value)) q)) (λ q. omega (arith, v ∙ ap (λ c. cond c (a .value) (b .value)) q))
 
 -- its row lies within the rows
-pub row-within : (i count n len : ℕ) → i < count → count * n ≤ len → i * n + n ≤ len
-row-within i count n len h l =
-    let e = add-mul i 1 n in
-    let o = one-mul n in
-    let g = mul-le-mul-right {m = i + 1} {n = count} n (omega arith) in
-    omega arith
-
 -- operators that are not bad have etas that can be cast
 module _ (probability crossoverEta mutationEta : Float) (h : badOperators probability crossoverEta mutationEta ≡ false) where
   good : (within nought unit probability && (wholeEta crossoverEta && wholeEta mutationEta)) ≡ true

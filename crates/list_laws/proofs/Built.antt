@@ -1,7 +1,7 @@
 -- Laws of `listBelow`, `joinBelow` and `over`.
 use Prim.Native.Nat.{ℕ, zero, suc, _+_, _≤_, _<_}
 use mathlib.Core.Path.{_≡_, refl, ap, ap₂, sym, _∙_}
-use mathlib.Core.List.{List, [], _∷_, _++_, append-assoc}
+use mathlib.Core.List.{List, [], _∷_, _++_, map, append-assoc}
 use mathlib.Core.Logic.{⊎-elim}
 use native.Mathlib.Nat.{not-suc-le-zero, eq-or-lt-of-le}
 use native.Mathlib.Numerals.{add-one}
@@ -103,3 +103,9 @@ over-snoc v old j r e h =
     let z : length (v ++ (r ∷ [])) ≡ suc j = length-append v (r ∷ []) ∙ omega (arith, e) in
     ap (λ t. set (v ++ t) j r) (ap (λ m. drop m old) e ∙ drop-cons old j 0 h) ∙ set-at v (getD old j 0) (drop (suc j) old) r j e
     ∙ sym (append-assoc v (r ∷ []) (drop (length (v ++ (r ∷ []))) old) ∙ ap (λ m. v ++ (r ∷ drop m old)) z)
+
+-- an entry of a list's image
+pub map-at : {A B : Type 0} (f : A → B) (l : List A) (i : ℕ) (z : B) (y : A) → i < length l → getD (map f l) i z ≡ f (getD l i y)
+map-at f [] i z y h = absurd (omega arith)
+map-at f (a ∷ l) zero z y h = refl
+map-at f (a ∷ l) (suc i) z y h = map-at f l i z y (omega arith)

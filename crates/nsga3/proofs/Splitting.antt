@@ -32,13 +32,6 @@ use Rattle.nsga3_laws.proofs.Agree.{Below, picks-agree}
 use Rattle.nsga3_parts.proofs.Lists.{written-behind}
 use Rattle.nsga3.specs.Laid.{RowsIn, OrderIn, Hands}
 
-product : (a b n m : ℕ) → a ≤ n → b ≤ m → a * b ≤ n * m
-product a b n m h k = omega (arith, mul-le-mul-right b h, mul-le-mul-left n k)
-
--- a list of at most 1,024 rows of at most 8 entries has room
-pub few-values : (n m : ℕ) → n ≤ 1024 → m ≤ 8 → n * m ≤ 8192
-few-values n m h k = product n m 1024 8 h k
-
 -- an ideal of m entries, moved, has no others
 pub moved-all : (f : ℕ → Float) (m : ℕ) (ideal old : List Float) → length old ≡ m → ideal ≡ over (listBelow f m) old → ideal ≡ listBelow f m
 moved-all f m ideal old e h =

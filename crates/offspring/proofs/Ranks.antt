@@ -18,14 +18,6 @@ use Rattle.pareto.proofs.Flat.{flatDominates-rowBeats}
 use Rattle.pareto.proofs.Sorting.{sorted-same}
 use Rattle.plans.specs.Filled.{RowsOf}
 
--- factors within their limits have a product within the limits' product
-pub product : (a b n m : ℕ) → a ≤ n → b ≤ m → a * b ≤ n * m
-product a b n m h k = omega (arith, mul-le-mul-right b h, mul-le-mul-left n k)
-
--- the rows of a pool fit their table
-pub few-values : (n m : ℕ) → n ≤ 1024 → m ≤ 8 → n * m ≤ 8192
-few-values n m h k = product n m 1024 8 h k
-
 -- the sort of a pool's rows gives its plans' fronts
 pub rows-fronts : (marks : List ℕ) (plans : ℕ → Plan) (n : ℕ) (rows₀ rows : List Float) (o₀ o r₀ r e₀ e : List ℕ) (x : ℕ) → RowsOf marks plans n rows₀ rows
     → Sorted (flatDominates rows (length marks)) n o₀ o r₀ r e₀ e x → r ≡ over (frontList (rowBeats marks plans) n) r₀

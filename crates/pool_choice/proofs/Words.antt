@@ -25,6 +25,7 @@ use Rattle.nsga3_laws.proofs.Admitted.{admitted}
 use Rattle.pool_laws.proofs.Printed.{selected-short}
 use Rattle.pool_text.specs.Text.{listed}
 use Rattle.model.specs.PoolFile.{listingText}
+use Rattle.list_laws.proofs.Bools.{or-right}
 use Rattle.pool_choice.specs.Choice.{exit, textExit, requestText, listRefusal, listExit}
 use Rattle.pool_choice.proofs.Firsts.{same-number, only-ten}
 use Rattle.pool_choice.proofs.Lengths.{listing-over}
@@ -41,10 +42,6 @@ unfolding div ofBits
 ideal-start m h = take-replicate infinity 8 m h
 
 -- ---- there is room
-
-or-right : (a b : Bool) → (a || b) ≡ false → b ≡ false
-or-right true b e = absurd (true≢false e)
-or-right false b e = e
 
 module _ (r : Request) (room : Room) (k : maxSize ≤ room .kept) (f : maxSize ≤ room .fronts) (l : maxSize ≤ room .lines) where
   enough : badSize (r .size) ≡ false → badCount (r .count) ≡ false → noRoom r room ≡ false

@@ -8,4 +8,5 @@ pub mod Monotone
 pub mod Nearest
 pub mod Exact
 pub mod Fractions
+pub mod Apart
 pub mod Examples

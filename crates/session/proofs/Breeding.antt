@@ -1,31 +1,31 @@
 -- Breeding from its parts: the pool is the plans bred from, and what the step answers is what the session becomes.
-use Prim.Native.Nat.{ℕ, _+_, _*_, _≤_, _<_}
-use mathlib.Core.Path.{_≡_, refl, sym, ap, ap₂, _∙_, subst}
-use mathlib.Core.Bool.{Bool, true, false, _&&_}
+use Prim.Native.Nat.{ℕ, _+_, _*_, _≤_}
+use mathlib.Core.Path.{_≡_, refl, sym, ap, ap₂, _∙_}
+use mathlib.Core.Bool.{true}
 use mathlib.Core.List.{List, [], _∷_, _++_}
 use mathlib.Core.Option.{Option, none, some}
 use native.Mathlib.Omega.{arith}
 use borrow.Author.Tests.{eqb-true}
-use lib.Dec.{eqb, leb, ltb}
+use lib.Dec.{leb, ltb}
 use lib.Ieee.{Float}
 use lib.ListN.{length, getD, take, drop, length-take, length-replicate}
-use lib.Seq.{length-take-le}
 use Rattle.list_laws.proofs.Bools.{and-left, and-right}
 use Rattle.list_laws.proofs.Built.{over-take}
 use Rattle.model.specs.declared.Outcome.{Outcome}
 use Rattle.model.specs.declared.Outcome.the-variants as outcome
 use Rattle.model.specs.declared.Selection.{Selection}
 use Rattle.model.specs.declared.Session.{Session}
-use Rattle.model.specs.Lists.{allBelow, joinBelow, over, allIn}
+use Rattle.model.specs.Lists.{allBelow, joinBelow, over}
 use Rattle.model.specs.Plan.{planCount, planWords}
 use Rattle.model.specs.Association.{Request}
-use Rattle.model.specs.Setting.{Generation, generation, wordsOf}
+use Rattle.model.specs.Setting.{generation}
 use Rattle.model.specs.Session.{State, state, evaluated, recordOf, blockOf, bredFrom, requestOf, operatorsOf, breed, maxWords}
-use Rattle.model.specs.Refusal.{goodIdeal, measurable, isInfinity, stepRefusal, check, firstOf, badPool, badParents, maxSize}
-use Rattle.model.specs.Calls.{refusedBy, wordRequest, roomOf, stepAccepted, stepBy, stepOf}
+use Rattle.model.specs.Refusal.{goodIdeal, stepRefusal, check, firstOf, badPool, badParents, maxSize}
+use Rattle.model.specs.Calls.{refusedBy, roomOf, stepAccepted, stepBy, stepOf}
 use Rattle.model.specs.Property.{SessionOk}
 use Rattle.session_laws.proofs.Request.{bred-length, bred-request, step-refusal}
-use Rattle.session.specs.Exits.{Stepped, stepped, takenOf, blankLent, stepOn, bredSession, breedRefusal, bredExit, breedBy, breedOf}
+use Rattle.session_parts.specs.Exits.{bredSession}
+use Rattle.session.specs.Exits.{Stepped, stepped, takenOf, blankLent, stepOn, breedRefusal, bredExit, breedBy, breedOf}
 
 -- an ideal that is good has its m entries
 pub ideal-room : (m : ℕ) (ideal : List Float) → goodIdeal m (take m ideal) ≡ true → m ≤ length ideal

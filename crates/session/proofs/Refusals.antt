@@ -1,25 +1,20 @@
 -- The refusals of a session call, one after the other, and what it leaves in each case.
 use Prim.Native.Nat.{ℕ, _≤_, _<_}
-use mathlib.Core.Path.{_≡_, refl, sym, ap, ap₂, _∙_, subst}
-use mathlib.Core.Bool.{Bool, true, false, cond, not, _&&_, _||_, true≢false}
+use mathlib.Core.Path.{_≡_, sym, ap, ap₂, _∙_}
+use mathlib.Core.Bool.{Bool, true, false, not, _&&_, _||_, true≢false}
 use mathlib.Core.List.{List, [], _∷_}
 use mathlib.Core.Option.{Option, none, some}
 use native.Mathlib.Omega.{arith}
-use borrow.Author.Tests.{lt-ltb, le-ltb, le-leb, lt-leb, leb-true, leb-false, not-false}
-use lib.Dec.{leb, ltb}
-use lib.ListN.{length, take}
-use lib.Seq.{length-take-le}
-use Rattle.list_laws.proofs.Bools.{by-bool, and-left, and-right, and-not-left}
+use borrow.Author.Tests.{lt-ltb, le-ltb, lt-leb, leb-false}
+use lib.Dec.{leb}
+use Rattle.list_laws.proofs.Bools.{by-bool, and-not-left, or-left, or-right}
 use Rattle.model.specs.declared.Distribution.{Distribution}
 use Rattle.model.specs.declared.Session.{Session}
-use Rattle.model.specs.Lists.{has}
 use Rattle.model.specs.Plan.{planCount, maxSettings}
 use Rattle.model.specs.Setting.{validDimension}
-use Rattle.model.specs.Session.{State, Answered, state, discovers, discover, activate, breed, breeds, isActive, pastDiscovery, discoversFor, longEnough, evaluated, isNew, placeIn, requestOf, operatorsOf, accepted, sampleFromCandidate, maxPlans}
-use Rattle.model.specs.Refusal.{Check, check, firstOf, sampleRefusal, badPool, badParents, maxHistory}
-use Rattle.model.specs.Calls.{SampleExit, sampleBy, sampleOf}
-use Rattle.session_laws.proofs.Tests.{or-left, or-right}
-use Rattle.session_parts.proofs.Records.{has-place}
+use Rattle.model.specs.Session.{State, Answered, state, discovers, discover, breeds, isActive, pastDiscovery, discoversFor, longEnough, isNew, accepted, maxPlans}
+use Rattle.model.specs.Refusal.{check, firstOf, sampleRefusal, maxHistory}
+use Rattle.model.specs.Calls.{sampleBy, sampleOf}
 use Rattle.session_parts.specs.Exits.{exit, settled}
 use Rattle.session.specs.Exits.{refusedWith}
 
@@ -51,19 +46,12 @@ at-none a b c d e f ea eb ec ed ee ef = rw (ea, eb, ec, ed, ee, ef)
 pub no-and : (a b : Bool) → a ≡ false → (a && b) ≡ false
 no-and a b e = ap (λ (x : Bool). x && b) e
 
--- a dimension that is not refused, and a plan's place
+-- a dimension that is not refused
 pub few-dimensions : (n : ℕ) (d : Distribution) → (leb maxSettings n || not (validDimension d)) ≡ false → n < 32
 few-dimensions n d e = leb-false maxSettings n (or-left (leb maxSettings n) _ e)
 
 pub valid-one : (n : ℕ) (d : Distribution) → (leb maxSettings n || not (validDimension d)) ≡ false → validDimension d ≡ true
 valid-one n d e = by-bool (validDimension d) (λ v. v) (λ v. absurd (true≢false (ap not (sym v) ∙ or-right (leb maxSettings n) _ e)))
-
-pub is-new-by : (ps : List ℕ) (n plan i : ℕ) → n ≤ length ps → i ≡ placeIn (take n ps) plan → not (has (take n ps) plan) ≡ leb n i
-is-new-by ps n plan i h e =
-    ap not (has-place (take n ps) plan ∙ ap₂ (λ (a b : ℕ). ltb a b) (sym e) (length-take-le n ps h))
-    ∙ by-bool (leb n i)
-    (λ b. ap not (le-ltb i n (leb-true n i b)) ∙ sym b)
-    (λ b. ap not (lt-ltb i n (leb-false n i b)) ∙ sym b)
 
 -- the test for a call that adds a dimension, of a state
 pub adds : (s : Session) (plan : ℕ) (cs ps ns : List ℕ) → (not (pastDiscovery (s .phase)) && discoversFor (s .«discovery_trial_id») plan) ≡ true

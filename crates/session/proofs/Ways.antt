@@ -1,13 +1,13 @@
 -- The ways of a call that adds no dimension: what it meets, and what it leaves.
-use Prim.Native.Nat.{ℕ, _+_, _*_, _≤_, _<_}
+use Prim.Native.Nat.{ℕ, _≤_, _<_}
 use mathlib.Core.Path.{_≡_, refl, sym, ap, ap₂, _∙_, subst}
-use mathlib.Core.Bool.{Bool, true, false, cond, not, _&&_, _||_, true≢false, false≢true}
-use mathlib.Core.List.{List, [], _∷_}
+use mathlib.Core.Bool.{Bool, true, false, not, _&&_, _||_, true≢false, false≢true}
+use mathlib.Core.List.{List, []}
 use mathlib.Core.Option.{Option, none, some}
 use native.Mathlib.Omega.{arith}
 use borrow.Author.Tests.{lt-ltb, le-ltb, lt-leb, leb-false}
 use lib.Dec.{leb, ltb}
-use lib.ListN.{length, getD, take, length-replicate}
+use lib.ListN.{length, getD, length-replicate}
 use Rattle.list_laws.proofs.Bools.{by-bool, and-left, and-right, and-not-left}
 use Rattle.demand3_laws.proofs.Calls.{not-some}
 use Rattle.model.specs.declared.Distribution.{Distribution}
@@ -16,18 +16,18 @@ use Rattle.model.specs.declared.Outcome.the-variants as outcome
 use Rattle.model.specs.declared.Phase.{Phase}
 use Rattle.model.specs.declared.Phase.the-variants.{Discovery, Active}
 use Rattle.model.specs.declared.Session.{Session}
-use Rattle.model.specs.Lists.{allBelow, has}
+use Rattle.model.specs.Lists.{allBelow}
 use Rattle.model.specs.Plan.{planCount, maxSettings}
 use Rattle.model.specs.Setting.{validDimension}
-use Rattle.model.specs.Session.{State, Answered, state, discovers, activate, breed, breeds, isActive, pastDiscovery, discoversFor, longEnough, evaluated, recordOf, isNew, bredFrom, requestOf, operatorsOf, accepted, sampleFromCandidate, maxPlans, maxWords, blankDimension}
-use Rattle.model.specs.Refusal.{sampleRefusal, badPool, badParents, maxHistory, maxSize}
+use Rattle.model.specs.Session.{State, state, discovers, activate, breed, breeds, isActive, pastDiscovery, discoversFor, longEnough, evaluated, recordOf, isNew, accepted, sampleFromCandidate, maxPlans, maxWords, blankDimension}
+use Rattle.model.specs.Refusal.{sampleRefusal, maxHistory, maxSize}
 use Rattle.model.specs.Calls.{refusedBy, roomOf, sampleOf}
-use Rattle.model.specs.Property.{SessionOk, DimensionsOk, DiscoveryOk, ActiveOk}
+use Rattle.model.specs.Property.{SessionOk, DimensionsOk}
 use Rattle.session_laws.proofs.Tests.{and-both}
 use Rattle.session_laws.proofs.Request.{dimensions-good, step-refusal, breed-refusal}
-use Rattle.session_laws.proofs.Steps.{Long, long, discovery-ok, active-ok, known}
+use Rattle.session_laws.proofs.Steps.{discovery-ok, active-ok, known}
 use Rattle.session_laws.proofs.Sample.{discovery-phase}
-use Rattle.session_parts.specs.Exits.{exit, settled, Ready}
+use Rattle.session_parts.specs.Exits.{exit, Ready}
 use Rattle.session.specs.Exits.{refusedWith, blankLent, breedRefusal, BredExit, bredExit, breedBy}
 use Rattle.session.proofs.Refusals.{at-7, at-10, at-11, at-none, no-and, leaves-refused}
 

@@ -1,15 +1,14 @@
 -- What the parts of a session call answer, in the words of the calls' definitions.
-use Prim.Native.Nat.{ℕ, _+_, _%_, _^_}
+use Prim.Native.Nat.{ℕ}
 use mathlib.Core.List.{List, [], _∷_}
 use mathlib.Core.Option.{Option, none, some}
 use lib.Ieee.{Float}
 use lib.ListN.{take, replicate}
-use Rattle.model.specs.declared.Phase.the-variants.{Active}
 use Rattle.model.specs.declared.Sampled.{Sampled}
 use Rattle.model.specs.declared.Sampling.the-variants as sampling
 use Rattle.model.specs.declared.Selection.{Selection}
 use Rattle.model.specs.declared.Session.{Session}
-use Rattle.model.specs.Session.{State, progress, requestOf, operatorsOf, breed}
+use Rattle.model.specs.Session.{State, requestOf, operatorsOf, breed}
 use Rattle.model.specs.Refusal.{check, firstOf, badPool, badParents, maxSize}
 use Rattle.model.specs.Calls.{Lent, StepExit, lent, wordRequest, stepOf}
 
@@ -41,21 +40,6 @@ stepOn s pool ideal offspring =
     blankLent offspring)
 
 -- ---- breeding
-
--- the session after breeding, for its generator, its ideal and its generation's number
-abbrev pub bredAt : Session → ℕ → List Float → ℕ → Session
-bredAt s g ideal number = record {
-  config = s .config;
-  phase = Active;
-  «discovery_trial_id» = s .«discovery_trial_id»;
-  rng = record { s = g };
-  dimensions = s .dimensions;
-  «ideal_point» = ideal;
-  progress = progress (s .progress .«n_dims») (s .config .«population_size») 0 number;
-}
-
-abbrev pub bredSession : Session → ℕ → List Float → Session
-bredSession s g ideal = bredAt s g ideal ((s .progress .generation + 1) % 2 ^ 64)
 
 -- of a call that breeds, refusals 8 and 9 are left
 abbrev pub breedRefusal : State → List ℕ → Option ℕ

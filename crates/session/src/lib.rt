@@ -1,98 +1,33 @@
 // The session call (document 01, "Session"; Rust: sampler/nsga3.rs): a plan asks for a setting, and where the generation's plans all stand in history a new
 // generation is bred first.
 ghost use mathlib.Core.Path.{_≡_};
-ghost use mathlib.Core.Bool.{Bool, true, false, not, _&&_, _||_};
+ghost use mathlib.Core.Bool.{true, false, not, _&&_};
 ghost use mathlib.Core.List.{List, []};
-ghost use mathlib.Core.Option.{none};
-ghost use Prim.Native.Nat.{ℕ, _+_, _*_, _≤_, _<_};
-ghost use lib.Dec.{leb, ltb};
-ghost use lib.ListN.{length, take};
-ghost use Rattle.model.specs.Lists.{has};
+ghost use Prim.Native.Nat.{ℕ, _*_, _≤_, _<_};
+ghost use lib.ListN.{length};
 ghost use Rattle.model.specs.Plan.{planCount};
-ghost use Rattle.model.specs.Setting.{validDimension};
 ghost use Rattle.model.specs.Session.{state, pastDiscovery, discoversFor, discovers, longEnough, evaluated, breeds};
 ghost use Rattle.model.specs.Calls.{refusedBy, sampleOf, Samples};
 ghost use Rattle.model.specs.Property.{SessionOk};
 ghost use Rattle.model.specs.declared.Distribution.{Distribution};
 ghost use Rattle.model.specs.declared.Phase.the-variants as phase;
 ghost use Rattle.session_parts.specs.Exits.{exit};
-ghost use Rattle.session.specs.Exits.{refusedWith, stepped, stepOn, bredSession, bredExit, breedOf};
+ghost use Rattle.session.specs.Exits.{refusedWith, stepped, stepOn, bredExit, breedOf};
 use model::Distribution;
-use model::OptionU64;
 use model::Outcome;
 use model::Phase;
-use model::Progress;
-use model::Rng;
 use model::Sampled;
 use model::Sampling;
 use model::Selection;
 use model::Session;
 
-// The most dimensions of a session, records of a history and plans of a generation, and the words of its candidates.
-const MAX_DIMS: usize = 32;
-
+// The most records of a history.
 const MAX_HISTORY: usize = 4096;
-
-const MAX_PLANS: usize = 2048;
-
-const MAX_WORDS: usize = 65536;
 
 // The words of a pool of 1,024 plans.
 const POOL_WORDS: usize = 126976;
 
-// ---- tests
-
-// The call adds a dimension: discovery still lasts, and the plan is the first that came.
-fn discovers(phase: Phase, first: OptionU64, plan: u64) -> bool
-    ensures { λ r. ⌜ r ≡ (not (pastDiscovery phase) && discoversFor first plan) ⌝ }
-{
-    match phase {
-        Phase::Active => false,
-        Phase::Discovery => match first {
-            OptionU64::None => true,
-            OptionU64::Some(number) => number == plan,
-        },
-    }
-}
-
-// The lent slices have room for what they must hold.
-fn long_enough(candidates: usize, plans: usize, next_dims: usize) -> bool
-    ensures { λ r. ⌜ r ≡ (leb 65536 candidates && (leb 2048 plans && leb 2048 «next_dims»)) ⌝ }
-{
-    if candidates < MAX_WORDS {
-        return false;
-    }
-    if plans < MAX_PLANS {
-        return false;
-    }
-    MAX_PLANS <= next_dims
-}
-
-// Refusal 6 for the dimension that a session of n dimensions would add.
-fn bad_dimension(n: usize, distribution: Distribution) -> bool
-    ensures { λ r. ⌜ r ≡ (leb 32 n || not (validDimension distribution)) ⌝ }
-{
-    if MAX_DIMS <= n {
-        return true;
-    }
-    if settings::valid_dimension(distribution) {
-        return false;
-    }
-    true
-}
-
-// A generation of n plans is full, and the plan is not among them.
-fn full(plans: &[u64], n: usize, plan: u64) -> bool
-    requires { ⌜ n ≤ length (now plans) ⌝ }
-    ensures { λ r. ⌜ r ≡ (leb 2048 n && not (has (take n (now (plans .entry))) plan)) ⌝ }
-{
-    if n < MAX_PLANS {
-        return false;
-    }
-    n <= session_parts::place_in(plans, n, plan)
-}
-
-// ---- the call
+// ---- a call that adds a dimension
 
 // A refusal leaves the session as it was.
 fn refused(session: Session, number: u8) -> Sampled
@@ -116,7 +51,7 @@ fn sample_discovering(
 {
     let progress = session.progress;
     let n = progress.n_dims;
-    if bad_dimension(n, distribution) {
+    if session_parts::bad_dimension(n, distribution) {
         return refused(session, 6);
     }
     if MAX_HISTORY < plans::plan_count(history) {
@@ -163,32 +98,6 @@ fn step(session: Session, pool: &[u64], ideal: &mut [f64], candidates: &mut [u64
     )
 }
 
-// The session after breeding: its candidates are new, and no plan has come.
-fn bred_session(session: Session, rng: Rng, ideal_point: [f64; 8]) -> Session
-    ensures { λ r. ⌜ r ≡ bredSession session (rng .s) «ideal_point» ⌝ }
-{
-    let config = session.config;
-    let phase = Phase::Active;
-    let discovery_trial_id = session.discovery_trial_id;
-    let dimensions = session.dimensions;
-    let before = session.progress;
-    let progress = Progress {
-        n_dims: before.n_dims,
-        n_candidates: config.population_size,
-        n_plans: 0,
-        generation: std::num::wrapping_add_u64(before.generation, 1),
-    };
-    Session {
-        config,
-        phase,
-        discovery_trial_id,
-        rng,
-        dimensions,
-        ideal_point,
-        progress,
-    }
-}
-
 // What breeding answers: the refusal that it meets, with the session as it was, or the session after it.
 struct Bred {
     outcome: Outcome,
@@ -226,7 +135,7 @@ fn breed(
     match outcome {
         Outcome::Refused(_) => Bred { outcome, session },
         Outcome::Kept(_) => {
-            let session = bred_session(session, rng, ideal_point);
+            let session = session_parts::bred_session(session, rng, ideal_point);
             Bred { outcome, session }
         }
     }
@@ -281,7 +190,7 @@ fn sample_active(
     if session_parts::evaluated(history, plans, n, size) {
         return sample_bred(session, plan, history, candidates, plans, next_dims);
     }
-    if full(plans, n, plan) {
+    if session_parts::full(plans, n, plan) {
         return refused(session, 11);
     }
     session_parts::sample_from_candidate(session, plan, candidates, plans, next_dims)
@@ -324,8 +233,8 @@ fn answered(
 {
     let phase = session.phase;
     let first = session.discovery_trial_id;
-    let long = long_enough(candidates.len(), plans.len(), next_dims.len());
-    if discovers(phase, first, plan) {
+    let long = session_parts::long_enough(candidates.len(), plans.len(), next_dims.len());
+    if session_parts::discovers(phase, first, plan) {
         return sample_discovering(session, distribution, plan, history, long);
     }
     if MAX_HISTORY < plans::plan_count(history) {

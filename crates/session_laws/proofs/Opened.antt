@@ -10,7 +10,7 @@ use lib.Ieee.{Float, binary64, eq, le, lt, ofBits, ofInt, toUnsigned}
 use lib.ListN.{length, take, drop, replicate, length-append, length-take, length-replicate, getD-replicate}
 use lib.Seq.{getD-take}
 use borrow.Author.Tests.{ltb-true, ltb-false, le-leb, eq-eqb}
-use Rattle.list_laws.proofs.Bools.{by-bool}
+use Rattle.list_laws.proofs.Bools.{by-bool, or-left, or-right}
 use Rattle.list_laws.proofs.Tests.{allIn-every}
 use Rattle.list_laws.proofs.Built.{over-take}
 use Rattle.demand3_laws.proofs.Calls.{applies-not}
@@ -24,7 +24,8 @@ use Rattle.model.specs.Session.{state, given, opened}
 use Rattle.model.specs.Calls.{openOf, Opens}
 use Rattle.model.specs.Refusal.{firstOf, wholeEta, openRefusal, badDirections, badSessionSize, badSessionDivisions, badGivenDivisions, badDivisions, outsideDivisions, badOperators, measurable, isInfinity, goodIdeal, maxSize, maxLines}
 use Rattle.model.specs.Property.{ConfigOk, SessionOk}
-use Rattle.session_laws.proofs.Tests.{or-left, or-right, or-both, and-both}
+use Rattle.das_dennis.proofs.Divisions.{auto-inside}
+use Rattle.session_laws.proofs.Tests.{or-both, and-both}
 
 -- ---- the ideal that a session starts from: plus infinity everywhere
 
@@ -44,21 +45,9 @@ infinite-ideal m h =
 
 -- ---- divisions: those given are 1 to 199, and so are automatic ones
 
-within-199 : (h : ℕ) → 1 ≤ h → h ≤ 199 → outsideDivisions h ≡ false
-within-199 h a b = ap not (and-both _ _ (le-leb 1 h a) (le-leb h 199 b))
-
-auto-within : (m target : ℕ) → outsideDivisions (autoDivisions m target) ≡ false
-unfolding autoDivisions
-auto-within m target = go (firstBelow (λ i. leb target (pointCount m (suc i))) 199)
-  where
-    go : (i : ℕ) → outsideDivisions (cond (ltb i 199) (suc i) 12) ≡ false
-    go i = by-bool (ltb i 199)
-        (λ e. let h = ltb-true i 199 e in rw e (within-199 (suc i) (omega arith) (omega arith)))
-        (λ e. rw e)
-
 divisions-within : (m : ℕ) (size divisions : Option ℕ) → badGivenDivisions divisions ≡ false → outsideDivisions (divisionsOf m size divisions) ≡ false
 unfolding divisionsOf
-divisions-within m size none e = auto-within m (orElse size 100)
+divisions-within m size none e = auto-inside m (orElse size 100)
 divisions-within m size (some h) e = e
 
 -- ---- the size: what is given, or the point count, and never under 4

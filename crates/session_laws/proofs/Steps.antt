@@ -10,7 +10,7 @@ use lib.Dec.{eqb, leb, ltb}
 use lib.ListN.{length, getD, set, take, drop, length-append, length-take, length-drop, length-set}
 use lib.Seq.{getD-set-same, getD-set-other, set-out, getD-take}
 use borrow.Author.Tests.{ltb-true, ltb-false, le-leb, leb-true, eqb-true, eqb-false, not-true}
-use Rattle.list_laws.proofs.Bools.{by-bool, and-left, and-right}
+use Rattle.list_laws.proofs.Bools.{by-bool, and-left, and-right, or-left, or-right}
 use Rattle.model.specs.declared.Distribution.{Distribution}
 use Rattle.model.specs.declared.Phase.{Phase}
 use Rattle.model.specs.declared.Phase.the-variants.{Discovery, Active}
@@ -26,7 +26,7 @@ use Rattle.model.specs.Property.{KnownBy, ConfigOk, DimensionsOk, DiscoveryOk, 
 use Rattle.candidate_laws.proofs.Sound.{AllHeld}
 use Rattle.candidate_laws.proofs.Sampled.{sampleAll-sound, sampleCandidates-sound}
 use Rattle.candidate_laws.proofs.Words.{place-below, words-within, words-put}
-use Rattle.session_laws.proofs.Tests.{or-left, or-right, and-both}
+use Rattle.session_laws.proofs.Tests.{and-both}
 use Rattle.session_laws.proofs.Request.{dimensions-good}
 
 -- ---- the lengths of the lent slices

@@ -4,15 +4,7 @@ use mathlib.Core.Bool.{Bool, true, false, _&&_, _||_, true≢false, false≢true
 use mathlib.Core.List.{List, [], _∷_}
 use Rattle.model.specs.Refusal.{Check, firstOf}
 
--- a disjunction that fails fails on both sides, and one whose sides fail fails
-pub or-left : (a b : Bool) → (a || b) ≡ false → a ≡ false
-or-left true b e = absurd (true≢false e)
-or-left false b e = refl
-
-pub or-right : (a b : Bool) → (a || b) ≡ false → b ≡ false
-or-right true b e = absurd (true≢false e)
-or-right false b e = e
-
+-- a disjunction whose sides fail fails
 pub or-both : (a b : Bool) → a ≡ false → b ≡ false → (a || b) ≡ false
 or-both true b h k = absurd (true≢false h)
 or-both false b h k = k

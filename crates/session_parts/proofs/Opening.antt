@@ -1,13 +1,13 @@
 -- The refusals of an opening, one after the other.
 use Prim.Native.Nat.{ℕ}
 use mathlib.Core.Path.{_≡_, refl, sym, ap, ap₂, _∙_, subst}
-use mathlib.Core.Bool.{Bool, true, false, cond}
-use mathlib.Core.List.{List, [], _∷_, List·Memᴰ·head, List·Memᴰ·tail}
+use mathlib.Core.Bool.{Bool, true, false}
+use mathlib.Core.List.{List, List·Memᴰ·head, List·Memᴰ·tail}
 use mathlib.Core.Option.{Option, none, some}
 use native.Mathlib.Omega.{arith}
 use lib.Ieee.{Float}
 use lib.ListN.{length, replicate}
-use Rattle.demand3_laws.proofs.Calls.{applies-not, not-some}
+use Rattle.demand3_laws.proofs.Calls.{applies-not}
 use Rattle.model.specs.declared.Opening.{Opening}
 use Rattle.model.specs.declared.Opening.the-variants as opening
 use Rattle.model.specs.declared.Opened.{Opened}
@@ -16,11 +16,10 @@ use Rattle.model.specs.declared.Session.{Session}
 use Rattle.model.specs.Lists.{over}
 use Rattle.model.specs.Plan.{maxValues}
 use Rattle.model.specs.Reference.{divisionsOf, populationSize}
-use Rattle.model.specs.Property.{SessionOk}
-use Rattle.model.specs.Session.{blank, given, opened, state}
+use Rattle.model.specs.Session.{blank, given, opened}
 use Rattle.model.specs.Calls.{openBy, openOf, Opens}
-use Rattle.session_laws.proofs.Opened.{opened-ok}
-use Rattle.model.specs.Refusal.{Check, check, firstOf, openRefusal, badDirections, badSessionSize, badSessionDivisions, badOperators}
+use Rattle.session_laws.proofs.Opened.{opens}
+use Rattle.model.specs.Refusal.{firstOf, openRefusal, badDirections, badSessionSize, badSessionDivisions, badOperators}
 use Rattle.session_parts.specs.Exits.{openingBy, start}
 
 module _ (marks : List ℕ) (size divisions : Option ℕ) (probability crossoverEta mutationEta : Float) where
@@ -79,26 +78,24 @@ module _ (marks : List ℕ) (seed : ℕ) (size divisions : OptionUsize) (probabi
   abbrev good : Session
   good = opened marks seed (given size) (given divisions) probability crossoverEta mutationEta
 
-  pub refused-opens : (t : Opening) (n : ℕ) (s : Session) → t ≡ openingBy refusal → t ≡ opening.Refused n → s ≡ blank
-      → Opens marks seed size divisions probability crossoverEta mutationEta (record { outcome = t; session = s })
-  unfolding openOf
-  refused-opens t n s e f g =
-      let r = is-refused refusal n (sym f ∙ e) in
-      record {
-        whole = ap₂ (λ (x : Opening) (y : Session). record { outcome = x; session = y }) f g ∙ ap (λ (o : Option ℕ). openBy o good) (sym r);
-        gives = λ a cs ps ns. absurd (not-some n (sym r ∙ a));
-      }
+  abbrev Promise : Opened → Type 0
+  Promise = Opens marks seed size divisions probability crossoverEta mutationEta
 
-  pub ready-opens : (t : Opening) (s : Session) → t ≡ openingBy refusal → t ≡ opening.Ready → s ≡ good
-      → Opens marks seed size divisions probability crossoverEta mutationEta (record { outcome = t; session = s })
+  -- an answer that is the definition's has the rest of the promise
+  by-refusal : (o : Option ℕ) (t : Opening) (s : Session) → refusal ≡ o → record { outcome = t; session = s } ≡ openBy o good
+      → Promise (record { outcome = t; session = s })
   unfolding openOf
+  by-refusal o t s r e =
+      subst Promise (sym (e ∙ ap (λ (x : Option ℕ). openBy x good) (sym r))) (opens marks seed size divisions probability crossoverEta mutationEta)
+
+  pub refused-opens : (t : Opening) (n : ℕ) (s : Session) → t ≡ openingBy refusal → t ≡ opening.Refused n → s ≡ blank
+      → Promise (record { outcome = t; session = s })
+  refused-opens t n s e f g =
+      by-refusal (some n) t s (is-refused refusal n (sym f ∙ e)) (ap₂ (λ (x : Opening) (y : Session). record { outcome = x; session = y }) f g)
+
+  pub ready-opens : (t : Opening) (s : Session) → t ≡ openingBy refusal → t ≡ opening.Ready → s ≡ good → Promise (record { outcome = t; session = s })
   ready-opens t s e f g =
-      let r = is-ready refusal (sym f ∙ e) in
-      record {
-        whole = ap₂ (λ (x : Opening) (y : Session). record { outcome = x; session = y }) f g ∙ ap (λ (o : Option ℕ). openBy o good) (sym r);
-        gives = λ a cs ps ns. subst (λ (x : Session). SessionOk (state x cs ps ns)) (sym g)
-            (opened-ok marks seed (given size) (given divisions) probability crossoverEta mutationEta a cs ps ns);
-      }
+      by-refusal none t s (is-ready refusal (sym f ∙ e)) (ap₂ (λ (x : Opening) (y : Session). record { outcome = x; session = y }) f g)
 
 -- ---- the session that is opened, from its parts
 

@@ -1,16 +1,16 @@
 -- Plans found by their numbers: the last record of one in a history, its place in a generation, and the records bred from.
 use Prim.Native.Nat.{ℕ, zero, suc, _+_, _-_, _*_, _≤_, _<_}
 use mathlib.Core.Path.{_≡_, refl, sym, ap, ap₂, _∙_}
-use mathlib.Core.Bool.{Bool, true, false, cond, not, _||_}
-use mathlib.Core.List.{List, [], _∷_, _++_}
+use mathlib.Core.Bool.{Bool, true, false, not}
+use mathlib.Core.List.{List, [], _∷_}
 use mathlib.Core.Logic.{⊎-elim}
-use native.Mathlib.Nat.{not-suc-le-zero, eq-or-lt-of-le, add-zero, zero-add, zero-mul, suc-mul}
+use native.Mathlib.Nat.{not-suc-le-zero, eq-or-lt-of-le, add-zero}
 use native.Mathlib.Numerals.{add-one}
 use native.Mathlib.Omega.{arith}
-use borrow.Author.Tests.{eq-eqb, ne-eqb, lt-ltb, le-ltb, ltb-true, ltb-false}
-use lib.Dec.{eqb, ltb}
+use borrow.Author.Tests.{eq-eqb, ne-eqb, lt-ltb, le-ltb, ltb-true, ltb-false, leb-true, leb-false}
+use lib.Dec.{eqb, leb, ltb}
 use lib.ListN.{length, getD, take, drop, length-append, drop-of-length-le}
-use lib.Seq.{drop-cons, length-take-le, getD-take}
+use lib.Seq.{drop-cons, length-take-le}
 use Rattle.list_laws.proofs.Bools.{by-bool}
 use Rattle.list_laws.proofs.Built.{listBelow-length, joinBelow-more}
 use Rattle.list_laws.proofs.First.{lastBelow-none, lastBelow-yes, lastBelow-still, lastBelow-no, lastBelow-same}
@@ -96,6 +96,14 @@ has-place (x ∷ l) plan = by-bool (eqb x plan)
     shift a b = by-bool (ltb a b)
         (λ e. e ∙ sym (lt-ltb (suc a) (suc b) (omega (arith, ltb-true a b e))))
         (λ e. e ∙ sym (le-ltb (suc a) (suc b) (omega (arith, ltb-false a b e))))
+
+-- a number is new where its place is past the others
+pub is-new-by : (ps : List ℕ) (n plan i : ℕ) → n ≤ length ps → i ≡ placeIn (take n ps) plan → not (has (take n ps) plan) ≡ leb n i
+is-new-by ps n plan i h e =
+    ap not (has-place (take n ps) plan ∙ ap₂ (λ (a b : ℕ). ltb a b) (sym e) (length-take-le n ps h))
+    ∙ by-bool (leb n i)
+    (λ b. ap not (le-ltb i n (leb-true n i b)) ∙ sym b)
+    (λ b. ap not (lt-ltb i n (leb-false n i b)) ∙ sym b)
 
 -- ---- the records bred from
 

@@ -1,8 +1,8 @@
 -- What a call leaves, from the answers of its parts.
-use Prim.Native.Nat.{ℕ, zero, suc, _+_, _-_, _*_, _≤_, _<_}
+use Prim.Native.Nat.{ℕ, _+_, _-_, _*_, _≤_, _<_}
 use mathlib.Core.Path.{_≡_, refl, sym, ap, ap₂, _∙_, subst}
-use mathlib.Core.Bool.{Bool, true, false, cond, not}
-use mathlib.Core.List.{List, [], _∷_, _++_, map}
+use mathlib.Core.Bool.{Bool, true, cond, not}
+use mathlib.Core.List.{List, map}
 use native.Mathlib.Nat.{add-mul, one-mul, mul-le-mul}
 use native.Mathlib.Omega.{arith}
 use borrow.Author.Tests.{lt-ltb, le-ltb, ltb-true, ltb-false}
@@ -14,15 +14,12 @@ use Rattle.model.specs.declared.Distribution.{Distribution}
 use Rattle.model.specs.declared.ParamValue.{ParamValue}
 use Rattle.model.specs.declared.OptionU64.the-variants as optU64
 use Rattle.model.specs.declared.Phase.the-variants.{Discovery, Active}
-use Rattle.model.specs.declared.Rng.{Rng}
 use Rattle.model.specs.declared.Session.{Session}
-use Rattle.model.specs.declared.Sampled.{Sampled}
 use Rattle.model.specs.declared.Sampling.the-variants as sampling
 use Rattle.model.specs.Lists.{has, over}
 use Rattle.model.specs.Draw.{Drawn, drawn}
 use Rattle.model.specs.Setting.{kindOfDimension, toWord, ofWord, sampleRandom, sampleAll, sampleCandidates, wordsOf}
-use Rattle.model.specs.Session.{State, Answered, state, progress, dimensionOf, withRng, withProgress, overAt, discover, activate, overflow, enter, enlist, answer, isNew, placeIn, plansOf, sampleFromCandidate}
-use Rattle.model.specs.Calls.{SampleExit}
+use Rattle.model.specs.Session.{State, state, progress, dimensionOf, withRng, withProgress, overAt, discover, activate, overflow, enter, enlist, answer, isNew, placeIn, plansOf, sampleFromCandidate}
 use Rattle.session_parts.specs.Exits.{exit, settled, Ready}
 use Rattle.session_parts.proofs.Records.{has-place}
 

@@ -1,21 +1,22 @@
 -- What the parts of a session answer, in the words of the calls' definitions.
-use Prim.Native.Nat.{ℕ, zero, suc, _≤_, _<_}
+use Prim.Native.Nat.{ℕ, _+_, _%_, _^_, _≤_}
 use mathlib.Core.Path.{_≡_}
-use mathlib.Core.Bool.{Bool, true, false}
+use mathlib.Core.Bool.{false}
 use mathlib.Core.List.{List}
 use mathlib.Core.Option.{Option, none, some}
-use lib.ListN.{length, replicate}
+use lib.Ieee.{Float}
+use lib.ListN.{replicate}
 use Rattle.model.specs.declared.Opening.{Opening}
 use Rattle.model.specs.declared.Opening.the-variants as opening
 use Rattle.model.specs.declared.OptionU64.the-variants as optU64
-use Rattle.model.specs.declared.Phase.the-variants.{Discovery}
+use Rattle.model.specs.declared.Phase.the-variants.{Discovery, Active}
 use Rattle.model.specs.declared.Config.{Config}
 use Rattle.model.specs.declared.Session.{Session}
 use Rattle.model.specs.declared.Sampled.{Sampled}
 use Rattle.model.specs.declared.Sampling.the-variants as sampling
 use Rattle.model.specs.Real.{infinity}
 use Rattle.model.specs.Plan.{maxValues, maxSettings}
-use Rattle.model.specs.Session.{State, Answered, state, progress, blankDimension, dimensionOf, isNew, maxPlans, maxWords}
+use Rattle.model.specs.Session.{Answered, state, progress, blankDimension, dimensionOf, maxPlans}
 use Rattle.model.specs.Refusal.{badDimensions}
 use Rattle.model.specs.Calls.{SampleExit}
 
@@ -52,3 +53,20 @@ pub record Ready (s : Session) : Type 0 where
   pub few : s .progress .«n_dims» ≤ maxSettings
   pub some : 1 ≤ s .progress .«n_dims»
   pub room : s .progress .«n_plans» ≤ maxPlans
+
+-- ---- breeding
+
+-- the session after breeding, for its generator, its ideal and its generation's number
+abbrev pub bredAt : Session → ℕ → List Float → ℕ → Session
+bredAt s g ideal number = record {
+  config = s .config;
+  phase = Active;
+  «discovery_trial_id» = s .«discovery_trial_id»;
+  rng = record { s = g };
+  dimensions = s .dimensions;
+  «ideal_point» = ideal;
+  progress = progress (s .progress .«n_dims») (s .config .«population_size») 0 number;
+}
+
+abbrev pub bredSession : Session → ℕ → List Float → Session
+bredSession s g ideal = bredAt s g ideal ((s .progress .generation + 1) % 2 ^ 64)

@@ -1,18 +1,18 @@
 // A session's parts (document 01, "Session"; Rust: sampler/nsga3.rs, sampler/genetic.rs): its opening, the search of plans and of their records, and what
 // an accepted call does to the state before and after breeding.
 ghost use mathlib.Core.Path.{_≡_};
-ghost use mathlib.Core.Bool.{true, false, _&&_};
+ghost use mathlib.Core.Bool.{true, false, not, _&&_, _||_};
 ghost use mathlib.Core.List.{List};
 ghost use Prim.Native.Nat.{ℕ, _+_, _-_, _*_, _≤_, _<_};
 ghost use lib.Dec.{leb, ltb};
 ghost use lib.ListN.{length, getD, take, replicate};
-ghost use Rattle.model.specs.Lists.{allBelow, joinBelow, over};
+ghost use Rattle.model.specs.Lists.{allBelow, joinBelow, has, over};
 ghost use Rattle.model.specs.Plan.{planCount};
 ghost use Rattle.model.specs.Setting.{validDimension};
 ghost use Rattle.model.specs.Refusal.{badDirections, badSessionSize, badSessionDivisions, badDimensions, openRefusal};
-ghost use Rattle.model.specs.Session.{dimensionOf, withRng, withProgress, given, opened, blank, state, overAt, discover, activate, overflow, enter, enlist, answer, isNew, placeIn, sampleFromCandidate, recordOf, blockOf};
+ghost use Rattle.model.specs.Session.{dimensionOf, withRng, withProgress, given, opened, blank, state, overAt, discover, activate, overflow, enter, enlist, answer, isNew, placeIn, sampleFromCandidate, recordOf, blockOf, pastDiscovery, discoversFor};
 ghost use Rattle.model.specs.Calls.{Opens};
-ghost use Rattle.session_parts.specs.Exits.{openingBy, start, exit, settled, Ready};
+ghost use Rattle.session_parts.specs.Exits.{openingBy, start, exit, settled, Ready, bredSession};
 use model::CategoricalDistribution;
 use model::Config;
 use model::DimensionInfo;
@@ -21,13 +21,19 @@ use model::Opened;
 use model::Opening;
 use model::OptionU64;
 use model::OptionUsize;
-use model::ParamValue;
 use model::Phase;
 use model::Progress;
 use model::Rng;
 use model::Sampled;
 use model::Sampling;
 use model::Session;
+
+// The most dimensions of a session and plans of a generation, and the words of its candidates.
+const MAX_DIMS: usize = 32;
+
+const MAX_PLANS: usize = 2048;
+
+const MAX_WORDS: usize = 65536;
 
 // ---- opening
 
@@ -202,7 +208,8 @@ fn from_end(n: usize, j: usize) -> usize
     requires { ⌜ j < n ⌝ }
     ensures { λ r. ⌜ r ≡ n - 1 - j ⌝ }
 {
-    n - 1 - j
+    let last = n - 1;
+    last - j
 }
 
 // The place of a plan number's last record in a history, or the number of records where it has none.
@@ -489,4 +496,84 @@ pub fn sample_from_candidate(
     }
     let session = enlist(session, plan, candidates, plans, next_dims);
     answer(session, n, candidates, next_dims)
+}
+
+// ---- what a call asks
+
+// The call adds a dimension: discovery still lasts, and the plan is the first that came.
+pub fn discovers(phase: Phase, first: OptionU64, plan: u64) -> bool
+    ensures { λ r. ⌜ r ≡ (not (pastDiscovery phase) && discoversFor first plan) ⌝ }
+{
+    match phase {
+        Phase::Active => false,
+        Phase::Discovery => match first {
+            OptionU64::None => true,
+            OptionU64::Some(number) => number == plan,
+        },
+    }
+}
+
+// The lent slices have room for what they must hold.
+pub fn long_enough(candidates: usize, plans: usize, next_dims: usize) -> bool
+    ensures { λ r. ⌜ r ≡ (leb 65536 candidates && (leb 2048 plans && leb 2048 «next_dims»)) ⌝ }
+{
+    if candidates < MAX_WORDS {
+        return false;
+    }
+    if plans < MAX_PLANS {
+        return false;
+    }
+    MAX_PLANS <= next_dims
+}
+
+// Refusal 6 for the dimension that a session of n dimensions would add.
+pub fn bad_dimension(n: usize, distribution: Distribution) -> bool
+    ensures { λ r. ⌜ r ≡ (leb 32 n || not (validDimension distribution)) ⌝ }
+{
+    if MAX_DIMS <= n {
+        return true;
+    }
+    if settings::valid_dimension(distribution) {
+        return false;
+    }
+    true
+}
+
+// A generation of n plans is full, and the plan is not among them.
+pub fn full(plans: &[u64], n: usize, plan: u64) -> bool
+    requires { ⌜ n ≤ length (now plans) ⌝ }
+    ensures { λ r. ⌜ r ≡ (leb 2048 n && not (has (take n (now (plans .entry))) plan)) ⌝ }
+{
+    if n < MAX_PLANS {
+        return false;
+    }
+    n <= place_in(plans, n, plan)
+}
+
+// ---- breeding
+
+// The session after breeding: its candidates are new, and no plan has come.
+pub fn bred_session(session: Session, rng: Rng, ideal_point: [f64; 8]) -> Session
+    ensures { λ r. ⌜ r ≡ bredSession session (rng .s) «ideal_point» ⌝ }
+{
+    let config = session.config;
+    let phase = Phase::Active;
+    let discovery_trial_id = session.discovery_trial_id;
+    let dimensions = session.dimensions;
+    let before = session.progress;
+    let progress = Progress {
+        n_dims: before.n_dims,
+        n_candidates: config.population_size,
+        n_plans: 0,
+        generation: std::num::wrapping_add_u64(before.generation, 1),
+    };
+    Session {
+        config,
+        phase,
+        discovery_trial_id,
+        rng,
+        dimensions,
+        ideal_point,
+        progress,
+    }
 }

@@ -1,5 +1,5 @@
 -- Dimensions and candidates as arrays hold them.
-use Prim.Native.Nat.{ℕ}
+use Prim.Native.Nat.{ℕ, _+_, _*_}
 use mathlib.Core.List.{List}
 use lib.Ieee.{nan}
 use lib.ListN.{getD}
@@ -8,6 +8,7 @@ use Rattle.model.specs.declared.Distribution.{Distribution}
 use Rattle.model.specs.declared.ParamValue.{ParamValue}
 use Rattle.model.specs.declared.ParamValue.the-variants as value
 use Rattle.model.specs.Lists.{listBelow}
+use Rattle.model.specs.Setting.{kindOfDimension, ofWord}
 use Rattle.model.specs.Session.{noDimension}
 use Rattle.settings.specs.declared.Slot.{Slot}
 
@@ -25,3 +26,13 @@ slotOf params i = getD params i noSlot .value
 
 unfoldable pub settingsOf : List Slot → ℕ → List ParamValue
 settingsOf params n = listBelow (slotOf params) n
+
+-- ---- candidates as they lie in a slice of words: one after the other, a word a setting; the kind is the dimension's
+
+-- parent p of n settings
+unfoldable pub parentAt : (ℕ → Distribution) → ℕ → List ℕ → ℕ → List ParamValue
+parentAt dims n words p = listBelow (λ j. ofWord (kindOfDimension (dims j)) (getD words (p * n + j) 0)) n
+
+-- so many parents
+unfoldable pub parentsIn : (ℕ → Distribution) → ℕ → List ℕ → ℕ → List (List ParamValue)
+parentsIn dims n words count = listBelow (parentAt dims n words) count

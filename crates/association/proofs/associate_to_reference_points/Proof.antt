@@ -1,94 +1,56 @@
--- the plans before p have their line and distance
-use Prim.Native.Nat.{_*_, _+_, _-_, _≤_}
-use mathlib.Core.Path.{_≡_, refl}
+-- the norms that are worked out are those of the lines that the table holds
 use native.Mathlib.Omega.{arith}
-use lib.ListN.{length, length-set}
-use lib.Seq.{sets}
-use Rattle.model.specs.Lists.{listBelow}
-use Rattle.association_laws.specs.Flat.{nearestAt}
-use Rattle.list_laws.proofs.Runs.{row-inside}
-use Rattle.association_laws.proofs.Writes.{run-none, front-more, front-done}
+use native.Mathlib.Nat.{mul-le-mul-right}
+use borrow.Author.Needs.{needs}
+use lib.Ieee.{nan}
+use Rattle.association_laws.proofs.Places.{over-below}
 use Rattle.association.proofs.associate_to_reference_points.Statement.{statement}
 use Rattle.association.proofs.associate_to_reference_points.Tie as tie
 
-abbrev Inv-loop : tie.InvT-loop
-Inv-loop normalized n m table n-lines lines₀ distances₀ p₀ lines distances p =
-    (p ≤ n) × (length lines ≡ length lines₀) × (length distances ≡ length distances₀)
-    × (lines ≡ sets lines₀ 0 (listBelow (λ q. nearestAt normalized m table n-lines q .line) p))
-    × (distances ≡ sets distances₀ 0 (listBelow (λ q. nearestAt normalized m table n-lines q .distance) p))
+known-norms-requires : tie.Need-known-norms-requires
+known-norms-requires c κs = search needs
 
-abbrev μ-loop : tie.MeasureT-loop
-μ-loop normalized n m table n-lines lines₀ distances₀ p₀ lines distances p = n - p
+slice-aggregate-line-norms : tie.Need-slice-aggregate-line-norms
+slice-aggregate-line-norms c = search needs
 
--- the function's entry, seen from a turn
-abbrev entry : tie.In-loop Inv-loop μ-loop → tie.Start Inv-loop μ-loop
-entry c = c .before .before .before .before .before .before
+line-norms-requires : tie.Need-line-norms-requires
+line-norms-requires c κs =
+    let k = c .before .known-norms .ensures in
+    let e = c .before .before .before .before .before .before in
+    (omega (arith, mul-le-mul-right (e .args .m) (k .0)), omega arith)
 
--- row p lies within the rows
-inside : (c : tie.In-loop Inv-loop μ-loop) → c .before .loop .p * entry c .args .m + entry c .args .m ≤ entry c .args .n * entry c .args .m
-inside c = row-inside _ _ _ (c .loop-test .taken)
+slice-aggregate-nearest-lines : tie.Need-slice-aggregate-nearest-lines
+slice-aggregate-nearest-lines c = search needs
 
-loop-holds : tie.Need-loop-holds Inv-loop μ-loop
-loop-holds c = (omega arith, refl, refl, run-none _ _ 0, run-none _ _ 0)
+nearest-lines-requires : tie.Need-nearest-lines-requires
+nearest-lines-requires c κs =
+    let n = c .before .before .before .before .line-norms in (
+      omega arith,
+      omega arith,
+      omega arith,
+      λ l h. over-below _ _ _ _ l nan (n .ensures) h,
+      omega arith,
+      omega arith,
+    )
 
-mul-nearest-line : tie.Need-mul-nearest-line Inv-loop μ-loop
-mul-nearest-line c = omega (arith, inside c)
+same-length : tie.Need-same-length
+same-length c = search needs
 
-nearest-line-requires : tie.Need-nearest-line-requires Inv-loop μ-loop
-nearest-line-requires c κs = (omega (arith, inside c), omega arith)
+same-length-2 : tie.Need-same-length-2
+same-length-2 c = search needs
 
-mul-lines : tie.Need-mul-lines Inv-loop μ-loop
-mul-lines c = omega arith
-
-slice-write-lines : tie.Need-slice-write-lines Inv-loop μ-loop
-slice-write-lines c = omega arith
-
-mul-distances : tie.Need-mul-distances Inv-loop μ-loop
-mul-distances c = omega arith
-
-slice-write-distances : tie.Need-slice-write-distances Inv-loop μ-loop
-slice-write-distances c = omega arith
-
-add-p : tie.Need-add-p Inv-loop μ-loop
-add-p c = omega arith
-
-loop-less : tie.Need-loop-less Inv-loop μ-loop
-loop-less c = omega arith
-
-loop-again : tie.Need-loop-again Inv-loop μ-loop
-loop-again c =
-    let l = c .before .before .loop in
-    let f = c .nearest-line .ensures in
-    (omega arith, simp length-set (l .inv .1), simp length-set (l .inv .2), front-more _ _ _ _ _ (l .inv .3) (f .0), front-more _ _ _ _ _ (l .inv .4) (f .1))
-
-same-length : tie.Need-same-length Inv-loop μ-loop
-same-length c = c .before .loop .inv .1
-
-same-length-2 : tie.Need-same-length-2 Inv-loop μ-loop
-same-length-2 c = c .before .loop .inv .2
-
-returns : tie.Need-returns Inv-loop μ-loop
-returns c =
-    let l = c .before .loop in
-    let e : l .p ≡ c .before .before .before .before .before .before .args .n = omega arith in
-    (front-done _ _ _ _ (omega arith) (rw e at (l .inv .3)), front-done _ _ _ _ (omega arith) (rw e at (l .inv .4)))
+returns : tie.Need-returns
+returns c = search needs
 
 pub associate-to-reference-points-spec : {M : Type 1} → statement M
 associate-to-reference-points-spec =
     tie.close
     (tie.spec
-    Inv-loop
-    μ-loop
-    loop-holds
-    mul-nearest-line
-    nearest-line-requires
-    mul-lines
-    slice-write-lines
-    mul-distances
-    slice-write-distances
-    add-p
-    loop-less
-    loop-again
+    known-norms-requires
+    slice-aggregate-line-norms
+    line-norms-requires
+    slice-aggregate-nearest-lines
+    nearest-lines-requires
     same-length
     same-length-2
     returns)

@@ -9,15 +9,12 @@ use Rattle.association_laws.proofs.Search.{squares-short, squares-long}
 use Rattle.association.proofs.distance_squared.Statement.{statement}
 use Rattle.association.proofs.distance_squared.Tie as tie
 
-dot-product-requires : tie.Need-dot-product-requires
-dot-product-requires c κs = search needs
-
 returns : tie.Need-returns
 unfolding div ofBits
-returns c = sym (squares-short _ _ _ _ (c .before .dot-product .ensures) (c .if1 .taken))
+returns c = sym (squares-short _ _ _ _ (c .before .before .before .pre .2) (c .if1 .taken))
 
-dot-product-requires-2 : tie.Need-dot-product-requires-2
-dot-product-requires-2 c κs = search needs
+dot-product-requires : tie.Need-dot-product-requires
+dot-product-requires c κs = search needs
 
 off-squares-requires : tie.Need-off-squares-requires
 off-squares-requires c κs = search needs
@@ -25,14 +22,14 @@ off-squares-requires c κs = search needs
 returns-2 : tie.Need-returns-2
 unfolding ofBits
 returns-2 c =
-    let a = c .before .before .before .before .before .before .args in
-    let d = c .before .before .before .dot-product in
+    let e = c .before .before .before .before .before in
+    let a = e .args in
     let p = from (a .points .now) (a .at) in
     let r = from (a .table .now) (a .line-at) in
-    c .off-squares .ensures ∙ ap (λ t. offSquares (a .m) p r (t ⊘ d .result)) (c .before .dot-product2 .ensures)
-    ∙ sym (squares-long _ p r _ (d .ensures) (c .before .before .if1 .left))
+    c .off-squares .ensures ∙ ap (λ t. offSquares (a .m) p r (t ⊘ a .norm)) (c .before .dot-product .ensures)
+    ∙ sym (squares-long _ p r _ (e .pre .2) (c .before .before .if1 .left))
 
 pub distance-squared-spec : {M : Type 1} → statement M
 distance-squared-spec =
     tie.close
-    (tie.spec dot-product-requires returns dot-product-requires-2 off-squares-requires returns-2)
+    (tie.spec returns dot-product-requires off-squares-requires returns-2)

@@ -6,6 +6,9 @@ use Rattle.association_laws.proofs.Search.{distance-root}
 use Rattle.association.proofs.perpendicular_distance.Statement.{statement}
 use Rattle.association.proofs.perpendicular_distance.Tie as tie
 
+dot-product-requires : tie.Need-dot-product-requires
+dot-product-requires c κs = search needs
+
 distance-squared-requires : tie.Need-distance-squared-requires
 distance-squared-requires c κs = search needs
 
@@ -16,4 +19,4 @@ returns : tie.Need-returns
 returns c = c .sqrt .ensures ∙ ap sqrtOf (c .before .distance-squared .ensures) ∙ sym (distance-root _ _ _)
 
 pub perpendicular-distance-spec : {M : Type 1} → statement M
-perpendicular-distance-spec = tie.close (tie.spec distance-squared-requires sqrt-requires returns)
+perpendicular-distance-spec = tie.close (tie.spec dot-product-requires distance-squared-requires sqrt-requires returns)

@@ -9,7 +9,8 @@ use Rattle.model.specs.Lists.{over}
 use Rattle.model.specs.Setting.{toWord}
 use Rattle.settings.specs.Candidate.{dimensionsOf, settingsOf}
 use Rattle.settings.proofs.Valid.{few}
-use Rattle.candidates.proofs.Laid.{laid, left, laid-none, left-none, at-length, words-length, draw-more, lay-more, row-fits}
+use Rattle.list_laws.proofs.Runs.{row-within}
+use Rattle.candidates.proofs.Laid.{laid, left, laid-none, left-none, at-length, words-length, draw-more, lay-more}
 use Rattle.candidates.proofs.sample_candidates.Statement.{statement}
 use Rattle.candidates.proofs.sample_candidates.Tie as tie
 
@@ -32,14 +33,14 @@ mul-put-candidate : tie.Need-mul-put-candidate Inv-loop μ-loop
 mul-put-candidate c =
     let s = c .before .before .before .before .before in
     let l = c .before .before .before .loop in
-    let f = row-fits (l .i) (s .args .count) (s .args .n) (length (s .args .out .now)) (c .before .before .loop-test .taken) (s .pre .1) in
+    let f = row-within (l .i) (s .args .count) (s .args .n) (length (s .args .out .now)) (c .before .before .loop-test .taken) (s .pre .1) in
     record { fits = omega arith }
 
 put-candidate-requires : tie.Need-put-candidate-requires Inv-loop μ-loop
 put-candidate-requires c κs =
     let s = c .before .before .before .before .before .before in
     let l = c .before .before .before .before .loop in
-    let f = row-fits (l .i) (s .args .count) (s .args .n) (length (s .args .out .now)) (c .before .before .before .loop-test .taken) (s .pre .1) in
+    let f = row-within (l .i) (s .args .count) (s .args .n) (length (s .args .out .now)) (c .before .before .before .loop-test .taken) (s .pre .1) in
     (few _ _ (s .pre .0), omega (arith, l .inv .1))
 
 add-i : tie.Need-add-i Inv-loop μ-loop
@@ -56,7 +57,7 @@ loop-again c =
     let t = c .before .before .before .before .before .before .before .loop-test .taken in
     let v = c .before .before .before .before .before .before .sample-all in
     let p = c .before .before .before .put-candidate in
-    let f = row-fits (l .i) (a .count) (a .n) (length (a .out .now)) t (s .pre .1) in
+    let f = row-within (l .i) (a .count) (a .n) (length (a .out .now)) t (s .pre .1) in
     let w = words-length (v .result .params) (a .n) in (
       omega arith,
       ap length (p .ensures) ∙ at-length (l .i * a .n) (map toWord (settingsOf (v .result .params) (a .n))) (l .out) (omega (arith, l .inv .1)) ∙ l .inv .1,

@@ -1,6 +1,6 @@
 -- `no_step_room`: slice after slice
 use native.Mathlib.Omega.{arith}
-use Rattle.offspring.proofs.Ranks.{product}
+use Rattle.list_laws.proofs.Runs.{product}
 use Rattle.generation.proofs.Refusals.{room-offspring, room-of-one, room-kept, room-fronts, room-lines}
 use Rattle.generation.proofs.no_step_room.Statement.{statement}
 use Rattle.generation.proofs.no_step_room.Tie as tie

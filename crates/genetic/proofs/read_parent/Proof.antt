@@ -8,9 +8,8 @@ use borrow.Author.Needs.{needs}
 use Rattle.list_laws.proofs.Built.{listBelow-none, listBelow-more}
 use Rattle.model.specs.Lists.{listBelow}
 use Rattle.model.specs.Setting.{kindOfDimension, ofWord}
-use Rattle.settings.specs.Candidate.{dimensionsOf, settingsOf}
+use Rattle.settings.specs.Candidate.{dimensionsOf, settingsOf, parentAt}
 use Rattle.settings.proofs.Candidates.{settings-none, settings-more}
-use Rattle.genetic.specs.Parents.{parentAt}
 use Rattle.genetic.proofs.read_parent.Statement.{statement}
 use Rattle.genetic.proofs.read_parent.Tie as tie
 

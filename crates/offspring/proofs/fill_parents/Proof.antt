@@ -9,7 +9,8 @@ use Rattle.model.specs.Plan.{planAt}
 use Rattle.model.specs.Setting.{wordsOf}
 use Rattle.settings.specs.Candidate.{dimensionsOf}
 use Rattle.settings.proofs.Valid.{few}
-use Rattle.candidates.proofs.Laid.{words-length, row-fits}
+use Rattle.candidates.proofs.Laid.{words-length}
+use Rattle.list_laws.proofs.Runs.{row-within}
 use Rattle.offspring.proofs.Laying.{LaidOut, parentsTo, parents-none, parents-more}
 use Rattle.offspring.proofs.fill_parents.Statement.{statement}
 use Rattle.offspring.proofs.fill_parents.Tie as tie
@@ -40,14 +41,14 @@ extract-requires c κs =
 mul-put-candidate : tie.Need-mul-put-candidate Inv-loop μ-loop
 mul-put-candidate c =
     let s = c .before .before .before .before .before .before .before .before in
-    let f = row-fits (c .before .before .before .before .loop .i) (s .args .count) (s .args .n) (length (s .args .parents .now)) (c .before .before .before .loop-test .taken) (s .pre .3) in
+    let f = row-within (c .before .before .before .before .loop .i) (s .args .count) (s .args .n) (length (s .args .parents .now)) (c .before .before .before .loop-test .taken) (s .pre .3) in
     record { fits = omega arith }
 
 put-candidate-requires : tie.Need-put-candidate-requires Inv-loop μ-loop
 put-candidate-requires c κs =
     let s = c .before .before .before .before .before .before .before .before .before in
     let l = c .before .before .before .before .before .loop in
-    let f = row-fits (l .i) (s .args .count) (s .args .n) (length (s .args .parents .now)) (c .before .before .before .before .loop-test .taken) (s .pre .3) in
+    let f = row-within (l .i) (s .args .count) (s .args .n) (length (s .args .parents .now)) (c .before .before .before .before .loop-test .taken) (s .pre .3) in
     (few _ _ (s .pre .2), omega (arith, l .inv .1 .same))
 
 add-i : tie.Need-add-i Inv-loop μ-loop
@@ -66,7 +67,7 @@ loop-again c =
       omega arith,
       parents-more (dimensionsOf (a .dims)) (a .n) (planAt (a .pool .now)) (a .kept .now) (a .rng .s) (a .parents .now) (l .i) (l .parents) _ (l .inv .1)
           (omega (arith, s .pre .0)) _ _ _ (v .ensures) (words-length (v .result .params) (a .n))
-          (row-fits (l .i) (a .count) (a .n) (length (a .parents .now)) t (s .pre .3)) (c .before .before .before .put-candidate .ensures),
+          (row-within (l .i) (a .count) (a .n) (length (a .parents .now)) t (s .pre .3)) (c .before .before .before .put-candidate .ensures),
     )
 
 same-length : tie.Need-same-length Inv-loop μ-loop

@@ -9,7 +9,8 @@ use Rattle.model.specs.Lists.{over}
 use Rattle.model.specs.Row.{rowBeats}
 use Rattle.model.specs.Front.{frontList}
 use Rattle.plans.proofs.Pool.{pool-row-lengths, pool-known, rows-known}
-use Rattle.offspring.proofs.Ranks.{rows-fronts, few-values}
+use Rattle.list_laws.proofs.Runs.{few-values}
+use Rattle.offspring.proofs.Ranks.{rows-fronts}
 use Rattle.offspring.proofs.front_ranks.Statement.{statement}
 use Rattle.offspring.proofs.front_ranks.Tie as tie
 

@@ -7,9 +7,9 @@ use lib.ListN.{getD}
 use Rattle.model.specs.declared.ParamValue.{ParamValue}
 use Rattle.model.specs.Lists.{over}
 use Rattle.model.specs.Setting.{Operators, wordsOf}
-use Rattle.settings.specs.Candidate.{dimensionsOf, settingsOf}
+use Rattle.settings.specs.Candidate.{dimensionsOf, settingsOf, parentsIn}
 use Rattle.settings.proofs.Valid.{few}
-use Rattle.genetic.specs.Parents.{parentsIn, operators}
+use Rattle.genetic.specs.Parents.{operators}
 use Rattle.candidates.proofs.Laid.{words-length}
 use Rattle.offspring.proofs.Laying.{LaidOut, bredBy, bred-none, bred-more, bred-done}
 use Rattle.offspring.proofs.write_offspring.Statement.{statement}

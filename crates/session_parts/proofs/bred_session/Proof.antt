@@ -1,11 +1,11 @@
 -- the generation's number wraps
 use Prim.Native.Nat.{ℕ}
 use mathlib.Core.Path.{ap}
-use Rattle.session.specs.Exits.{bredAt}
+use Rattle.session_parts.specs.Exits.{bredAt}
 use native.Mathlib.Omega.{arith}
 use borrow.Author.Needs.{needs}
-use Rattle.session.proofs.bred_session.Statement.{statement}
-use Rattle.session.proofs.bred_session.Tie as tie
+use Rattle.session_parts.proofs.bred_session.Statement.{statement}
+use Rattle.session_parts.proofs.bred_session.Tie as tie
 
 wrapping-add-u64-requires : tie.Need-wrapping-add-u64-requires
 wrapping-add-u64-requires c κs = search needs

@@ -5,8 +5,8 @@ use borrow.Author.Tests.{le-leb, lt-leb}
 use lib.Dec.{leb}
 use native.Mathlib.Omega.{arith}
 use borrow.Author.Needs.{needs}
-use Rattle.session.proofs.long_enough.Statement.{statement}
-use Rattle.session.proofs.long_enough.Tie as tie
+use Rattle.session_parts.proofs.long_enough.Statement.{statement}
+use Rattle.session_parts.proofs.long_enough.Tie as tie
 
 returns : tie.Need-returns
 returns c = sym (ap (λ (x : Bool). x && (leb 2048 (c .before .args .plans) && leb 2048 (c .before .args .next-dims))) (lt-leb 65536 _ (c .if1 .taken)))

@@ -6,8 +6,8 @@ use Rattle.model.specs.declared.OptionU64.{OptionU64}
 use Rattle.model.specs.Session.{pastDiscovery, discoversFor}
 use native.Mathlib.Omega.{arith}
 use borrow.Author.Needs.{needs}
-use Rattle.session.proofs.discovers.Statement.{statement}
-use Rattle.session.proofs.discovers.Tie as tie
+use Rattle.session_parts.proofs.discovers.Statement.{statement}
+use Rattle.session_parts.proofs.discovers.Tie as tie
 
 enum-told : tie.Need-enum-told
 enum-told c = search needs

@@ -4,11 +4,11 @@ use mathlib.Core.Bool.{Bool, true, false, not, _&&_, _||_}
 use borrow.Author.Tests.{le-leb, lt-leb}
 use lib.ListN.{take}
 use Rattle.model.specs.Lists.{has}
-use Rattle.session.proofs.Refusals.{is-new-by}
+use Rattle.session_parts.proofs.Records.{is-new-by}
 use native.Mathlib.Omega.{arith}
 use borrow.Author.Needs.{needs}
-use Rattle.session.proofs.full.Statement.{statement}
-use Rattle.session.proofs.full.Tie as tie
+use Rattle.session_parts.proofs.full.Statement.{statement}
+use Rattle.session_parts.proofs.full.Tie as tie
 
 returns : tie.Need-returns
 returns c = sym (ap (λ (x : Bool). x && not (has (take (c .before .before .args .n) (c .before .before .args .plans .now)) (c .before .before .args .plan))) (lt-leb 2048 _ (c .if1 .taken)))

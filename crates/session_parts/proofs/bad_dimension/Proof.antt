@@ -5,8 +5,8 @@ use borrow.Author.Tests.{le-leb, lt-leb}
 use Rattle.model.specs.Setting.{validDimension}
 use native.Mathlib.Omega.{arith}
 use borrow.Author.Needs.{needs}
-use Rattle.session.proofs.bad_dimension.Statement.{statement}
-use Rattle.session.proofs.bad_dimension.Tie as tie
+use Rattle.session_parts.proofs.bad_dimension.Statement.{statement}
+use Rattle.session_parts.proofs.bad_dimension.Tie as tie
 
 returns : tie.Need-returns
 returns c = sym (ap (λ (x : Bool). x || not (validDimension (c .before .args .distribution))) (le-leb 32 _ (c .if1 .taken)))
