@@ -1,0 +1,46 @@
+-- `associate`. Assumes nothing.
+use native.Mathlib.Nat.{mul-le-mul}
+use borrow.Author.Needs.{needs}
+use Rattle.replay_association.proofs.associate.Statement.{statement}
+use Rattle.replay_association.proofs.associate.Tie as tie
+
+word-requires : tie.Need-word-requires
+word-requires c κs = search needs
+
+word-requires-2 : tie.Need-word-requires-2
+word-requires-2 c κs = search needs
+
+returns : tie.Need-returns
+returns c = search needs
+
+values-of-requires : tie.Need-values-of-requires
+values-of-requires c κs = mul-le-mul (c .if1 .left) (c .before .before .before .pre .1)
+
+ahead-requires : tie.Need-ahead-requires
+ahead-requires c κs = search needs
+
+returns-2 : tie.Need-returns-2
+returns-2 c = search needs
+
+read-rows-requires : tie.Need-read-rows-requires
+read-rows-requires c κs = search needs
+
+associated-requires : tie.Need-associated-requires
+associated-requires c κs = search needs
+
+returns-3 : tie.Need-returns-3
+returns-3 c = search needs
+
+pub associate-spec : {M : Type 1} → statement M
+associate-spec =
+    tie.close
+    (tie.spec
+    word-requires
+    word-requires-2
+    returns
+    values-of-requires
+    ahead-requires
+    returns-2
+    read-rows-requires
+    associated-requires
+    returns-3)

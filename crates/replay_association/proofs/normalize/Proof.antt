@@ -1,0 +1,74 @@
+-- `normalize`. Assumes nothing.
+use native.Mathlib.Nat.{mul-le-mul}
+use borrow.Author.Needs.{needs}
+use Rattle.replay_association.proofs.normalize.Statement.{statement}
+use Rattle.replay_association.proofs.normalize.Tie as tie
+
+add-word : tie.Need-add-word
+add-word c = search needs
+
+add-word-2 : tie.Need-add-word-2
+add-word-2 c = search needs
+
+word-requires : tie.Need-word-requires
+word-requires c κs = search needs
+
+returns : tie.Need-returns
+returns c = search needs
+
+values-of-requires : tie.Need-values-of-requires
+values-of-requires c κs = mul-le-mul (c .if1 .left) (c .before .before .pre .1)
+
+add-at : tie.Need-add-at
+add-at c = search needs
+
+add-at-2 : tie.Need-add-at-2
+add-at-2 c = search needs
+
+ahead-requires : tie.Need-ahead-requires
+ahead-requires c κs = search needs
+
+returns-2 : tie.Need-returns-2
+returns-2 c = search needs
+
+read-rows-requires : tie.Need-read-rows-requires
+read-rows-requires c κs = search needs
+
+read-marks-requires : tie.Need-read-marks-requires
+read-marks-requires c κs = search needs
+
+turn-rows-requires : tie.Need-turn-rows-requires
+turn-rows-requires c κs = search needs
+
+add-read-reals : tie.Need-add-read-reals
+add-read-reals c = search needs
+
+read-reals-requires : tie.Need-read-reals-requires
+read-reals-requires c κs = search needs
+
+put-normalized-requires : tie.Need-put-normalized-requires
+put-normalized-requires c κs = search needs
+
+returns-3 : tie.Need-returns-3
+returns-3 c = search needs
+
+pub normalize-spec : {M : Type 1} → statement M
+normalize-spec =
+    tie.close
+    (tie.spec
+    add-word
+    add-word-2
+    word-requires
+    returns
+    values-of-requires
+    add-at
+    add-at-2
+    ahead-requires
+    returns-2
+    read-rows-requires
+    read-marks-requires
+    turn-rows-requires
+    add-read-reals
+    read-reals-requires
+    put-normalized-requires
+    returns-3)

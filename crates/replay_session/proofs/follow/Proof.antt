@@ -1,0 +1,57 @@
+-- `follow`. Assumes nothing.
+use borrow.Author.Needs.{needs}
+use Rattle.replay_session.proofs.follow.Statement.{statement}
+use Rattle.replay_session.proofs.follow.Tie as tie
+
+enum-known-outcome : tie.Need-enum-known-outcome
+enum-known-outcome c = search needs
+
+cast-put : tie.Need-cast-put
+cast-put c = search needs
+
+put-requires : tie.Need-put-requires
+put-requires c κs = search needs
+
+enum-told : tie.Need-enum-told
+enum-told c = search needs
+
+word-requires : tie.Need-word-requires
+word-requires c κs = search needs
+
+returns : tie.Need-returns
+returns c = search needs
+
+add-word : tie.Need-add-word
+add-word c = search needs
+
+word-requires-2 : tie.Need-word-requires-2
+word-requires-2 c κs = search needs
+
+add-calls : tie.Need-add-calls
+add-calls c = search needs
+
+calls-requires : tie.Need-calls-requires
+calls-requires c κs = let k = c .before .before .before .before in (rw (k .enum-told .given .1) at (k .before .before .before .pre .1), search needs)
+
+returns-2 : tie.Need-returns-2
+returns-2 c = search needs
+
+returns-3 : tie.Need-returns-3
+returns-3 c = search needs
+
+pub follow-spec : {M : Type 1} → statement M
+follow-spec =
+    tie.close
+    (tie.spec
+    enum-known-outcome
+    cast-put
+    put-requires
+    enum-told
+    word-requires
+    returns
+    add-word
+    word-requires-2
+    add-calls
+    calls-requires
+    returns-2
+    returns-3)

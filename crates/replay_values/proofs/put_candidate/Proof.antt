@@ -1,0 +1,66 @@
+-- `put_candidate`. Assumes nothing.
+use Prim.Native.Nat.{_-_, _≤_}
+use borrow.Author.Needs.{needs}
+use Rattle.replay_values.proofs.put_candidate.Statement.{statement}
+use Rattle.replay_values.proofs.put_candidate.Tie as tie
+
+abbrev Inv-loop : tie.InvT-loop
+Inv-loop out₀ at words from n dims place₀ i₀ out place i = (i ≤ n) × ((n ≤ 32) × (from ≤ 200000))
+
+abbrev μ-loop : tie.MeasureT-loop
+μ-loop out₀ at words from n dims place₀ i₀ out place i = n - i
+
+loop-holds : tie.Need-loop-holds Inv-loop μ-loop
+loop-holds c = search needs
+
+mul-info : tie.Need-mul-info Inv-loop μ-loop
+mul-info c = search needs
+
+array-copy-out-info : tie.Need-array-copy-out-info Inv-loop μ-loop
+array-copy-out-info c = search needs
+
+kind-of-dimension-requires : tie.Need-kind-of-dimension-requires Inv-loop μ-loop
+kind-of-dimension-requires c κs = search needs
+
+put-requires : tie.Need-put-requires Inv-loop μ-loop
+put-requires c κs = search needs
+
+add-word-of : tie.Need-add-word-of Inv-loop μ-loop
+add-word-of c = search needs
+
+word-of-requires : tie.Need-word-of-requires Inv-loop μ-loop
+word-of-requires c κs = search needs
+
+put-requires-2 : tie.Need-put-requires-2 Inv-loop μ-loop
+put-requires-2 c κs = search needs
+
+add-i : tie.Need-add-i Inv-loop μ-loop
+add-i c = search needs
+
+loop-less : tie.Need-loop-less Inv-loop μ-loop
+loop-less c = search needs
+
+loop-again : tie.Need-loop-again Inv-loop μ-loop
+loop-again c = search needs
+
+returns : tie.Need-returns Inv-loop μ-loop
+returns c = search needs
+
+pub put-candidate-spec : {M : Type 1} → statement M
+put-candidate-spec =
+    tie.close
+    (tie.spec
+    Inv-loop
+    μ-loop
+    loop-holds
+    mul-info
+    array-copy-out-info
+    kind-of-dimension-requires
+    put-requires
+    add-word-of
+    word-of-requires
+    put-requires-2
+    add-i
+    loop-less
+    loop-again
+    returns)

@@ -1,0 +1,485 @@
+// What the oracle's lines are made of beside numbers (oracle/README.md): marks, reals, plans, dimensions and settings, read from a line at a place and
+// written to one; and a case, which is an input line and its answer line.
+use model::CategoricalDistribution;
+use model::DimensionInfo;
+use model::Distribution;
+use model::FloatDistribution;
+use model::IntDistribution;
+use model::OptionF64;
+use model::OptionI64;
+use model::ParamValue;
+use replay::Line;
+use replay::Tally;
+use replay::Words;
+use settings::Slot;
+ghost use Prim.Native.Nat.{_*_, _≤_};
+ghost use lib.ListN.{length};
+ghost use Rattle.replay.specs.Post.{Ahead};
+
+pub type Marks = [u8; 16];
+
+pub type Reals = [f64; 16];
+
+// ---- cases
+
+// An input line, its answer line, and where the next case starts.
+pub struct Case {
+    pub input: Line,
+    pub answer: Line,
+    pub next: usize,
+}
+
+// Reads the case at a position.
+pub fn next_case(bytes: &[u8], at: usize, input: &mut Words, given: &mut Words) -> Case
+    requires { ⌜ at ≤ length (now bytes) ⌝ }
+    ensures { λ r. ⌜ Ahead at (length (now (bytes .entry))) (r .next) ⌝ }
+{
+    let line = replay::read_line(bytes, at, input);
+    let middle = line.next;
+    let reply = replay::read_line(bytes, middle, given);
+    let next = reply.next;
+    Case {
+        input: line,
+        answer: reply,
+        next,
+    }
+}
+
+// The tally with a case's verdict, k numbers having been worked out.
+pub fn tallied(tally: Tally, case: Case, given: &Words, ours: &Words, k: usize) -> Tally {
+    let input = case.input;
+    let answer = case.answer;
+    let verdict = replay::judged(input, answer, given, ours, k);
+    replay::counted(tally, verdict)
+}
+
+// ---- numbers
+
+pub fn real_at(input: &Words, i: usize) -> f64 {
+    real::real_of_word(replay::word(input, i))
+}
+
+pub fn int_at(input: &Words, i: usize) -> i64 {
+    real::int_of_word(replay::word(input, i))
+}
+
+pub fn least(a: usize, b: usize) -> usize
+    ensures { λ r. ⌜ (r ≤ a) × (r ≤ b) ⌝ }
+{
+    if a < b { a } else { b }
+}
+
+pub fn less_one(n: usize) -> usize
+    ensures { λ r. ⌜ r ≤ n ⌝ }
+{
+    if n == 0 { 0 } else { n - 1 }
+}
+
+// A direction mark as a byte; any that is too large is no mark either way.
+fn mark(w: u64) -> u8 {
+    if w < 256 { w as u8 } else { 255 }
+}
+
+pub fn read_marks(input: &Words, at: usize, m: usize, marks: &mut Marks)
+    requires { ⌜ (at ≤ 4097) × (m ≤ 16) ⌝ }
+{
+    let mut j: usize = 0;
+    while j < m {
+        marks[j] = mark(replay::word(input, at + j));
+        j += 1;
+    }
+}
+
+// k reals from `at` on.
+pub fn read_reals(input: &Words, at: usize, k: usize, reals: &mut Reals)
+    requires { ⌜ (at ≤ 4097) × (k ≤ 16) ⌝ }
+{
+    let mut j: usize = 0;
+    while j < k {
+        reals[j] = real_at(input, at + j);
+        j += 1;
+    }
+}
+
+pub fn put_real(out: &mut Words, at: usize, x: f64) -> usize
+    ensures { λ r. ⌜ r ≤ 4097 ⌝ }
+{
+    replay::put(out, at, real::word_of_real(x))
+}
+
+// The first k reals of a slice.
+pub fn put_reals(out: &mut Words, at: usize, reals: &[f64], k: usize) -> usize {
+    let mut place = at;
+    let mut j: usize = 0;
+    while j < k {
+        if j < reals.len() {
+            place = put_real(out, place, reals[j]);
+        }
+        j += 1;
+    }
+    place
+}
+
+// The first k places of a slice.
+pub fn put_places(out: &mut Words, at: usize, places: &[usize], k: usize) -> usize {
+    let mut place = at;
+    let mut j: usize = 0;
+    while j < k {
+        if j < places.len() {
+            place = replay::put(out, place, places[j] as u64);
+        }
+        j += 1;
+    }
+    place
+}
+
+// ---- plans
+
+fn set_word(pool: &mut [u64], i: usize, w: u64) {
+    if i < pool.len() {
+        pool[i] = w;
+    }
+}
+
+// k words from `at` on, into the pool from `base` on.
+fn copy_words(input: &Words, at: usize, k: usize, base: usize, pool: &mut [u64])
+    requires { ⌜ (at ≤ 4097) × (k ≤ 96) × (base ≤ 600000) ⌝ }
+{
+    let mut j: usize = 0;
+    while j < k {
+        set_word(pool, base + j, replay::word(input, at + j));
+        j += 1;
+    }
+}
+
+// The words of n entries: three for a setting, one for a value.
+fn words_of(n: usize, settings: bool) -> usize
+    requires { ⌜ n ≤ 4096 ⌝ }
+    ensures { λ r. ⌜ r ≤ 3 * n ⌝ }
+{
+    if settings { 3 * n } else { n }
+}
+
+// A part of a plan at `at`: its count and that many entries, of which the pool has room for `room` from `base` on. The place after it.
+fn read_part(
+    input: &Words,
+    at: usize,
+    settings: bool,
+    room: usize,
+    base: usize,
+    pool: &mut [u64],
+) -> usize
+    requires { ⌜ (at ≤ 4097) × (room ≤ 32) × (base ≤ 599999) ⌝ }
+    ensures { λ r. ⌜ r ≤ 4097 ⌝ }
+{
+    let count = replay::word(input, at);
+    set_word(pool, base, count);
+    let n = count as usize;
+    if 4096 < n {
+        return 4097;
+    }
+    let from = replay::ahead(at, 1);
+    let held = words_of(least(n, room), settings);
+    copy_words(input, from, held, base + 1, pool);
+    replay::ahead(from, words_of(n, settings))
+}
+
+// The plan at `at`, into the pool from `base` on: its number, row, constraints and settings. The place after it.
+pub fn read_plan(input: &Words, at: usize, base: usize, pool: &mut [u64]) -> usize
+    requires { ⌜ (at ≤ 4097) × (base ≤ 599000) ⌝ }
+    ensures { λ r. ⌜ r ≤ 4097 ⌝ }
+{
+    set_word(pool, base, replay::word(input, at));
+    let row = replay::ahead(at, 1);
+    let constraints = read_part(input, row, false, 8, base + 1, pool);
+    let settings = read_part(input, constraints, false, 16, base + 10, pool);
+    read_part(input, settings, true, 32, base + 27, pool)
+}
+
+// The n plans from `at` on, into the pool from plan `first` on; the place after them.
+pub fn read_plans(input: &Words, at: usize, n: usize, first: usize, pool: &mut [u64]) -> usize
+    requires { ⌜ (at ≤ 4097) × (n ≤ 4097) × (first ≤ 4097) ⌝ }
+    ensures { λ r. ⌜ r ≤ 4097 ⌝ }
+{
+    let mut place = at;
+    let mut p: usize = 0;
+    while p < n {
+        let base = least(first + p, 4096) * 124;
+        place = read_plan(input, place, base, pool);
+        p += 1;
+    }
+    place
+}
+
+// ---- dimensions
+
+pub struct ReadDimension {
+    pub distribution: Distribution,
+    pub next: usize,
+}
+
+// Of dimensions the first n count.
+pub struct ReadDimensions {
+    pub dims: [DimensionInfo; 32],
+    pub next: usize,
+}
+
+fn float(input: &Words, at: usize, log_scale: bool, step: OptionF64) -> Distribution
+    requires { ⌜ at ≤ 4097 ⌝ }
+{
+    Distribution::Float(FloatDistribution {
+        low: real_at(input, at + 1),
+        high: real_at(input, at + 2),
+        log_scale,
+        step,
+    })
+}
+
+fn int(input: &Words, at: usize, log_scale: bool, step: OptionI64) -> Distribution
+    requires { ⌜ at ≤ 4097 ⌝ }
+{
+    Distribution::Int(IntDistribution {
+        low: int_at(input, at + 1),
+        high: int_at(input, at + 2),
+        log_scale,
+        step,
+    })
+}
+
+fn categorical(n_choices: usize) -> Distribution {
+    Distribution::Categorical(CategoricalDistribution { n_choices })
+}
+
+// A Float's step, where the mark at `at` says that there is one.
+fn float_step(input: &Words, at: usize) -> OptionF64
+    requires { ⌜ at ≤ 5000 ⌝ }
+{
+    if replay::word(input, at) == 0 {
+        return OptionF64::None;
+    }
+    OptionF64::Some(real_at(input, at + 1))
+}
+
+fn int_step(input: &Words, at: usize) -> OptionI64
+    requires { ⌜ at ≤ 5000 ⌝ }
+{
+    if replay::word(input, at) == 0 {
+        return OptionI64::None;
+    }
+    OptionI64::Some(int_at(input, at + 1))
+}
+
+// The Int step of the short form, where 0 stands for none.
+fn short_step(input: &Words, at: usize) -> OptionI64 {
+    if replay::word(input, at) == 0 {
+        return OptionI64::None;
+    }
+    OptionI64::Some(int_at(input, at))
+}
+
+fn read(distribution: Distribution, at: usize, words: usize) -> ReadDimension
+    ensures { λ r. ⌜ r .next ≤ 4097 ⌝ }
+{
+    let next = replay::ahead(at, words);
+    ReadDimension { distribution, next }
+}
+
+// The dimension at `at`, and the place after it.
+pub fn read_dimension(input: &Words, at: usize) -> ReadDimension
+    requires { ⌜ at ≤ 4097 ⌝ }
+    ensures { λ r. ⌜ r .next ≤ 4097 ⌝ }
+{
+    let form = replay::word(input, at);
+    if form == 0 {
+        return read(float(input, at, false, OptionF64::None), at, 3);
+    }
+    if form == 1 {
+        return read(int(input, at, false, short_step(input, at + 3)), at, 4);
+    }
+    if form == 2 {
+        return read(categorical(replay::word(input, at + 1) as usize), at, 2);
+    }
+    let log_scale = replay::word(input, at + 3) == 1;
+    if form == 3 {
+        return read(
+            float(input, at, log_scale, float_step(input, at + 4)),
+            at,
+            6,
+        );
+    }
+    if form == 4 {
+        return read(int(input, at, log_scale, int_step(input, at + 4)), at, 6);
+    }
+    read(categorical(0), 4097, 0)
+}
+
+fn blank_dimensions() -> [DimensionInfo; 32] {
+    [DimensionInfo {
+        distribution: Distribution::Categorical(CategoricalDistribution { n_choices: 1 }),
+    }; 32]
+}
+
+// The n dimensions from `at` on, of which the first 32 are kept; the place after them.
+pub fn read_dimensions(input: &Words, at: usize, n: usize) -> ReadDimensions
+    requires { ⌜ at ≤ 4097 ⌝ }
+    ensures { λ r. ⌜ r .next ≤ 4097 ⌝ }
+{
+    let mut dims = blank_dimensions();
+    let mut next = at;
+    let mut i: usize = 0;
+    while i < n {
+        let one = read_dimension(input, next);
+        next = one.next;
+        let distribution = one.distribution;
+        if i < 32 {
+            dims[i] = DimensionInfo { distribution };
+        }
+        i += 1;
+    }
+    ReadDimensions { dims, next }
+}
+
+fn put_float(out: &mut Words, at: usize, d: FloatDistribution) -> usize
+    ensures { λ r. ⌜ r ≤ 4097 ⌝ }
+{
+    let form = replay::put(out, at, 0);
+    let low = put_real(out, form, d.low);
+    put_real(out, low, d.high)
+}
+
+fn put_int(out: &mut Words, at: usize, d: IntDistribution) -> usize
+    ensures { λ r. ⌜ r ≤ 4097 ⌝ }
+{
+    let step = d.step;
+    let form = replay::put(out, at, 1);
+    let low = replay::put(out, form, real::word_of_int(d.low));
+    let high = replay::put(out, low, real::word_of_int(d.high));
+    match step {
+        OptionI64::None => replay::put(out, high, 0),
+        OptionI64::Some(n) => replay::put(out, high, real::word_of_int(n)),
+    }
+}
+
+// A dimension in its short form.
+pub fn put_dimension(out: &mut Words, at: usize, d: Distribution) -> usize
+    ensures { λ r. ⌜ r ≤ 4097 ⌝ }
+{
+    match d {
+        Distribution::Float(f) => put_float(out, at, f),
+        Distribution::Int(i) => put_int(out, at, i),
+        Distribution::Categorical(c) => {
+            let form = replay::put(out, at, 2);
+            replay::put(out, form, c.n_choices as u64)
+        }
+    }
+}
+
+// ---- settings
+
+pub struct ReadSettings {
+    pub params: [Slot; 32],
+    pub next: usize,
+}
+
+fn blank_settings() -> [Slot; 32] {
+    [Slot {
+        value: ParamValue::Float(0.0),
+    }; 32]
+}
+
+// The n settings from `at` on; the place after them.
+pub fn read_settings(input: &Words, at: usize, n: usize) -> ReadSettings
+    requires { ⌜ (at ≤ 4097) × (n ≤ 32) ⌝ }
+    ensures { λ r. ⌜ r .next ≤ 4097 ⌝ }
+{
+    let mut params = blank_settings();
+    let mut next = at;
+    let mut i: usize = 0;
+    while i < n {
+        let kind = replay::word(input, next);
+        let value = settings::of_word(kind, replay::word(input, next + 1));
+        params[i] = Slot { value };
+        next = replay::ahead(next, 2);
+        i += 1;
+    }
+    ReadSettings { params, next }
+}
+
+fn kind_of(v: ParamValue) -> u64 {
+    match v {
+        ParamValue::Float(_) => 0,
+        ParamValue::Int(_) => 1,
+        ParamValue::Categorical(_) => 2,
+    }
+}
+
+pub fn put_setting(out: &mut Words, at: usize, v: ParamValue) -> usize
+    ensures { λ r. ⌜ r ≤ 4097 ⌝ }
+{
+    let kind = replay::put(out, at, kind_of(v));
+    replay::put(out, kind, settings::to_word(v))
+}
+
+// The first n settings of a candidate.
+pub fn put_settings(out: &mut Words, at: usize, params: [Slot; 32], n: usize) -> usize
+    requires { ⌜ n ≤ 32 ⌝ }
+{
+    let mut place = at;
+    let mut i: usize = 0;
+    while i < n {
+        let slot = params[i];
+        let value = slot.value;
+        place = put_setting(out, place, value);
+        i += 1;
+    }
+    place
+}
+
+fn word_of(words: &[u64], i: usize) -> u64 {
+    if i < words.len() { words[i] } else { 0 }
+}
+
+// The candidate whose n settings stand as words from `from` on: kinds are those of the dimensions.
+fn put_candidate(
+    out: &mut Words,
+    at: usize,
+    words: &[u64],
+    from: usize,
+    dims: [DimensionInfo; 32],
+    n: usize,
+) -> usize
+    requires { ⌜ (n ≤ 32) × (from ≤ 200000) ⌝ }
+{
+    let mut place = at;
+    let mut i: usize = 0;
+    while i < n {
+        let info = dims[i];
+        let d = info.distribution;
+        let kind = replay::put(out, place, settings::kind_of_dimension(d));
+        place = replay::put(out, kind, word_of(words, from + i));
+        i += 1;
+    }
+    place
+}
+
+// The first `count` candidates of a slice of words.
+pub fn put_candidates(
+    out: &mut Words,
+    at: usize,
+    words: &[u64],
+    count: usize,
+    dims: [DimensionInfo; 32],
+    n: usize,
+) -> usize
+    requires { ⌜ (n ≤ 32) × (count ≤ 4096) ⌝ }
+{
+    let mut place = at;
+    let mut from: usize = 0;
+    let mut p: usize = 0;
+    while p < count {
+        place = put_candidate(out, place, words, from, dims, n);
+        from += n;
+        p += 1;
+    }
+    place
+}

@@ -1,0 +1,48 @@
+-- `repeated`. Assumes nothing.
+use Prim.Native.Nat.{_-_, _≤_}
+use borrow.Author.Needs.{needs}
+use Rattle.model.specs.Session.{state}
+use Rattle.model.specs.Property.{SessionOk}
+use Rattle.session_calls.proofs.repeated.Statement.{statement}
+use Rattle.session_calls.proofs.repeated.Tie as tie
+
+abbrev Inv-loop : tie.InvT-loop
+Inv-loop distribution plan times history n candidates₀ plans₀ next-dims₀ last₀ number₀ i₀ candidates plans next-dims last number i = (i ≤ times) × ((n ≤ 4097) × SessionOk (state (last .session) candidates plans next-dims))
+
+abbrev μ-loop : tie.MeasureT-loop
+μ-loop distribution plan times history n candidates₀ plans₀ next-dims₀ last₀ number₀ i₀ candidates plans next-dims last number i = times - i
+
+loop-holds : tie.Need-loop-holds Inv-loop μ-loop
+loop-holds c = search needs
+
+called-requires : tie.Need-called-requires Inv-loop μ-loop
+called-requires c κs = search needs
+
+wrapping-add-u64-requires : tie.Need-wrapping-add-u64-requires Inv-loop μ-loop
+wrapping-add-u64-requires c κs = search needs
+
+add-i : tie.Need-add-i Inv-loop μ-loop
+add-i c = search needs
+
+loop-less : tie.Need-loop-less Inv-loop μ-loop
+loop-less c = search needs
+
+loop-again : tie.Need-loop-again Inv-loop μ-loop
+loop-again c = search needs
+
+returns : tie.Need-returns Inv-loop μ-loop
+returns c = search needs
+
+pub repeated-spec : {M : Type 1} → statement M
+repeated-spec =
+    tie.close
+    (tie.spec
+    Inv-loop
+    μ-loop
+    loop-holds
+    called-requires
+    wrapping-add-u64-requires
+    add-i
+    loop-less
+    loop-again
+    returns)

@@ -1,0 +1,274 @@
+// Runs document 01's cases beside the proved table: 2,048 plans of a generation are open and the next new number gets 11, until breeding frees all of them; and
+// a constraint of 2^1000 passes where the next double gets 8.
+use libc::STDOUT_FILENO;
+use model::CategoricalDistribution;
+use model::DimensionInfo;
+use model::Distribution;
+use model::FloatDistribution;
+use model::Opening;
+use model::OptionF64;
+use model::OptionUsize;
+use model::Outcome;
+use model::Rng;
+use model::Sampling;
+use model::Selection;
+use model::Session;
+use session_calls::Candidates;
+use session_calls::History;
+use session_calls::NextDims;
+use session_calls::Numbers;
+ghost use mathlib.Core.List.{List};
+ghost use Prim.Native.Nat.{ℕ, _≤_};
+ghost use Rattle.model.specs.Session.{state};
+ghost use Rattle.model.specs.Property.{SessionOk};
+
+// The words of a plan.
+const PLAN: usize = 124;
+
+// A label and a number.
+fn number(label: &[u8], n: u64) {
+    io::write_all(STDOUT_FILENO, label);
+    io::print_decimal(STDOUT_FILENO, n);
+}
+
+// Reals from 0 to 1.
+fn unit() -> Distribution {
+    let step = OptionF64::None;
+    Distribution::Float(FloatDistribution {
+        low: 0.0,
+        high: 1.0,
+        log_scale: false,
+        step,
+    })
+}
+
+// A setting is told by its kind alone.
+fn tell_answer(outcome: Sampling) {
+    match outcome {
+        Sampling::Setting(_) => {
+            io::write_all(STDOUT_FILENO, b"a setting");
+        }
+        Sampling::Refused(n) => {
+            number(b"refused ", n as u64);
+        }
+    }
+}
+
+// The generation and its plans.
+fn tell_state(session: Session) {
+    let progress = session.progress;
+    number(b", generation ", progress.generation);
+    number(b", plans ", progress.n_plans as u64);
+    io::write_all(STDOUT_FILENO, b"\n");
+}
+
+// So many calls, the number rising by one, on a history of n records; the last is told.
+fn ask(
+    session: Session,
+    plan: u64,
+    times: u64,
+    history: &History,
+    n: usize,
+    candidates: &mut Candidates,
+    plans: &mut Numbers,
+    next_dims: &mut NextDims,
+) -> Session
+    requires { ⌜ SessionOk (state session (now candidates) (now plans) (now «next_dims»)) ⌝ }
+    requires { ⌜ n ≤ 4097 ⌝ }
+    ensures { λ r. ⌜ SessionOk (state r (now (candidates .exit)) (now (plans .exit)) (now («next_dims» .exit))) ⌝ }
+{
+    number(b"plan ", plan);
+    number(b", ", times);
+    io::write_all(STDOUT_FILENO, b" times: ");
+    let d = unit();
+    let r = session_calls::repeated(
+        session,
+        d,
+        plan,
+        times,
+        history,
+        n,
+        candidates,
+        plans,
+        next_dims,
+    );
+    let outcome = r.outcome;
+    let session = r.session;
+    tell_answer(outcome);
+    tell_state(session);
+    session
+}
+
+// Record i of a history: a plan number and the row (i, -i), with no constraints and no settings.
+fn put_record(history: &mut History, i: usize, plan: u64)
+    requires { ⌜ i ≤ 4 ⌝ }
+{
+    let at = i * PLAN;
+    let x = std::num::nearest_u64_to_f64(i as u64);
+    history[at] = plan;
+    history[at + 1] = 2;
+    history[at + 2] = real::word_of_real(x);
+    history[at + 3] = real::word_of_real(0.0 - x);
+}
+
+// Plan 0 adds the dimension. Plans 1 to 2,048 fill the generation, and 2,049 finds it full, while a plan of the generation does not. With the first four
+// plans in history a new generation is bred.
+fn fill(session: Session)
+    requires { ⌜ ((cs ps ns : List ℕ) → SessionOk (state session cs ps ns)) ⌝ }
+{
+    let mut history = [0u64; 508028];
+    let mut candidates = [0u64; 65536];
+    let mut plans = [0u64; 2048];
+    let mut next_dims = [0usize; 2048];
+    put_record(&mut history, 0, 1);
+    put_record(&mut history, 1, 2);
+    put_record(&mut history, 2, 3);
+    put_record(&mut history, 3, 4);
+    let a = ask(
+        session,
+        0,
+        1,
+        &history,
+        0,
+        &mut candidates,
+        &mut plans,
+        &mut next_dims,
+    );
+    let b = ask(
+        a,
+        1,
+        2048,
+        &history,
+        0,
+        &mut candidates,
+        &mut plans,
+        &mut next_dims,
+    );
+    let c = ask(
+        b,
+        2049,
+        1,
+        &history,
+        3,
+        &mut candidates,
+        &mut plans,
+        &mut next_dims,
+    );
+    let d = ask(
+        c,
+        2048,
+        1,
+        &history,
+        3,
+        &mut candidates,
+        &mut plans,
+        &mut next_dims,
+    );
+    let e = ask(
+        d,
+        2049,
+        1,
+        &history,
+        4,
+        &mut candidates,
+        &mut plans,
+        &mut next_dims,
+    );
+    ask(
+        e,
+        2050,
+        2047,
+        &history,
+        0,
+        &mut candidates,
+        &mut plans,
+        &mut next_dims,
+    );
+}
+
+fn sessions() {
+    let directions = [0u8; 2];
+    let size = OptionUsize::Some(4);
+    let divisions = OptionUsize::Some(3);
+    let opened = session_calls::opened(&directions, 5, size, divisions, 1.0, 30.0, 20.0);
+    let outcome = opened.outcome;
+    let session = opened.session;
+    match outcome {
+        Opening::Ready => fill(session),
+        Opening::Refused(n) => number(b"refused ", n as u64),
+    }
+}
+
+// ---- a constraint's size
+
+// The generation step on a pool of two plans.
+fn stepped(
+    pool: &[u64],
+    directions: &[u8],
+    dims: [DimensionInfo; 32],
+    ideal: &mut [f64],
+    kept: &mut [usize],
+    fronts: &mut [usize],
+    lines: &mut [usize],
+    offspring: &mut [u64],
+) -> Selection {
+    generation::nsga3_generate_offspring(
+        pool,
+        directions,
+        1,
+        2,
+        Rng { s: 5 },
+        dims,
+        1,
+        1.0,
+        30.0,
+        20.0,
+        ideal,
+        kept,
+        fronts,
+        lines,
+        offspring,
+    )
+}
+
+// Two plans with equal rows, the second with one constraint.
+fn constrained(bits: u64) {
+    let mut pool = [0u64; 248];
+    pool[1] = 1;
+    pool[124] = 1;
+    pool[125] = 1;
+    pool[134] = 1;
+    pool[135] = bits;
+    let distribution = Distribution::Categorical(CategoricalDistribution { n_choices: 3 });
+    let dims = [DimensionInfo { distribution }; 32];
+    let directions = [0u8; 1];
+    let mut ideal = [0.0; 1];
+    let mut kept = [0usize; 2];
+    let mut fronts = [0usize; 2];
+    let mut lines = [0usize; 2];
+    let mut offspring = [0u64; 2];
+    let s = stepped(
+        &pool,
+        &directions,
+        dims,
+        &mut ideal,
+        &mut kept,
+        &mut fronts,
+        &mut lines,
+        &mut offspring,
+    );
+    let outcome = s.outcome;
+    number(b"a constraint of bits ", bits);
+    match outcome {
+        Outcome::Kept(n) => number(b": kept ", n as u64),
+        Outcome::Refused(n) => number(b": refused ", n as u64),
+    }
+    io::write_all(STDOUT_FILENO, b"\n");
+}
+
+// 2^1000 and the double after it.
+fn main() {
+    sessions();
+    constrained(0x7e70_0000_0000_0000);
+    constrained(0x7e70_0000_0000_0001);
+}
