@@ -102,7 +102,7 @@ pub extern "C" fn locustdomino_generate_offspring(
 {
     let n_dims = dimensions.len() / session_words::DIMENSION_WORDS;
     let infos = session_words::dimensions_of_words(dimensions, 0);
-    let answer = generation::nsga3_generate_offspring(
+    let step = generation::nsga3_generate_offspring(
         pool,
         directions,
         divisions,
@@ -119,11 +119,11 @@ pub extern "C" fn locustdomino_generate_offspring(
         lines,
         offspring,
     );
-    let rng = answer.rng;
-    *state = rng.s;
-    let outcome = answer.outcome;
-    *n_kept = count(outcome, *n_kept);
-    code(outcome)
+    let after = step.rng;
+    *state = after.s;
+    let kept_by = step.outcome;
+    *n_kept = count(kept_by, *n_kept);
+    code(kept_by)
 }
 
 // What may be left out: a mark of 0 says that it is.
