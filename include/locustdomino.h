@@ -6,8 +6,8 @@
  * What every call asks of its caller:
  *   - a pointer is aligned and points to as many entries as its length says, and is not null, also where that length is 0;
  *   - what is lent for writing overlaps nothing else that is passed;
- *   - about 2 MB of stack are free: locustdomino_sample, locustdomino_generate_offspring and locustdomino_choose hold about
- *     1.3 MB there (a pool's words 1,015,808 bytes, the parents 262,144, tables). A thread's stack may be smaller than that.
+ *   - about 2 MB of stack are free. Measured on x86-64: locustdomino_sample that breeds 1.66 MB (the words of the plans bred from
+ *     are 1,015,808 bytes of it), locustdomino_choose 1.3, locustdomino_generate_offspring 0.61, locustdomino_select 0.24.
  * What every call answers: LOCUSTDOMINO_ACCEPTED, or the number of the first refusal that applies. A refused call writes
  * nothing, and leaves the generator where it was.
  *
