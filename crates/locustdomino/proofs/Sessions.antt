@@ -1,12 +1,11 @@
 -- What opening and a session call hand out in words. Assumes nothing.
 use Prim.Native.Nat.{ℕ, _≤_, _<_}
 use mathlib.Core.Path.{_≡_, refl, sym, ap, ap₂, subst, _∙_}
-use mathlib.Core.Bool.{Bool, true, false, cond, _||_}
+use mathlib.Core.Bool.{Bool, true, false, cond}
 use mathlib.Core.List.{List}
 use mathlib.Core.Option.{Option, none, some}
 use native.Mathlib.Omega.{arith}
 use borrow.Author.Tests.{lt-ltb, le-ltb}
-use lib.Dec.{ltb}
 use lib.Ieee.{Float}
 use lib.ListN.{length}
 use Rattle.model.specs.declared.Distribution.{Distribution}
@@ -26,7 +25,7 @@ use Rattle.model.specs.Property.{SessionOk}
 use Rattle.model.specs.Refusal.{firstOf, badDirections, badSessionSize, badSessionDivisions, badOperators, openRefusal, sampleRefusal}
 use Rattle.model.specs.Calls.{openBy, openOf, Opens, SampleExit, sampleBy, sampleOf, Samples}
 use Rattle.session_words.specs.Coding.{sessionWords, sessionOf, dimensionAt}
-use Rattle.locustdomino.specs.Coded.{written, openedBy, OpensWords, sampledWords, sampledBy, sampledExit, sampleWords, tooShort, SamplesWords}
+use Rattle.locustdomino.specs.Coded.{written, openedBy, OpensWords, sampledWords, sampledBy, sampledExit, sampleWords, SamplesWords}
 
 -- ---- opening
 
@@ -94,15 +93,6 @@ module _ (marks : List ℕ) (seed : ℕ) (s t u v : OptionUsize) (p c m : Float)
 
 -- ---- a session call
 
-pub short-session : (ws ds : List ℕ) → length ws < 222 → tooShort ws ds ≡ true
-short-session ws ds h = ap (λ b. b || ltb (length ds) 6) (lt-ltb (length ws) 222 h)
-
-pub short-dimension : (ws ds : List ℕ) → 222 ≤ length ws → length ds < 6 → tooShort ws ds ≡ true
-short-dimension ws ds h k = ap₂ (λ a b. a || b) (le-ltb (length ws) 222 h) (lt-ltb (length ds) 6 k)
-
-pub long-enough : (ws ds : List ℕ) → 222 ≤ length ws → 6 ≤ length ds → tooShort ws ds ≡ false
-long-enough ws ds h k = ap₂ (λ a b. a || b) (le-ltb (length ws) 222 h) (le-ltb (length ds) 6 k)
-
 -- a refusal leaves the state
 refused-keeps : (o : Option ℕ) (st : State) (a : Answered) (n : ℕ) → sampleBy o st a .answer ≡ sampling.Refused n → sampleBy o st a .after ≡ st
 refused-keeps none st a n e = absurd (let z : _≡_ {A = ℕ} 0 1 = cc in omega arith)
@@ -112,11 +102,16 @@ module _ (ws ds : List ℕ) (plan : ℕ) (history cs ps ns : List ℕ) (k v : �
   abbrev before : State
   before = state (sessionOf ws) cs ps ns
 
-  pub sample-short : tooShort ws ds ≡ true → (222 ≤ length ws → SessionOk before) → SamplesWords ws ds plan history cs ps ns k v (sampledWords 10 k v ws before)
+  pub sample-short : length ws < 222 → SamplesWords ws ds plan history cs ps ns k v (sampledWords 10 k v ws before)
   unfolding sampleWords
-  sample-short h ok = record { whole = sym (ap (λ b. cond b (sampledWords 10 k v ws before) (sampledExit (sampleOf before (dimensionAt ds 0) plan history) k v ws)) h); keeps = ok }
+  sample-short h =
+      record {
+        whole = sym (ap (λ b. cond b (sampledWords 10 k v ws before) (sampledExit (sampleOf before (dimensionAt ds 0) plan history) k v ws)) (lt-ltb (length ws) 222 h));
+        keeps = λ z. absurd (omega arith);
+        demand3 = λ z. absurd (omega arith);
+      }
 
-  module _ (h : tooShort ws ds ≡ false) (s : Session) (d : Distribution) (es : s ≡ sessionOf ws) (ed : d ≡ dimensionAt ds 0) (r : Sampled) (xs ys zs : List ℕ)
+  module _ (h : 222 ≤ length ws) (s : Session) (d : Distribution) (es : s ≡ sessionOf ws) (ed : d ≡ dimensionAt ds 0) (r : Sampled) (xs ys zs : List ℕ)
       (samples : Samples (state s cs ps ns) d plan history (record { answer = r .outcome; after = state (r .session) xs ys zs })) where
     abbrev left : State
     left = state (r .session) xs ys zs
@@ -128,7 +123,7 @@ module _ (ws ds : List ℕ) (plan : ℕ) (history cs ps ns : List ℕ) (k v : �
     unfolding sampleWords
     is o e =
         sym (ap (λ x. sampledBy x left k v ws) e) ∙ ap (λ (x : SampleExit). sampledExit x k v ws) (promise' .whole)
-        ∙ sym (ap (λ b. cond b (sampledWords 10 k v ws before) (sampledExit (sampleOf before (dimensionAt ds 0) plan history) k v ws)) h)
+        ∙ sym (ap (λ b. cond b (sampledWords 10 k v ws before) (sampledExit (sampleOf before (dimensionAt ds 0) plan history) k v ws)) (le-ltb (length ws) 222 h))
 
     same : (n : ℕ) → r .outcome ≡ sampling.Refused n → left ≡ before
     unfolding sampleOf
@@ -144,6 +139,7 @@ module _ (ws ds : List ℕ) (plan : ℕ) (history cs ps ns : List ℕ) (k v : �
         record {
           whole = ap₂ (λ x y. sampledWords x k v ws (state y xs ys zs)) h b ∙ is (sampling.Refused n) e;
           keeps = λ z. subst (λ y. SessionOk (state y xs ys zs)) (sym b) (promise' .keeps);
+          demand3 = λ z. promise' .demand3;
         }
 
     pub sample-set : (x : ParamValue) (kind value : ℕ) (exit : List ℕ) → r .outcome ≡ sampling.Setting x → kind ≡ kindOf x → value ≡ toWord x
@@ -154,4 +150,5 @@ module _ (ws ds : List ℕ) (plan : ℕ) (history cs ps ns : List ℕ) (k v : �
           whole = ap₂ (λ p q. sampledWords 0 p q exit (state (sessionOf exit) xs ys zs)) hk hv
               ∙ ap₂ (λ p q. sampledWords 0 (kindOf x) (toWord x) p (state q xs ys zs)) hx b ∙ is (sampling.Setting x) e;
           keeps = λ z. subst (λ y. SessionOk (state y xs ys zs)) (sym b) (promise' .keeps);
+          demand3 = λ z. promise' .demand3;
         }

@@ -14,8 +14,8 @@ ghost use Rattle.model.specs.Setting.{kindOf};
 ghost use Rattle.model.specs.Session.{state};
 ghost use Rattle.model.specs.Property.{SessionOk};
 ghost use Rattle.session_words.specs.Coding.{sessionOf};
-ghost use Rattle.model.specs.Calls.{wordRequest, lent, selectOf, stepOf, chooseOf};
-ghost use Rattle.locustdomino.specs.Coded.{codeOf, keptOf, selected, stepped, rngOf, wordOperators, chosenCode, chosenLength, listed, optional, OpensWords, sampledWords, SamplesWords};
+ghost use Rattle.model.specs.Calls.{wordRequest, lent};
+ghost use Rattle.locustdomino.specs.Coded.{codeOf, keptOf, SelectsWords, StepsWords, rngOf, wordOperators, chosenCode, chosenLength, optional, OpensWords, sampledWords, SamplesWords, ListsWords};
 
 fn wide(n: u8) -> u64
     ensures { λ r. ⌜ r ≡ n ⌝ }
@@ -54,9 +54,9 @@ pub extern "C" fn locustdomino_select(
     fronts: &mut [usize],
     lines: &mut [usize],
 ) -> u64
-    ensures { λ r. ⌜ record { code = r; state = now (state .exit); ideal = now (ideal .exit); slices = lent (now (kept .exit)) (now (fronts .exit)) (now (lines .exit)) }
-        ≡ selected (selectOf (wordRequest (now (pool .entry)) (now (directions .entry)) divisions size (rngOf (now (state .entry))) (now (ideal .entry)))
-        (lent (now (kept .entry)) (now (fronts .entry)) (now (lines .entry)))) ⌝ }
+    ensures { λ r. ⌜ SelectsWords (wordRequest (now (pool .entry)) (now (directions .entry)) divisions size (rngOf (now (state .entry))) (now (ideal .entry)))
+        (lent (now (kept .entry)) (now (fronts .entry)) (now (lines .entry)))
+        (record { code = r; state = now (state .exit); ideal = now (ideal .exit); slices = lent (now (kept .exit)) (now (fronts .exit)) (now (lines .exit)) }) ⌝ }
 {
     let answer = nsga3::nsga3_select(
         pool,
@@ -95,14 +95,14 @@ pub extern "C" fn locustdomino_generate_offspring(
     offspring: &mut [u64],
     n_kept: &mut usize,
 ) -> u64
-    ensures { λ r. ⌜ record { code = r; kept = now («n_kept» .exit); state = now (state .exit); ideal = now (ideal .exit); slices = lent (now (kept .exit)) (now (fronts .exit)) (now (lines .exit)); offspring = now (offspring .exit) }
-        ≡ stepped (now («n_kept» .entry)) (stepOf (wordOperators (now (dimensions .entry)) «crossover_prob» «crossover_eta» «mutation_eta»)
+    ensures { λ r. ⌜ StepsWords (wordOperators (now (dimensions .entry)) «crossover_prob» «crossover_eta» «mutation_eta»)
         (wordRequest (now (pool .entry)) (now (directions .entry)) divisions size (rngOf (now (state .entry))) (now (ideal .entry)))
-        (lent (now (kept .entry)) (now (fronts .entry)) (now (lines .entry))) (now (offspring .entry))) ⌝ }
+        (lent (now (kept .entry)) (now (fronts .entry)) (now (lines .entry))) (now (offspring .entry)) (now («n_kept» .entry))
+        (record { code = r; kept = now («n_kept» .exit); state = now (state .exit); ideal = now (ideal .exit); slices = lent (now (kept .exit)) (now (fronts .exit)) (now (lines .exit)); offspring = now (offspring .exit) }) ⌝ }
 {
     let n_dims = dimensions.len() / session_words::DIMENSION_WORDS;
     let infos = session_words::dimensions_of_words(dimensions, 0);
-    let answer = generation::nsga3_generate_offspring(
+    let step = generation::nsga3_generate_offspring(
         pool,
         directions,
         divisions,
@@ -119,11 +119,11 @@ pub extern "C" fn locustdomino_generate_offspring(
         lines,
         offspring,
     );
-    let rng = answer.rng;
-    *state = rng.s;
-    let outcome = answer.outcome;
-    *n_kept = count(outcome, *n_kept);
-    code(outcome)
+    let after = step.rng;
+    *state = after.s;
+    let kept_by = step.outcome;
+    *n_kept = count(kept_by, *n_kept);
+    code(kept_by)
 }
 
 // What may be left out: a mark of 0 says that it is.
@@ -190,8 +190,8 @@ fn kind_of(v: ParamValue) -> u64
 }
 
 // `sample`: the session's words are read, and those of the session that it answers are written; a refusal writes none. Asked of the caller is the session
-// property of the words and of what is lent beside them, which `locustdomino_open` gives and this call keeps. A session slice of fewer than 222 words, or a
-// dimension of fewer than six, meets 10, and nothing is asked of it.
+// property of the words and of what is lent beside them, which `locustdomino_open` gives and this call keeps. A session slice of fewer than 222
+// words meets 10, and nothing is asked of it. A dimension may have fewer than six words: those that are missing read as 0.
 #[no_mangle]
 pub extern "C" fn locustdomino_sample(
     session: &mut [u64],
@@ -210,9 +210,6 @@ pub extern "C" fn locustdomino_sample(
         (sampledWords r (now (kind .exit)) (now (value .exit)) (now (session .exit)) (state (sessionOf (now (session .exit))) (now (candidates .exit)) (now (plans .exit)) (now («next_dims» .exit)))) ⌝ }
 {
     if session.len() < session_words::SESSION_WORDS {
-        return 10;
-    }
-    if dimension.len() < session_words::DIMENSION_WORDS {
         return 10;
     }
     let before = session_words::session_of_words(session);
@@ -260,8 +257,7 @@ fn chosen_length(answer: Chosen, old: usize) -> usize
 // `choose`: the text for a pool file, and its length.
 #[no_mangle]
 pub extern "C" fn locustdomino_choose(file: &[u8], out: &mut [u8], length: &mut usize) -> u64
-    ensures { λ r. ⌜ record { code = r; length = now (length .exit); out = now (out .exit) }
-        ≡ listed (now (length .entry)) (chooseOf (now (file .entry)) (now (out .entry))) ⌝ }
+    ensures { λ r. ⌜ ListsWords (now (file .entry)) (now (out .entry)) (now (length .entry)) (record { code = r; length = now (length .exit); out = now (out .exit) }) ⌝ }
 {
     let answer = pool_choice::choose(file, out);
     *length = chosen_length(answer, *length);

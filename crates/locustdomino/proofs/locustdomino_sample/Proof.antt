@@ -2,20 +2,13 @@
 use mathlib.Core.Path.{sym, subst}
 use Rattle.model.specs.Session.{state}
 use Rattle.model.specs.Property.{SessionOk}
-use Rattle.locustdomino.proofs.Sessions.{short-session, short-dimension, long-enough, sample-short, sample-refused, sample-set}
+use Rattle.locustdomino.proofs.Sessions.{sample-short, sample-refused, sample-set}
 use borrow.Author.Needs.{needs}
 use Rattle.locustdomino.proofs.locustdomino_sample.Statement.{statement}
 use Rattle.locustdomino.proofs.locustdomino_sample.Tie as tie
 
 returns : tie.Need-returns
-returns c =
-    let a = c .before .before .before .before .before .before .before .args in
-    sample-short _ _ _ _ _ _ _ _ _ (short-session (a .session .now) (a .dimension .now) (c .if1 .taken)) (c .before .before .before .before .before .before .before .pre)
-
-returns-2 : tie.Need-returns-2
-returns-2 c =
-    let a = c .before .before .before .before .before .before .before .before .args in
-    sample-short _ _ _ _ _ _ _ _ _ (short-dimension (a .session .now) (a .dimension .now) (c .before .if1 .left) (c .if2 .taken)) (c .before .before .before .before .before .before .before .before .pre)
+returns c = sample-short _ _ _ _ _ _ _ _ _ (c .if1 .taken)
 
 session-of-words-requires : tie.Need-session-of-words-requires
 session-of-words-requires c κs = search needs
@@ -25,8 +18,8 @@ dimension-of-words-requires c κs = search needs
 
 sample-requires : tie.Need-sample-requires
 sample-requires c κs =
-    let a = c .before .before .before .before .before .before .before .before .before .before .before .before .before .before .args in
-    subst (λ x. SessionOk (state x (a .candidates .now) (a .plans .now) (a .next-dims .now))) (sym (c .before .before .before .before .session-of-words .ensures)) (c .before .before .before .before .before .before .before .before .before .before .before .before .before .before .pre (c .before .before .before .before .before .before .before .if1 .left))
+    let a = c .before .before .before .before .before .before .before .before .before .before .before .before .before .args in
+    subst (λ x. SessionOk (state x (a .candidates .now) (a .plans .now) (a .next-dims .now))) (sym (c .before .before .before .before .session-of-words .ensures)) (c .before .before .before .before .before .before .before .before .before .before .before .before .before .pre (c .before .before .before .before .before .before .if1 .left))
 
 enum-known-outcome : tie.Need-enum-known-outcome
 enum-known-outcome c = search needs
@@ -58,14 +51,12 @@ same-length-3 c = search needs
 same-length-4 : tie.Need-same-length-4
 same-length-4 c = search needs
 
-returns-3 : tie.Need-returns-3
-returns-3 c =
+returns-2 : tie.Need-returns-2
+returns-2 c =
     let y = c .before .before .before .before .before .before .before .before .before .before in
     let w = y .before .before .before .before .before in
     let d = y .before .before .before .before in
-    let l = y .before .before .before .before .before .before .before in
-    let a = l .before .before .before .before .before .before .before .before .args in
-    sample-refused _ _ _ _ _ _ _ _ _ (long-enough (a .session .now) (a .dimension .now) (l .before .if1 .left) (l .if2 .left)) _ _ (w .session-of-words .ensures) (d .dimension-of-words .ensures)
+    sample-refused _ _ _ _ _ _ _ _ _ (y .before .before .before .before .before .before .before .if1 .left) _ _ (w .session-of-words .ensures) (d .dimension-of-words .ensures)
     (y .sample .result) _ _ _ (y .sample .ensures) _ _ (c .before .before .outcome .given .1) (c .wide .ensures)
 
 same-length-5 : tie.Need-same-length-5
@@ -80,15 +71,13 @@ same-length-7 c = search needs
 same-length-8 : tie.Need-same-length-8
 same-length-8 c = search needs
 
-returns-4 : tie.Need-returns-4
-returns-4 c =
+returns-3 : tie.Need-returns-3
+returns-3 c =
     let y = c .before .before .before .before .before .before .before .before .before .before .before .before .before .before .before .before in
     let w = y .before .before .before .before .before in
     let d = y .before .before .before .before in
-    let l = y .before .before .before .before .before .before .before in
-    let a = l .before .before .before .before .before .before .before .before .args in
     let e = c .before .before .before .before .words-of-session .ensures in
-    sample-set _ _ _ _ _ _ _ _ _ (long-enough (a .session .now) (a .dimension .now) (l .before .if1 .left) (l .if2 .left)) _ _ (w .session-of-words .ensures) (d .dimension-of-words .ensures)
+    sample-set _ _ _ _ _ _ _ _ _ (y .before .before .before .before .before .before .before .if1 .left) _ _ (w .session-of-words .ensures) (d .dimension-of-words .ensures)
     (y .sample .result) _ _ _ (y .sample .ensures) _ _ _ _ (c .before .before .before .before .before .before .before .before .outcome2 .given .1) (c .before .kind-of .ensures) (c .to-word .ensures) (e .0) (e .1)
 
 pub locustdomino-sample-spec : {M : Type 1} → statement M
@@ -96,7 +85,6 @@ locustdomino-sample-spec =
     tie.close
     (tie.spec
     returns
-    returns-2
     session-of-words-requires
     dimension-of-words-requires
     sample-requires
@@ -110,9 +98,9 @@ locustdomino-sample-spec =
     same-length-2
     same-length-3
     same-length-4
-    returns-3
+    returns-2
     same-length-5
     same-length-6
     same-length-7
     same-length-8
-    returns-4)
+    returns-3)
