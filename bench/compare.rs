@@ -141,7 +141,7 @@ fn select(input: &mut Numbers, step: bool) -> Vec<u64> {
 }
 
 /// Command 90.
-fn session(input: &mut Numbers, theirs: &[u64], decided: &mut usize) -> Vec<u64> {
+fn session(input: &mut Numbers) -> Vec<u64> {
     let short = input.next() as usize;
     let marks = input.marks();
     let [has_size, size, has_h, h] = [(); 4].map(|_| input.next());
@@ -172,11 +172,6 @@ fn session(input: &mut Numbers, theirs: &[u64], decided: &mut usize) -> Vec<u64>
                     words.as_mut_ptr(), words.len(), dimension.as_ptr(), 6, plan.wrapping_add(k), history.as_ptr(), history.len(),
                     candidates.as_mut_ptr(), 65536 - short, plans.as_mut_ptr(), 2048, next_dims.as_mut_ptr(), 2048, &mut kind, &mut value)
             };
-        }
-        // With slices too short a call does not breed, so that it meets 10 and neither 8 nor 9 (docs/DECISIONS.md, 3); the oracle lends none.
-        if short == 1 && code == 10 && matches!(theirs.get(out.len()), Some(8 | 9)) {
-            code = theirs[out.len()];
-            *decided += 1;
         }
         out.push(code);
         if code == 0 {
@@ -217,14 +212,14 @@ fn whole(out: &mut Vec<u64>, words: &[u64], candidates: &[u64], plans: &[u64], n
 
 fn main() {
     let mut lines = std::io::stdin().lock().lines().map(|line| line.unwrap());
-    let (mut asked, mut wrong, mut refused, mut decided) = (0, 0, 0, 0);
+    let (mut asked, mut wrong, mut refused) = (0, 0, 0);
     while let (Some(line), Some(answer)) = (lines.next(), lines.next()) {
         let mut input = Numbers::of(&line);
         let theirs: Vec<u64> = Numbers::of(&answer).0.collect();
         let ours = match input.next() {
             70 => select(&mut input, false),
             87 => select(&mut input, true),
-            90 => session(&mut input, &theirs, &mut decided),
+            90 => session(&mut input),
             _ => continue,
         };
         asked += 1;
@@ -239,7 +234,7 @@ fn main() {
             }
         }
     }
-    println!("{asked} asked, {refused} of them refused whole, {decided} calls with short slices refused by 10 for 8 or 9, {wrong} answered differently");
+    println!("{asked} asked, {refused} of them refused whole, {wrong} answered differently");
     if wrong > 0 || asked == 0 {
         std::process::exit(1);
     }

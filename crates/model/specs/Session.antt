@@ -235,11 +235,12 @@ sampleFromCandidate st plan =
 unfoldable pub recordOf : List ℕ → ℕ → ℕ
 recordOf history plan = lastBelow (λ k. eqb (planAt history k .number) plan) (planCount history)
 
--- "When the first size plans of the generation all stand in history"
+-- "When the first size plans of the generation all stand in history"; a slice that is too short to hold their numbers shows none of them
 unfoldable pub evaluated : State → List ℕ → Bool
 evaluated st history =
     let size = st .session .config .«population_size» in
-    leb size (st .session .progress .«n_plans») && allBelow (λ i. ltb (recordOf history (getD (st .plans) i 0)) (planCount history)) size
+    leb size (st .session .progress .«n_plans»)
+    && (leb size (length (st .plans)) && allBelow (λ i. ltb (recordOf history (getD (st .plans) i 0)) (planCount history)) size)
 
 -- the words of a record of the history
 abbrev pub blockOf : List ℕ → ℕ → List ℕ
@@ -310,7 +311,7 @@ longEnough st = leb maxWords (length (st .candidates)) && (leb maxPlans (length 
 
 -- the call breeds
 unfoldable pub breeds : State → List ℕ → Bool
-breeds st history = isActive (st .session) && (longEnough st && evaluated st history)
+breeds st history = isActive (st .session) && evaluated st history
 
 -- AN ACCEPTED CALL. "Afterwards the distribution passed is ignored."
 unfoldable pub accepted : State → Distribution → ℕ → List ℕ → Answered

@@ -39,7 +39,7 @@ fn called_short(
     history: &History,
     n: usize,
     candidates: &mut [u64; 65535],
-    plans: &mut [u64; 2047],
+    plans: &mut Numbers,
     next_dims: &mut [usize; 2047],
 ) -> Sampled
     requires { ⌜ ((cs ps ns : List ℕ) → longEnough (state session cs ps ns) ≡ false → SessionOk (state session cs ps ns)) ⌝ }
@@ -57,19 +57,20 @@ fn called_short(
     )
 }
 
-// Slices of their own are lent, each one place short.
+// Slices of their own are lent: candidates and next dimensions each one place short, and the generation's plan numbers.
 fn tried_short(
     session: Session,
     distribution: Distribution,
     plan: u64,
     history: &History,
     n: usize,
+    numbers: Numbers,
 ) -> Sampled
     requires { ⌜ ((cs ps ns : List ℕ) → longEnough (state session cs ps ns) ≡ false → SessionOk (state session cs ps ns)) ⌝ }
     requires { ⌜ n ≤ 4097 ⌝ }
 {
     let mut candidates = [0u64; 65535];
-    let mut plans = [0u64; 2047];
+    let mut plans = numbers;
     let mut next_dims = [0usize; 2047];
     called_short(
         session,
@@ -92,22 +93,6 @@ fn put_outcome(out: &mut Words, at: usize, outcome: Sampling) -> usize {
             replay_values::put_setting(out, place, value)
         }
         Sampling::Refused(number) => replay::put(out, at, number as u64),
-    }
-}
-
-// The answer of a call with short slices. Such a call does not breed, so it meets 10 where the oracle, which lends none, may name 8 or 9
-// (docs/DECISIONS.md, "The session's lent state"): there `theirs` stands.
-fn put_short(out: &mut Words, at: usize, outcome: Sampling, theirs: u64) -> usize {
-    match outcome {
-        Sampling::Setting(_) => put_outcome(out, at, outcome),
-        Sampling::Refused(number) => {
-            if number == 10 {
-                if theirs == 8 || theirs == 9 {
-                    return replay::put(out, at, theirs);
-                }
-            }
-            replay::put(out, at, number as u64)
-        }
     }
 }
 
@@ -314,7 +299,6 @@ fn answer_call(
     candidates: &mut Candidates,
     plans: &mut Numbers,
     next_dims: &mut NextDims,
-    given: &Words,
     out: &mut Words,
 ) -> Stand
     requires { ⌜ SessionOk (state (stand .session) (now candidates) (now plans) (now «next_dims»)) ⌝ }
@@ -327,10 +311,10 @@ fn answer_call(
     let held = stand.held;
     let next = stand.next;
     if asked.short {
-        let r = tried_short(session, d, asked.plan, history, held);
+        let r = tried_short(session, d, asked.plan, history, held, *plans);
         let outcome = r.outcome;
         let after = r.session;
-        let a = put_short(out, stand.put, outcome, replay::word(given, stand.put));
+        let a = put_outcome(out, stand.put, outcome);
         let put = put_state(out, a, after, asked.full, candidates, plans, next_dims);
         return Stand {
             session,
@@ -406,7 +390,6 @@ fn next_call(
     candidates: &mut Candidates,
     plans: &mut Numbers,
     next_dims: &mut NextDims,
-    given: &Words,
     out: &mut Words,
 ) -> Stand
     requires { ⌜ SessionOk (state (stand .session) (now candidates) (now plans) (now «next_dims»)) ⌝ }
@@ -423,28 +406,11 @@ fn next_call(
         put: stand.put,
         held: read.held,
     };
-    answer_call(
-        now,
-        asked,
-        history,
-        candidates,
-        plans,
-        next_dims,
-        given,
-        out,
-    )
+    answer_call(now, asked, history, candidates, plans, next_dims, out)
 }
 
 // The calls of a line of n numbers; how many numbers the answer has.
-fn calls(
-    input: &Words,
-    n: usize,
-    at: usize,
-    count: u64,
-    session: Session,
-    given: &Words,
-    out: &mut Words,
-) -> usize
+fn calls(input: &Words, n: usize, at: usize, count: u64, session: Session, out: &mut Words) -> usize
     requires { ⌜ ((cs ps ns : List ℕ) → SessionOk (state session cs ps ns)) ⌝ }
     requires { ⌜ at ≤ 4097 ⌝ }
 {
@@ -468,7 +434,6 @@ fn calls(
             &mut candidates,
             &mut plans,
             &mut next_dims,
-            given,
             out,
         );
         i += 1;
@@ -518,14 +483,7 @@ fn opened_by(input: &Words, at: usize, marks: &Marks, m: usize) -> Opened
 }
 
 // An opening and what follows it; an opening that is to be short, which `open` cannot be, is passed over where nothing else refuses it.
-fn follow(
-    input: &Words,
-    n: usize,
-    at: usize,
-    opened: Opened,
-    given: &Words,
-    out: &mut Words,
-) -> usize
+fn follow(input: &Words, n: usize, at: usize, opened: Opened, out: &mut Words) -> usize
     requires { ⌜ at ≤ 19 ⌝ }
     requires { ⌜ usableBy (opened .outcome) (opened .session) ⌝ }
 {
@@ -538,13 +496,13 @@ fn follow(
                 return 0;
             }
             let count = replay::word(input, at + 8);
-            calls(input, n, at + 9, count, session, given, out)
+            calls(input, n, at + 9, count, session, out)
         }
     }
 }
 
-// 90. The answer to an input line of n numbers, beside the one given; how many numbers it has, 0 for a case passed over.
-fn answer(input: &Words, n: usize, given: &Words, out: &mut Words) -> usize {
+// 90. The answer to an input line of n numbers; how many numbers it has, 0 for a case passed over.
+fn answer(input: &Words, n: usize, out: &mut Words) -> usize {
     let m = replay::word(input, 2) as usize;
     if 16 < m {
         return 0;
@@ -555,7 +513,7 @@ fn answer(input: &Words, n: usize, given: &Words, out: &mut Words) -> usize {
     let mut marks = [0u8; 16];
     replay_values::read_marks(input, 3, m, &mut marks);
     let opened = opened_by(input, m + 3, &marks, m);
-    follow(input, n, m + 3, opened, given, out)
+    follow(input, n, m + 3, opened, out)
 }
 
 // Every case of the input.
@@ -568,7 +526,7 @@ fn replayed(bytes: &[u8]) -> Tally {
     while at < bytes.len() {
         let case = replay_values::next_case(bytes, at, &mut input, &mut given);
         let line = case.input;
-        let k = answer(&input, line.count, &given, &mut ours);
+        let k = answer(&input, line.count, &mut ours);
         tally = replay_values::tallied(tally, case, &given, &ours, k);
         at = case.next;
     }

@@ -1,16 +1,18 @@
 -- Breeding from its parts: the pool is the plans bred from, and what the step answers is what the session becomes.
 use Prim.Native.Nat.{ℕ, _+_, _*_, _≤_}
 use mathlib.Core.Path.{_≡_, refl, sym, ap, ap₂, _∙_}
-use mathlib.Core.Bool.{true}
+use mathlib.Core.Bool.{Bool, true, false}
 use mathlib.Core.List.{List, [], _∷_, _++_}
 use mathlib.Core.Option.{Option, none, some}
 use native.Mathlib.Omega.{arith}
-use borrow.Author.Tests.{eqb-true}
+use native.Mathlib.Nat.{le-refl}
+use borrow.Author.Tests.{eqb-true, leb-true}
 use lib.Dec.{leb, ltb}
 use lib.Ieee.{Float}
 use lib.ListN.{length, getD, take, drop, length-take, length-replicate}
 use Rattle.list_laws.proofs.Bools.{and-left, and-right}
 use Rattle.list_laws.proofs.Built.{over-take}
+use Rattle.demand3_laws.proofs.Calls.{not-some}
 use Rattle.model.specs.declared.Outcome.{Outcome}
 use Rattle.model.specs.declared.Outcome.the-variants as outcome
 use Rattle.model.specs.declared.Selection.{Selection}
@@ -20,12 +22,15 @@ use Rattle.model.specs.Plan.{planCount, planWords}
 use Rattle.model.specs.Association.{Request}
 use Rattle.model.specs.Setting.{generation}
 use Rattle.model.specs.Session.{State, state, evaluated, recordOf, blockOf, bredFrom, requestOf, operatorsOf, breed, maxWords}
-use Rattle.model.specs.Refusal.{goodIdeal, stepRefusal, check, firstOf, badPool, badParents, maxSize}
-use Rattle.model.specs.Calls.{refusedBy, roomOf, stepAccepted, stepBy, stepOf}
+use Rattle.model.specs.Refusal.{Room, goodIdeal, stepRefusal, check, firstOf, badPool, badParents, maxSize}
+use Rattle.model.specs.Calls.{refusedBy, roomOf, wordRequest, stepAccepted, stepBy, stepOf}
 use Rattle.model.specs.Property.{SessionOk}
+use Rattle.nsga3.specs.declared.Check.{Check}
+use Rattle.nsga3.specs.declared.Check.the-variants as check
+use Rattle.nsga3.specs.Checked.{checked}
 use Rattle.session_laws.proofs.Request.{bred-length, bred-request, step-refusal}
 use Rattle.session_parts.specs.Exits.{bredSession}
-use Rattle.session.specs.Exits.{Stepped, stepped, takenOf, blankLent, stepOn, breedRefusal, bredExit, breedBy, breedOf}
+use Rattle.session.specs.Exits.{Stepped, stepped, takenOf, blankLent, stepOn, breedRefusal, shortRefusal, bredExit, breedBy, breedOf}
 
 -- an ideal that is good has its m entries
 pub ideal-room : (m : ℕ) (ideal : List Float) → goodIdeal m (take m ideal) ≡ true → m ≤ length ideal
@@ -36,7 +41,30 @@ ideal-room m ideal e = omega (arith, eqb-true (length (take m ideal)) m (and-lef
 pub evaluated-stand : (st : State) (history : List ℕ) → evaluated st history ≡ true
     → allBelow (λ i. ltb (recordOf history (getD (st .plans) i 0)) (planCount history)) (st .session .config .«population_size») ≡ true
 unfolding evaluated
-evaluated-stand st history e = and-right (leb (st .session .config .«population_size») (st .session .progress .«n_plans»)) _ e
+evaluated-stand st history e =
+    and-right (leb (st .session .config .«population_size») (length (st .plans))) _
+    (and-right (leb (st .session .config .«population_size») (st .session .progress .«n_plans»)) _ e)
+
+-- and that the slice holds their numbers
+pub evaluated-plans : (st : State) (history : List ℕ) → evaluated st history ≡ true → st .session .config .«population_size» ≤ length (st .plans)
+unfolding evaluated
+evaluated-plans st history e =
+    leb-true _ _ (and-left (leb (st .session .config .«population_size») (length (st .plans))) _
+    (and-right (leb (st .session .config .«population_size») (st .session .progress .«n_plans»)) _ e))
+
+-- ---- 10 after 8 and 9
+
+then-same : (a b : Bool) (n : ℕ) → some n ≡ firstOf (check 8 a ∷ check 9 b ∷ []) → firstOf (check 8 a ∷ check 9 b ∷ check 10 true ∷ []) ≡ some n
+unfolding firstOf
+then-same true b n e = sym e
+then-same false true n e = sym e
+then-same false false n e = absurd (not-some n e)
+
+then-10 : (a b : Bool) → none ≡ firstOf (check 8 a ∷ check 9 b ∷ []) → firstOf (check 8 a ∷ check 9 b ∷ check 10 true ∷ []) ≡ some 10
+unfolding firstOf
+then-10 true b e = absurd (not-some 8 (sym e))
+then-10 false true e = absurd (not-some 9 (sym e))
+then-10 false false e = refl
 
 module _ (s : Session) (cs ps : List ℕ) (history : List ℕ) where
   abbrev size : ℕ
@@ -74,6 +102,30 @@ module _ (s : Session) (cs ps : List ℕ) (history : List ℕ) where
     step-is =
         ap (λ (r : Request). takenOf (stepOf (operatorsOf s) r blankLent cs)) (bred-request (at []) history)
         ∙ ap (λ (o : Option ℕ). takenOf (stepBy o (operatorsOf s) (requestOf (at []) history) blankLent cs)) step-is-refused
+
+  -- ---- a check of the step alone, with room for what it would hand out
+
+  module _ (ok : SessionOk (at [])) (pool gathered : List ℕ) (g : gathered ≡ over (joinBelow (λ i. blockOf history (recordOf history (getD ps i 0))) size) pool)
+      (c : Check)
+      (e : checked c ≡ stepRefusal (operatorsOf s)
+      (wordRequest (take (size * planWords) gathered) (take m (s .config .directions)) (s .config .divisions) size (s .rng) ideal)
+      (record { kept = maxSize; fronts = maxSize; lines = maxSize }) maxWords) where
+    abbrev room : Room
+    room = record { kept = maxSize; fronts = maxSize; lines = maxSize }
+
+    check-is : checked c ≡ breedRefusal (at []) history
+    check-is =
+        e
+        ∙ ap (λ (p : List ℕ). stepRefusal (operatorsOf s) (wordRequest p (take m (s .config .directions)) (s .config .divisions) size (s .rng) ideal) room maxWords)
+        (pool-part pool gathered g)
+        ∙ ap (λ (r : Request). stepRefusal (operatorsOf s) r room maxWords) (bred-request (at []) history)
+        ∙ step-refusal (at []) history ok room maxWords (le-refl maxSize) (le-refl maxSize) (le-refl maxSize) (le-refl maxWords)
+
+    pub short-refused : (n : ℕ) → c ≡ check.Refused n → shortRefusal (at []) history ≡ some n
+    short-refused n f = then-same _ _ n (sym (ap checked f) ∙ check-is)
+
+    pub short-good : c ≡ check.Good → shortRefusal (at []) history ≡ some 10
+    short-good f = then-10 _ _ (sym (ap checked f) ∙ check-is)
 
   -- ---- by the answer
 

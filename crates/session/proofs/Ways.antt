@@ -19,16 +19,16 @@ use Rattle.model.specs.declared.Session.{Session}
 use Rattle.model.specs.Lists.{allBelow}
 use Rattle.model.specs.Plan.{planCount, maxSettings}
 use Rattle.model.specs.Setting.{validDimension}
-use Rattle.model.specs.Session.{State, state, discovers, activate, breed, breeds, isActive, pastDiscovery, discoversFor, longEnough, evaluated, recordOf, isNew, accepted, sampleFromCandidate, maxPlans, maxWords, blankDimension}
+use Rattle.model.specs.Session.{State, state, discovers, activate, breed, bredFrom, breeds, isActive, pastDiscovery, discoversFor, longEnough, evaluated, recordOf, isNew, accepted, sampleFromCandidate, maxPlans, maxWords, blankDimension}
 use Rattle.model.specs.Refusal.{sampleRefusal, maxHistory, maxSize}
 use Rattle.model.specs.Calls.{refusedBy, roomOf, sampleOf}
 use Rattle.model.specs.Property.{SessionOk, DimensionsOk}
 use Rattle.session_laws.proofs.Tests.{and-both}
-use Rattle.session_laws.proofs.Request.{dimensions-good, step-refusal, breed-refusal}
+use Rattle.session_laws.proofs.Request.{dimensions-good, step-refusal, breed-refusal, short-refusal}
 use Rattle.session_laws.proofs.Steps.{discovery-ok, active-ok, known}
 use Rattle.session_laws.proofs.Sample.{discovery-phase}
 use Rattle.session_parts.specs.Exits.{exit, Ready}
-use Rattle.session.specs.Exits.{refusedWith, blankLent, breedRefusal, BredExit, bredExit, breedBy}
+use Rattle.session.specs.Exits.{refusedWith, blankLent, breedRefusal, shortRefusal, BredExit, bredExit, breedBy}
 use Rattle.session.proofs.Refusals.{at-7, at-10, at-11, at-none, no-and, leaves-refused}
 
 and-no-right : (a : Bool) → (a && false) ≡ false
@@ -50,14 +50,10 @@ module _ (s : Session) (cs ps ns : List ℕ) (d : Distribution) (plan : ℕ) (hi
     unfolding sampleRefusal
     other-7 h = at-7 _ _ _ _ _ _ adds-none (lt-ltb maxHistory (planCount history) h)
 
-    short-breeds : longEnough st ≡ false → breeds st history ≡ false
-    unfolding breeds
-    short-breeds l = ap (λ (b : Bool). isActive s && (b && evaluated st history)) l ∙ and-no-right (isActive s)
-
-    pub other-10 : planCount history ≤ maxHistory → longEnough st ≡ false → refusal ≡ some 10
+    -- a slice is too short, and the call breeds nothing
+    pub other-10 : planCount history ≤ maxHistory → longEnough st ≡ false → breeds st history ≡ false → refusal ≡ some 10
     unfolding sampleRefusal
-    other-10 h l =
-        at-10 _ _ _ _ _ _ adds-none (le-ltb maxHistory (planCount history) h) (no-and _ _ (short-breeds l)) (no-and _ _ (short-breeds l)) (ap not l)
+    other-10 h l b = at-10 _ _ _ _ _ _ adds-none (le-ltb maxHistory (planCount history) h) (no-and _ _ b) (no-and _ _ b) (ap not l)
 
     -- neither a dimension added nor a generation bred
     module _ (few : planCount history ≤ maxHistory) (room : longEnough st ≡ true) (unbred : breeds st history ≡ false) where
@@ -110,15 +106,31 @@ module _ (s : Session) (cs ps ns : List ℕ) (d : Distribution) (plan : ℕ) (hi
 
   -- the generation's test, as code makes it
   abbrev test : Bool
-  test = leb (s .config .«population_size») (s .progress .«n_plans») && allBelow (λ i. ltb (recordOf history (getD ps i 0)) (planCount history)) (s .config .«population_size»)
+  test =
+      leb (s .config .«population_size») (s .progress .«n_plans»)
+      && (leb (s .config .«population_size») (length ps) && allBelow (λ i. ltb (recordOf history (getD ps i 0)) (planCount history)) (s .config .«population_size»))
 
-  pub breeds-by : (b : Bool) → isActive s ≡ true → longEnough st ≡ true → test ≡ b → breeds st history ≡ b
+  pub breeds-by : (b : Bool) → isActive s ≡ true → test ≡ b → breeds st history ≡ b
   unfolding breeds evaluated
-  breeds-by b a l e = ap₂ (λ (x y : Bool). x && (y && test)) a l ∙ e
+  breeds-by b a e = ap (λ (x : Bool). x && test) a ∙ e
 
   pub evaluated-without : breeds st history ≡ true → evaluated (state s cs ps []) history ≡ true
   unfolding breeds evaluated
-  evaluated-without e = and-right (longEnough st) test (and-right (isActive s) (longEnough st && test) e)
+  evaluated-without e = and-right (isActive s) test e
+
+  -- ---- a slice is too short
+
+  pub evaluated-short : test ≡ true → evaluated (state s [] ps []) history ≡ true
+  unfolding evaluated
+  evaluated-short e = e
+
+  same-short : shortRefusal st history ≡ shortRefusal (state s [] ps []) history
+  unfolding bredFrom
+  same-short = refl
+
+  pub short-bred : (n : ℕ) → breeds st history ≡ true → longEnough st ≡ false → planCount history ≤ maxHistory → shortRefusal (state s [] ps []) history ≡ some n
+      → refusal ≡ some n
+  short-bred n b l few e = short-refusal st history d plan b l few ∙ same-short ∙ e
 
   -- ---- the property
 
@@ -129,6 +141,13 @@ module _ (s : Session) (cs ps ns : List ℕ) (d : Distribution) (plan : ℕ) (hi
   -- where no next dimensions are lent, the property asks nothing of the slices
   pub without-next : SessionOk st → SessionOk (state s cs ps [])
   without-next ok = record { config = ok .config; dimensions = ok .dimensions; phase = ok .phase; ideal = ok .ideal; lent = λ e. absurd (short e) }
+
+  none-lent : longEnough (state s [] ps []) ≡ true → ⊥
+  unfolding longEnough
+  none-lent e = false≢true e
+
+  pub without-any : SessionOk st → SessionOk (state s [] ps [])
+  without-any ok = record { config = ok .config; dimensions = ok .dimensions; phase = ok .phase; ideal = ok .ideal; lent = λ e. absurd (none-lent e) }
 
   pub ready-active : SessionOk st → s .phase ≡ Active → Ready s
   ready-active ok e =
@@ -181,9 +200,9 @@ module _ (s : Session) (cs ps ns : List ℕ) (d : Distribution) (plan : ℕ) (hi
   rooms = omega (arith, length-replicate {A = ℕ} maxSize 0)
 
   -- the call's refusal is breeding's
-  pub call-refusal : SessionOk st → breeds st history ≡ true → planCount history ≤ maxHistory → maxWords ≤ length cs → refusal ≡ breedRefusal st history
-  call-refusal ok b few l =
-      breed-refusal st history ok (roomOf blankLent) (length cs) rooms rooms rooms l d plan b few
+  pub call-refusal : SessionOk st → breeds st history ≡ true → longEnough st ≡ true → planCount history ≤ maxHistory → maxWords ≤ length cs → refusal ≡ breedRefusal st history
+  call-refusal ok b room few l =
+      breed-refusal st history ok (roomOf blankLent) (length cs) rooms rooms rooms l d plan b room few
       ∙ step-refusal st history ok (roomOf blankLent) (length cs) rooms rooms rooms l
 
   pub leaves-same : (n : ℕ) (u : Session) (after : List ℕ) → refusal ≡ some n → state u after ps ns ≡ st → exit (refusedWith n u) after ps ns ≡ sampleOf st d plan history

@@ -1,5 +1,6 @@
 -- What the parts of a session call answer, in the words of the calls' definitions.
 use Prim.Native.Nat.{ℕ}
+use mathlib.Core.Bool.{true}
 use mathlib.Core.List.{List, [], _∷_}
 use mathlib.Core.Option.{Option, none, some}
 use lib.Ieee.{Float}
@@ -45,6 +46,11 @@ stepOn s pool ideal offspring =
 abbrev pub breedRefusal : State → List ℕ → Option ℕ
 breedRefusal st history =
     firstOf (check 8 (badPool (requestOf st history)) ∷ check 9 (badParents (operatorsOf (st .session)) (requestOf st history)) ∷ [])
+
+-- and 10 after them where a slice that is lent is too short
+abbrev pub shortRefusal : State → List ℕ → Option ℕ
+shortRefusal st history =
+    firstOf (check 8 (badPool (requestOf st history)) ∷ check 9 (badParents (operatorsOf (st .session)) (requestOf st history)) ∷ check 10 true ∷ [])
 
 pub record BredExit : Type 0 where
   pub refusal : Option ℕ

@@ -3,16 +3,18 @@
 ghost use mathlib.Core.Path.{_≡_};
 ghost use mathlib.Core.Bool.{true, false, not, _&&_};
 ghost use mathlib.Core.List.{List, []};
+ghost use mathlib.Core.Option.{some};
 ghost use Prim.Native.Nat.{ℕ, _*_, _≤_, _<_};
 ghost use lib.ListN.{length};
 ghost use Rattle.model.specs.Plan.{planCount};
 ghost use Rattle.model.specs.Session.{state, pastDiscovery, discoversFor, discovers, longEnough, evaluated, breeds};
+ghost use Rattle.model.specs.Refusal.{sampleRefusal};
 ghost use Rattle.model.specs.Calls.{refusedBy, sampleOf, Samples};
 ghost use Rattle.model.specs.Property.{SessionOk};
 ghost use Rattle.model.specs.declared.Distribution.{Distribution};
 ghost use Rattle.model.specs.declared.Phase.the-variants as phase;
 ghost use Rattle.session_parts.specs.Exits.{exit};
-ghost use Rattle.session.specs.Exits.{refusedWith, stepped, stepOn, bredExit, breedOf};
+ghost use Rattle.session.specs.Exits.{refusedWith, stepped, stepOn, shortRefusal, bredExit, breedOf};
 use model::Distribution;
 use model::Outcome;
 use model::Phase;
@@ -20,6 +22,7 @@ use model::Sampled;
 use model::Sampling;
 use model::Selection;
 use model::Session;
+use nsga3::Check;
 
 // The most records of a history.
 const MAX_HISTORY: usize = 4096;
@@ -153,7 +156,8 @@ fn sample_bred(
     next_dims: &mut [usize],
 ) -> Sampled
     requires { ⌜ SessionOk (state session (now candidates) (now plans) (now «next_dims»))
-        × (breeds (state session (now candidates) (now plans) (now «next_dims»)) (now history) ≡ true) × (planCount (now history) ≤ 4096) ⌝ }
+        × (breeds (state session (now candidates) (now plans) (now «next_dims»)) (now history) ≡ true) × (planCount (now history) ≤ 4096)
+        × (longEnough (state session (now candidates) (now plans) (now «next_dims»)) ≡ true) ⌝ }
     ensures { λ r. ⌜ ((d : Distribution) → exit r (now (candidates .exit)) (now (plans .exit)) (now («next_dims» .exit))
         ≡ sampleOf (state session (now (candidates .entry)) (now (plans .entry)) (now («next_dims» .entry))) d plan (now (history .entry))) ⌝ }
 {
@@ -215,6 +219,68 @@ fn sample_first(
     session_parts::sample_from_candidate(session, plan, candidates, plans, next_dims)
 }
 
+// ---- a call that is lent a slice too short
+
+// The number of a call that would breed: 8 or 9 for the plans bred from, or else 10. The step is asked with room for all that it would hand out.
+fn bred_refusal(session: Session, history: &[u64], plans: &[u64]) -> u8
+    requires { ⌜ SessionOk (state session [] (now plans) []) × (evaluated (state session [] (now plans) []) (now history) ≡ true) ⌝ }
+    ensures { λ r. ⌜ shortRefusal (state session [] (now (plans .entry)) []) (now (history .entry)) ≡ some r ⌝ }
+{
+    let config = session.config;
+    let n_obj = config.n_obj;
+    let size = config.population_size;
+    let directions = config.directions;
+    let dimensions = session.dimensions;
+    let ideal_point = session.ideal_point;
+    let progress = session.progress;
+    let rng = session.rng;
+    let mut pool = [0u64; POOL_WORDS];
+    session_parts::gather(history, plans, size, &mut pool);
+    let words = size * plans::PLAN_WORDS;
+    let check = generation::refusal(
+        &pool[..words],
+        &directions[..n_obj],
+        config.divisions,
+        size,
+        rng,
+        dimensions,
+        progress.n_dims,
+        config.crossover_prob,
+        config.crossover_eta,
+        config.mutation_eta,
+        &ideal_point[..n_obj],
+        1024,
+        1024,
+        1024,
+        65536,
+    );
+    match check {
+        Check::Refused(number) => number,
+        Check::Good => 10,
+    }
+}
+
+// The number of a call that adds no dimension.
+fn short_refusal(session: Session, history: &[u64], plans: &[u64]) -> u8
+    requires { ⌜ SessionOk (state session [] (now plans) []) × (planCount (now history) ≤ 4096) ⌝ }
+    ensures { λ r. ⌜ ((cs ns : List ℕ) (d : Distribution) (plan : ℕ) → discovers (state session cs (now (plans .entry)) ns) plan ≡ false
+        → longEnough (state session cs (now (plans .entry)) ns) ≡ false
+        → sampleRefusal (state session cs (now (plans .entry)) ns) d plan (now (history .entry)) ≡ some r) ⌝ }
+{
+    let config = session.config;
+    let size = config.population_size;
+    let progress = session.progress;
+    let n = progress.n_plans;
+    let phase = session.phase;
+    let Phase::Active = phase else {
+        return 10;
+    };
+    if session_parts::evaluated(history, plans, n, size) {
+        return bred_refusal(session, history, plans);
+    }
+    10
+}
+
 // ---- the call
 
 // What a call answers and leaves.
@@ -246,7 +312,8 @@ fn answered(
             Phase::Active => sample_active(session, plan, history, candidates, plans, next_dims),
         };
     }
-    refused(session, 10)
+    let number = short_refusal(session, history, plans);
+    refused(session, number)
 }
 
 // A plan asks for its next setting; the answer, or the number of the refusal that the call meets. `history` has the evaluated plans; the other slices are lent

@@ -45,15 +45,11 @@ pub bred-request : (st : State) (history : List ℕ)
     (st .session .config .«population_size») (st .session .rng) (take (st .session .config .«n_obj») (st .session .«ideal_point»)) ≡ requestOf st history
 bred-request st history = rw (bred-count st history)
 
--- ---- a call that breeds is past discovery, and has room
+-- ---- a call that breeds is past discovery
 
 pub breeds-active : (st : State) (history : List ℕ) → breeds st history ≡ true → isActive (st .session) ≡ true
 unfolding breeds
 breeds-active st history e = and-left _ _ e
-
-pub breeds-long : (st : State) (history : List ℕ) → breeds st history ≡ true → longEnough st ≡ true
-unfolding breeds
-breeds-long st history e = and-left _ _ (and-right (isActive (st .session)) _ e)
 
 pub active-discovers : (st : State) (plan : ℕ) → isActive (st .session) ≡ true → discovers st plan ≡ false
 unfolding discovers
@@ -75,6 +71,23 @@ breeding-checks : (adds dimension history bred pool parents long full new : Bool
 unfolding firstOf
 breeding-checks adds dimension history bred pool parents long full new a h b l = rw (a, h, b, l, and-false new, and-false full)
 
+-- and a third where a slice is too short
+short-checks : (adds dimension history bred pool parents long last : Bool) → adds ≡ false → history ≡ false → bred ≡ true → long ≡ false
+    → firstOf (check 6 (adds && dimension) ∷ check 7 history ∷ check 8 (bred && pool) ∷ check 9 (bred && parents) ∷ check 10 (not long) ∷ check 11 last ∷ [])
+    ≡ firstOf (check 8 pool ∷ check 9 parents ∷ check 10 true ∷ [])
+unfolding firstOf
+short-checks adds dimension history bred pool parents long last a h b l = rw (a, h, b, l)
+
+pub short-refusal : (st : State) (history : List ℕ) (d : Distribution) (plan : ℕ) → breeds st history ≡ true → longEnough st ≡ false → planCount history ≤ maxHistory
+    → sampleRefusal st d plan history
+    ≡ firstOf (check 8 (badPool (requestOf st history)) ∷ check 9 (badParents (operatorsOf (st .session)) (requestOf st history)) ∷ check 10 true ∷ [])
+unfolding sampleRefusal
+short-refusal st history d plan bred short few =
+    short-checks (discovers st plan) (leb maxSettings (st .session .progress .«n_dims») || not (validDimension d)) (ltb maxHistory (planCount history))
+    (breeds st history) (badPool (requestOf st history)) (badParents (operatorsOf (st .session)) (requestOf st history)) (longEnough st)
+    (leb maxPlans (st .session .progress .«n_plans») && (isNew st plan && not (breeds st history))) (active-discovers st plan (breeds-active st history bred))
+    (le-ltb maxHistory (planCount history) few) bred short
+
 module _ (st : State) (history : List ℕ) (ok : SessionOk st) where
   request-objectives : objectives (requestOf st history) ≡ st .session .config .«n_obj»
   request-objectives = omega (arith, length-take (st .session .config .«n_obj») (st .session .config .directions), ok .config .objectives)
@@ -92,15 +105,15 @@ module _ (st : State) (history : List ℕ) (ok : SessionOk st) where
   pub offspring-fit : st .session .config .«population_size» * st .session .progress .«n_dims» ≤ maxWords
   offspring-fit = omega (arith, mul-le-mul (ok .config .atMost) (ok .dimensions .few))
 
-  sample-refusal : (d : Distribution) (plan : ℕ) → breeds st history ≡ true → planCount history ≤ maxHistory
+  sample-refusal : (d : Distribution) (plan : ℕ) → breeds st history ≡ true → longEnough st ≡ true → planCount history ≤ maxHistory
       → sampleRefusal st d plan history
       ≡ firstOf (check 8 (badPool (requestOf st history)) ∷ check 9 (badParents (operatorsOf (st .session)) (requestOf st history)) ∷ [])
   unfolding sampleRefusal
-  sample-refusal d plan bred few =
+  sample-refusal d plan bred long few =
       breeding-checks (discovers st plan) (leb maxSettings (st .session .progress .«n_dims») || not (validDimension d)) (ltb maxHistory (planCount history))
       (breeds st history) (badPool (requestOf st history)) (badParents (operatorsOf (st .session)) (requestOf st history)) (longEnough st)
       (leb maxPlans (st .session .progress .«n_plans»)) (isNew st plan) (active-discovers st plan (breeds-active st history bred))
-      (le-ltb maxHistory (planCount history) few) bred (breeds-long st history bred)
+      (le-ltb maxHistory (planCount history) few) bred long
 
   -- what the room has to be: 1,024 for each list, and 65,536 words for the offspring
   module _ (room : Room) (offspring : ℕ) (kept : maxSize ≤ room .kept) (fronts : maxSize ≤ room .fronts) (lines : maxSize ≤ room .lines)
@@ -135,15 +148,15 @@ module _ (st : State) (history : List ℕ) (ok : SessionOk st) where
         ∙ passed-over _ _ (ok .config .operators) ∙ passed-over _ _ (dimensions-good (st .session) (ok .dimensions)) ∙ passed-over _ _ request-size
         ∙ last-one _ _ _ request-room
 
-    -- and so is the session's call
-    pub breed-refusal : (d : Distribution) (plan : ℕ) → breeds st history ≡ true → planCount history ≤ maxHistory
+    -- and so is the session's call, where its slices are long enough
+    pub breed-refusal : (d : Distribution) (plan : ℕ) → breeds st history ≡ true → longEnough st ≡ true → planCount history ≤ maxHistory
         → sampleRefusal st d plan history ≡ stepRefusal (operatorsOf (st .session)) (requestOf st history) room offspring
-    breed-refusal d plan bred few = sample-refusal d plan bred few ∙ sym step-refusal
+    breed-refusal d plan bred long few = sample-refusal d plan bred long few ∙ sym step-refusal
 
     -- as code asks it, of the words bred from
-    pub breed-refusal-words : (d : Distribution) (plan : ℕ) → breeds st history ≡ true → planCount history ≤ maxHistory
+    pub breed-refusal-words : (d : Distribution) (plan : ℕ) → breeds st history ≡ true → longEnough st ≡ true → planCount history ≤ maxHistory
         → sampleRefusal st d plan history ≡ stepRefusal (operatorsOf (st .session))
         (wordRequest (bredFrom st history) (take (st .session .config .«n_obj») (st .session .config .directions)) (st .session .config .divisions)
         (st .session .config .«population_size») (st .session .rng) (take (st .session .config .«n_obj») (st .session .«ideal_point»))) room offspring
-    breed-refusal-words d plan bred few =
-        breed-refusal d plan bred few ∙ ap (λ (r : Request). stepRefusal (operatorsOf (st .session)) r room offspring) (sym (bred-request st history))
+    breed-refusal-words d plan bred long few =
+        breed-refusal d plan bred long few ∙ ap (λ (r : Request). stepRefusal (operatorsOf (st .session)) r room offspring) (sym (bred-request st history))

@@ -228,12 +228,15 @@ pub fn record_of(history: &[u64], plan: u64) -> usize
     n
 }
 
-// The first `size` plans of a generation have come, and all stand in history.
+// The first `size` plans of a generation have come, and all stand in history. A slice that is too short to hold their numbers shows none of them.
 pub fn evaluated(history: &[u64], plans: &[u64], n_plans: usize, size: usize) -> bool
-    requires { ⌜ size ≤ length (now plans) ⌝ }
-    ensures { λ r. ⌜ r ≡ (leb size «n_plans» && allBelow (λ i. ltb (recordOf (now (history .entry)) (getD (now (plans .entry)) i 0)) (planCount (now (history .entry)))) size) ⌝ }
+    ensures { λ r. ⌜ r ≡ (leb size «n_plans» && (leb size (length (now (plans .entry)))
+        && allBelow (λ i. ltb (recordOf (now (history .entry)) (getD (now (plans .entry)) i 0)) (planCount (now (history .entry)))) size)) ⌝ }
 {
     if n_plans < size {
+        return false;
+    }
+    if plans.len() < size {
         return false;
     }
     let n = plans::plan_count(history);

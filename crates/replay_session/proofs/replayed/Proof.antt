@@ -28,7 +28,7 @@ tallied-requires : tie.Need-tallied-requires Inv-loop μ-loop
 tallied-requires c κs = search needs
 
 loop-less : tie.Need-loop-less Inv-loop μ-loop
-loop-less c = let e = c .before .before .before .before .before .before .before .before in let z = e .next-case .ensures .further (e .before .before .before .loop-test .taken) in omega arith
+loop-less c = let e = c .before .before .before .before .before .before .before in let z = e .next-case .ensures .further (e .before .before .before .loop-test .taken) in omega arith
 
 loop-again : tie.Need-loop-again Inv-loop μ-loop
 loop-again c = search needs

@@ -8,7 +8,7 @@ use Rattle.model.specs.Session.{State, state, sampleFromCandidate, pastDiscover
 use Rattle.session_parts.specs.Exits.{exit, settled}
 use Rattle.model.specs.Plan.{planCount}
 use Rattle.session.proofs.Refusals.{leaves-refused}
-use Rattle.session.proofs.Ways.{others, other-7, other-10, long-by, discovery-plans, first-of}
+use Rattle.session.proofs.Ways.{others, other-7, long-by, without-any, discovery-plans, first-of}
 use native.Mathlib.Omega.{arith}
 use borrow.Author.Needs.{needs}
 use Rattle.session.proofs.answered.Statement.{statement}
@@ -90,16 +90,27 @@ same-length-6 c = c .before .before .before .before .before .before .sample-acti
 returns-4 : tie.Need-returns-4
 returns-4 c = c .before .before .before .before .before .before .sample-active .ensures _
 
+short-refusal-requires : tie.Need-short-refusal-requires
+short-refusal-requires c κs =
+    let s = c .before .before .before .before .before .before .before .before .before .before .before in
+    let a = s .args in
+    let few : planCount (a .history .now) ≤ 4096 = omega (arith, c .before .before .if2 .left, c .before .before .before .plan-count .ensures) in
+    (without-any (a .session) (a .candidates .now) (a .plans .now) (a .next-dims .now) (a .distribution) (a .plan) (a .history .now) (s .pre), few)
+
 refused-requires-2 : tie.Need-refused-requires-2
 refused-requires-2 c κs = tt
 
+same-length-7 : tie.Need-same-length-7
+same-length-7 c = refl
+
 returns-5 : tie.Need-returns-5
 returns-5 c =
-    let a = c .before .before .before .before .before .before .before .before .before .before .before .args in
-    let few : planCount (a .history .now) ≤ 4096 = omega (arith, c .before .before .if2 .left, c .before .before .before .plan-count .ensures) in
+    let a = c .before .before .before .before .before .before .before .before .before .before .before .before .before .args in
     ap (λ (r : Sampled). exit r (a .candidates .now) (a .plans .now) (a .next-dims .now)) (c .refused2 .ensures)
-    ∙ leaves-refused (a .session) (a .candidates .now) (a .plans .now) (a .next-dims .now) (a .distribution) (a .plan) (a .history .now) 10
-    (other-10 (a .session) (a .candidates .now) (a .plans .now) (a .next-dims .now) (a .distribution) (a .plan) (a .history .now) (others (a .session) (a .candidates .now) (a .plans .now) (a .next-dims .now) (a .distribution) (a .plan) (a .history .now) (sym (c .before .before .before .before .before .discovers .ensures) ∙ c .before .before .before .before .if1 .left)) few (long-by (a .session) (a .candidates .now) (a .plans .now) (a .next-dims .now) (a .distribution) (a .plan) (a .history .now) _ (c .before .before .before .before .before .before .long-enough .ensures) ∙ c .before .if3 .left))
+    ∙ leaves-refused (a .session) (a .candidates .now) (a .plans .now) (a .next-dims .now) (a .distribution) (a .plan) (a .history .now) _
+    (c .before .short-refusal .ensures (a .candidates .now) (a .next-dims .now) (a .distribution) (a .plan)
+    (others (a .session) (a .candidates .now) (a .plans .now) (a .next-dims .now) (a .distribution) (a .plan) (a .history .now) (sym (c .before .before .before .before .before .before .before .discovers .ensures) ∙ c .before .before .before .before .before .before .if1 .left))
+    (long-by (a .session) (a .candidates .now) (a .plans .now) (a .next-dims .now) (a .distribution) (a .plan) (a .history .now) _ (c .before .before .before .before .before .before .before .before .long-enough .ensures) ∙ c .before .before .before .if3 .left))
 
 pub answered-spec : {M : Type 1} → statement M
 answered-spec =
@@ -124,5 +135,7 @@ answered-spec =
     same-length-5
     same-length-6
     returns-4
+    short-refusal-requires
     refused-requires-2
+    same-length-7
     returns-5)

@@ -16,16 +16,13 @@ use Rattle.session.proofs.sample_active.Statement.{statement}
 use Rattle.session.proofs.sample_active.Tie as tie
 
 evaluated-requires : tie.Need-evaluated-requires
-evaluated-requires c κs =
-    let s = c .before .before .before .before .before .before .before in
-    let a = s .args in
-    omega (arith, s .pre .0 .config .atMost, long (state (a .session) (a .candidates .now) (a .plans .now) (a .next-dims .now)) (s .pre .2) .plans)
+evaluated-requires c κs = tt
 
 sample-bred-requires : tie.Need-sample-bred-requires
 sample-bred-requires c κs =
     let s = c .before .before .before .before .before .before .before .before .before .before .before .before in
     let a = s .args in
-    (s .pre .0, breeds-by (a .session) (a .candidates .now) (a .plans .now) (a .next-dims .now) unused 0 (a .history .now) true (ap pastDiscovery (s .pre .1)) (s .pre .2) (sym (c .before .before .before .before .evaluated .ensures) ∙ c .before .before .before .if1 .taken), s .pre .3)
+    (s .pre .0, breeds-by (a .session) (a .candidates .now) (a .plans .now) (a .next-dims .now) unused 0 (a .history .now) true (ap pastDiscovery (s .pre .1)) (sym (c .before .before .before .before .evaluated .ensures) ∙ c .before .before .before .if1 .taken), s .pre .3, s .pre .2)
 
 same-length : tie.Need-same-length
 same-length c = c .before .before .before .before .before .before .sample-bred .kept .1 .1 .1 .0
@@ -56,7 +53,7 @@ returns-2 c d =
     let s = c .before .before .before .before .before .before .before .before .before .before .before .before .before in
     let a = s .args in
     let i = ap pastDiscovery (s .pre .1) in
-    let b = breeds-by (a .session) (a .candidates .now) (a .plans .now) (a .next-dims .now) d (a .plan) (a .history .now) false i (s .pre .2) (sym (c .before .before .before .before .before .evaluated .ensures) ∙ c .before .before .before .before .if1 .left) in
+    let b = breeds-by (a .session) (a .candidates .now) (a .plans .now) (a .next-dims .now) d (a .plan) (a .history .now) false i (sym (c .before .before .before .before .before .evaluated .ensures) ∙ c .before .before .before .before .if1 .left) in
     ap (λ (r : Sampled). exit r (a .candidates .now) (a .plans .now) (a .next-dims .now)) (c .refused .ensures)
     ∙ leaves-refused (a .session) (a .candidates .now) (a .plans .now) (a .next-dims .now) d (a .plan) (a .history .now) 11
     (unbred-11 (a .session) (a .candidates .now) (a .plans .now) (a .next-dims .now) d (a .plan) (a .history .now) (active-others (a .session) (a .candidates .now) (a .plans .now) (a .next-dims .now) d (a .plan) (a .history .now) i) (s .pre .3) (s .pre .2) b (sym (c .before .before .full .ensures) ∙ c .before .if2 .taken))
@@ -88,7 +85,7 @@ returns-3 c d =
     let s = c .before .before .before .before .before .before .before .before .before .before .before .before .before .before .before .before .before .before .before .before .before .before in
     let a = s .args in
     let i = ap pastDiscovery (s .pre .1) in
-    let b = breeds-by (a .session) (a .candidates .now) (a .plans .now) (a .next-dims .now) d (a .plan) (a .history .now) false i (s .pre .2) (sym (c .before .before .before .before .before .before .before .before .before .before .before .before .before .before .evaluated .ensures) ∙ c .before .before .before .before .before .before .before .before .before .before .before .before .before .if1 .left) in
+    let b = breeds-by (a .session) (a .candidates .now) (a .plans .now) (a .next-dims .now) d (a .plan) (a .history .now) false i (sym (c .before .before .before .before .before .before .before .before .before .before .before .before .before .before .evaluated .ensures) ∙ c .before .before .before .before .before .before .before .before .before .before .before .before .before .if1 .left) in
     let o = active-others (a .session) (a .candidates .now) (a .plans .now) (a .next-dims .now) d (a .plan) (a .history .now) i in
     c .before .before .before .before .before .before .sample-from-candidate .ensures
     ∙ leaves-accepted (a .session) (a .candidates .now) (a .plans .now) (a .next-dims .now) d (a .plan) (a .history .now) _

@@ -13,6 +13,9 @@ use borrow.Author.Needs.{needs}
 use Rattle.session_parts.proofs.evaluated.Statement.{statement}
 use Rattle.session_parts.proofs.evaluated.Tie as tie
 
+all-three : {a b c d : Bool} → a ≡ true → b ≡ true → c ≡ d → (a && (b && c)) ≡ d
+all-three e f g = rw (e, f) g
+
 abbrev Inv-loop : tie.InvT-loop
 Inv-loop history plans n-plans size n i₀ i = (i ≤ size) × (allBelow (stands history plans) i ≡ true)
 
@@ -22,7 +25,13 @@ abbrev μ-loop : tie.MeasureT-loop
 returns : tie.Need-returns Inv-loop μ-loop
 returns c =
     let a = c .before .before .before .args in
-    sym (ap (λ (x : Bool). x && allBelow (stands (a .history .now) (a .plans .now)) (a .size)) (lt-leb (a .size) (a .n-plans) (c .if1 .taken)))
+    sym (ap (λ (x : Bool). x && (leb (a .size) (length (a .plans .now)) && allBelow (stands (a .history .now) (a .plans .now)) (a .size))) (lt-leb (a .size) (a .n-plans) (c .if1 .taken)))
+
+returns-2 : tie.Need-returns-2 Inv-loop μ-loop
+returns-2 c =
+    let a = c .before .before .before .before .args in
+    sym (ap₂ (λ (x y : Bool). x && (y && allBelow (stands (a .history .now) (a .plans .now)) (a .size)))
+    (le-leb (a .size) (a .n-plans) (c .before .if1 .left)) (lt-leb (a .size) (length (a .plans .now)) (c .if2 .taken)))
 
 plan-count-requires : tie.Need-plan-count-requires Inv-loop μ-loop
 plan-count-requires c κs = search needs
@@ -48,27 +57,29 @@ loop-less c = omega arith
 loop-again : tie.Need-loop-again Inv-loop μ-loop
 loop-again c =
     let l = c .before .before .before .before .loop in
-    let a = c .before .before .before .before .before .before .before .before .before .args in
+    let a = c .before .before .before .before .before .before .before .before .before .before .args in
     let e = c .before .record-of .ensures in
     let n = c .before .before .before .before .before .plan-count .ensures in
-    (omega arith, allBelow-yes (stands (a .history .now) (a .plans .now)) (l .i) (l .inv .1) (sym (ap₂ (λ (x y : ℕ). ltb x y) e n) ∙ lt-ltb _ _ (c .if2 .taken)))
-
-returns-2 : tie.Need-returns-2 Inv-loop μ-loop
-returns-2 c =
-    let l = c .before .before .before .before .loop in
-    let a = c .before .before .before .before .before .before .before .before .before .args in
-    let e = c .before .record-of .ensures in
-    let n = c .before .before .before .before .before .plan-count .ensures in
-    let t = c .before .before .before .loop-test .taken in
-    sym (ap₂ (λ (x y : Bool). x && y) (le-leb (a .size) (a .n-plans) (c .before .before .before .before .before .before .if1 .left))
-    (allBelow-no (stands (a .history .now) (a .plans .now)) (a .size) (l .i) t (sym (ap₂ (λ (x y : ℕ). ltb x y) e n) ∙ le-ltb _ _ (c .if2 .left))))
+    (omega arith, allBelow-yes (stands (a .history .now) (a .plans .now)) (l .i) (l .inv .1) (sym (ap₂ (λ (x y : ℕ). ltb x y) e n) ∙ lt-ltb _ _ (c .if3 .taken)))
 
 returns-3 : tie.Need-returns-3 Inv-loop μ-loop
 returns-3 c =
+    let l = c .before .before .before .before .loop in
+    let a = c .before .before .before .before .before .before .before .before .before .before .args in
+    let e = c .before .record-of .ensures in
+    let n = c .before .before .before .before .before .plan-count .ensures in
+    let t = c .before .before .before .loop-test .taken in
+    sym (all-three (le-leb (a .size) (a .n-plans) (c .before .before .before .before .before .before .before .if1 .left))
+    (le-leb (a .size) (length (a .plans .now)) (c .before .before .before .before .before .before .if2 .left))
+    (allBelow-no (stands (a .history .now) (a .plans .now)) (a .size) (l .i) t (sym (ap₂ (λ (x y : ℕ). ltb x y) e n) ∙ le-ltb _ _ (c .if3 .left))))
+
+returns-4 : tie.Need-returns-4 Inv-loop μ-loop
+returns-4 c =
     let l = c .before .loop in
-    let a = c .before .before .before .before .before .before .args in
+    let a = c .before .before .before .before .before .before .before .args in
     let e : l .i ≡ a .size = omega arith in
-    sym (ap₂ (λ (x y : Bool). x && y) (le-leb (a .size) (a .n-plans) (c .before .before .before .if1 .left))
+    sym (all-three (le-leb (a .size) (a .n-plans) (c .before .before .before .before .if1 .left))
+    (le-leb (a .size) (length (a .plans .now)) (c .before .before .before .if2 .left))
     (ap (allBelow (stands (a .history .now) (a .plans .now))) (sym e) ∙ l .inv .1))
 
 pub evaluated-spec : {M : Type 1} → statement M
@@ -78,6 +89,7 @@ evaluated-spec =
     Inv-loop
     μ-loop
     returns
+    returns-2
     plan-count-requires
     loop-holds
     mul-record-of
@@ -86,5 +98,5 @@ evaluated-spec =
     add-i
     loop-less
     loop-again
-    returns-2
-    returns-3)
+    returns-3
+    returns-4)
