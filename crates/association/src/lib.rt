@@ -1,4 +1,7 @@
 // Normalisation and association (document 01, "Association"; Rust: sampler/nsga3.rs), over flat rows: plan p's value at objective j is entry p * m + j.
+use model::MAX_LINES;
+use model::MAX_OBJECTIVES;
+use model::MAX_VALUES;
 use real;
 ghost use mathlib.Core.Path.{_≡_};
 ghost use Prim.Native.Nat.{ℕ, _+_, _*_, _<_, _≤_};
@@ -313,17 +316,14 @@ fn nearest_lines(
     }
 }
 
-// How many lines' r·r are worked out once, and not again for each plan.
-const MAX_NORMS: usize = 1024;
-
 // So many, or all.
 fn known_norms(n_lines: usize) -> usize
     ensures { λ r. ⌜ (r ≤ «n_lines») × (r ≤ 1024) ⌝ }
 {
-    if n_lines < MAX_NORMS {
+    if n_lines < MAX_LINES {
         n_lines
     } else {
-        MAX_NORMS
+        MAX_LINES
     }
 }
 
@@ -343,7 +343,7 @@ pub fn associate_to_reference_points(
         ≡ over (listBelow (λ p. nearestAt (now (normalized .entry)) m (now (table .entry)) «n_lines» p .distance) n) (now (distances .entry))) ⌝ }
 {
     let known = known_norms(n_lines);
-    let mut norms = [0.0; MAX_NORMS];
+    let mut norms = [0.0; MAX_LINES];
     line_norms(table, known, m, &mut norms);
     nearest_lines(
         normalized,
@@ -359,11 +359,6 @@ pub fn associate_to_reference_points(
 }
 
 // ---- all of it
-
-// The most objectives, and the most values of a pool.
-const MAX_OBJECTIVES: usize = 8;
-
-const MAX_VALUES: usize = 8192;
 
 // Moves the ideal, normalises the rows, and gives each plan its line and its distance from it.
 pub fn associate(

@@ -3,12 +3,13 @@ use libc::STDERR_FILENO;
 use libc::STDIN_FILENO;
 use libc::STDOUT_FILENO;
 use model::Chosen;
+use model::MAX_TEXT;
 ghost use Prim.Native.Nat.{_≤_};
 ghost use lib.ListN.{length};
 ghost use Rattle.choose.specs.Printing.{Prints};
 
 // The text for a file's bytes, at the front of the array lent, which has room for the longest; answers its length.
-fn answer(file: &[u8], out: &mut [u8; 20501]) -> usize
+fn answer(file: &[u8], out: &mut [u8; MAX_TEXT]) -> usize
     ensures { λ r. ⌜ Prints (now (file .entry)) (now (out .entry)) (now (out .exit)) r ⌝ }
 {
     let chosen = pool_choice::choose(file, out);
@@ -42,7 +43,7 @@ fn read_input(buffer: &mut [u8]) -> usize
 // One byte more than the longest file is read, so that a longer one is told.
 fn main() {
     let mut buffer = [0u8; 65537];
-    let mut out = [0u8; 20501];
+    let mut out = [0u8; MAX_TEXT];
     let n = read_input(&mut buffer);
     let length = answer(&buffer[..n], &mut out);
     if !io::write_all(STDOUT_FILENO, &out[..length]) {

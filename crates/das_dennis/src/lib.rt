@@ -1,4 +1,5 @@
 // The reference lines of Das and Dennis (document 01, "Reference table"): how many there are, how many divisions to take, and the table itself.
+use model::MAX_LINES;
 use model::OptionUsize;
 ghost use mathlib.Core.Path.{_≡_};
 ghost use mathlib.Core.Bool.{false};
@@ -160,7 +161,7 @@ pub fn bad_divisions(m: usize, h: usize) -> bool
     if 199 < h {
         return true;
     }
-    1024 < point_count(m, h)
+    MAX_LINES < point_count(m, h)
 }
 
 // Refusal 4 at the opening of a session, for divisions given or automatic.

@@ -13,17 +13,13 @@ ghost use Rattle.model.specs.Calls.{wordRequest, lent, roomOf, operators, stepA
 ghost use Rattle.settings.specs.Candidate.{dimensionsOf};
 ghost use Rattle.nsga3.specs.Checked.{checked};
 ghost use Rattle.generation.specs.Bred.{bredFrom, exit};
+use model::CANDIDATE_WORDS;
 use model::DimensionInfo;
+use model::MAX_PLANS;
 use model::Outcome;
 use model::Rng;
 use model::Selection;
 use nsga3::Check;
-
-// The most plans of a pool and of a generation.
-const MAX_PLANS: usize = 1024;
-
-// The most words of a generation's candidates.
-const MAX_WORDS: usize = 32768;
 
 // ---- the refusals
 
@@ -138,7 +134,7 @@ fn breed(
         ≡ bredFrom (operators dims «n_dims» «crossover_prob» «crossover_eta» «mutation_eta») (now (pool .entry)) (now (directions .entry))
         (now (kept .entry)) size (rng .s) .state ⌝ }
 {
-    let mut parents: [u64; MAX_WORDS] = [0; MAX_WORDS];
+    let mut parents: [u64; CANDIDATE_WORDS] = [0; CANDIDATE_WORDS];
     let rng = offspring::fill_parents(pool, kept, size, dims, n_dims, rng, &mut parents);
     let mut ranks: [usize; MAX_PLANS] = [0; MAX_PLANS];
     offspring::fill_ranks(pool, directions, kept, size, &mut ranks);

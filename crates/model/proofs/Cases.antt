@@ -39,7 +39,7 @@ unfolding add sub mul div lt le eq ofBits ofInt neg Lists.anyBelow Lists.allBelo
     Refusal.badOperators Refusal.badDimensions Refusal.measurable Refusal.goodPlan Refusal.goodIdeal Refusal.badPool Refusal.namedOnce Refusal.fitsDimension
     Refusal.breedable Refusal.badParents Refusal.noRoom Refusal.selectRefusal Refusal.noStepRoom Refusal.stepRefusal Refusal.openRefusal Refusal.sampleRefusal
     Refusal.fileRefusal Refusal.chooseRefusal Calls.selectAccepted Calls.selectOf Calls.stepAccepted Calls.stepOf Calls.openOf Calls.sampleOf Calls.chooseOf
-    Calls.printed Cases.planWith Cases.requestWith Cases.fileOf Cases.exampleFile Cases.spanOfOne Cases.nearTie Cases.freedLater Cases.starved Cases.example
+    Calls.printed Cases.planWith Cases.requestWith Cases.fileOf Cases.exampleFile Cases.spanOfOne Cases.nearTie Cases.freedLater Cases.betterButInfeasible Cases.example
 p-cases = record {
   p1 = refl;
   p2 = refl;
@@ -83,7 +83,7 @@ unfolding add sub mul div lt le eq ofBits ofInt neg Deb.undominatedOfRest Deb.in
     Refusal.fitsDimension Refusal.breedable Refusal.badParents Refusal.noRoom Refusal.selectRefusal Refusal.noStepRoom Refusal.stepRefusal Refusal.openRefusal
     Refusal.sampleRefusal Refusal.fileRefusal Refusal.chooseRefusal Calls.selectAccepted Calls.selectOf Calls.stepAccepted Calls.stepOf Calls.openOf
     Calls.sampleOf Calls.chooseOf Calls.printed Cases.planWith Cases.requestWith Cases.fileOf Cases.exampleFile Cases.spanOfOne Cases.nearTie Cases.freedLater
-    Cases.starved Cases.example
+    Cases.betterButInfeasible Cases.example
 traps = record {
   byRoots = refl;
   bySquares = refl;

@@ -11,7 +11,7 @@ use Rattle.model.specs.declared.ParamValue.the-variants as value
 use Rattle.model.specs.declared.Distribution.{Distribution}
 use Rattle.model.specs.declared.Distribution.the-variants as dist
 use Rattle.model.specs.Lists.{keepBelow}
-use Rattle.model.specs.Real.{real, nought, half, unit, infinity}
+use Rattle.model.specs.Real.{real, nought, half, unit, infinity, _⊘_}
 use Rattle.model.specs.Draw.{drawn, step, drawWord}
 use Rattle.model.specs.Numbers.{roundOf, R}
 use Rattle.model.specs.Plan.{Plan, Setting}
@@ -147,7 +147,10 @@ nearTie = requestWith 2 2 (planWith (nought ∷ unit ∷ []) []
 
 -- the sum of squares of plan 2's distance from a line
 abbrev pub squaresTo : ℕ → Float
-squaresTo l = offSquares 2 (normalised nearTie 2) (coordinate nearTie l) (Rattle.model.specs.Real._⊘_ (dot 2 (normalised nearTie 2) (coordinate nearTie l)) (dot 2 (coordinate nearTie l) (coordinate nearTie l)))
+squaresTo l =
+    let p = normalised nearTie 2 in
+    let r = coordinate nearTie l in
+    offSquares 2 p r (dot 2 p r ⊘ dot 2 r r)
 
 -- (0,1), (1,0), (1.5,0.5) and (0.5,1.5): plan 3 is freed by plan 0, plan 2 only later by plan 1
 unfoldable pub freedLater : Request
@@ -158,8 +161,8 @@ freedLater = requestWith 1 3 (planWith (nought ∷ unit ∷ []) []
     ∷ [])
 
 -- a plan with the better row that breaks its constraint, and one that keeps it
-unfoldable pub starved : Request
-starved = requestWith 1 2 (planWith (nought ∷ nought ∷ []) (unit ∷ []) ∷ planWith (unit ∷ unit ∷ []) (nought ∷ []) ∷ [])
+unfoldable pub betterButInfeasible : Request
+betterButInfeasible = requestWith 1 2 (planWith (nought ∷ nought ∷ []) (unit ∷ []) ∷ planWith (unit ∷ unit ∷ []) (nought ∷ []) ∷ [])
 
 -- document 01's example
 unfoldable pub example : Request
@@ -178,10 +181,10 @@ pub record Traps : Type 0 where
   pub asFreed : front (dominance freedLater) 4 1 ≡ 3 ∷ 2 ∷ []
   pub byIndex : keepBelow (inFront (dominance freedLater) 4 1) 4 ≡ 2 ∷ 3 ∷ []
   -- "ranking tournaments with constraints"
-  pub rankByRows : rankOf starved (0 ∷ 1 ∷ []) 0 ≡ 0
-  pub rankByRows-other : rankOf starved (0 ∷ 1 ∷ []) 1 ≡ 1
-  pub rankConstrained : frontOf (dominance starved) 2 0 ≡ 1
-  pub rankConstrained-other : frontOf (dominance starved) 2 1 ≡ 0
+  pub rankByRows : rankOf betterButInfeasible (0 ∷ 1 ∷ []) 0 ≡ 0
+  pub rankByRows-other : rankOf betterButInfeasible (0 ∷ 1 ∷ []) 1 ≡ 1
+  pub rankConstrained : frontOf (dominance betterButInfeasible) 2 0 ≡ 1
+  pub rankConstrained-other : frontOf (dominance betterButInfeasible) 2 1 ≡ 0
   -- "drawing nothing when one line is left": at the one open place of document 01's example
   pub oneLine : leastLines (nicheCount (lineOf example) (before example)) (openLines (lineOf example) 2 (splitFront example)) ≡ 1 ∷ []
   pub oneDraw : selected example .state ≡ step 5

@@ -56,7 +56,8 @@ pub record LentOk (st : State) : Type 0 where
   pub next : (i : ℕ) → i < st .session .progress .«n_plans» → getD (st .nextDims) i 0 ≤ st .session .progress .«n_dims»
   pub settings : WordsWithin (dimensionOf (st .session)) (st .session .progress .«n_dims») (st .session .progress .«n_candidates») (st .candidates)
 
--- Slices that are too short hold nothing that can be spoken of: they meet refusal 10, and the property asks nothing of them.
+-- Of the lent slices it speaks only where they are as long as refusal 10 asks: with one too short every call is turned down, by 10 or a lower number, and
+-- leaves all as it was.
 pub record SessionOk (st : State) : Type 0 where
   pub config : ConfigOk (st .session .config)
   pub dimensions : DimensionsOk (st .session)

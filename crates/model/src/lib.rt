@@ -1,4 +1,29 @@
-// The types of the product. Names are those of the Rust; `Option` and `Distribution` are enums of our own.
+// The types and the limits of the product. Names are those of the Rust; `Option` and `Distribution` are enums of our own.
+
+// The limits of document 01 that sizes of arrays and loops name; the definitions of `specs` have the same numbers.
+pub const MAX_OBJECTIVES: usize = 8;
+// of a size and of a pool
+pub const MAX_PLANS: usize = 1024;
+
+pub const MAX_LINES: usize = 1024;
+
+pub const MAX_DIMS: usize = 32;
+
+// A plan as words (docs/DECISIONS.md, "Plans as words"), a pool of MAX_PLANS of them, and as many candidates of MAX_DIMS settings.
+pub const PLAN_WORDS: usize = 124;
+
+pub const POOL_WORDS: usize = 126976;
+
+pub const CANDIDATE_WORDS: usize = 32768;
+
+// The rows of a pool, and a table of lines.
+pub const MAX_VALUES: usize = 8192;
+
+// What a plan has where no line was looked for.
+pub const NO_LINE: usize = 18446744073709551615;
+
+// The longest listing of `choose`, in bytes.
+pub const MAX_TEXT: usize = 20501;
 
 // The generator (document 01, "Draw"): one word of state, which any seed may be.
 pub struct Rng {

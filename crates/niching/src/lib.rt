@@ -8,11 +8,9 @@ ghost use Rattle.model.specs.Draw.{drawn, drawUsize};
 ghost use Rattle.model.specs.Kept.{nicheCount, leastLines, drawFrom, nearest, drawMember};
 ghost use Rattle.niching.specs.Niche.{lineIn, distanceIn, planAt, countOf, hasWaiting, isLeast, lesser, leastBelow, waitsOn, places, members, placeDistance, nearerOf};
 ghost use Rattle.niching.specs.Niche.{Kth, OnLines, Zeros, Open, Listed, Measured, MemberOf, Ready, Took, Splits, NichingSelects};
+use model::MAX_PLANS;
 use model::Rng;
 use rng_util::DrawnUsize;
-
-// The most plans of a pool, and the most lines.
-pub const MAX_PLANS: usize = 1024;
 
 // How many of the plans are on each line.
 pub fn count_lines(plans: &[usize], lines: &[usize], counts: &mut [usize])

@@ -15,16 +15,12 @@ ghost use Rattle.model.specs.declared.Rng.{Rng};
 ghost use Rattle.nsga3.specs.Checked.{checked};
 ghost use Rattle.nsga3_laws.specs.Admitted.{Admitted};
 ghost use Rattle.nsga3.specs.Laid.{RowsIn, OrderIn, Sorts, Hands, exit};
+use model::MAX_PLANS;
+use model::MAX_VALUES;
 use model::Outcome;
 use model::Rng;
 use model::Selection;
 use plans::Cut;
-
-// The most plans of a pool, and the most lines.
-const MAX_PLANS: usize = 1024;
-
-// The most values of a pool's rows, and of a table of lines.
-const MAX_VALUES: usize = 8192;
 
 // Whether a call goes through, or the number of the refusal that it meets.
 pub enum Check {

@@ -1,12 +1,10 @@
 // Runs document 01's example and calls around it through the public selection, and prints all that each leaves. What a call does not write stays 9.
 use libc::STDOUT_FILENO;
 use model::Outcome;
+use model::PLAN_WORDS;
 use model::Rng;
 ghost use Prim.Native.Nat.{_+_, _*_, _≤_};
 ghost use lib.ListN.{length};
-
-// The words of a plan.
-const PLAN: usize = 124;
 
 fn text(t: &[u8]) {
     io::write_all(STDOUT_FILENO, t);
@@ -33,7 +31,7 @@ fn list(label: &[u8], entries: &[usize]) {
 fn put_plan(pool: &mut [u64], i: usize, a: u64, b: u64)
     requires { ⌜ (i ≤ 2) × (372 ≤ length (now pool)) ⌝ }
 {
-    let at = i * PLAN;
+    let at = i * PLAN_WORDS;
     pool[at] = i as u64;
     pool[at + 1] = 2;
     pool[at + 2] = a;
@@ -76,7 +74,7 @@ fn call(m: usize, divisions: usize, size: usize, plans: usize)
     let mut kept: [usize; 8] = [9; 8];
     let mut fronts: [usize; 4] = [9; 4];
     let mut lines: [usize; 4] = [9; 4];
-    let words = plans * PLAN;
+    let words = plans * PLAN_WORDS;
     let s = nsga3::nsga3_select(
         &pool[..words],
         &directions[..m],

@@ -5,10 +5,8 @@ ghost use Prim.Native.Nat.{_-_, _<_, _≤_};
 ghost use lib.ListN.{length, take, replicate};
 ghost use Rattle.model.specs.Lists.{over};
 ghost use Rattle.model.specs.Kept.{padding, noLine};
+use model::NO_LINE;
 use model::Rng;
-
-// The mark for "no line".
-pub const NO_LINE: usize = 18446744073709551615;
 
 // The first n entries of a list, at the front of another.
 pub fn copy_first(from: &[usize], n: usize, to: &mut [usize])

@@ -15,14 +15,10 @@ ghost use Rattle.model.specs.Refusal.{goodPlan, badDimensions, badOperators, br
 ghost use Rattle.settings.specs.Candidate.{dimensionsOf, settingsOf, parentsIn};
 ghost use Rattle.genetic.specs.Parents.{operators};
 use model::DimensionInfo;
+use model::MAX_PLANS;
+use model::MAX_VALUES;
 use model::Rng;
 use settings::Slot;
-
-// The most plans of a pool and of a generation.
-const MAX_PLANS: usize = 1024;
-
-// The most values of a pool's rows.
-const MAX_VALUES: usize = 8192;
 
 // ---- ranks
 

@@ -1,4 +1,5 @@
 // Domination and non-dominated fronts (Rust: pareto.rs), over flat rows in minimise-space: row p has m entries and starts at p * m.
+use model::MAX_PLANS;
 ghost use mathlib.Core.Path.{_≡_};
 ghost use Prim.Native.Nat.{ℕ, _+_, _*_, _-_, _<_, _≤_};
 ghost use mathlib.Core.Bool.{Bool, true, false, not, _&&_};
@@ -12,9 +13,6 @@ ghost use Rattle.model.specs.Refusal.{maxSize};
 ghost use Rattle.pareto.specs.Flat.{rowAt, minimised, flatDominates, flatBeats, Pool, Within, KnownRows};
 ghost use Rattle.pareto.specs.Compared.{Decides, Countable, Raised};
 ghost use Rattle.pareto.specs.Post.{Freed, Releasable, Released, Ready, Passed, Sorted};
-
-// The most plans of a pool.
-pub const MAX_PLANS: usize = 1024;
 
 // A maximised value is negated; the mark is 0 to minimise, 1 to maximise.
 pub fn to_minimize(value: f64, direction: u8) -> f64

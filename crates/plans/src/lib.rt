@@ -1,4 +1,6 @@
 // Plans out of a lent slice of words, a block of 124 words each, and the refusals that look at directions, plans and the ideal (2 and 8).
+use model::MAX_PLANS;
+use model::PLAN_WORDS;
 ghost use mathlib.Core.Path.{_≡_};
 ghost use Prim.Native.Nat.{ℕ, _+_, _*_, _<_, _≤_};
 ghost use mathlib.Core.Bool.{not, _&&_, _||_};
@@ -11,9 +13,7 @@ ghost use Rattle.model.specs.Refusal.{badDirections, measurable, isInfinity, ba
 ghost use Rattle.plans.specs.Filled.{RowAt, RowsOf, ConstraintsAt, ConstraintsOf};
 ghost use Rattle.plans.specs.Fitting.{fitting, startOf, cutOf};
 
-// The words of a plan, and where its row length, values, constraint count and constraints stand among them.
-pub const PLAN_WORDS: usize = 124;
-
+// Where a plan's row length, values, constraint count and constraints stand among its words.
 const ROW_LENGTH: usize = 1;
 
 const VALUES: usize = 2;
@@ -148,7 +148,7 @@ pub fn bad_count(n: usize) -> bool
     if n == 0 {
         return true;
     }
-    1024 < n
+    MAX_PLANS < n
 }
 
 // Refusal 8 for a pool and its ideal.

@@ -11,19 +11,13 @@ ghost use Rattle.model.specs.Calls.{maxText, wordRequest, Chooses};
 ghost use Rattle.pool_text.specs.Text.{listed};
 ghost use Rattle.pool_choice.specs.Choice.{exit, textExit, listExit, crowdedNumber};
 use model::Chosen;
+use model::MAX_PLANS;
+use model::MAX_TEXT;
 use model::Outcome;
+use model::PLAN_WORDS;
+use model::POOL_WORDS;
 use model::Rng;
 use pool_file::Parsed;
-
-// The longest listing.
-pub const MAX_TEXT: usize = 20501;
-
-// The most plans of a pool, and the words that they take.
-const MAX_PLANS: usize = 1024;
-
-const PLAN_WORDS: usize = 124;
-
-const POOL_WORDS: usize = 126976;
 
 // The first n bytes of a text, at the front of another slice.
 fn copy_text(text: &[u8], n: usize, out: &mut [u8])
@@ -128,7 +122,7 @@ pub fn choose(file: &[u8], out: &mut [u8]) -> Chosen
     let m = header.m as usize;
     let divisions = header.divisions as usize;
     let size = header.size as usize;
-    if 1024 < header.count {
+    if MAX_PLANS < header.count {
         return Chosen::Refused(crowded(&directions[..m], divisions, size));
     }
     let words = header.count as usize * PLAN_WORDS;

@@ -1,4 +1,6 @@
 // The pool file (document 01, "Pool file"): the reader of its numbers, and the parser that lays its plans out as words.
+use model::MAX_PLANS;
+use model::PLAN_WORDS;
 ghost use mathlib.Core.Path.{_≡_};
 ghost use Prim.Native.Nat.{_+_, _*_, _<_, _≤_};
 ghost use lib.ListN.{length, set};
@@ -40,12 +42,8 @@ pub enum Parsed {
     Broken,
 }
 
-// The longest file, the most plans of a pool, and the words of a plan.
+// The longest file.
 pub const MAX_FILE: usize = 65536;
-
-pub const MAX_PLANS: usize = 1024;
-
-pub const PLAN_WORDS: usize = 124;
 
 fn wide(x: u8) -> u64
     ensures { λ r. ⌜ r ≡ x ⌝ }

@@ -1,4 +1,6 @@
 // The text that `choose` prints (document 01, "Pool file"): the listing of a selection, or a refusal's number.
+use model::MAX_PLANS;
+use model::NO_LINE;
 ghost use mathlib.Core.Path.{_≡_};
 ghost use mathlib.Core.List.{[], _∷_, _++_};
 ghost use Prim.Native.Nat.{ℕ, _+_, _^_, _<_, _≤_};
@@ -7,12 +9,6 @@ ghost use Rattle.model.specs.Lists.{joinBelow, over};
 ghost use Rattle.model.specs.Refusal.{maxSize};
 ghost use Rattle.model.specs.PoolFile.{ascii, digitsOf, decimal, lineText, headerText, placeOf, listingText, refusedText};
 ghost use Rattle.pool_text.specs.Text.{Put, listed, fieldsText, fieldsOf, Marked};
-
-// The mark for "no line".
-pub const NO_LINE: usize = 18446744073709551615;
-
-// The most plans of a listing.
-pub const MAX_PLANS: usize = 1024;
 
 // A decimal digit in ASCII.
 fn digit(n: usize) -> u8
@@ -185,7 +181,7 @@ pub fn write_listing(
     ensures text { λ _. ⌜ now (out .exit)
         ≡ over (listingText count (listed (now (kept .entry)) (now (fronts .entry)) (now (lines .entry)))) (now (out .entry)) ⌝ }
 {
-    let mut places = [0; 1024];
+    let mut places = [0; MAX_PLANS];
     mark_places(kept, &mut places);
     let at = put_header(count, kept.len(), out, 0);
     put_plans(count, fronts, lines, &places, out, at)

@@ -16,7 +16,10 @@ ghost use Rattle.model.specs.declared.Phase.the-variants as phase;
 ghost use Rattle.session_parts.specs.Exits.{exit};
 ghost use Rattle.session.specs.Exits.{refusedWith, stepped, stepOn, shortRefusal, bredExit, breedOf};
 use model::Distribution;
+use model::MAX_PLANS;
 use model::Outcome;
+use model::PLAN_WORDS;
+use model::POOL_WORDS;
 use model::Phase;
 use model::Sampled;
 use model::Sampling;
@@ -26,9 +29,6 @@ use nsga3::Check;
 
 // The most records of a history.
 const MAX_HISTORY: usize = 4096;
-
-// The words of a pool of 1,024 plans.
-const POOL_WORDS: usize = 126976;
 
 // ---- a call that adds a dimension
 
@@ -79,9 +79,9 @@ fn step(session: Session, pool: &[u64], ideal: &mut [f64], candidates: &mut [u64
     let dimensions = session.dimensions;
     let progress = session.progress;
     let rng = session.rng;
-    let mut kept = [0usize; 1024];
-    let mut fronts = [0usize; 1024];
-    let mut lines = [0usize; 1024];
+    let mut kept = [0usize; MAX_PLANS];
+    let mut fronts = [0usize; MAX_PLANS];
+    let mut lines = [0usize; MAX_PLANS];
     generation::nsga3_generate_offspring(
         pool,
         &directions[..n_obj],
@@ -126,7 +126,7 @@ fn breed(
     let size = config.population_size;
     let mut ideal_point = session.ideal_point;
     session_parts::gather(history, plans, size, pool);
-    let words = size * plans::PLAN_WORDS;
+    let words = size * PLAN_WORDS;
     let selection = step(
         session,
         &pool[..words],
@@ -236,7 +236,7 @@ fn bred_refusal(session: Session, history: &[u64], plans: &[u64]) -> u8
     let rng = session.rng;
     let mut pool = [0u64; POOL_WORDS];
     session_parts::gather(history, plans, size, &mut pool);
-    let words = size * plans::PLAN_WORDS;
+    let words = size * PLAN_WORDS;
     let check = generation::refusal(
         &pool[..words],
         &directions[..n_obj],
@@ -249,9 +249,9 @@ fn bred_refusal(session: Session, history: &[u64], plans: &[u64]) -> u8
         config.crossover_eta,
         config.mutation_eta,
         &ideal_point[..n_obj],
-        1024,
-        1024,
-        1024,
+        MAX_PLANS,
+        MAX_PLANS,
+        MAX_PLANS,
         65536,
     );
     match check {

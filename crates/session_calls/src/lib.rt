@@ -3,6 +3,7 @@
 use model::Distribution;
 use model::Opened;
 use model::OptionUsize;
+use model::PLAN_WORDS;
 use model::Sampled;
 use model::Sampling;
 use model::Session;
@@ -59,7 +60,7 @@ pub fn sampled(
     requires { ⌜ (n ≤ 4097) × (508028 ≤ length (now history)) ⌝ }
     ensures { λ r. ⌜ SessionOk (state (r .session) (now (candidates .exit)) (now (plans .exit)) (now («next_dims» .exit))) ⌝ }
 {
-    let words = n * 124;
+    let words = n * PLAN_WORDS;
     session::sample(
         session,
         distribution,

@@ -9,6 +9,7 @@ use model::Opening;
 use model::OptionF64;
 use model::OptionUsize;
 use model::Outcome;
+use model::PLAN_WORDS;
 use model::Rng;
 use model::Sampling;
 use model::Selection;
@@ -21,9 +22,6 @@ ghost use mathlib.Core.List.{List};
 ghost use Prim.Native.Nat.{ℕ, _≤_};
 ghost use Rattle.model.specs.Session.{state};
 ghost use Rattle.model.specs.Property.{SessionOk};
-
-// The words of a plan.
-const PLAN: usize = 124;
 
 // A label and a number.
 fn number(label: &[u8], n: u64) {
@@ -103,7 +101,7 @@ fn ask(
 fn put_record(history: &mut History, i: usize, plan: u64)
     requires { ⌜ i ≤ 4 ⌝ }
 {
-    let at = i * PLAN;
+    let at = i * PLAN_WORDS;
     let x = std::num::nearest_u64_to_f64(i as u64);
     history[at] = plan;
     history[at + 1] = 2;
@@ -235,7 +233,7 @@ fn stepped(
 fn constrained(bits: u64) {
     let mut pool = [0u64; 248];
     pool[1] = 1;
-    pool[124] = 1;
+    pool[PLAN_WORDS] = 1;
     pool[125] = 1;
     pool[134] = 1;
     pool[135] = bits;

@@ -17,10 +17,13 @@ use model::CategoricalDistribution;
 use model::Config;
 use model::DimensionInfo;
 use model::Distribution;
+use model::MAX_DIMS;
+use model::MAX_PLANS;
 use model::Opened;
 use model::Opening;
 use model::OptionU64;
 use model::OptionUsize;
+use model::PLAN_WORDS;
 use model::Phase;
 use model::Progress;
 use model::Rng;
@@ -28,10 +31,8 @@ use model::Sampled;
 use model::Sampling;
 use model::Session;
 
-// The most dimensions of a session and plans of a generation, and the words of its candidates.
-const MAX_DIMS: usize = 32;
-
-const MAX_PLANS: usize = 2048;
+// The most plans that may come in a generation, and the words of their candidates.
+const MAX_COME: usize = 2048;
 
 const MAX_WORDS: usize = 65536;
 
@@ -132,7 +133,7 @@ fn bad_session_size(size: OptionUsize) -> bool
     ensures { λ r. ⌜ r ≡ badSessionSize (given size) ⌝ }
 {
     match size {
-        OptionUsize::Some(n) => 1024 < n,
+        OptionUsize::Some(n) => MAX_PLANS < n,
         OptionUsize::None => false,
     }
 }
@@ -220,7 +221,7 @@ pub fn record_of(history: &[u64], plan: u64) -> usize
     let mut j = 0;
     while j < n {
         let k = from_end(n, j);
-        if history[k * plans::PLAN_WORDS] == plan {
+        if history[k * PLAN_WORDS] == plan {
             return k;
         }
         j += 1;
@@ -257,10 +258,10 @@ fn copy_record(history: &[u64], k: usize, i: usize, pool: &mut [u64])
     requires { ⌜ (k < planCount (now history)) × (i * 124 + 124 ≤ length (now pool)) ⌝ }
     ensures { λ _. ⌜ now (pool .exit) ≡ overAt (i * 124) (blockOf (now (history .entry)) k) (now (pool .entry)) ⌝ }
 {
-    let from = k * plans::PLAN_WORDS;
-    let to = i * plans::PLAN_WORDS;
+    let from = k * PLAN_WORDS;
+    let to = i * PLAN_WORDS;
     let mut j = 0;
-    while j < plans::PLAN_WORDS {
+    while j < PLAN_WORDS {
         pool[to + j] = history[from + j];
         j += 1;
     }
@@ -523,10 +524,10 @@ pub fn long_enough(candidates: usize, plans: usize, next_dims: usize) -> bool
     if candidates < MAX_WORDS {
         return false;
     }
-    if plans < MAX_PLANS {
+    if plans < MAX_COME {
         return false;
     }
-    MAX_PLANS <= next_dims
+    MAX_COME <= next_dims
 }
 
 // Refusal 6 for the dimension that a session of n dimensions would add.
@@ -547,7 +548,7 @@ pub fn full(plans: &[u64], n: usize, plan: u64) -> bool
     requires { ⌜ n ≤ length (now plans) ⌝ }
     ensures { λ r. ⌜ r ≡ (leb 2048 n && not (has (take n (now (plans .entry))) plan)) ⌝ }
 {
-    if n < MAX_PLANS {
+    if n < MAX_COME {
         return false;
     }
     n <= place_in(plans, n, plan)

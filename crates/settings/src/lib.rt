@@ -17,14 +17,12 @@ use model::DimensionInfo;
 use model::Distribution;
 use model::FloatDistribution;
 use model::IntDistribution;
+use model::MAX_DIMS;
 use model::OptionF64;
 use model::OptionI64;
 use model::ParamValue;
 use model::Rng;
 use rng_util::DrawnI64;
-
-// The most dimensions, and the most settings of a plan.
-pub const MAX_DIMS: usize = 32;
 
 // A setting as a place of a candidate holds it.
 pub struct Slot {
