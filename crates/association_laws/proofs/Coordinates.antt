@@ -23,6 +23,7 @@ use Rattle.das_dennis.proofs.Table.{lattice-table}
 use Rattle.float_laws.proofs.Units.{Number, Counts, counts→le, counts→lt, counts-finite}
 use Rattle.float_laws.proofs.Rounding.{div-rounded, le-rounded, between-finite}
 use Rattle.float_laws.proofs.Constants.{nought, one, nought-counts}
+use Rattle.float_laws.proofs.InRange.{part-counts}
 use Rattle.float_laws.proofs.Arithmetic as arithmetic
 use Rattle.association_laws.proofs.Within.{Upto}
 
@@ -46,18 +47,9 @@ less-none x h = omega arith
 
 -- ---- i / h
 
-in-units : (x : Float) (k : ℕ) → HasValue x false k 1 → Counts binary64 x (k * 2 ^ 1074) 0
-in-units nan k h = absurd h
-in-units (inf s) k h = absurd h
-in-units (fin true m e) k h = absurd (true≢false (h .0))
-in-units (fin false m e) k h = (k * 2 ^ 1074, up-by (m * up e) (down e) k 1 (2 ^ 1074) (2 ^ 1074) refl (h .1), sym (zero-add (k * 2 ^ 1074)))
-  where
-    up-by : (a d k p q l : ℕ) → l ≡ p * q → a * p ≡ k * d → a * l ≡ k * q * d
-    up-by a d k p q l e h = ap (λ (z : ℕ). a * z) e ∙ sym (mul-assoc a p q) ∙ ap (λ (z : ℕ). z * q) h ∙ mul-right-comm k d q
-
 whole-counts : (k : ℕ) → k ≤ 199 → Counts binary64 (ofInt binary64 (pos k)) (k * 2 ^ 1074) 0
 unfolding ofInt
-whole-counts k h = in-units (round binary64 false k 1) k (round-whole binary64 false k (le-trans h (lit≤ tt)))
+whole-counts k h = part-counts 1 (2 ^ 1074) refl (round binary64 false k 1) k (round-whole binary64 false k (le-trans h (lit≤ tt)))
 
 whole-number : (k : ℕ) → k ≤ 199 → Number binary64 (ofInt binary64 (pos k))
 whole-number k h = record { held = ofInt-fits binary64 (pos k); finite = counts-finite binary64 (ofInt binary64 (pos k)) (k * 2 ^ 1074) 0 (whole-counts k h) }

@@ -6,7 +6,7 @@ use native.Mathlib.Nat.{add-mul, one-mul, zero-mul, mul-le-mul-right, zero-add}
 use native.Mathlib.Numerals.{add-one}
 use native.Mathlib.Omega.{arith}
 use lib.ListN.{length, getD, set, take, drop, length-append, length-drop, length-map, take-append-drop}
-use lib.Seq.{length-take-le, drop-drop}
+use lib.Seq.{length-take-le, drop-drop, take-append-add, drop-append-add}
 use Rattle.list_laws.proofs.Built.{listBelow-none, listBelow-more, listBelow-length, over-take, over-drop, over-length, over-more}
 use Rattle.model.specs.declared.Distribution.{Distribution}
 use Rattle.model.specs.declared.ParamValue.{ParamValue}
@@ -69,6 +69,16 @@ over-next ws w l k e =
     ∙ ap (λ t. ws ++ (w ++ t)) (drop-drop (length w) k l)
     ∙ sym (append-assoc ws w (drop (k + length w) l))
     ∙ ap (λ t. (ws ++ w) ++ drop t l) n
+
+-- a block behind those laid from a place on
+pub at-next : (at k : ℕ) (ws w l : List ℕ) → at ≤ length l → length ws ≡ k → overAt (at + k) w (overAt at ws l) ≡ overAt at (ws ++ w) l
+at-next at k ws w l h e =
+    let a = take at l in
+    let b = over ws (drop at l) in
+    let s = length-take-le at l h in
+    let t : take (at + k) (a ++ b) ≡ a ++ take k b = ap (λ n. take (n + k) (a ++ b)) (sym s) ∙ take-append-add a b k in
+    let d : drop (at + k) (a ++ b) ≡ drop k b = ap (λ n. drop (n + k) (a ++ b)) (sym s) ∙ drop-append-add a b k in
+    ap₂ (λ x y. x ++ over w y) t d ∙ append-assoc a (take k b) (over w (drop k b)) ∙ ap (λ x. a ++ x) (over-next ws w (drop at l) k e)
 
 pub words-snoc : (cs : List (List ParamValue)) (c : List ParamValue) → wordsOf (cs ++ (c ∷ [])) ≡ wordsOf cs ++ map toWord c
 unfolding wordsOf

@@ -186,18 +186,20 @@ module _ (lo hi d : Float) (k : ℕ) (LO : Number binary64 lo) (HI : Number bina
       chain : (t c D : ℕ) → t + 0 ≤ c + 0 → c ≤ D → t ≤ D
       chain t c D h g = omega arith
 
--- ---- k / 2 ^ 52, for a k below 2 ^ 52, is exact
-units-of : (x : Float) (k : ℕ) → HasValue x false k (2 ^ 52) → Counts binary64 x (k * 2 ^ 1022) 0
-units-of nan k h = absurd h
-units-of (inf s) k h = absurd h
-units-of (fin true m e) k h = absurd (true≢false (h .0))
-units-of (fin false m e) k h = (k * 2 ^ 1022, up-by (m * up e) (down e) k (2 ^ 52) (2 ^ 1022) L refl (h .1), sym (zero-add (k * 2 ^ 1022)))
+-- ---- a value in whole parts of p, counted in the units of 2 ^ -1074: q of them make a part
+
+pub part-counts : (p q : ℕ) → L ≡ p * q → (x : Float) (k : ℕ) → HasValue x false k p → Counts binary64 x (k * q) 0
+part-counts p q s nan k h = absurd h
+part-counts p q s (inf b) k h = absurd h
+part-counts p q s (fin true m e) k h = absurd (true≢false (h .0))
+part-counts p q s (fin false m e) k h = (k * q, up-by (m * up e) (down e) k p q L s (h .1), sym (zero-add (k * q)))
   where
     up-by : (a d k p q l : ℕ) → l ≡ p * q → a * p ≡ k * d → a * l ≡ k * q * d
     up-by a d k p q l e h = ap (λ (z : ℕ). a * z) e ∙ sym (mul-assoc a p q) ∙ ap (λ (z : ℕ). z * q) h ∙ mul-right-comm k d q
 
+-- k / 2 ^ 52, for a k below 2 ^ 52, is exact
 pub draw-counts : (k : ℕ) → k < 2 ^ 52 → Counts binary64 (round binary64 false k (2 ^ 52)) (k * 2 ^ 1022) 0
 draw-counts k h =
-    units-of (round binary64 false k (2 ^ 52)) k
+    part-counts (2 ^ 52) (2 ^ 1022) refl (round binary64 false k (2 ^ 52)) k
     (round-exact binary64 false k (2 ^ 52) k 1022 (lit< tt) (lt-of-le-of-lt (le-of-lt h) (lit< tt)) (lt-of-le-of-lt (mul-le-mul-right (2 ^ 1022) (le-of-lt h)) (lit< tt))
     (sym (mul-assoc k (2 ^ 1022) (2 ^ 52))))

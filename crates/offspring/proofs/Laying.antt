@@ -15,7 +15,7 @@ use Rattle.model.specs.Draw.{Drawn, drawn}
 use Rattle.model.specs.Plan.{Plan}
 use Rattle.model.specs.Setting.{toWord, wordsOf, extract, sortByParam, parentsOf, Operators, Children, children, brood, broods, offspringOf}
 use Rattle.model.specs.Session.{overAt}
-use Rattle.candidates.proofs.Laid.{over-next}
+use Rattle.candidates.proofs.Laid.{over-next, at-next}
 
 -- ---- words
 
@@ -33,16 +33,6 @@ unfolding wordsOf
 words-two a b = ap (λ t. map toWord a ++ t) (append-nil (map toWord b))
 
 -- ---- two children, or the first where there is room for it only
-
--- what comes next after words from a place on
-at-next : (at k : ℕ) (ws w l : List ℕ) → at ≤ length l → length ws ≡ k → overAt (at + k) w (overAt at ws l) ≡ overAt at (ws ++ w) l
-at-next at k ws w l h e =
-    let x = take at l in
-    let y = over ws (drop at l) in
-    let z : length x ≡ at = length-take-le at l h in
-    ap₂ (λ a b. a ++ over w b) (ap (λ m. take (m + k) (x ++ y)) (sym z) ∙ take-append-add x y k) (ap (λ m. drop (m + k) (x ++ y)) (sym z) ∙ drop-append-add x y k)
-    ∙ append-assoc x (take k y) (over w (drop k y))
-    ∙ ap (λ t. x ++ t) (over-next ws w (drop at l) k e)
 
 -- the second fits where there is one
 pub second-fits : (at size n len : ℕ) → at + 1 < size → size * n ≤ len → at * n + n + n ≤ len

@@ -122,7 +122,7 @@ pub fn choose(file: &[u8], out: &mut [u8]) -> Chosen
     let m = header.m as usize;
     let divisions = header.divisions as usize;
     let size = header.size as usize;
-    if MAX_PLANS < header.count {
+    if (MAX_PLANS as u64) < header.count {
         return Chosen::Refused(crowded(&directions[..m], divisions, size));
     }
     let words = header.count as usize * PLAN_WORDS;

@@ -9,7 +9,7 @@ use native.Mathlib.Omega.{arith}
 use lib.ListN.{length, getD, take, drop, length-append, drop-of-length-le, List·getD-append}
 use lib.Seq.{getD-append-add, length-take-le, take-append-add, drop-append-add, take-length}
 use Rattle.list_laws.proofs.Built.{listBelow-take, joinBelow-none, joinBelow-more}
-use Rattle.candidates.proofs.Laid.{over-next}
+use Rattle.candidates.proofs.Laid.{over-next, at-next}
 use Rattle.model.specs.declared.Distribution.{Distribution}
 use Rattle.model.specs.declared.Distribution.the-variants as dist
 use Rattle.model.specs.declared.Session.{Session}
@@ -28,16 +28,6 @@ over-all new old h = ap (λ t. new ++ t) (drop-of-length-le old h) ∙ nil new
     nil : {B : Type 0} (l : List B) → l ++ [] ≡ l
     nil [] = refl
     nil (x ∷ l) = ap (λ t. x ∷ t) (nil l)
-
--- a block behind those laid from a place on
-pub at-next : (at k : ℕ) (ws w l : List ℕ) → at ≤ length l → length ws ≡ k → overAt (at + k) w (overAt at ws l) ≡ overAt at (ws ++ w) l
-at-next at k ws w l h e =
-    let a = take at l in
-    let b = over ws (drop at l) in
-    let s = length-take-le at l h in
-    let t : take (at + k) (a ++ b) ≡ a ++ take k b = ap (λ n. take (n + k) (a ++ b)) (sym s) ∙ take-append-add a b k in
-    let d : drop (at + k) (a ++ b) ≡ drop k b = ap (λ n. drop (n + k) (a ++ b)) (sym s) ∙ drop-append-add a b k in
-    ap₂ (λ x y. x ++ over w y) t d ∙ append-assoc a (take k b) (over w (drop k b)) ∙ ap (λ x. a ++ x) (over-next ws w (drop at l) k e)
 
 module _ (f : ℕ → List ℕ) (k : ℕ) (each : (d : ℕ) → length (f d) ≡ k) where
   pub join-length : (n : ℕ) → length (joinBelow f n) ≡ n * k

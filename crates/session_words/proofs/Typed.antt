@@ -22,19 +22,8 @@ use Rattle.model.specs.declared.Distribution.{Distribution}
 use Rattle.model.specs.declared.Distribution.the-variants as dist
 use Rattle.model.specs.declared.Session.{Session}
 use Rattle.model.specs.Session.{noDimension}
-use Rattle.typed_laws.proofs.Held.{session-dimensions, session-ideal, session-directions}
+use Rattle.typed_laws.proofs.Held.{each-field, session-dimensions, session-ideal, session-directions}
 use Rattle.session_words.proofs.Stored.{Doubles, DoubleStep, ConfigStored, Stored}
-
-no-fewer : {i : ℕ} → i < 0 → ⊥
-no-fewer h = omega arith
-
--- what holds of each element by its type holds of the element at each place; `into` is how a field's type has it
-module _ {A D : Type 0} (f : D → List Val → Fml) (into : A → D) (P : A → Type 0) (one : (x : A) (vs : List Val) → shadow (f (into x) vs) → P x) (z : A) where
-  each-at : (xs : List A) (us : List Val) → shadow (each D f (map into xs) us) → (i : ℕ) → i < length xs → P (getD xs i z)
-  each-at [] us p i h = absurd (no-fewer h)
-  each-at (x ∷ xs) [] p i h = absurd p
-  each-at (x ∷ xs) (u ∷ us) p zero h = one x (u ∷ []) (p .0)
-  each-at (x ∷ xs) (u ∷ us) p (suc i) h = each-at xs us (p .1) i (omega arith)
 
 step-doubles : (o : OptionF64) (vs : List Val) → Is (enum.row step.the-type) o vs → DoubleStep o
 step-doubles optF64.None vs p = tt
@@ -54,7 +43,7 @@ module _ (s : Session) (vs : List Val) (p : Is (struct.row session.the-type) s v
       let e = session-directions s vs p in
       record {
         marks = session-directions s vs p;
-        bytes = λ i h. each-at _ _ (λ x. x < 256) (λ x us r. omega (arith, r .1)) 0 (s .config .directions) (q .1 .0 .0) (q .1 .0 .1 .1) i (omega arith);
+        bytes = λ i h. each-field _ _ (λ x. x < 256) (λ x us r. omega (arith, r .1)) 0 (s .config .directions) (q .1 .0 .0) (q .1 .0 .1 .1) i (omega arith);
         probability = true-T _ (q .1 .1 .1 .1 .0 .1);
         crossoverEta = true-T _ (q .1 .1 .1 .1 .1 .0 .1);
         mutationEta = true-T _ (q .1 .1 .1 .1 .1 .1 .0 .1);
@@ -69,7 +58,7 @@ module _ (s : Session) (vs : List Val) (p : Is (struct.row session.the-type) s v
       record {
         config = config-stored;
         dimensions = session-dimensions s vs p;
-        doubles = λ d h. each-at _ _ (λ x. Doubles (x .distribution)) (λ x us r. doubles (x .distribution) _ (r .1 .1 .0)) noDimension (s .dimensions) (ds .0) (ds .1 .1) d (omega arith);
+        doubles = λ d h. each-field _ _ (λ x. Doubles (x .distribution)) (λ x us r. doubles (x .distribution) _ (r .1 .1 .0)) noDimension (s .dimensions) (ds .0) (ds .1 .1) d (omega arith);
         ideal = session-ideal s vs p;
-        reals = λ i h. each-at _ _ (λ x. T (fits binary64 x)) (λ x us r. true-T _ (r .1)) nan (s .«ideal_point») (zs .0) (zs .1 .1) i (omega arith);
+        reals = λ i h. each-field _ _ (λ x. T (fits binary64 x)) (λ x us r. true-T _ (r .1)) nan (s .«ideal_point») (zs .0) (zs .1 .1) i (omega arith);
       }

@@ -64,6 +64,10 @@ each-map f into [] (u ∷ us) p = p
 each-map f into (x ∷ xs) [] p = p
 each-map f into (x ∷ xs) (u ∷ us) p = (p .0, each-map f into xs us (p .1))
 
+pub each-field : {A D : Type 0} (f : D → List Val → Fml) (into : A → D) (P : A → Type 0) → ((x : A) (vs : List Val) → shadow (f (into x) vs) → P x) → (z : A)
+    → (xs : List A) (us : List Val) → shadow (each D f (map into xs) us) → (i : ℕ) → i < length xs → P (getD xs i z)
+each-field f into P one z xs us p = each-at (λ x vs. f (into x) vs) P one z xs us (each-map f into xs us p)
+
 infos-held : (dims : List DimensionInfo) (us : List Val) → shadow (each DimensionInfo (struct.row info.the-type .own) dims us) → (d : ℕ) → d < length dims
     → Held (getD dims d noDimension .distribution)
 infos-held = each-at (struct.row info.the-type .own) (λ (x : DimensionInfo). Held (x .distribution)) info-held noDimension
