@@ -101,8 +101,8 @@ fn compared(pool: &[Plan], size: usize, divisions: usize) -> bool {
     });
     let lines = genetic::das_dennis(3, divisions).len();
     let split = if split { "yes" } else { "no" };
-    let counts = [n.to_string(), size.to_string(), fronts.to_string(), split.to_string(), lines.to_string()];
-    timing::row(&[&counts[..], &timing::beside(ours, theirs)].concat());
+    let [n, size, fronts, lines] = [n, size, fronts, lines].map(timing::count);
+    timing::row(&[&[n, size, fronts, split.to_string(), lines][..], &timing::beside(ours, theirs)].concat());
     true
 }
 
@@ -285,7 +285,7 @@ fn averages(name: String, stretches: &[&[Call]], least: &[Vec<f64>; 2], works: &
         let times = stretches.iter().zip(times).filter(|(s, _)| chosen(s));
         times.map(|(_, t)| t).sum::<f64>() / calls as f64
     });
-    timing::row(&[&[name, calls.to_string()][..], &timing::beside(ours, theirs)].concat());
+    timing::row(&[&[name, timing::count(calls)][..], &timing::beside(ours, theirs)].concat());
 }
 
 /// Times a session and prints its rows; answers whether the two agree.

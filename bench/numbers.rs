@@ -139,8 +139,8 @@ fn main() {
     let of_edges = differing(&edges, proved_sqrt, f64::sqrt);
     println!(
         "\n{wrong} values of P, R and the draw differ; of the square root {of_random} of {} random patterns and {of_edges} of {} edge patterns",
-        random.len(),
-        edges.len()
+        timing::count(random.len()),
+        timing::count(edges.len())
     );
     if wrong + of_random + of_edges > 0 {
         std::process::exit(1);

@@ -80,7 +80,7 @@ fn compared(n: usize, m: usize, many: bool, mix: &mut Mix) -> bool {
     let fronts = if many { n / FRONT } else { 1 };
     let lines = genetic::das_dennis(m, divisions).len();
     let [ours, theirs, ratio] = timing::beside(ours, theirs);
-    let counts = [n, m, fronts, lines].map(|count| count.to_string());
+    let counts = [n, m, fronts, lines].map(timing::count);
     timing::row(&[&counts[..], &[ours, theirs, ratio, timing::time(table)]].concat());
     true
 }

@@ -20,6 +20,14 @@ pub fn row(cells: &[impl Display]) {
     println!("| {} |", cells.join(" | "));
 }
 
+/// A number with a comma before each three digits.
+pub fn count(n: usize) -> String {
+    match n {
+        0..1000 => n.to_string(),
+        _ => format!("{},{:03}", count(n / 1000), n % 1000),
+    }
+}
+
 /// A time to three digits.
 pub fn time(ns: f64) -> String {
     let (x, unit) = match ns {
