@@ -1,9 +1,11 @@
-// What the timings of selection, steps and sessions share: the oracle's Rust, a generator of inputs, and plans as the static library takes them.
+// What bench/select, bench/breed and bench/compare share: the oracle's Rust, the static library's calls, and how an input of the one is laid out for the other.
 
 #[path = "../target/oracle/src/answers.rs"]
 mod answers;
 #[path = "../target/oracle/src/distribution.rs"]
 mod distribution;
+#[path = "../target/oracle/src/mix.rs"]
+mod mix;
 #[path = "../target/oracle/src/multi_objective.rs"]
 mod multi_objective;
 #[path = "../target/oracle/src/param.rs"]
@@ -18,6 +20,8 @@ mod plans;
 mod pool_file;
 #[path = "../target/oracle/src/powers.rs"]
 mod powers;
+#[path = "../wrapper/src/raw.rs"]
+mod raw;
 #[path = "../target/oracle/src/refusals.rs"]
 mod refusals;
 #[path = "../target/oracle/src/rng_util.rs"]
@@ -26,6 +30,7 @@ mod rng_util;
 mod sampler;
 #[path = "../target/oracle/src/session.rs"]
 mod session;
+mod timing;
 #[path = "../target/oracle/src/trial.rs"]
 mod trial;
 #[path = "../target/oracle/src/types.rs"]
@@ -33,44 +38,160 @@ mod types;
 #[path = "../target/oracle/src/words.rs"]
 mod words;
 
+use answers::Selection;
+use distribution::Distribution;
+use multi_objective::MultiObjectiveTrial;
 use plans::Plan;
+use sampler::nsga3::Nsga3State;
+use session::Opening;
+use timing::ns;
+use types::Direction;
+use words::{of_int, of_real};
 
-const PLAN_WORDS: usize = 124;
+/// The sampler's own defaults: the probability of crossover, its eta and that of mutation.
+const OPERATORS: raw::Operators = [1.0, 30.0, 20.0];
 
-/// The inputs' own generator.
-fn splitmix(state: &mut u64) -> u64 {
-    *state = state.wrapping_add(0x9e37_79b9_7f4a_7c15);
-    let mut z = *state;
-    z = (z ^ (z >> 30)).wrapping_mul(0xbf58_476d_1ce4_e5b9);
-    z = (z ^ (z >> 27)).wrapping_mul(0x94d0_49bb_1331_11eb);
-    z ^ (z >> 31)
-}
-
-fn unit(state: &mut u64) -> f64 {
-    (splitmix(state) >> 11) as f64 / 9007199254740992.0
-}
-
-/// Plans as the static library takes them.
 fn laid_out(plans: &[Plan]) -> Vec<u64> {
-    let mut words = vec![0; plans.len() * PLAN_WORDS];
-    for (plan, to) in plans.iter().zip(words.chunks_mut(PLAN_WORDS)) {
-        to[0] = plan.number;
-        to[1] = plan.values.len() as u64;
-        for (word, value) in to[2..].iter_mut().zip(&plan.values) {
-            *word = value.to_bits();
+    let words = |plan: &Plan| {
+        let settings: Vec<[u64; 3]> = plan.settings.iter().map(|&(p, k, w)| [p, k, w]).collect();
+        raw::plan_words(plan.number, &plan.values, &plan.constraints, &settings)
+    };
+    plans.iter().flat_map(words).collect()
+}
+
+fn dimension_words(dimension: &Distribution) -> [u64; raw::DIMENSION_WORDS] {
+    match dimension {
+        Distribution::Float(d) => {
+            let marks = [d.log_scale, d.step.is_some()].map(u64::from);
+            [0, of_real(d.low), of_real(d.high), marks[0], marks[1], of_real(d.step.unwrap_or(0.0))]
         }
-        to[10] = plan.constraints.len() as u64;
-        for (word, value) in to[11..].iter_mut().zip(&plan.constraints) {
-            *word = value.to_bits();
+        Distribution::Int(d) => {
+            let marks = [d.log_scale, d.step.is_some()].map(u64::from);
+            [1, of_int(d.low), of_int(d.high), marks[0], marks[1], of_int(d.step.unwrap_or(0))]
         }
-        to[27] = plan.settings.len() as u64;
-        for (words, &(parameter, kind, value)) in to[28..].chunks_mut(3).zip(&plan.settings) {
-            words.copy_from_slice(&[parameter, kind, value]);
-        }
+        Distribution::Categorical(d) => [2, d.n_choices as u64, 0, 0, 0, 0],
     }
-    words
 }
 
 fn bits(reals: &[f64]) -> Vec<u64> {
     reals.iter().map(|x| x.to_bits()).collect()
+}
+
+fn direction_bytes(marks: &[u64]) -> Vec<u8> {
+    marks.iter().map(|&mark| mark.min(255) as u8).collect()
+}
+
+/// What the static library's selection and step read and write.
+struct Proved {
+    pool: Vec<u64>,
+    directions: Vec<u8>,
+    divisions: usize,
+    size: usize,
+    dimensions: Vec<u64>,
+    operators: raw::Operators,
+    state: u64,
+    ideal: Vec<f64>,
+    kept: Vec<usize>,
+    fronts: Vec<usize>,
+    lines: Vec<usize>,
+    offspring: Vec<u64>,
+    n_kept: usize,
+}
+
+impl Proved {
+    fn of(call: &Selection, dimensions: &[Distribution], operators: raw::Operators) -> Self {
+        let n = call.pool.len();
+        // A greater size is refused.
+        let room = call.size.min(2048) as usize;
+        Proved {
+            pool: laid_out(&call.pool),
+            directions: direction_bytes(&call.marks),
+            divisions: call.divisions as usize,
+            size: call.size as usize,
+            dimensions: dimensions.iter().flat_map(dimension_words).collect(),
+            operators,
+            state: call.state,
+            ideal: call.ideal.clone(),
+            kept: vec![0; room],
+            fronts: vec![0; n],
+            lines: vec![0; n],
+            offspring: vec![0; room * dimensions.len()],
+            n_kept: 0,
+        }
+    }
+
+    /// What the call is lent, and what only a step is.
+    fn lent(&mut self) -> (raw::Selecting<'_>, &[u64], &mut [u64], &mut usize) {
+        let selecting = raw::Selecting {
+            pool: &self.pool,
+            directions: &self.directions,
+            divisions: self.divisions,
+            size: self.size,
+            state: &mut self.state,
+            ideal: &mut self.ideal,
+            kept: &mut self.kept,
+            fronts: &mut self.fronts,
+            lines: &mut self.lines,
+        };
+        (selecting, &self.dimensions, &mut self.offspring, &mut self.n_kept)
+    }
+
+    fn select(&mut self) -> u64 {
+        raw::select(self.lent().0)
+    }
+
+    fn step(&mut self) -> u64 {
+        let operators = self.operators;
+        let (selecting, dimensions, offspring, n_kept) = self.lent();
+        raw::generate_offspring(selecting, dimensions, operators, offspring, n_kept)
+    }
+}
+
+/// The static library's session, in so many words.
+fn open(opening: &Opening, session_words: usize) -> Result<raw::Session, u64> {
+    let directions = direction_bytes(&opening.marks);
+    let [size, divisions] = [opening.size, opening.divisions].map(|n| n.map(|n| n as usize));
+    let operators = [opening.probability, opening.crossover_eta, opening.mutation_eta];
+    raw::Session::open(&directions, opening.seed, size, divisions, operators, session_words)
+}
+
+/// Generator, generation and number of plans.
+fn report(session: &raw::Session) -> [u64; 3] {
+    [raw::SESSION_STATE, raw::SESSION_GENERATION, raw::SESSION_PLAN_COUNT].map(|at| session.words()[at])
+}
+
+/// The Rust's state before a selection or step, with its population and directions, and that of the static library.
+type Both<'a> = (&'a mut Nsga3State, &'a [&'a MultiObjectiveTrial], &'a [Direction], &'a mut Proved);
+
+fn with_both<T>(call: &Selection, dimensions: &[Distribution], run: impl FnOnce(Both) -> T) -> T {
+    let trials: Vec<MultiObjectiveTrial> = call.pool.iter().map(Plan::trial).collect();
+    let population: Vec<&MultiObjectiveTrial> = trials.iter().collect();
+    let [probability, crossover_eta, mutation_eta] = OPERATORS;
+    let sampler = session::sampler(None, None, probability, crossover_eta, mutation_eta, call.state);
+    let mut state = sampler.state.lock();
+    answers::prepare(&mut state, call, dimensions);
+    let mut proved = Proved::of(call, dimensions, OPERATORS);
+    run((&mut state, &population, &plans::directions(&call.marks), &mut proved))
+}
+
+/// ns of the static library's call and of the Rust's, which are made by turns: each the least of the rounds.
+fn timed(
+    call: &Selection,
+    dimensions: &[Distribution],
+    rounds: usize,
+    proved: impl Fn(&mut Proved),
+    rust: impl Fn(&mut Nsga3State, &[&MultiObjectiveTrial], &[Direction]),
+) -> [f64; 2] {
+    with_both(call, dimensions, |(state, population, directions, ours)| {
+        let mut least = [f64::INFINITY; 2];
+        for _ in 0..rounds {
+            ours.state = call.state;
+            ours.ideal.clone_from(&call.ideal);
+            least[0] = least[0].min(ns(|| proved(ours)));
+            state.evo.rng = fastrand::Rng::with_seed(call.state);
+            state.ideal_point.clone_from(&call.ideal);
+            least[1] = least[1].min(ns(|| rust(state, population, directions)));
+        }
+        least
+    })
 }

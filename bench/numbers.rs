@@ -2,16 +2,24 @@
 //! inputs, each behind a call that is not inlined, and compares the square
 //! root with the hardware's. Exit code 1 where a value differs.
 
-use std::hint::black_box;
-use std::time::Instant;
+#![allow(dead_code)]
 
 #[path = "../oracle/stand-ins/fastrand.rs"]
 mod fastrand;
+#[path = "../oracle/src/mix.rs"]
+mod mix;
 #[path = "../oracle/src/powers.rs"]
 mod powers;
+mod timing;
+
+use std::hint::black_box;
+
+use mix::Mix;
+use timing::ns;
 
 mod proved {
-    extern "C" {
+    #[link(name = "numbers_export", kind = "static")]
+    unsafe extern "C" {
         pub fn numbers_sqrt(x: f64) -> f64;
         pub fn numbers_power(y: f64, k: u64) -> f64;
         pub fn numbers_root(v: f64, k: u64) -> f64;
@@ -56,31 +64,18 @@ extern "C" fn rust_draw(rng: &mut fastrand::Rng) -> f64 {
     rng.f64()
 }
 
-/// The inputs' own generator.
-fn splitmix(state: &mut u64) -> u64 {
-    *state = state.wrapping_add(0x9e37_79b9_7f4a_7c15);
-    let mut z = *state;
-    z = (z ^ (z >> 30)).wrapping_mul(0xbf58_476d_1ce4_e5b9);
-    z = (z ^ (z >> 27)).wrapping_mul(0x94d0_49bb_1331_11eb);
-    z ^ (z >> 31)
-}
-
-fn unit(state: &mut u64) -> f64 {
-    (splitmix(state) >> 11) as f64 / 9007199254740992.0
-}
-
 /// ns of all the calls.
 fn once(inputs: &[f64], passes: usize, f: &mut impl FnMut(f64) -> f64) -> f64 {
-    let start = Instant::now();
-    for _ in 0..passes {
-        for &x in inputs {
-            black_box(f(black_box(x)));
+    ns(|| {
+        for _ in 0..passes {
+            for &x in inputs {
+                black_box(f(black_box(x)));
+            }
         }
-    }
-    start.elapsed().as_nanos() as f64
+    })
 }
 
-/// Times two functions by turns and prints ns a call, the least of the rounds.
+/// Times two functions by turns and prints the time of a call, the least of the rounds.
 fn timed(
     name: &str,
     inputs: &[f64],
@@ -94,12 +89,8 @@ fn timed(
         theirs = theirs.min(once(inputs, passes, &mut rust));
     }
     let calls = (passes * inputs.len()) as f64;
-    let ratio = ours / theirs;
-    println!(
-        "{name:<10} {:>9.1} ns {:>9.1} ns  ratio {ratio:.2}",
-        ours / calls,
-        theirs / calls
-    );
+    let [ours, theirs, ratio] = timing::beside(ours / calls, theirs / calls);
+    timing::row(&[name, &ours, &theirs, &ratio]);
 }
 
 fn same(x: f64, y: f64) -> bool {
@@ -127,12 +118,11 @@ fn edge_patterns() -> Vec<f64> {
 }
 
 fn main() {
-    let mut seed = 1;
-    let roots: Vec<f64> = (0..INPUTS).map(|_| unit(&mut seed) * 1e6).collect();
-    let powers: Vec<f64> = (0..INPUTS).map(|_| unit(&mut seed)).collect();
-    let values: Vec<f64> = (0..INPUTS).map(|_| unit(&mut seed) * 2.0).collect();
+    let mut mix = Mix(1);
+    let mut units = |scale: f64| -> Vec<f64> { (0..INPUTS).map(|_| mix.unit() * scale).collect() };
+    let (roots, powers, values) = (units(1e6), units(1.0), units(2.0));
 
-    println!("           proved          Rust");
+    timing::head(&["", "proved", "Rust", "ratio"]);
     timed("sqrt", &roots, 8, proved_sqrt, |x| rust_sqrt(x));
     timed("P, k 21", &powers, 50, proved_power, |x| rust_power(x));
     timed("R, k 21", &values, 1, proved_root, |x| rust_root(x));
@@ -140,23 +130,17 @@ fn main() {
     let draw = |_| unsafe { proved::numbers_draw_f64(&mut state) };
     timed("draw", &powers, 100, draw, |_| rust_draw(&mut rng));
 
-    let random: Vec<f64> = (0..1_000_000)
-        .map(|_| f64::from_bits(splitmix(&mut seed)))
-        .collect();
+    let random: Vec<f64> = (0..1_000_000).map(|_| f64::from_bits(mix.word())).collect();
     let edges = edge_patterns();
     let mut wrong = differing(&powers, proved_power, |x| rust_power(x));
     wrong += differing(&values, proved_root, |x| rust_root(x));
-    wrong += (state != rng.s) as usize;
-    println!("P, R and draw: {wrong} differ");
+    wrong += usize::from(state != rng.s);
     let of_random = differing(&random, proved_sqrt, f64::sqrt);
     let of_edges = differing(&edges, proved_sqrt, f64::sqrt);
     println!(
-        "sqrt and the hardware's: {of_random} of {} random patterns differ",
-        random.len()
-    );
-    println!(
-        "sqrt and the hardware's: {of_edges} of {} edge patterns differ",
-        edges.len()
+        "\n{wrong} values of P, R and the draw differ; of the square root {of_random} of {} random patterns and {of_edges} of {} edge patterns",
+        timing::count(random.len()),
+        timing::count(edges.len())
     );
     if wrong + of_random + of_edges > 0 {
         std::process::exit(1);

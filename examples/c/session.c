@@ -1,6 +1,9 @@
-/* A whole session: a line with a speed (m/s), a number of stations and one of three layouts is tuned for two aims, the time a
- * piece takes and the energy it costs. Some generations are asked for and tried, and in the end the best plans are kept. */
+/* A whole session: a drip plan for an orchard block, whose rows are 4 m apart and whose drip lines are 120 m long. A plan is a
+ * distance between emitters, the hours of a watering (three a week) and one of three valves. Wanted are little water, a high yield
+ * and a low cost; the pressure at a line's far end has to do. Some generations are asked for and tried, and the best plans are
+ * kept. */
 #include <math.h>
+#include <stdbool.h>
 #include <stdio.h>
 #include <stdlib.h>
 #include <string.h>
@@ -9,7 +12,21 @@
 
 #define SIZE 24
 #define GENERATIONS 8
+#define KEPT 8
+#define FAULTY 7 /* the plan whose first trial gives no readings */
 #define DIMENSIONS 3
+#define PLANS (SIZE * GENERATIONS + 1)
+#define NEEDED 10.0 /* the pressure that an emitter needs, m of water */
+
+/* The pressure that each valve leaves at a line's head (m), and its cost (EUR/ha in a year). */
+static const double VALVES[3][2] = {{12.0, 40.0}, {16.0, 55.0}, {22.0, 80.0}};
+
+static uint64_t history[PLANS * LOCUSTDOMINO_PLAN_WORDS];
+
+static uint64_t *plan_at(size_t k)
+{
+    return history + k * LOCUSTDOMINO_PLAN_WORDS;
+}
 
 static uint64_t bits(double x)
 {
@@ -43,72 +60,102 @@ static void must(const char *call, uint64_t code)
     }
 }
 
-/* What is tried: the plan's settings in, its row out. */
-static void try_plan(uint64_t *plan)
+struct settings {
+    double spacing, hours;
+    const double *valve;
+};
+
+static struct settings settings(const uint64_t *plan)
 {
     const uint64_t *s = plan + LOCUSTDOMINO_PLAN_SETTINGS;
-    double speed = real(s[2]);
-    double stations = (double)int_of_word(s[5]);
-    double layout = (double)s[8];
-    plan[LOCUSTDOMINO_PLAN_ROW_LENGTH] = 2;
-    plan[LOCUSTDOMINO_PLAN_ROW] = bits(60.0 / (speed * stations) + layout);
-    plan[LOCUSTDOMINO_PLAN_ROW + 1] = bits(speed * speed * stations / (1.0 + layout));
+    return (struct settings){real(s[2]), (double)int_of_word(s[5]), VALVES[s[8]]};
 }
 
-int main(void)
+/* Tries a plan: its row and constraint, with NaN where there were no readings. */
+static void try_plan(uint64_t *plan, bool read)
 {
-    static uint64_t session[LOCUSTDOMINO_SESSION_WORDS];
+    struct settings s = settings(plan);
+    /* An emitter's flow (l/h), and the share of 480 l/h that the line carries; with 480 it loses 3.3 m. */
+    double flow = 1.6 * sqrt(s.valve[0] / 10.0);
+    double share = flow * (120.0 / s.spacing) / 480.0;
+    double shortage = NEEDED - (s.valve[0] - 3.3 * share * share);
+    /* What a week's waterings bring (mm), and what of it the trees get: with 14 of rain, 36 are enough. */
+    double depth = 3.0 * s.hours * flow / (4.0 * s.spacing);
+    double useful = depth * (1.0 - 0.02 * s.hours) * (1.0 - 0.15 * (s.spacing - 0.3));
+    double lack = fmax(1.0 - (14.0 + useful) / 36.0, 0.0);
+    double water = 10.0 * depth;
+    double cost = 2500.0 / s.spacing * 0.04 + s.valve[1] + 24.0 * water * s.valve[0] * 0.0009;
+    plan[LOCUSTDOMINO_PLAN_ROW_LENGTH] = 3;
+    plan[LOCUSTDOMINO_PLAN_ROW] = bits(water);
+    plan[LOCUSTDOMINO_PLAN_ROW + 1] = bits(read ? 3.0 * (1.0 - 0.9 * lack) : NAN);
+    plan[LOCUSTDOMINO_PLAN_ROW + 2] = bits(cost);
+    plan[LOCUSTDOMINO_PLAN_CONSTRAINT_COUNT] = 1;
+    plan[LOCUSTDOMINO_PLAN_CONSTRAINTS] = bits(shortage);
+}
+
+/* A plan's next setting; plans before this one have been tried. */
+static uint64_t sample(uint64_t *session, const uint64_t *dimension, uint64_t number, uint64_t *setting)
+{
     static uint64_t candidates[LOCUSTDOMINO_CANDIDATE_WORDS];
     static uint64_t plans[LOCUSTDOMINO_MAX_PLANS];
     static size_t next_dims[LOCUSTDOMINO_MAX_PLANS];
-    static uint64_t history[LOCUSTDOMINO_MAX_HISTORY * LOCUSTDOMINO_PLAN_WORDS];
-    const uint8_t directions[2] = {0, 0};
+    return locustdomino_sample(
+        session, LOCUSTDOMINO_SESSION_WORDS, dimension, LOCUSTDOMINO_DIMENSION_WORDS, number, history, number * LOCUSTDOMINO_PLAN_WORDS,
+        candidates, LOCUSTDOMINO_CANDIDATE_WORDS, plans, LOCUSTDOMINO_MAX_PLANS, next_dims, LOCUSTDOMINO_MAX_PLANS,
+        &setting[1], &setting[2]);
+}
+
+/* Tries the generations' plans. */
+static void generations(const uint8_t *directions)
+{
+    static uint64_t session[LOCUSTDOMINO_SESSION_WORDS];
     const uint64_t dimensions[DIMENSIONS][LOCUSTDOMINO_DIMENSION_WORDS] = {
-        {LOCUSTDOMINO_FLOAT, bits(0.1), bits(2.5), 0, 0, 0},
+        {LOCUSTDOMINO_FLOAT, bits(0.3), bits(1.2), 0, 0, 0},
         {LOCUSTDOMINO_INT, word_of_int(2), word_of_int(12), 0, 0, 0},
         {LOCUSTDOMINO_CATEGORICAL, 3, 0, 0, 0, 0},
     };
-    size_t tried = 0;
-
-    must("open", locustdomino_open(directions, 2, 7, 1, SIZE, 0, 0, 1.0, 30.0, 20.0, session, LOCUSTDOMINO_SESSION_WORDS));
-
+    must("open", locustdomino_open(directions, 3, 7, 1, SIZE, 0, 0, 1.0, 30.0, 20.0, session, LOCUSTDOMINO_SESSION_WORDS));
     /* One plan more than the generations: the first plan finds the dimensions and is in no generation. */
-    for (uint64_t number = 0; number <= SIZE * GENERATIONS; number++) {
-        uint64_t *plan = history + tried * LOCUSTDOMINO_PLAN_WORDS;
+    for (uint64_t number = 0; number < PLANS; number++) {
+        uint64_t *plan = plan_at(number);
         plan[LOCUSTDOMINO_PLAN_NUMBER] = number;
         plan[LOCUSTDOMINO_PLAN_SETTING_COUNT] = DIMENSIONS;
         for (size_t d = 0; d < DIMENSIONS; d++) {
             uint64_t *setting = plan + LOCUSTDOMINO_PLAN_SETTINGS + 3 * d;
             setting[0] = d;
-            must("sample", locustdomino_sample(
-                session, LOCUSTDOMINO_SESSION_WORDS,
-                dimensions[d], LOCUSTDOMINO_DIMENSION_WORDS,
-                number,
-                history, tried * LOCUSTDOMINO_PLAN_WORDS,
-                candidates, LOCUSTDOMINO_CANDIDATE_WORDS,
-                plans, LOCUSTDOMINO_MAX_PLANS,
-                next_dims, LOCUSTDOMINO_MAX_PLANS,
-                &setting[1], &setting[2]));
+            uint64_t code = sample(session, dimensions[d], number, setting);
+            /* A refused call changes nothing: it is made again when the record is mended. */
+            if (code == LOCUSTDOMINO_BAD_PLAN) {
+                printf("plan %u: refused %u, plan %d is tried again\n", (unsigned)number, (unsigned)code, FAULTY);
+                try_plan(plan_at(FAULTY), true);
+                code = sample(session, dimensions[d], number, setting);
+            }
+            must("sample", code);
         }
-        try_plan(plan);
-        tried++;
+        try_plan(plan, number != FAULTY);
     }
+}
 
-    /* Of all that was tried, as many as a generation has are kept. */
-    size_t kept[SIZE], fronts[SIZE * GENERATIONS + 1], lines[SIZE * GENERATIONS + 1];
-    double ideal[2] = {INFINITY, INFINITY};
+int main(void)
+{
+    const uint8_t directions[3] = {0, 1, 0};
+    size_t kept[KEPT], fronts[PLANS], lines[PLANS], first = 0;
+    double ideal[3] = {INFINITY, INFINITY, INFINITY};
     uint64_t state = 7;
-    must("select", locustdomino_select(
-        history, tried * LOCUSTDOMINO_PLAN_WORDS, directions, 2, 12, SIZE, &state, ideal, 2,
-        kept, SIZE, fronts, tried, lines, tried));
 
-    printf("%zu plans tried, %d kept; ideal %.3f s and %.3f kJ\n", tried, SIZE, ideal[0], ideal[1]);
-    printf("plan  front  speed  stations  layout     time   energy\n");
-    for (size_t k = 0; k < SIZE; k++) {
-        const uint64_t *plan = history + kept[k] * LOCUSTDOMINO_PLAN_WORDS;
-        const uint64_t *s = plan + LOCUSTDOMINO_PLAN_SETTINGS;
-        printf("%4u  %5zu  %5.3f  %8d  %6u  %7.3f  %7.3f\n", (unsigned)plan[0], fronts[kept[k]], real(s[2]), (int)int_of_word(s[5]),
-            (unsigned)s[8], real(plan[LOCUSTDOMINO_PLAN_ROW]), real(plan[LOCUSTDOMINO_PLAN_ROW + 1]));
+    generations(directions);
+    must("select", locustdomino_select(
+        history, PLANS * LOCUSTDOMINO_PLAN_WORDS, directions, 3, 3, KEPT, &state, ideal, 3, kept, KEPT, fronts, PLANS, lines, PLANS));
+    for (size_t k = 0; k < PLANS; k++)
+        first += fronts[k] == 0;
+    printf("%d plans tried, %zu of them dominated by none, %d kept\n", PLANS, first, KEPT);
+    printf("plan  spacing  hours  valve  water  yield  cost    far end\n");
+    printf("      m               m      m3/ha  t/ha   EUR/ha  m\n");
+    for (size_t k = 0; k < KEPT; k++) {
+        const uint64_t *plan = plan_at(kept[k]), *row = plan + LOCUSTDOMINO_PLAN_ROW;
+        struct settings s = settings(plan);
+        printf("%-4u  %-7.2f  %-5.0f  %-5.0f  %-5.0f  %-5.2f  %-6.0f  %.1f\n", (unsigned)plan[LOCUSTDOMINO_PLAN_NUMBER], s.spacing, s.hours,
+            s.valve[0], real(row[0]), real(row[1]), real(row[2]), NEEDED - real(plan[LOCUSTDOMINO_PLAN_CONSTRAINTS]));
     }
     return 0;
 }

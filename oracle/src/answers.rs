@@ -415,7 +415,7 @@ pub struct Selection {
 }
 
 impl Selection {
-    fn read(r: &mut Reader) -> Result<Self, String> {
+    pub fn read(r: &mut Reader) -> Result<Self, String> {
         let mut call = Self::read_head(r)?;
         call.read_pool(r)?;
         Ok(call)
@@ -535,7 +535,8 @@ pub fn select(call: &Selection, dimensions: &[Distribution]) -> Kept {
     }
 }
 
-fn prepare(state: &mut nsga3::Nsga3State, call: &Selection, dimensions: &[Distribution]) {
+/// Sets a sampler's state up for a selection or generation step; the generator stays.
+pub fn prepare(state: &mut nsga3::Nsga3State, call: &Selection, dimensions: &[Distribution]) {
     state.evo.population_size = call.size as usize;
     state.evo.phase = genetic::Phase::Active;
     state.evo.dimensions = plans::infos(dimensions);
@@ -554,7 +555,7 @@ pub struct Step {
 }
 
 impl Step {
-    fn read(r: &mut Reader) -> Result<Self, String> {
+    pub fn read(r: &mut Reader) -> Result<Self, String> {
         let mut selection = Selection::read_head(r)?;
         let (probability, crossover_eta, mutation_eta) = (r.real()?, r.real()?, r.real()?);
         let dimensions = plans::read_dimensions(r)?;

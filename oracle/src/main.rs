@@ -17,6 +17,7 @@ mod types;
 mod answers;
 mod gap;
 mod inputs;
+mod mix;
 mod plans;
 mod pool_file;
 mod powers;
@@ -33,11 +34,9 @@ fn main() {
     let done = match arguments[..] {
         [] => answer_lines(false),
         ["pairs"] => answer_lines(true),
-        ["cases", kind] => inputs::cases(kind).map(|lines| print_lines(&lines)),
+        ["cases", kind] => inputs::cases(kind).map(print_lines),
         ["gen", seed, count, kind] => match (seed.parse(), count.parse()) {
-            (Ok(seed), Ok(count)) => {
-                inputs::generated(seed, count, kind).map(|lines| print_lines(&lines))
-            }
+            (Ok(seed), Ok(count)) => inputs::generated(seed, count, kind).map(print_lines),
             _ => Err("gen: SEED and N are unsigned numbers".to_string()),
         },
         ["choose"] => choose(),
@@ -73,10 +72,10 @@ fn answer_lines(pairs: bool) -> Result<(), String> {
     out.flush().map_err(|error| error.to_string())
 }
 
-fn print_lines(lines: &[Vec<u64>]) {
+fn print_lines(lines: impl IntoIterator<Item = Vec<u64>>) {
     let mut out = BufWriter::new(std::io::stdout().lock());
     for line in lines {
-        writeln!(out, "{}", words::write(line)).expect("standard output takes the lines");
+        writeln!(out, "{}", words::write(&line)).expect("standard output takes the lines");
     }
 }
 

@@ -51,6 +51,18 @@ impl Plan {
         }
     }
 
+    /// The record of a plan without constraints: parameters 1, 2, ... for the
+    /// dimensions.
+    pub fn record(number: u64, values: &[f64], settings: &[ParamValue]) -> Self {
+        let words = settings.iter().map(setting_words);
+        Plan {
+            number,
+            values: values.to_vec(),
+            constraints: Vec::new(),
+            settings: (1..).zip(words).map(|(p, [k, w])| (p, k, w)).collect(),
+        }
+    }
+
     /// The Rust's record; what document 01 leaves out is empty.
     pub fn trial(&self) -> MultiObjectiveTrial {
         MultiObjectiveTrial {
@@ -87,12 +99,16 @@ pub fn read_setting(reader: &mut Reader) -> Result<ParamValue, String> {
 }
 
 /// Kind and value.
-pub fn write_setting(line: &mut Vec<u64>, value: &ParamValue) {
-    line.extend(match *value {
+pub fn setting_words(value: &ParamValue) -> [u64; 2] {
+    match *value {
         ParamValue::Float(x) => [0, of_real(x)],
         ParamValue::Int(n) => [1, of_int(n)],
         ParamValue::Categorical(c) => [2, c as u64],
-    });
+    }
+}
+
+pub fn write_setting(line: &mut Vec<u64>, value: &ParamValue) {
+    line.extend(setting_words(value));
 }
 
 /// Kind 0 Float: low, high. 1 Int: low, high, step (0 for none). 2
@@ -164,6 +180,29 @@ pub fn write_dimension(line: &mut Vec<u64>, dimension: &Distribution) {
         }
         Distribution::Categorical(d) => line.extend([2, d.n_choices as u64]),
     }
+}
+
+/// A plain Float dimension.
+pub fn float(low: f64, high: f64) -> Distribution {
+    Distribution::Float(FloatDistribution {
+        low,
+        high,
+        log_scale: false,
+        step: None,
+    })
+}
+
+pub fn int(low: i64, high: i64, step: Option<i64>) -> Distribution {
+    Distribution::Int(IntDistribution {
+        low,
+        high,
+        log_scale: false,
+        step,
+    })
+}
+
+pub fn choices(n_choices: usize) -> Distribution {
+    Distribution::Categorical(CategoricalDistribution { n_choices })
 }
 
 pub fn read_dimensions(reader: &mut Reader) -> Result<Vec<Distribution>, String> {

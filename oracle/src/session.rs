@@ -48,7 +48,7 @@ pub struct Opening {
 }
 
 impl Opening {
-    fn read(r: &mut Reader) -> Result<Self, String> {
+    pub fn read(r: &mut Reader) -> Result<Self, String> {
         Ok(Opening {
             short: r.flag()?,
             marks: plans::read_marks(r)?,
@@ -271,6 +271,41 @@ impl Session {
     }
 }
 
+/// A call of a session's line: how often it is made, and the history that it
+/// hands in.
+pub struct Call {
+    pub times: u64,
+    pub plan: u64,
+    pub distribution: Distribution,
+    pub short: bool,
+    pub keep: usize,
+    pub copies: usize,
+    pub records: Vec<Plan>,
+    pub full: bool,
+}
+
+impl Call {
+    pub fn read(r: &mut Reader) -> Result<Self, String> {
+        let (times, plan) = (r.number()?, r.number()?);
+        if times == 0 {
+            return Err("a call is made at least once".to_string());
+        }
+        let distribution = plans::read_dimension(r)?;
+        let short = r.flag()?;
+        let (keep, copies, count) = (r.count()?, r.count()?, r.count()?);
+        Ok(Call {
+            times,
+            plan,
+            distribution,
+            short,
+            keep,
+            copies,
+            records: r.list(count, Plan::read)?,
+            full: r.flag()?,
+        })
+    }
+}
+
 /// One line is one session: its opening and its calls.
 pub fn answer(r: &mut Reader) -> Result<Vec<u64>, String> {
     let opening = Opening::read(r)?;
@@ -287,23 +322,14 @@ pub fn answer(r: &mut Reader) -> Result<Vec<u64>, String> {
         a.push(0);
     }
     for _ in 0..calls {
-        let times = r.number()?;
-        let plan = r.number()?;
-        let distribution = plans::read_dimension(r)?;
-        let short = r.flag()?;
-        let (keep, copies, count) = (r.count()?, r.count()?, r.count()?);
-        let records = r.list(count, Plan::read)?;
-        let full = r.flag()?;
+        let call = Call::read(r)?;
         let Some(session) = session.as_mut() else {
             continue;
         };
-        session.set_history(keep, copies, &records)?;
-        if times == 0 {
-            return Err("a call is made at least once".to_string());
-        }
+        session.set_history(call.keep, call.copies, &call.records)?;
         let mut last = Err(0);
-        for at in 0..times {
-            last = session.call(&distribution, plan.wrapping_add(at), short);
+        for at in 0..call.times {
+            last = session.call(&call.distribution, call.plan.wrapping_add(at), call.short);
         }
         match last {
             Err(number) => a.push(number),
@@ -312,7 +338,7 @@ pub fn answer(r: &mut Reader) -> Result<Vec<u64>, String> {
                 plans::write_setting(&mut a, &value);
             }
         }
-        session.report(full, &mut a);
+        session.report(call.full, &mut a);
     }
     Ok(a)
 }

@@ -7,105 +7,17 @@ use std::fmt;
 
 const _: () = assert!(usize::BITS == 64, "the library is for 64-bit machines");
 
-mod raw {
-    #[link(name = "locustdomino", kind = "static")]
-    unsafe extern "C" {
-        pub fn locustdomino_select(
-            pool: *const u64,
-            pool_words: usize,
-            directions: *const u8,
-            objectives: usize,
-            divisions: usize,
-            size: usize,
-            state: *mut u64,
-            ideal: *mut f64,
-            ideal_length: usize,
-            kept: *mut usize,
-            kept_length: usize,
-            fronts: *mut usize,
-            fronts_length: usize,
-            lines: *mut usize,
-            lines_length: usize,
-        ) -> u64;
-        pub fn locustdomino_generate_offspring(
-            pool: *const u64,
-            pool_words: usize,
-            directions: *const u8,
-            objectives: usize,
-            divisions: usize,
-            size: usize,
-            state: *mut u64,
-            dimensions: *const u64,
-            dimension_words: usize,
-            crossover_prob: f64,
-            crossover_eta: f64,
-            mutation_eta: f64,
-            ideal: *mut f64,
-            ideal_length: usize,
-            kept: *mut usize,
-            kept_length: usize,
-            fronts: *mut usize,
-            fronts_length: usize,
-            lines: *mut usize,
-            lines_length: usize,
-            offspring: *mut u64,
-            offspring_words: usize,
-            n_kept: *mut usize,
-        ) -> u64;
-        pub fn locustdomino_open(
-            directions: *const u8,
-            objectives: usize,
-            seed: u64,
-            has_size: u8,
-            size: usize,
-            has_divisions: u8,
-            divisions: usize,
-            crossover_prob: f64,
-            crossover_eta: f64,
-            mutation_eta: f64,
-            session: *mut u64,
-            session_words: usize,
-        ) -> u64;
-        pub fn locustdomino_sample(
-            session: *mut u64,
-            session_words: usize,
-            dimension: *const u64,
-            dimension_words: usize,
-            plan: u64,
-            history: *const u64,
-            history_words: usize,
-            candidates: *mut u64,
-            candidate_words: usize,
-            plans: *mut u64,
-            plans_length: usize,
-            next_dims: *mut usize,
-            next_dims_length: usize,
-            kind: *mut u64,
-            value: *mut u64,
-        ) -> u64;
-        pub fn locustdomino_choose(
-            file: *const u8,
-            file_length: usize,
-            out: *mut u8,
-            out_length: usize,
-            length: *mut usize,
-        ) -> u64;
-    }
-}
+mod raw;
+
+use raw::{DIMENSION_WORDS, PLAN_WORDS, Selecting};
 
 /// The most plans of a selection, of a pool, and the most dimensions.
 pub const MAX_SIZE: usize = 1024;
-pub const MAX_DIMENSIONS: usize = 32;
+pub const MAX_DIMENSIONS: usize = raw::MAX_SETTINGS;
 /// The most plans of a history.
 pub const MAX_HISTORY: usize = 4096;
 
-const PLAN_WORDS: usize = 124;
-const DIMENSION_WORDS: usize = 6;
-const SESSION_WORDS: usize = 222;
-const CANDIDATE_WORDS: usize = 65536;
-const MAX_PLANS: usize = 2048;
 const MAX_TEXT: usize = 20501;
-const NO_LINE: usize = usize::MAX;
 /// 2^53
 const BOUND: i64 = 1 << 53;
 
@@ -133,9 +45,8 @@ impl Refusal {
         self as u8
     }
 
-    fn of(code: u64) -> Result<(), Refusal> {
-        Err(match code {
-            0 => return Ok(()),
+    fn from_code(code: u64) -> Self {
+        match code {
             1 => Refusal::Form,
             2 => Refusal::Directions,
             3 => Refusal::Size,
@@ -148,7 +59,11 @@ impl Refusal {
             10 => Refusal::Room,
             11 => Refusal::Full,
             _ => unreachable!("the library answers 0 to 11"),
-        })
+        }
+    }
+
+    fn of(code: u64) -> Result<(), Refusal> {
+        if code == 0 { Ok(()) } else { Err(Refusal::from_code(code)) }
     }
 }
 
@@ -196,7 +111,7 @@ pub struct Directions(Vec<u8>);
 
 impl Directions {
     pub fn new(directions: &[Direction]) -> Result<Self, Refusal> {
-        if directions.is_empty() || directions.len() > 8 {
+        if directions.is_empty() || directions.len() > raw::MAX_OBJECTIVES {
             return Err(Refusal::Directions);
         }
         Ok(Directions(directions.iter().map(|&d| d as u8).collect()))
@@ -286,7 +201,7 @@ impl Dimension {
 
     /// One of 1 to 65,536 choices, counted from 0.
     pub fn categorical(choices: usize) -> Result<Self, Refusal> {
-        if choices < 1 || choices > 65536 {
+        if !(1..=65536).contains(&choices) {
             return Err(Refusal::Dimension);
         }
         Ok(Dimension([2, choices as u64, 0, 0, 0, 0]))
@@ -309,27 +224,14 @@ impl Plan {
         constraints: &[f64],
         settings: &[(u64, Setting)],
     ) -> Result<Self, Refusal> {
-        if row.len() > 8 || constraints.len() > 16 {
+        if row.len() > raw::MAX_OBJECTIVES || constraints.len() > raw::MAX_CONSTRAINTS {
             return Err(Refusal::Plan);
         }
         if settings.len() > MAX_DIMENSIONS {
             return Err(Refusal::Parent);
         }
-        let mut words = [0; PLAN_WORDS];
-        words[0] = number;
-        words[1] = row.len() as u64;
-        for (word, value) in words[2..].iter_mut().zip(row) {
-            *word = value.to_bits();
-        }
-        words[10] = constraints.len() as u64;
-        for (word, value) in words[11..].iter_mut().zip(constraints) {
-            *word = value.to_bits();
-        }
-        words[27] = settings.len() as u64;
-        for (to, (param, setting)) in words[28..].chunks_mut(3).zip(settings) {
-            to.copy_from_slice(&[*param, setting.kind(), setting.word()]);
-        }
-        Ok(Plan(words))
+        let settings: Vec<[u64; 3]> = settings.iter().map(|&(p, s)| [p, s.kind(), s.word()]).collect();
+        Ok(Plan(raw::plan_words(number, row, constraints, &settings)))
     }
 
     pub fn number(&self) -> u64 {
@@ -337,18 +239,22 @@ impl Plan {
     }
 
     pub fn row(&self) -> Vec<f64> {
-        let words = &self.0[2..2 + self.0[1] as usize];
-        words.iter().map(|&w| f64::from_bits(w)).collect()
+        self.reals(raw::PLAN_ROW_LENGTH)
     }
 
     pub fn constraints(&self) -> Vec<f64> {
-        let words = &self.0[11..11 + self.0[10] as usize];
-        words.iter().map(|&w| f64::from_bits(w)).collect()
+        self.reals(raw::PLAN_CONSTRAINT_COUNT)
     }
 
     pub fn settings(&self) -> Vec<(u64, Setting)> {
-        let words = &self.0[28..28 + 3 * self.0[27] as usize];
+        let words = &self.0[raw::PLAN_SETTINGS..][..3 * self.0[raw::PLAN_SETTING_COUNT] as usize];
         words.chunks(3).map(|w| (w[0], Setting::of(w[1], w[2]))).collect()
+    }
+
+    /// The reals that follow their count.
+    fn reals(&self, count: usize) -> Vec<f64> {
+        let words = &self.0[count + 1..][..self.0[count] as usize];
+        words.iter().map(|&w| f64::from_bits(w)).collect()
     }
 }
 
@@ -426,6 +332,12 @@ impl Default for Operators {
     }
 }
 
+impl Operators {
+    fn raw(&self) -> raw::Operators {
+        [self.crossover_prob, self.crossover_eta.into(), self.mutation_eta.into()]
+    }
+}
+
 // ---- what is answered
 
 /// Places in the pool that are kept, and of each plan of the pool its front and its line, if a front was split.
@@ -436,22 +348,60 @@ pub struct Selection {
     pub lines: Vec<Option<usize>>,
 }
 
-impl Selection {
-    fn of(kept: Vec<usize>, fronts: Vec<usize>, lines: Vec<usize>) -> Self {
-        let lines = lines.into_iter().map(|l| (l != NO_LINE).then_some(l)).collect();
-        Selection {
-            kept,
-            fronts,
-            lines,
-        }
-    }
-}
-
 /// A generation step's selection (empty for a pool of one plan), and a setting for each dimension of each new plan.
 #[derive(Clone, Debug, PartialEq)]
 pub struct Offspring {
     pub selection: Selection,
     pub plans: Vec<Vec<Setting>>,
+}
+
+/// What a selection is written to.
+struct Room {
+    kept: Vec<usize>,
+    fronts: Vec<usize>,
+    lines: Vec<usize>,
+}
+
+impl Room {
+    fn new(pool: &[Plan], size: usize) -> Self {
+        // A greater size is refused, so that no room is needed for it.
+        Room {
+            kept: vec![0; size.min(MAX_SIZE)],
+            fronts: vec![0; pool.len()],
+            lines: vec![0; pool.len()],
+        }
+    }
+
+    fn lend<'a>(
+        &'a mut self,
+        pool: &'a [Plan],
+        directions: &'a Directions,
+        divisions: usize,
+        size: usize,
+        rng: &'a mut Rng,
+        ideal: &'a mut Ideal,
+    ) -> Selecting<'a> {
+        Selecting {
+            pool: plan_words(pool),
+            directions: &directions.0,
+            divisions,
+            size,
+            state: &mut rng.0,
+            ideal: &mut ideal.0,
+            kept: &mut self.kept,
+            fronts: &mut self.fronts,
+            lines: &mut self.lines,
+        }
+    }
+
+    fn selection(self) -> Selection {
+        let lines = self.lines.into_iter().map(|l| (l != raw::NO_LINE).then_some(l)).collect();
+        Selection {
+            kept: self.kept,
+            fronts: self.fronts,
+            lines,
+        }
+    }
 }
 
 /// `size` plans of the pool to keep.
@@ -463,32 +413,9 @@ pub fn select(
     rng: &mut Rng,
     ideal: &mut Ideal,
 ) -> Result<Selection, Refusal> {
-    let words = plan_words(pool);
-    // A greater size is refused, so that no room is needed for it.
-    let mut kept = vec![0; size.min(MAX_SIZE)];
-    let mut fronts = vec![0; pool.len()];
-    let mut lines = vec![0; pool.len()];
-    // SAFETY: every slice is given with its own length, and they are apart.
-    Refusal::of(unsafe {
-        raw::locustdomino_select(
-            words.as_ptr(),
-            words.len(),
-            directions.0.as_ptr(),
-            directions.0.len(),
-            divisions,
-            size,
-            &mut rng.0,
-            ideal.0.as_mut_ptr(),
-            ideal.0.len(),
-            kept.as_mut_ptr(),
-            kept.len(),
-            fronts.as_mut_ptr(),
-            fronts.len(),
-            lines.as_mut_ptr(),
-            lines.len(),
-        )
-    })?;
-    Ok(Selection::of(kept, fronts, lines))
+    let mut room = Room::new(pool, size);
+    Refusal::of(raw::select(room.lend(pool, directions, divisions, size, rng, ideal)))?;
+    Ok(room.selection())
 }
 
 /// A selection, and `size` new plans that are bred from what is kept.
@@ -503,53 +430,23 @@ pub fn generate_offspring(
     operators: &Operators,
     ideal: &mut Ideal,
 ) -> Result<Offspring, Refusal> {
-    let words = plan_words(pool);
-    let dims = dimension_words(dimensions);
-    let mut kept = vec![0; size.min(MAX_SIZE)];
-    let mut fronts = vec![0; pool.len()];
-    let mut lines = vec![0; pool.len()];
-    let mut offspring = vec![0; size.min(MAX_SIZE) * dimensions.len().min(MAX_DIMENSIONS)];
-    let mut n_kept = 0;
-    // SAFETY: every slice is given with its own length, and they are apart.
-    Refusal::of(unsafe {
-        raw::locustdomino_generate_offspring(
-            words.as_ptr(),
-            words.len(),
-            directions.0.as_ptr(),
-            directions.0.len(),
-            divisions,
-            size,
-            &mut rng.0,
-            dims.as_ptr(),
-            dims.len(),
-            operators.crossover_prob,
-            operators.crossover_eta.into(),
-            operators.mutation_eta.into(),
-            ideal.0.as_mut_ptr(),
-            ideal.0.len(),
-            kept.as_mut_ptr(),
-            kept.len(),
-            fronts.as_mut_ptr(),
-            fronts.len(),
-            lines.as_mut_ptr(),
-            lines.len(),
-            offspring.as_mut_ptr(),
-            offspring.len(),
-            &mut n_kept,
-        )
-    })?;
     let n = dimensions.len();
+    let mut room = Room::new(pool, size);
+    let mut offspring = vec![0; size.min(MAX_SIZE) * n.min(MAX_DIMENSIONS)];
+    let mut n_kept = 0;
+    Refusal::of(raw::generate_offspring(
+        room.lend(pool, directions, divisions, size, rng, ideal),
+        dimension_words(dimensions),
+        operators.raw(),
+        &mut offspring,
+        &mut n_kept,
+    ))?;
     let plan = |i: usize| {
-        let words = &offspring[i * n..(i + 1) * n];
-        let settings = dimensions.iter().zip(words);
+        let settings = dimensions.iter().zip(&offspring[i * n..]);
         settings.map(|(d, &w)| Setting::of(d.kind(), w)).collect()
     };
     let plans = (0..size).map(plan).collect();
-    let selection = if n_kept == 0 {
-        Selection::default()
-    } else {
-        Selection::of(kept, fronts, lines)
-    };
+    let selection = if n_kept == 0 { Selection::default() } else { room.selection() };
     Ok(Offspring { selection, plans })
 }
 
@@ -557,10 +454,7 @@ pub fn generate_offspring(
 pub fn choose(file: &[u8]) -> Result<Vec<u8>, Refusal> {
     let mut out = vec![0; MAX_TEXT];
     let mut length = 0;
-    // SAFETY: both slices are given with their own length, and they are apart.
-    Refusal::of(unsafe {
-        raw::locustdomino_choose(file.as_ptr(), file.len(), out.as_mut_ptr(), out.len(), &mut length)
-    })?;
+    Refusal::of(raw::choose(file, &mut out, &mut length))?;
     out.truncate(length);
     Ok(out)
 }
@@ -569,12 +463,7 @@ pub fn choose(file: &[u8]) -> Result<Vec<u8>, Refusal> {
 
 /// A session. Its words and what is lent with it are written by the library alone.
 #[derive(Clone)]
-pub struct Session {
-    words: Vec<u64>,
-    candidates: Vec<u64>,
-    plans: Vec<u64>,
-    next_dims: Vec<usize>,
-}
+pub struct Session(raw::Session);
 
 impl Session {
     pub fn open(
@@ -584,85 +473,35 @@ impl Session {
         divisions: Option<usize>,
         operators: &Operators,
     ) -> Result<Self, Refusal> {
-        let mut words = vec![0; SESSION_WORDS];
-        // SAFETY: both slices are given with their own length, and they are apart.
-        Refusal::of(unsafe {
-            raw::locustdomino_open(
-                directions.0.as_ptr(),
-                directions.0.len(),
-                seed,
-                size.is_some().into(),
-                size.unwrap_or(0),
-                divisions.is_some().into(),
-                divisions.unwrap_or(0),
-                operators.crossover_prob,
-                operators.crossover_eta.into(),
-                operators.mutation_eta.into(),
-                words.as_mut_ptr(),
-                words.len(),
-            )
-        })?;
-        Ok(Session {
-            words,
-            candidates: vec![0; CANDIDATE_WORDS],
-            plans: vec![0; MAX_PLANS],
-            next_dims: vec![0; MAX_PLANS],
-        })
+        let opened = raw::Session::open(&directions.0, seed, size, divisions, operators.raw(), raw::SESSION_WORDS);
+        opened.map(Session).map_err(Refusal::from_code)
     }
 
     /// The next setting of a plan. While the first plan asks, each call adds its dimension; afterwards the dimension passed is
     /// ignored. Once the history has the present generation's plans, the next generation is bred.
-    pub fn sample(
-        &mut self,
-        dimension: &Dimension,
-        plan: u64,
-        history: &[Plan],
-    ) -> Result<Setting, Refusal> {
-        let history = plan_words(history);
-        let mut kind = 0;
-        let mut value = 0;
-        // SAFETY: every slice is given with its own length, and they are apart. The session's words and its three slices are
-        // as the library left them, which is what it asks.
-        Refusal::of(unsafe {
-            raw::locustdomino_sample(
-                self.words.as_mut_ptr(),
-                self.words.len(),
-                dimension.0.as_ptr(),
-                dimension.0.len(),
-                plan,
-                history.as_ptr(),
-                history.len(),
-                self.candidates.as_mut_ptr(),
-                self.candidates.len(),
-                self.plans.as_mut_ptr(),
-                self.plans.len(),
-                self.next_dims.as_mut_ptr(),
-                self.next_dims.len(),
-                &mut kind,
-                &mut value,
-            )
-        })?;
-        Ok(Setting::of(kind, value))
+    pub fn sample(&mut self, dimension: &Dimension, plan: u64, history: &[Plan]) -> Result<Setting, Refusal> {
+        let sampled = self.0.sample(&dimension.0, plan, plan_words(history), raw::CANDIDATE_WORDS);
+        sampled.map(|[kind, word]| Setting::of(kind, word)).map_err(Refusal::from_code)
     }
 
     /// How many plans a generation has.
     pub fn size(&self) -> usize {
-        self.words[10] as usize
+        self.0.words()[raw::SESSION_SIZE] as usize
     }
 
     /// The present generation's number, from 0.
     pub fn generation(&self) -> u64 {
-        self.words[21]
+        self.0.words()[raw::SESSION_GENERATION]
     }
 
     /// How many dimensions the first plan has entered so far.
     pub fn dimensions(&self) -> usize {
-        self.words[18] as usize
+        self.0.words()[raw::SESSION_DIMENSION_COUNT] as usize
     }
 
     /// The numbers of the present generation's plans, in the order in which they came.
     pub fn plans(&self) -> &[u64] {
-        &self.plans[..self.words[20] as usize]
+        self.0.plans().0
     }
 }
 

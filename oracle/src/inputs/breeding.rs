@@ -77,6 +77,10 @@ pub(super) fn breeding_cases() -> Vec<Line> {
     let i = ParamValue::Int;
     let c = ParamValue::Categorical;
     let unit = float(0.0, 1.0);
+    let quarters = |state, probability| {
+        let dimensions = std::slice::from_ref(&unit);
+        crossover(state, probability, 2.0, dimensions, &[f(0.25)], &[f(0.75)])
+    };
     let mut lines = vec![
         sample_random(1, &unit),
         sample_random(before_draw(last), &float(1.0, next(1.0))),
@@ -103,39 +107,11 @@ pub(super) fn breeding_cases() -> Vec<Line> {
         extract(1, &[unit.clone()], &[]),
         extract(1, &[], &[(3, 2, 1)]),
         // P11: probability 0 and draw 0, crossover runs.
-        crossover(
-            before_draw(0),
-            0.0,
-            2.0,
-            &[unit.clone()],
-            &[f(0.25)],
-            &[f(0.75)],
-        ),
-        crossover(
-            before_draw(1),
-            0.0,
-            2.0,
-            &[unit.clone()],
-            &[f(0.25)],
-            &[f(0.75)],
-        ),
-        crossover(
-            before_draw(0),
-            -0.0,
-            2.0,
-            &[unit.clone()],
-            &[f(0.25)],
-            &[f(0.75)],
-        ),
+        quarters(before_draw(0), 0.0),
+        quarters(before_draw(1), 0.0),
+        quarters(before_draw(0), -0.0),
         // A draw that equals the probability runs too.
-        crossover(
-            before_draw(half),
-            0.5,
-            2.0,
-            &[unit.clone()],
-            &[f(0.25)],
-            &[f(0.75)],
-        ),
+        quarters(before_draw(half), 0.5),
         // No dimension: one word.
         crossover(1, 1.0, 30.0, &[], &[], &[]),
         // Closer than 1e-14, and just 1e-14 apart.

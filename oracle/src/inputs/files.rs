@@ -146,7 +146,7 @@ pub(super) fn large_cases() -> Vec<Line> {
     let mut records: Vec<Plan> = (0..4096)
         .map(|n| {
             let number = 1 + (n * 5) % 1024;
-            record(
+            Plan::record(
                 number,
                 &[n as f64, (4096 - n) as f64],
                 &[ParamValue::Float(0.5)],

@@ -8,12 +8,11 @@ mod numbers;
 mod rows;
 mod sessions;
 
-use crate::distribution::{
-    CategoricalDistribution, Distribution, FloatDistribution, IntDistribution,
-};
+use crate::distribution::{Distribution, FloatDistribution, IntDistribution};
+use crate::mix::Mix;
 use crate::param::ParamValue;
 use crate::pareto;
-use crate::plans::{self, Plan};
+use crate::plans::{self, Plan, choices, float, int};
 use crate::pool_file;
 use crate::refusals;
 use crate::session::{Opening, Session};
@@ -55,8 +54,12 @@ pub fn cases(kind: &str) -> Result<Vec<Line>, String> {
 
 /// `count` inputs of a record. The same seed gives the same lines; the
 /// number of objectives goes round from 1 to 8.
-pub fn generated(seed: u64, count: u64, kind: &str) -> Result<Vec<Line>, String> {
-    let one = match kind {
+pub fn generated(
+    seed: u64,
+    count: u64,
+    kind: &str,
+) -> Result<impl Iterator<Item = Line> + use<>, String> {
+    let one: fn(&mut Mix, u64) -> Line = match kind {
         "draw" => numbers::draw_input,
         "numbers" => numbers::number_input,
         "dominance" => rows::dominance_input,
@@ -70,68 +73,18 @@ pub fn generated(seed: u64, count: u64, kind: &str) -> Result<Vec<Line>, String>
         _ => return Err(format!("the records are {}", KINDS.join(", "))),
     };
     let record = KINDS.iter().position(|&k| k == kind).unwrap_or(0) as u64;
-    Ok((0..count)
-        .map(|at| {
-            // Each line has its own stream, so a longer run begins with the
-            // lines of a shorter one.
-            let mut mix = Mix(seed ^ (record << 56) ^ (at << 24));
-            mix.word();
-            one(&mut mix, at)
-        })
-        .collect())
+    Ok((0..count).map(move |at| {
+        // Each line has its own stream, so a longer run begins with the
+        // lines of a shorter one.
+        let mut mix = Mix(seed ^ (record << 56) ^ (at << 24));
+        mix.word();
+        one(&mut mix, at)
+    }))
 }
 
 // ---------------------------------------------------------------------------
-// Chance, and values with it
+// Values by chance
 // ---------------------------------------------------------------------------
-
-/// The inputs' own source of chance (splitmix64), kept apart from the
-/// generator under test.
-struct Mix(u64);
-
-impl Mix {
-    fn word(&mut self) -> u64 {
-        self.0 = self.0.wrapping_add(0x9E3779B97F4A7C15);
-        let mut z = self.0;
-        z = (z ^ (z >> 30)).wrapping_mul(0xBF58476D1CE4E5B9);
-        z = (z ^ (z >> 27)).wrapping_mul(0x94D049BB133111EB);
-        z ^ (z >> 31)
-    }
-
-    fn below(&mut self, n: u64) -> u64 {
-        self.word() % n
-    }
-
-    /// From `low` to `high`, both possible.
-    fn within(&mut self, low: u64, high: u64) -> u64 {
-        low + self.below(high - low + 1)
-    }
-
-    /// Below 2^n, n itself by chance up to `most`: small numbers come often.
-    fn uneven(&mut self, most: u64) -> u64 {
-        let bits = self.within(1, most);
-        self.below(1 << bits)
-    }
-
-    /// True once in n times.
-    fn once_in(&mut self, n: u64) -> bool {
-        self.below(n) == 0
-    }
-
-    fn unit(&mut self) -> f64 {
-        (self.word() >> 11) as f64 / 9007199254740992.0
-    }
-
-    fn pick<T: Clone>(&mut self, items: &[T]) -> T {
-        items[self.below(items.len() as u64) as usize].clone()
-    }
-
-    fn shuffle<T>(&mut self, items: &mut [T]) {
-        for at in (1..items.len()).rev() {
-            items.swap(at, self.below(at as u64 + 1) as usize);
-        }
-    }
-}
 
 /// 2^n as a double.
 fn two(n: i32) -> f64 {
@@ -292,28 +245,6 @@ fn size(mix: &mut Mix, n: usize) -> u64 {
 // Dimensions and settings
 // ---------------------------------------------------------------------------
 
-fn float(low: f64, high: f64) -> Distribution {
-    Distribution::Float(FloatDistribution {
-        low,
-        high,
-        log_scale: false,
-        step: None,
-    })
-}
-
-fn int(low: i64, high: i64, step: Option<i64>) -> Distribution {
-    Distribution::Int(IntDistribution {
-        low,
-        high,
-        log_scale: false,
-        step,
-    })
-}
-
-fn choices(n_choices: usize) -> Distribution {
-    Distribution::Categorical(CategoricalDistribution { n_choices })
-}
-
 /// The smallest dimension to write, where it is not looked at.
 fn any_dimension() -> Distribution {
     choices(1)
@@ -370,19 +301,13 @@ fn value(mix: &mut Mix, dimension: &Distribution) -> ParamValue {
     }
 }
 
-fn words_of(value: &ParamValue) -> (u64, u64) {
-    let mut words = Vec::new();
-    plans::write_setting(&mut words, value);
-    (words[0], words[1])
-}
-
 /// Settings for the first dimensions, in parameter order; then listed in any
 /// order, some missing at the end, some added past the last dimension.
 fn settings(mix: &mut Mix, values: &[ParamValue], dimension_count: usize) -> Vec<(u64, u64, u64)> {
     let mut number = mix.below(4);
     let mut settings = Vec::new();
     for value in values {
-        let (kind, word) = words_of(value);
+        let [kind, word] = plans::setting_words(value);
         settings.push((number, kind, word));
         number += mix.within(1, 3);
     }

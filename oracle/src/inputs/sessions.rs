@@ -110,24 +110,6 @@ impl Script {
     }
 }
 
-/// A record of plan `number`: parameters 1, 2, ... for the dimensions.
-pub(super) fn record(number: u64, row: &[f64], values: &[ParamValue]) -> Plan {
-    let settings = values
-        .iter()
-        .enumerate()
-        .map(|(at, value)| {
-            let (kind, word) = words_of(value);
-            (at as u64 + 1, kind, word)
-        })
-        .collect();
-    Plan {
-        number,
-        values: row.to_vec(),
-        constraints: Vec::new(),
-        settings,
-    }
-}
-
 pub(super) fn session_cases() -> Vec<Line> {
     let unit = float(0.0, 1.0);
     let mut lines = Vec::new();
@@ -261,7 +243,7 @@ pub(super) fn session_cases() -> Vec<Line> {
     let _ = script.calls(1, 2049, &any_dimension(), true, false);
     script.fresh = (1..=4)
         .map(|n| {
-            record(
+            Plan::record(
                 n,
                 &[n as f64, 4.0 - n as f64],
                 &[ParamValue::Categorical(1)],
@@ -274,25 +256,15 @@ pub(super) fn session_cases() -> Vec<Line> {
     // A history above 4,096 meets 7 on every call, discovery included; 4,096
     // records pass.
     let mut script = Script::new(good.clone());
-    let any = record(1, &[], &[]);
-    let _ = script.raw(
-        1,
-        0,
-        &choices(3),
-        false,
-        (0, 4097, std::slice::from_ref(&any)),
-        true,
-    );
-    let _ = script.raw(1, 0, &choices(3), false, (4096, 0, &[]), true);
-    let _ = script.raw(
-        1,
-        1,
-        &choices(3),
-        false,
-        (4096, 1, std::slice::from_ref(&any)),
-        false,
-    );
-    let _ = script.raw(1, 1, &choices(3), false, (0, 0, &[]), true);
+    let any = [Plan::record(1, &[], &[])];
+    for (plan, history, full) in [
+        (0, (0, 4097, &any[..]), true),
+        (0, (4096, 0, &[]), true),
+        (1, (4096, 1, &any), false),
+        (1, (0, 0, &[]), true),
+    ] {
+        let _ = script.raw(1, plan, &choices(3), false, history, full);
+    }
     lines.push(script.line());
 
     // Three generations by hand: records out of order and repeated, the last
@@ -312,25 +284,25 @@ pub(super) fn session_cases() -> Vec<Line> {
     }
     // Only three of four stand in history.
     script.fresh = vec![
-        record(22, &[9.0, 9.0], &fit),
-        record(20, &[1.0, 3.0], &fit),
-        record(21, &[2.0, 2.0], &fit[..2]),
-        record(22, &[0.0, 4.0], &fit),
+        Plan::record(22, &[9.0, 9.0], &fit),
+        Plan::record(20, &[1.0, 3.0], &fit),
+        Plan::record(21, &[2.0, 2.0], &fit[..2]),
+        Plan::record(22, &[0.0, 4.0], &fit),
     ];
     let _ = script.call(23, true);
     let _ = script.call(24, true);
-    let bad_row = record(23, &[1.0], &fit);
-    let bad_setting = record(23, &[3.0, 1.0], &[ParamValue::Float(1.5)]);
+    let bad_row = Plan::record(23, &[1.0], &fit);
+    let bad_setting = Plan::record(23, &[3.0, 1.0], &[ParamValue::Float(1.5)]);
     script.fresh = vec![bad_row];
     let _ = script.call(23, true);
     script.fresh = vec![bad_setting.clone()];
     let _ = script.call(30, true);
     let _ = script.calls(1, 30, &any_dimension(), true, false);
-    let mut nan = record(23, &[3.0, f64::NAN], &fit);
+    let mut nan = Plan::record(23, &[3.0, f64::NAN], &fit);
     nan.settings = bad_setting.settings;
     script.fresh = vec![nan];
     let _ = script.call(24, false);
-    script.fresh = vec![record(23, &[3.0, 1.0], &fit)];
+    script.fresh = vec![Plan::record(23, &[3.0, 1.0], &fit)];
     let _ = script.calls(1, 23, &any_dimension(), true, false);
     let _ = script.call(23, true);
     for plan in [10, 24, 25, 26] {
@@ -338,7 +310,7 @@ pub(super) fn session_cases() -> Vec<Line> {
     }
     script.fresh = [25, 24, 10, 23, 26]
         .iter()
-        .map(|&n| record(n, &[n as f64, 40.0 - n as f64], &fit))
+        .map(|&n| Plan::record(n, &[n as f64, 40.0 - n as f64], &fit))
         .collect();
     let _ = script.call(27, true);
     lines.push(script.line());

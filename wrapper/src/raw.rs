@@ -1,0 +1,185 @@
+//! The static library's calls over slices of words, and the sizes and places of `include/locustdomino.h`. A call answers 0 or the
+//! number of the refusal.
+
+// bench/ uses what the crate does not.
+#![allow(dead_code)]
+
+pub const PLAN_WORDS: usize = 124;
+pub const MAX_OBJECTIVES: usize = 8;
+pub const MAX_CONSTRAINTS: usize = 16;
+pub const MAX_SETTINGS: usize = 32;
+pub const PLAN_ROW_LENGTH: usize = 1;
+pub const PLAN_ROW: usize = 2;
+pub const PLAN_CONSTRAINT_COUNT: usize = 10;
+pub const PLAN_CONSTRAINTS: usize = 11;
+pub const PLAN_SETTING_COUNT: usize = 27;
+pub const PLAN_SETTINGS: usize = 28;
+
+pub const DIMENSION_WORDS: usize = 6;
+pub const NO_LINE: usize = usize::MAX;
+
+pub const SESSION_WORDS: usize = 222;
+pub const CANDIDATE_WORDS: usize = 65536;
+pub const MAX_PLANS: usize = 2048;
+/// Places of a session's words, to be read only.
+pub const SESSION_OBJECTIVES: usize = 0;
+pub const SESSION_SIZE: usize = 10;
+pub const SESSION_ACTIVE: usize = 14;
+pub const SESSION_HAS_FIRST: usize = 15;
+pub const SESSION_FIRST: usize = 16;
+pub const SESSION_STATE: usize = 17;
+pub const SESSION_DIMENSION_COUNT: usize = 18;
+pub const SESSION_CANDIDATE_COUNT: usize = 19;
+pub const SESSION_PLAN_COUNT: usize = 20;
+pub const SESSION_GENERATION: usize = 21;
+pub const SESSION_IDEAL: usize = 22;
+pub const SESSION_DIMENSIONS: usize = 30;
+
+#[rustfmt::skip]
+#[link(name = "locustdomino", kind = "static")]
+unsafe extern "C" {
+    fn locustdomino_select(pool: *const u64, pool_words: usize, directions: *const u8, objectives: usize, divisions: usize, size: usize,
+        state: *mut u64, ideal: *mut f64, ideal_length: usize, kept: *mut usize, kept_length: usize, fronts: *mut usize, fronts_length: usize,
+        lines: *mut usize, lines_length: usize) -> u64;
+    fn locustdomino_generate_offspring(pool: *const u64, pool_words: usize, directions: *const u8, objectives: usize, divisions: usize,
+        size: usize, state: *mut u64, dimensions: *const u64, dimension_words: usize, crossover_prob: f64, crossover_eta: f64, mutation_eta: f64,
+        ideal: *mut f64, ideal_length: usize, kept: *mut usize, kept_length: usize, fronts: *mut usize, fronts_length: usize,
+        lines: *mut usize, lines_length: usize, offspring: *mut u64, offspring_words: usize, n_kept: *mut usize) -> u64;
+    fn locustdomino_open(directions: *const u8, objectives: usize, seed: u64, has_size: u8, size: usize, has_divisions: u8, divisions: usize,
+        crossover_prob: f64, crossover_eta: f64, mutation_eta: f64, session: *mut u64, session_words: usize) -> u64;
+    fn locustdomino_sample(session: *mut u64, session_words: usize, dimension: *const u64, dimension_words: usize, plan: u64,
+        history: *const u64, history_words: usize, candidates: *mut u64, candidate_words: usize, plans: *mut u64, plans_length: usize,
+        next_dims: *mut usize, next_dims_length: usize, kind: *mut u64, value: *mut u64) -> u64;
+    fn locustdomino_choose(file: *const u8, file_length: usize, out: *mut u8, out_length: usize, length: *mut usize) -> u64;
+}
+
+// A slice is handed on with its own length, and what is written overlaps nothing else: that is all that the library asks, but of
+// a session.
+
+/// The pool and the directions of a selection or step, what is wanted of it, and what it is lent.
+pub struct Selecting<'a> {
+    pub pool: &'a [u64],
+    pub directions: &'a [u8],
+    pub divisions: usize,
+    pub size: usize,
+    pub state: &'a mut u64,
+    pub ideal: &'a mut [f64],
+    pub kept: &'a mut [usize],
+    pub fronts: &'a mut [usize],
+    pub lines: &'a mut [usize],
+}
+
+/// The probability of crossover, and the etas of crossover and mutation.
+pub type Operators = [f64; 3];
+
+#[rustfmt::skip]
+pub fn select(call: Selecting) -> u64 {
+    let Selecting { pool, directions, divisions, size, state, ideal, kept, fronts, lines } = call;
+    unsafe {
+        locustdomino_select(
+            pool.as_ptr(), pool.len(), directions.as_ptr(), directions.len(), divisions, size, state, ideal.as_mut_ptr(), ideal.len(),
+            kept.as_mut_ptr(), kept.len(), fronts.as_mut_ptr(), fronts.len(), lines.as_mut_ptr(), lines.len())
+    }
+}
+
+#[rustfmt::skip]
+pub fn generate_offspring(call: Selecting, dimensions: &[u64], operators: Operators, offspring: &mut [u64], n_kept: &mut usize) -> u64 {
+    let Selecting { pool, directions, divisions, size, state, ideal, kept, fronts, lines } = call;
+    let [crossover_prob, crossover_eta, mutation_eta] = operators;
+    unsafe {
+        locustdomino_generate_offspring(
+            pool.as_ptr(), pool.len(), directions.as_ptr(), directions.len(), divisions, size, state, dimensions.as_ptr(), dimensions.len(),
+            crossover_prob, crossover_eta, mutation_eta, ideal.as_mut_ptr(), ideal.len(), kept.as_mut_ptr(), kept.len(),
+            fronts.as_mut_ptr(), fronts.len(), lines.as_mut_ptr(), lines.len(), offspring.as_mut_ptr(), offspring.len(), n_kept)
+    }
+}
+
+pub fn choose(file: &[u8], out: &mut [u8], length: &mut usize) -> u64 {
+    unsafe { locustdomino_choose(file.as_ptr(), file.len(), out.as_mut_ptr(), out.len(), length) }
+}
+
+/// A session's words and the three slices that are lent with them. Only the library writes them, so that they are always as it
+/// left them, which is what it asks.
+#[derive(Clone)]
+pub struct Session {
+    words: Vec<u64>,
+    candidates: Vec<u64>,
+    plans: Vec<u64>,
+    next_dims: Vec<usize>,
+}
+
+impl Session {
+    /// A session in so many words, or the refusal.
+    #[rustfmt::skip]
+    pub fn open(
+        directions: &[u8], seed: u64, size: Option<usize>, divisions: Option<usize>, operators: Operators, session_words: usize,
+    ) -> Result<Self, u64> {
+        let mut words = vec![0; session_words];
+        let [crossover_prob, crossover_eta, mutation_eta] = operators;
+        let code = unsafe {
+            locustdomino_open(
+                directions.as_ptr(), directions.len(), seed, size.is_some().into(), size.unwrap_or(0), divisions.is_some().into(),
+                divisions.unwrap_or(0), crossover_prob, crossover_eta, mutation_eta, words.as_mut_ptr(), words.len())
+        };
+        match code {
+            0 => Ok(Session {
+                words,
+                candidates: vec![0; CANDIDATE_WORDS],
+                plans: vec![0; MAX_PLANS],
+                next_dims: vec![0; MAX_PLANS],
+            }),
+            refusal => Err(refusal),
+        }
+    }
+
+    /// Kind and word of a plan's next setting, or the refusal; of the candidates' words so many are lent.
+    #[rustfmt::skip]
+    pub fn sample(&mut self, dimension: &[u64], plan: u64, history: &[u64], candidate_words: usize) -> Result<[u64; 2], u64> {
+        let candidates = &mut self.candidates[..candidate_words];
+        let (mut kind, mut value) = (0, 0);
+        let code = unsafe {
+            locustdomino_sample(
+                self.words.as_mut_ptr(), self.words.len(), dimension.as_ptr(), dimension.len(), plan, history.as_ptr(), history.len(),
+                candidates.as_mut_ptr(), candidates.len(), self.plans.as_mut_ptr(), self.plans.len(), self.next_dims.as_mut_ptr(),
+                self.next_dims.len(), &mut kind, &mut value)
+        };
+        match code {
+            0 => Ok([kind, value]),
+            refusal => Err(refusal),
+        }
+    }
+
+    pub fn words(&self) -> &[u64] {
+        &self.words
+    }
+
+    pub fn candidates(&self) -> &[u64] {
+        &self.candidates
+    }
+
+    /// The present generation's plans, and how many settings each has been handed.
+    pub fn plans(&self) -> (&[u64], &[usize]) {
+        let count = self.words[SESSION_PLAN_COUNT] as usize;
+        (&self.plans[..count], &self.next_dims[..count])
+    }
+}
+
+/// The words of a plan; a setting is its parameter number, its kind and its word. What there is no room for is claimed by its
+/// count alone.
+pub fn plan_words(number: u64, row: &[f64], constraints: &[f64], settings: &[[u64; 3]]) -> [u64; PLAN_WORDS] {
+    let mut words = [0; PLAN_WORDS];
+    words[0] = number;
+    words[PLAN_ROW_LENGTH] = row.len() as u64;
+    for (word, value) in words[PLAN_ROW..].iter_mut().zip(row.iter().take(MAX_OBJECTIVES)) {
+        *word = value.to_bits();
+    }
+    words[PLAN_CONSTRAINT_COUNT] = constraints.len() as u64;
+    for (word, value) in words[PLAN_CONSTRAINTS..].iter_mut().zip(constraints.iter().take(MAX_CONSTRAINTS)) {
+        *word = value.to_bits();
+    }
+    words[PLAN_SETTING_COUNT] = settings.len() as u64;
+    for (to, setting) in words[PLAN_SETTINGS..].chunks_mut(3).zip(settings.iter().take(MAX_SETTINGS)) {
+        to.copy_from_slice(setting);
+    }
+    words
+}
