@@ -7,5 +7,4 @@ pub mod Choice
 pub mod Picks
 pub mod Procedure
 pub mod Association
-pub mod Steps
 pub mod KeptLength
