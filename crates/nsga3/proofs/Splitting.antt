@@ -26,7 +26,7 @@ use Rattle.association_laws.specs.Request.{Pool, StartIn, LinesIn, Associates}
 use Rattle.association_laws.proofs.Places.{over-below}
 use Rattle.association_laws.proofs.Request.{lines-at}
 use Rattle.plans.specs.declared.Cut.{Cut}
-use Rattle.niching.specs.Niche.{Splits, NichingSelects, picksOf}
+use Rattle.niching_array_laws.specs.Niche.{Splits, NichingSelects, picksOf}
 use Rattle.nsga3_laws.specs.Admitted.{Admitted}
 use Rattle.nsga3_laws.proofs.Agree.{Below, picks-agree}
 use Rattle.nsga3_parts.proofs.Lists.{written-behind}
