@@ -22,14 +22,14 @@ pub draw-below : (n k s t : ℕ) → 0 < n → drawn k t ≡ drawUsize n s → k
 draw-below n k s t h e = let v : k ≡ drawUsize n s .value = ap (λ (d : Drawn ℕ). d .value) e in rw v (drawUsize-below n s h)
 
 -- the k-th of those that pass, k drawn, is drawn from them
-pub drawn-kth : (f : ℕ → Bool) (n k r s t : ℕ) → drawn k t ≡ drawUsize (countBelow f n) s → Kth f n k r → drawn r t ≡ drawFrom (keepBelow f n) s
+drawn-kth : (f : ℕ → Bool) (n k r s t : ℕ) → drawn k t ≡ drawUsize (countBelow f n) s → Kth f n k r → drawn r t ≡ drawFrom (keepBelow f n) s
 unfolding drawFrom
 drawn-kth f n k r s t e h = sym (
     ap (λ (d : Drawn ℕ). drawn (getD (keepBelow f n) (d .value) 0) (d .state)) (ap (λ c. drawUsize c s) (keepBelow-length f n) ∙ sym e)
     ∙ ap (λ v. drawn v t) (kth-is f n k r h))
 
 -- and so is what stands at that place from what stands at them
-pub drawn-map : (h : ℕ → ℕ) (l : List ℕ) (r s t : ℕ) → 0 < length l → drawn r t ≡ drawFrom l s → drawn (h r) t ≡ drawFrom (map h l) s
+drawn-map : (h : ℕ → ℕ) (l : List ℕ) (r s t : ℕ) → 0 < length l → drawn r t ≡ drawFrom l s → drawn (h r) t ≡ drawFrom (map h l) s
 unfolding drawFrom
 drawn-map h l r s t u e =
     let d = drawUsize (length l) s in

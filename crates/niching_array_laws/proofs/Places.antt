@@ -17,7 +17,7 @@ use Rattle.model.specs.Kept.{nearestFrom, nearest}
 use Rattle.list_laws.specs.Occ.{occ}
 use Rattle.list_laws.proofs.Bools.{by-bool}
 use Rattle.list_laws.proofs.Counts.{countBelow-yes, countBelow-no, countBelow-same}
-use Rattle.list_laws.proofs.Members.{keep-append, keep-yes, keep-no, keep-nil, occ-in, occ-cons, getD-in}
+use Rattle.list_laws.proofs.Members.{keep-append, keep-yes, keep-no, keep-nil, occ-in, occ-cons, empty-of, getD-in}
 use Rattle.list_laws.proofs.Kept.{keepBelow-none, keepBelow-yes, keepBelow-no, keepBelow-length, keepBelow-room}
 use Rattle.niching_array_laws.specs.Niche.{Kth}
 
@@ -32,7 +32,7 @@ replicate-at x n i = by-bool (ltb i n)
 -- ---- what is kept
 
 -- those of a list's first n entries that pass stand at the places below n whose entry passes
-pub keep-places-below : (f : ℕ → Bool) (l : List ℕ) (n : ℕ) → n ≤ length l
+keep-places-below : (f : ℕ → Bool) (l : List ℕ) (n : ℕ) → n ≤ length l
     → keep f (take n l) ≡ map (λ i. getD l i 0) (keepBelow (λ i. f (getD l i 0)) n)
 keep-places-below f l zero h = keep-nil f ∙ sym (ap (map (λ i. getD l i 0)) (keepBelow-none (λ i. f (getD l i 0))))
 keep-places-below f l (suc n) h =
@@ -94,11 +94,7 @@ kth-is f n k r h = ap (λ t. getD (keepBelow f n) t 0) (sym (h .rank)) ∙ kth-a
 
 -- the first that passes is the only one up to it
 pub first-only : (f : ℕ → Bool) (n r : ℕ) → Kth f n 0 r → keepBelow f (r + 1) ≡ r ∷ []
-first-only f n r h = keepBelow-yes f r (h .passes) ∙ ap (λ t. t ++ (r ∷ [])) (empty (keepBelow f r) (keepBelow-length f r ∙ h .rank))
-  where
-    empty : (l : List ℕ) → length l ≡ 0 → l ≡ []
-    empty [] e = refl
-    empty (x ∷ l) e = absurd (omega arith)
+first-only f n r h = keepBelow-yes f r (h .passes) ∙ ap (λ t. t ++ (r ∷ [])) (empty-of (keepBelow f r) (keepBelow-length f r ∙ h .rank))
 
 -- ---- the nearest
 

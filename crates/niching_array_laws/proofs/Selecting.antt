@@ -17,7 +17,7 @@ use Rattle.niching_array_laws.proofs.Places.{replicate-at}
 use Rattle.niching_array_laws.proofs.Filling.{Given, Holds, holds-first, holds-pick, holds-ready, holds-more}
 
 -- one pick more
-pub picks-next : (line : ℕ → ℕ) (distance : ℕ → Float) (n : ℕ) (before front : List ℕ) (j s r u : ℕ)
+picks-next : (line : ℕ → ℕ) (distance : ℕ → Float) (n : ℕ) (before front : List ℕ) (j s r u : ℕ)
     → drawn r u ≡ pickOne line distance n before front (picks line distance n before front j s .value) (picks line distance n before front j s .state)
     → picks line distance n before front (j + 1) s ≡ drawn (picks line distance n before front j s .value ++ (r ∷ [])) u
 unfolding picks

@@ -1,5 +1,4 @@
 pub mod Tally
-pub mod Sums
 pub mod Run
 pub mod Least
 pub mod Niched

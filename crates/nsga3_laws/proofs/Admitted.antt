@@ -5,7 +5,7 @@ use mathlib.Core.Bool.{Bool, true, false, not, _&&_, _||_, true≢false}
 use mathlib.Core.List.{List·Memᴰ·head, List·Memᴰ·tail}
 use mathlib.Core.Option.{none}
 use native.Mathlib.Omega.{arith}
-use borrow.Author.Tests.{ltb-false, eqb-true, not-false}
+use borrow.Author.Tests.{ltb-false, eqb-true, eqb-false, not-false}
 use lib.Dec.{eqb, ltb}
 use lib.ListN.{length}
 use Rattle.model.specs.Lists.{allBelow, allIn}
@@ -44,11 +44,7 @@ module _ (r : Request) (room : Room) (e : selectRefusal r room ≡ none) where
   slices = applies-not (List·Memᴰ·tail (List·Memᴰ·tail (List·Memᴰ·tail (List·Memᴰ·tail (List·Memᴰ·tail (List·Memᴰ·head refl)))))) e
 
   some-plans : 0 < r .count
-  some-plans = go (r .count) (or-left (eqb (r .count) 0) (ltb maxSize (r .count)) count)
-    where
-      go : (n : ℕ) → eqb n 0 ≡ false → 0 < n
-      go zero h = absurd (true≢false h)
-      go (suc n) h = omega arith
+  some-plans = let h = eqb-false (r .count) 0 (or-left (eqb (r .count) 0) (ltb maxSize (r .count)) count) in omega arith
 
   accepted : (allBelow (λ p. goodPlan (objectives r) (r .plans p)) (r .count) && goodIdeal (objectives r) (r .ideal)) ≡ true
   unfolding badPool
