@@ -4,7 +4,7 @@ use mathlib.Core.Path.{_≡_, refl, ap, sym, subst, _∙_}
 use mathlib.Core.Bool.{Bool, true, false, not, _&&_, _||_, true≢false}
 use mathlib.Core.List.{List}
 use native.Mathlib.Omega.{arith}
-use borrow.Author.Tests.{eqb-true}
+use borrow.Author.Tests.{eqb-true, not-false}
 use lib.Dec.{T, eqb, leb}
 use lib.Ieee.{Float, nan, inf, fin, binary64, ofBits, fits, le, eq, neg}
 use lib.Ieee.Bits.{ofBits-fits}
@@ -117,7 +117,3 @@ measured-words r word same few good held =
     (λ p h. subst (Fit m) (sym (same p)) (words-fit m (word p) few
     (ap (goodPlan m) (sym (same p)) ∙ allBelow-each (λ p. goodPlan m (r .plans p)) (r .count) (and-left all (goodIdeal m (r .ideal)) e) p h)))
     (and-right all (goodIdeal m (r .ideal)) e) held
-  where
-    not-false : (b : Bool) → not b ≡ false → b ≡ true
-    not-false true e = refl
-    not-false false e = absurd (true≢false e)

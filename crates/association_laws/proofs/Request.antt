@@ -3,12 +3,12 @@ use Prim.Native.Nat.{ℕ, _≤_, _<_}
 use mathlib.Core.Path.{_≡_, ap, ap₂, subst, _∙_}
 use mathlib.Core.List.{List, [], flatten}
 use lib.Ieee.{Float, nan}
-use lib.ListN.{getD, take}
+use lib.ListN.{getD}
 use Rattle.model.specs.Lists.{listBelow, over}
 use Rattle.model.specs.Real.{_⊖_, _⊘_}
 use Rattle.model.specs.Reference.{dasDennis, pointCount}
 use Rattle.model.specs.Association.{Request, objectives, lineCount, valueOf, idealOf, interceptOf, normalised, coordinate, distanceTo, distance, association, lineOf, leastFrom, greatest, interceptFrom, nearestOf}
-use Rattle.list_laws.proofs.Built.{listBelow-same, listBelow-length, over-take}
+use Rattle.list_laws.proofs.Built.{listBelow-same}
 use Rattle.association_laws.specs.Flat.{flatRows, leastAt, interceptAt, normalAt, nearestAt}
 use Rattle.association_laws.specs.Request.{Pool, StartIn, IdealIn, InterceptsIn, NormalisedIn, LinesIn, Associates}
 use Rattle.association_laws.proofs.Same.{least-same, greatest-same, distance-same, nearest-same}
@@ -22,9 +22,6 @@ module _ (r : Request) (m h k : ℕ) (width : m ≡ objectives r) (d : h ≡ r .
       over-lines m h some table old l j e (subst (λ t. l < t) c g) i
       ∙ ap₂ (λ a b. getD (getD (dasDennis a b) l []) j nan) width d
 
-  pub lines-count : k ≡ lineCount r
-  lines-count = c ∙ ap₂ pointCount width d
-
 module _ (r : Request) (rows : List Float) (n m : ℕ) (P : Pool r rows n m) where
   -- ---- what `update_ideal_point` leaves, from the request's ideal
   module _ (old : List Float) (start : StartIn r old m) where
@@ -37,11 +34,6 @@ module _ (r : Request) (rows : List Float) (n m : ℕ) (P : Pool r rows n m) whe
     module _ (ideal : List Float) (e : ideal ≡ over (listBelow (leastAt rows n m old) m) old) where
       pub ideal-at : IdealIn r ideal m
       ideal-at j h = over-below (leastAt rows n m old) m ideal old j nan e h ∙ least-is j h
-
-      pub ideal-take : take m ideal ≡ listBelow (idealOf r) m
-      ideal-take =
-          ap (take m) e ∙ over-take (listBelow (leastAt rows n m old) m) old m (listBelow-length (leastAt rows n m old) m)
-          ∙ listBelow-same _ _ m least-is
 
       -- what a slice of other length holds past them stays
       pub ideal-all : ideal ≡ over (listBelow (idealOf r) m) old
@@ -74,36 +66,14 @@ module _ (r : Request) (rows : List Float) (n m : ℕ) (P : Pool r rows n m) whe
         ∙ ap (λ w. distance w (normalised r p) (coordinate r l)) (P .width))
         ∙ ap (nearestOf (distanceTo r p)) c
 
-    module _ (lines old : List ℕ) (e : lines ≡ over (listBelow (λ p. nearestAt normalized m table k p .line) n) old) where
-      pub lines-all : lines ≡ over (listBelow (lineOf r) n) old
-      lines-all = e ∙ ap (λ t. over t old) (listBelow-same _ _ n (λ p h. ap (λ x. x .line) (nearest-is p h)))
+    pub lines-all : (lines old : List ℕ) → lines ≡ over (listBelow (λ p. nearestAt normalized m table k p .line) n) old → lines ≡ over (listBelow (lineOf r) n) old
+    lines-all lines old e = e ∙ ap (λ t. over t old) (listBelow-same _ _ n (λ p h. ap (λ x. x .line) (nearest-is p h)))
 
-      pub line-at : (p : ℕ) → p < n → getD lines p 0 ≡ lineOf r p
-      line-at p h = over-below (lineOf r) n lines old p 0 lines-all h
+    pub distances-all : (distances old : List Float) → distances ≡ over (listBelow (λ p. nearestAt normalized m table k p .distance) n) old
+        → distances ≡ over (listBelow (λ p. association r p .distance) n) old
+    distances-all distances old e = e ∙ ap (λ t. over t old) (listBelow-same _ _ n (λ p h. ap (λ x. x .distance) (nearest-is p h)))
 
-      pub lines-take : take n lines ≡ listBelow (lineOf r) n
-      lines-take = ap (take n) lines-all ∙ over-take (listBelow (lineOf r) n) old n (listBelow-length (lineOf r) n)
-
-    module _ (distances old : List Float) (e : distances ≡ over (listBelow (λ p. nearestAt normalized m table k p .distance) n) old) where
-      pub distances-all : distances ≡ over (listBelow (λ p. association r p .distance) n) old
-      distances-all = e ∙ ap (λ t. over t old) (listBelow-same _ _ n (λ p h. ap (λ x. x .distance) (nearest-is p h)))
-
-      pub distance-at : (p : ℕ) → p < n → getD distances p nan ≡ association r p .distance
-      distance-at p h = over-below (λ p. association r p .distance) n distances old p nan distances-all h
-
--- ---- what `associate` leaves
-module _ (r : Request) (n m : ℕ) (ideal₀ ideal : List Float) (lines₀ lines : List ℕ) (distances₀ distances : List Float)
-    (A : Associates r n m ideal₀ ideal lines₀ lines distances₀ distances) where
-  pub associated-ideal : take m ideal ≡ listBelow (idealOf r) m
-  associated-ideal = ap (take m) (A .moved) ∙ over-take (listBelow (idealOf r) m) ideal₀ m (listBelow-length (idealOf r) m)
-
-  pub associated-lines : take n lines ≡ listBelow (lineOf r) n
-  associated-lines = ap (take n) (A .nearest) ∙ over-take (listBelow (lineOf r) n) lines₀ n (listBelow-length (lineOf r) n)
-
-  pub associated-distance : (p : ℕ) → p < n → getD distances p nan ≡ association r p .distance
-  associated-distance p h = over-below (λ p. association r p .distance) n distances distances₀ p nan (A .distance) h
-
--- the four steps one after the other
+-- ---- what `associate` leaves: the four steps one after the other
 module _ (r : Request) (rows : List Float) (n m : ℕ) (P : Pool r rows n m) (table : List Float) (k : ℕ) (T : LinesIn r table k m) (c : k ≡ lineCount r)
     (ideal₀ ideal : List Float) (start : StartIn r ideal₀ m) (e₁ : ideal ≡ over (listBelow (leastAt rows n m ideal₀) m) ideal₀)
     (intercepts₀ intercepts : List Float) (e₂ : intercepts ≡ over (listBelow (interceptAt rows n m ideal) m) intercepts₀)

@@ -7,7 +7,7 @@ use native.Mathlib.Nat.{suc-add, add-suc, add-zero, zero-add, zero-mul, suc-mul,
 use native.Mathlib.Numerals.{add-one}
 use lib.Ieee.{Float}
 use lib.ListN.{length, getD, drop, set, length-append}
-use lib.Seq.{sets, sets-eq, length-sets, getD-set-other}
+use lib.Seq.{sets, sets-eq, getD-set-other}
 use Rattle.model.specs.Lists.{listBelow, joinBelow, over}
 use Rattle.list_laws.proofs.Runs.{sets-append}
 use Rattle.association_laws.specs.Flat.{flatRows}
@@ -26,9 +26,6 @@ module _ {A : Type 0} where
 
   pub run-none : (f : ℕ → A) (l : List A) (at : ℕ) → l ≡ sets l at (listBelow f 0)
   run-none f l at = ap (sets l at) (sym (listBelow-none f))
-
-  pub run-length : (f : ℕ → A) (l l₀ : List A) (at n : ℕ) → l ≡ sets l₀ at (listBelow f n) → length l ≡ length l₀
-  run-length f l l₀ at n e = ap length e ∙ length-sets l₀ at (listBelow f n)
 
   -- the same for a run at the front
   pub front-more : (f : ℕ → A) (l l₀ : List A) (n : ℕ) (x : A) → l ≡ sets l₀ 0 (listBelow f n) → x ≡ f n

@@ -1,49 +1,28 @@
 -- DEMAND 3 of every accepted request from a pool of at least the size wanted: there is a line, and no value is a NaN.
-use Prim.Native.Nat.{ℕ, zero, suc, _≤_, _<_}
-use mathlib.Core.Path.{_≡_, refl, sym, _∙_}
-use mathlib.Core.Bool.{Bool, true, false, _&&_, _||_, true≢false, false≢true}
-use mathlib.Core.List.{List, [], _∷_}
+use Prim.Native.Nat.{ℕ, _≤_, _<_}
+use mathlib.Core.Path.{_≡_}
+use mathlib.Core.Bool.{Bool, true, false, _&&_}
+use mathlib.Core.List.{List}
 use native.Mathlib.Omega.{arith}
-use lib.Dec.{eqb, leb, ltb}
-use lib.Ieee.{Float, nan, inf, fin, lt, eq, le, neg, isNan}
+use lib.Dec.{eqb, leb}
+use lib.Ieee.{nan, isNan}
 use lib.ListN.{length, getD}
-use borrow.Author.Tests.{leb-true, ltb-true, not-false}
-use Rattle.model.specs.declared.Direction.{Direction}
-use Rattle.model.specs.declared.Direction.the-variants.{Minimize, Maximize}
-use Rattle.model.specs.Lists.{allBelow, allIn}
-use Rattle.model.specs.Reference.{binomial, pointCount}
+use borrow.Author.Tests.{leb-true, not-false}
+use Rattle.model.specs.Lists.{allIn}
 use Rattle.model.specs.Plan.{maxConstraints}
-use Rattle.model.specs.Row.{directionOf, toMinimize, rowOf}
+use Rattle.model.specs.Row.{directionOf, rowOf}
 use Rattle.model.specs.Association.{Request, objectives, lineCount, valueOf, dominance, distanceTo, lineOf}
 use Rattle.model.specs.Kept.{before, isSplit, splitFront, filled, selected}
-use Rattle.model.specs.Refusal.{badDirections, badDivisions, measurable, goodPlan, badPool}
+use Rattle.model.specs.Refusal.{badDirections, measurable, goodPlan, badPool}
 use Rattle.model.specs.Demand3.{Demand3}
 use Rattle.niching_laws.specs.Niching.{ByProcedure}
 use Rattle.list_laws.proofs.Bools.{or-left, and-left, and-right}
 use Rattle.front_laws.proofs.Plans.{known-toMinimize, measurable-known, beats-strict}
+use Rattle.association_laws.proofs.Coordinates.{lines-some}
 use Rattle.demand3_laws.specs.Facts.{Strict, Accepted}
 use Rattle.list_laws.proofs.Tests.{allBelow-each, allIn-each}
 use Rattle.demand3_laws.proofs.Covered.{front-facts}
 use Rattle.demand3_laws.proofs.Demand3.{demand3-facts, filled-procedure}
-
--- ---- tests joined
-
--- ---- a line at least: the point count is not 0 for 1 to 8 objectives and 1 to 199 divisions, by computation
-
-abbrev some-lines : ℕ → ℕ → Bool
-some-lines h m = ltb 0 (pointCount (suc m) (suc h))
-
-lines-table : allBelow (λ h. allBelow (some-lines h) 8) 199 ≡ true
-unfolding allBelow pointCount binomial
-lines-table = refl
-
-points-some : (m h : ℕ) → 1 ≤ m → m ≤ 8 → 1 ≤ h → h ≤ 199 → 0 < pointCount m h
-points-some zero h a b c e = absurd (omega arith)
-points-some (suc m) zero a b c e = absurd (omega arith)
-points-some (suc m) (suc h) a b c e =
-    ltb-true 0 (pointCount (suc m) (suc h)) (allBelow-each (some-lines h) 8 (allBelow-each (λ h. allBelow (some-lines h) 8) 199 lines-table h (omega arith)) m (omega arith))
-
--- ---- no value is a NaN
 
 -- ---- what each refusal rules out
 
@@ -60,16 +39,8 @@ pool-plan r e p h = allBelow-each (λ p. goodPlan (objectives r) (r .plans p)) (
 -- ---- an accepted request
 
 module _ (r : Request) (accepted : Accepted r) where
-  some-divisions : (1 ≤ r .divisions) × (r .divisions ≤ 199)
-  unfolding badDivisions
-  some-divisions =
-      let e = not-false _ (or-left _ _ (accepted .divisions)) in
-      (leb-true 1 (r .divisions) (and-left _ _ e), leb-true (r .divisions) 199 (and-right (leb 1 (r .divisions)) _ e))
-
   pub accepted-lines : 0 < lineCount r
-  accepted-lines =
-      let m = some-objectives (r .marks) (accepted .directions) in
-      points-some (objectives r) (r .divisions) (m .0) (m .1) (some-divisions .0) (some-divisions .1)
+  accepted-lines = lines-some (objectives r) (r .divisions) (some-objectives (r .marks) (accepted .directions) .0)
 
   row-measurable : (p : ℕ) → p < r .count → allIn measurable (r .plans p .row) ≡ true
   unfolding goodPlan

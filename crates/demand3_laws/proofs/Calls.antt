@@ -1,15 +1,15 @@
 -- DEMAND 3 as the public calls promise it: a call that is not refused hands out a kept list that meets it.
-use Prim.Native.Nat.{ℕ, zero, suc, _≤_, min}
+use Prim.Native.Nat.{ℕ, _≤_, min}
 use mathlib.Core.Path.{_≡_, refl, sym, ap, _∙_, subst}
 use mathlib.Core.Bool.{Bool, true, false, cond}
 use mathlib.Core.List.{List, [], _∷_, List·Memᴰ, List·Memᴰ·head, List·Memᴰ·tail}
 use mathlib.Core.Option.{none, some}
 use native.Mathlib.Omega.{arith}
-use lib.ListN.{length, getD, take, drop, length-append, length-take}
+use lib.ListN.{length, take, drop, length-take}
 use lib.Seq.{take-at}
 use borrow.Author.Tests.{eqb-true, le-ltb}
 use Rattle.model.specs.declared.Distribution.{Distribution}
-use Rattle.model.specs.Lists.{listBelow, over}
+use Rattle.model.specs.Lists.{over}
 use Rattle.model.specs.Plan.{planOf, planAt, maxValues}
 use Rattle.model.specs.Association.{Request, objectives}
 use Rattle.model.specs.Kept.{selected}
@@ -20,6 +20,7 @@ use Rattle.model.specs.Refusal.{Check, firstOf, Room, badDirections, badDivisio
 use Rattle.model.specs.Demand3.{Demand3}
 use Rattle.model.specs.Calls.{Lent, roomOf, handedOut, selectAccepted, selectOf, Selects, stepAccepted, stepOf, Steps}
 use Rattle.list_laws.proofs.Bools.{and-left}
+use Rattle.list_laws.proofs.Built.{listBelow-length}
 use Rattle.demand3_laws.specs.Facts.{Accepted}
 use Rattle.demand3_laws.proofs.Accepted.{some-objectives, pool-plan, demand3}
 
@@ -46,14 +47,9 @@ applies-not (List·Memᴰ·tail {x = c′} {xs = cs} m) h = applies-not m (not-g
 abbrev pub InWords : Request → Type 0
 InWords r = (p : ℕ) → length (r .plans p .row) ≡ min (r .plans p .rowLength) maxValues
 
-length-listBelow : {A : Type 0} (f : ℕ → A) (n : ℕ) → length (listBelow f n) ≡ n
-unfolding listBelow
-length-listBelow f zero = refl
-length-listBelow f (suc n) = omega (arith, length-append (listBelow f n) (f n ∷ []), length-listBelow f n)
-
 pub planAt-row : (words : List ℕ) (p : ℕ) → length (planAt words p .row) ≡ min (planAt words p .rowLength) maxValues
 unfolding planOf
-planAt-row words p = length-listBelow _ (min (planAt words p .rowLength) maxValues)
+planAt-row words p = listBelow-length _ (min (planAt words p .rowLength) maxValues)
 
 word-accepted : (r : Request) → InWords r → badDirections (r .marks) ≡ false → badDivisions (objectives r) (r .divisions) ≡ false → badPool r ≡ false
     → Accepted r

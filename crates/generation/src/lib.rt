@@ -11,7 +11,7 @@ ghost use Rattle.model.specs.Setting.{wordsOf};
 ghost use Rattle.model.specs.Refusal.{goodPlan, breedable, badDimensions, badOperators, stepRefusal};
 ghost use Rattle.model.specs.Calls.{wordRequest, lent, roomOf, operators, stepAccepted, Steps};
 ghost use Rattle.settings.specs.Candidate.{dimensionsOf};
-ghost use Rattle.nsga3.specs.Checked.{checked};
+ghost use Rattle.refusals.specs.Checked.{checked};
 ghost use Rattle.generation.specs.Bred.{bredFrom, exit};
 use model::CANDIDATE_WORDS;
 use model::DimensionInfo;
@@ -19,7 +19,7 @@ use model::MAX_PLANS;
 use model::Outcome;
 use model::Rng;
 use model::Selection;
-use nsga3::Check;
+use refusals::Check;
 
 // ---- the refusals
 

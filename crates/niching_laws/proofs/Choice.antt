@@ -1,8 +1,8 @@
 -- One open place: what is picked is a waiting member of a line with the least count, and the nearest of that line's members at count 0.
 use Prim.Native.Nat.{ℕ, zero, suc, _%_, _≤_, _<_}
 use mathlib.Core.Path.{_≡_, refl, sym, ap, _∙_}
-use mathlib.Core.Logic.{_⊎_, inl, inr, ⊎-elim}
-use mathlib.Core.Bool.{Bool, true, false, cond, _&&_, false≢true}
+use mathlib.Core.Logic.{⊎-elim}
+use mathlib.Core.Bool.{Bool, true, false, cond}
 use mathlib.Core.List.{List, [], _∷_, map, List·Memᴰ·head, List·Memᴰ·tail, List·Memᴰ·not-nil, List·Memᴰ·cases-cons, Memᴰ·map, Memᴰ·of-map}
 use native.Mathlib.Nat.{mod-lt}
 use native.Mathlib.Omega.{arith}
@@ -15,6 +15,7 @@ use Rattle.model.specs.Draw.{drawWord, drawUsize}
 use Rattle.model.specs.Kept.{openLines, leastLines, drawFrom, nearestFrom, nearest, drawMember}
 use Rattle.list_laws.proofs.Members.{in-has, has-in, keep-in, in-keep, getD-in}
 use Rattle.list_laws.proofs.Kept.{keepBelow-in, in-keepBelow}
+use Rattle.list_laws.proofs.Tests.{allIn-every, allIn-member}
 use Rattle.float_laws.proofs.Compared.{lt-self, lt-down}
 
 -- ---- what is drawn of a list that is not empty is in it
@@ -87,24 +88,6 @@ module _ (distance : ℕ → Float) where
   drawMember-nearest s zero ps e q m = nearest-least ps q m
   drawMember-nearest s (suc count) ps e q m = absurd (omega arith)
 
--- ---- a test of every entry
-
-module _ (f : ℕ → Bool) where
-  pub all-allIn : (ps : List ℕ) → ((p : ℕ) → In p ps → f p ≡ true) → allIn f ps ≡ true
-  unfolding allIn
-  all-allIn [] h = refl
-  all-allIn (p ∷ ps) h = rw (h p (List·Memᴰ·head refl)) (all-allIn ps (λ q m. h q (List·Memᴰ·tail m)))
-
-  pub allIn-all : (ps : List ℕ) → allIn f ps ≡ true → (p : ℕ) → In p ps → f p ≡ true
-  unfolding allIn
-  allIn-all [] h p m = absurd (List·Memᴰ·not-nil m)
-  allIn-all (q ∷ qs) h p m = go (f q) refl h (λ k. allIn-all qs k p) (List·Memᴰ·cases-cons m)
-    where
-      go : (b : Bool) → f q ≡ b → (b && allIn f qs) ≡ true → (allIn f qs ≡ true → In p qs → f p ≡ true) → (p ≡ q) ⊎ In p qs → f p ≡ true
-      go true e k ih (inl same) = ap f same ∙ e
-      go true e k ih (inr i) = ih k i
-      go false e k ih i = absurd (false≢true k)
-
 -- ---- a list that is not empty has a member with the least count
 
 least-met : (f : ℕ → ℕ) (q : ℕ) (ps : List ℕ) → (r : ℕ) × In r (q ∷ ps) × ((t : ℕ) → In t (q ∷ ps) → f r ≤ f t)
@@ -138,13 +121,13 @@ least-in counts (q ∷ qs) m =
     let t = least-met counts q qs in (
       t .0,
       keep-in (λ l. allIn (λ k. leb (counts l) (counts k)) (q ∷ qs)) (q ∷ qs) (t .0) (t .1)
-          (all-allIn (λ k. leb (counts (t .0)) (counts k)) (q ∷ qs) (λ k i. le-leb (counts (t .0)) (counts k) (t .2 k i))),
+          (allIn-every (λ k. leb (counts (t .0)) (counts k)) 0 (q ∷ qs) (λ i h. le-leb (counts (t .0)) _ (t .2 _ (getD-in (q ∷ qs) i h)))),
     )
 
 pub least-le : (counts : ℕ → ℕ) (ps : List ℕ) (l : ℕ) → In l (leastLines counts ps) → (k : ℕ) → In k ps → counts l ≤ counts k
 least-le counts ps l m k i =
     leb-true (counts l) (counts k)
-    (allIn-all (λ k. leb (counts l) (counts k)) ps (in-keep (λ l. allIn (λ k. leb (counts l) (counts k)) ps) ps l m .1) k i)
+    (allIn-member (λ k. leb (counts l) (counts k)) ps (in-keep (λ l. allIn (λ k. leb (counts l) (counts k)) ps) ps l m .1) k i)
 
 -- ---- the place
 

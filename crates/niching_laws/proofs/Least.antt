@@ -1,5 +1,5 @@
 -- A balanced filling is a least one: no other filling of the same places has a smaller sum of squared counts.
-use Prim.Native.Nat.{ℕ, _+_, _-_, _*_, _≤_, _<_, max}
+use Prim.Native.Nat.{ℕ, zero, suc, _+_, _-_, _*_, _≤_, _<_, max}
 use mathlib.Core.Path.{_≡_, refl, ap, _∙_, fun-ext}
 use mathlib.Core.Bool.{Bool, true, false}
 use mathlib.Core.List.{List, [], _∷_, _++_, List·Memᴰ·head, List·Memᴰ·tail, List·Nodup}
@@ -10,9 +10,9 @@ use borrow.Author.Tests.{eqb-true, ltb-true, ltb-false}
 use Rattle.model.specs.Lists.{In, sumBelow}
 use Rattle.model.specs.Kept.{nicheCount}
 use Rattle.niching_laws.specs.Niching.{Served, Waited, Filling, Balanced, Least}
-use Rattle.list_laws.proofs.Members.{tally-append}
+use Rattle.list_laws.proofs.Counts.{sumBelow-mono, sumBelow-add}
+use Rattle.list_laws.proofs.Members.{tally-append, tally-labels}
 use Rattle.niching_laws.proofs.Tally.{tally-found, pigeonhole, Extra}
-use Rattle.niching_laws.proofs.Sums.{sum-le, sum-add, sum-scale, total}
 
 -- ---- one line, ours with count c and the other filling's with count c′; K is one below the largest count of a served line
 
@@ -61,13 +61,18 @@ level before line picked = highest (λ (p : ℕ). nicheCount line (before ++ pic
 
 -- ---- all lines
 
+sum-scale : (k : ℕ) (f : ℕ → ℕ) (n : ℕ) → sumBelow (λ l. k * f l) n ≡ k * sumBelow f n
+unfolding sumBelow
+sum-scale k f zero = omega arith
+sum-scale k f (suc n) = omega (arith, sum-scale k f n)
+
 module _ (before front : List ℕ) (line : ℕ → ℕ) (lines n : ℕ) (inside : (p : ℕ) → In p front → line p < lines) where
   -- the counts of a filling add up to the same total as those of any other
   total-filled : (other : List ℕ) → Filling front n other → sumBelow (nicheCount line (before ++ other)) lines ≡ sumBelow (nicheCount line before) lines + n
   total-filled other f =
       ap (λ (f : ℕ → ℕ). sumBelow f lines) (fun-ext (λ (l : ℕ). tally-append (λ (p : ℕ). eqb (line p) l) before other))
-      ∙ sum-add lines (nicheCount line before) (nicheCount line other)
-      ∙ ap (λ (k : ℕ). sumBelow (nicheCount line before) lines + k) (total line lines other (λ p m. inside p (f .members p m)) ∙ f .size)
+      ∙ sumBelow-add (nicheCount line before) (nicheCount line other) lines
+      ∙ ap (λ (k : ℕ). sumBelow (nicheCount line before) lines + k) (tally-labels line lines other (λ p m. inside p (f .members p m)) ∙ f .size)
 
   module _ (picked : List ℕ) (balance : Balanced before front line picked) where
     -- the level is no more than the count of a line with a waiting member, and a served line counts at most one more
@@ -104,7 +109,7 @@ module _ (before front : List ℕ) (line : ℕ → ℕ) (lines n : ℕ) (inside 
 
     pub balanced-least : Filling front n picked → Least before front line lines n picked
     balanced-least f other g =
-        omega (arith, rw (total-filled picked f, total-filled other g) at (simp (sum-add, sum-scale) at summed))
+        omega (arith, rw (total-filled picked f, total-filled other g) at (simp (sumBelow-add, sum-scale) at summed))
       where
         k : ℕ
         k = level before line picked
@@ -117,7 +122,7 @@ module _ (before front : List ℕ) (line : ℕ → ℕ) (lines n : ℕ) (inside 
 
         summed : sumBelow (λ (l : ℕ). c l * c l + (2 * k + 1) * c′ l) lines ≤ sumBelow (λ (l : ℕ). c′ l * c′ l + (2 * k + 1) * c l) lines
         summed =
-            sum-le lines (λ (l : ℕ). c l * c l + (2 * k + 1) * c′ l) (λ (l : ℕ). c′ l * c′ l + (2 * k + 1) * c l)
+            sumBelow-mono (λ (l : ℕ). c l * c l + (2 * k + 1) * c′ l) (λ (l : ℕ). c′ l * c′ l + (2 * k + 1) * c l) lines
             (λ l _. one-line k (c l) (c′ l)
             (λ h. level-waited l (waited-where-more other (g .distinct) (g .members) l h))
             (λ h. level-served l (served-where-fewer other (g .distinct) (g .members) l h)))

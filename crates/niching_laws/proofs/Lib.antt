@@ -1,5 +1,4 @@
 pub mod Tally
-pub mod Sums
 pub mod Run
 pub mod Least
 pub mod Niched
@@ -7,5 +6,4 @@ pub mod Choice
 pub mod Picks
 pub mod Procedure
 pub mod Association
-pub mod Steps
 pub mod KeptLength

@@ -27,34 +27,32 @@ module _ (before front : List ℕ) (line : ℕ → ℕ) (distance : ℕ → Floa
 
   -- the procedure got here, with lines set aside of which none has a candidate, among them all of count below c, and of the first m all of count c
   record Cleared (picked : List ℕ) (c m : ℕ) : Type 0 where
-    excluded : List ℕ
-    reached : Reached before front line distance lines excluded picked
-    barren : Barren picked excluded
-    lower : (i : ℕ) → i < lines → nicheCount line (before ++ picked) i < c → In i excluded
-    level : (i : ℕ) → i < m → nicheCount line (before ++ picked) i ≡ c → In i excluded
+    here : ByProcedure before front line distance lines picked
+    barren : Barren picked (here .excluded)
+    lower : (i : ℕ) → i < lines → nicheCount line (before ++ picked) i < c → In i (here .excluded)
+    level : (i : ℕ) → i < m → nicheCount line (before ++ picked) i ≡ c → In i (here .excluded)
 
   module _ (picked : List ℕ) where
     -- one more line of count c, where no line of count c has a candidate
     clear-line : (c m : ℕ) → m < lines → ((j p : ℕ) → Candidate before front line distance lines picked j p → nicheCount line (before ++ picked) j ≢ c)
         → Cleared picked c m → Cleared picked c (suc m)
-    clear-line c m inside none t = go (eqb (nicheCount line (before ++ picked) m) c) refl (has (t .excluded) m) refl
+    clear-line c m inside none t = go (eqb (nicheCount line (before ++ picked) m) c) refl (has (t .here .excluded) m) refl
       where
         count : ℕ → ℕ
         count = nicheCount line (before ++ picked)
 
         -- m need not be set aside: it has another count, or is set aside already
-        stay : (count m ≡ c → In m (t .excluded)) → Cleared picked c (suc m)
-        stay here =
+        stay : (count m ≡ c → In m (t .here .excluded)) → Cleared picked c (suc m)
+        stay there =
             record {
-              excluded = t .excluded;
-              reached = t .reached;
+              here = t .here;
               barren = t .barren;
               lower = t .lower;
-              level = λ i h e. ⊎-elim (λ same. Memᴰ·cast same (here (ap count (sym same) ∙ e))) (λ less. t .level i less e) (eq-or-lt-of-le {n = i} {m = m} (omega arith));
+              level = λ i h e. ⊎-elim (λ same. Memᴰ·cast same (there (ap count (sym same) ∙ e))) (λ less. t .level i less e) (eq-or-lt-of-le {n = i} {m = m} (omega arith));
             }
 
         -- all that are considered still count at least c
-        least : count m ≡ c → (In m (t .excluded) → ⊥) → Least before front line distance lines (t .excluded) picked m
+        least : count m ≡ c → (In m (t .here .excluded) → ⊥) → Least before front line distance lines (t .here .excluded) picked m
         least e fresh =
             record {
               inside = inside;
@@ -62,24 +60,23 @@ module _ (before front : List ℕ) (line : ℕ → ℕ) (distance : ℕ → Floa
               least = λ i h k. go-on i h k (ltb (count i) c) refl;
             }
           where
-            go-on : (i : ℕ) → i < lines → (In i (t .excluded) → ⊥) → (b : Bool) → ltb (count i) c ≡ b → count m ≤ count i
+            go-on : (i : ℕ) → i < lines → (In i (t .here .excluded) → ⊥) → (b : Bool) → ltb (count i) c ≡ b → count m ≤ count i
             go-on i h k true u = absurd (k (t .lower i h (ltb-true (count i) c u)))
             go-on i h k false u = omega (arith, ltb-false (count i) c u)
 
-        add : count m ≡ c → (In m (t .excluded) → ⊥) → Cleared picked c (suc m)
+        add : count m ≡ c → (In m (t .here .excluded) → ⊥) → Cleared picked c (suc m)
         add e fresh =
             record {
-              excluded = m ∷ t .excluded;
-              reached = exclude (t .reached) (least e fresh) (λ p k. none m p k e);
-              barren = λ j i p k. ⊎-elim (λ same. none j p k (ap count same ∙ e)) (λ (h : In j (t .excluded)). t .barren j h p k) (List·Memᴰ·cases-cons i);
+              here = record { excluded = m ∷ t .here .excluded; reached = exclude (t .here .reached) (least e fresh) (λ p k. none m p k e) };
+              barren = λ j i p k. ⊎-elim (λ same. none j p k (ap count same ∙ e)) (λ (h : In j (t .here .excluded)). t .barren j h p k) (List·Memᴰ·cases-cons i);
               lower = λ i h k. List·Memᴰ·tail (t .lower i h k);
               level = λ i h k. ⊎-elim (λ same. List·Memᴰ·head same) (λ less. List·Memᴰ·tail (t .level i less k)) (eq-or-lt-of-le {n = i} {m = m} (omega arith));
             }
 
-        go : (a : Bool) → eqb (count m) c ≡ a → (b : Bool) → has (t .excluded) m ≡ b → Cleared picked c (suc m)
+        go : (a : Bool) → eqb (count m) c ≡ a → (b : Bool) → has (t .here .excluded) m ≡ b → Cleared picked c (suc m)
         go false e b k = stay (λ h. absurd (eqb-false (count m) c e h))
-        go true e true k = stay (λ _. has-in (t .excluded) m k)
-        go true e false k = add (eqb-true (count m) c e) (λ i. true≢false (sym (in-has (t .excluded) m i) ∙ k))
+        go true e true k = stay (λ _. has-in (t .here .excluded) m k)
+        go true e false k = add (eqb-true (count m) c e) (λ i. true≢false (sym (in-has (t .here .excluded) m i) ∙ k))
 
     -- all lines of count c
     clear-level : (c : ℕ) → ((j p : ℕ) → Candidate before front line distance lines picked j p → nicheCount line (before ++ picked) j ≢ c)
@@ -94,8 +91,7 @@ module _ (before front : List ℕ) (line : ℕ → ℕ) (distance : ℕ → Floa
     clear-below t (suc c) least =
         let u = clear-level c (λ j p k e. omega (arith, least j p k)) (clear-below t c (λ j p k. omega (arith, least j p k))) lines (omega arith) in
         record {
-          excluded = u .excluded;
-          reached = u .reached;
+          here = u .here;
           barren = u .barren;
           lower = λ i h k. ⊎-elim (λ same. u .level i h same) (λ less. u .lower i h less) (eq-or-lt-of-le {n = nicheCount line (before ++ picked) i} {m = c} (omega arith));
           level = λ i h k. absurd (omega arith);
@@ -115,21 +111,20 @@ module _ (before front : List ℕ) (line : ℕ → ℕ) (distance : ℕ → Floa
     candidate-before j q k = record { member = k .member; unpicked = λ i. k .unpicked (Memᴰ·append-left (p ∷ []) i); onLine = k .onLine }
 
     -- once the lines of a lower count are set aside, p's line is a least one
-    chosen-least : line p < lines → (t : Cleared picked (nicheCount line (before ++ picked) (line p)) 0) → Least before front line distance lines (t .excluded) picked (line p)
+    chosen-least : line p < lines → (t : Cleared picked (nicheCount line (before ++ picked) (line p)) 0) → Least before front line distance lines (t .here .excluded) picked (line p)
     chosen-least h t = record { inside = h; considered = λ i. t .barren (line p) i p candidate; least = λ i l k. go i l k (ltb (count i) (count (line p))) refl }
       where
         count : ℕ → ℕ
         count = nicheCount line (before ++ picked)
 
-        go : (i : ℕ) → i < lines → (In i (t .excluded) → ⊥) → (b : Bool) → ltb (count i) (count (line p)) ≡ b → count (line p) ≤ count i
+        go : (i : ℕ) → i < lines → (In i (t .here .excluded) → ⊥) → (b : Bool) → ltb (count i) (count (line p)) ≡ b → count (line p) ≤ count i
         go i l k true e = absurd (k (t .lower i l (ltb-true (count i) (count (line p)) e)))
         go i l k false e = ltb-false (count i) (count (line p)) e
 
     picked-once : line p < lines → Cleared picked 0 0 → Cleared (picked ++ (p ∷ [])) 0 0
     picked-once h begin =
         record {
-          excluded = t .excluded;
-          reached = go (nicheCount line (before ++ picked) (line p)) refl;
+          here = record { excluded = t .here .excluded; reached = go (nicheCount line (before ++ picked) (line p)) refl };
           barren = λ j i q k. t .barren j i q (candidate-before j q k);
           lower = λ i l k. absurd (omega arith);
           level = λ i l k. absurd (omega arith);
@@ -140,9 +135,9 @@ module _ (before front : List ℕ) (line : ℕ → ℕ) (distance : ℕ → Floa
             clear-below picked begin (nicheCount line (before ++ picked) (line p))
             (λ j q k. rw (k .onLine) at (chosen .least q (candidate-waits j q k)))
 
-        go : (c : ℕ) → nicheCount line (before ++ picked) (line p) ≡ c → Reached before front line distance lines (t .excluded) (picked ++ (p ∷ []))
-        go zero e = pickNearest (t .reached) (chosen-least h t) e candidate (λ q k. chosen .nearest e q (candidate-waits (line p) q k) (k .onLine))
-        go (suc c) e = pickAny (t .reached) (chosen-least h t) (omega arith) candidate
+        go : (c : ℕ) → nicheCount line (before ++ picked) (line p) ≡ c → Reached before front line distance lines (t .here .excluded) (picked ++ (p ∷ []))
+        go zero e = pickNearest (t .here .reached) (chosen-least h t) e candidate (λ q k. chosen .nearest e q (candidate-waits (line p) q k) (k .onLine))
+        go (suc c) e = pickAny (t .here .reached) (chosen-least h t) (omega arith) candidate
 
 -- ---- all picks
 
@@ -151,8 +146,7 @@ module _ (distance : ℕ → Float) {before front : List ℕ} {line : ℕ → �
   unfolding picks
   picks-cleared zero s h =
       record {
-        excluded = [];
-        reached = start;
+        here = record { excluded = []; reached = start };
         barren = λ j i. absurd (List·Memᴰ·not-nil i);
         lower = λ i l k. absurd (omega arith);
         level = λ i l k. absurd (omega arith);
@@ -164,7 +158,7 @@ module _ (distance : ℕ → Float) {before front : List ℕ} {line : ℕ → �
 
   -- with no more open places than the front has plans, the procedure of Deb and Jain can pick what `picks` picks
   pub picks-procedure : (n s : ℕ) → n ≤ length front → ByProcedure before front line distance lines (picks line distance lines before front n s .value)
-  picks-procedure n s h = let t = picks-cleared n s h in record { excluded = t .excluded; reached = t .reached }
+  picks-procedure n s h = picks-cleared n s h .here
 
 -- ---- other distances
 

@@ -19,7 +19,8 @@ use Rattle.demand3_laws.proofs.Calls.{planAt-row, selects}
 use Rattle.plans.specs.declared.Cut.{Cut}
 use Rattle.plans.specs.Filled.{RowsOf}
 use Rattle.nsga3_laws.specs.Admitted.{Admitted}
-use Rattle.nsga3.specs.Laid.{RowsIn, OrderIn, Sorts, Hands, exit}
+use Rattle.pool_sort.specs.Laid.{RowsIn, OrderIn, Sorts}
+use Rattle.nsga3.specs.Handed.{Hands, exit}
 
 module _ (r : Request) (i : List Float) (k₀ k l₀ l : List ℕ) (s : ℕ) where
   -- ---- by whether a front is split

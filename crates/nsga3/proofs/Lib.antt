@@ -1,4 +1,2 @@
-pub mod Refusals
-pub mod Sorting
 pub mod Splitting
 pub mod Answer

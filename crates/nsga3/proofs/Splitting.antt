@@ -13,7 +13,6 @@ use Rattle.model.specs.Lists.{In, Distinct, listBelow, over}
 use Rattle.model.specs.Reference.{dasDennis, pointCount}
 use Rattle.model.specs.Front.{front, listing}
 use Rattle.model.specs.Association.{Request, objectives, lineCount, dominance, idealOf, association, lineOf}
-use Rattle.model.specs.Refusal.{Room}
 use Rattle.model.specs.Kept.{wholeFronts, before, isSplit, splitFront, filled, selectedSplit, picks}
 use Rattle.list_laws.specs.Occ.{AllUnder}
 use Rattle.list_laws.proofs.Built.{listBelow-length, over-length, over-take}
@@ -26,36 +25,35 @@ use Rattle.association_laws.specs.Request.{Pool, StartIn, LinesIn, Associates}
 use Rattle.association_laws.proofs.Places.{over-below}
 use Rattle.association_laws.proofs.Request.{lines-at}
 use Rattle.plans.specs.declared.Cut.{Cut}
-use Rattle.niching.specs.Niche.{Splits, NichingSelects, picksOf}
-use Rattle.nsga3_laws.specs.Admitted.{Admitted}
+use Rattle.niching_array_laws.specs.Niche.{Splits, NichingSelects, picksOf}
 use Rattle.nsga3_laws.proofs.Agree.{Below, picks-agree}
 use Rattle.nsga3_parts.proofs.Lists.{written-behind}
-use Rattle.nsga3.specs.Laid.{RowsIn, OrderIn, Hands}
+use Rattle.nsga3.specs.Handed.{SortedPool, Hands}
 
 -- an ideal of m entries, moved, has no others
-pub moved-all : (f : ℕ → Float) (m : ℕ) (ideal old : List Float) → length old ≡ m → ideal ≡ over (listBelow f m) old → ideal ≡ listBelow f m
+moved-all : (f : ℕ → Float) (m : ℕ) (ideal old : List Float) → length old ≡ m → ideal ≡ over (listBelow f m) old → ideal ≡ listBelow f m
 moved-all f m ideal old e h =
     sym (take-length ideal) ∙ ap (λ k. take k ideal) (ap length h ∙ over-length (listBelow f m) old (omega (arith, listBelow-length f m)) ∙ e)
     ∙ ap (take m) h ∙ over-take (listBelow f m) old m (listBelow-length f m)
 
-module _ (r : Request) (room : Room) (ok : Admitted r room) (rows : List Float) (laid : RowsIn r rows) (order : List ℕ) (c : Cut) (sorted : OrderIn r order c) (split : isSplit r ≡ true) where
+module _ {r : Request} {keptRoom linesRoom : ℕ} {rows : List Float} {order : List ℕ} {c : Cut} (S : SortedPool r keptRoom linesRoom rows order c) where
   -- ---- the association, of n plans
 
   pub pool-rows : (n : ℕ) → n ≡ r .count → Pool r rows n (objectives r)
-  pool-rows n e = record { count = e; width = refl; values = λ p j h k. laid .values p j (omega (arith, e)) k }
+  pool-rows n e = record { count = e; width = refl; values = λ p j h k. S .laid .values p j (omega (arith, e)) k }
 
-  pub table-lines : (n : ℕ) → n ≡ r .count → (table old : List Float) → table ≡ over (flatten (dasDennis (objectives r) (r .divisions))) old
+  pub table-lines : (table old : List Float) → table ≡ over (flatten (dasDennis (objectives r) (r .divisions))) old
       → (k : ℕ) → k ≡ lineCount r → LinesIn r table k (objectives r)
-  table-lines n e table old h k g = lines-at r (objectives r) (r .divisions) k refl refl g (ok .wide) table old h
+  table-lines table old h k g = lines-at r (objectives r) (r .divisions) k refl refl g (S .limits .wide) table old h
 
   -- ---- niching
 
   -- the plans of the order are the pool's
   order-below : (i : ℕ) → i < r .count → getD order i 0 < r .count
   order-below i h =
-      subst (λ x. x < r .count) (ap (λ l. getD l i 0) (sym (sorted .listed)) ∙ getD-take (r .count) order i 0 h)
+      subst (λ x. x < r .count) (ap (λ l. getD l i 0) (sym (S .listed .listed)) ∙ getD-take (r .count) order i 0 h)
       (under-at (r .count) (listing (dominance r) (r .count) (r .count)) i (listing-below (dominance r) (r .count) (r .count))
-      (omega (arith, ap length (sorted .listed), length-take-le (r .count) order (sorted .places))))
+      (omega (arith, ap length (S .listed .listed), length-take-le (r .count) order (S .listed .places))))
 
   before-below : Below (r .count) (before r)
   unfolding before
@@ -69,48 +67,54 @@ module _ (r : Request) (room : Room) (ok : Admitted r room) (rows : List Float) 
   unfolding splitFront
   split-distinct = front-distinct (dominance r) (r .count) (wholeFronts r)
 
-  module _ (n k : ℕ) (e : n ≡ r .count) (g : k ≡ lineCount r) (ideal₀ ideal : List Float) (lines₀ lines : List ℕ) (distances₀ distances : List Float)
-      (A : Associates r n (objectives r) ideal₀ ideal lines₀ lines distances₀ distances) where
-    line-of : (p : ℕ) → p < r .count → getD lines p 0 ≡ lineOf r p
-    line-of p h = over-below (lineOf r) n lines lines₀ p 0 (A .nearest) (omega (arith, e))
+  -- ---- where the cut splits a front
 
-    distance-of : (p : ℕ) → p < r .count → getD distances p nan ≡ association r p .distance
-    distance-of p h = over-below (λ p. association r p .distance) n distances distances₀ p nan (A .distance) (omega (arith, e))
+  module _ (cuts : c .split ≡ true) where
+    split : isSplit r ≡ true
+    split = sym (S .listed .cut .split) ∙ cuts
 
-    pub splits : (picked : List ℕ) → r .count ≤ length lines → r .count ≤ length distances → r .size - c .whole ≤ length picked
-        → Splits order (c .whole) (c .end) lines distances k (r .size - c .whole) picked
-    splits picked wide far free = record {
-      ahead = sorted .cut .ahead;
-      inside = omega (arith, sorted .cut .within, sorted .places);
-      few = omega (arith, sorted .cut .within, ok .fewPlans);
-      narrow = omega (arith, g, ok .fewLines);
-      plans = λ i h.
-          let b = order-below i (omega (arith, h, sorted .cut .within)) in
-          (omega arith, omega arith, omega (arith, g, line-of (getD order i 0) b, lineOf-inside r (getD order i 0) (ok .someLines)));
-      different = subst Distinct (sym (sorted .cut .waiting split)) split-distinct;
-      enough = omega (arith, sorted .cut .exceeds split);
-      room = free;
-    }
+    module _ (n k : ℕ) (e : n ≡ r .count) (g : k ≡ lineCount r) (ideal₀ ideal : List Float) (lines₀ lines : List ℕ) (distances₀ distances : List Float)
+        (A : Associates r n (objectives r) ideal₀ ideal lines₀ lines distances₀ distances) where
+      line-of : (p : ℕ) → p < r .count → getD lines p 0 ≡ lineOf r p
+      line-of p h = over-below (lineOf r) n lines lines₀ p 0 (A .nearest) (omega (arith, e))
 
-    -- the picks of the lists are the request's
-    picks-are : picksOf order (c .whole) (c .end) lines distances k (r .size - c .whole) (r .state) ≡ filled r
-    unfolding filled
-    picks-are =
-        ap₂ (λ s t. picks (λ p. getD lines p 0) (λ p. getD distances p nan) k s t (r .size - c .whole) (r .state)) (sorted .cut .listed) (sorted .cut .waiting split)
-        ∙ picks-agree (r .count) (ok .somePlans) (λ p. getD lines p 0) (lineOf r) (λ p. getD distances p nan) (λ p. association r p .distance) line-of distance-of k
-        (before r) (splitFront r) before-below split-below (r .size - c .whole) (r .state)
-        ∙ ap₂ (λ l w. picks (lineOf r) (λ p. association r p .distance) l (before r) (splitFront r) (r .size - w) (r .state)) g (sorted .cut .whole)
+      distance-of : (p : ℕ) → p < r .count → getD distances p nan ≡ association r p .distance
+      distance-of p h = over-below (λ p. association r p .distance) n distances distances₀ p nan (A .distance) (omega (arith, e))
 
-    -- THE LAW: what the calls leave is handed out
-    pub hands : length ideal₀ ≡ objectives r → (kept₀ copied part : List ℕ) (t : ℕ) → c .whole ≤ length copied → copied ≡ over (take (c .whole) order) kept₀
-        → NichingSelects order (c .whole) (c .end) lines distances k (r .size - c .whole) (r .state) (midOf (c .whole) (length copied - c .whole) copied) part t
-        → Hands (selectedSplit r) ideal kept₀ (putMid (c .whole) (length copied - c .whole) copied part) lines₀ lines t
-    unfolding selectedSplit
-    hands i kept₀ copied part t room₀ first N = record {
-      ideal = moved-all (idealOf r) (objectives r) ideal ideal₀ i (A .moved);
-      kept = written-behind (take (c .whole) order) _ copied kept₀ part (c .whole)
-          (length-take-le (c .whole) order (omega (arith, sorted .cut .ahead, sorted .cut .within, sorted .places))) room₀ first (N .written)
-          ∙ ap₂ (λ s d. over (s ++ d .value) kept₀) (sorted .cut .listed) picks-are;
-      lines = A .nearest ∙ ap (λ m. over (listBelow (lineOf r) m) lines₀) e;
-      state = N .state ∙ ap (λ d. d .state) picks-are;
-    }
+      pub splits : (picked : List ℕ) → r .count ≤ length lines → r .count ≤ length distances → r .size - c .whole ≤ length picked
+          → Splits order (c .whole) (c .end) lines distances k (r .size - c .whole) picked
+      splits picked wide far free = record {
+        ahead = S .listed .cut .ahead;
+        inside = omega (arith, S .listed .cut .within, S .listed .places);
+        few = omega (arith, S .listed .cut .within, S .limits .fewPlans);
+        narrow = omega (arith, g, S .limits .fewLines);
+        plans = λ i h.
+            let b = order-below i (omega (arith, h, S .listed .cut .within)) in
+            (omega arith, omega arith, omega (arith, g, line-of (getD order i 0) b, lineOf-inside r (getD order i 0) (S .limits .someLines)));
+        different = subst Distinct (sym (S .listed .cut .waiting split)) split-distinct;
+        enough = omega (arith, S .listed .cut .exceeds split);
+        room = free;
+      }
+
+      -- the picks of the lists are the request's
+      picks-are : picksOf order (c .whole) (c .end) lines distances k (r .size - c .whole) (r .state) ≡ filled r
+      unfolding filled
+      picks-are =
+          ap₂ (λ s t. picks (λ p. getD lines p 0) (λ p. getD distances p nan) k s t (r .size - c .whole) (r .state)) (S .listed .cut .listed) (S .listed .cut .waiting split)
+          ∙ picks-agree (r .count) (S .limits .somePlans) (λ p. getD lines p 0) (lineOf r) (λ p. getD distances p nan) (λ p. association r p .distance) line-of distance-of k
+          (before r) (splitFront r) before-below split-below (r .size - c .whole) (r .state)
+          ∙ ap₂ (λ l w. picks (lineOf r) (λ p. association r p .distance) l (before r) (splitFront r) (r .size - w) (r .state)) g (S .listed .cut .whole)
+
+      -- THE LAW: what the calls leave is handed out
+      pub hands : length ideal₀ ≡ objectives r → (kept₀ copied part : List ℕ) (t : ℕ) → c .whole ≤ length copied → copied ≡ over (take (c .whole) order) kept₀
+          → NichingSelects order (c .whole) (c .end) lines distances k (r .size - c .whole) (r .state) (midOf (c .whole) (length copied - c .whole) copied) part t
+          → Hands (selectedSplit r) ideal kept₀ (putMid (c .whole) (length copied - c .whole) copied part) lines₀ lines t
+      unfolding selectedSplit
+      hands i kept₀ copied part t room₀ first N = record {
+        ideal = moved-all (idealOf r) (objectives r) ideal ideal₀ i (A .moved);
+        kept = written-behind (take (c .whole) order) _ copied kept₀ part (c .whole)
+            (length-take-le (c .whole) order (omega (arith, S .listed .cut .ahead, S .listed .cut .within, S .listed .places))) room₀ first (N .written)
+            ∙ ap₂ (λ s d. over (s ++ d .value) kept₀) (S .listed .cut .listed) picks-are;
+        lines = A .nearest ∙ ap (λ m. over (listBelow (lineOf r) m) lines₀) e;
+        state = N .state ∙ ap (λ d. d .state) picks-are;
+      }

@@ -5,13 +5,14 @@ use mathlib.Core.Bool.{Bool, true, false, not, _&&_, _||_, true≢false}
 use mathlib.Core.List.{List·Memᴰ·head, List·Memᴰ·tail}
 use mathlib.Core.Option.{none}
 use native.Mathlib.Omega.{arith}
-use borrow.Author.Tests.{leb-true, ltb-false, eqb-true, eqb-false, not-false}
-use lib.Dec.{eqb, leb, ltb}
+use borrow.Author.Tests.{ltb-false, eqb-true, eqb-false, not-false}
+use lib.Dec.{eqb, ltb}
 use lib.ListN.{length}
 use Rattle.model.specs.Lists.{allBelow, allIn}
 use Rattle.model.specs.Association.{Request, objectives, lineCount}
-use Rattle.model.specs.Refusal.{Room, badDirections, badSize, outsideDivisions, badDivisions, badCount, badPool, noRoom, goodPlan, goodIdeal, maxSize, maxLines, selectRefusal}
+use Rattle.model.specs.Refusal.{Room, badDirections, badSize, badDivisions, badCount, badPool, noRoom, goodPlan, goodIdeal, maxSize, selectRefusal}
 use Rattle.list_laws.proofs.Bools.{and-left, and-right, or-left, or-right}
+use Rattle.das_dennis.proofs.Divisions.{allowed}
 use Rattle.demand3_laws.proofs.Accepted.{some-objectives}
 use Rattle.demand3_laws.proofs.Calls.{applies-not}
 use Rattle.association_laws.proofs.Coordinates.{lines-some}
@@ -42,22 +43,8 @@ module _ (r : Request) (room : Room) (e : selectRefusal r room ≡ none) where
   unfolding selectRefusal
   slices = applies-not (List·Memᴰ·tail (List·Memᴰ·tail (List·Memᴰ·tail (List·Memᴰ·tail (List·Memᴰ·tail (List·Memᴰ·head refl)))))) e
 
-  some-divisions : (1 ≤ r .divisions) × (r .divisions ≤ 199)
-  unfolding badDivisions
-  some-divisions =
-      let h = not-false _ (or-left _ _ divisions) in
-      (leb-true 1 (r .divisions) (and-left _ _ h), leb-true (r .divisions) 199 (and-right (leb 1 (r .divisions)) _ h))
-
-  few-lines : lineCount r ≤ 1024
-  unfolding badDivisions
-  few-lines = ltb-false maxLines (lineCount r) (or-right (outsideDivisions (r .divisions)) _ divisions)
-
   some-plans : 0 < r .count
-  some-plans = go (r .count) (or-left (eqb (r .count) 0) (ltb maxSize (r .count)) count)
-    where
-      go : (n : ℕ) → eqb n 0 ≡ false → 0 < n
-      go zero h = absurd (true≢false h)
-      go (suc n) h = omega arith
+  some-plans = let h = eqb-false (r .count) 0 (or-left (eqb (r .count) 0) (ltb maxSize (r .count)) count) in omega arith
 
   accepted : (allBelow (λ p. goodPlan (objectives r) (r .plans p)) (r .count) && goodIdeal (objectives r) (r .ideal)) ≡ true
   unfolding badPool
@@ -82,10 +69,10 @@ module _ (r : Request) (room : Room) (e : selectRefusal r room ≡ none) where
   admitted = record {
     wide = some-objectives (r .marks) directions .0;
     narrow = some-objectives (r .marks) directions .1;
-    divided = some-divisions .0;
-    coarse = some-divisions .1;
+    divided = allowed (objectives r) (r .divisions) divisions .least;
+    coarse = allowed (objectives r) (r .divisions) divisions .most;
     someLines = lines-some (objectives r) (r .divisions) (some-objectives (r .marks) directions .0);
-    fewLines = few-lines;
+    fewLines = allowed (objectives r) (r .divisions) divisions .lines;
     somePlans = some-plans;
     fewPlans = ltb-false maxSize (r .count) (or-right (eqb (r .count) 0) _ count);
     few = ltb-false maxSize (r .size) (or-right (eqb (r .size) 0) _ size);

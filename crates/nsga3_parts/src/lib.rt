@@ -1,4 +1,4 @@
-// The lists that a selection hands out, filled from their front.
+// The lists that a selection hands out, filled from their front. `nsga3` calls `copy_first` and `select_whole`; the other functions are parts of `select_whole`.
 ghost use mathlib.Core.Path.{_≡_};
 ghost use mathlib.Core.List.{_++_};
 ghost use Prim.Native.Nat.{_-_, _<_, _≤_};
@@ -21,7 +21,7 @@ pub fn copy_first(from: &[usize], n: usize, to: &mut [usize])
 }
 
 // No line for each of n plans.
-pub fn no_lines(n: usize, lines: &mut [usize])
+fn no_lines(n: usize, lines: &mut [usize])
     requires { ⌜ n ≤ length (now lines) ⌝ }
     ensures { λ _. ⌜ now (lines .exit) ≡ over (replicate n noLine) (now (lines .entry)) ⌝ }
 {
@@ -33,7 +33,7 @@ pub fn no_lines(n: usize, lines: &mut [usize])
 }
 
 // Draws `count` plans of n.
-pub fn pad(rng: Rng, n: usize, count: usize, out: &mut [usize]) -> Rng
+fn pad(rng: Rng, n: usize, count: usize, out: &mut [usize]) -> Rng
     requires { ⌜ (0 < n) × (count ≤ length (now out)) ⌝ }
     ensures { λ r. ⌜ (now (out .exit) ≡ over (padding n count (rng .s) .value) (now (out .entry))) × (r .s ≡ padding n count (rng .s) .state) ⌝ }
 {

@@ -25,9 +25,9 @@ use Rattle.model.specs.Session.{State, state, evaluated, recordOf, blockOf, bre
 use Rattle.model.specs.Refusal.{Room, goodIdeal, stepRefusal, check, firstOf, badPool, badParents, maxSize}
 use Rattle.model.specs.Calls.{refusedBy, roomOf, wordRequest, stepAccepted, stepBy, stepOf}
 use Rattle.model.specs.Property.{SessionOk}
-use Rattle.nsga3.specs.declared.Check.{Check}
-use Rattle.nsga3.specs.declared.Check.the-variants as check
-use Rattle.nsga3.specs.Checked.{checked}
+use Rattle.refusals.specs.declared.Check.{Check}
+use Rattle.refusals.specs.declared.Check.the-variants as check
+use Rattle.refusals.specs.Checked.{checked}
 use Rattle.session_laws.proofs.Request.{bred-length, bred-request, step-refusal}
 use Rattle.session_parts.specs.Exits.{bredSession}
 use Rattle.session.specs.Exits.{Stepped, stepped, takenOf, blankLent, stepOn, breedRefusal, shortRefusal, bredExit, breedBy, breedOf}

@@ -25,7 +25,7 @@ use model::Sampled;
 use model::Sampling;
 use model::Selection;
 use model::Session;
-use nsga3::Check;
+use refusals::Check;
 
 // The most records of a history.
 const MAX_HISTORY: usize = 4096;

@@ -8,7 +8,7 @@ use Rattle.model.specs.Refusal.{badDimensions}
 use Rattle.model.specs.Calls.{operators, Lent, lent}
 use Rattle.settings.specs.Candidate.{dimensionsOf}
 use Rattle.settings.proofs.Valid.{few}
-use Rattle.nsga3.specs.Checked.{checked}
+use Rattle.refusals.specs.Checked.{checked}
 use Rattle.candidate_laws.proofs.Sound.{AllHeld}
 use Rattle.typed_laws.proofs.Held.{array-held}
 use Rattle.generation.proofs.Answer.{refused-so, stepped-so}

@@ -2,8 +2,8 @@
 use Prim.Native.Nat.{_-_, _≤_, _<_}
 use mathlib.Core.Path.{_≡_, refl}
 use lib.ListN.{length, getD, length-set}
-use Rattle.niching.specs.Niche.{lineIn}
-use Rattle.niching.proofs.Counting.{Counted, counted-none, counted-more, counted-le, counted-all}
+use Rattle.niching_array_laws.specs.Niche.{lineIn}
+use Rattle.niching_array_laws.proofs.Counting.{Counted, counted-none, counted-more, counted-le, counted-all}
 use native.Mathlib.Omega.{arith}
 use Rattle.niching.proofs.count_lines.Statement.{statement}
 use Rattle.niching.proofs.count_lines.Tie as tie

@@ -2,7 +2,7 @@
 use Prim.Native.Nat.{_-_, _≤_}
 use mathlib.Core.Path.{_≡_, refl, sym}
 use lib.ListN.{length, take, length-set}
-use Rattle.niching.proofs.Selecting.{Selecting, selecting-first, selecting-ready, selecting-more, before-lines, front-counts, given, enough-members, no-counts, before-length, selecting-done}
+use Rattle.niching_array_laws.proofs.Selecting.{Selecting, selecting-first, selecting-ready, selecting-more, before-lines, front-counts, given, enough-members, no-counts, before-length, selecting-done}
 use native.Mathlib.Omega.{arith}
 use Rattle.niching.proofs.niching_select.Statement.{statement}
 use Rattle.niching.proofs.niching_select.Tie as tie

@@ -1,7 +1,7 @@
 -- a line is drawn, a member of it chosen, and the three arrays are moved on
 use mathlib.Core.Path.{refl}
 use lib.ListN.{length-set}
-use Rattle.niching.proofs.Picking.{ready-open, member-waited, member-line, picked-at}
+use Rattle.niching_array_laws.proofs.Picking.{ready-open, member-waited, member-line, picked-at}
 use native.Mathlib.Omega.{arith}
 use Rattle.niching.proofs.pick.Statement.{statement}
 use Rattle.niching.proofs.pick.Tie as tie

@@ -14,7 +14,7 @@ request s = wordRequest (s .args .pool .now) (s .args .directions .now) (s .args
 select-split-requires : tie.Need-select-split-requires
 select-split-requires c κs =
     let s = c .before .before .before .before .before .before .before .before .before .before .before in
-    (s .pre .0, (s .pre .1 .0, s .pre .1 .1, sym (s .pre .1 .1 .cut .split) ∙ c .before .before .before .if1 .taken))
+    (s .pre, c .before .before .before .if1 .taken)
 
 same-length : tie.Need-same-length
 same-length c = c .before .before .before .before .before .before .select-split .kept .1 .1 .1 .1 .1 .1 .1 .1 .0
@@ -28,7 +28,7 @@ same-length-3 c = c .before .before .before .before .before .before .select-spli
 returns : tie.Need-returns
 returns c =
     let s = c .before .before .before .before .before .before .before .before .before .before .before .before .before .before .before .before .before .before in
-    hands-split (request s) _ _ _ _ _ _ (sym (s .pre .1 .1 .cut .split) ∙ c .before .before .before .before .before .before .before .before .before .before .if1 .taken) (c .before .before .before .before .before .before .select-split .ensures)
+    hands-split (request s) _ _ _ _ _ _ (sym (s .pre .listed .cut .split) ∙ c .before .before .before .before .before .before .before .before .before .before .if1 .taken) (c .before .before .before .before .before .before .select-split .ensures)
 
 plan-count-requires : tie.Need-plan-count-requires
 plan-count-requires c κs = search needs
@@ -36,8 +36,8 @@ plan-count-requires c κs = search needs
 select-whole-requires : tie.Need-select-whole-requires
 select-whole-requires c κs =
     let s = c .before .before .before .before .before .before .before .before .before .before .before in
-    let ok = s .pre .0 in
-    let o = s .pre .1 .1 in
+    let ok = s .pre .limits in
+    let o = s .pre .listed in
     let e = c .before .before .plan-count .ensures in
     (omega (arith, e, ok .somePlans), o .cut .fits, omega (arith, o .cut .ahead, o .cut .within, o .places), ok .kept, omega (arith, e, ok .lines))
 
@@ -51,8 +51,8 @@ returns-2 : tie.Need-returns-2
 returns-2 c =
     let s = c .before .before .before .before .before .before .before .before .before .before .before .before .before .before .before .before in
     let w = c .before .before .before .before .select-whole .ensures in
-    hands-whole (request s) _ _ _ _ _ _ (sym (s .pre .1 .1 .cut .split) ∙ c .before .before .before .before .before .before .before .before .if1 .left)
-    (whole-hands (request s) _ _ _ _ _ _ (s .args .order .now) (s .args .cut) (s .pre .1 .1) _ (c .before .before .before .before .before .before .before .plan-count .ensures) refl (w .0) (w .1) (w .2))
+    hands-whole (request s) _ _ _ _ _ _ (sym (s .pre .listed .cut .split) ∙ c .before .before .before .before .before .before .before .before .if1 .left)
+    (whole-hands (request s) _ _ _ _ _ _ (s .args .order .now) (s .args .cut) (s .pre .listed) _ (c .before .before .before .before .before .before .before .plan-count .ensures) refl (w .0) (w .1) (w .2))
 
 pub fill-kept-spec : {M : Type 1} → statement M
 fill-kept-spec =

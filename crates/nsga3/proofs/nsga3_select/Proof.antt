@@ -2,7 +2,7 @@
 use mathlib.Core.Path.{ap, sym, _∙_}
 use Rattle.model.specs.Calls.{wordRequest, lent}
 use Rattle.nsga3_laws.proofs.Admitted.{admitted}
-use Rattle.nsga3.specs.Checked.{checked}
+use Rattle.refusals.specs.Checked.{checked}
 use Rattle.nsga3.proofs.Answer.{refused, selected-so}
 use borrow.Author.Needs.{needs}
 use Rattle.nsga3.proofs.nsga3_select.Statement.{statement}

@@ -11,7 +11,7 @@ use Rattle.model.specs.Calls.{wordRequest}
 use Rattle.model.specs.Plan.{planCount}
 use Rattle.model.specs.Association.{Request}
 use Rattle.plans.proofs.Pool.{pool-row-lengths}
-use Rattle.nsga3.specs.Laid.{RowsIn}
+use Rattle.pool_sort.specs.Laid.{RowsIn}
 use Rattle.list_laws.proofs.Runs.{few-values}
 use Rattle.nsga3.proofs.Answer.{rows-in, accepted-exit, fill-room}
 use Rattle.nsga3.proofs.select.Statement.{statement}
@@ -68,7 +68,11 @@ fill-kept-requires : tie.Need-fill-kept-requires
 fill-kept-requires c κs =
     let s = c .before .before .before .before .before .before .before .before .before .before .before .before .before .before .before .before .before .before .before .before .before .before in
     let a = s .args in
-    (fill-room (request s) _ _ _ (s .pre), (laid (c .before .before .before .before .before .before .before .before .before .before .before .before .before) (a .divisions) (a .rng) (a .ideal .now), c .before .before .before .before .before .before .before .before .sort-pool .ensures (a .divisions) (a .rng) (a .ideal .now) .order))
+    record {
+      limits = fill-room (request s) _ _ _ (s .pre);
+      laid = laid (c .before .before .before .before .before .before .before .before .before .before .before .before .before) (a .divisions) (a .rng) (a .ideal .now);
+      listed = c .before .before .before .before .before .before .before .before .sort-pool .ensures (a .divisions) (a .rng) (a .ideal .now) .order;
+    }
 
 same-length : tie.Need-same-length
 same-length c = c .before .before .before .before .before .before .fill-kept .kept .1 .1 .1 .1 .1 .1 .1 .1 .0

@@ -27,10 +27,8 @@ associated c =
     let s = c .before .before .before .before .before .before .before .before .before .before .before .before .before .before .before .before in
     let d = c .before .before .before .before .before .before .das-dennis in
     let e = c .before .before .before .before .before .before .before .before .plan-count .ensures in
-    let t = table-lines (request s) _ (s .pre .0) (s .args .rows .now) (s .pre .1 .0) (s .args .order .now) (s .args .cut) (s .pre .1 .1) (s .pre .1 .2) in
     c .associate .ensures (request s)
-    (pool-rows (request s) _ (s .pre .0) (s .args .rows .now) (s .pre .1 .0) (s .args .order .now) (s .args .cut) (s .pre .1 .1) (s .pre .1 .2) _ e)
-    (λ j h. refl) (t _ e _ _ (d .ensures .1) _ (d .ensures .0)) (d .ensures .0)
+    (pool-rows (s .pre .0) _ e) (λ j h. refl) (table-lines (s .pre .0) _ _ (d .ensures .1) _ (d .ensures .0)) (d .ensures .0)
 
 plan-count-requires : tie.Need-plan-count-requires
 plan-count-requires c κs = search needs
@@ -40,7 +38,7 @@ slice-aggregate-das-dennis c = search needs
 
 das-dennis-requires : tie.Need-das-dennis-requires
 das-dennis-requires c κs =
-    let ok = c .before .before .before .before .before .before .before .before .before .pre .0 in
+    let ok = c .before .before .before .before .before .before .before .before .before .pre .0 .limits in
     ((ok .wide, ok .narrow, ok .divided, ok .coarse), few-values _ _ (ok .fewLines) (ok .narrow))
 
 slice-aggregate-associate : tie.Need-slice-aggregate-associate
@@ -52,13 +50,13 @@ slice-aggregate-associate-2 c = search needs
 associate-requires : tie.Need-associate-requires
 associate-requires c κs =
     let s = c .before .before .before .before .before .before .before .before .before .before .before .before .before .before .before in
-    let ok = s .pre .0 in
+    let ok = s .pre .0 .limits in
     let e = c .before .before .before .before .before .before .before .plan-count .ensures in
     let d = c .before .before .before .before .before .das-dennis in
     let size : length (d .last .1 .1 .0) ≡ 8192 = d .kept .1 .1 .0 in (
       ok .narrow,
       few-values _ _ (omega (arith, e, ok .fewPlans)) (ok .narrow),
-      subst (λ k. k * length (s .args .directions .now) ≤ length (s .args .rows .now)) (sym e) (s .pre .1 .0 .table),
+      subst (λ k. k * length (s .args .directions .now) ≤ length (s .args .rows .now)) (sym e) (s .pre .0 .laid .table),
       subst (λ k. d .result * length (s .args .directions .now) ≤ k) (sym size) (few-values _ _ (omega (arith, d .ensures .0, ok .fewLines)) (ok .narrow)),
       omega (arith, ok .ideal),
       omega (arith, e, ok .lines),
@@ -68,23 +66,23 @@ associate-requires c κs =
 copy-first-requires : tie.Need-copy-first-requires
 copy-first-requires c κs =
     let s = c .before .before .before .before .before .before .before .before .before .before .before .before .before .before .before .before .before .before .before .before .before .before in
-    let o = s .pre .1 .1 in
-    (omega (arith, o .cut .ahead, o .cut .within, o .places), omega (arith, o .cut .fits, s .pre .0 .kept))
+    let o = s .pre .0 .listed in
+    (omega (arith, o .cut .ahead, o .cut .within, o .places), omega (arith, o .cut .fits, s .pre .0 .limits .kept))
 
 slice-aggregate-niching-select : tie.Need-slice-aggregate-niching-select
 slice-aggregate-niching-select c = search needs
 
 sub-niching-select : tie.Need-sub-niching-select
-sub-niching-select c = c .before .before .before .before .before .before .before .before .before .before .before .before .before .before .before .before .before .before .before .before .before .before .before .before .before .before .before .pre .1 .1 .cut .fits
+sub-niching-select c = c .before .before .before .before .before .before .before .before .before .before .before .before .before .before .before .before .before .before .before .before .before .before .before .before .before .before .before .pre .0 .listed .cut .fits
 
 mul-niching-select : tie.Need-mul-niching-select
-mul-niching-select c = let s = c .before .before .before .before .before .before .before .before .before .before .before .before .before .before .before .before .before .before .before .before .before .before .before .before .before .before .before in record { fits = omega (arith, s .pre .1 .1 .cut .fits, s .pre .0 .few) }
+mul-niching-select c = let s = c .before .before .before .before .before .before .before .before .before .before .before .before .before .before .before .before .before .before .before .before .before .before .before .before .before .before .before in record { fits = omega (arith, s .pre .0 .listed .cut .fits, s .pre .0 .limits .few) }
 
 sub-niching-select-2 : tie.Need-sub-niching-select-2
-sub-niching-select-2 c = let s = c .before .before .before .before .before .before .before .before .before .before .before .before .before .before .before .before .before .before .before .before .before .before .before .before .before .before .before in omega (arith, s .pre .1 .1 .cut .fits, s .pre .0 .kept, c .before .before .before .before .copy-first .kept .1 .1 .0)
+sub-niching-select-2 c = let s = c .before .before .before .before .before .before .before .before .before .before .before .before .before .before .before .before .before .before .before .before .before .before .before .before .before .before .before in omega (arith, s .pre .0 .listed .cut .fits, s .pre .0 .limits .kept, c .before .before .before .before .copy-first .kept .1 .1 .0)
 
 part-niching-select-start : tie.Need-part-niching-select-start
-part-niching-select-start c = let s = c .before .before .before .before .before .before .before .before .before .before .before .before .before .before .before .before .before .before .before .before .before .before .before .before .before .before .before in omega (arith, s .pre .1 .1 .cut .fits, s .pre .0 .kept, c .before .before .before .before .copy-first .kept .1 .1 .0)
+part-niching-select-start c = let s = c .before .before .before .before .before .before .before .before .before .before .before .before .before .before .before .before .before .before .before .before .before .before .before .before .before .before .before in omega (arith, s .pre .0 .listed .cut .fits, s .pre .0 .limits .kept, c .before .before .before .before .copy-first .kept .1 .1 .0)
 
 part-niching-select-end : tie.Need-part-niching-select-end
 part-niching-select-end c = search needs
@@ -92,13 +90,12 @@ part-niching-select-end c = search needs
 niching-select-requires : tie.Need-niching-select-requires
 niching-select-requires c κs =
     let s = c .before .before .before .before .before .before .before .before .before .before .before .before .before .before .before .before .before .before .before .before .before .before .before .before .before .before .before .before in
-    let ok = s .pre .0 in
-    let o = s .pre .1 .1 in
+    let ok = s .pre .0 .limits in
+    let o = s .pre .0 .listed in
     let a = c .before .before .before .before .before .before .before .before .before .before .before .before .associate in
     let f = c .before .before .before .before .before .copy-first in
     let far : length (a .last .1 .1 .1 .1 .1 .1 .1 .0) ≡ 1024 = a .kept .1 .1 .1 .1 .1 .1 .1 .0 in
-    splits (request s) _ ok (s .args .rows .now) (s .pre .1 .0) (s .args .order .now) (s .args .cut) o (s .pre .1 .2)
-    _ _ (c .before .before .before .before .before .before .before .before .before .before .before .before .before .before .before .before .before .before .before .before .plan-count .ensures) (c .before .before .before .before .before .before .before .before .before .before .before .before .before .before .before .before .before .before .das-dennis .ensures .0) _ _ _ _ _ _ (associated (c .before .before .before .before .before .before .before .before .before .before .before .before)) _
+    splits (s .pre .0) (s .pre .1) _ _ (c .before .before .before .before .before .before .before .before .before .before .before .before .before .before .before .before .before .before .before .before .plan-count .ensures) (c .before .before .before .before .before .before .before .before .before .before .before .before .before .before .before .before .before .before .das-dennis .ensures .0) _ _ _ _ _ _ (associated (c .before .before .before .before .before .before .before .before .before .before .before .before)) _
     (omega (arith, a .kept .1 .1 .1 .1 .1 .1 .0, ok .lines)) (omega (arith, far, ok .fewPlans))
     (omega (arith, mid-len (s .args .cut .whole) (length (f .last .1 .1 .0)) (f .last .1 .1 .0) (omega arith), f .kept .1 .1 .0, ok .kept))
 
@@ -118,11 +115,10 @@ same-length-3 c = c .before .before .before .before .before .before .before .bef
 returns : tie.Need-returns
 returns c =
     let s = c .before .before .before .before .before .before .before .before .before .before .before .before .before .before .before .before .before .before .before .before .before .before .before .before .before .before .before .before .before .before .before in
-    let ok = s .pre .0 in
-    let o = s .pre .1 .1 in
+    let ok = s .pre .0 .limits in
+    let o = s .pre .0 .listed in
     let f = c .before .before .before .before .before .before .before .before .copy-first in
-    hands (request s) _ ok (s .args .rows .now) (s .pre .1 .0) (s .args .order .now) (s .args .cut) o (s .pre .1 .2)
-    _ _ (c .before .before .before .before .before .before .before .before .before .before .before .before .before .before .before .before .before .before .before .before .before .before .before .plan-count .ensures) (c .before .before .before .before .before .before .before .before .before .before .before .before .before .before .before .before .before .before .before .before .before .das-dennis .ensures .0) _ _ _ _ _ _ (associated (c .before .before .before .before .before .before .before .before .before .before .before .before .before .before .before))
+    hands (s .pre .0) (s .pre .1) _ _ (c .before .before .before .before .before .before .before .before .before .before .before .before .before .before .before .before .before .before .before .before .before .before .before .plan-count .ensures) (c .before .before .before .before .before .before .before .before .before .before .before .before .before .before .before .before .before .before .before .before .before .das-dennis .ensures .0) _ _ _ _ _ _ (associated (c .before .before .before .before .before .before .before .before .before .before .before .before .before .before .before))
     (ok .ideal) (s .args .kept .now) (f .last .1 .1 .0) _ _ (omega (arith, f .kept .1 .1 .0, o .cut .fits, ok .kept)) (f .ensures) (c .before .before .niching-select .ensures)
 
 pub select-split-spec : {M : Type 1} → statement M

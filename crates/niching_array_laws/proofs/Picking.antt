@@ -1,0 +1,50 @@
+-- One open place: a line and a member that the arrays give.
+use Prim.Native.Nat.{ℕ, _+_, _-_}
+use mathlib.Core.Path.{_≡_, refl, ap, ap₂, _∙_}
+use mathlib.Core.Bool.{Bool, true, false, not, _&&_}
+use mathlib.Core.List.{List}
+use native.Mathlib.Omega.{arith}
+use borrow.Author.Tests.{eq-eqb, eqb-true}
+use lib.Dec.{eqb}
+use lib.Ieee.{Float}
+use lib.ListN.{length, getD}
+use Rattle.model.specs.Lists.{keepBelow}
+use Rattle.model.specs.Draw.{Drawn, drawn}
+use Rattle.model.specs.Kept.{leastLines, drawFrom, drawMember}
+use Rattle.list_laws.proofs.Bools.{and-not-left, and-not-right}
+use Rattle.list_laws.proofs.Counts.{countBelow-yes, countBelow-up}
+use Rattle.list_laws.proofs.Kept.{keepBelow-length}
+use Rattle.niching_array_laws.specs.Niche.{lineIn, distanceIn, planAt, countOf, hasWaiting, waitsOn, members, Open, MemberOf, Ready, pickAt}
+
+module _ {front lines : List ℕ} {distances : List Float} {n : ℕ} {counts waits : List ℕ} {taken : List Bool}
+    (h : Ready front lines distances n counts waits taken) where
+  -- the line of a member that waits is open
+  pub ready-open : (l : ℕ) × Open waits n l
+  ready-open =
+      let i = h .some .0 in
+      let l = lineIn lines (planAt front i) in
+      let f = waitsOn front lines taken l in
+      let e : f i ≡ true = ap₂ (λ a b. not a && b) (h .some .2) (eq-eqb l l refl) in (
+        l,
+        record {
+          below = h .onLines i (h .some .1) .1;
+          some = omega (arith, h .waiting l, keepBelow-length f (length front), countBelow-yes f i e, countBelow-up f (i + 1) (length front) (omega (arith, h .some .1)));
+        },
+      )
+
+-- a member that waits is not taken, and is on the line
+module _ {front lines : List ℕ} {taken : List Bool} {l i : ℕ} (h : MemberOf front lines taken l i) where
+  pub member-waited : getD taken i false ≡ false
+  member-waited = and-not-left (getD taken i false) (eqb (lineIn lines (planAt front i)) l) (h .waits)
+
+  pub member-line : lineIn lines (planAt front i) ≡ l
+  member-line = eqb-true (lineIn lines (planAt front i)) l (and-not-right (getD taken i false) (eqb (lineIn lines (planAt front i)) l) (h .waits))
+
+-- a drawn line and a member chosen of it are the pick
+pub picked-at : (front lines : List ℕ) (distances : List Float) (n : ℕ) (counts waits : List ℕ) (taken : List Bool) (s l u r t : ℕ)
+    → drawn l u ≡ drawFrom (leastLines (countOf counts) (keepBelow (hasWaiting waits) n)) s
+    → drawn r t ≡ drawMember (distanceIn distances) (countOf counts l) (members front lines taken l) u
+    → drawn r t ≡ pickAt front lines distances n counts waits taken s
+unfolding pickAt
+picked-at front lines distances n counts waits taken s l u r t e m =
+    m ∙ ap (λ (d : Drawn ℕ). drawMember (distanceIn distances) (countOf counts (d .value)) (members front lines taken (d .value)) (d .state)) e

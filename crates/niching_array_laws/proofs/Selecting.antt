@@ -1,0 +1,131 @@
+-- The loop over the open places: the first j are filled as `picks` fills them.
+use Prim.Native.Nat.{ℕ, suc, _+_, _-_, _<_}
+use mathlib.Core.Path.{_≡_, refl, ap, sym, _∙_}
+use mathlib.Core.Bool.{Bool, false}
+use mathlib.Core.List.{List, [], _∷_, _++_, append-assoc}
+use native.Mathlib.Numerals.{add-one}
+use native.Mathlib.Omega.{arith}
+use lib.Ieee.{Float}
+use lib.ListN.{length, getD, set, take, drop, replicate, length-append, length-drop}
+use lib.Seq.{set-at, drop-cons, getD-take, getD-drop, length-take-le}
+use Rattle.model.specs.Lists.{over}
+use Rattle.model.specs.Draw.{Drawn, drawn}
+use Rattle.model.specs.Kept.{nicheCount, pickOne, picks}
+use Rattle.list_laws.proofs.Built.{over-snoc}
+use Rattle.niching_array_laws.specs.Niche.{lineIn, distanceIn, planAt, countOf, Zeros, OnLines, Ready, Took, Splits, picksOf, NichingSelects}
+use Rattle.niching_array_laws.proofs.Places.{replicate-at}
+use Rattle.niching_array_laws.proofs.Filling.{Given, Holds, holds-first, holds-pick, holds-ready, holds-more}
+
+-- one pick more
+picks-next : (line : ℕ → ℕ) (distance : ℕ → Float) (n : ℕ) (before front : List ℕ) (j s r u : ℕ)
+    → drawn r u ≡ pickOne line distance n before front (picks line distance n before front j s .value) (picks line distance n before front j s .state)
+    → picks line distance n before front (j + 1) s ≡ drawn (picks line distance n before front j s .value ++ (r ∷ [])) u
+unfolding picks
+picks-next line distance n before front j s r u e =
+    ap (λ m. picks line distance n before front m s) (add-one j)
+    ∙ sym (ap (λ (d : Drawn ℕ). drawn (picks line distance n before front j s .value ++ (d .value ∷ [])) (d .state)) e)
+
+-- the state of the loop
+pub record Selecting (before front lines : List ℕ) (distances : List Float) (n s : ℕ) (old : List ℕ) (j : ℕ) (counts waits : List ℕ) (taken : List Bool)
+    (out : List ℕ) (t : ℕ) : Type 0 where
+  pub holds : Holds before front lines (picks (lineIn lines) (distanceIn distances) n before front j s .value) counts waits taken
+  pub size : length (picks (lineIn lines) (distanceIn distances) n before front j s .value) ≡ j
+  pub written : out ≡ over (picks (lineIn lines) (distanceIn distances) n before front j s .value) old
+  pub state : t ≡ picks (lineIn lines) (distanceIn distances) n before front j s .state
+
+pub selecting-first : (before front lines : List ℕ) (distances : List Float) (n s : ℕ) (old counts waits : List ℕ)
+    → ((l : ℕ) → countOf counts l ≡ nicheCount (lineIn lines) before l) → ((l : ℕ) → countOf waits l ≡ nicheCount (lineIn lines) front l)
+    → length counts ≡ 1024 → length waits ≡ 1024
+    → Selecting before front lines distances n s old 0 counts waits (replicate 1024 false) old s
+unfolding picks
+selecting-first before front lines distances n s old counts waits a b c d = record {
+  holds = holds-first before front lines counts waits a b c d;
+  size = refl;
+  written = refl;
+  state = refl;
+}
+
+module _ {before front lines : List ℕ} {distances : List Float} {n s : ℕ} {old : List ℕ} {j : ℕ} {counts waits : List ℕ} {taken : List Bool} {out : List ℕ} {t : ℕ}
+    (h : Selecting before front lines distances n s old j counts waits taken out t) (g : Given before front lines distances n) where
+  pub selecting-ready : j < length front → Ready front lines distances n counts waits taken
+  selecting-ready u = holds-ready (h .holds) distances n g (omega (arith, h .size))
+
+  pub selecting-more : {counts′ waits′ : List ℕ} {taken′ : List Bool} {r u : ℕ} → j < length old
+      → Took front lines distances n t counts counts′ waits waits′ taken taken′ r u
+      → Selecting before front lines distances n s old (j + 1) counts′ waits′ taken′ (set out j r) u
+  selecting-more {counts′} {waits′} {taken′} {r} {u} v k = record {
+    holds = rw value (holds-more (h .holds) g k);
+    size = rw (value, length-append) (omega (arith, h .size));
+    written = ap (λ o. set o j r) (h .written) ∙ over-snoc (picks (lineIn lines) (distanceIn distances) n before front j s .value) old j r (h .size) v ∙ ap (λ l. over l old) (sym value);
+    state = sym (ap (λ (d : Drawn (List ℕ)). d .state) whole);
+  }
+    where
+      whole : picks (lineIn lines) (distanceIn distances) n before front (j + 1) s
+          ≡ drawn (picks (lineIn lines) (distanceIn distances) n before front j s .value ++ (r ∷ [])) u
+      whole = picks-next (lineIn lines) (distanceIn distances) n before front j s r u
+          (k .chosen ∙ holds-pick (h .holds) distances n t ∙ ap (pickOne (lineIn lines) (distanceIn distances) n before front _) (h .state))
+
+      value : picks (lineIn lines) (distanceIn distances) n before front (j + 1) s .value
+          ≡ picks (lineIn lines) (distanceIn distances) n before front j s .value ++ (r ∷ [])
+      value = ap (λ (d : Drawn (List ℕ)). d .value) whole
+
+-- ---- what the caller knows of the order
+
+module _ {order : List ℕ} {start end : ℕ} {lines : List ℕ} {distances : List Float} {n places : ℕ} {picked : List ℕ}
+    (h : Splits order start end lines distances n places picked) where
+  front-length : length (take (end - start) (drop start order)) ≡ end - start
+  front-length = length-take-le (end - start) (drop start order) (omega (arith, length-drop start order, h .inside))
+
+  -- place i of the front is place start + i of the order
+  front-at : (i : ℕ) → i < end - start → planAt (take (end - start) (drop start order)) i ≡ planAt order (start + i)
+  front-at i u = getD-take (end - start) (drop start order) i 0 u ∙ getD-drop start order i 0
+
+  before-at : (i : ℕ) → i < start → planAt (take start order) i ≡ planAt order i
+  before-at i u = getD-take start order i 0 u
+
+  pub before-length : length (take start order) ≡ start
+  before-length = length-take-le start order (omega (arith, h .ahead, h .inside))
+
+  -- both have lines, for which 1,024 counts suffice
+  pub before-lines : OnLines (take start order) lines 1024
+  before-lines i u =
+      let v : i < start = omega (arith, before-length) in
+      let q = h .plans i (omega (arith, h .ahead)) in
+      rw (before-at i v) (q .0, omega (arith, q .2, h .narrow))
+
+  pub front-lines : OnLines (take (end - start) (drop start order)) lines n
+  front-lines i u =
+      let v : i < end - start = omega (arith, front-length) in
+      let q = h .plans (start + i) (omega arith) in
+      rw (front-at i v) (q .0, q .2)
+
+  pub front-counts : OnLines (take (end - start) (drop start order)) lines 1024
+  front-counts i u = let q = front-lines i u in (q .0, omega (arith, q .1, h .narrow))
+
+  pub given : Given (take start order) (take (end - start) (drop start order)) lines distances n
+  given = record {
+    onLines = front-lines;
+    measured = λ i u. let v : i < end - start = omega (arith, front-length) in
+        rw (front-at i v) (h .plans (start + i) (omega arith) .1);
+    different = h .different;
+    narrow = h .narrow;
+    few = omega (arith, front-length, before-length, h .ahead, h .few);
+  }
+
+  -- there are as many members as open places
+  pub enough-members : (j : ℕ) → j < places → j < length (take (end - start) (drop start order))
+  enough-members j u = omega (arith, front-length, h .enough)
+
+-- with all places filled the promise is kept
+pub selecting-done : {order : List ℕ} {start end : ℕ} {lines : List ℕ} {distances : List Float} {n s : ℕ} {old : List ℕ} {j : ℕ} {counts waits : List ℕ}
+    {taken : List Bool} {out : List ℕ} {t : ℕ} (places : ℕ) → j ≡ places
+    → Selecting (take start order) (take (end - start) (drop start order)) lines distances n s old j counts waits taken out t
+    → NichingSelects order start end lines distances n places s old out t
+selecting-done {order} {start} {end} {lines} {distances} {n} {s} {old} places e h = record {
+  written = h .written ∙ ap (λ m. over (picksOf order start end lines distances n m s .value) old) e;
+  state = h .state ∙ ap (λ m. picksOf order start end lines distances n m s .state) e;
+}
+
+-- an array of zeros
+pub no-counts : Zeros (replicate 1024 0)
+no-counts l = replicate-at {A = ℕ} 0 1024 l

@@ -1,0 +1,159 @@
+-- What the arrays of the niching loop hold: each line's niche count, each line's number of waiting members, and for each place of the split front whether its
+-- member is taken. Past a list's end a number reads as 0, a double as NaN.
+use Prim.Native.Nat.{ℕ, zero, suc, _+_, _-_, _≤_, _<_}
+use mathlib.Core.Path.{_≡_}
+use mathlib.Core.Bool.{Bool, true, false, cond, not, _&&_}
+use mathlib.Core.List.{List, _++_, map}
+use lib.Dec.{eqb, ltb}
+use lib.Ieee.{Float, nan, lt}
+use lib.ListN.{length, getD, set, take, drop}
+use Rattle.model.specs.Lists.{keepBelow, countBelow, Distinct, over}
+use Rattle.model.specs.Draw.{Drawn, drawn}
+use Rattle.model.specs.Kept.{leastLines, drawFrom, drawMember, picks, padding}
+
+-- the line of a plan, and its distance from that line
+abbrev pub lineIn : List ℕ → ℕ → ℕ
+lineIn lines p = getD lines p 0
+
+abbrev pub distanceIn : List Float → ℕ → Float
+distanceIn distances p = getD distances p nan
+
+-- the plan at a place of the split front
+abbrev pub planAt : List ℕ → ℕ → ℕ
+planAt front i = getD front i 0
+
+-- ---- lines
+
+-- a line's niche count, and whether it has waiting members
+abbrev pub countOf : List ℕ → ℕ → ℕ
+countOf counts l = getD counts l 0
+
+abbrev pub hasWaiting : List ℕ → ℕ → Bool
+hasWaiting waits l = ltb 0 (getD waits l 0)
+
+-- line l has the niche count `least` and waiting members
+abbrev pub isLeast : List ℕ → List ℕ → ℕ → ℕ → Bool
+isLeast counts waits least l = hasWaiting waits l && eqb (getD counts l 0) least
+
+-- the lesser of `least` and the niche count of line l, if that has waiting members
+abbrev pub lesser : List ℕ → List ℕ → ℕ → ℕ → ℕ
+lesser counts waits l least = cond (hasWaiting waits l && ltb (getD counts l 0) least) (getD counts l 0) least
+
+-- the least niche count of the lines below n with waiting members, none of which reaches `top`
+unfoldable pub leastBelow : ℕ → List ℕ → List ℕ → ℕ → ℕ
+leastBelow top counts waits zero = top
+leastBelow top counts waits (suc n) = lesser counts waits n (leastBelow top counts waits n)
+
+-- ---- places
+
+-- the member at place i waits on line l
+abbrev pub waitsOn : List ℕ → List ℕ → List Bool → ℕ → ℕ → Bool
+waitsOn front lines taken l i = not (getD taken i false) && eqb (lineIn lines (planAt front i)) l
+
+-- the places of the front whose members wait on line l, rising
+abbrev pub places : List ℕ → List ℕ → List Bool → ℕ → List ℕ
+places front lines taken l = keepBelow (waitsOn front lines taken l) (length front)
+
+-- the plans at these places, in listed order
+abbrev pub members : List ℕ → List ℕ → List Bool → ℕ → List ℕ
+members front lines taken l = map (planAt front) (places front lines taken l)
+
+-- the distance of the plan at a place
+abbrev pub placeDistance : List ℕ → List Float → ℕ → Float
+placeDistance front distances i = distanceIn distances (planAt front i)
+
+-- the nearer of two places, if the member at the second waits on line l; the first on a tie
+abbrev pub nearerOf : List ℕ → List ℕ → List Float → List Bool → ℕ → ℕ → ℕ → ℕ
+nearerOf front lines distances taken l best i =
+    cond (waitsOn front lines taken l i && lt (placeDistance front distances i) (placeDistance front distances best)) i best
+
+-- r is the k-th of the numbers below n that pass, counted from 0
+pub record Kth (f : ℕ → Bool) (n k r : ℕ) : Type 0 where
+  pub below : r < n
+  pub passes : f r ≡ true
+  pub rank : countBelow f r ≡ k
+
+-- ---- what is asked and promised
+
+-- every listed plan has a line, which is below n
+abbrev pub OnLines : List ℕ → List ℕ → ℕ → Type 0
+OnLines plans lines n = (i : ℕ) → i < length plans → (planAt plans i < length lines) × (lineIn lines (planAt plans i) < n)
+
+-- a list of zeros
+abbrev pub Zeros : List ℕ → Type 0
+Zeros counts = (l : ℕ) → getD counts l 0 ≡ 0
+
+-- line l is below n and has waiting members
+pub record Open (waits : List ℕ) (n l : ℕ) : Type 0 where
+  pub below : l < n
+  pub some : 0 < getD waits l 0
+
+-- every listed plan has a line, and every place a mark
+pub record Listed (front lines : List ℕ) (taken : List Bool) : Type 0 where
+  pub plans : (i : ℕ) → i < length front → planAt front i < length lines
+  pub marks : length front ≤ length taken
+
+-- the place i is one of those whose members wait on line l
+pub record MemberOf (front lines : List ℕ) (taken : List Bool) (l i : ℕ) : Type 0 where
+  pub below : i < length front
+  pub waits : waitsOn front lines taken l i ≡ true
+
+-- every listed plan has a distance
+abbrev pub Measured : List ℕ → List Float → Type 0
+Measured plans distances = (i : ℕ) → i < length plans → planAt plans i < length distances
+
+-- each line's number of waiting members
+abbrev pub Awaits : List ℕ → List ℕ → List Bool → List ℕ → Type 0
+Awaits front lines taken waits = (l : ℕ) → countOf waits l ≡ length (places front lines taken l)
+
+-- the arrays agree, and a member waits
+pub record Ready (front lines : List ℕ) (distances : List Float) (n : ℕ) (counts waits : List ℕ) (taken : List Bool) : Type 0 where
+  pub listed : Listed front lines taken
+  pub onLines : OnLines front lines n
+  pub measured : Measured front distances
+  pub counted : n ≤ length counts
+  pub awaited : n ≤ length waits
+  pub few : (l : ℕ) → countOf counts l < 1024
+  pub waiting : Awaits front lines taken waits
+  pub some : (i : ℕ) × (i < length front) × (getD taken i false ≡ false)
+
+-- one open place, by what the arrays hold
+unfoldable pub pickAt : List ℕ → List ℕ → List Float → ℕ → List ℕ → List ℕ → List Bool → ℕ → Drawn ℕ
+pickAt front lines distances n counts waits taken s =
+    let l = drawFrom (leastLines (countOf counts) (keepBelow (hasWaiting waits) n)) s in
+    drawMember (distanceIn distances) (countOf counts (l .value)) (members front lines taken (l .value)) (l .state)
+
+-- that place filled: the plan r of a place that waited is taken, its line's niche count is one higher and its number of waiting members one lower
+pub record Took (front lines : List ℕ) (distances : List Float) (n s : ℕ) (counts₀ counts waits₀ waits : List ℕ) (taken₀ taken : List Bool) (r t : ℕ) : Type 0 where
+  pub place : ℕ
+  pub line : ℕ
+  pub inside : place < length front
+  pub waited : getD taken₀ place false ≡ false
+  pub plan : r ≡ planAt front place
+  pub onLine : lineIn lines r ≡ line
+  pub lineInside : line < n
+  pub counted : counts ≡ set counts₀ line (countOf counts₀ line + 1)
+  pub awaited : waits ≡ set waits₀ line (countOf waits₀ line - 1)
+  pub marked : taken ≡ set taken₀ place true
+  pub chosen : drawn r t ≡ pickAt front lines distances n counts₀ waits₀ taken₀ s
+
+-- the first `start` plans of the order are kept, those from there to `end` are the split front, of which `vacant` are to be picked
+pub record Splits (order : List ℕ) (start end : ℕ) (lines : List ℕ) (distances : List Float) (n vacant : ℕ) (picked : List ℕ) : Type 0 where
+  pub ahead : start ≤ end
+  pub inside : end ≤ length order
+  pub few : end ≤ 1024
+  pub narrow : n ≤ 1024
+  pub plans : (i : ℕ) → i < end → (planAt order i < length lines) × (planAt order i < length distances) × (lineIn lines (planAt order i) < n)
+  pub different : Distinct (take (end - start) (drop start order))
+  pub enough : vacant ≤ end - start
+  pub room : vacant ≤ length picked
+
+-- what document 01 picks of that order
+abbrev pub picksOf : List ℕ → ℕ → ℕ → List ℕ → List Float → ℕ → ℕ → ℕ → Drawn (List ℕ)
+picksOf order start end lines distances n vacant s =
+    picks (λ p. getD lines p 0) (λ p. getD distances p nan) n (take start order) (take (end - start) (drop start order)) vacant s
+
+-- THE PROMISE of niching_select: those plans stand at the front of the lent slice, and the generator is where the picks leave it
+pub record NichingSelects (order : List ℕ) (start end : ℕ) (lines : List ℕ) (distances : List Float) (n vacant s : ℕ) (picked₀ picked : List ℕ) (t : ℕ) : Type 0 where
+  pub written : picked ≡ over (picksOf order start end lines distances n vacant s .value) picked₀
+  pub state : t ≡ picksOf order start end lines distances n vacant s .state

@@ -1,0 +1,1 @@
+// Laws of what the arrays of niching hold; no code.

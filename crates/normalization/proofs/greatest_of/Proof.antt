@@ -1,0 +1,74 @@
+-- the best so far is the greatest of the plans before p
+use Prim.Native.Nat.{_+_, _*_, _-_, _≤_}
+use mathlib.Core.Path.{_≡_, sym, _∙_}
+use mathlib.Core.Logic.{⊎-elim}
+use native.Mathlib.Omega.{arith}
+use lib.Ieee.{div, ofBits, neg}
+use Rattle.model.specs.Association.{greatest}
+use Rattle.association_laws.specs.Flat.{column}
+use Rattle.list_laws.proofs.Runs.{row-inside}
+use Rattle.association_laws.proofs.Steps.{greatest-none, greatest-yes, greatest-no}
+use Rattle.normalization.proofs.greatest_of.Statement.{statement}
+use Rattle.normalization.proofs.greatest_of.Tie as tie
+
+abbrev Inv-loop : tie.InvT-loop
+Inv-loop rows n m j best₀ p₀ best p = (p ≤ n) × (best ≡ greatest (column rows m j) p)
+
+abbrev μ-loop : tie.MeasureT-loop
+μ-loop rows n m j best₀ p₀ best p = n - p
+
+-- row p lies within the rows
+inside : (c : tie.In-loop Inv-loop μ-loop) → c .before .loop .p * c .before .before .args .m + c .before .before .args .m ≤ c .before .before .args .n * c .before .before .args .m
+inside c = row-inside _ _ _ (c .loop-test .taken)
+
+loop-holds : tie.Need-loop-holds Inv-loop μ-loop
+unfolding div ofBits neg
+loop-holds c = (omega arith, sym (greatest-none _))
+
+mul-v : tie.Need-mul-v Inv-loop μ-loop
+mul-v c = omega (arith, inside c)
+
+add-v : tie.Need-add-v Inv-loop μ-loop
+add-v c = omega (arith, inside c)
+
+mul-v-2 : tie.Need-mul-v-2 Inv-loop μ-loop
+mul-v-2 c = omega (arith, inside c)
+
+shared-slice-read-v : tie.Need-shared-slice-read-v Inv-loop μ-loop
+shared-slice-read-v c = omega (arith, inside (c .before))
+
+add-p : tie.Need-add-p Inv-loop μ-loop
+add-p c = omega arith
+
+loop-less : tie.Need-loop-less Inv-loop μ-loop
+loop-less c = omega arith
+
+loop-again : tie.Need-loop-again Inv-loop μ-loop
+loop-again c =
+    let l = c .before .before .before .loop in (
+      omega arith,
+      ⊎-elim
+          (λ w. w .1 ∙ greatest-yes _ _ _ (l .inv .1) (w .0 .taken))
+          (λ w. w .1 ∙ greatest-no _ _ _ (l .inv .1) (w .0 .left)) (c .if1 .came),
+    )
+
+returns : tie.Need-returns Inv-loop μ-loop
+returns c =
+    let e : c .before .loop .p ≡ c .before .before .args .n = omega arith in
+    rw e at (c .before .loop .inv .1)
+
+pub greatest-of-spec : {M : Type 1} → statement M
+greatest-of-spec =
+    tie.close
+    (tie.spec
+    Inv-loop
+    μ-loop
+    loop-holds
+    mul-v
+    add-v
+    mul-v-2
+    shared-slice-read-v
+    add-p
+    loop-less
+    loop-again
+    returns)

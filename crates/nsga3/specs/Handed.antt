@@ -1,0 +1,30 @@
+-- What the steps of a selection hand to one another, in the words of its request.
+use Prim.Native.Nat.{ℕ}
+use mathlib.Core.Path.{_≡_}
+use mathlib.Core.List.{List}
+use lib.Ieee.{Float}
+use Rattle.model.specs.Lists.{over}
+use Rattle.model.specs.Association.{Request}
+use Rattle.model.specs.Kept.{Selected}
+use Rattle.model.specs.Calls.{lent, SelectExit}
+use Rattle.model.specs.declared.Selection.{Selection}
+use Rattle.plans.specs.declared.Cut.{Cut}
+use Rattle.nsga3_laws.specs.Admitted.{Admitted}
+use Rattle.pool_sort.specs.Laid.{RowsIn, OrderIn}
+
+-- a pool within its limits, with slices of these lengths for the kept list and the lines: its rows, and its plans listed front by front
+pub record SortedPool (r : Request) (kept lines : ℕ) (rows : List Float) (order : List ℕ) (c : Cut) : Type 0 where
+  pub limits : Admitted r (record { kept = kept; fronts = r .count; lines = lines })
+  pub laid : RowsIn r rows
+  pub listed : OrderIn r order c
+
+-- what is handed out beside the fronts
+pub record Hands (sel : Selected) (i : List Float) (k₀ k l₀ l : List ℕ) (s : ℕ) : Type 0 where
+  pub ideal : i ≡ sel .ideal
+  pub kept : k ≡ over (sel .kept) k₀
+  pub lines : l ≡ over (sel .lines) l₀
+  pub state : s ≡ sel .state
+
+-- what a call leaves: its answer, the ideal and the lent slices
+abbrev pub exit : Selection → List Float → List ℕ → List ℕ → List ℕ → SelectExit
+exit answer ideal kept fronts lines = record { answer = answer; ideal = ideal; slices = lent kept fronts lines }

@@ -1,0 +1,114 @@
+-- `sort_pool`: the flat lists' sort, and its cut
+use Prim.Native.Nat.{ℕ, _*_, _≤_}
+use mathlib.Core.Path.{_≡_, sym, subst}
+use mathlib.Core.List.{List, []}
+use native.Mathlib.Omega.{arith}
+use borrow.Author.Needs.{needs}
+use lib.Ieee.{Float}
+use lib.ListN.{length}
+use Rattle.model.specs.declared.Rng.{Rng}
+use Rattle.model.specs.Calls.{wordRequest}
+use Rattle.model.specs.Plan.{planCount}
+use Rattle.model.specs.Association.{Request}
+use Rattle.plans.proofs.Pool.{pool-constraint-counts}
+use Rattle.plans.proofs.Sorted.{KnownPool, words-known}
+use Rattle.pool_sort.proofs.Sorting.{fronts-few, known-rows, sorts}
+use Rattle.pool_sort.proofs.sort_pool.Statement.{statement}
+use Rattle.pool_sort.proofs.sort_pool.Tie as tie
+
+-- the request, for divisions, a generator and an ideal that the sort does not look at
+abbrev request : tie.Start → ℕ → Rng → List Float → Request
+request s h g i = wordRequest (s .args .pool .now) (s .args .directions .now) h (s .args .size) g i
+
+abbrev some-rng : Rng
+some-rng = record { s = 0 }
+
+known : (s : tie.Start) (h : ℕ) (g : Rng) (i : List Float) → KnownPool (request s h g i)
+known s h g i = words-known (s .args .pool .now) (s .args .directions .now) (planCount (s .args .pool .now)) (s .pre .0 .1) (s .pre .0 .4)
+
+plan-count-requires : tie.Need-plan-count-requires
+plan-count-requires c κs = search needs
+
+slice-aggregate-fill-constraints : tie.Need-slice-aggregate-fill-constraints
+slice-aggregate-fill-constraints c = search needs
+
+slice-aggregate-fill-constraints-2 : tie.Need-slice-aggregate-fill-constraints-2
+slice-aggregate-fill-constraints-2 c = search needs
+
+fill-constraints-requires : tie.Need-fill-constraints-requires
+fill-constraints-requires c κs =
+    let s = c .before .before .before .before .before .before .before .before in
+    let n = c .before .before .plan-count in
+    let e = n .ensures in
+    ((omega arith, omega (arith, s .pre .0 .0), omega (arith, s .pre .0 .0)), λ p l. pool-constraint-counts (s .args .pool .now) (s .args .directions .now) (planCount (s .args .pool .now)) (s .pre .0 .4) p (omega arith))
+
+slice-aggregate-fast-non-dominated-sort-constrained : tie.Need-slice-aggregate-fast-non-dominated-sort-constrained
+slice-aggregate-fast-non-dominated-sort-constrained c = search needs
+
+slice-aggregate-fast-non-dominated-sort-constrained-2 : tie.Need-slice-aggregate-fast-non-dominated-sort-constrained-2
+slice-aggregate-fast-non-dominated-sort-constrained-2 c = search needs
+
+slice-aggregate-fast-non-dominated-sort-constrained-3 : tie.Need-slice-aggregate-fast-non-dominated-sort-constrained-3
+slice-aggregate-fast-non-dominated-sort-constrained-3 c = search needs
+
+fast-non-dominated-sort-constrained-requires : tie.Need-fast-non-dominated-sort-constrained-requires
+fast-non-dominated-sort-constrained-requires c κs =
+    let s = c .before .before .before .before .before .before .before .before .before .before .before .before .before .before .before .before in
+    let e = c .before .before .before .before .before .before .before .before .before .before .plan-count .ensures in
+    let f = c .before .before .before .before .before .before .before .fill-constraints in
+    let flags : length (f .last .1 .1 .0) ≡ 1024 = f .kept .1 .1 .0 in
+    let sums : length (f .last .1 .1 .1 .0) ≡ 1024 = f .kept .1 .1 .1 .0 in
+    let laid = s .pre .1 0 some-rng [] in (
+      record {
+        table = subst (λ k. k * length (s .args .directions .now) ≤ length (s .args .rows .now)) (sym e) (laid .table);
+        flags = omega (arith, s .pre .0 .0);
+        sums = omega (arith, s .pre .0 .0);
+      },
+      known-rows (request s 0 some-rng []) _ e (s .args .rows .now) laid (known s 0 some-rng []),
+      omega (arith, s .pre .0 .0),
+      omega (arith, s .pre .0 .2),
+      omega (arith, s .pre .0 .3),
+      omega (arith, s .pre .0 .0),
+    )
+
+slice-aggregate-split-at : tie.Need-slice-aggregate-split-at
+slice-aggregate-split-at c = search needs
+
+split-at-requires : tie.Need-split-at-requires
+split-at-requires c κs =
+    let s = c .before .before .before .before .before .before .before .before .before .before .before .before .before .before .before .before .before .before .before .before .before .before .before in
+    let f = c .before .before .before .before .before .before .fast-non-dominated-sort-constrained in
+    let e = c .before .before .before .before .before .before .before .before .before .before .before .before .before .before .before .before .before .plan-count .ensures in
+    let ends : length (f .last .1 .1 .1 .1 .1 .1 .1 .0) ≡ 1024 = f .kept .1 .1 .1 .1 .1 .1 .1 .0 in
+    omega (arith, s .pre .0 .0, fronts-few _ _ _ (f .ensures .result))
+
+same-length : tie.Need-same-length
+same-length c = c .before .before .before .before .before .before .before .fast-non-dominated-sort-constrained .kept .1 .1 .1 .1 .1 .0
+
+same-length-2 : tie.Need-same-length-2
+same-length-2 c = c .before .before .before .before .before .before .before .fast-non-dominated-sort-constrained .kept .1 .1 .1 .1 .1 .1 .0
+
+returns : tie.Need-returns
+returns c h g i =
+    let s = c .before .before .before .before .before .before .before .before .before .before .before .before .before .before .before .before .before .before .before .before .before .before .before .before in
+    let f = c .before .before .before .before .before .before .before .fast-non-dominated-sort-constrained in
+    sorts (request s h g i) _ (c .before .before .before .before .before .before .before .before .before .before .before .before .before .before .before .before .before .before .plan-count .ensures) (s .args .rows .now) (s .pre .1 h g i) (known s h g i) _ _ _ _ _ _ _ _ _ _ _ _
+    (omega (arith, f .kept .1 .1 .1 .1 .1 .0, s .pre .0 .2)) (c .before .before .before .before .before .before .before .before .before .before .before .before .before .before .before .fill-constraints .ensures) (f .ensures) (c .split-at .ensures)
+
+pub sort-pool-spec : {M : Type 1} → statement M
+sort-pool-spec =
+    tie.close
+    (tie.spec
+    plan-count-requires
+    slice-aggregate-fill-constraints
+    slice-aggregate-fill-constraints-2
+    fill-constraints-requires
+    slice-aggregate-fast-non-dominated-sort-constrained
+    slice-aggregate-fast-non-dominated-sort-constrained-2
+    slice-aggregate-fast-non-dominated-sort-constrained-3
+    fast-non-dominated-sort-constrained-requires
+    slice-aggregate-split-at
+    split-at-requires
+    same-length
+    same-length-2
+    returns)

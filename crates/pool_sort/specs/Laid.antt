@@ -1,0 +1,27 @@
+-- A sorted pool, in the words of its request.
+use Prim.Native.Nat.{ℕ, _+_, _*_, _≤_, _<_}
+use mathlib.Core.Path.{_≡_}
+use mathlib.Core.List.{List}
+use lib.Ieee.{Float, nan}
+use lib.ListN.{length, getD, take}
+use Rattle.model.specs.Lists.{over}
+use Rattle.model.specs.Front.{listing, frontList}
+use Rattle.model.specs.Association.{Request, objectives, valueOf, dominance}
+use Rattle.plans.specs.declared.Cut.{Cut}
+use Rattle.plans.proofs.Kept.{CutsAt}
+
+-- the pool's rows in minimise-space, one after the other
+pub record RowsIn (r : Request) (rows : List Float) : Type 0 where
+  pub table : r .count * objectives r ≤ length rows
+  pub values : (p j : ℕ) → p < r .count → j < objectives r → getD rows (p * objectives r + j) nan ≡ valueOf r p j
+
+-- the plans listed front by front, and where the whole fronts and the split one end
+pub record OrderIn (r : Request) (order : List ℕ) (c : Cut) : Type 0 where
+  pub places : r .count ≤ length order
+  pub listed : take (r .count) order ≡ listing (dominance r) (r .count) (r .count)
+  pub cut : CutsAt r order c
+
+-- that, with each plan's front in a lent slice
+pub record Sorts (r : Request) (o : List ℕ) (c : Cut) (fronts₀ fronts : List ℕ) : Type 0 where
+  pub order : OrderIn r o c
+  pub ranks : fronts ≡ over (frontList (dominance r) (r .count)) fronts₀

@@ -1,0 +1,49 @@
+// The first step of a selection: its pool, sorted.
+ghost use mathlib.Core.Path.{_≡_};
+ghost use mathlib.Core.Bool.{true};
+ghost use mathlib.Core.List.{List};
+ghost use Prim.Native.Nat.{ℕ, _≤_};
+ghost use lib.Ieee.{Float};
+ghost use lib.ListN.{length};
+ghost use Rattle.model.specs.Lists.{allBelow};
+ghost use Rattle.model.specs.Plan.{planAt, planCount};
+ghost use Rattle.model.specs.Calls.{wordRequest};
+ghost use Rattle.model.specs.Refusal.{goodPlan};
+ghost use Rattle.model.specs.declared.Rng.{Rng};
+ghost use Rattle.pool_sort.specs.Laid.{RowsIn, Sorts};
+use model::MAX_PLANS;
+use plans::Cut;
+
+// Lists the pool's plans front by front, with each plan's front, and says where the fronts part for the size.
+pub fn sort_pool(
+    pool: &[u64],
+    directions: &[u8],
+    size: usize,
+    rows: &[f64],
+    order: &mut [usize],
+    fronts: &mut [usize],
+) -> Cut
+    requires { ⌜ (planCount (now pool) ≤ 1024) × (length (now directions) ≤ 8) × (planCount (now pool) ≤ length (now order)) × (planCount (now pool) ≤ length (now fronts))
+        × (allBelow (λ p. goodPlan (length (now directions)) (planAt (now pool) p)) (planCount (now pool)) ≡ true) ⌝ }
+    requires { ⌜ ((h : ℕ) (g : Rng) (i : List Float) → RowsIn (wordRequest (now pool) (now directions) h size g i) (now rows)) ⌝ }
+    ensures { λ r. ⌜ ((h : ℕ) (g : Rng) (i : List Float) → Sorts (wordRequest (now (pool .entry)) (now (directions .entry)) h size g i)
+        (now (order .exit)) r (now (fronts .entry)) (now (fronts .exit))) ⌝ }
+{
+    let n = plans::plan_count(pool);
+    let m = directions.len();
+    let mut feasible: [bool; MAX_PLANS] = [false; MAX_PLANS];
+    let mut violations: [f64; MAX_PLANS] = [0.0; MAX_PLANS];
+    plans::fill_constraints(pool, n, &mut feasible, &mut violations);
+    let mut ends: [usize; MAX_PLANS] = [0; MAX_PLANS];
+    let count = pareto::fast_non_dominated_sort_constrained(
+        rows,
+        m,
+        &feasible,
+        &violations,
+        n,
+        order,
+        fronts,
+        &mut ends,
+    );
+    plans::split_at(&ends, count, size)
+}

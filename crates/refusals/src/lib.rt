@@ -1,0 +1,65 @@
+// The refusals of a selection (document 01, "Refusals"). `refusal` is called by `nsga3`; `no_room` is its part.
+ghost use mathlib.Core.Path.{_≡_};
+ghost use mathlib.Core.Bool.{_||_};
+ghost use lib.Dec.{ltb};
+ghost use Rattle.model.specs.Calls.{wordRequest};
+ghost use Rattle.model.specs.Refusal.{selectRefusal};
+ghost use Rattle.refusals.specs.Checked.{checked};
+use model::Rng;
+
+// Whether a call goes through, or the number of the refusal that it meets.
+pub enum Check {
+    Good,
+    Refused(u8),
+}
+
+// Refusal 10: a lent slice is shorter than the answer that it is for.
+fn no_room(size: usize, n: usize, kept: usize, fronts: usize, lines: usize) -> bool
+    ensures { λ r. ⌜ r ≡ (ltb kept size || (ltb fronts n || ltb lines n)) ⌝ }
+{
+    if kept < size {
+        return true;
+    }
+    if fronts < n {
+        return true;
+    }
+    lines < n
+}
+
+// The first refusal that applies to a selection. A size and a pool's count have the same limits.
+pub fn refusal(
+    pool: &[u64],
+    directions: &[u8],
+    divisions: usize,
+    size: usize,
+    rng: Rng,
+    ideal: &[f64],
+    kept: usize,
+    fronts: usize,
+    lines: usize,
+) -> Check
+    ensures { λ r. ⌜ checked r ≡ selectRefusal (wordRequest (now (pool .entry)) (now (directions .entry)) divisions size rng (now (ideal .entry)))
+        (record { kept = kept; fronts = fronts; lines = lines }) ⌝ }
+{
+    if plans::bad_directions(directions) {
+        return Check::Refused(2);
+    }
+    if plans::bad_count(size) {
+        return Check::Refused(3);
+    }
+    let m = directions.len();
+    if das_dennis::bad_divisions(m, divisions) {
+        return Check::Refused(4);
+    }
+    let n = plans::plan_count(pool);
+    if plans::bad_count(n) {
+        return Check::Refused(7);
+    }
+    if plans::bad_pool(pool, m, ideal) {
+        return Check::Refused(8);
+    }
+    if no_room(size, n, kept, fronts, lines) {
+        return Check::Refused(10);
+    }
+    Check::Good
+}
