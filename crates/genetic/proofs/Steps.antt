@@ -44,32 +44,32 @@ crossAll-more dims n p q k s a b t x y v w u e ev ew f =
     ∙ ap (λ (j : ℕ). crossAll dims j p q k s) (sym (add-one n))
 
 module _ (dims : ℕ → Distribution) (n : ℕ) (probability : Float) (k : ℕ) (p q : List ParamValue) (s : ℕ) (u : Float) (t : ℕ) (d : drawn u t ≡ drawUnit s) where
-  pub crossover-runs : (r : Drawn Children) → lt probability u ≡ false → r ≡ crossAll dims n p q k t → r ≡ crossover dims n probability k p q s
+  crossover-by : (b : Bool) → lt probability u ≡ b → cond (not b) (crossAll dims n p q k t) (drawn (children p q) t) ≡ crossover dims n probability k p q s
   unfolding crossover
-  crossover-runs r h e =
-      e ∙ sym (ap (λ (b : Bool). cond (not b) (crossAll dims n p q k t) (drawn (children p q) t)) h)
+  crossover-by b h =
+      sym (ap (λ (c : Bool). cond (not c) (crossAll dims n p q k t) (drawn (children p q) t)) h)
       ∙ ap (λ (x : Drawn Float). cond (not (lt probability (x .value))) (crossAll dims n p q k (x .state)) (drawn (children p q) (x .state))) d
 
+  pub crossover-runs : (r : Drawn Children) → lt probability u ≡ false → r ≡ crossAll dims n p q k t → r ≡ crossover dims n probability k p q s
+  crossover-runs r h e = e ∙ crossover-by false h
+
   pub crossover-not : lt probability u ≡ true → drawn (children p q) t ≡ crossover dims n probability k p q s
-  unfolding crossover
-  crossover-not h =
-      sym (ap (λ (b : Bool). cond (not b) (crossAll dims n p q k t) (drawn (children p q) t)) h)
-      ∙ ap (λ (x : Drawn Float). cond (not (lt probability (x .value))) (crossAll dims n p q k (x .state)) (drawn (children p q) (x .state))) d
+  crossover-not h = crossover-by true h
 
 -- ---- mutation
 
 module _ (probability : Float) (d : Distribution) (v : ParamValue) (k s : ℕ) (u : Float) (t : ℕ) (e : drawn u t ≡ drawUnit s) where
-  pub maybe-not : le probability u ≡ true → drawn v t ≡ mutateMaybe probability d v k s
+  maybe-by : (b : Bool) → le probability u ≡ b → cond b (drawn v t) (mutateOne d v k t) ≡ mutateMaybe probability d v k s
   unfolding mutateMaybe
-  maybe-not h =
-      sym (ap (λ (b : Bool). cond b (drawn v t) (mutateOne d v k t)) h)
+  maybe-by b h =
+      sym (ap (λ (c : Bool). cond c (drawn v t) (mutateOne d v k t)) h)
       ∙ ap (λ (x : Drawn Float). cond (le probability (x .value)) (drawn v (x .state)) (mutateOne d v k (x .state))) e
 
+  pub maybe-not : le probability u ≡ true → drawn v t ≡ mutateMaybe probability d v k s
+  maybe-not h = maybe-by true h
+
   pub maybe-moved : (r : Drawn ParamValue) → le probability u ≡ false → r ≡ mutateOne d v k t → r ≡ mutateMaybe probability d v k s
-  unfolding mutateMaybe
-  maybe-moved r h f =
-      f ∙ sym (ap (λ (b : Bool). cond b (drawn v t) (mutateOne d v k t)) h)
-      ∙ ap (λ (x : Drawn Float). cond (le probability (x .value)) (drawn v (x .state)) (mutateOne d v k (x .state))) e
+  maybe-moved r h f = f ∙ maybe-by false h
 
 pub mutateFirst-none : (dims : ℕ → Distribution) (n : ℕ) (c : List ParamValue) (k s : ℕ) → mutateFirst dims n 0 c k s ≡ drawn [] s
 unfolding mutateFirst

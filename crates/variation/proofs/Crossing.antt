@@ -32,15 +32,11 @@ value-of s u t e = ap (λ (d : Drawn Float). d .value) e
 pub state-of : (s : ℕ) (u : Float) (t : ℕ) → drawn u t ≡ drawUnit s → t ≡ drawUnit s .state
 state-of s u t e = ap (λ (d : Drawn Float). d .state) e
 
-module _ (low high p q beta u : Float) (k s : ℕ) (b : beta ≡ spread u k) (v : u ≡ drawUnit s .value) where
-  same : beta ≡ spread (drawUnit s .value) k
-  same = b ∙ ap (λ (x : Float). spread x k) v
-
-  pub first-is : (m r : Float) → m ≡ midpoint ((unit ⊕ beta) ⊗ p) ((unit ⊖ beta) ⊗ q) → r ≡ clamp low high m → r ≡ sbxFirst low high (spread (drawUnit s .value) k) p q
-  first-is m r e f = f ∙ ap (clamp low high) e ∙ ap (λ (x : Float). sbxFirst low high x p q) same
-
-  pub second-is : (m r : Float) → m ≡ midpoint ((unit ⊖ beta) ⊗ p) ((unit ⊕ beta) ⊗ q) → r ≡ clamp low high m → r ≡ sbxSecond low high (spread (drawUnit s .value) k) p q
-  second-is m r e f = f ∙ ap (clamp low high) e ∙ ap (λ (x : Float). sbxSecond low high x p q) same
+-- a child: what a function g of beta makes, held within the bounds
+pub child-is : (g : Float → Float) (low high beta u : Float) (k s : ℕ) (m r : Float) → beta ≡ spread u k → u ≡ drawUnit s .value → m ≡ g beta → r ≡ clamp low high m
+    → r ≡ clamp low high (g (spread (drawUnit s .value) k))
+child-is g low high beta u k s m r b v e f =
+    f ∙ ap (clamp low high) (e ∙ ap g (b ∙ ap (λ (x : Float). spread x k) v))
 
 pub crossFloat-close : (d : FloatDistribution) (p q : Float) (k s : ℕ) → lt (absolute (p ⊖ q)) smallGap ≡ true → drawn (pair (value.Float p) (value.Float q)) s ≡ crossFloat d p q k s
 unfolding crossFloat

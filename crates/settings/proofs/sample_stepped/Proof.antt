@@ -4,7 +4,7 @@ use Prim.Native.Nat.{ℕ}
 use lib.IntN.{ℤ, pos, _+ℤ_, _-ℤ_}
 use mir.Syntax.{w64}
 use mir.Val.{toZ, ofZ}
-use mir.ValLaws.{toZ-ofZ}
+use Rattle.settings.proofs.Signed.{held}
 use Rattle.settings.proofs.Stepped as stepped
 use borrow.Author.Needs.{needs}
 use Rattle.settings.proofs.sample_stepped.Statement.{statement}
@@ -33,23 +33,23 @@ module _ (c : tie.Start) where
   }
 
   el : toZ w64 (ofZ w64 L) ≡ L
-  el = toZ-ofZ w64 L (c .fits .low)
+  el = held (c .fits .low)
 
   eh : toZ w64 (ofZ w64 H) ≡ H
-  eh = toZ-ofZ w64 H (c .fits .high)
+  eh = held (c .fits .high)
 
   es : toZ w64 (ofZ w64 S) ≡ S
-  es = toZ-ofZ w64 S (c .fits .step)
+  es = held (c .fits .step)
 
   ed : toZ w64 (ofZ w64 (H -ℤ L)) ≡ H -ℤ L
-  ed = toZ-ofZ w64 (H -ℤ L) (stepped.diff-fits L H S asked)
+  ed = held (stepped.diff-fits L H S asked)
 
   module _ (w : ℕ) where
     er : toZ w64 (stepped.rise L H S w) ≡ pos (stepped.rise L H S w)
-    er = toZ-ofZ w64 (pos (stepped.rise L H S w)) (stepped.rise-signed L H S asked w)
+    er = held (stepped.rise-signed L H S asked w)
 
     ep : toZ w64 (ofZ w64 (L +ℤ pos (stepped.rise L H S w))) ≡ L +ℤ pos (stepped.rise L H S w)
-    ep = toZ-ofZ w64 (L +ℤ pos (stepped.rise L H S w)) (stepped.pick-fits L H S asked w)
+    ep = held (stepped.pick-fits L H S asked w)
 
 sub-span : tie.Need-sub-span
 sub-span c = rw (eh c, el c) (stepped.diff-fits (L c) (H c) (S c) (asked c))

@@ -12,9 +12,6 @@ use borrow.Author.Needs.{needs}
 use Rattle.settings.proofs.whole_eta.Statement.{statement}
 use Rattle.settings.proofs.whole_eta.Tie as tie
 
-held : (x : Float) (r t : Bool) → r ≡ within nought ninetyNine x → r ≡ t → within nought ninetyNine x ≡ t
-held x r t e h = sym e ∙ h
-
 -- a number from 0 to 99 can be cast
 castable : (x : Float) → within nought ninetyNine x ≡ true → T (lt (fin true 1 (pos 0)) x) × T (lt x (fin false 1 (pos 64)))
 unfolding ofBits lt
@@ -35,7 +32,7 @@ real-within-requires : tie.Need-real-within-requires
 real-within-requires c κs = search needs
 
 truncating-f64-to-u64-requires : tie.Need-truncating-f64-to-u64-requires
-truncating-f64-to-u64-requires c κs = castable _ (held _ _ true (c .before .real-within .ensures) (c .if1 .taken))
+truncating-f64-to-u64-requires c κs = castable _ (sym (c .before .real-within .ensures) ∙ c .if1 .taken)
 
 nearest-u64-to-f64-requires : tie.Need-nearest-u64-to-f64-requires
 nearest-u64-to-f64-requires c κs = search needs
@@ -43,10 +40,10 @@ nearest-u64-to-f64-requires c κs = search needs
 returns : tie.Need-returns
 returns c =
     let b = c .before .before in
-    is-eta _ _ _ (held (b .before .before .args .x) _ true (b .before .real-within .ensures) (b .if1 .taken)) (c .before .truncating-f64-to-u64 .ensures) (c .nearest-u64-to-f64 .ensures)
+    is-eta _ _ _ (sym (b .before .real-within .ensures) ∙ b .if1 .taken) (c .before .truncating-f64-to-u64 .ensures) (c .nearest-u64-to-f64 .ensures)
 
 returns-2 : tie.Need-returns-2
-returns-2 c = no-eta _ (held (c .before .before .args .x) _ false (c .before .real-within .ensures) (c .if1 .left))
+returns-2 c = no-eta _ (sym (c .before .real-within .ensures) ∙ c .if1 .left)
 
 pub whole-eta-spec : {M : Type 1} → statement M
 whole-eta-spec =

@@ -1,5 +1,8 @@
 -- Both children by one spread.
-use Rattle.variation.proofs.Crossing.{value-of, state-of, first-is, second-is}
+use lib.Ieee.{Float}
+use Rattle.model.specs.Real.{_⊕_, _⊖_, _⊗_, unit}
+use Rattle.model.specs.Numbers.{midpoint}
+use Rattle.variation.proofs.Crossing.{value-of, state-of, child-is}
 use borrow.Author.Needs.{needs}
 use Rattle.variation.proofs.sbx_crossover_f64.Statement.{statement}
 use Rattle.variation.proofs.sbx_crossover_f64.Tie as tie
@@ -26,10 +29,11 @@ returns : tie.Need-returns
 returns c =
     let m = c .before .before .before in
     let d = m .before .before .before .f64-range in
+    let a = m .before .before .before .before .args in
     let b = m .before .spread .ensures in
     let v = value-of _ _ _ (d .ensures) in (
-      first-is _ _ _ _ _ _ _ _ b v _ _ (m .midpoint .ensures) (c .before .before .clamp .ensures),
-      second-is _ _ _ _ _ _ _ _ b v _ _ (c .before .midpoint2 .ensures) (c .clamp2 .ensures),
+      child-is (λ (x : Float). midpoint ((unit ⊕ x) ⊗ a .p) ((unit ⊖ x) ⊗ a .q)) (a .low) (a .high) _ _ (a .k) (a .rng .s) _ _ b v (m .midpoint .ensures) (c .before .before .clamp .ensures),
+      child-is (λ (x : Float). midpoint ((unit ⊖ x) ⊗ a .p) ((unit ⊕ x) ⊗ a .q)) (a .low) (a .high) _ _ (a .k) (a .rng .s) _ _ b v (c .before .midpoint2 .ensures) (c .clamp2 .ensures),
       state-of _ _ _ (d .ensures),
     )
 
