@@ -1,9 +1,8 @@
 // The generation step (Rust: nsga3_generate_offspring of sampler/nsga3.rs; document 01, "Setting and dimension").
 ghost use mathlib.Core.Path.{_≡_};
-ghost use mathlib.Core.Bool.{true, false, _&&_, _||_};
+ghost use mathlib.Core.Bool.{true, false};
 ghost use mathlib.Core.Option.{none};
 ghost use Prim.Native.Nat.{ℕ, _*_, _≤_, _<_};
-ghost use lib.Dec.{leb, ltb};
 ghost use lib.ListN.{length, getD};
 ghost use Rattle.model.specs.Lists.{allBelow, over};
 ghost use Rattle.model.specs.Plan.{planAt, planCount};
@@ -11,8 +10,7 @@ ghost use Rattle.model.specs.Setting.{wordsOf};
 ghost use Rattle.model.specs.Refusal.{goodPlan, breedable, badDimensions, badOperators, stepRefusal};
 ghost use Rattle.model.specs.Calls.{wordRequest, lent, roomOf, operators, stepAccepted, Steps};
 ghost use Rattle.settings.specs.Candidate.{dimensionsOf};
-ghost use Rattle.nsga3.specs.Checked.{checked};
-ghost use Rattle.generation.specs.Bred.{bredFrom, exit};
+ghost use Rattle.generation_laws.specs.Bred.{bredFrom, exit};
 use model::CANDIDATE_WORDS;
 use model::DimensionInfo;
 use model::MAX_PLANS;
@@ -20,92 +18,6 @@ use model::Outcome;
 use model::Rng;
 use model::Selection;
 use nsga3::Check;
-
-// ---- the refusals
-
-// Refusal 10: a lent slice is shorter than the answer that it is for. A pool of one asks for room for the offspring only.
-fn no_step_room(
-    size: usize,
-    n: usize,
-    n_dims: usize,
-    kept: usize,
-    fronts: usize,
-    lines: usize,
-    offspring: usize,
-) -> bool
-    requires { ⌜ (size ≤ 1024) × («n_dims» ≤ 32) ⌝ }
-    ensures { λ r. ⌜ r ≡ ((leb 2 n && (ltb kept size || (ltb fronts n || ltb lines n))) || ltb offspring (size * «n_dims»)) ⌝ }
-{
-    if offspring < size * n_dims {
-        return true;
-    }
-    if n < 2 {
-        return false;
-    }
-    if kept < size {
-        return true;
-    }
-    if fronts < n {
-        return true;
-    }
-    lines < n
-}
-
-// The first refusal that applies to a generation step. A size and a pool's count have the same limits.
-pub fn refusal(
-    pool: &[u64],
-    directions: &[u8],
-    divisions: usize,
-    size: usize,
-    rng: Rng,
-    dims: [DimensionInfo; 32],
-    n_dims: usize,
-    crossover_prob: f64,
-    crossover_eta: f64,
-    mutation_eta: f64,
-    ideal: &[f64],
-    kept: usize,
-    fronts: usize,
-    lines: usize,
-    offspring: usize,
-) -> Check
-    ensures { λ r. ⌜ checked r ≡ stepRefusal (operators dims «n_dims» «crossover_prob» «crossover_eta» «mutation_eta»)
-        (wordRequest (now (pool .entry)) (now (directions .entry)) divisions size rng (now (ideal .entry)))
-        (record { kept = kept; fronts = fronts; lines = lines }) offspring ⌝ }
-{
-    if plans::bad_directions(directions) {
-        return Check::Refused(2);
-    }
-    if plans::bad_count(size) {
-        return Check::Refused(3);
-    }
-    let m = directions.len();
-    if das_dennis::bad_divisions(m, divisions) {
-        return Check::Refused(4);
-    }
-    if settings::bad_operators(crossover_prob, crossover_eta, mutation_eta) {
-        return Check::Refused(5);
-    }
-    if settings::bad_dimensions(dims, n_dims) {
-        return Check::Refused(6);
-    }
-    let n = plans::plan_count(pool);
-    if plans::bad_count(n) {
-        return Check::Refused(7);
-    }
-    if plans::bad_pool(pool, m, ideal) {
-        return Check::Refused(8);
-    }
-    if offspring::bad_parents(pool, dims, n_dims) {
-        return Check::Refused(9);
-    }
-    if no_step_room(size, n, n_dims, kept, fronts, lines, offspring) {
-        return Check::Refused(10);
-    }
-    Check::Good
-}
-
-// ---- the step
 
 // The offspring of a kept list: its plans' settings are the parents, ranked by rows only.
 fn breed(
@@ -241,7 +153,7 @@ pub fn nsga3_generate_offspring(
         (lent (now (kept .entry)) (now (fronts .entry)) (now (lines .entry))) (now (offspring .entry))
         (record { answer = r; ideal = now (ideal .exit); slices = lent (now (kept .exit)) (now (fronts .exit)) (now (lines .exit)); offspring = now (offspring .exit) }) ⌝ }
 {
-    let check = refusal(
+    let check = step_refusal::refusal(
         pool,
         directions,
         divisions,

@@ -29,7 +29,7 @@ pub enum Check {
 }
 
 // Refusal 10: a lent slice is shorter than the answer that it is for.
-fn no_room(size: usize, n: usize, kept: usize, fronts: usize, lines: usize) -> bool
+pub fn no_room(size: usize, n: usize, kept: usize, fronts: usize, lines: usize) -> bool
     ensures { λ r. ⌜ r ≡ (ltb kept size || (ltb fronts n || ltb lines n)) ⌝ }
 {
     if kept < size {

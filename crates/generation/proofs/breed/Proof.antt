@@ -12,7 +12,7 @@ use Rattle.settings.proofs.Valid.{few}
 use Rattle.candidate_laws.proofs.Sound.{AllHeld}
 use Rattle.typed_laws.proofs.Held.{array-held}
 use Rattle.list_laws.proofs.Runs.{product}
-use Rattle.generation.proofs.Breeding.{bred-is}
+use Rattle.generation_laws.proofs.Breeding.{bred-is}
 use Rattle.generation.proofs.breed.Statement.{statement}
 use Rattle.generation.proofs.breed.Tie as tie
 

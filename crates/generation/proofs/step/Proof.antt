@@ -8,8 +8,8 @@ use Rattle.model.specs.Association.{Request}
 use Rattle.model.specs.Setting.{Operators}
 use Rattle.model.specs.Plan.{planCount}
 use Rattle.model.specs.Calls.{wordRequest, operators, Lent, lent, roomOf}
-use Rattle.generation.proofs.Accepted.{Limits, limits}
-use Rattle.generation.proofs.Answer.{one-exit, select-exit, kept-in-pool, bred-exit}
+use Rattle.generation_laws.proofs.Accepted.{Passed, passed, narrow, sized, few-plans, good-plans, all-breedable, offspring-room, kept-room}
+use Rattle.generation_laws.proofs.Answer.{one-exit, select-exit, kept-in-pool, bred-exit}
 use Rattle.generation.proofs.step.Statement.{statement}
 use Rattle.generation.proofs.step.Tie as tie
 
@@ -25,8 +25,8 @@ at s = lent (s .args .kept .now) (s .args .fronts .now) (s .args .lines .now)
 abbrev room : tie.Start → ℕ
 room s = length (s .args .offspring .now)
 
-abbrev given : (s : tie.Start) → Limits (ops s) (request s) (roomOf (at s)) (room s)
-given s = limits (ops s) (request s) (roomOf (at s)) (room s) (s .pre)
+abbrev given : (s : tie.Start) → Passed (ops s) (request s) (roomOf (at s)) (room s)
+given s = passed (ops s) (request s) (roomOf (at s)) (room s) (s .pre)
 
 -- ---- a pool of one
 
@@ -36,7 +36,7 @@ plan-count-requires c κs = search needs
 sample-candidates-requires : tie.Need-sample-candidates-requires
 sample-candidates-requires c κs =
     let s = c .before .before .before .before .before .before .before .before .before .before in
-    (given s .dimensions, given s .places)
+    (given s .dimensions, offspring-room (given s))
 
 same-length : tie.Need-same-length
 same-length c = search needs
@@ -66,13 +66,13 @@ breed-requires c κs =
     let e = select-exit (ops s) (a .pool .now) (a .directions .now) (a .divisions) (a .size) (a .rng) (a .ideal .now) (at s) (a .offspring .now) (s .pre) h _ (n .ensures) in
     let ok = given s in
     let kept : length (n .last .1 .1 .1 .1 .1 .1 .0) ≡ length (a .kept .now) = n .kept .1 .1 .1 .1 .1 .1 .0 in (
-      (ok .fewPlans, ok .narrow, ok .good, ok .able, ok .dimensions, ok .operators),
+      (few-plans ok, narrow ok, good-plans ok, all-breedable ok, ok .dimensions, ok .operators),
       (
-        ok .some,
-        ok .few,
-        omega (arith, kept, ok .kept h),
+        sized ok .0,
+        sized ok .1,
+        omega (arith, kept, kept-room ok h),
         kept-in-pool (ops s) (a .pool .now) (a .directions .now) (a .divisions) (a .size) (a .rng) (a .ideal .now) (at s) (a .offspring .now) (s .pre) h _ e,
-        ok .places,
+        offspring-room ok,
       ),
     )
 

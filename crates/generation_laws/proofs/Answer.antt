@@ -27,9 +27,9 @@ use Rattle.demand3_laws.proofs.Calls.{planAt-row, steps}
 use Rattle.candidate_laws.proofs.Sound.{AllHeld}
 use Rattle.candidate_laws.proofs.KeptPlans.{kept-length, kept-below}
 use Rattle.candidate_laws.proofs.Generations.{generation-words}
-use Rattle.generation.specs.Bred.{rankAt, bredFrom, exit}
-use Rattle.generation.proofs.Accepted.{limits}
-use Rattle.generation.proofs.Breeding.{offspring-same, front-place}
+use Rattle.generation_laws.specs.Bred.{rankAt, bredFrom, exit}
+use Rattle.generation_laws.proofs.Accepted.{passed, sized, selects}
+use Rattle.generation_laws.proofs.Breeding.{offspring-same, front-place}
 
 parents-length : (dims : ℕ → Distribution) (n : ℕ) (plans : ℕ → Plan) (ps : List ℕ) (s : ℕ) → length (parentsOf dims n plans ps s .value) ≡ length ps
 unfolding parentsOf
@@ -64,7 +64,7 @@ module _ (o : Operators) (pool directions : List ℕ) (divisions size : ℕ) (g 
     -- the selection is not refused
     pub select-exit : (x : SelectExit) → Selects r at x → x ≡ selectAccepted r at
     unfolding selectOf
-    select-exit x h = h .whole ∙ ap (λ n. selectBy n r at) (limits o r (roomOf at) (length old) refused .selects two)
+    select-exit x h = h .whole ∙ ap (λ n. selectBy n r at) (selects (passed o r (roomOf at) (length old) refused) two)
 
     module _ (x : SelectExit) (e : x ≡ selectAccepted r at) where
       kept-is : x .slices .kept ≡ over (selected r .kept) (at .kept)
@@ -91,7 +91,7 @@ module _ (o : Operators) (pool directions : List ℕ) (divisions size : ℕ) (g 
           let taken : take size (x .slices .kept) ≡ selected r .kept = ap (take size) kept-is ∙ over-take (selected r .kept) (at .kept) size (kept-length r) in
           let ps = parentsOf (o .dims) (o .dimCount) (planAt pool) (selected r .kept) (selected r .state) in
           let z : length (ps .value) ≡ size = parents-length (o .dims) (o .dimCount) (planAt pool) (selected r .kept) (selected r .state) ∙ kept-length r in
-          let some : 0 < size = limits o r (roomOf at) (length old) refused .some in
+          let some : 0 < size = sized (passed o r (roomOf at) (length old) refused) .0 in
           ap₂ (λ k s. let p = parentsOf (o .dims) (o .dimCount) (planAt pool) k s in offspringOf o (p .value) (rankAt pool directions (x .slices .kept)) size (p .state)) taken state-is
           ∙ offspring-same o (ps .value) (rankAt pool directions (x .slices .kept)) (rankAt pool directions (selected r .kept)) (omega arith)
           (λ i h. ap (frontOf (rowBeats directions (planAt pool)) (planCount pool)) (place-is i (omega arith)))
@@ -115,7 +115,7 @@ module _ (o : Operators) (pool directions : List ℕ) (divisions size : ℕ) (g 
     bounds : stepRefusal o r (roomOf at) (length old) ≡ none → WordsWithin (o .dims) (o .dimCount) size (stepOf o r at old .offspring)
     unfolding stepOf stepAccepted
     bounds e =
-        let ok = limits o r (roomOf at) (length old) e in
+        let ok = passed o r (roomOf at) (length old) e in
         subst (λ n. WordsWithin (o .dims) (o .dimCount) size (stepBy n o r at old .offspring)) (sym e)
         (generation-words o r (held (ok .dimensions)) (ok .dimensions) (ok .parents) old)
 

@@ -20,7 +20,7 @@ use Rattle.settings.specs.Candidate.{parentAt, parentsIn}
 use Rattle.candidate_laws.proofs.Sound.{AllHeld, AllSound}
 use Rattle.candidate_laws.proofs.Words.{parents-back}
 use Rattle.candidate_laws.proofs.Extracted.{parentsOf-sound}
-use Rattle.generation.specs.Bred.{rankAt, bredFrom}
+use Rattle.generation_laws.specs.Bred.{rankAt, bredFrom}
 
 -- ---- ranks that agree for each parent
 

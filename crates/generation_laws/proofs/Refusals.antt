@@ -1,6 +1,6 @@
 -- The first refusal of a generation step, test by test.
 use Prim.Native.Nat.{ℕ, _*_, _≤_, _<_}
-use mathlib.Core.Path.{_≡_, refl, sym}
+use mathlib.Core.Path.{_≡_, refl, sym, _∙_}
 use mathlib.Core.Bool.{Bool, true, false, _&&_, _||_}
 use mathlib.Core.Option.{none, some}
 use borrow.Author.Tests.{lt-ltb, le-ltb, lt-leb, le-leb}
@@ -79,11 +79,5 @@ module _ (size n dims kept fronts lines offspring : ℕ) where
     pub room-of-one : n < 2 → false ≡ short
     room-of-one h = sym (rw (le-ltb offspring (size * dims) a, lt-leb 2 n h))
 
-    pub room-kept : 2 ≤ n → kept < size → true ≡ short
-    room-kept h k = sym (rw (le-ltb offspring (size * dims) a, le-leb 2 n h, lt-ltb kept size k))
-
-    pub room-fronts : 2 ≤ n → size ≤ kept → fronts < n → true ≡ short
-    room-fronts h k l = sym (rw (le-ltb offspring (size * dims) a, le-leb 2 n h, le-ltb kept size k, lt-ltb fronts n l))
-
-    pub room-lines : 2 ≤ n → size ≤ kept → n ≤ fronts → ltb lines n ≡ short
-    room-lines h k l = sym (rw (le-ltb offspring (size * dims) a, le-leb 2 n h, le-ltb kept size k, le-ltb fronts n l) (or-false (ltb lines n)))
+    pub room-of-many : 2 ≤ n → (b : Bool) → b ≡ (ltb kept size || (ltb fronts n || ltb lines n)) → b ≡ short
+    room-of-many h b e = e ∙ sym (rw (le-ltb offspring (size * dims) a, le-leb 2 n h) (or-false (ltb kept size || (ltb fronts n || ltb lines n))))
