@@ -49,7 +49,7 @@ fn breed(
     let mut parents: [u64; CANDIDATE_WORDS] = [0; CANDIDATE_WORDS];
     let rng = offspring::fill_parents(pool, kept, size, dims, n_dims, rng, &mut parents);
     let mut ranks: [usize; MAX_PLANS] = [0; MAX_PLANS];
-    offspring::fill_ranks(pool, directions, kept, size, &mut ranks);
+    ranks::fill_ranks(pool, directions, kept, size, &mut ranks);
     offspring::write_offspring(
         &parents,
         size,

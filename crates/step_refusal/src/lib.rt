@@ -64,10 +64,10 @@ pub fn refusal(
     if das_dennis::bad_divisions(m, divisions) {
         return Check::Refused(4);
     }
-    if settings::bad_operators(crossover_prob, crossover_eta, mutation_eta) {
+    if dimensions::bad_operators(crossover_prob, crossover_eta, mutation_eta) {
         return Check::Refused(5);
     }
-    if settings::bad_dimensions(dims, n_dims) {
+    if dimensions::bad_dimensions(dims, n_dims) {
         return Check::Refused(6);
     }
     let n = plans::plan_count(pool);
@@ -77,7 +77,7 @@ pub fn refusal(
     if plans::bad_pool(pool, m, ideal) {
         return Check::Refused(8);
     }
-    if offspring::bad_parents(pool, dims, n_dims) {
+    if parents::bad_parents(pool, dims, n_dims) {
         return Check::Refused(9);
     }
     if no_step_room(size, n, n_dims, kept, fronts, lines, offspring) {
