@@ -10,8 +10,8 @@ use Rattle.model.specs.Plan.{planCount}
 use Rattle.model.specs.Calls.{wordRequest, operators, Lent, lent, roomOf}
 use Rattle.generation_laws.proofs.Accepted.{Passed, passed, narrow, sized, few-plans, good-plans, all-breedable, offspring-room, kept-room}
 use Rattle.generation_laws.proofs.Answer.{one-exit, select-exit, kept-in-pool, bred-exit}
-use Rattle.generation.proofs.step.Statement.{statement}
-use Rattle.generation.proofs.step.Tie as tie
+use Rattle.generation_step.proofs.step.Statement.{statement}
+use Rattle.generation_step.proofs.step.Tie as tie
 
 abbrev ops : tie.Start → Operators
 ops s = operators (s .args .dims) (s .args .n-dims) (s .args .crossover-prob) (s .args .crossover-eta) (s .args .mutation-eta)

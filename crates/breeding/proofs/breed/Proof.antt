@@ -13,8 +13,8 @@ use Rattle.candidate_laws.proofs.Sound.{AllHeld}
 use Rattle.typed_laws.proofs.Held.{array-held}
 use Rattle.list_laws.proofs.Runs.{product}
 use Rattle.generation_laws.proofs.Breeding.{bred-is}
-use Rattle.generation.proofs.breed.Statement.{statement}
-use Rattle.generation.proofs.breed.Tie as tie
+use Rattle.breeding.proofs.breed.Statement.{statement}
+use Rattle.breeding.proofs.breed.Tie as tie
 
 -- the dimensions' numbers are such as the machine holds
 held : (s : tie.Start) → AllHeld (dimensionsOf (s .args .dims)) (s .args .n-dims)
