@@ -240,7 +240,7 @@ fn mutate_categorical(d: Distribution, c: usize, rng: Rng) -> DrawnValue
 }
 
 // A setting mutated, by cases on it.
-pub fn mutate_one(d: Distribution, v: ParamValue, k: u64, rng: Rng) -> DrawnValue
+fn mutate_one(d: Distribution, v: ParamValue, k: u64, rng: Rng) -> DrawnValue
     requires { ⌜ validDimension d ≡ true ⌝ }
     ensures { λ r. ⌜ drawn (r .value) (r .rng .s) ≡ mutateOne d v k (rng .s) ⌝ }
 {
