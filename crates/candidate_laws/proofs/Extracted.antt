@@ -18,8 +18,8 @@ use Rattle.model.specs.Refusal.{badDimensions, namedOnce, fitsDimension, breeda
 use Rattle.settings.proofs.Valid.{each}
 use Rattle.settings.proofs.InBounds.{Held, sampled-in-bounds}
 use Rattle.variation_laws.proofs.Children.{HeldValue}
-use Rattle.candidate_laws.specs.Bounds.{Within, AllWithin}
-use Rattle.candidate_laws.proofs.Sound.{AllHeld, AllValid, Sound, sound-within, sound-none, sound-more, AllSound, all-within, all-none, all-cons}
+use Rattle.candidate_laws.specs.Bounds.{Within}
+use Rattle.candidate_laws.proofs.Sound.{AllHeld, AllValid, Sound, sound-within, sound-none, sound-more, AllSound, all-none, all-cons}
 use Rattle.candidate_laws.proofs.Sampled.{sampled-held}
 
 -- every word is that of a double
@@ -73,7 +73,3 @@ module _ (dims : ℕ → Distribution) (n : ℕ) (h : AllHeld dims n) (b : badDi
   parentsOf-sound plans (p ∷ ps) s f =
       all-cons dims n (length ps) _ _ (extract-sound (plans p) s (f 0 (omega arith)))
       (parentsOf-sound plans ps (extract dims n (sortByParam (plans p .settings)) s .state) (λ i l. f (suc i) (omega arith)))
-
-  pub parentsOf-within : (plans : ℕ → Plan) (kept : List ℕ) (s : ℕ) → ((i : ℕ) → i < length kept → breedable dims n (plans (getD kept i 0)) ≡ true)
-      → AllWithin dims n (length kept) (parentsOf dims n plans kept s .value)
-  parentsOf-within plans kept s f = all-within dims n (length kept) _ (parentsOf-sound plans kept s f)

@@ -1,10 +1,10 @@
 -- "offspring within their bounds": every candidate of a generation step is whole and within its bounds, and so are its words.
 use Prim.Native.Nat.{ℕ, zero, suc, _<_}
 use mathlib.Core.Path.{_≡_, refl}
-use mathlib.Core.Bool.{Bool, true, false, not, true≢false}
+use mathlib.Core.Bool.{true, false, not}
 use mathlib.Core.List.{List}
 use native.Mathlib.Omega.{arith}
-use borrow.Author.Tests.{ltb-false}
+use borrow.Author.Tests.{ltb-false, not-false}
 use lib.Dec.{ltb}
 use lib.ListN.{length}
 use Rattle.list_laws.proofs.Bools.{by-bool}
@@ -22,15 +22,11 @@ use Rattle.candidate_laws.proofs.Bred.{offspringOf-sound}
 use Rattle.candidate_laws.proofs.Words.{words-within}
 use Rattle.candidate_laws.proofs.KeptPlans.{kept-length, kept-below}
 
-not-no : (b : Bool) → not b ≡ false → b ≡ true
-not-no true e = refl
-not-no false e = absurd (true≢false e)
-
 module _ (o : Operators) (r : Request) (h : AllHeld (o .dims) (o .dimCount)) (b : badDimensions (o .dims) (o .dimCount) ≡ false) (g : badParents o r ≡ false) where
   -- every plan of the pool may be bred from
   pub all-breedable : (p : ℕ) → p < r .count → breedable (o .dims) (o .dimCount) (r .plans p) ≡ true
   unfolding badParents
-  all-breedable = allBelow-each (λ p. breedable (o .dims) (o .dimCount) (r .plans p)) (r .count) (not-no _ g)
+  all-breedable = allBelow-each (λ p. breedable (o .dims) (o .dimCount) (r .plans p)) (r .count) (not-false _ g)
 
   -- the parents
   pub kept-sound : 0 < r .count → (s : ℕ) → AllSound (o .dims) (o .dimCount) (length (selected r .kept)) (parentsOf (o .dims) (o .dimCount) (r .plans) (selected r .kept) s .value)

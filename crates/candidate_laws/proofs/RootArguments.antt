@@ -20,7 +20,7 @@ use Rattle.float_laws.proofs.Constants.{nought-counts, nought-number, one, one-
 use Rattle.float_laws.proofs.Arithmetic.{sub-from-zero, sub-mono-left, sub-number, mul-count, mul-mono, div-mono-left, ratio}
 use Rattle.float_laws.proofs.Magnitude.{exp2-below, div-within}
 use Rattle.real.proofs.Between.{root-under, next-over}
-use Rattle.rng_util.proofs.Draws.{word-below}
+use Rattle.rng_util.proofs.Draws.{word-below, wider}
 use Rattle.rng_util.proofs.Unit.{upper-below, unit-counts}
 use Rattle.model.specs.declared.Distribution.the-variants as dist
 use Rattle.model.specs.declared.FloatDistribution.{FloatDistribution}
@@ -247,10 +247,6 @@ one-and-one : add binary64 one one ≡ twoOf
 unfolding add
 one-and-one = refl
 
-wide : T (le (minus-exp2 1000) (minus-exp2 53)) × T (le (exp2 53) (exp2 1000))
-unfolding le
-wide = (tt, tt)
-
 -- a + b × c, all within 0..1
 sum-argument : (a b c : Float) → Upto one a → Upto one b → Upto one c → RootArgument (add binary64 a (mul binary64 b c))
 sum-argument a b c A B C =
@@ -274,7 +270,7 @@ module _ (low high x : Float) (i : Inside low high x) (some : le (high ⊖ low) 
   X = bounded binary64 x 53 53 (i .held) (order.le-trans (minus-exp2 53) low x (i .low-end) (i .above)) (order.le-trans x high (exp2 53) (i .below) (i .high-end))
 
   range : Number binary64 (high ⊖ low)
-  range = sub-number high low HI LO (order.le-trans high (exp2 53) (exp2 1000) (i .high-end) (wide .1)) (order.le-trans (minus-exp2 1000) (minus-exp2 53) low (wide .0) (i .low-end)) ordered
+  range = sub-number high low HI LO (order.le-trans high (exp2 53) (exp2 1000) (i .high-end) (wider .1)) (order.le-trans (minus-exp2 1000) (minus-exp2 53) low (wider .0) (i .low-end)) ordered
 
   range-above : T (lt constants.nought (high ⊖ low))
   unfolding ofBits

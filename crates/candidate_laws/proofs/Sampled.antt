@@ -1,27 +1,22 @@
 -- Drawn candidates lie within their bounds.
-use Prim.Native.Nat.{ℕ, zero, suc, _+_, _*_, _≤_}
-use mathlib.Core.List.{List, map}
+use Prim.Native.Nat.{ℕ, zero, suc, _≤_}
 use mathlib.Core.Path.{_≡_}
 use mathlib.Core.Bool.{false}
 use native.Mathlib.Omega.{arith}
 use borrow.Author.Tests.{le-ltb}
-use lib.ListN.{length}
 use lib.Ieee.{binary64}
 use lib.Ieee.Fits.{add-fits}
 use Rattle.list_laws.proofs.Tests.{allBelow-every}
-use Rattle.model.specs.Lists.{over}
-use Rattle.model.specs.Session.{overAt}
 use Rattle.model.specs.declared.Distribution.{Distribution}
 use Rattle.model.specs.declared.Distribution.the-variants as dist
 use Rattle.model.specs.Draw.{f64Range}
-use Rattle.model.specs.Setting.{toWord, validDimension, sampleRandom, sampleAll, sampleCandidates, wordsOf, WordsWithin}
+use Rattle.model.specs.Setting.{validDimension, sampleRandom, sampleAll, sampleCandidates}
 use Rattle.model.specs.Refusal.{badDimensions}
 use Rattle.settings.proofs.Valid.{each}
 use Rattle.settings.proofs.InBounds.{sampled-in-bounds}
 use Rattle.variation_laws.proofs.Children.{HeldValue}
-use Rattle.candidate_laws.proofs.Words.{words-within, words-put}
-use Rattle.candidate_laws.specs.Bounds.{Within, AllWithin}
-use Rattle.candidate_laws.proofs.Sound.{AllHeld, AllValid, Sound, sound-within, sound-none, sound-more, AllSound, all-within, all-none, all-more}
+use Rattle.candidate_laws.specs.Bounds.{Within}
+use Rattle.candidate_laws.proofs.Sound.{AllHeld, AllValid, Sound, sound-within, sound-none, sound-more, AllSound, all-none, all-more}
 
 -- a drawn double is a double
 pub sampled-held : (d : Distribution) (s : ℕ) → HeldValue (sampleRandom d s .value)
@@ -50,16 +45,6 @@ module _ (dims : ℕ → Distribution) (n : ℕ) (h : AllHeld dims n) (b : badDi
   unfolding sampleCandidates
   sampleCandidates-sound zero s = all-none dims n
   sampleCandidates-sound (suc k) s = all-more dims n k _ _ (sampleCandidates-sound k s) (sampleAll-sound (sampleCandidates dims n k s .state))
-
-  pub sampleCandidates-within : (k s : ℕ) → AllWithin dims n k (sampleCandidates dims n k s .value)
-  sampleCandidates-within k s = all-within dims n k _ (sampleCandidates-sound k s)
-
-  -- as words: so many at the front of a slice, and one behind k others
-  pub sampled-words : (k s : ℕ) (old : List ℕ) → WordsWithin dims n k (over (wordsOf (sampleCandidates dims n k s .value)) old)
-  sampled-words k s old = words-within dims n k _ (sampleCandidates-sound k s) _
-
-  pub sampled-put : (k s : ℕ) (old : List ℕ) → WordsWithin dims n k old → (k + 1) * n ≤ length old → WordsWithin dims n (k + 1) (overAt (k * n) (map toWord (sampleAll dims n s .value)) old)
-  sampled-put k s old w room = words-put dims n k _ old (sampleAll-sound s) w room
 
 -- the premise on dimensions, from its parts
 pub good-dimensions : (dims : ℕ → Distribution) (n : ℕ) → n ≤ 32 → AllValid dims n → badDimensions dims n ≡ false

@@ -42,7 +42,7 @@ pub fn sample_candidates(
     let mut rng = rng;
     let mut i = 0;
     while i < count {
-        let c = settings::sample_all(dims, n, rng);
+        let c = sampling::sample_all(dims, n, rng);
         let params = c.params;
         put_candidate(params, n, i * n, out);
         rng = c.rng;

@@ -1,4 +1,3 @@
 pub mod Entries
 pub mod Sorting
-pub mod Naming
 pub mod Extracting

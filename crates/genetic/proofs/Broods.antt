@@ -1,9 +1,8 @@
 -- A brood from its parts.
-use mathlib.Core.Path.{_≡_, refl, sym, ap, ap₂, _∙_}
+use mathlib.Core.Path.{_≡_, sym, ap, ap₂, _∙_}
 use mathlib.Core.Bool.{Bool, true, false, not, _&&_, cond}
 use mathlib.Core.List.{List, []}
 use Prim.Native.Nat.{ℕ, _+_, _*_, _<_, _≤_}
-use native.Mathlib.Nat.{add-mul, one-mul, mul-le-mul-right, le-trans}
 use native.Mathlib.Omega.{arith}
 use lib.Dec.{leb}
 use lib.Ieee.{Float}
@@ -19,7 +18,7 @@ use Rattle.model.specs.Refusal.{wholeEta, badOperators}
 use borrow.Author.Tests.{not-false}
 use Rattle.settings.specs.Candidate.{parentAt, parentsIn}
 use Rattle.genetic.specs.Parents.{operators}
-use Rattle.genetic.proofs.Steps.{drawn-below}
+use Rattle.rng_util.proofs.Draws.{drawUsize-below}
 
 module _ (T : ℕ → Drawn ℕ) (X : List ParamValue → List ParamValue → ℕ → Drawn Children) (M : List ParamValue → ℕ → Drawn (List ParamValue)) (get : ℕ → List ParamValue) where
   -- both children mutated
@@ -42,11 +41,10 @@ winner-below ranks n s i t h e =
     let a = drawUsize n s in
     let b = drawUsize n (a .state) in
     let v = ap (λ (d : Drawn ℕ). d .value) e in
-    let ha = drawn-below n s (a .value) (a .state) h refl in
-    let hb = drawn-below n (a .state) (b .value) (b .state) h refl in
+    let ha = drawUsize-below n s h in
+    let hb = drawUsize-below n (a .state) h in
     by-bool (leb (ranks (a .value)) (ranks (b .value))) (λ q. omega (arith, v ∙ ap (λ c. cond c (a .value) (b .value)) q)) (λ q. omega (arith, v ∙ ap (λ c. cond c (a .value) (b .value)) q))
 
--- its row lies within the rows
 -- operators that are not bad have etas that can be cast
 module _ (probability crossoverEta mutationEta : Float) (h : badOperators probability crossoverEta mutationEta ≡ false) where
   good : (within nought unit probability && (wholeEta crossoverEta && wholeEta mutationEta)) ≡ true

@@ -1,4 +1,4 @@
-// The refusals of a selection (document 01, "Refusals"). `refusal` is called by `nsga3`; `no_room` is its part.
+// The refusals of a selection (document 01, "Refusals"). `refusal` is what `nsga3` calls; `no_room` is its part and a generation step's.
 ghost use mathlib.Core.Path.{_≡_};
 ghost use mathlib.Core.Bool.{_||_};
 ghost use lib.Dec.{ltb};
@@ -14,7 +14,7 @@ pub enum Check {
 }
 
 // Refusal 10: a lent slice is shorter than the answer that it is for.
-fn no_room(size: usize, n: usize, kept: usize, fronts: usize, lines: usize) -> bool
+pub fn no_room(size: usize, n: usize, kept: usize, fronts: usize, lines: usize) -> bool
     ensures { λ r. ⌜ r ≡ (ltb kept size || (ltb fronts n || ltb lines n)) ⌝ }
 {
     if kept < size {

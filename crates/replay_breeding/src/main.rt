@@ -27,8 +27,8 @@ type Offspring = [u64; 32768];
 
 // A setting drawn from a dimension.
 fn put_draw(d: Distribution, rng: Rng, out: &mut Words) -> usize {
-    if settings::valid_dimension(d) {
-        let drawn = settings::sample_random(d, rng);
+    if dimensions::valid_dimension(d) {
+        let drawn = sampling::sample_random(d, rng);
         let value = drawn.value;
         let rng = drawn.rng;
         let place = replay_values::put_setting(out, 0, value);
@@ -67,7 +67,7 @@ fn put_extract(
 ) -> usize
     requires { ⌜ n ≤ 32 ⌝ }
 {
-    if settings::bad_dimensions(dims, n) {
+    if dimensions::bad_dimensions(dims, n) {
         return 0;
     }
     let drawn = extraction::extract(pool, 0, dims, n, rng);
@@ -93,7 +93,7 @@ fn extract(input: &Words, n: usize, out: &mut Words) -> usize {
 
 // An operator's exponent; 0 for an eta that has none.
 fn exponent(eta: f64) -> u64 {
-    if settings::whole_eta(eta) {
+    if dimensions::whole_eta(eta) {
         return variation::exponent_of(eta);
     }
     0
@@ -137,7 +137,7 @@ fn sbx(input: &Words, n: usize, out: &mut Words) -> usize {
     let q = replay_values::real_at(input, 3);
     let low = replay_values::real_at(input, 4);
     let high = replay_values::real_at(input, 5);
-    let drawn = variation::sbx_crossover_f64(p, q, low, high, k, Rng { s });
+    let drawn = real_variation::sbx_crossover_f64(p, q, low, high, k, Rng { s });
     let rng = drawn.rng;
     let first = replay_values::put_real(out, 0, drawn.first);
     let second = replay_values::put_real(out, first, drawn.second);
@@ -155,10 +155,10 @@ fn put_mutant(
 ) -> usize
     requires { ⌜ n ≤ 32 ⌝ }
 {
-    if settings::bad_dimensions(dims, n) {
+    if dimensions::bad_dimensions(dims, n) {
         return 0;
     }
-    let drawn = genetic::mutate(dims, n, params, k, rng);
+    let drawn = genetic_parts::mutate(dims, n, params, k, rng);
     put_candidate(drawn, n, out)
 }
 
@@ -190,7 +190,7 @@ fn polynomial(input: &Words, n: usize, out: &mut Words) -> usize {
     let x = replay_values::real_at(input, 2);
     let low = replay_values::real_at(input, 3);
     let high = replay_values::real_at(input, 4);
-    let drawn = variation::polynomial_mutation_f64(x, low, high, k, Rng { s });
+    let drawn = real_variation::polynomial_mutation_f64(x, low, high, k, Rng { s });
     let rng = drawn.rng;
     let place = replay_values::put_real(out, 0, drawn.value);
     replay::put(out, place, rng.s)

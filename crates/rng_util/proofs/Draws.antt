@@ -61,7 +61,7 @@ pub drawI64-within : (a b : ℤ) (s : ℕ) → SFits w64 a → SFits w64 b → (
 unfolding drawI64
 drawI64-within a b s fa fb h = (pick-low a b fa fb h (drawWord s .value), pick-high a b fa fb h (drawWord s .value))
 
-wider : T (le (minus-exp2 1000) (minus-exp2 53)) × T (le (exp2 53) (exp2 1000))
+pub wider : T (le (minus-exp2 1000) (minus-exp2 53)) × T (le (exp2 53) (exp2 1000))
 unfolding le
 wider = (tt, tt)
 

@@ -237,7 +237,7 @@ fn bred_refusal(session: Session, history: &[u64], plans: &[u64]) -> u8
     let mut pool = [0u64; POOL_WORDS];
     session_parts::gather(history, plans, size, &mut pool);
     let words = size * PLAN_WORDS;
-    let check = generation::refusal(
+    let check = step_refusal::refusal(
         &pool[..words],
         &directions[..n_obj],
         config.divisions,

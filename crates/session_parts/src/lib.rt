@@ -150,7 +150,7 @@ fn open_refusal(
     ensures { λ r. ⌜ r ≡ openingBy (openRefusal (now (directions .entry)) (given size) (given divisions) probability «crossover_eta» «mutation_eta») ⌝ }
 {
     let bad_size = bad_session_size(size);
-    let bad_operators = settings::bad_operators(probability, crossover_eta, mutation_eta);
+    let bad_operators = dimensions::bad_operators(probability, crossover_eta, mutation_eta);
     if plans::bad_directions(directions) {
         return Opening::Refused(2);
     }
@@ -304,7 +304,7 @@ pub fn discover(session: Session, distribution: Distribution, plan: u64) -> Samp
     ensures { λ r. ⌜ ((cs ps ns : List ℕ) → exit r cs ps ns ≡ settled (discover (state session cs ps ns) distribution plan)) ⌝ }
 {
     let rng = session.rng;
-    let v = settings::sample_random(distribution, rng);
+    let v = sampling::sample_random(distribution, rng);
     let value = v.value;
     let rng = v.rng;
     let before = session.progress;
@@ -396,7 +396,7 @@ fn overflow(session: Session, candidates: &mut [u64]) -> Session
     let k = before.n_candidates;
     let dimensions = session.dimensions;
     let rng = session.rng;
-    let c = settings::sample_all(dimensions, n, rng);
+    let c = sampling::sample_all(dimensions, n, rng);
     let params = c.params;
     let rng = c.rng;
     candidates::put_candidate(params, n, k * n, candidates);
@@ -471,7 +471,7 @@ fn answer(session: Session, i: usize, candidates: &[u64], next_dims: &mut [usize
     let info = dimensions[n - 1];
     let distribution = info.distribution;
     let rng = session.rng;
-    let v = settings::sample_random(distribution, rng);
+    let v = sampling::sample_random(distribution, rng);
     let value = v.value;
     let rng = v.rng;
     let outcome = Sampling::Setting(value);
@@ -537,7 +537,7 @@ pub fn bad_dimension(n: usize, distribution: Distribution) -> bool
     if MAX_DIMS <= n {
         return true;
     }
-    if settings::valid_dimension(distribution) {
+    if dimensions::valid_dimension(distribution) {
         return false;
     }
     true

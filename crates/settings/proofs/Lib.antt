@@ -4,3 +4,4 @@ pub mod Valid
 pub mod Stepped
 pub mod Candidates
 pub mod InBounds
+pub mod Eta

@@ -2,6 +2,7 @@
 use Prim.Native.Nat.{ℕ, zero, suc, _<_}
 use mathlib.Core.Path.{_≡_, sym, _∙_}
 use mathlib.Core.List.{List, [], _∷_, map}
+use native.Mathlib.Nat.{not-suc-le-zero}
 use native.Mathlib.Omega.{arith}
 use lib.ListN.{length, getD, length-map}
 use mir.Val.{Val}
@@ -45,13 +46,10 @@ info-held x vs p = dimension-held (x .distribution) _ (p .1 .1 .0)
 
 -- ---- an array of them
 
-no-fewer : {i : ℕ} → i < 0 → ⊥
-no-fewer h = omega arith
-
 -- what holds of each element by its type holds of the element at each place
 module _ {A : Type 0} (f : A → List Val → Fml) (P : A → Type 0) (one : (x : A) (vs : List Val) → shadow (f x vs) → P x) (z : A) where
   each-at : (xs : List A) (us : List Val) → shadow (each A f xs us) → (i : ℕ) → i < length xs → P (getD xs i z)
-  each-at [] us p i h = absurd (no-fewer h)
+  each-at [] us p i h = absurd (not-suc-le-zero h)
   each-at (x ∷ xs) [] p i h = absurd p
   each-at (x ∷ xs) (u ∷ us) p zero h = one x (u ∷ []) (p .0)
   each-at (x ∷ xs) (u ∷ us) p (suc i) h = each-at xs us (p .1) i (omega arith)

@@ -6,41 +6,15 @@ use native.Mathlib.Nat.{le-antisymm}
 use borrow.Author.Tests.{leb-true}
 use lib.IntN.{ℤ, pos, negsuc}
 use lib.Signed.{leZ, ltZ, ≤ℤ-refl}
-use lib.Ieee.{Float, le, lt}
+use lib.Ieee.{Float, lt}
 use Rattle.list_laws.proofs.Bools.{by-bool, T-true, and-left, and-right}
 use Rattle.model.specs.declared.FloatDistribution.{FloatDistribution}
 use Rattle.model.specs.declared.IntDistribution.{IntDistribution}
 use Rattle.model.specs.declared.ParamValue.{ParamValue}
 use Rattle.model.specs.declared.ParamValue.the-variants as value
-use Rattle.model.specs.Real.{_⊕_, _⊖_, _⊗_, _⊘_, nought, half, unit, two, absolute, clamp}
-use Rattle.model.specs.Numbers.{midpoint, R}
-use Rattle.model.specs.Draw.{Drawn, drawn, f64Range}
+use Rattle.model.specs.Real.{_⊖_, half, absolute}
+use Rattle.model.specs.Draw.{Drawn, drawn}
 use Rattle.model.specs.Setting.{Pair, pair, smallGap, drawUnit, spread, sbxFirst, sbxSecond, clampInt, toInt, ofWhole, crossFloat, crossInt, crossCategorical}
-
-pub spread-low : (u : Float) (k : ℕ) → le u half ≡ true → R (two ⊗ u) k ≡ spread u k
-unfolding spread
-spread-low u k h = rw h
-
-pub spread-high : (u : Float) (k : ℕ) → le u half ≡ false → R (unit ⊘ (two ⊗ (unit ⊖ u))) k ≡ spread u k
-unfolding spread
-spread-high u k h = rw h
-
--- the two parts of a draw
-pub value-of : (s : ℕ) (u : Float) (t : ℕ) → drawn u t ≡ drawUnit s → u ≡ drawUnit s .value
-value-of s u t e = ap (λ (d : Drawn Float). d .value) e
-
-pub state-of : (s : ℕ) (u : Float) (t : ℕ) → drawn u t ≡ drawUnit s → t ≡ drawUnit s .state
-state-of s u t e = ap (λ (d : Drawn Float). d .state) e
-
-module _ (low high p q beta u : Float) (k s : ℕ) (b : beta ≡ spread u k) (v : u ≡ drawUnit s .value) where
-  same : beta ≡ spread (drawUnit s .value) k
-  same = b ∙ ap (λ (x : Float). spread x k) v
-
-  pub first-is : (m r : Float) → m ≡ midpoint ((unit ⊕ beta) ⊗ p) ((unit ⊖ beta) ⊗ q) → r ≡ clamp low high m → r ≡ sbxFirst low high (spread (drawUnit s .value) k) p q
-  first-is m r e f = f ∙ ap (clamp low high) e ∙ ap (λ (x : Float). sbxFirst low high x p q) same
-
-  pub second-is : (m r : Float) → m ≡ midpoint ((unit ⊖ beta) ⊗ p) ((unit ⊕ beta) ⊗ q) → r ≡ clamp low high m → r ≡ sbxSecond low high (spread (drawUnit s .value) k) p q
-  second-is m r e f = f ∙ ap (clamp low high) e ∙ ap (λ (x : Float). sbxSecond low high x p q) same
 
 pub crossFloat-close : (d : FloatDistribution) (p q : Float) (k s : ℕ) → lt (absolute (p ⊖ q)) smallGap ≡ true → drawn (pair (value.Float p) (value.Float q)) s ≡ crossFloat d p q k s
 unfolding crossFloat

@@ -7,26 +7,22 @@ use native.Mathlib.Omega.{arith}
 use lib.Dec.{T}
 use lib.IntN.{ℤ, pos}
 use lib.Ieee.{Float, nan, inf, fin, up, down, ofBits, toUnsigned, eq, le, lt}
-use Rattle.float_laws.proofs.Order.{lt-le-trans, le-lt-trans}
 use Rattle.float_laws.proofs.Units.{→sle}
 use Rattle.list_laws.proofs.Bools.{and-left, and-right, true-T}
 use Rattle.model.specs.Real.{nought, within}
 use Rattle.model.specs.Refusal.{ninetyNine, wholeEta}
+use Rattle.settings.proofs.Eta.{castable}
 
 module _ (x : Float) (h : wholeEta x ≡ true) where
   inside : within nought ninetyNine x ≡ true
   unfolding wholeEta
   inside = and-left (within nought ninetyNine x) _ h
 
-  from : T (le nought x)
-  from = true-T _ (and-left (le nought x) (le x ninetyNine) inside)
-
   to : T (le x ninetyNine)
   to = true-T _ (and-right (le nought x) (le x ninetyNine) inside)
 
-  pub castable : T (lt (fin true 1 (pos 0)) x) × T (lt x (fin false 1 (pos 64)))
-  unfolding ofBits lt
-  castable = (lt-le-trans (fin true 1 (pos 0)) nought x tt from, le-lt-trans x ninetyNine (fin false 1 (pos 64)) to tt)
+  pub eta-castable : T (lt (fin true 1 (pos 0)) x) × T (lt x (fin false 1 (pos 64)))
+  eta-castable = castable x inside
 
 -- the whole part of what is at most 99
 part : (x : Float) → T (le x (fin false 99 (pos 0))) → toUnsigned 64 x ≤ 99

@@ -1,4 +1,3 @@
-pub mod Gap
 pub mod Exponent
 pub mod Crossing
-pub mod Mutating
+pub mod Maybe

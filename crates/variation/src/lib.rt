@@ -1,13 +1,10 @@
 // Crossover and mutation of single settings (document 01, "Setting and dimension"; Rust: sampler/genetic.rs). An operator's exponent k is its
 // eta + 1.
 ghost use mathlib.Core.Path.{_≡_};
-ghost use mathlib.Core.Bool.{true, cond};
-ghost use lib.Ieee.{lt};
-ghost use lib.Signed.{ltZ};
-ghost use Rattle.model.specs.Real.{_⊖_, absolute};
+ghost use mathlib.Core.Bool.{true};
 ghost use Rattle.model.specs.Draw.{drawn};
-ghost use Rattle.model.specs.Setting.{validDimension, exponentOf, pair, smallGap, drawUnit, spread, sbxFirst, sbxSecond, clampInt, toInt, crossFloat, crossInt, crossCategorical};
-ghost use Rattle.model.specs.Setting.{crossFloats, crossInts, crossOne, mutationShift, polynomialMutation, mutateFloat, mutateInt, mutateCategorical, mutateOne};
+ghost use Rattle.model.specs.Setting.{validDimension, exponentOf, pair, clampInt, toInt, crossFloat, crossInt, crossCategorical};
+ghost use Rattle.model.specs.Setting.{crossFloats, crossInts, crossOne, mutateFloat, mutateInt, mutateCategorical, mutateOne, mutateMaybe};
 ghost use Rattle.model.specs.Refusal.{wholeEta};
 ghost use Rattle.model.specs.declared.Distribution.the-variants as dist;
 use model::Distribution;
@@ -15,16 +12,9 @@ use model::FloatDistribution;
 use model::IntDistribution;
 use model::ParamValue;
 use model::Rng;
-use rng_util::DrawnF64;
 use settings::DrawnValue;
 
-// Two children, and the generator moved on: as reals, and as settings.
-pub struct DrawnReals {
-    pub first: f64,
-    pub second: f64,
-    pub rng: Rng,
-}
-
+// Two children, and the generator moved on.
 pub struct DrawnPair {
     pub first: ParamValue,
     pub second: ParamValue,
@@ -41,52 +31,15 @@ pub fn exponent_of(eta: f64) -> u64
 
 // ---- crossover
 
-// How far apart the children lie, as a multiple of how far the parents do.
-fn spread(u: f64, k: u64) -> f64
-    ensures { λ r. ⌜ r ≡ spread u k ⌝ }
-{
-    if u <= 0.5 {
-        return real::root(2.0 * u, k);
-    }
-    real::root(1.0 / (2.0 * (1.0 - u)), k)
-}
-
-// Simulated binary crossover of two reals.
-pub fn sbx_crossover_f64(p: f64, q: f64, low: f64, high: f64, k: u64, rng: Rng) -> DrawnReals
-    ensures { λ r. ⌜ (r .first ≡ sbxFirst low high (spread (drawUnit (rng .s) .value) k) p q)
-        × (r .second ≡ sbxSecond low high (spread (drawUnit (rng .s) .value) k) p q) × (r .rng .s ≡ drawUnit (rng .s) .state) ⌝ }
-{
-    let d = rng_util::f64_range(rng, 0.0, 1.0);
-    let u = d.value;
-    let rng = d.rng;
-    let beta = spread(u, k);
-    let near = 1.0 + beta;
-    let far = 1.0 - beta;
-    let first = real::clamp(real::midpoint(near * p, far * q), low, high);
-    let second = real::clamp(real::midpoint(far * p, near * q), low, high);
-    DrawnReals { first, second, rng }
-}
-
-// p and q are closer than 1e-14.
-fn close(p: f64, q: f64) -> bool
-    ensures { λ r. ⌜ r ≡ lt (absolute (p ⊖ q)) smallGap ⌝ }
-{
-    let gap = p - q;
-    if gap < 1e-14 {
-        return -1e-14 < gap;
-    }
-    false
-}
-
 fn cross_float(d: FloatDistribution, p: f64, q: f64, k: u64, rng: Rng) -> DrawnPair
     ensures { λ r. ⌜ drawn (pair (r .first) (r .second)) (r .rng .s) ≡ crossFloat d p q k (rng .s) ⌝ }
 {
-    if close(p, q) {
+    if real_variation::close(p, q) {
         let first = ParamValue::Float(p);
         let second = ParamValue::Float(q);
         return DrawnPair { first, second, rng };
     }
-    let c = sbx_crossover_f64(p, q, d.low, d.high, k, rng);
+    let c = real_variation::sbx_crossover_f64(p, q, d.low, d.high, k, rng);
     let first = ParamValue::Float(c.first);
     let second = ParamValue::Float(c.second);
     let rng = c.rng;
@@ -125,7 +78,7 @@ fn cross_int(d: IntDistribution, p: i64, q: i64, k: u64, rng: Rng) -> DrawnPair
     let high = d.high;
     let a = real::real_of_int(p);
     let b = real::real_of_int(q);
-    let c = sbx_crossover_f64(
+    let c = real_variation::sbx_crossover_f64(
         a,
         b,
         real::real_of_int(low),
@@ -220,37 +173,6 @@ pub fn cross_one(d: Distribution, a: ParamValue, b: ParamValue, k: u64, rng: Rng
 
 // ---- mutation
 
-// How far x moves, as a share of the range.
-fn mutation_shift(x: f64, low: f64, high: f64, range: f64, k: u64, u: f64) -> f64
-    ensures { λ r. ⌜ r ≡ mutationShift x low high range k u ⌝ }
-{
-    if u < 0.5 {
-        let y = real::power(1.0 - (x - low) / range, k);
-        return real::root(2.0 * u + (1.0 - 2.0 * u) * y, k) - 1.0;
-    }
-    let y = real::power(1.0 - (high - x) / range, k);
-    1.0 - real::root(2.0 * (1.0 - u) + 2.0 * (u - 0.5) * y, k)
-}
-
-// Polynomial mutation of a real. It draws before it looks at the range.
-pub fn polynomial_mutation_f64(x: f64, low: f64, high: f64, k: u64, rng: Rng) -> DrawnF64
-    ensures { λ r. ⌜ drawn (r .value) (r .rng .s) ≡ polynomialMutation x low high k (rng .s) ⌝ }
-{
-    let d = rng_util::f64_range(rng, 0.0, 1.0);
-    let u = d.value;
-    let after = d.rng;
-    let range = high - low;
-    if range <= 0.0 {
-        return DrawnF64 {
-            value: x,
-            rng: after,
-        };
-    }
-    let shift = mutation_shift(x, low, high, range, k, u);
-    let value = real::clamp(x + shift * range, low, high);
-    DrawnF64 { value, rng: after }
-}
-
 // A setting that stands as it is, without a draw.
 fn unmoved(v: ParamValue, rng: Rng) -> DrawnValue
     ensures { λ r. ⌜ drawn (r .value) (r .rng .s) ≡ drawn v (rng .s) ⌝ }
@@ -261,7 +183,7 @@ fn unmoved(v: ParamValue, rng: Rng) -> DrawnValue
 fn move_float(d: FloatDistribution, x: f64, k: u64, rng: Rng) -> DrawnValue
     ensures { λ r. ⌜ drawn (r .value) (r .rng .s) ≡ mutateFloat (dist.Float d) x k (rng .s) ⌝ }
 {
-    let y = polynomial_mutation_f64(x, d.low, d.high, k, rng);
+    let y = real_variation::polynomial_mutation_f64(x, d.low, d.high, k, rng);
     let value = ParamValue::Float(y.value);
     let rng = y.rng;
     DrawnValue { value, rng }
@@ -273,7 +195,13 @@ fn move_int(d: IntDistribution, n: i64, k: u64, rng: Rng) -> DrawnValue
     let low = d.low;
     let high = d.high;
     let x = real::real_of_int(n);
-    let y = polynomial_mutation_f64(x, real::real_of_int(low), real::real_of_int(high), k, rng);
+    let y = real_variation::polynomial_mutation_f64(
+        x,
+        real::real_of_int(low),
+        real::real_of_int(high),
+        k,
+        rng,
+    );
     let value = ParamValue::Int(to_int(low, high, y.value));
     let rng = y.rng;
     DrawnValue { value, rng }
@@ -307,12 +235,12 @@ fn mutate_categorical(d: Distribution, c: usize, rng: Rng) -> DrawnValue
     match d {
         Distribution::Float(_) => unmoved(ParamValue::Categorical(c), rng),
         Distribution::Int(_) => unmoved(ParamValue::Categorical(c), rng),
-        Distribution::Categorical(_) => settings::sample_random(d, rng),
+        Distribution::Categorical(_) => sampling::sample_random(d, rng),
     }
 }
 
 // A setting mutated, by cases on it.
-pub fn mutate_one(d: Distribution, v: ParamValue, k: u64, rng: Rng) -> DrawnValue
+fn mutate_one(d: Distribution, v: ParamValue, k: u64, rng: Rng) -> DrawnValue
     requires { ⌜ validDimension d ≡ true ⌝ }
     ensures { λ r. ⌜ drawn (r .value) (r .rng .s) ≡ mutateOne d v k (rng .s) ⌝ }
 {
@@ -321,4 +249,27 @@ pub fn mutate_one(d: Distribution, v: ParamValue, k: u64, rng: Rng) -> DrawnValu
         ParamValue::Int(n) => mutate_int(d, n, k, rng),
         ParamValue::Categorical(c) => mutate_categorical(d, c, rng),
     }
+}
+
+// A setting that mutates where its own draw is below the probability.
+pub fn mutate_maybe(
+    probability: f64,
+    d: Distribution,
+    v: ParamValue,
+    k: u64,
+    rng: Rng,
+) -> DrawnValue
+    requires { ⌜ validDimension d ≡ true ⌝ }
+    ensures { λ r. ⌜ drawn (r .value) (r .rng .s) ≡ mutateMaybe probability d v k (rng .s) ⌝ }
+{
+    let x = rng_util::f64_range(rng, 0.0, 1.0);
+    let u = x.value;
+    let after = x.rng;
+    if u >= probability {
+        return DrawnValue {
+            value: v,
+            rng: after,
+        };
+    }
+    mutate_one(d, v, k, after)
 }

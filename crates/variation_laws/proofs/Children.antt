@@ -29,7 +29,7 @@ use Rattle.model.specs.Real as real
 use Rattle.model.specs.Real.{_⊕_, _⊖_, _⊗_, _⊘_, unit, two, within, clamp}
 use Rattle.model.specs.Numbers.{roundOf, midpoint, R}
 use Rattle.model.specs.Draw.{Drawn, drawn}
-use Rattle.model.specs.Setting.{Pair, validDimension, inBounds, drawUnit, spread, sbxFirst, sbxSecond, clampInt, toInt, ofWhole, crossFloat, crossInt, crossCategorical, crossOne, mutationShift, polynomialMutation, mutateOne}
+use Rattle.model.specs.Setting.{Pair, validDimension, inBounds, drawUnit, spread, sbxFirst, sbxSecond, clampInt, toInt, ofWhole, crossFloat, crossInt, crossCategorical, crossFloats, crossInts, crossOne, mutationShift, polynomialMutation, mutateOne}
 use Rattle.settings.proofs.Valid.{FloatBounds, float-bounds, IntBounds, int-bounds, some-choice}
 use Rattle.settings.proofs.InBounds.{Held, between}
 use Rattle.variation_laws.proofs.Magnitudes.{Small, number, not-nan, wider, neg-small, add-small, mul-small}
@@ -102,44 +102,45 @@ half-real : (x : Float) → Small 107 x → T (not (isNan (x ⊘ two)))
 unfolding ofBits lt fits
 half-real x s = order.le-not-nan (x ⊘ two) (exp2 107 ⊘ two) (div-mono-left binary64 x (exp2 107) two (number 107 x s) (number-of (exp2 107) tt tt) (number-of two tt tt) tt (s .to)) .0
 
-module _ (beta p q : Float) (b : Small 52 beta) (sp : Small 53 p) (sq : Small 53 q) where
-  pub first-real : T (not (isNan (midpoint ((unit ⊕ beta) ⊗ p) ((unit ⊖ beta) ⊗ q))))
-  first-real = half-real _ (next-106 _ _ (product-106 _ p (next-52 unit beta one-small b) sp) (product-106 _ q (less unit beta one-small b) sq))
-
-  pub second-real : T (not (isNan (midpoint ((unit ⊖ beta) ⊗ p) ((unit ⊕ beta) ⊗ q))))
-  second-real = half-real _ (next-106 _ _ (product-106 _ p (less unit beta one-small b) sp) (product-106 _ q (next-52 unit beta one-small b) sq))
+-- a middle of products is none
+middle-real : (a b p q : Float) → Small 53 a → Small 53 b → Small 53 p → Small 53 q → T (not (isNan (midpoint (a ⊗ p) (b ⊗ q))))
+middle-real a b p q sa sb sp sq = half-real _ (next-106 _ _ (product-106 a p sa sp) (product-106 b q sb sq))
 
 spread-small : (u : Float) (k : ℕ) → Small 52 (spread u k)
 unfolding spread
 spread-small u k = root-small _ k
 
--- both children of a Float dimension
-pub crossFloat-within : (d : FloatDistribution) (p q : Float) (k s : ℕ) → FloatBounds d → T (fits binary64 p) → T (fits binary64 q)
-    → inBounds (dist.Float d) (value.Float p) ≡ true → inBounds (dist.Float d) (value.Float q) ≡ true
-    → (inBounds (dist.Float d) (crossFloat d p q k s .value .first) ≡ true) × (inBounds (dist.Float d) (crossFloat d p q k s .value .second) ≡ true)
+-- both children lie within a dimension's bounds
+abbrev pub BothIn : Distribution → Drawn Pair → Type 0
+BothIn d c = (inBounds d (c .value .first) ≡ true) × (inBounds d (c .value .second) ≡ true)
+
+crossFloat-within : (d : FloatDistribution) (p q : Float) (k s : ℕ) → FloatBounds d → T (fits binary64 p) → T (fits binary64 q)
+    → inBounds (dist.Float d) (value.Float p) ≡ true → inBounds (dist.Float d) (value.Float q) ≡ true → BothIn (dist.Float d) (crossFloat d p q k s)
 unfolding inBounds crossFloat
 crossFloat-within d p q k s b fp fq hp hq = by-bool (lt (real.absolute (p ⊖ q)) Rattle.model.specs.Setting.smallGap)
     (λ e. rw e (hp, hq))
     (λ e. rw e (
     let u = spread-small (drawUnit s .value) k in
+    let near = next-52 unit _ one-small u in
+    let far = less unit _ one-small u in
     let sp = setting-small d p b fp hp in
     let sq = setting-small d q b fq hq in
-    (T-true _ (clamp-within (d .low) (d .high) _ (b .ordered) (first-real _ p q u sp sq)), T-true _ (clamp-within (d .low) (d .high) _ (b .ordered) (second-real _ p q u sp sq)))))
+    (T-true _ (clamp-within (d .low) (d .high) _ (b .ordered) (middle-real _ _ p q near far sp sq)), T-true _ (clamp-within (d .low) (d .high) _ (b .ordered) (middle-real _ _ p q far near sp sq)))))
 
 -- ---- whole numbers
 
-pub clampInt-within : (low high n : ℤ) → low ≤ℤ high → (leZ low (clampInt low high n) && leZ (clampInt low high n) high) ≡ true
+clampInt-within : (low high n : ℤ) → low ≤ℤ high → (leZ low (clampInt low high n) && leZ (clampInt low high n) high) ≡ true
 clampInt-within low high n h = by-bool (ltZ n low)
     (λ e. rw e (between low high low (≤ℤ-refl low) h))
     (λ e. by-bool (ltZ high n)
     (λ f. rw (e, f) (between low high high h (≤ℤ-refl high)))
     (λ f. rw (e, f) (between low high n (ltZ-no (false-T (ltZ n low) e)) (ltZ-no (false-T (ltZ high n) f)))))
 
-pub toInt-within : (low high : ℤ) (x : Float) → low ≤ℤ high → (leZ low (toInt low high x) && leZ (toInt low high x) high) ≡ true
+toInt-within : (low high : ℤ) (x : Float) → low ≤ℤ high → (leZ low (toInt low high x) && leZ (toInt low high x) high) ≡ true
 toInt-within low high x h = clampInt-within low high (toSigned 63 (roundOf x)) h
 
-pub crossInt-within : (d : IntDistribution) (p q : ℤ) (k s : ℕ) → IntBounds d → inBounds (dist.Int d) (value.Int p) ≡ true → inBounds (dist.Int d) (value.Int q) ≡ true
-    → (inBounds (dist.Int d) (crossInt d p q k s .value .first) ≡ true) × (inBounds (dist.Int d) (crossInt d p q k s .value .second) ≡ true)
+crossInt-within : (d : IntDistribution) (p q : ℤ) (k s : ℕ) → IntBounds d → inBounds (dist.Int d) (value.Int p) ≡ true → inBounds (dist.Int d) (value.Int q) ≡ true
+    → BothIn (dist.Int d) (crossInt d p q k s)
 unfolding inBounds crossInt
 crossInt-within d p q k s b hp hq = by-bool (leZ p q && leZ q p)
     (λ e. rw e (hp, hq))
@@ -148,60 +149,39 @@ crossInt-within d p q k s b hp hq = by-bool (leZ p q && leZ q p)
       toInt-within (d .low) (d .high) (sbxSecond (ofWhole (d .low)) (ofWhole (d .high)) (spread (drawUnit s .value) k) (ofWhole p) (ofWhole q)) (b .ordered),
     ))
 
--- ---- choices
-
-pub crossCategorical-within : (d : CategoricalDistribution) (p q s : ℕ) → inBounds (dist.Categorical d) (value.Categorical p) ≡ true → inBounds (dist.Categorical d) (value.Categorical q) ≡ true
-    → (inBounds (dist.Categorical d) (crossCategorical p q s .value .first) ≡ true) × (inBounds (dist.Categorical d) (crossCategorical p q s .value .second) ≡ true)
-unfolding inBounds crossCategorical
-crossCategorical-within d p q s hp hq = by-bool (lt (drawUnit s .value) real.half) (λ e. rw e (hq, hp)) (λ e. rw e (hp, hq))
-
 -- ---- THE THEOREM FOR CROSSOVER: a value that a setting can have
 abbrev pub HeldValue : ParamValue → Type 0
 HeldValue (value.Float x) = T (fits binary64 x)
 HeldValue (value.Int n) = Unit
 HeldValue (value.Categorical c) = Unit
 
-wrong : {C : Type 0} → false ≡ true → C
-wrong e = absurd (mathlib.Core.Bool.true≢false (sym e))
+floats-within : (d : Distribution) (p q : Float) (k s : ℕ) → validDimension d ≡ true → T (fits binary64 p) → T (fits binary64 q) → inBounds d (value.Float p) ≡ true → inBounds d (value.Float q) ≡ true
+    → BothIn d (crossFloats d p q k s)
+floats-within (dist.Float d) p q k s v fp fq hp hq = crossFloat-within d p q k s (float-bounds d v) fp fq hp hq
+floats-within (dist.Int d) p q k s v fp fq hp hq = (hp, hq)
+floats-within (dist.Categorical d) p q k s v fp fq hp hq = (hp, hq)
 
--- a choice is no setting of another dimension
-choice-of-float : (d : FloatDistribution) (c : ℕ) {C : Type 0} → inBounds (dist.Float d) (value.Categorical c) ≡ true → C
-unfolding inBounds
-choice-of-float d c e = wrong e
+ints-within : (d : Distribution) (p q : ℤ) (k s : ℕ) → validDimension d ≡ true → inBounds d (value.Int p) ≡ true → inBounds d (value.Int q) ≡ true → BothIn d (crossInts d p q k s)
+ints-within (dist.Float d) p q k s v hp hq = (hp, hq)
+ints-within (dist.Int d) p q k s v hp hq = crossInt-within d p q k s (int-bounds d v) hp hq
+ints-within (dist.Categorical d) p q k s v hp hq = (hp, hq)
 
-choice-of-int : (d : IntDistribution) (c : ℕ) {C : Type 0} → inBounds (dist.Int d) (value.Categorical c) ≡ true → C
-unfolding inBounds
-choice-of-int d c e = wrong e
+-- choices stand, or change places
+choices-within : (d : Distribution) (p q s : ℕ) → inBounds d (value.Categorical p) ≡ true → inBounds d (value.Categorical q) ≡ true → BothIn d (crossCategorical p q s)
+unfolding crossCategorical
+choices-within d p q s hp hq = by-bool (lt (drawUnit s .value) real.half) (λ e. rw e (hq, hp)) (λ e. rw e (hp, hq))
 
 pub crossed-in-bounds : (d : Distribution) (a b : ParamValue) (k s : ℕ) → validDimension d ≡ true → HeldValue a → HeldValue b → inBounds d a ≡ true → inBounds d b ≡ true
-    → (inBounds d (crossOne d a b k s .value .first) ≡ true) × (inBounds d (crossOne d a b k s .value .second) ≡ true)
-crossed-in-bounds (dist.Float d) (value.Float p) (value.Float q) k s v fa fb ha hb = crossFloat-within d p q k s (float-bounds d v) fa fb ha hb
-crossed-in-bounds (dist.Float d) (value.Float p) (value.Int q) k s v fa fb ha hb = (ha, hb)
-crossed-in-bounds (dist.Float d) (value.Float p) (value.Categorical q) k s v fa fb ha hb = (ha, hb)
-crossed-in-bounds (dist.Float d) (value.Int p) (value.Float q) k s v fa fb ha hb = (ha, hb)
-crossed-in-bounds (dist.Float d) (value.Int p) (value.Int q) k s v fa fb ha hb = (ha, hb)
-crossed-in-bounds (dist.Float d) (value.Int p) (value.Categorical q) k s v fa fb ha hb = (ha, hb)
-crossed-in-bounds (dist.Float d) (value.Categorical p) (value.Float q) k s v fa fb ha hb = (ha, hb)
-crossed-in-bounds (dist.Float d) (value.Categorical p) (value.Int q) k s v fa fb ha hb = (ha, hb)
-crossed-in-bounds (dist.Float d) (value.Categorical p) (value.Categorical q) k s v fa fb ha hb = choice-of-float d p ha
-crossed-in-bounds (dist.Int d) (value.Float p) (value.Float q) k s v fa fb ha hb = (ha, hb)
-crossed-in-bounds (dist.Int d) (value.Float p) (value.Int q) k s v fa fb ha hb = (ha, hb)
-crossed-in-bounds (dist.Int d) (value.Float p) (value.Categorical q) k s v fa fb ha hb = (ha, hb)
-crossed-in-bounds (dist.Int d) (value.Int p) (value.Float q) k s v fa fb ha hb = (ha, hb)
-crossed-in-bounds (dist.Int d) (value.Int p) (value.Int q) k s v fa fb ha hb = crossInt-within d p q k s (int-bounds d v) ha hb
-crossed-in-bounds (dist.Int d) (value.Int p) (value.Categorical q) k s v fa fb ha hb = (ha, hb)
-crossed-in-bounds (dist.Int d) (value.Categorical p) (value.Float q) k s v fa fb ha hb = (ha, hb)
-crossed-in-bounds (dist.Int d) (value.Categorical p) (value.Int q) k s v fa fb ha hb = (ha, hb)
-crossed-in-bounds (dist.Int d) (value.Categorical p) (value.Categorical q) k s v fa fb ha hb = choice-of-int d p ha
-crossed-in-bounds (dist.Categorical d) (value.Float p) (value.Float q) k s v fa fb ha hb = (ha, hb)
-crossed-in-bounds (dist.Categorical d) (value.Float p) (value.Int q) k s v fa fb ha hb = (ha, hb)
-crossed-in-bounds (dist.Categorical d) (value.Float p) (value.Categorical q) k s v fa fb ha hb = (ha, hb)
-crossed-in-bounds (dist.Categorical d) (value.Int p) (value.Float q) k s v fa fb ha hb = (ha, hb)
-crossed-in-bounds (dist.Categorical d) (value.Int p) (value.Int q) k s v fa fb ha hb = (ha, hb)
-crossed-in-bounds (dist.Categorical d) (value.Int p) (value.Categorical q) k s v fa fb ha hb = (ha, hb)
-crossed-in-bounds (dist.Categorical d) (value.Categorical p) (value.Float q) k s v fa fb ha hb = (ha, hb)
-crossed-in-bounds (dist.Categorical d) (value.Categorical p) (value.Int q) k s v fa fb ha hb = (ha, hb)
-crossed-in-bounds (dist.Categorical d) (value.Categorical p) (value.Categorical q) k s v fa fb ha hb = crossCategorical-within d p q s ha hb
+    → BothIn d (crossOne d a b k s)
+crossed-in-bounds d (value.Float p) (value.Float q) k s v fa fb ha hb = floats-within d p q k s v fa fb ha hb
+crossed-in-bounds d (value.Float p) (value.Int q) k s v fa fb ha hb = (ha, hb)
+crossed-in-bounds d (value.Float p) (value.Categorical q) k s v fa fb ha hb = (ha, hb)
+crossed-in-bounds d (value.Int p) (value.Float q) k s v fa fb ha hb = (ha, hb)
+crossed-in-bounds d (value.Int p) (value.Int q) k s v fa fb ha hb = ints-within d p q k s v ha hb
+crossed-in-bounds d (value.Int p) (value.Categorical q) k s v fa fb ha hb = (ha, hb)
+crossed-in-bounds d (value.Categorical p) (value.Float q) k s v fa fb ha hb = (ha, hb)
+crossed-in-bounds d (value.Categorical p) (value.Int q) k s v fa fb ha hb = (ha, hb)
+crossed-in-bounds d (value.Categorical p) (value.Categorical q) k s v fa fb ha hb = choices-within d p q s ha hb
 
 -- ---- mutation
 
@@ -211,7 +191,7 @@ shift-small x low high range k u = by-bool (lt u real.half)
     (λ e. rw e (less _ unit (root-small _ k) one-small))
     (λ e. rw e (less unit _ one-small (root-small _ k)))
 
-pub mutation-within : (d : FloatDistribution) (x : Float) (k s : ℕ) → Held (dist.Float d) → FloatBounds d → T (fits binary64 x) → within (d .low) (d .high) x ≡ true
+mutation-within : (d : FloatDistribution) (x : Float) (k s : ℕ) → Held (dist.Float d) → FloatBounds d → T (fits binary64 x) → within (d .low) (d .high) x ≡ true
     → within (d .low) (d .high) (polynomialMutation x (d .low) (d .high) k s .value) ≡ true
 unfolding polynomialMutation le
 mutation-within d x k s h b f i = by-bool (le (d .high ⊖ d .low) real.nought)

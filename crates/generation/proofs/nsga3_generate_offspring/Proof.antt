@@ -11,7 +11,7 @@ use Rattle.settings.proofs.Valid.{few}
 use Rattle.refusals.specs.Checked.{checked}
 use Rattle.candidate_laws.proofs.Sound.{AllHeld}
 use Rattle.typed_laws.proofs.Held.{array-held}
-use Rattle.generation.proofs.Answer.{refused-so, stepped-so}
+use Rattle.generation_laws.proofs.Answer.{refused-so, stepped-so}
 use Rattle.generation.proofs.nsga3_generate_offspring.Statement.{statement}
 use Rattle.generation.proofs.nsga3_generate_offspring.Tie as tie
 

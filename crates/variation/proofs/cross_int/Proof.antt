@@ -1,50 +1,32 @@
 -- Skipped, or crossed as reals.
-use Rattle.variation.proofs.Crossing.{level, apart}
-use mathlib.Core.Path.{_≡_, refl, sym, ap, ap₂, _∙_, subst}
-use mathlib.Core.Bool.{Bool, true, false, _&&_, true≢false}
-use Prim.Native.Nat.{ℕ}
-use lib.IntN.{ℤ, pos, negsuc}
-use lib.Signed.{leZ}
+use mathlib.Core.Path.{_≡_, sym, ap, ap₂, _∙_}
+use lib.IntN.{ℤ}
 use lib.Ieee.{Float}
 use mir.Syntax.{w64}
 use mir.Val.{toZ, ofZ}
-use mir.ValLaws.{toZ-ofZ}
 use Rattle.model.specs.declared.IntDistribution.{IntDistribution}
 use Rattle.model.specs.Setting.{ofWhole, drawUnit, spread, sbxFirst, sbxSecond}
-use Rattle.settings.proofs.Signed.{back}
-use Rattle.variation.proofs.Crossing.{crossInt-same, crossInt-apart}
+use Rattle.settings.proofs.Signed.{held, back}
+use Rattle.variation.proofs.Crossing.{crossInt-same, crossInt-apart, level, apart}
 use borrow.Author.Needs.{needs}
 use Rattle.variation.proofs.cross_int.Statement.{statement}
 use Rattle.variation.proofs.cross_int.Tie as tie
 
--- the two numbers, read back from their bits
-module _ (c : tie.Start) where
-  ep : toZ w64 (ofZ w64 (c .args .p)) ≡ c .args .p
-  ep = toZ-ofZ w64 (c .args .p) (c .fits .p)
-
-  eq : toZ w64 (ofZ w64 (c .args .q)) ≡ c .args .q
-  eq = toZ-ofZ w64 (c .args .q) (c .fits .q)
-
-  same : ofZ w64 (c .args .p) ≡ ofZ w64 (c .args .q) → c .args .p ≡ c .args .q
-  same t = sym ep ∙ ap (toZ w64) t ∙ eq
+-- the numbers are equal where their bits are
+same : (s : tie.Start) → ofZ w64 (s .args .p) ≡ ofZ w64 (s .args .q) → s .args .p ≡ s .args .q
+same s t = sym (held (s .fits .p)) ∙ ap (toZ w64) t ∙ held (s .fits .q)
 
 -- a child of reals that are whole numbers
-module _ (d : IntDistribution) (p q : ℤ) (k s : ℕ) (a b l h x : Float) (ea : a ≡ ofWhole p) (eb : b ≡ ofWhole q) (el : l ≡ ofWhole (d .low)) (eh : h ≡ ofWhole (d .high)) where
-  whole-first : x ≡ sbxFirst l h (spread (drawUnit s .value) k) a b → x ≡ sbxFirst (ofWhole (d .low)) (ofWhole (d .high)) (spread (drawUnit s .value) k) (ofWhole p) (ofWhole q)
-  whole-first e =
-      e ∙ ap₂ (λ (y z : Float). sbxFirst y z (spread (drawUnit s .value) k) a b) el eh
-      ∙ ap₂ (λ (y z : Float). sbxFirst (ofWhole (d .low)) (ofWhole (d .high)) (spread (drawUnit s .value) k) y z) ea eb
-
-  whole-second : x ≡ sbxSecond l h (spread (drawUnit s .value) k) a b → x ≡ sbxSecond (ofWhole (d .low)) (ofWhole (d .high)) (spread (drawUnit s .value) k) (ofWhole p) (ofWhole q)
-  whole-second e =
-      e ∙ ap₂ (λ (y z : Float). sbxSecond y z (spread (drawUnit s .value) k) a b) el eh
-      ∙ ap₂ (λ (y z : Float). sbxSecond (ofWhole (d .low)) (ofWhole (d .high)) (spread (drawUnit s .value) k) y z) ea eb
+whole-child : (f : Float → Float → Float → Float → Float) (d : IntDistribution) (p q : ℤ) (a b l h x : Float) → a ≡ ofWhole p → b ≡ ofWhole q → l ≡ ofWhole (d .low) → h ≡ ofWhole (d .high)
+    → x ≡ f l h a b → x ≡ f (ofWhole (d .low)) (ofWhole (d .high)) (ofWhole p) (ofWhole q)
+whole-child f d p q a b l h x ea eb el eh e =
+    e ∙ ap₂ (λ (y z : Float). f y z a b) el eh ∙ ap₂ (f (ofWhole (d .low)) (ofWhole (d .high))) ea eb
 
 returns : tie.Need-returns
 returns c =
     let s = c .before in
     let a = s .args in
-    rw (ep s, eq s) (crossInt-same (a .d) (a .p) (a .q) (a .k) (a .rng .s) (level (a .p) (a .q) (same s (c .if1 .taken))))
+    rw (held (s .fits .p), held (s .fits .q)) (crossInt-same (a .d) (a .p) (a .q) (a .k) (a .rng .s) (level (a .p) (a .q) (same s (c .if1 .taken))))
 
 real-of-int-requires : tie.Need-real-of-int-requires
 real-of-int-requires c κs = search needs
@@ -80,17 +62,18 @@ returns-2 c =
     let e1 = c .before .before .before .before .before .before .before .before .before .before in
     let s = e1 .before in
     let a = s .args in
+    let beta = spread (drawUnit (a .rng .s) .value) (a .k) in
     let bl = back (a .d .low) (t .0 .1) in
     let bh = back (a .d .high) (t .1 .0 .1) in
-    let ea = rw (ep s) at (ra .ensures) in
-    let eb = rw (eq s) at (rb .ensures) in
+    let ea = rw (held (s .fits .p)) at (ra .ensures) in
+    let eb = rw (held (s .fits .q)) at (rb .ensures) in
     let el = rw bl at (rl .ensures) in
     let eh = rw bh at (rh .ensures) in
     rw (back (i1 .result) (i1 .ok), back (i2 .result) (i2 .ok))
     (crossInt-apart (a .d) (a .p) (a .q) (a .k) (a .rng .s) (i1 .result) (i2 .result) (x .result .first) (x .result .second) (x .result .rng .s)
     (apart (a .p) (a .q) (λ e. e1 .if1 .left (ap (ofZ w64) e)))
-    (whole-first (a .d) (a .p) (a .q) (a .k) (a .rng .s) (ra .result) (rb .result) (rl .result) (rh .result) (x .result .first) ea eb el eh (x .ensures .0))
-    (whole-second (a .d) (a .p) (a .q) (a .k) (a .rng .s) (ra .result) (rb .result) (rl .result) (rh .result) (x .result .second) ea eb el eh (x .ensures .1))
+    (whole-child (λ (l h y z : Float). sbxFirst l h beta y z) (a .d) (a .p) (a .q) _ _ _ _ _ ea eb el eh (x .ensures .0))
+    (whole-child (λ (l h y z : Float). sbxSecond l h beta y z) (a .d) (a .p) (a .q) _ _ _ _ _ ea eb el eh (x .ensures .1))
     (rw (bl, bh) at (i1 .ensures)) (rw (bl, bh) at (i2 .ensures)) (x .ensures .2))
 
 pub cross-int-spec : {M : Type 1} → statement M

@@ -1,20 +1,11 @@
 -- By cases on the distribution.
 use mathlib.Core.Path.{_≡_, sym, ap, _∙_}
-use mir.Syntax.{w64}
-use mir.Val.{toZ, ofZ}
-use mir.ValLaws.{toZ-ofZ}
+use Rattle.settings.proofs.Signed.{held}
 use Rattle.model.specs.declared.Distribution.{Distribution}
 use Rattle.model.specs.Setting.{crossInts}
 use borrow.Author.Needs.{needs}
 use Rattle.variation.proofs.cross_ints.Statement.{statement}
 use Rattle.variation.proofs.cross_ints.Tie as tie
-
-module _ (c : tie.Start) where
-  ep : toZ w64 (ofZ w64 (c .args .p)) ≡ c .args .p
-  ep = toZ-ofZ w64 (c .args .p) (c .fits .p)
-
-  eq : toZ w64 (ofZ w64 (c .args .q)) ≡ c .args .q
-  eq = toZ-ofZ w64 (c .args .q) (c .fits .q)
 
 enum-told : tie.Need-enum-told
 enum-told c = search needs
@@ -38,19 +29,19 @@ returns : tie.Need-returns
 returns c =
     let s = c .before .before .before in
     let a = s .args in
-    (rw (ep s, eq s) at (c .as-they-are .ensures)) ∙ sym (ap (λ (d : Distribution). crossInts d (a .p) (a .q) (a .k) (a .rng .s)) (c .before .enum-told .given .1))
+    (rw (held (s .fits .p), held (s .fits .q)) at (c .as-they-are .ensures)) ∙ sym (ap (λ (d : Distribution). crossInts d (a .p) (a .q) (a .k) (a .rng .s)) (c .before .enum-told .given .1))
 
 returns-2 : tie.Need-returns-2
 returns-2 c =
     let s = c .before .before .before .before in
     let a = s .args in
-    (rw (ep s, eq s) at (c .cross-int .ensures)) ∙ sym (ap (λ (d : Distribution). crossInts d (a .p) (a .q) (a .k) (a .rng .s)) (c .before .before .d .given .1))
+    (rw (held (s .fits .p), held (s .fits .q)) at (c .cross-int .ensures)) ∙ sym (ap (λ (d : Distribution). crossInts d (a .p) (a .q) (a .k) (a .rng .s)) (c .before .before .d .given .1))
 
 returns-3 : tie.Need-returns-3
 returns-3 c =
     let s = c .before .before .before in
     let a = s .args in
-    (rw (ep s, eq s) at (c .as-they-are2 .ensures)) ∙ sym (ap (λ (d : Distribution). crossInts d (a .p) (a .q) (a .k) (a .rng .s)) (c .before .enum-told2 .given .1))
+    (rw (held (s .fits .p), held (s .fits .q)) at (c .as-they-are2 .ensures)) ∙ sym (ap (λ (d : Distribution). crossInts d (a .p) (a .q) (a .k) (a .rng .s)) (c .before .enum-told2 .given .1))
 
 pub cross-ints-spec : {M : Type 1} → statement M
 cross-ints-spec =

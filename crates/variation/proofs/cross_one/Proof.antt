@@ -1,14 +1,24 @@
 -- By cases on the two settings.
-use Rattle.model.specs.declared.ParamValue.the-variants as value
-use Rattle.model.specs.Draw.{drawn}
-use Rattle.model.specs.Setting.{pair}
-use mathlib.Core.Path.{_≡_, sym, ap, ap₂, _∙_}
+use mathlib.Core.Path.{_≡_, refl, sym, ap, ap₂, _∙_}
+use Prim.Native.Nat.{ℕ}
+use Rattle.model.specs.declared.Distribution.{Distribution}
 use Rattle.model.specs.declared.ParamValue.{ParamValue}
-use Rattle.model.specs.Setting.{crossOne}
+use Rattle.model.specs.declared.ParamValue.the-variants as value
+use Rattle.model.specs.Draw.{Drawn, drawn}
+use Rattle.model.specs.Setting.{Pair, pair, crossOne}
 use Rattle.settings.proofs.Signed.{back}
 use borrow.Author.Needs.{needs}
 use Rattle.variation.proofs.cross_one.Statement.{statement}
 use Rattle.variation.proofs.cross_one.Tie as tie
+
+-- what is crossed of the settings that the parents' were found to be is crossed of the parents'
+module _ (d : Distribution) (k s : ℕ) (a b x y : ParamValue) (e : a ≡ x) (f : b ≡ y) (r : Drawn Pair) where
+  crossed : r ≡ crossOne d x y k s → r ≡ crossOne d a b k s
+  crossed h = h ∙ sym (ap₂ (λ (u v : ParamValue). crossOne d u v k s) e f)
+
+  -- settings of two kinds stand as they are
+  mixed : drawn (pair x y) s ≡ crossOne d x y k s → r ≡ drawn (pair x b) s → r ≡ crossOne d a b k s
+  mixed g h = crossed (h ∙ ap (λ (v : ParamValue). drawn (pair x v) s) f ∙ g)
 
 enum-known-a : tie.Need-enum-known-a
 enum-known-a c = search needs
@@ -76,68 +86,53 @@ cross-categorical-requires c κs = search needs
 returns : tie.Need-returns
 returns c =
     let a = c .before .before .before .before .before .before .before .args in
-    c .cross-floats .ensures ∙ sym (ap₂ (λ (x y : ParamValue). crossOne (a .d) x y (a .k) (a .rng .s)) (c .before .before .before .before .before .a .given .1) (c .before .before .b .given .1))
+    let p = c .before .before .before .before .before .a .given in
+    let q = c .before .before .b .given in
+    crossed (a .d) (a .k) (a .rng .s) _ _ _ _ (p .1) (q .1) _ (c .cross-floats .ensures)
 
 returns-2 : tie.Need-returns-2
 returns-2 c =
     let a = c .before .before .before .before .before .before .args in
-    let p = c .before .before .before .before .a .given in
-    let q = c .before .enum-told .given in
-    c .as-they-are .ensures ∙ ap (λ (y : ParamValue). drawn (pair (value.Float (p .0 .0)) y) (a .rng .s)) (q .1)
-    ∙ sym (ap₂ (λ (x y : ParamValue). crossOne (a .d) x y (a .k) (a .rng .s)) (p .1) (q .1))
+    mixed (a .d) (a .k) (a .rng .s) _ _ _ _ (c .before .before .before .before .a .given .1) (c .before .enum-told .given .1) _ refl (c .as-they-are .ensures)
 
 returns-3 : tie.Need-returns-3
 returns-3 c =
     let a = c .before .before .before .before .before .before .args in
-    let p = c .before .before .before .before .a .given in
-    let q = c .before .enum-told2 .given in
-    c .as-they-are2 .ensures ∙ ap (λ (y : ParamValue). drawn (pair (value.Float (p .0 .0)) y) (a .rng .s)) (q .1)
-    ∙ sym (ap₂ (λ (x y : ParamValue). crossOne (a .d) x y (a .k) (a .rng .s)) (p .1) (q .1))
+    mixed (a .d) (a .k) (a .rng .s) _ _ _ _ (c .before .before .before .before .a .given .1) (c .before .enum-told2 .given .1) _ refl (c .as-they-are2 .ensures)
 
 returns-4 : tie.Need-returns-4
 returns-4 c =
     let a = c .before .before .before .before .before .before .args in
-    let p = c .before .before .before .before .a2 .given in
-    let q = c .before .enum-told3 .given in
-    c .as-they-are3 .ensures ∙ ap (λ (y : ParamValue). drawn (pair (value.Int (p .0 .0)) y) (a .rng .s)) (q .1)
-    ∙ sym (ap₂ (λ (x y : ParamValue). crossOne (a .d) x y (a .k) (a .rng .s)) (p .1) (q .1))
+    mixed (a .d) (a .k) (a .rng .s) _ _ _ _ (c .before .before .before .before .a2 .given .1) (c .before .enum-told3 .given .1) _ refl (c .as-they-are3 .ensures)
 
 returns-5 : tie.Need-returns-5
 returns-5 c =
     let a = c .before .before .before .before .before .before .before .args in
     let p = c .before .before .before .before .before .a2 .given in
     let q = c .before .before .b2 .given in
-    (rw (back (p .0 .0) (c .before .before .before .before .known-told3 .given .0 .1), back (q .0 .0) (c .before .known-told4 .given .0 .1)) at (c .cross-ints .ensures))
-    ∙ sym (ap₂ (λ (x y : ParamValue). crossOne (a .d) x y (a .k) (a .rng .s)) (p .1) (q .1))
+    crossed (a .d) (a .k) (a .rng .s) _ _ _ _ (p .1) (q .1) _ (rw (back (p .0 .0) (c .before .before .before .before .known-told3 .given .0 .1), back (q .0 .0) (c .before .known-told4 .given .0 .1)) at (c .cross-ints .ensures))
 
 returns-6 : tie.Need-returns-6
 returns-6 c =
     let a = c .before .before .before .before .before .before .args in
-    let p = c .before .before .before .before .a2 .given in
-    let q = c .before .enum-told4 .given in
-    c .as-they-are4 .ensures ∙ ap (λ (y : ParamValue). drawn (pair (value.Int (p .0 .0)) y) (a .rng .s)) (q .1)
-    ∙ sym (ap₂ (λ (x y : ParamValue). crossOne (a .d) x y (a .k) (a .rng .s)) (p .1) (q .1))
+    mixed (a .d) (a .k) (a .rng .s) _ _ _ _ (c .before .before .before .before .a2 .given .1) (c .before .enum-told4 .given .1) _ refl (c .as-they-are4 .ensures)
 
 returns-7 : tie.Need-returns-7
 returns-7 c =
     let a = c .before .before .before .before .before .before .args in
-    let p = c .before .before .before .before .a3 .given in
-    let q = c .before .enum-told5 .given in
-    c .as-they-are5 .ensures ∙ ap (λ (y : ParamValue). drawn (pair (value.Categorical (p .0 .0)) y) (a .rng .s)) (q .1)
-    ∙ sym (ap₂ (λ (x y : ParamValue). crossOne (a .d) x y (a .k) (a .rng .s)) (p .1) (q .1))
+    mixed (a .d) (a .k) (a .rng .s) _ _ _ _ (c .before .before .before .before .a3 .given .1) (c .before .enum-told5 .given .1) _ refl (c .as-they-are5 .ensures)
 
 returns-8 : tie.Need-returns-8
 returns-8 c =
     let a = c .before .before .before .before .before .before .args in
-    let p = c .before .before .before .before .a3 .given in
-    let q = c .before .enum-told6 .given in
-    c .as-they-are6 .ensures ∙ ap (λ (y : ParamValue). drawn (pair (value.Categorical (p .0 .0)) y) (a .rng .s)) (q .1)
-    ∙ sym (ap₂ (λ (x y : ParamValue). crossOne (a .d) x y (a .k) (a .rng .s)) (p .1) (q .1))
+    mixed (a .d) (a .k) (a .rng .s) _ _ _ _ (c .before .before .before .before .a3 .given .1) (c .before .enum-told6 .given .1) _ refl (c .as-they-are6 .ensures)
 
 returns-9 : tie.Need-returns-9
 returns-9 c =
     let a = c .before .before .before .before .before .before .before .args in
-    c .cross-categorical .ensures ∙ sym (ap₂ (λ (x y : ParamValue). crossOne (a .d) x y (a .k) (a .rng .s)) (c .before .before .before .before .before .a3 .given .1) (c .before .before .b3 .given .1))
+    let p = c .before .before .before .before .before .a3 .given in
+    let q = c .before .before .b3 .given in
+    crossed (a .d) (a .k) (a .rng .s) _ _ _ _ (p .1) (q .1) _ (c .cross-categorical .ensures)
 
 pub cross-one-spec : {M : Type 1} → statement M
 cross-one-spec =

@@ -1,12 +1,12 @@
 -- The cast asks nothing more of an eta that is accepted.
 use native.Mathlib.Omega.{arith}
-use Rattle.variation.proofs.Exponent.{castable, small}
+use Rattle.variation.proofs.Exponent.{eta-castable, small}
 use borrow.Author.Needs.{needs}
 use Rattle.variation.proofs.exponent_of.Statement.{statement}
 use Rattle.variation.proofs.exponent_of.Tie as tie
 
 truncating-f64-to-u64-requires : tie.Need-truncating-f64-to-u64-requires
-truncating-f64-to-u64-requires c κs = castable (c .args .eta) (c .pre)
+truncating-f64-to-u64-requires c κs = eta-castable (c .args .eta) (c .pre)
 
 add-result : tie.Need-add-result
 add-result c = let h = small (c .before .args .eta) (c .before .pre) in let e = c .truncating-f64-to-u64 .ensures in omega arith

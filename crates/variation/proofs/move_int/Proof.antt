@@ -3,15 +3,12 @@ use mathlib.Core.Path.{_≡_, ap, ap₂, _∙_}
 use Prim.Native.Nat.{ℕ}
 use lib.IntN.{ℤ}
 use lib.Ieee.{Float}
-use mir.Syntax.{w64}
-use mir.Val.{toZ, ofZ}
-use mir.ValLaws.{toZ-ofZ}
 use Rattle.model.specs.declared.Distribution.the-variants as dist
 use Rattle.model.specs.declared.IntDistribution.{IntDistribution}
 use Rattle.model.specs.declared.ParamValue.the-variants as value
 use Rattle.model.specs.Draw.{Drawn, drawn}
 use Rattle.model.specs.Setting.{toInt, ofWhole, polynomialMutation, mutateInt}
-use Rattle.settings.proofs.Signed.{back}
+use Rattle.settings.proofs.Signed.{held, back}
 use borrow.Author.Needs.{needs}
 use Rattle.variation.proofs.move_int.Statement.{statement}
 use Rattle.variation.proofs.move_int.Tie as tie
@@ -51,7 +48,7 @@ returns c =
     let bh = back (s .args .d .high) (t .1 .0 .1) in
     rw (back (i .result) (i .ok))
     (is-moved (s .args .d) (s .args .n) (s .args .k) (s .args .rng .s) (rn .result) (rl .result) (rh .result) (y .result .value) (i .result) (y .result .rng .s)
-    (rw (toZ-ofZ w64 (s .args .n) (s .fits .n)) at (rn .ensures)) (rw bl at (rl .ensures)) (rw bh at (rh .ensures)) (y .ensures) (rw (bl, bh) at (i .ensures)))
+    (rw (held (s .fits .n)) at (rn .ensures)) (rw bl at (rl .ensures)) (rw bh at (rh .ensures)) (y .ensures) (rw (bl, bh) at (i .ensures)))
 
 pub move-int-spec : {M : Type 1} → statement M
 move-int-spec =

@@ -1,17 +1,11 @@
 -- By cases on the distribution.
 use mathlib.Core.Path.{_≡_, sym, ap, _∙_}
-use mir.Syntax.{w64}
-use mir.Val.{toZ, ofZ}
-use mir.ValLaws.{toZ-ofZ}
+use Rattle.settings.proofs.Signed.{held}
 use Rattle.model.specs.declared.Distribution.{Distribution}
 use Rattle.model.specs.Setting.{mutateInt}
 use borrow.Author.Needs.{needs}
 use Rattle.variation.proofs.mutate_int.Statement.{statement}
 use Rattle.variation.proofs.mutate_int.Tie as tie
-
-module _ (c : tie.Start) where
-  en : toZ w64 (ofZ w64 (c .args .n)) ≡ c .args .n
-  en = toZ-ofZ w64 (c .args .n) (c .fits .n)
 
 enum-told : tie.Need-enum-told
 enum-told c = search needs
@@ -35,19 +29,19 @@ returns : tie.Need-returns
 returns c =
     let s = c .before .before .before in
     let a = s .args in
-    (rw (en s) at (c .unmoved .ensures)) ∙ sym (ap (λ (d : Distribution). mutateInt d (a .n) (a .k) (a .rng .s)) (c .before .enum-told .given .1))
+    (rw (held (s .fits .n)) at (c .unmoved .ensures)) ∙ sym (ap (λ (d : Distribution). mutateInt d (a .n) (a .k) (a .rng .s)) (c .before .enum-told .given .1))
 
 returns-2 : tie.Need-returns-2
 returns-2 c =
     let s = c .before .before .before .before in
     let a = s .args in
-    (rw (en s) at (c .move-int .ensures)) ∙ sym (ap (λ (d : Distribution). mutateInt d (a .n) (a .k) (a .rng .s)) (c .before .before .d .given .1))
+    (rw (held (s .fits .n)) at (c .move-int .ensures)) ∙ sym (ap (λ (d : Distribution). mutateInt d (a .n) (a .k) (a .rng .s)) (c .before .before .d .given .1))
 
 returns-3 : tie.Need-returns-3
 returns-3 c =
     let s = c .before .before .before in
     let a = s .args in
-    (rw (en s) at (c .unmoved2 .ensures)) ∙ sym (ap (λ (d : Distribution). mutateInt d (a .n) (a .k) (a .rng .s)) (c .before .enum-told2 .given .1))
+    (rw (held (s .fits .n)) at (c .unmoved2 .ensures)) ∙ sym (ap (λ (d : Distribution). mutateInt d (a .n) (a .k) (a .rng .s)) (c .before .enum-told2 .given .1))
 
 pub mutate-int-spec : {M : Type 1} → statement M
 mutate-int-spec =

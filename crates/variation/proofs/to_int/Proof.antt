@@ -2,21 +2,11 @@
 use mathlib.Core.Path.{_≡_, ap, _∙_}
 use lib.IntN.{ℤ}
 use lib.Ieee.{Float, toSigned}
-use mir.Syntax.{w64}
-use mir.Val.{toZ, ofZ}
-use mir.ValLaws.{toZ-ofZ}
 use Rattle.model.specs.Setting.{clampInt}
-use Rattle.settings.proofs.Signed.{back}
+use Rattle.settings.proofs.Signed.{held, back}
 use borrow.Author.Needs.{needs}
 use Rattle.variation.proofs.to_int.Statement.{statement}
 use Rattle.variation.proofs.to_int.Tie as tie
-
-module _ (c : tie.Start) where
-  el : toZ w64 (ofZ w64 (c .args .low)) ≡ c .args .low
-  el = toZ-ofZ w64 (c .args .low) (c .fits .low)
-
-  eh : toZ w64 (ofZ w64 (c .args .high)) ≡ c .args .high
-  eh = toZ-ofZ w64 (c .args .high) (c .fits .high)
 
 round-requires : tie.Need-round-requires
 round-requires c κs = search needs
@@ -32,7 +22,7 @@ returns c =
     let s = c .before .before .before in
     let i = c .before .int-of-real in
     back (c .clamp-int .result) (c .clamp-int .ok)
-    ∙ (rw (el s, eh s, back (i .result) (i .ok)) at (c .clamp-int .ensures))
+    ∙ (rw (held (s .fits .low), held (s .fits .high), back (i .result) (i .ok)) at (c .clamp-int .ensures))
     ∙ ap (λ (n : ℤ). clampInt (s .args .low) (s .args .high) n) (i .ensures ∙ ap (toSigned 63) (c .before .before .round .ensures))
 
 pub to-int-spec : {M : Type 1} → statement M

@@ -1,0 +1,62 @@
+// The offspring of a kept list (Rust: nsga3_generate_offspring of sampler/nsga3.rs; document 01, "Setting and dimension").
+ghost use mathlib.Core.Path.{_≡_};
+ghost use mathlib.Core.Bool.{true, false};
+ghost use Prim.Native.Nat.{ℕ, _*_, _≤_, _<_};
+ghost use lib.ListN.{length, getD};
+ghost use Rattle.model.specs.Lists.{allBelow, over};
+ghost use Rattle.model.specs.Plan.{planAt, planCount};
+ghost use Rattle.model.specs.Setting.{wordsOf};
+ghost use Rattle.model.specs.Refusal.{goodPlan, breedable, badDimensions, badOperators};
+ghost use Rattle.model.specs.Calls.{operators};
+ghost use Rattle.settings.specs.Candidate.{dimensionsOf};
+ghost use Rattle.generation_laws.specs.Bred.{bredFrom};
+use model::CANDIDATE_WORDS;
+use model::DimensionInfo;
+use model::MAX_PLANS;
+use model::Rng;
+
+// The offspring of a kept list: its plans' settings are the parents, ranked by rows only.
+pub fn breed(
+    pool: &[u64],
+    directions: &[u8],
+    kept: &[usize],
+    size: usize,
+    dims: [DimensionInfo; 32],
+    n_dims: usize,
+    crossover_prob: f64,
+    crossover_eta: f64,
+    mutation_eta: f64,
+    rng: Rng,
+    offspring: &mut [u64],
+) -> Rng
+    requires { ⌜ (planCount (now pool) ≤ 1024) × (length (now directions) ≤ 8)
+        × (allBelow (λ p. goodPlan (length (now directions)) (planAt (now pool) p)) (planCount (now pool)) ≡ true)
+        × (allBelow (λ p. breedable (dimensionsOf dims) «n_dims» (planAt (now pool) p)) (planCount (now pool)) ≡ true)
+        × (badDimensions (dimensionsOf dims) «n_dims» ≡ false) × (badOperators «crossover_prob» «crossover_eta» «mutation_eta» ≡ false) ⌝ }
+    requires { ⌜ (0 < size) × (size ≤ 1024) × (size ≤ length (now kept)) × ((i : ℕ) → i < size → getD (now kept) i 0 < planCount (now pool))
+        × (size * «n_dims» ≤ length (now offspring)) ⌝ }
+    ensures words { λ _. ⌜ now (offspring .exit)
+        ≡ over (wordsOf (bredFrom (operators dims «n_dims» «crossover_prob» «crossover_eta» «mutation_eta») (now (pool .entry)) (now (directions .entry))
+        (now (kept .entry)) size (rng .s) .value)) (now (offspring .entry)) ⌝ }
+    ensures state { λ r. ⌜ r .s
+        ≡ bredFrom (operators dims «n_dims» «crossover_prob» «crossover_eta» «mutation_eta») (now (pool .entry)) (now (directions .entry))
+        (now (kept .entry)) size (rng .s) .state ⌝ }
+{
+    let mut parents: [u64; CANDIDATE_WORDS] = [0; CANDIDATE_WORDS];
+    let rng = offspring::fill_parents(pool, kept, size, dims, n_dims, rng, &mut parents);
+    let mut ranks: [usize; MAX_PLANS] = [0; MAX_PLANS];
+    ranks::fill_ranks(pool, directions, kept, size, &mut ranks);
+    offspring::write_offspring(
+        &parents,
+        size,
+        &ranks,
+        dims,
+        n_dims,
+        crossover_prob,
+        crossover_eta,
+        mutation_eta,
+        size,
+        rng,
+        offspring,
+    )
+}

@@ -1,0 +1,132 @@
+-- The answer of a generation step, from what its parts leave.
+use Prim.Native.Nat.{ℕ, suc, _≤_, _<_}
+use mathlib.Core.Path.{_≡_, refl, ap, ap₂, sym, subst, _∙_}
+use mathlib.Core.Bool.{false}
+use mathlib.Core.List.{List, [], _∷_}
+use mathlib.Core.Option.{none, some}
+use native.Mathlib.Omega.{arith}
+use borrow.Author.Tests.{lt-ltb, le-ltb}
+use lib.Ieee.{Float}
+use lib.ListN.{length, getD, take}
+use Rattle.list_laws.proofs.Built.{over-take}
+use Rattle.model.specs.declared.Distribution.{Distribution}
+use Rattle.model.specs.declared.ParamValue.{ParamValue}
+use Rattle.model.specs.declared.Outcome.the-variants as outcome
+use Rattle.model.specs.declared.Rng.{Rng}
+use Rattle.model.specs.Lists.{over}
+use Rattle.model.specs.Draw.{Drawn, drawn}
+use Rattle.model.specs.Plan.{Plan, planAt, planCount}
+use Rattle.model.specs.Row.{rowBeats}
+use Rattle.model.specs.Front.{frontOf}
+use Rattle.model.specs.Association.{Request}
+use Rattle.model.specs.Kept.{selected}
+use Rattle.model.specs.Setting.{Operators, Generation, wordsOf, WordsWithin, sampleCandidates, parentsOf, offspringOf, rankOf, generationOf, generationOfOne, byPool, generation}
+use Rattle.model.specs.Refusal.{badDimensions, stepRefusal}
+use Rattle.model.specs.Calls.{wordRequest, Lent, roomOf, SelectExit, answered, selectAccepted, selectBy, selectOf, Selects, StepExit, stepAccepted, stepBy, stepOf, Steps}
+use Rattle.demand3_laws.proofs.Calls.{planAt-row, steps}
+use Rattle.candidate_laws.proofs.Sound.{AllHeld}
+use Rattle.candidate_laws.proofs.KeptPlans.{kept-length, kept-below}
+use Rattle.candidate_laws.proofs.Generations.{generation-words}
+use Rattle.generation_laws.specs.Bred.{rankAt, bredFrom, exit}
+use Rattle.generation_laws.proofs.Accepted.{passed, sized, selects}
+use Rattle.generation_laws.proofs.Breeding.{offspring-same, front-place}
+
+parents-length : (dims : ℕ → Distribution) (n : ℕ) (plans : ℕ → Plan) (ps : List ℕ) (s : ℕ) → length (parentsOf dims n plans ps s .value) ≡ length ps
+unfolding parentsOf
+parents-length dims n plans [] s = refl
+parents-length dims n plans (p ∷ ps) s = ap suc (parents-length dims n plans ps _)
+
+-- an exit that keeps n plans
+abbrev kept-exit : ℕ → ℕ → List Float → List ℕ → List ℕ → List ℕ → List ℕ → StepExit
+kept-exit n s i k f l out = exit (answered (outcome.Kept n) s) i k f l out
+
+-- what an accepted step leaves, from its generation
+abbrev generation-exit : Generation → Lent → List ℕ → StepExit
+generation-exit g at old = kept-exit (length (g .kept)) (g .state) (g .ideal) (over (g .kept) (at .kept)) (over (g .fronts) (at .fronts)) (over (g .lines) (at .lines)) (over (wordsOf (g .offspring)) old)
+
+module _ (o : Operators) (pool directions : List ℕ) (divisions size : ℕ) (g : Rng) (ideal : List Float) (at : Lent) (old : List ℕ) where
+  abbrev r : Request
+  r = wordRequest pool directions divisions size g ideal
+
+  -- ---- a pool of one
+
+  pub one-exit : planCount pool < 2 → (out : List ℕ) (h : Rng) → out ≡ over (wordsOf (sampleCandidates (o .dims) (o .dimCount) size (g .s) .value)) old
+      → h .s ≡ sampleCandidates (o .dims) (o .dimCount) size (g .s) .state
+      → exit (record { outcome = outcome.Kept 0; rng = h }) ideal (at .kept) (at .fronts) (at .lines) out ≡ stepAccepted o r at old
+  unfolding stepAccepted generation generationOfOne
+  one-exit few out h e f =
+      ap₂ (λ s w. kept-exit 0 s ideal (at .kept) (at .fronts) (at .lines) w) f e
+      ∙ ap (λ b. generation-exit (byPool b o r) at old) (sym (lt-ltb (planCount pool) 2 few))
+
+  -- ---- a pool of two or more
+
+  module _ (refused : stepRefusal o r (roomOf at) (length old) ≡ none) (two : 2 ≤ planCount pool) where
+    -- the selection is not refused
+    pub select-exit : (x : SelectExit) → Selects r at x → x ≡ selectAccepted r at
+    unfolding selectOf
+    select-exit x h = h .whole ∙ ap (λ n. selectBy n r at) (selects (passed o r (roomOf at) (length old) refused) two)
+
+    module _ (x : SelectExit) (e : x ≡ selectAccepted r at) where
+      kept-is : x .slices .kept ≡ over (selected r .kept) (at .kept)
+      unfolding selectAccepted
+      kept-is = ap (λ (y : SelectExit). y .slices .kept) e
+
+      state-is : x .answer .rng .s ≡ selected r .state
+      unfolding selectAccepted
+      state-is = ap (λ (y : SelectExit). y .answer .rng .s) e
+
+      place-is : (i : ℕ) → i < size → getD (x .slices .kept) i 0 ≡ getD (selected r .kept) i 0
+      place-is i h = ap (λ l. getD l i 0) kept-is ∙ front-place (selected r .kept) (at .kept) i size (kept-length r) h
+
+      -- its plans are in the pool
+      pub kept-in-pool : (i : ℕ) → i < size → getD (x .slices .kept) i 0 < planCount pool
+      kept-in-pool i h =
+          let z = kept-length r in
+          subst (λ p. p < planCount pool) (sym (place-is i h)) (kept-below r (omega arith) i (omega arith))
+
+      -- and what is bred from them is the generation's offspring
+      bred-generation : bredFrom o pool directions (x .slices .kept) size (x .answer .rng .s) ≡ drawn (generationOf o r .offspring) (generationOf o r .state)
+      unfolding bredFrom generationOf rankOf
+      bred-generation =
+          let taken : take size (x .slices .kept) ≡ selected r .kept = ap (take size) kept-is ∙ over-take (selected r .kept) (at .kept) size (kept-length r) in
+          let ps = parentsOf (o .dims) (o .dimCount) (planAt pool) (selected r .kept) (selected r .state) in
+          let z : length (ps .value) ≡ size = parents-length (o .dims) (o .dimCount) (planAt pool) (selected r .kept) (selected r .state) ∙ kept-length r in
+          let some : 0 < size = sized (passed o r (roomOf at) (length old) refused) .0 in
+          ap₂ (λ k s. let p = parentsOf (o .dims) (o .dimCount) (planAt pool) k s in offspringOf o (p .value) (rankAt pool directions (x .slices .kept)) size (p .state)) taken state-is
+          ∙ offspring-same o (ps .value) (rankAt pool directions (x .slices .kept)) (rankAt pool directions (selected r .kept)) (omega arith)
+          (λ i h. ap (frontOf (rowBeats directions (planAt pool)) (planCount pool)) (place-is i (omega arith)))
+          size (ps .state)
+
+      pub bred-exit : (out : List ℕ) (h : Rng) → out ≡ over (wordsOf (bredFrom o pool directions (x .slices .kept) size (x .answer .rng .s) .value)) old
+          → h .s ≡ bredFrom o pool directions (x .slices .kept) size (x .answer .rng .s) .state
+          → exit (record { outcome = outcome.Kept size; rng = h }) (x .ideal) (x .slices .kept) (x .slices .fronts) (x .slices .lines) out ≡ stepAccepted o r at old
+      unfolding selectAccepted stepAccepted generation generationOf
+      bred-exit out h f q =
+          ap₂ (λ s w. kept-exit size s (x .ideal) (x .slices .kept) (x .slices .fronts) (x .slices .lines) w)
+          (q ∙ ap (λ (d : Drawn (List (List ParamValue))). d .state) bred-generation) (f ∙ ap (λ (d : Drawn (List (List ParamValue))). over (wordsOf (d .value)) old) bred-generation)
+          ∙ ap (λ (y : SelectExit). kept-exit size (generationOf o r .state) (y .ideal) (y .slices .kept) (y .slices .fronts) (y .slices .lines) (over (wordsOf (generationOf o r .offspring)) old)) e
+          ∙ ap (λ n. kept-exit n (generationOf o r .state) (selected r .ideal) (over (selected r .kept) (at .kept)) (over (selected r .fronts) (at .fronts)) (over (selected r .lines) (at .lines))
+          (over (wordsOf (generationOf o r .offspring)) old)) (sym (kept-length r))
+          ∙ ap (λ b. generation-exit (byPool b o r) at old) (sym (le-ltb (planCount pool) 2 two))
+
+  -- ---- the promise
+
+  module _ (held : badDimensions (o .dims) (o .dimCount) ≡ false → AllHeld (o .dims) (o .dimCount)) where
+    bounds : stepRefusal o r (roomOf at) (length old) ≡ none → WordsWithin (o .dims) (o .dimCount) size (stepOf o r at old .offspring)
+    unfolding stepOf stepAccepted
+    bounds e =
+        let ok = passed o r (roomOf at) (length old) e in
+        subst (λ n. WordsWithin (o .dims) (o .dimCount) size (stepBy n o r at old .offspring)) (sym e)
+        (generation-words o r (held (ok .dimensions)) (ok .dimensions) (ok .parents) old)
+
+    promise : (x : StepExit) → x ≡ stepOf o r at old → Steps o r at old x
+    promise x e = subst (Steps o r at old) (sym e) (steps r (planAt-row pool) o at old bounds)
+
+    pub refused-so : (n : ℕ) → some n ≡ stepRefusal o r (roomOf at) (length old)
+        → Steps o r at old (record { answer = record { outcome = outcome.Refused n; rng = g }; ideal = ideal; slices = at; offspring = old })
+    unfolding stepOf
+    refused-so n e = promise _ (ap (λ m. stepBy m o r at old) e)
+
+    pub stepped-so : none ≡ stepRefusal o r (roomOf at) (length old) → (x : StepExit) → x ≡ stepAccepted o r at old → Steps o r at old x
+    unfolding stepOf
+    stepped-so e x h = promise x (h ∙ ap (λ m. stepBy m o r at old) e)

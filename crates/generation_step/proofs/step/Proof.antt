@@ -1,0 +1,118 @@
+-- `step`: a pool of one draws, any other selects and breeds
+use Prim.Native.Nat.{ℕ, _≤_}
+use mathlib.Core.Path.{_≡_}
+use native.Mathlib.Omega.{arith}
+use borrow.Author.Needs.{needs}
+use lib.ListN.{length}
+use Rattle.model.specs.Association.{Request}
+use Rattle.model.specs.Setting.{Operators}
+use Rattle.model.specs.Plan.{planCount}
+use Rattle.model.specs.Calls.{wordRequest, operators, Lent, lent, roomOf}
+use Rattle.generation_laws.proofs.Accepted.{Passed, passed, narrow, sized, few-plans, good-plans, all-breedable, offspring-room, kept-room}
+use Rattle.generation_laws.proofs.Answer.{one-exit, select-exit, kept-in-pool, bred-exit}
+use Rattle.generation_step.proofs.step.Statement.{statement}
+use Rattle.generation_step.proofs.step.Tie as tie
+
+abbrev ops : tie.Start → Operators
+ops s = operators (s .args .dims) (s .args .n-dims) (s .args .crossover-prob) (s .args .crossover-eta) (s .args .mutation-eta)
+
+abbrev request : tie.Start → Request
+request s = wordRequest (s .args .pool .now) (s .args .directions .now) (s .args .divisions) (s .args .size) (s .args .rng) (s .args .ideal .now)
+
+abbrev at : tie.Start → Lent
+at s = lent (s .args .kept .now) (s .args .fronts .now) (s .args .lines .now)
+
+abbrev room : tie.Start → ℕ
+room s = length (s .args .offspring .now)
+
+abbrev given : (s : tie.Start) → Passed (ops s) (request s) (roomOf (at s)) (room s)
+given s = passed (ops s) (request s) (roomOf (at s)) (room s) (s .pre)
+
+-- ---- a pool of one
+
+plan-count-requires : tie.Need-plan-count-requires
+plan-count-requires c κs = search needs
+
+sample-candidates-requires : tie.Need-sample-candidates-requires
+sample-candidates-requires c κs =
+    let s = c .before .before .before .before .before .before .before .before .before .before in
+    (given s .dimensions, offspring-room (given s))
+
+same-length : tie.Need-same-length
+same-length c = search needs
+
+returns : tie.Need-returns
+returns c =
+    let s = c .before .before .before .before .before .before .before .before .before .before .before .before .before in
+    let a = s .args in
+    let d = c .before .before .sample-candidates in
+    one-exit (ops s) (a .pool .now) (a .directions .now) (a .divisions) (a .size) (a .rng) (a .ideal .now) (at s) (a .offspring .now)
+    (omega (arith, c .before .before .before .before .before .plan-count .ensures, c .before .before .before .before .if1 .taken)) _ _ (d .ensures .0) (d .ensures .1)
+
+-- ---- a pool of two or more
+
+nsga3-select-requires : tie.Need-nsga3-select-requires
+nsga3-select-requires c κs = search needs
+
+two : (c : tie.Else1) → 2 ≤ planCount (c .before .before .before .before .before .before .before .before .before .args .pool .now)
+two c = omega (arith, c .before .plan-count .ensures, c .if1 .left)
+
+breed-requires : tie.Need-breed-requires
+breed-requires c κs =
+    let s = c .before .before .before .before .before .before .before .before .before .before .before .before .before .before .before .before .before .before .before .before .before .before .before .before in
+    let a = s .args in
+    let h = two (c .before .before .before .before .before .before .before .before .before .before .before .before .before .before .before) in
+    let n = c .before .before .before .before .before .before .before .before .before .before .nsga3-select in
+    let e = select-exit (ops s) (a .pool .now) (a .directions .now) (a .divisions) (a .size) (a .rng) (a .ideal .now) (at s) (a .offspring .now) (s .pre) h _ (n .ensures) in
+    let ok = given s in
+    let kept : length (n .last .1 .1 .1 .1 .1 .1 .0) ≡ length (a .kept .now) = n .kept .1 .1 .1 .1 .1 .1 .0 in (
+      (few-plans ok, narrow ok, good-plans ok, all-breedable ok, ok .dimensions, ok .operators),
+      (
+        sized ok .0,
+        sized ok .1,
+        omega (arith, kept, kept-room ok h),
+        kept-in-pool (ops s) (a .pool .now) (a .directions .now) (a .divisions) (a .size) (a .rng) (a .ideal .now) (at s) (a .offspring .now) (s .pre) h _ e,
+        offspring-room ok,
+      ),
+    )
+
+same-length-2 : tie.Need-same-length-2
+same-length-2 c = search needs
+
+same-length-3 : tie.Need-same-length-3
+same-length-3 c = search needs
+
+same-length-4 : tie.Need-same-length-4
+same-length-4 c = search needs
+
+same-length-5 : tie.Need-same-length-5
+same-length-5 c = search needs
+
+same-length-6 : tie.Need-same-length-6
+same-length-6 c = search needs
+
+returns-2 : tie.Need-returns-2
+returns-2 c =
+    let s = c .before .before .before .before .before .before .before .before .before .before .before .before .before .before .before .before .before .before .before .before .before .before .before .before .before .before .before in
+    let a = s .args in
+    let h = two (c .before .before .before .before .before .before .before .before .before .before .before .before .before .before .before .before .before .before) in
+    let b = c .before .before .breed in
+    let e = select-exit (ops s) (a .pool .now) (a .directions .now) (a .divisions) (a .size) (a .rng) (a .ideal .now) (at s) (a .offspring .now) (s .pre) h _ (c .before .before .before .before .before .before .before .before .before .before .before .before .before .nsga3-select .ensures) in
+    bred-exit (ops s) (a .pool .now) (a .directions .now) (a .divisions) (a .size) (a .rng) (a .ideal .now) (at s) (a .offspring .now) (s .pre) h _ e _ _ (b .ensures .0) (b .ensures .1)
+
+pub step-spec : {M : Type 1} → statement M
+step-spec =
+    tie.close
+    (tie.spec
+    plan-count-requires
+    sample-candidates-requires
+    same-length
+    returns
+    nsga3-select-requires
+    breed-requires
+    same-length-2
+    same-length-3
+    same-length-4
+    same-length-5
+    same-length-6
+    returns-2)

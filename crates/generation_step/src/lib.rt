@@ -1,0 +1,75 @@
+// A generation step that meets no refusal (Rust: nsga3_generate_offspring of sampler/nsga3.rs; document 01, "Setting and dimension").
+ghost use mathlib.Core.Path.{_≡_};
+ghost use mathlib.Core.Option.{none};
+ghost use lib.ListN.{length};
+ghost use Rattle.model.specs.Refusal.{stepRefusal};
+ghost use Rattle.model.specs.Calls.{wordRequest, lent, roomOf, operators, stepAccepted};
+ghost use Rattle.generation_laws.specs.Bred.{exit};
+use model::DimensionInfo;
+use model::Outcome;
+use model::Rng;
+use model::Selection;
+
+// A generation step that meets no refusal. A pool of one breeds nothing and selects nothing: every setting is drawn.
+pub fn step(
+    pool: &[u64],
+    directions: &[u8],
+    divisions: usize,
+    size: usize,
+    rng: Rng,
+    dims: [DimensionInfo; 32],
+    n_dims: usize,
+    crossover_prob: f64,
+    crossover_eta: f64,
+    mutation_eta: f64,
+    ideal: &mut [f64],
+    kept: &mut [usize],
+    fronts: &mut [usize],
+    lines: &mut [usize],
+    offspring: &mut [u64],
+) -> Selection
+    requires { ⌜ stepRefusal (operators dims «n_dims» «crossover_prob» «crossover_eta» «mutation_eta»)
+        (wordRequest (now pool) (now directions) divisions size rng (now ideal))
+        (roomOf (lent (now kept) (now fronts) (now lines))) (length (now offspring)) ≡ none ⌝ }
+    ensures { λ r. ⌜ exit r (now (ideal .exit)) (now (kept .exit)) (now (fronts .exit)) (now (lines .exit)) (now (offspring .exit))
+        ≡ stepAccepted (operators dims «n_dims» «crossover_prob» «crossover_eta» «mutation_eta»)
+        (wordRequest (now (pool .entry)) (now (directions .entry)) divisions size rng (now (ideal .entry)))
+        (lent (now (kept .entry)) (now (fronts .entry)) (now (lines .entry))) (now (offspring .entry)) ⌝ }
+{
+    let count = plans::plan_count(pool);
+    if count < 2 {
+        let rng = candidates::sample_candidates(dims, n_dims, size, rng, offspring);
+        return Selection {
+            outcome: Outcome::Kept(0),
+            rng,
+        };
+    }
+    let selection = nsga3::nsga3_select(
+        pool,
+        directions,
+        divisions,
+        size,
+        rng,
+        ideal,
+        kept,
+        fronts,
+        lines,
+    );
+    let rng = breeding::breed(
+        pool,
+        directions,
+        kept,
+        size,
+        dims,
+        n_dims,
+        crossover_prob,
+        crossover_eta,
+        mutation_eta,
+        selection.rng,
+        offspring,
+    );
+    Selection {
+        outcome: Outcome::Kept(size),
+        rng,
+    }
+}

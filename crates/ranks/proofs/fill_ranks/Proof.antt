@@ -1,0 +1,48 @@
+-- the fronts that the kept plans are in
+use mathlib.Core.Path.{_≡_, ap, _∙_}
+use native.Mathlib.Omega.{arith}
+use borrow.Author.Needs.{needs}
+use lib.ListN.{length}
+use Rattle.model.specs.Lists.{over}
+use Rattle.model.specs.Plan.{planAt, planCount}
+use Rattle.model.specs.Row.{rowBeats}
+use Rattle.ranks.proofs.Ranks.{fronts-of}
+use Rattle.ranks.proofs.fill_ranks.Statement.{statement}
+use Rattle.ranks.proofs.fill_ranks.Tie as tie
+
+slice-aggregate-front-ranks : tie.Need-slice-aggregate-front-ranks
+slice-aggregate-front-ranks c = search needs
+
+front-ranks-requires : tie.Need-front-ranks-requires
+front-ranks-requires c κs = search needs
+
+slice-aggregate-look-up : tie.Need-slice-aggregate-look-up
+slice-aggregate-look-up c = search needs
+
+look-up-requires : tie.Need-look-up-requires
+look-up-requires c κs =
+    let s = c .before .before .before .before .before .before .before .before .before in
+    let size : length (c .before .before .before .front-ranks .last .1 .1 .0) ≡ 1024 = c .before .before .before .front-ranks .kept .1 .1 .0 in
+    (s .pre .3, s .pre .4, λ i l. omega (arith, s .pre .5 i l, s .pre .0, size))
+
+same-length : tie.Need-same-length
+same-length c = search needs
+
+returns : tie.Need-returns
+returns c =
+    let s = c .before .before .before .before .before .before .before .before .before .before .before .before in
+    let f = c .before .before .before .before .before .before .front-ranks in
+    c .before .before .look-up .ensures
+    ∙ ap (λ l. over l (s .args .ranks .now))
+    (fronts-of (rowBeats (s .args .directions .now) (planAt (s .args .pool .now))) (planCount (s .args .pool .now)) _ _ (s .args .kept .now) (s .args .count) (f .ensures) (s .pre .5))
+
+pub fill-ranks-spec : {M : Type 1} → statement M
+fill-ranks-spec =
+    tie.close
+    (tie.spec
+    slice-aggregate-front-ranks
+    front-ranks-requires
+    slice-aggregate-look-up
+    look-up-requires
+    same-length
+    returns)

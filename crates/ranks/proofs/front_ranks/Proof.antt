@@ -1,0 +1,79 @@
+-- the sort of the pool's rows
+use Prim.Native.Nat.{_*_, _≤_}
+use mathlib.Core.Path.{_≡_, sym, subst}
+use native.Mathlib.Omega.{arith}
+use borrow.Author.Needs.{needs}
+use lib.ListN.{length}
+use Rattle.model.specs.Plan.{planAt, planCount}
+use Rattle.model.specs.Lists.{over}
+use Rattle.model.specs.Row.{rowBeats}
+use Rattle.model.specs.Front.{frontList}
+use Rattle.plans.proofs.Pool.{pool-row-lengths, pool-known, rows-known}
+use Rattle.list_laws.proofs.Runs.{few-values}
+use Rattle.ranks.proofs.Ranks.{rows-fronts}
+use Rattle.ranks.proofs.front_ranks.Statement.{statement}
+use Rattle.ranks.proofs.front_ranks.Tie as tie
+
+plan-count-requires : tie.Need-plan-count-requires
+plan-count-requires c κs = search needs
+
+slice-aggregate-fill-rows : tie.Need-slice-aggregate-fill-rows
+slice-aggregate-fill-rows c = search needs
+
+fill-rows-requires : tie.Need-fill-rows-requires
+fill-rows-requires c κs =
+    let s = c .before .before .before .before .before in
+    let e = c .before .plan-count .ensures in (
+      (omega (arith, e), s .pre .1, few-values _ _ (omega (arith, e, s .pre .0)) (s .pre .1)),
+      λ p l. pool-row-lengths (s .args .pool .now) (s .args .directions .now) (planCount (s .args .pool .now)) (s .pre .3) p (omega (arith, e)),
+    )
+
+slice-aggregate-fast-non-dominated-sort : tie.Need-slice-aggregate-fast-non-dominated-sort
+slice-aggregate-fast-non-dominated-sort c = search needs
+
+slice-aggregate-fast-non-dominated-sort-2 : tie.Need-slice-aggregate-fast-non-dominated-sort-2
+slice-aggregate-fast-non-dominated-sort-2 c = search needs
+
+slice-aggregate-fast-non-dominated-sort-3 : tie.Need-slice-aggregate-fast-non-dominated-sort-3
+slice-aggregate-fast-non-dominated-sort-3 c = search needs
+
+fast-non-dominated-sort-requires : tie.Need-fast-non-dominated-sort-requires
+fast-non-dominated-sort-requires c κs =
+    let s = c .before .before .before .before .before .before .before .before .before .before .before in
+    let e = c .before .before .before .before .before .before .before .plan-count .ensures in
+    let f = c .before .before .before .before .before .fill-rows in
+    let size : length (f .last .1 .1 .1 .0) ≡ 8192 = f .kept .1 .1 .1 .0 in (
+      subst (λ k. c .before .before .before .before .before .before .before .plan-count .result * length (s .args .directions .now) ≤ k) (sym size) (few-values _ _ (omega (arith, e, s .pre .0)) (s .pre .1)),
+      rows-known (s .args .directions .now) (planAt (s .args .pool .now)) _ _ _ (f .ensures)
+          (λ p l. pool-known (s .args .pool .now) (s .args .directions .now) (planCount (s .args .pool .now)) (s .pre .3) (s .pre .1) p (omega (arith, e))),
+      omega (arith, e, s .pre .0),
+      omega (arith, e, s .pre .0),
+      omega (arith, e, s .pre .2),
+      omega (arith, e, s .pre .0),
+    )
+
+same-length : tie.Need-same-length
+same-length c = search needs
+
+returns : tie.Need-returns
+returns c =
+    let s = c .before .before .before .before .before .before .before .before .before .before .before .before .before .before .before .before in
+    let f = c .before .before .before .before .before .before .before .before .before .before .fill-rows in
+    let e = c .before .before .before .before .before .before .before .before .before .before .before .before .plan-count .ensures in
+    let d = c .before .before .before .before .fast-non-dominated-sort in
+    subst (λ k. d .last .1 .1 .1 .1 .0 ≡ over (frontList (rowBeats (s .args .directions .now) (planAt (s .args .pool .now))) k) (s .args .fronts .now)) e
+    (rows-fronts (s .args .directions .now) (planAt (s .args .pool .now)) _ _ _ _ _ _ _ _ _ _ (f .ensures) (d .ensures))
+
+pub front-ranks-spec : {M : Type 1} → statement M
+front-ranks-spec =
+    tie.close
+    (tie.spec
+    plan-count-requires
+    slice-aggregate-fill-rows
+    fill-rows-requires
+    slice-aggregate-fast-non-dominated-sort
+    slice-aggregate-fast-non-dominated-sort-2
+    slice-aggregate-fast-non-dominated-sort-3
+    fast-non-dominated-sort-requires
+    same-length
+    returns)

@@ -1,0 +1,87 @@
+// The refusals of a generation step (document 01, "Refusals"; Rust: nsga3_generate_offspring of sampler/nsga3.rs).
+ghost use mathlib.Core.Path.{_≡_};
+ghost use mathlib.Core.Bool.{_&&_, _||_};
+ghost use Prim.Native.Nat.{_*_, _≤_};
+ghost use lib.Dec.{leb, ltb};
+ghost use Rattle.model.specs.Refusal.{stepRefusal};
+ghost use Rattle.model.specs.Calls.{wordRequest, operators};
+ghost use Rattle.refusals.specs.Checked.{checked};
+use model::DimensionInfo;
+use model::Rng;
+use refusals::Check;
+
+// Refusal 10: a lent slice is shorter than the answer that it is for. A pool of one asks for room for the offspring only.
+fn no_step_room(
+    size: usize,
+    n: usize,
+    n_dims: usize,
+    kept: usize,
+    fronts: usize,
+    lines: usize,
+    offspring: usize,
+) -> bool
+    requires { ⌜ (size ≤ 1024) × («n_dims» ≤ 32) ⌝ }
+    ensures { λ r. ⌜ r ≡ ((leb 2 n && (ltb kept size || (ltb fronts n || ltb lines n))) || ltb offspring (size * «n_dims»)) ⌝ }
+{
+    if offspring < size * n_dims {
+        return true;
+    }
+    if n < 2 {
+        return false;
+    }
+    refusals::no_room(size, n, kept, fronts, lines)
+}
+
+// The first refusal that applies to a generation step. A size and a pool's count have the same limits.
+pub fn refusal(
+    pool: &[u64],
+    directions: &[u8],
+    divisions: usize,
+    size: usize,
+    rng: Rng,
+    dims: [DimensionInfo; 32],
+    n_dims: usize,
+    crossover_prob: f64,
+    crossover_eta: f64,
+    mutation_eta: f64,
+    ideal: &[f64],
+    kept: usize,
+    fronts: usize,
+    lines: usize,
+    offspring: usize,
+) -> Check
+    ensures { λ r. ⌜ checked r ≡ stepRefusal (operators dims «n_dims» «crossover_prob» «crossover_eta» «mutation_eta»)
+        (wordRequest (now (pool .entry)) (now (directions .entry)) divisions size rng (now (ideal .entry)))
+        (record { kept = kept; fronts = fronts; lines = lines }) offspring ⌝ }
+{
+    if plans::bad_directions(directions) {
+        return Check::Refused(2);
+    }
+    if plans::bad_count(size) {
+        return Check::Refused(3);
+    }
+    let m = directions.len();
+    if das_dennis::bad_divisions(m, divisions) {
+        return Check::Refused(4);
+    }
+    if dimensions::bad_operators(crossover_prob, crossover_eta, mutation_eta) {
+        return Check::Refused(5);
+    }
+    if dimensions::bad_dimensions(dims, n_dims) {
+        return Check::Refused(6);
+    }
+    let n = plans::plan_count(pool);
+    if plans::bad_count(n) {
+        return Check::Refused(7);
+    }
+    if plans::bad_pool(pool, m, ideal) {
+        return Check::Refused(8);
+    }
+    if parents::bad_parents(pool, dims, n_dims) {
+        return Check::Refused(9);
+    }
+    if no_step_room(size, n, n_dims, kept, fronts, lines, offspring) {
+        return Check::Refused(10);
+    }
+    Check::Good
+}

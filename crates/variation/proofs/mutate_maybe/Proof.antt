@@ -1,0 +1,24 @@
+-- The draw decides.
+use Rattle.variation.proofs.Maybe.{maybe-not, maybe-moved}
+use borrow.Author.Needs.{needs}
+use Rattle.variation.proofs.mutate_maybe.Statement.{statement}
+use Rattle.variation.proofs.mutate_maybe.Tie as tie
+
+f64-range-requires : tie.Need-f64-range-requires
+f64-range-requires c κs = search needs
+
+returns : tie.Need-returns
+returns c =
+    let a = c .before .before .before .args in
+    maybe-not (a .probability) (a .d) (a .v) (a .k) (a .rng .s) _ _ (c .before .before .f64-range .ensures) (c .if1 .taken)
+
+mutate-one-requires : tie.Need-mutate-one-requires
+mutate-one-requires c κs = search needs
+
+returns-2 : tie.Need-returns-2
+returns-2 c =
+    let a = c .before .before .before .before .args in
+    maybe-moved (a .probability) (a .d) (a .v) (a .k) (a .rng .s) _ _ (c .before .before .before .f64-range .ensures) _ (c .before .if1 .left) (c .mutate-one .ensures)
+
+pub mutate-maybe-spec : {M : Type 1} → statement M
+mutate-maybe-spec = tie.close (tie.spec f64-range-requires returns mutate-one-requires returns-2)
