@@ -7,7 +7,7 @@ use native.Mathlib.Nat.{not-suc-le-zero, eq-or-lt-of-le}
 use native.Mathlib.Numerals.{add-one}
 use native.Mathlib.Omega.{arith}
 use lib.ListN.{length, getD, set, take, drop, length-append, length-drop, take-append-drop, List·getD-append}
-use lib.Seq.{drop-cons, append-snoc, set-at, getD-at, ext-getD, length-take-le, getD-take, take-at, drop-at, getD-drop}
+use lib.Seq.{drop-cons, append-snoc, set-at, getD-at, ext-getD, length-take-le, getD-take, take-at, drop-at}
 use Rattle.model.specs.Lists.{listBelow, joinBelow, over}
 
 module _ {A : Type 0} where
@@ -96,6 +96,11 @@ module _ {A : Type 0} where
 
   pub over-size : (f : ℕ → A) (j : ℕ) (l : List A) → j ≤ length l → length (over (listBelow f j) l) ≡ length l
   over-size f j l h = over-length (listBelow f j) l (omega (arith, listBelow-length f j))
+
+  -- place i of the first n
+  pub over-at : (f : ℕ → A) (n : ℕ) (d : A) (old : List A) (i : ℕ) → i < n → getD (over (listBelow f n) old) i d ≡ f i
+  over-at f n d old i h =
+      List·getD-append (listBelow f n) (drop (length (listBelow f n)) old) d i (omega (arith, listBelow-length f n)) ∙ listBelow-at f n d i h
 
 -- one entry more behind what stands at the front
 pub over-snoc : (v old : List ℕ) (j r : ℕ) → length v ≡ j → j < length old → set (over v old) j r ≡ over (v ++ (r ∷ [])) old

@@ -10,8 +10,8 @@ use Rattle.model.specs.Association.{Request, objectives, valueOf, dominance}
 use Rattle.model.specs.Kept.{Selected}
 use Rattle.model.specs.Calls.{lent, SelectExit}
 use Rattle.model.specs.declared.Selection.{Selection}
-use Rattle.plans.specs.declared.Cut.{Cut}
-use Rattle.plans.proofs.Kept.{CutsAt}
+use Rattle.front_cut.specs.declared.Cut.{Cut}
+use Rattle.front_cut.proofs.Kept.{CutsAt}
 
 -- the pool's rows in minimise-space, one after the other
 pub record RowsIn (r : Request) (rows : List Float) : Type 0 where

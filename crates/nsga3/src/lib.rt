@@ -20,7 +20,7 @@ use model::MAX_VALUES;
 use model::Outcome;
 use model::Rng;
 use model::Selection;
-use plans::Cut;
+use front_cut::Cut;
 
 // Whether a call goes through, or the number of the refusal that it meets.
 pub enum Check {
@@ -98,7 +98,7 @@ fn sort_pool(
     let m = directions.len();
     let mut feasible: [bool; MAX_PLANS] = [false; MAX_PLANS];
     let mut violations: [f64; MAX_PLANS] = [0.0; MAX_PLANS];
-    plans::fill_constraints(pool, n, &mut feasible, &mut violations);
+    plan_rows::fill_constraints(pool, n, &mut feasible, &mut violations);
     let mut ends: [usize; MAX_PLANS] = [0; MAX_PLANS];
     let count = pareto::fast_non_dominated_sort_constrained(
         rows,
@@ -110,7 +110,7 @@ fn sort_pool(
         fronts,
         &mut ends,
     );
-    plans::split_at(&ends, count, size)
+    front_cut::split_at(&ends, count, size)
 }
 
 // The kept list where a front is split: the whole fronts, then plans that niching picks from the split one. The ideal moves, and every plan gets a line.
@@ -219,7 +219,7 @@ fn select(
 {
     let n = plans::plan_count(pool);
     let mut rows: [f64; MAX_VALUES] = [0.0; MAX_VALUES];
-    plans::fill_rows(pool, directions, n, &mut rows);
+    plan_rows::fill_rows(pool, directions, n, &mut rows);
     let mut order: [usize; MAX_PLANS] = [0; MAX_PLANS];
     let cut = sort_pool(pool, directions, size, &rows, &mut order, fronts);
     let rng = fill_kept(

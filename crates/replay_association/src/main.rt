@@ -40,7 +40,7 @@ fn turn_column(rows: &mut Rows, k: usize, m: usize, j: usize, mark: u8)
 {
     let mut i = j;
     while i < k {
-        rows[i] = pareto::to_minimize(rows[i], mark);
+        rows[i] = domination::to_minimize(rows[i], mark);
         i += m;
     }
 }
