@@ -212,7 +212,7 @@ pub fn perpendicular_distance(
     ensures { λ r. ⌜ r ≡ distance m (from (now (points .entry)) at) (from (now (table .entry)) «line_at») ⌝ }
 {
     let norm = dot_product(table, line_at, table, line_at, m);
-    real::sqrt(distance_squared(points, at, table, line_at, m, norm))
+    square_root::sqrt(distance_squared(points, at, table, line_at, m, norm))
 }
 
 // ---- the nearest line
@@ -243,8 +243,8 @@ fn nearer(best: Best, line: usize, squares: f64) -> Best
                 squares: squares,
             };
         }
-        let distance = real::sqrt(squares);
-        let least = real::sqrt(least_squares);
+        let distance = square_root::sqrt(squares);
+        let least = square_root::sqrt(least_squares);
         if distance < least {
             return Best {
                 line: line,
@@ -285,7 +285,7 @@ fn nearest_line(
     }
     Nearest {
         line: best.line,
-        distance: real::sqrt(best.squares),
+        distance: square_root::sqrt(best.squares),
     }
 }
 

@@ -19,7 +19,7 @@ use Rattle.float_laws.proofs.Constants as constants
 use Rattle.float_laws.proofs.Constants.{nought-counts, nought-number, one, one-counts, one-number, exp2, minus-exp2, bounded}
 use Rattle.float_laws.proofs.Arithmetic.{sub-from-zero, sub-mono-left, sub-number, mul-count, mul-mono, div-mono-left, ratio}
 use Rattle.float_laws.proofs.Magnitude.{exp2-below, div-within}
-use Rattle.real.proofs.Between.{root-under, next-over}
+use Rattle.real_laws.proofs.Between.{root-under, next-over}
 use Rattle.rng_util.proofs.Draws.{word-below}
 use Rattle.rng_util.proofs.Unit.{upper-below, unit-counts}
 use Rattle.model.specs.declared.Distribution.the-variants as dist

@@ -189,9 +189,5 @@ module _ (d : ℕ → ℕ → Bool) (n : ℕ) (s : Strict d n) where
       (λ v. absurd (false≢true (sym (inFront-new d n n q v) ∙ all-inFirst q l))) (λ v. ap one v))
       (λ e. found d n n .below q (ltb-false q n e)))
 
-  -- the whole listing, as it stands at the first empty front: each plan once
-  pub listing-once : (k : ℕ) → front d n k ≡ [] → (q : ℕ) → q < n → occ q (listing d n k) ≡ 1
-  listing-once k e q l = listing-exact d n k q l ∙ ap one (empty-inFirst k e q l)
-
   pub listing-whole : (k : ℕ) → front d n k ≡ [] → length (listing d n k) ≡ n
   listing-whole k e = listing-length d n k ∙ countBelow-all (inFirst d n k) n (empty-inFirst k e)

@@ -11,7 +11,7 @@ use lib.Dec.{eqb}
 use lib.ListN.{length, getD, take}
 use lib.Seq.{take-take, take-append-le, take-length}
 use Rattle.model.specs.Front.{front, listing, frontList}
-use Rattle.list_laws.proofs.Built.{listBelow-length, over-take, over-at}
+use Rattle.list_laws.proofs.Built.{listBelow-length, over-take, over-below}
 use Rattle.list_laws.proofs.First.{firstBelow-le, firstBelow-passes}
 use Rattle.list_laws.proofs.Members.{empty-of}
 use Rattle.front_laws.specs.Post.{frontCount, frontEnd, Sorted}
@@ -47,7 +47,7 @@ module _ (d : ℕ → ℕ → Bool) (n : ℕ) where
 module _ (d : ℕ → ℕ → Bool) (n : ℕ) (o₀ o r₀ r e₀ e : List ℕ) (x : ℕ) (h : Sorted d n o₀ o r₀ r e₀ e x) where
   -- the end of front k
   pub sorted-end : (k : ℕ) → k < x → getD e k 0 ≡ frontEnd d n k
-  sorted-end k l = ap (λ t. getD t k 0) (h .ends) ∙ over-at (frontEnd d n) (frontCount d n) 0 e₀ k (omega (arith, h .result))
+  sorted-end k l = over-below (frontEnd d n) (frontCount d n) e e₀ k 0 (h .ends) (omega (arith, h .result))
 
   -- all plans, and the first k fronts
   pub sorted-order : Strict d n → take n o ≡ listing d n n

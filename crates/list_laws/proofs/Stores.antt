@@ -9,8 +9,7 @@ use native.Mathlib.Nat.{eq-or-lt-of-le, add-zero}
 use lib.ListN.{length, getD, set, length-append, length-set}
 use lib.Seq.{sets, length-sets, getD-set-other, getD-set-same}
 use Rattle.model.specs.Lists.{one, keepBelow}
-use Rattle.list_laws.proofs.Counts.{countBelow-le}
-use Rattle.list_laws.proofs.Kept.{keepBelow-none, keepBelow-yes, keepBelow-no, keepBelow-length}
+use Rattle.list_laws.proofs.Kept.{keepBelow-none, keepBelow-yes, keepBelow-no}
 use Rattle.list_laws.proofs.Runs.{sets-snoc}
 
 -- the numbers below q that pass f stand in a list from `at` on, up to `len`; the rest is as in l
@@ -39,9 +38,6 @@ picked-no f l at q o len e h = record {
 
 pub picked-length : (f : ℕ → Bool) (l : List ℕ) (at q : ℕ) (o : List ℕ) (len : ℕ) → Picked f l at q o len → length o ≡ length l
 picked-length f l at q o len h = ap length (h .order) ∙ length-sets l at (keepBelow f q)
-
-pub picked-room : (f : ℕ → Bool) (l : List ℕ) (at q : ℕ) (o : List ℕ) (len : ℕ) → Picked f l at q o len → len ≤ at + q
-picked-room f l at q o len h = omega (arith, keepBelow-length f q, countBelow-le f q)
 
 -- the same where a test says whether there is one more
 pub picked-more : (f : ℕ → Bool) (l : List ℕ) (at q : ℕ) (o : List ℕ) (len : ℕ) (b : Bool) → f q ≡ b → Picked f l at q o len

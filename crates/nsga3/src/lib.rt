@@ -15,12 +15,12 @@ ghost use Rattle.model.specs.declared.Rng.{Rng};
 ghost use Rattle.nsga3.specs.Checked.{checked};
 ghost use Rattle.nsga3_laws.specs.Admitted.{Admitted};
 ghost use Rattle.nsga3.specs.Laid.{RowsIn, OrderIn, Sorts, Hands, exit};
+use front_cut::Cut;
 use model::MAX_PLANS;
 use model::MAX_VALUES;
 use model::Outcome;
 use model::Rng;
 use model::Selection;
-use front_cut::Cut;
 
 // Whether a call goes through, or the number of the refusal that it meets.
 pub enum Check {
@@ -63,7 +63,7 @@ pub fn refusal(
         return Check::Refused(3);
     }
     let m = directions.len();
-    if das_dennis::bad_divisions(m, divisions) {
+    if divisions::bad_divisions(m, divisions) {
         return Check::Refused(4);
     }
     let n = plans::plan_count(pool);

@@ -7,13 +7,13 @@ use native.Mathlib.Omega.{arith}
 use borrow.Author.Tests.{eqb-true, leb-true}
 use lib.Dec.{eqb, leb}
 use lib.Ieee.{Float, nan, isNan}
-use lib.ListN.{length, getD}
+use lib.ListN.{length}
 use Rattle.model.specs.Lists.{allBelow}
 use Rattle.model.specs.Plan.{Plan, planAt, maxValues, maxConstraints}
 use Rattle.model.specs.Row.{rowOf, feasible, violation, beats}
 use Rattle.model.specs.Refusal.{goodPlan}
 use Rattle.list_laws.proofs.Bools.{and-left, and-right}
-use Rattle.list_laws.proofs.Built.{over-at}
+use Rattle.list_laws.proofs.Built.{over-below}
 use Rattle.list_laws.proofs.Tests.{allBelow-each}
 use Rattle.front_laws.specs.Strict.{Known}
 use Rattle.front_laws.specs.Flat.{flatBeats, KnownRows, FlatOf}
@@ -65,8 +65,8 @@ module _ (marks : List ℕ) (plans : ℕ → Plan) (n : ℕ) (rows₀ rows : Lis
     pub flat-of : FlatOf marks plans n rows flags sums
     flat-of = record {
       rowsOf = filled .values;
-      flagsOf = λ p l. ap (λ t. getD t p false) (constraints .feasibility) ∙ over-at (λ q. feasible (plans q .constraints)) n false flags₀ p l;
-      sumsOf = λ p l. ap (λ t. getD t p nan) (constraints .violations) ∙ over-at (λ q. violation (plans q .constraints)) n nan sums₀ p l;
+      flagsOf = λ p l. over-below (λ q. feasible (plans q .constraints)) n flags flags₀ p false (constraints .feasibility) l;
+      sumsOf = λ p l. over-below (λ q. violation (plans q .constraints)) n sums sums₀ p nan (constraints .violations) l;
     }
 
     -- their sort is that of the model's domination

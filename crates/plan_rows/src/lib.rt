@@ -1,7 +1,7 @@
 // The plans of a lent slice of words as flat lists: rows in minimise-space one after the other, and whether each plan is feasible and its violation sum.
 use model::PLAN_WORDS;
-use plans::CONSTRAINTS;
 use plans::CONSTRAINT_COUNT;
+use plans::CONSTRAINTS;
 use plans::VALUES;
 ghost use mathlib.Core.Path.{_≡_};
 ghost use Prim.Native.Nat.{ℕ, _+_, _*_, _<_, _≤_};

@@ -123,7 +123,7 @@ fn fill_table(m: usize, h: usize, table: &mut Table) -> usize
     requires { ⌜ (1 ≤ m) × (m ≤ 8) ⌝ }
     ensures { λ r. ⌜ r * m ≤ 8192 ⌝ }
 {
-    if das_dennis::bad_divisions(m, h) {
+    if divisions::bad_divisions(m, h) {
         return 0;
     }
     das_dennis::das_dennis(m, h, table)
