@@ -23,7 +23,7 @@ use Rattle.list_laws.proofs.Tests.{allIn-each}
 use Rattle.front_laws.specs.Strict.{Strict}
 use Rattle.front_laws.proofs.Same.{Agree}
 use Rattle.front_laws.specs.Strict.{Known}
-use Rattle.front_laws.proofs.Domination.{dominates-irreflexive, dominates-transitive, dominates-paper, rule-irreflexive, rule-transitive}
+use Rattle.front_laws.proofs.Domination.{dominates-paper, rule-irreflexive, rule-transitive}
 use Rattle.float_laws.proofs.Order.{le-not-nan}
 use Rattle.front_laws.proofs.Violation.{feasible-none}
 
@@ -121,15 +121,8 @@ words-accepted m word h e =
       whole = listBelow-length (λ j. real (word (2 + j))) (min (word 1) maxValues) ∙ omega arith;
     }
 
+-- where no row has a NaN
 module _ (marks : List ℕ) (plans : ℕ → Plan) (n : ℕ) (known : (p : ℕ) → p < n → Known (length marks) (rowOf marks (plans p))) where
-  pub rowBeats-strict : Strict (rowBeats marks plans) n
-  unfolding rowBeats
-  rowBeats-strict = record {
-    irreflexive = λ p l. dominates-irreflexive (length marks) (rowOf marks (plans p));
-    transitive = λ p q r lp lq lr h k.
-        dominates-transitive (length marks) (rowOf marks (plans p)) (rowOf marks (plans q)) (rowOf marks (plans r)) (known p lp) (known q lq) (known r lr) h k;
-  }
-
   pub beats-strict : Strict (beats marks plans) n
   unfolding beats
   beats-strict = record {

@@ -98,12 +98,6 @@ module _ (d : ℕ → ℕ → Bool) (n : ℕ) (s : Strict d n) where
       (λ j u. by-bool (has (front d n j) q)
       (λ v. absurd (omega (arith, one-front d n j k q (member-inFront d n j q (has-in (front d n j) q v)) e))) (λ v. v))
 
-  pub frontOf-in : (q : ℕ) → q < n → In q (front d n (frontOf d n q))
-  frontOf-in q l =
-      let r = inFirst-front d n n q (all-inFirst d n s q l) in
-      let m = inFront-member d n (r .0) q l (r .2) in
-      rw (frontOf-at (r .0) q m) m
-
   -- the front numbers written front after front are those of every plan, once a front is empty
   pub ranked-frontList : (k : ℕ) (r : List ℕ) → n ≤ length r → front d n k ≡ [] → ranked d n k r ≡ over (frontList d n) r
   unfolding frontList

@@ -1,6 +1,6 @@
 -- What holds of every draw, whatever the state: words are words, a draw below n is below n, a draw from a to b lies there. Assumes nothing.
 use mathlib.Core.Path.{_≡_, refl}
-use mathlib.Core.Bool.{Bool, true, false, _&&_}
+use mathlib.Core.Bool.{false}
 use Prim.Native.Nat.{ℕ, _+_, _*_, _/_, _^_, _<_, zero-le}
 use native.Mathlib.Nat.{mod-lt, mul-lt-mul-of-pos-right}
 use native.Mathlib.Omega.{arith}
