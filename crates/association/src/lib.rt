@@ -2,7 +2,7 @@
 use model::MAX_LINES;
 use model::MAX_OBJECTIVES;
 use model::MAX_VALUES;
-use real;
+use square_root;
 ghost use mathlib.Core.Path.{_≡_};
 ghost use Prim.Native.Nat.{ℕ, _+_, _*_, _<_, _≤_};
 ghost use lib.Ieee.{Float};
