@@ -3,7 +3,7 @@
 use model::MAX_LINES;
 use model::MAX_OBJECTIVES;
 use model::MAX_VALUES;
-use real;
+use square_root;
 ghost use mathlib.Core.Path.{_≡_};
 ghost use Prim.Native.Nat.{ℕ, _+_, _*_, _<_, _≤_};
 ghost use lib.Ieee.{Float};
@@ -43,8 +43,8 @@ fn nearer(best: Best, line: usize, squares: f64) -> Best
                 squares: squares,
             };
         }
-        let distance = real::sqrt(squares);
-        let least = real::sqrt(least_squares);
+        let distance = square_root::sqrt(squares);
+        let least = square_root::sqrt(least_squares);
         if distance < least {
             return Best {
                 line: line,
@@ -85,7 +85,7 @@ fn nearest_line(
     }
     Nearest {
         line: best.line,
-        distance: real::sqrt(best.squares),
+        distance: square_root::sqrt(best.squares),
     }
 }
 

@@ -18,8 +18,8 @@ use Rattle.model.specs.Lists.{joinBelow}
 use Rattle.model.specs.Reference.{ratio, tuples, lattice, dasDennis, pointCount}
 use Rattle.model.specs.Papers.DasDennis1998.{total, IsPoint}
 use Rattle.list_laws.proofs.Bools.{by-bool}
-use Rattle.das_dennis.proofs.Count.{lattice-count}
-use Rattle.das_dennis.proofs.Table.{lattice-table}
+use Rattle.reference_laws.proofs.Count.{lattice-count}
+use Rattle.reference_laws.proofs.Table.{lattice-table}
 use Rattle.float_laws.proofs.Units.{Number, Counts, counts→le, counts→lt, counts-finite}
 use Rattle.float_laws.proofs.Rounding.{div-rounded, le-rounded, between-finite}
 use Rattle.float_laws.proofs.Constants.{nought, one, nought-counts}

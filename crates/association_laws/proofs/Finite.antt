@@ -14,7 +14,7 @@ use Rattle.float_laws.proofs.Units.{Number}
 use Rattle.float_laws.proofs.Order.{le-trans, le-not-nan, lt→nle, lt→le, le-lt-trans}
 use Rattle.float_laws.proofs.Constants.{nought, exp2}
 use Rattle.float_laws.proofs.Arithmetic.{mul-mono}
-use Rattle.real.proofs.Roots.Monotone.{sqrt-mono, sqrt-from-zero}
+use Rattle.real_laws.proofs.Roots.Monotone.{sqrt-mono, sqrt-from-zero}
 use Rattle.niching_laws.proofs.Association.{lineOf-inside}
 use Rattle.niching_laws.proofs.Association as association-laws
 use Rattle.association_laws.proofs.Search.{distance-long}

@@ -11,8 +11,8 @@ use lib.Seq.{getD-append-add}
 use Rattle.model.specs.Lists.{listBelow, joinBelow, over}
 use Rattle.model.specs.Reference.{ratio, lattice, dasDennis, pointCount}
 use Rattle.list_laws.proofs.Built.{listBelow-length, listBelow-at}
-use Rattle.das_dennis.proofs.Count.{lattice-count}
-use Rattle.das_dennis.proofs.Table.{lattice-table}
+use Rattle.reference_laws.proofs.Count.{lattice-count}
+use Rattle.reference_laws.proofs.Table.{lattice-table}
 use Rattle.association_laws.specs.Flat.{flatRows}
 use Rattle.list_laws.proofs.Runs.{row-inside}
 use Rattle.association_laws.proofs.Writes.{rows-length}

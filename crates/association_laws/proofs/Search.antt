@@ -16,9 +16,9 @@ use Rattle.float_laws.proofs.Units.{zero-exponent}
 use Rattle.float_laws.proofs.Order.{lt→nle, lt→le, nlt→le, le-not-nan}
 use Rattle.float_laws.proofs.Compared.{nan-below, below-nan}
 use Rattle.float_laws.proofs.Constants.{nought, nought-not-nan}
-use Rattle.real.proofs.Roots.Nearest.{from-zero}
-use Rattle.real.proofs.Roots.Monotone.{sqrt-mono}
-use Rattle.real.proofs.Roots.Apart.{nearlyOne, sqrt-apart}
+use Rattle.real_laws.proofs.Roots.Nearest.{from-zero}
+use Rattle.real_laws.proofs.Roots.Monotone.{sqrt-mono}
+use Rattle.real_laws.proofs.Roots.Apart.{nearlyOne, sqrt-apart}
 use Rattle.association_laws.specs.Flat.{squaresOf}
 use Rattle.association_laws.specs.Search.{Square, Found}
 

@@ -12,7 +12,7 @@ use Rattle.list_laws.proofs.Bools.{by-bool, true-T, false-T}
 use Rattle.float_laws.proofs.Order.{lt→nle, nlt→le}
 use Rattle.float_laws.proofs.Rounding.{unsigned, round-unsigned}
 use Rattle.float_laws.proofs.Constants.{nought, nought-not-nan}
-use Rattle.real.proofs.Roots.Nearest.{from-zero}
+use Rattle.real_laws.proofs.Roots.Nearest.{from-zero}
 use Rattle.association_laws.specs.Flat.{squaresOf}
 use Rattle.association_laws.specs.Search.{Square}
 use Rattle.association_laws.proofs.Search.{squares-short, squares-long, sum-fits, squares-fit}

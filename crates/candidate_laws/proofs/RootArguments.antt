@@ -16,11 +16,11 @@ use Rattle.float_laws.proofs.Units.{Number, Counts, counts→le}
 use Rattle.float_laws.proofs.Order as order
 use Rattle.float_laws.proofs.Rounding.{rounded-exact, le-rounded, add-rounded, sub-rounded, round-sle}
 use Rattle.float_laws.proofs.Constants as constants
-use Rattle.float_laws.proofs.Constants.{nought-counts, nought-number, one, one-counts, one-number, exp2, minus-exp2, bounded}
+use Rattle.float_laws.proofs.Constants.{nought-counts, nought-number, one, one-counts, one-number, exp2, minus-exp2, exp2-wider, bounded}
 use Rattle.float_laws.proofs.Arithmetic.{sub-from-zero, sub-mono-left, sub-number, mul-count, mul-mono, div-mono-left, ratio}
 use Rattle.float_laws.proofs.Magnitude.{exp2-below, div-within}
-use Rattle.real.proofs.Between.{root-under, next-over}
-use Rattle.rng_util.proofs.Draws.{word-below, wider}
+use Rattle.real_laws.proofs.Between.{root-under, next-over}
+use Rattle.rng_util.proofs.Draws.{word-below}
 use Rattle.rng_util.proofs.Unit.{upper-below, unit-counts}
 use Rattle.model.specs.declared.Distribution.the-variants as dist
 use Rattle.model.specs.declared.FloatDistribution.{FloatDistribution}
@@ -270,7 +270,7 @@ module _ (low high x : Float) (i : Inside low high x) (some : le (high ⊖ low) 
   X = bounded binary64 x 53 53 (i .held) (order.le-trans (minus-exp2 53) low x (i .low-end) (i .above)) (order.le-trans x high (exp2 53) (i .below) (i .high-end))
 
   range : Number binary64 (high ⊖ low)
-  range = sub-number high low HI LO (order.le-trans high (exp2 53) (exp2 1000) (i .high-end) (wider .1)) (order.le-trans (minus-exp2 1000) (minus-exp2 53) low (wider .0) (i .low-end)) ordered
+  range = sub-number high low HI LO (order.le-trans high (exp2 53) (exp2 1000) (i .high-end) (exp2-wider .1)) (order.le-trans (minus-exp2 1000) (minus-exp2 53) low (exp2-wider .0) (i .low-end)) ordered
 
   range-above : T (lt constants.nought (high ⊖ low))
   unfolding ofBits

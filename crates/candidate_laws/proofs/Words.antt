@@ -11,7 +11,7 @@ use lib.Seq.{getD-append-add, getD-take, length-take-le, ext-getD}
 use lib.Ieee.{binary64}
 use lib.Ieee.Bits.{ofBits-toBits}
 use Rattle.list_laws.proofs.Built.{listBelow-length, listBelow-at, map-at}
-use Rattle.real.proofs.Ints.{int-of-word-of}
+use Rattle.real_laws.proofs.Ints.{int-of-word-of}
 use Rattle.model.specs.declared.Distribution.{Distribution}
 use Rattle.model.specs.declared.Distribution.the-variants as dist
 use Rattle.model.specs.declared.ParamValue.{ParamValue}

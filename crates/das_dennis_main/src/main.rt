@@ -19,13 +19,13 @@ fn counted(m: usize, h: usize)
 {
     number(b"m ", m);
     number(b" H ", h);
-    if das_dennis::bad_divisions(m, h) {
+    if divisions::bad_divisions(m, h) {
         text(b": refused 4\n");
         return;
     }
     let mut table = [0.0; 8192];
     let lines = das_dennis::das_dennis(m, h, &mut table);
-    number(b": ", das_dennis::point_count(m, h));
+    number(b": ", divisions::point_count(m, h));
     number(b", lines ", lines);
     text(b"\n");
 }
@@ -58,12 +58,12 @@ fn session(m: usize, size: OptionUsize, divisions: OptionUsize)
     requires { ⌜ (1 ≤ m) × (m ≤ 8) ⌝ }
 {
     number(b"session m ", m);
-    if das_dennis::bad_session_divisions(m, size, divisions) {
+    if divisions::bad_session_divisions(m, size, divisions) {
         text(b": refused 4\n");
         return;
     }
-    number(b": H ", das_dennis::divisions_of(m, size, divisions));
-    number(b", size ", das_dennis::population_size(m, size, divisions));
+    number(b": H ", divisions::divisions_of(m, size, divisions));
+    number(b", size ", divisions::population_size(m, size, divisions));
     text(b"\n");
 }
 
@@ -97,9 +97,9 @@ fn tables() {
 
 // P3 and P4.
 fn automatic() {
-    number(b"automatic ", das_dennis::auto_divisions(2, 200));
-    number(b" ", das_dennis::auto_divisions(2, 201));
-    number(b" ", das_dennis::auto_divisions(3, 100));
+    number(b"automatic ", divisions::auto_divisions(2, 200));
+    number(b" ", divisions::auto_divisions(2, 201));
+    number(b" ", divisions::auto_divisions(3, 100));
     text(b"\n");
 }
 

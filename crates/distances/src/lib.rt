@@ -1,6 +1,6 @@
 // Distances of points from lines (document 01, "Association"; Rust: perpendicular_distance of sampler/nsga3.rs), over flat lists: a point or a line is the
 // m entries from a place on. `perpendicular_distance` is the Rust's; `association` takes it apart, with each line's r·r worked out once.
-use real;
+use square_root;
 ghost use mathlib.Core.Path.{_≡_};
 ghost use Prim.Native.Nat.{_+_, _*_, _≤_};
 ghost use lib.ListN.{length};
@@ -93,5 +93,5 @@ pub fn perpendicular_distance(
     ensures { λ r. ⌜ r ≡ distance m (from (now (points .entry)) at) (from (now (table .entry)) «line_at») ⌝ }
 {
     let norm = dot_product(table, line_at, table, line_at, m);
-    real::sqrt(distance_squared(points, at, table, line_at, m, norm))
+    square_root::sqrt(distance_squared(points, at, table, line_at, m, norm))
 }

@@ -89,7 +89,7 @@ sub-number x y X Y h k l =
 
 -- ---- products
 -- (p - n) * (p' - n')
-pub prod-sgn : (s t : Bool) (g h p n p' n' : ℕ) → Sgn s g p n → Sgn t h p' n' → Sgn (unlike s t) (g * h) (p * p' + n * n') (p * n' + n * p')
+prod-sgn : (s t : Bool) (g h p n p' n' : ℕ) → Sgn s g p n → Sgn t h p' n' → Sgn (unlike s t) (g * h) (p * p' + n * n') (p * n' + n * p')
 prod-sgn false false g h p n p' n' e d =
     let a : p * p' ≡ n * p' + g * p' = ap (λ (z : ℕ). z * p') e ∙ add-mul n g p' in
     let b : g * p' ≡ g * n' + g * h = ap (λ (z : ℕ). g * z) d ∙ mul-add g n' h in

@@ -1,9 +1,7 @@
 -- The order of floats as tests give it: `lt x y ≡ true`, `lt x y ≡ false`.
 use mathlib.Core.Path.{_≡_, refl, sym, _∙_}
-use mathlib.Core.Bool.{Bool, true, false, not, true≢false, false≢true}
-use mathlib.Core.Logic.{_⊎_, inl, inr}
-use lib.Dec.{T}
-use lib.Ieee.{Float, nan, inf, fin, lt, le, isNan}
+use mathlib.Core.Bool.{true, false, true≢false, false≢true}
+use lib.Ieee.{Float, nan, inf, fin, lt, isNan}
 use Rattle.list_laws.proofs.Bools.{T-true, true-T, false-T, no-pass}
 use Rattle.float_laws.proofs.Order as order
 

@@ -1,20 +1,18 @@
 -- Magnitudes by powers of two, which keep a computation from overflowing: `Within k x` says that the double x is at most 2 ^ k in magnitude, so a number and no
--- NaN. A sum of two is within the next power, a product within the sum of the exponents, a quotient by what is at least 2 ^ -i within the sum of both.
+-- NaN. A quotient by what is at least 2 ^ -i is within the sum of the exponents.
 -- Assumes nothing.
 use mathlib.Core.Path.{_≡_, sym, ap, _∙_, subst}
-use mathlib.Core.Bool.{Bool, true, false, not}
+use mathlib.Core.Bool.{false}
 use Prim.Native.Nat.{ℕ, suc, _+_, _-_, _*_, _^_, _≤_, _<_}
-use native.Mathlib.Nat.{le-trans, le-of-eq, mul-le-mul, mul-le-mul-left, mul-le-mul-right, mul-pos, add-mul, mul-assoc, mul-mul-mul-comm, mul-right-comm, one-mul, mul-one, zero-add, pow-suc}
+use native.Mathlib.Nat.{le-trans, le-of-eq, mul-le-mul-left, mul-le-mul-right, add-mul, mul-assoc, mul-right-comm, one-mul, mul-one, zero-add}
 use native.Mathlib.Omega.{arith}
 use lib.Dec.{T, lt→ltb}
 use lib.IntN.{negsuc}
-use lib.Pow.{pow-add, pow-pos, pow-mono, pow-lt}
-use lib.Ieee.{Float, nan, inf, fin, binary64, up, down, fits, le, isNan, add, sub, mul, div, unlike}
-use Rattle.float_laws.proofs.Units.{Number, Sgn, Counts, counts-of, le→counts, counts→le}
-use Rattle.float_laws.proofs.Order.{le-trans as le-trans-float, le-not-nan}
-use Rattle.float_laws.proofs.Rounding.{Rounded, rounded-le, le-rounded, rounded-fits, add-rounded, sub-rounded, div-rounded}
-use Rattle.float_laws.proofs.Constants.{nought, one, exp2, exp2-counts, minus-exp2, bounded}
-use Rattle.float_laws.proofs.Arithmetic.{mul-rounded, prod-sgn}
+use lib.Pow.{pow-add, pow-pos, pow-lt}
+use lib.Ieee.{Float, fin, binary64, fits, le, div}
+use Rattle.float_laws.proofs.Units.{Number, Counts, counts-of, le→counts}
+use Rattle.float_laws.proofs.Rounding.{Rounded, rounded-le, le-rounded, rounded-fits, div-rounded}
+use Rattle.float_laws.proofs.Constants.{exp2, exp2-counts, minus-exp2, bounded}
 
 abbrev L : ℕ
 L = 2 ^ 1074
@@ -26,9 +24,6 @@ pub record Within (k : ℕ) (x : Float) : Type 0 where
 
 pub within-number : (k : ℕ) (x : Float) → Within k x → Number binary64 x
 within-number k x w = bounded binary64 x k k (w .held) (w .low) (w .high)
-
-pub within-not-nan : (k : ℕ) (x : Float) → Within k x → T (not (isNan x))
-within-not-nan k x w = le-not-nan x (exp2 k) (w .high) .0
 
 -- ---- the powers of two
 pub exp2-fits : (k : ℕ) → k ≤ 1023 → T (fits binary64 (exp2 k)) × T (fits binary64 (minus-exp2 k))
@@ -67,11 +62,11 @@ rounded-within x P N c k C K r a b =
     }
 
 -- what `Within` says of a count
-pub record Bounds (k p n : ℕ) : Type 0 where
-  pub top : p ≤ 2 ^ k * L + n
-  pub bottom : n ≤ p + 2 ^ k * L
+record Bounds (k p n : ℕ) : Type 0 where
+  top : p ≤ 2 ^ k * L + n
+  bottom : n ≤ p + 2 ^ k * L
 
-pub bounds : (k : ℕ) (x : Float) (p n : ℕ) → Within k x → Counts binary64 x p n → Bounds k p n
+bounds : (k : ℕ) (x : Float) (p n : ℕ) → Within k x → Counts binary64 x p n → Bounds k p n
 bounds k x p n w i =
     record {
       top = right p n (2 ^ k * L) (le→counts binary64 x (exp2 k) p n (2 ^ k * L) 0 i (exp2-counts k) (w .high));
@@ -83,85 +78,6 @@ bounds k x p n w i =
 
     left : (p n b : ℕ) → 0 + n ≤ p + b → n ≤ p + b
     left p n b h = omega arith
-
--- ---- sums and differences
-twice : (k : ℕ) → 2 ^ suc k * L ≡ 2 ^ k * L + 2 ^ k * L
-twice k = ap (λ (z : ℕ). z * L) (pow-suc 2 k) ∙ mul-right-comm (2 ^ k) 2 L ∙ two (2 ^ k * L)
-  where
-    two : (a : ℕ) → a * 2 ≡ a + a
-    two a = omega arith
-
-sum-top : (p n p' n' b c : ℕ) → c ≡ b + b → p ≤ b + n → p' ≤ b + n' → p + p' ≤ c + (n + n')
-sum-top p n p' n' b c e h k = omega arith
-
-sum-bottom : (p n p' n' b c : ℕ) → c ≡ b + b → n ≤ p + b → n' ≤ p' + b → n + n' ≤ p + p' + c
-sum-bottom p n p' n' b c e h k = omega arith
-
-module _ (k : ℕ) (x y : Float) (K : k ≤ 1022) (X : Within k x) (Y : Within k y) where
-  room : suc k ≤ 1023
-  room = omega arith
-
-  pub add-within : Within (suc k) (add binary64 x y)
-  add-within =
-      let a = counts-of binary64 x (within-number k x X) in
-      let b = counts-of binary64 y (within-number k y Y) in
-      let s = bounds k x (a .0) (a .1) X (a .2) in
-      let t = bounds k y (b .0) (b .1) Y (b .2) in
-      rounded-within (add binary64 x y) (a .0 + b .0) (a .1 + b .1) L (suc k) (pow-pos 1074) room (add-rounded binary64 x y (a .0) (a .1) (b .0) (b .1) (a .2) (b .2))
-      (sum-top (a .0) (a .1) (b .0) (b .1) (2 ^ k * L) (2 ^ suc k * L) (twice k) (s .top) (t .top))
-      (sum-bottom (a .0) (a .1) (b .0) (b .1) (2 ^ k * L) (2 ^ suc k * L) (twice k) (s .bottom) (t .bottom))
-
-  pub sub-within : Within (suc k) (sub binary64 x y)
-  sub-within =
-      let a = counts-of binary64 x (within-number k x X) in
-      let b = counts-of binary64 y (within-number k y Y) in
-      let s = bounds k x (a .0) (a .1) X (a .2) in
-      let t = bounds k y (b .0) (b .1) Y (b .2) in
-      rounded-within (sub binary64 x y) (a .0 + b .1) (a .1 + b .0) L (suc k) (pow-pos 1074) room (sub-rounded binary64 x y (a .0) (a .1) (b .0) (b .1) (a .2) (b .2))
-      (sum-top (a .0) (a .1) (b .1) (b .0) (2 ^ k * L) (2 ^ suc k * L) (twice k) (s .top) (swap (b .1) (b .0) (2 ^ k * L) (t .bottom)))
-      (sum-bottom (a .0) (a .1) (b .1) (b .0) (2 ^ k * L) (2 ^ suc k * L) (twice k) (s .bottom) (swap (b .0) (2 ^ k * L) (b .1) (t .top)))
-    where
-      swap : (a b c : ℕ) → a ≤ b + c → a ≤ c + b
-      swap a b c h = omega arith
-
--- ---- products
--- a size in units is at most 2 ^ k
-size-top : (s : Bool) (k g p n : ℕ) → Sgn s g p n → Bounds k p n → g ≤ 2 ^ k * L
-size-top false k g p n e b = by g p n (2 ^ k * L) e (b .top)
-  where
-    by : (g p n b : ℕ) → p ≡ n + g → p ≤ b + n → g ≤ b
-    by g p n b e h = omega arith
-size-top true k g p n e b = by g p n (2 ^ k * L) e (b .bottom)
-  where
-    by : (g p n b : ℕ) → n ≡ p + g → n ≤ p + b → g ≤ b
-    by g p n b e h = omega arith
-
--- and back: a count whose size is at most b
-size-back : (s : Bool) (g P N b : ℕ) → Sgn s g P N → g ≤ b → (P ≤ b + N) × (N ≤ P + b)
-size-back false g P N b e h = (omega arith, omega arith)
-size-back true g P N b e h = (omega arith, omega arith)
-
-product : (j k g h : ℕ) → g ≤ 2 ^ j * L → h ≤ 2 ^ k * L → g * h ≤ 2 ^ (j + k) * (L * L)
-product j k g h a b = le-trans (mul-le-mul a b) (le-of-eq (mul-mul-mul-comm (2 ^ j) L (2 ^ k) L ∙ ap (λ (z : ℕ). z * (L * L)) (sym (pow-add 2 j k))))
-
-pub mul-within : (j k : ℕ) (x y : Float) → j + k ≤ 1023 → Within j x → Within k y → Within (j + k) (mul binary64 x y)
-mul-within j k nan y K X Y = absurd (within-number j nan X .finite)
-mul-within j k (inf s) y K X Y = absurd (within-number j (inf s) X .finite)
-mul-within j k (fin s m e) nan K X Y = absurd (within-number k nan Y .finite)
-mul-within j k (fin s m e) (inf t) K X Y = absurd (within-number k (inf t) Y .finite)
-mul-within j k (fin s m e) (fin t n d) K X Y =
-    let x = fin s m e in
-    let y = fin t n d in
-    let a = counts-of binary64 x (within-number j x X) in
-    let b = counts-of binary64 y (within-number k y Y) in
-    let g = a .2 .0 in
-    let h = b .2 .0 in
-    let u = size-top s j g (a .0) (a .1) (a .2 .2) (bounds j x (a .0) (a .1) X (a .2)) in
-    let v = size-top t k h (b .0) (b .1) (b .2 .2) (bounds k y (b .0) (b .1) Y (b .2)) in
-    let P = a .0 * b .0 + a .1 * b .1 in
-    let N = a .0 * b .1 + a .1 * b .0 in
-    let z = size-back (unlike s t) (g * h) P N (2 ^ (j + k) * (L * L)) (prod-sgn s t g h (a .0) (a .1) (b .0) (b .1) (a .2 .2) (b .2 .2)) (product j k g h u v) in
-    rounded-within (mul binary64 x y) P N (L * L) (j + k) (mul-pos (pow-pos 1074) (pow-pos 1074)) K (mul-rounded binary64 x y (a .0) (a .1) (b .0) (b .1) (a .2) (b .2)) (z .0) (z .1)
 
 -- ---- quotients by what is at least 2 ^ -(i + 1)
 abbrev pub exp2-below : ℕ → Float
@@ -207,24 +123,3 @@ div-within j i x y I K X Y h =
 
     left : (p n b c : ℕ) → b ≤ c → n ≤ p + b → n ≤ p + c
     left p n b c h k = omega arith
-
--- ---- more room
-pub within-wider : (j k : ℕ) (x : Float) → j ≤ k → Within j x → Within k x
-within-wider j k x h w =
-    let l : 2 ^ j * L ≤ 2 ^ k * L = mul-le-mul-right L (pow-mono h) in
-    record {
-      held = w .held;
-      low = le-trans-float (minus-exp2 k) (minus-exp2 j) x (counts→le binary64 (minus-exp2 k) (minus-exp2 j) 0 (2 ^ k * L) 0 (2 ^ j * L) (minus-counts k) (minus-counts j) (down (2 ^ j * L) (2 ^ k * L) l)) (w .low);
-      high = le-trans-float x (exp2 j) (exp2 k) (w .high) (counts→le binary64 (exp2 j) (exp2 k) (2 ^ j * L) 0 (2 ^ k * L) 0 (exp2-counts j) (exp2-counts k) (up (2 ^ j * L) (2 ^ k * L) l));
-    }
-  where
-    down : (a b : ℕ) → a ≤ b → 0 + a ≤ 0 + b
-    down a b h = omega arith
-
-    up : (a b : ℕ) → a ≤ b → a + 0 ≤ b + 0
-    up a b h = omega arith
-
--- what lies within 0..1
-pub unit-within : (x : Float) → T (fits binary64 x) → T (le nought x) → T (le x one) → Within 0 x
-unfolding le
-unit-within x X h k = record { held = X; low = le-trans-float (minus-exp2 0) nought x tt h; high = k }

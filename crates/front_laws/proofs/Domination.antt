@@ -13,7 +13,7 @@ use Rattle.list_laws.proofs.Tests.{anyBelow-at, anyBelow-some, anyBelow-each, a
 use Rattle.float_laws.proofs.Compared as compared
 use Rattle.float_laws.proofs.Compared.{lt-self}
 use Rattle.front_laws.specs.Strict.{Known}
-use Rattle.float_laws.proofs.Order.{le-trans, lt→le, lt→nle, nlt→le, lt-irrefl, lt-le-trans, lt-trans}
+use Rattle.float_laws.proofs.Order.{le-trans, lt→le, lt→nle, nlt→le, lt-le-trans, lt-trans}
 
 -- ---- rows
 

@@ -29,18 +29,13 @@ listing-still d n k (suc j) e =
     ap (listing d n) (add-suc k j) ∙ ap (λ l. listing d n (k + j) ++ l) (empty-on d n k j e)
     ∙ append-nil (listing d n (k + j)) ∙ listing-still d n k j e
 
-module _ (d : ℕ → ℕ → Bool) (n : ℕ) (s : Strict d n) where
-  -- every front from n on is empty
-  pub later-empty : (k : ℕ) → n ≤ k → front d n k ≡ []
-  later-empty k h = let all : n + (k - n) ≡ k = omega arith in ap (front d n) (sym all) ∙ empty-on d n n (k - n) (ended d n s)
+module _ (d : ℕ → ℕ → Bool) (n : ℕ) (s : Strict d n) (x : ℕ) (f : (j : ℕ) → j < x → front d n j ≡ [] → ⊥) (e : front d n x ≡ []) where
+  -- the first empty front comes within n rounds
+  pub first-empty : x ≤ n
+  first-empty = by-bool (ltb n x) (λ v. absurd (f n (ltb-true n x v) (ended d n s))) (ltb-false n x)
 
-  module _ (x : ℕ) (f : (j : ℕ) → j < x → front d n j ≡ [] → ⊥) (e : front d n x ≡ []) where
-    -- the first empty front comes within n rounds
-    pub first-empty : x ≤ n
-    first-empty = by-bool (ltb n x) (λ v. absurd (f n (ltb-true n x v) (ended d n s))) (ltb-false n x)
-
-    -- and the fronts before it, joined, are all fronts
-    pub listing-all : listing d n x ≡ listing d n n
-    listing-all =
-        let all : x + (n - x) ≡ n = omega (arith, first-empty) in
-        sym (ap (listing d n) (sym all) ∙ listing-still d n x (n - x) e)
+  -- and the fronts before it, joined, are all fronts
+  pub listing-all : listing d n x ≡ listing d n n
+  listing-all =
+      let all : x + (n - x) ≡ n = omega (arith, first-empty) in
+      sym (ap (listing d n) (sym all) ∙ listing-still d n x (n - x) e)

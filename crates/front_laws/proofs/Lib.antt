@@ -9,3 +9,10 @@ pub mod Listings
 pub mod Domination
 pub mod Violation
 pub mod Plans
+pub mod Flat
+pub mod Counting
+pub mod Steps
+pub mod Passing
+pub mod Sorting
+pub mod Places
+pub mod Meaning

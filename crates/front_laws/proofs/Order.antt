@@ -189,20 +189,5 @@ module _ (d : ℕ → ℕ → Bool) (n : ℕ) (s : Strict d n) where
       (λ v. absurd (false≢true (sym (inFront-new d n n q v) ∙ all-inFirst q l))) (λ v. ap one v))
       (λ e. found d n n .below q (ltb-false q n e)))
 
-  -- T2. every plan is in exactly one front, once
-  pub in-one-front : (q : ℕ) → q < n
-      → (k : ℕ) × (k < n) × (occ q (front d n k) ≡ 1) × ((j : ℕ) → (j ≡ k → ⊥) → occ q (front d n j) ≡ 0)
-  in-one-front q l =
-      let r = inFirst-front d n n q (all-inFirst q l) in (
-        r .0,
-        r .1,
-        found d n (r .0) .exact q l ∙ ap one (r .2),
-        λ j v. found d n j .exact q l ∙ by-bool (inFront d n j q) (λ e. absurd (v (one-front d n j (r .0) q e (r .2)))) (λ e. ap one e),
-      )
-
-  -- the whole listing, as it stands at the first empty front: each plan once
-  pub listing-once : (k : ℕ) → front d n k ≡ [] → (q : ℕ) → q < n → occ q (listing d n k) ≡ 1
-  listing-once k e q l = listing-exact d n k q l ∙ ap one (empty-inFirst k e q l)
-
   pub listing-whole : (k : ℕ) → front d n k ≡ [] → length (listing d n k) ≡ n
   listing-whole k e = listing-length d n k ∙ countBelow-all (inFirst d n k) n (empty-inFirst k e)

@@ -1,10 +1,9 @@
 -- The two dominations of the plans of a pool: strict on accepted plans, the paper's, and what flat lists of the pool give.
-use Prim.Native.Nat.{ℕ, _+_, _*_, _≤_, _<_, min}
+use Prim.Native.Nat.{ℕ, zero, suc, _+_, _≤_, _<_, min}
 use mathlib.Core.Path.{_≡_, refl, ap, _∙_}
 use mathlib.Core.Bool.{Bool, true, false, _&&_, false≢true}
 use mathlib.Core.List.{List, []}
 use mathlib.Core.Logic.{_↔_}
-use native.Mathlib.Nat.{suc-mul, mul-le-mul-right}
 use native.Mathlib.Omega.{arith}
 use borrow.Author.Tests.{eqb-true}
 use lib.Dec.{eqb, leb}
@@ -24,7 +23,7 @@ use Rattle.list_laws.proofs.Tests.{allIn-each}
 use Rattle.front_laws.specs.Strict.{Strict}
 use Rattle.front_laws.proofs.Same.{Agree}
 use Rattle.front_laws.specs.Strict.{Known}
-use Rattle.front_laws.proofs.Domination.{dominates-irreflexive, dominates-asymmetric, dominates-transitive, dominates-paper, rule-irreflexive, rule-asymmetric, rule-transitive}
+use Rattle.front_laws.proofs.Domination.{dominates-paper, rule-irreflexive, rule-transitive}
 use Rattle.float_laws.proofs.Order.{le-not-nan}
 use Rattle.front_laws.proofs.Violation.{feasible-none}
 
@@ -33,11 +32,6 @@ use Rattle.front_laws.proofs.Violation.{feasible-none}
 pub constrained-irreflexive : (m : ℕ) (a : ℕ → Float) (ca : List Float) → constrainedDominates m a ca a ca ≡ false
 unfolding constrainedDominates
 constrained-irreflexive m a ca = rule-irreflexive m (feasible ca) (violation ca) a
-
-pub constrained-asymmetric : (m : ℕ) (a : ℕ → Float) (ca : List Float) (b : ℕ → Float) (cb : List Float)
-    → constrainedDominates m a ca b cb ≡ true → constrainedDominates m b cb a ca ≡ false
-unfolding constrainedDominates
-constrained-asymmetric m a ca b cb e = rule-asymmetric m (feasible ca) (feasible cb) (violation ca) (violation cb) a b e
 
 pub constrained-transitive : (m : ℕ) (a : ℕ → Float) (ca : List Float) (b : ℕ → Float) (cb : List Float) (c : ℕ → Float) (cc : List Float)
     → Known m a → Known m b → Known m c
@@ -88,6 +82,11 @@ pub known-toMinimize : (d : Direction) (x : Float) → isNan x ≡ false → isN
 known-toMinimize Minimize x e = e
 known-toMinimize Maximize x e = neg-known x e
 
+-- a mark that is not 0 stands for maximising
+pub maximised : (k : ℕ) → (k ≡ 0 → ⊥) → directionOf k ≡ Maximize
+maximised zero h = absurd (h refl)
+maximised (suc k) h = refl
+
 -- a value that is measured is no NaN
 pub measurable-known : (x : Float) → measurable x ≡ true → isNan x ≡ false
 unfolding measurable
@@ -122,15 +121,8 @@ words-accepted m word h e =
       whole = listBelow-length (λ j. real (word (2 + j))) (min (word 1) maxValues) ∙ omega arith;
     }
 
+-- where no row has a NaN
 module _ (marks : List ℕ) (plans : ℕ → Plan) (n : ℕ) (known : (p : ℕ) → p < n → Known (length marks) (rowOf marks (plans p))) where
-  pub rowBeats-strict : Strict (rowBeats marks plans) n
-  unfolding rowBeats
-  rowBeats-strict = record {
-    irreflexive = λ p l. dominates-irreflexive (length marks) (rowOf marks (plans p));
-    transitive = λ p q r lp lq lr h k.
-        dominates-transitive (length marks) (rowOf marks (plans p)) (rowOf marks (plans q)) (rowOf marks (plans r)) (known p lp) (known q lq) (known r lr) h k;
-  }
-
   pub beats-strict : Strict (beats marks plans) n
   unfolding beats
   beats-strict = record {
@@ -139,16 +131,6 @@ module _ (marks : List ℕ) (plans : ℕ → Plan) (n : ℕ) (known : (p : ℕ) 
         constrained-transitive (length marks) (rowOf marks (plans p)) (plans p .constraints) (rowOf marks (plans q)) (plans q .constraints)
         (rowOf marks (plans r)) (plans r .constraints) (known p lp) (known q lq) (known r lr) h k;
   }
-
--- neither of two plans dominates the other where that one dominates it
-pub rowBeats-asymmetric : (marks : List ℕ) (plans : ℕ → Plan) (p q : ℕ) → rowBeats marks plans p q ≡ true → rowBeats marks plans q p ≡ false
-unfolding rowBeats
-rowBeats-asymmetric marks plans p q e = dominates-asymmetric (length marks) (rowOf marks (plans p)) (rowOf marks (plans q)) e
-
-pub beats-asymmetric : (marks : List ℕ) (plans : ℕ → Plan) (p q : ℕ) → beats marks plans p q ≡ true → beats marks plans q p ≡ false
-unfolding beats
-beats-asymmetric marks plans p q e =
-    constrained-asymmetric (length marks) (rowOf marks (plans p)) (plans p .constraints) (rowOf marks (plans q)) (plans q .constraints) e
 
 -- a plan as the paper's rule sees it
 abbrev pub solutionOf : List ℕ → Plan → Solution

@@ -1,6 +1,6 @@
 -- Only which of the n plans dominates which matters: dominations that agree on them have the same fronts.
 use Prim.Native.Nat.{ℕ, zero, suc, _-_, _<_}
-use mathlib.Core.Path.{_≡_, refl, ap, ap₂, sym, _∙_}
+use mathlib.Core.Path.{_≡_, refl, ap, ap₂, _∙_}
 use mathlib.Core.Bool.{Bool, _&&_}
 use mathlib.Core.List.{List, [], _∷_, _++_}
 use native.Mathlib.Omega.{arith}
@@ -13,7 +13,6 @@ use Rattle.list_laws.proofs.Counts.{countBelow-same}
 use Rattle.list_laws.proofs.First.{firstBelow-same}
 use Rattle.list_laws.proofs.Kept.{keepBelow-same}
 use Rattle.list_laws.proofs.Members.{occ-cons, occ-here, under-in}
-use Rattle.front_laws.specs.Strict.{Strict}
 use Rattle.front_laws.proofs.Rounds.{found}
 
 -- the two dominations agree on the n plans
@@ -84,10 +83,3 @@ module _ (d e : ℕ → ℕ → Bool) (n : ℕ) (a : Agree d e n) where
   pub frontList-same : frontList d n ≡ frontList e n
   unfolding frontList
   frontList-same = listBelow-same _ _ n (λ q l. frontOf-same q)
-
-  -- and one is strict where the other is
-  pub strict-same : Strict d n → Strict e n
-  strict-same s = record {
-    irreflexive = λ p u. sym (a p p u u) ∙ s .irreflexive p u;
-    transitive = λ p q r u v w x y. sym (a p r u w) ∙ s .transitive p q r u v w (a p q u v ∙ x) (a q r v w ∙ y);
-  }

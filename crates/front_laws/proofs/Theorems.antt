@@ -1,7 +1,7 @@
 -- The fronts of document 01 are those of the paper. d p q says that plan p dominates plan q; the first two laws hold of any d, the others of a strict one.
 use Prim.Native.Nat.{ℕ, suc, _≤_, _<_}
 use mathlib.Core.Path.{_≡_, ap, sym, _∙_}
-use mathlib.Core.Bool.{Bool, true, false, not, _&&_, false≢true}
+use mathlib.Core.Bool.{Bool, true, false, not, _&&_}
 use mathlib.Core.List.{List, []}
 use mathlib.Core.Logic.{_↔_}
 use native.Mathlib.Omega.{arith}
@@ -19,7 +19,7 @@ use Rattle.list_laws.proofs.Members.{in-occ, occ-in, has-in, in-has, under-in, 
 use Rattle.list_laws.proofs.Tests.{anyBelow-each, anyBelow-nowhere}
 use Rattle.front_laws.specs.Ranks.{ranked}
 use Rattle.front_laws.specs.Strict.{Strict}
-use Rattle.front_laws.proofs.Order.{one-front, inFirst-front, listing-below, listing-exact, not-dominated, under-front, all-inFirst, empty-inFirst, ended, in-one-front, listing-once, listing-whole}
+use Rattle.front_laws.proofs.Order.{one-front, inFirst-front, not-dominated, under-front, all-inFirst, empty-inFirst, ended, listing-whole}
 use Rattle.front_laws.proofs.Ranks.{ranked-length, ranked-drop, ranked-at}
 use Rattle.front_laws.proofs.Rounds.{found}
 
@@ -62,15 +62,16 @@ front-distinct d n k = occ-distinct (front d n k) (λ q. by-bool (ltb q n)
     (λ e. omega (arith, found d n k .exact q (ltb-true q n e), one-le (inFront d n k q)))
     (λ e. omega (arith, found d n k .below q (ltb-false q n e))))
 
-pub listing-distinct : (d : ℕ → ℕ → Bool) (n k : ℕ) → Distinct (listing d n k)
-listing-distinct d n k = occ-distinct (listing d n k) (λ q. by-bool (ltb q n)
-    (λ e. omega (arith, listing-exact d n k q (ltb-true q n e), one-le (inFirst d n k q)))
-    (λ e. omega (arith, listing-below d n k q (ltb-false q n e))))
-
 module _ (d : ℕ → ℕ → Bool) (n : ℕ) (s : Strict d n) where
   -- every plan stands once in one front, and in no other
   pub in-exactly-one : (q : ℕ) → q < n → (k : ℕ) × (k < n) × (occ q (front d n k) ≡ 1) × ((j : ℕ) → (j ≡ k → ⊥) → occ q (front d n j) ≡ 0)
-  in-exactly-one = in-one-front d n s
+  in-exactly-one q l =
+      let r = inFirst-front d n n q (all-inFirst d n s q l) in (
+        r .0,
+        r .1,
+        found d n (r .0) .exact q l ∙ ap one (r .2),
+        λ j v. found d n j .exact q l ∙ by-bool (inFront d n j q) (λ e. absurd (v (one-front d n j (r .0) q e (r .2)))) (λ e. ap one e),
+      )
 
   -- no plan dominates another of its own or an earlier front
   pub none-backwards : (k j q p : ℕ) → k ≤ j → In q (front d n k) → In p (front d n j) → d p q ≡ false
@@ -82,15 +83,8 @@ module _ (d : ℕ → ℕ → Bool) (n : ℕ) (s : Strict d n) where
       let t = under-front d n s k q (member-below d n (suc k) q m) (member-inFront d n (suc k) q m) in
       (t .0, inFront-member d n k (t .0) (t .1) (t .2), t .3)
 
-  -- all plans are covered within n rounds: front n is empty, and the n fronts together have each plan once
-  pub front-empty : front d n n ≡ []
-  front-empty = ended d n s
-
   pub listing-length-n : length (listing d n n) ≡ n
   listing-length-n = listing-whole d n s n (ended d n s)
-
-  pub listing-each : (q : ℕ) → q < n → occ q (listing d n n) ≡ 1
-  listing-each = listing-once d n s n (ended d n s)
 
   -- frontOf is the front that holds a plan
   pub frontOf-at : (k q : ℕ) → In q (front d n k) → frontOf d n q ≡ k
@@ -103,26 +97,6 @@ module _ (d : ℕ → ℕ → Bool) (n : ℕ) (s : Strict d n) where
       firstBelow-at _ n k (omega (arith, r .1)) (in-has (front d n k) q m)
       (λ j u. by-bool (has (front d n j) q)
       (λ v. absurd (omega (arith, one-front d n j k q (member-inFront d n j q (has-in (front d n j) q v)) e))) (λ v. v))
-
-  pub frontOf-in : (q : ℕ) → q < n → In q (front d n (frontOf d n q))
-  frontOf-in q l =
-      let r = inFirst-front d n n q (all-inFirst d n s q l) in
-      let m = inFront-member d n (r .0) q l (r .2) in
-      rw (frontOf-at (r .0) q m) m
-
-  pub frontOf-below : (q : ℕ) → q < n → frontOf d n q < n
-  frontOf-below q l =
-      let r = inFirst-front d n n q (all-inFirst d n s q l) in
-      omega (arith, r .1, frontOf-at (r .0) q (inFront-member d n (r .0) q l (r .2)))
-
-  pub frontOf-paper : (q : ℕ) → q < n → inFront d n (frontOf d n q) q ≡ true
-  frontOf-paper q l = member-inFront d n (frontOf d n q) q (frontOf-in q l)
-
-  -- a dominator is of an earlier front
-  pub dominator-earlier : (p q : ℕ) → p < n → q < n → d p q ≡ true → frontOf d n p < frontOf d n q
-  dominator-earlier p q u v e = by-bool (ltb (frontOf d n p) (frontOf d n q)) (ltb-true (frontOf d n p) (frontOf d n q))
-      (λ w. absurd (false≢true (sym (none-backwards (frontOf d n q) (frontOf d n p) q p (ltb-false (frontOf d n p) (frontOf d n q) w)
-      (frontOf-in q v) (frontOf-in p u)) ∙ e)))
 
   -- the front numbers written front after front are those of every plan, once a front is empty
   pub ranked-frontList : (k : ℕ) (r : List ℕ) → n ≤ length r → front d n k ≡ [] → ranked d n k r ≡ over (frontList d n) r

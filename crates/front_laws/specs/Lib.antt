@@ -1,2 +1,4 @@
 pub mod Strict
 pub mod Ranks
+pub mod Flat
+pub mod Post

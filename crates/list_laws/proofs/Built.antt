@@ -7,7 +7,7 @@ use native.Mathlib.Nat.{not-suc-le-zero, eq-or-lt-of-le}
 use native.Mathlib.Numerals.{add-one}
 use native.Mathlib.Omega.{arith}
 use lib.ListN.{length, getD, set, take, drop, length-append, length-drop, take-append-drop, List·getD-append}
-use lib.Seq.{drop-cons, append-snoc, set-at, getD-at, ext-getD, length-take-le, getD-take, take-at, drop-at, getD-drop}
+use lib.Seq.{drop-cons, append-snoc, set-at, getD-at, ext-getD, length-take-le, getD-take, take-at, drop-at}
 use Rattle.model.specs.Lists.{listBelow, joinBelow, over}
 
 module _ {A : Type 0} where
@@ -96,6 +96,14 @@ module _ {A : Type 0} where
 
   pub over-size : (f : ℕ → A) (j : ℕ) (l : List A) → j ≤ length l → length (over (listBelow f j) l) ≡ length l
   over-size f j l h = over-length (listBelow f j) l (omega (arith, listBelow-length f j))
+
+  -- an entry at its front
+  pub over-at : (new old : List A) (i : ℕ) (d : A) → i < length new → getD (over new old) i d ≡ getD new i d
+  over-at new old i d h = List·getD-append new (drop (length new) old) d i h
+
+  pub over-below : (f : ℕ → A) (n : ℕ) (l old : List A) (i : ℕ) (d : A) → l ≡ over (listBelow f n) old → i < n → getD l i d ≡ f i
+  over-below f n l old i d e h =
+      ap (λ t. getD t i d) e ∙ over-at (listBelow f n) old i d (omega (arith, listBelow-length f n)) ∙ listBelow-at f n d i h
 
 -- one entry more behind what stands at the front
 pub over-snoc : (v old : List ℕ) (j r : ℕ) → length v ≡ j → j < length old → set (over v old) j r ≡ over (v ++ (r ∷ [])) old

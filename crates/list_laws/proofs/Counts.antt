@@ -1,7 +1,7 @@
 -- Laws of `countBelow` and `sumBelow`.
 use Prim.Native.Nat.{ℕ, zero, suc, _+_, _≤_, _<_}
 use mathlib.Core.Path.{_≡_, refl, ap, sym, _∙_}
-use mathlib.Core.Bool.{Bool, true, false, not, _&&_, _||_, or-true, or-false}
+use mathlib.Core.Bool.{Bool, true, false, not, _&&_, or-true, or-false}
 use mathlib.Core.Logic.{⊎-elim}
 use native.Mathlib.Nat.{not-suc-le-zero, add-zero, eq-or-lt-of-le}
 use native.Mathlib.Numerals.{add-one}
@@ -115,14 +115,6 @@ left-countBelow f (suc n) h = by-bool (f n)
     (λ e. (n, omega arith, e))
 
 -- ---- sumBelow
-
-pub sumBelow-none : (f : ℕ → ℕ) → sumBelow f 0 ≡ 0
-unfolding sumBelow
-sumBelow-none f = refl
-
-pub sumBelow-more : (f : ℕ → ℕ) (n : ℕ) → sumBelow f (n + 1) ≡ sumBelow f n + f n
-unfolding sumBelow
-sumBelow-more f n = ap (sumBelow f) (add-one n)
 
 pub sumBelow-same : (f g : ℕ → ℕ) (n : ℕ) → ((t : ℕ) → t < n → f t ≡ g t) → sumBelow f n ≡ sumBelow g n
 unfolding sumBelow

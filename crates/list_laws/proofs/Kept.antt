@@ -2,19 +2,18 @@
 use Prim.Native.Nat.{ℕ, zero, suc, _+_, _≤_, _<_}
 use mathlib.Core.Path.{_≡_, refl, ap, sym, _∙_}
 use mathlib.Core.Bool.{Bool, true, false, cond}
-use mathlib.Core.List.{List, [], _∷_, _++_, append-nil}
+use mathlib.Core.List.{[], _∷_, _++_, append-nil}
 use mathlib.Core.Logic.{⊎-elim}
 use native.Mathlib.Nat.{not-suc-le-zero, eq-or-lt-of-le}
 use native.Mathlib.Numerals.{add-one}
 use native.Mathlib.Omega.{arith}
-use borrow.Author.Tests.{eq-eqb, ne-eqb, ltb-true, ltb-false}
-use lib.Dec.{eqb, ltb}
+use borrow.Author.Tests.{eq-eqb, ne-eqb}
 use lib.ListN.{length, length-append}
-use Rattle.model.specs.Lists.{one, countBelow, keepBelow, keep, tally, In, Distinct}
+use Rattle.model.specs.Lists.{one, countBelow, keepBelow, In}
 use Rattle.list_laws.specs.Occ.{occ, AllUnder}
 use Rattle.list_laws.proofs.Bools.{by-bool, one-le, one-true}
 use Rattle.list_laws.proofs.Counts.{countBelow-none, countBelow-yes, countBelow-no, countBelow-up}
-use Rattle.list_laws.proofs.Members.{occ-nil, occ-cons, occ-append, in-occ, occ-in, under-in, occ-distinct}
+use Rattle.list_laws.proofs.Members.{occ-nil, occ-cons, occ-append, in-occ, occ-in, under-in}
 
 pub keepBelow-none : (f : ℕ → Bool) → keepBelow f 0 ≡ []
 unfolding keepBelow
@@ -83,8 +82,3 @@ in-keepBelow f n q m =
     let o = in-occ q (keepBelow f n) m in
     let l : q < n = under-in n q (keepBelow f n) (keepBelow-under f n) o in
     (l, one-true (f q) (omega (arith, keepBelow-occ f n q l, one-le (f q))))
-
-pub keepBelow-distinct : (f : ℕ → Bool) (n : ℕ) → Distinct (keepBelow f n)
-keepBelow-distinct f n = occ-distinct (keepBelow f n) (λ q. by-bool (ltb q n)
-    (λ e. omega (arith, keepBelow-occ f n q (ltb-true q n e), one-le (f q)))
-    (λ e. omega (arith, keepBelow-under f n q (ltb-false q n e))))

@@ -6,3 +6,4 @@ pub mod Members
 pub mod Kept
 pub mod Built
 pub mod Runs
+pub mod Stores

@@ -2,12 +2,12 @@
 use Prim.Native.Nat.{ℕ, zero, suc, _+_, _≤_, _<_}
 use mathlib.Core.Path.{_≡_, refl, ap, sym, _∙_}
 use mathlib.Core.Bool.{Bool, true, false, cond, _&&_, _||_, and-true, true≢false}
-use mathlib.Core.List.{List, [], _∷_, _++_, List·Memᴰ, List·Memᴰ·head, List·Memᴰ·tail, List·Memᴰ·not-nil, List·Memᴰ·cases-cons, List·Memᴰ·append-cases, List·Memᴰ·eq-of-singleton, Memᴰ·append-right, Memᴰ·cast, List·Mem, List·Nodup, Pairwise·nil, Pairwise·cons, nodup-cons, nodup-nil, nodup-append}
+use mathlib.Core.List.{List, [], _∷_, _++_, List·Memᴰ·head, List·Memᴰ·tail, List·Memᴰ·not-nil, List·Memᴰ·cases-cons, List·Memᴰ·append-cases, List·Memᴰ·eq-of-singleton, Memᴰ·cast, Pairwise·nil, Pairwise·cons, nodup-cons, nodup-nil, nodup-append}
 use mathlib.Core.Logic.{_⊎_, inl, inr, ⊎-elim, ∥∥₁-elim}
 use mathlib.Core.HLevel.{⊥-prop}
 use native.Mathlib.Nat.{not-suc-le-zero}
 use native.Mathlib.Omega.{arith}
-use borrow.Author.Tests.{eq-eqb, ne-eqb, eqb-true, eqb-false, ltb-true, ltb-false}
+use borrow.Author.Tests.{eq-eqb, ne-eqb, eqb-true, ltb-true, ltb-false}
 use lib.Dec.{eqb, ltb}
 use lib.ListN.{length, getD}
 use Rattle.model.specs.Lists.{one, countBelow, sumBelow, has, keep, tally, In, Distinct}
@@ -170,10 +170,6 @@ keep-append f (x ∷ s) t = by-bool (f x)
     (λ e. rw e (ap (λ l. x ∷ l) (keep-append f s t)))
     (λ e. rw e (keep-append f s t))
 
--- one entry more at the end
-pub keep-snoc-yes : (f : ℕ → Bool) (l : List ℕ) (x : ℕ) → f x ≡ true → keep f (l ++ (x ∷ [])) ≡ keep f l ++ (x ∷ [])
-keep-snoc-yes f l x e = keep-append f l (x ∷ []) ∙ ap (λ t. keep f l ++ t) (keep-yes f x [] e ∙ ap (λ t. x ∷ t) (keep-nil f))
-
 pub keep-length : (f : ℕ → Bool) (l : List ℕ) → length (keep f l) ≡ tally f l
 unfolding keep tally
 keep-length f [] = refl
@@ -210,11 +206,6 @@ in-keep f l q m =
     by-bool (f q)
     (λ e. (occ-in q l (omega (arith, ap (λ b. cond b (occ q l) 0) e)), e))
     (λ e. absurd (omega (arith, ap (λ b. cond b (occ q l) 0) e)))
-
-pub keep-distinct : (f : ℕ → Bool) (l : List ℕ) → Distinct l → Distinct (keep f l)
-keep-distinct f l d = occ-distinct (keep f l) (λ q. by-bool (f q)
-    (λ e. omega (arith, keep-occ f l q, ap (λ b. cond b (occ q l) 0) e, distinct-occ l d q))
-    (λ e. omega (arith, keep-occ f l q, ap (λ b. cond b (occ q l) 0) e)))
 
 -- only the members matter
 pub tally-same : (f g : ℕ → Bool) (l : List ℕ) → ((q : ℕ) → In q l → f q ≡ g q) → tally f l ≡ tally g l
@@ -284,9 +275,6 @@ pub length-below : (g : ℕ → Bool) (n : ℕ) (l : List ℕ) → AllUnder n l 
 length-below g n l a h = sym (tally-all l) ∙ tally-below (λ t. true) g n l a h ∙ countBelow-same _ _ n (λ t u. and-true (g t))
 
 -- ---- one more at the end
-
-pub in-last : (l : List ℕ) (p : ℕ) → In p (l ++ (p ∷ []))
-in-last l p = Memᴰ·append-right l (List·Memᴰ·head refl)
 
 pub in-snoc : (l : List ℕ) (p q : ℕ) → In q (l ++ (p ∷ [])) → In q l ⊎ (q ≡ p)
 in-snoc l p q m = go (List·Memᴰ·append-cases l m)

@@ -1,12 +1,11 @@
 -- A run of stores: one more at its end, and what stands where afterwards.
 use Prim.Native.Nat.{ℕ, zero, suc, _+_, _-_, _*_, _≤_, _<_}
 use mathlib.Core.Path.{_≡_, refl, ap, sym, _∙_}
-use mathlib.Core.Logic.{⊎-elim}
 use mathlib.Core.List.{List, [], _∷_, _++_}
 use native.Mathlib.Omega.{arith}
-use native.Mathlib.Nat.{eq-or-lt-of-le, suc-add, add-suc, add-zero, sub-self, suc-mul, mul-le-mul-right, mul-le-mul-left}
-use lib.ListN.{length, getD, set, length-append, length-set}
-use lib.Seq.{sets, length-sets, getD-set-other, getD-set-same}
+use native.Mathlib.Nat.{suc-add, add-suc, add-zero, suc-mul, mul-le-mul-right, mul-le-mul-left}
+use lib.ListN.{length, getD, set, length-set}
+use lib.Seq.{sets, getD-set-other, getD-set-same}
 
 pub sets-append : {A : Type 0} (l : List A) (i : ℕ) (s t : List A) → sets l i (s ++ t) ≡ sets (sets l i s) (i + length s) t
 sets-append l i [] t = ap (λ (k : ℕ). sets l k t) (sym (add-zero i))

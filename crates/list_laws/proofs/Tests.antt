@@ -1,8 +1,8 @@
 -- Laws of `anyBelow`, `allBelow` and `allIn`: at n + 1, by what lies below n alone, and as facts of each number.
 use Prim.Native.Nat.{ℕ, zero, suc, _+_, _≤_, _<_}
 use mathlib.Core.Path.{_≡_, refl, ap, ap₂, sym, _∙_}
-use mathlib.Core.Bool.{Bool, true, false, not, _&&_, _||_, or-true, or-false, false≢true, true≢false}
-use mathlib.Core.List.{List, [], _∷_, _++_, List·Memᴰ, List·Memᴰ·not-nil, List·Memᴰ·cases-cons}
+use mathlib.Core.Bool.{Bool, true, false, _&&_, _||_, or-true, or-false, false≢true, true≢false}
+use mathlib.Core.List.{List, [], _∷_, List·Memᴰ·not-nil, List·Memᴰ·cases-cons}
 use mathlib.Core.Logic.{⊎-elim}
 use native.Mathlib.Nat.{not-suc-le-zero, eq-or-lt-of-le}
 use native.Mathlib.Numerals.{add-one}
@@ -104,14 +104,6 @@ allBelow-same f g (suc n) h = ap₂ (λ a b. a && b) (allBelow-same f g n (λ t 
 -- ---- allIn
 
 module _ {A : Type 0} where
-  pub allIn-nil : (f : A → Bool) → allIn f [] ≡ true
-  unfolding allIn
-  allIn-nil f = refl
-
-  pub allIn-cons : (f : A → Bool) (a : A) (l : List A) → allIn f (a ∷ l) ≡ (f a && allIn f l)
-  unfolding allIn
-  allIn-cons f a l = refl
-
   -- every entry passes just where the entry at each place does
   pub allIn-each : (f : A → Bool) (d : A) (l : List A) → allIn f l ≡ true → (k : ℕ) → k < length l → f (getD l k d) ≡ true
   unfolding allIn

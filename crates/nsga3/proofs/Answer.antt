@@ -16,8 +16,8 @@ use Rattle.model.specs.Refusal.{selectRefusal}
 use Rattle.model.specs.Kept.{before, isSplit, bySplit, selectedSplit, selectedWhole, selected, padding, noLine}
 use Rattle.model.specs.Calls.{Lent, lent, roomOf, SelectExit, wordRequest, answered, selectAccepted, selectBy, selectOf, Selects}
 use Rattle.demand3_laws.proofs.Calls.{planAt-row, selects}
-use Rattle.plans.specs.declared.Cut.{Cut}
-use Rattle.plans.specs.Filled.{RowsOf}
+use Rattle.front_cut.specs.declared.Cut.{Cut}
+use Rattle.plan_rows.specs.Filled.{RowsOf}
 use Rattle.nsga3_laws.specs.Admitted.{Admitted}
 use Rattle.pool_sort.specs.Laid.{RowsIn, OrderIn, Sorts}
 use Rattle.nsga3.specs.Handed.{Hands, exit}

@@ -24,7 +24,7 @@ use Rattle.niching_laws.proofs.Association.{lineOf-inside}
 use Rattle.association_laws.specs.Request.{Pool, StartIn, LinesIn, Associates}
 use Rattle.association_laws.proofs.Places.{over-below}
 use Rattle.association_laws.proofs.Request.{lines-at}
-use Rattle.plans.specs.declared.Cut.{Cut}
+use Rattle.front_cut.specs.declared.Cut.{Cut}
 use Rattle.niching_array_laws.specs.Niche.{Splits, NichingSelects, picksOf}
 use Rattle.nsga3_laws.proofs.Agree.{Below, picks-agree}
 use Rattle.nsga3_parts.proofs.Lists.{written-behind}

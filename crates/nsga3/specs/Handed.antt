@@ -8,7 +8,7 @@ use Rattle.model.specs.Association.{Request}
 use Rattle.model.specs.Kept.{Selected}
 use Rattle.model.specs.Calls.{lent, SelectExit}
 use Rattle.model.specs.declared.Selection.{Selection}
-use Rattle.plans.specs.declared.Cut.{Cut}
+use Rattle.front_cut.specs.declared.Cut.{Cut}
 use Rattle.nsga3_laws.specs.Admitted.{Admitted}
 use Rattle.pool_sort.specs.Laid.{RowsIn, OrderIn}
 

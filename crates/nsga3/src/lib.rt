@@ -11,7 +11,7 @@ use model::MAX_VALUES;
 use model::Outcome;
 use model::Rng;
 use model::Selection;
-use plans::Cut;
+use front_cut::Cut;
 use refusals::Check;
 
 // The kept list where a front is split: the whole fronts, then plans that niching picks from the split one. The ideal moves, and every plan gets a line.
@@ -116,7 +116,7 @@ fn select(
 {
     let n = plans::plan_count(pool);
     let mut rows: [f64; MAX_VALUES] = [0.0; MAX_VALUES];
-    plans::fill_rows(pool, directions, n, &mut rows);
+    plan_rows::fill_rows(pool, directions, n, &mut rows);
     let mut order: [usize; MAX_PLANS] = [0; MAX_PLANS];
     let cut = pool_sort::sort_pool(pool, directions, size, &rows, &mut order, fronts);
     let rng = fill_kept(

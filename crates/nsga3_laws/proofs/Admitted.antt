@@ -12,7 +12,7 @@ use Rattle.model.specs.Lists.{allBelow, allIn}
 use Rattle.model.specs.Association.{Request, objectives, lineCount}
 use Rattle.model.specs.Refusal.{Room, badDirections, badSize, badDivisions, badCount, badPool, noRoom, goodPlan, goodIdeal, maxSize, selectRefusal}
 use Rattle.list_laws.proofs.Bools.{and-left, and-right, or-left, or-right}
-use Rattle.das_dennis.proofs.Divisions.{allowed}
+use Rattle.reference_laws.proofs.Divisions.{allowed}
 use Rattle.demand3_laws.proofs.Accepted.{some-objectives}
 use Rattle.demand3_laws.proofs.Calls.{applies-not}
 use Rattle.association_laws.proofs.Coordinates.{lines-some}

@@ -8,21 +8,21 @@ ghost use Rattle.model.specs.Draw.{drawn, drawF64};
 pub extern "C" fn numbers_sqrt(x: f64) -> f64
     ensures { λ r. ⌜ r ≡ sqrtOf x ⌝ }
 {
-    real::sqrt(x)
+    square_root::sqrt(x)
 }
 
 #[no_mangle]
 pub extern "C" fn numbers_power(y: f64, k: u64) -> f64
     ensures { λ r. ⌜ r ≡ P y k ⌝ }
 {
-    real::power(y, k)
+    powers::power(y, k)
 }
 
 #[no_mangle]
 pub extern "C" fn numbers_root(v: f64, k: u64) -> f64
     ensures { λ r. ⌜ r ≡ R v k ⌝ }
 {
-    real::root(v, k)
+    powers::root(v, k)
 }
 
 // A double of 0..1; the state moves on.

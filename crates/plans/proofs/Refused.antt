@@ -10,11 +10,9 @@ use lib.Dec.{eqb, leb, ltb}
 use lib.Ieee.{Float, nan, binary64, le, ofBits}
 use lib.ListN.{length, getD}
 use Rattle.model.specs.Lists.{allBelow, allIn, listBelow}
-use Rattle.model.specs.declared.Rng.{Rng}
-use Rattle.model.specs.Calls.{wordRequest}
-use Rattle.model.specs.Plan.{planOf, planAt, planCount, maxValues, maxConstraints}
+use Rattle.model.specs.Plan.{planOf, maxValues, maxConstraints}
 use Rattle.model.specs.Real.{real}
-use Rattle.model.specs.Refusal.{badDirections, measurable, isInfinity, badCount, maxSize, goodIdeal, goodPlan, badPool}
+use Rattle.model.specs.Refusal.{badDirections, measurable, isInfinity, badCount, maxSize, goodIdeal, goodPlan}
 use Rattle.list_laws.proofs.Bools.{and-no}
 use Rattle.list_laws.proofs.Built.{listBelow-length, listBelow-at}
 use Rattle.list_laws.proofs.Tests.{allIn-below, allBelow-same}
@@ -141,10 +139,3 @@ not-first a b e = sym (ap (λ x. not (x && b)) e)
 
 pub not-second : (a b : Bool) → a ≡ true → b ≡ false → true ≡ not (a && b)
 not-second a b e f = sym (ap₂ (λ x y. not (x && y)) e f)
-
--- refusal 8 of a request whose pool lies in a slice of words
-pub bad-pool-words : (pool directions : List ℕ) (divisions size : ℕ) (rng : Rng) (ideal : List Float)
-    → badPool (wordRequest pool directions divisions size rng ideal)
-    ≡ not (allBelow (λ p. goodPlan (length directions) (planAt pool p)) (planCount pool) && goodIdeal (length directions) ideal)
-unfolding badPool
-bad-pool-words pool directions divisions size rng ideal = refl

@@ -13,14 +13,14 @@ use Rattle.model.specs.Refusal.{goodPlan}
 use Rattle.model.specs.Front.{front}
 use Rattle.model.specs.Association.{Request, objectives, dominance}
 use Rattle.list_laws.proofs.First.{firstBelow-le}
-use Rattle.pareto.specs.Flat as flat
-use Rattle.pareto.specs.Post.{Sorted, frontCount}
-use Rattle.plans.specs.declared.Cut.{Cut}
-use Rattle.plans.specs.Filled.{RowsOf, ConstraintsOf}
-use Rattle.plans.specs.Fitting.{cutOf}
-use Rattle.plans.proofs.Pool.{rows-known}
-use Rattle.plans.proofs.Kept.{CutsAt}
-use Rattle.plans.proofs.Sorted.{KnownPool, sorted-dominance, sorted-pool}
+use Rattle.front_laws.specs.Flat as flat
+use Rattle.front_laws.specs.Post.{Sorted, frontCount}
+use Rattle.front_cut.specs.declared.Cut.{Cut}
+use Rattle.plan_rows.specs.Filled.{RowsOf, ConstraintsOf}
+use Rattle.front_cut.specs.Fitting.{cutOf}
+use Rattle.plan_rows.proofs.Pool.{rows-known}
+use Rattle.front_cut.proofs.Kept.{CutsAt}
+use Rattle.plan_rows.proofs.Sorted.{KnownPool, sorted-dominance, sorted-pool}
 use Rattle.pool_sort.specs.Laid.{RowsIn, OrderIn, Sorts}
 
 -- the ends of the fronts have room

@@ -7,8 +7,8 @@ use lib.ListN.{length, getD, take}
 use Rattle.model.specs.Lists.{over}
 use Rattle.model.specs.Front.{listing, frontList}
 use Rattle.model.specs.Association.{Request, objectives, valueOf, dominance}
-use Rattle.plans.specs.declared.Cut.{Cut}
-use Rattle.plans.proofs.Kept.{CutsAt}
+use Rattle.front_cut.specs.declared.Cut.{Cut}
+use Rattle.front_cut.proofs.Kept.{CutsAt}
 
 -- the pool's rows in minimise-space, one after the other
 pub record RowsIn (r : Request) (rows : List Float) : Type 0 where

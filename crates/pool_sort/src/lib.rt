@@ -12,7 +12,7 @@ ghost use Rattle.model.specs.Refusal.{goodPlan};
 ghost use Rattle.model.specs.declared.Rng.{Rng};
 ghost use Rattle.pool_sort.specs.Laid.{RowsIn, Sorts};
 use model::MAX_PLANS;
-use plans::Cut;
+use front_cut::Cut;
 
 // Lists the pool's plans front by front, with each plan's front, and says where the fronts part for the size.
 pub fn sort_pool(
@@ -33,7 +33,7 @@ pub fn sort_pool(
     let m = directions.len();
     let mut feasible: [bool; MAX_PLANS] = [false; MAX_PLANS];
     let mut violations: [f64; MAX_PLANS] = [0.0; MAX_PLANS];
-    plans::fill_constraints(pool, n, &mut feasible, &mut violations);
+    plan_rows::fill_constraints(pool, n, &mut feasible, &mut violations);
     let mut ends: [usize; MAX_PLANS] = [0; MAX_PLANS];
     let count = pareto::fast_non_dominated_sort_constrained(
         rows,
@@ -45,5 +45,5 @@ pub fn sort_pool(
         fronts,
         &mut ends,
     );
-    plans::split_at(&ends, count, size)
+    front_cut::split_at(&ends, count, size)
 }

@@ -12,11 +12,11 @@ use Rattle.model.specs.Plan.{Plan}
 use Rattle.model.specs.Row.{rowBeats}
 use Rattle.model.specs.Front.{frontOf, frontList}
 use Rattle.list_laws.proofs.Built.{listBelow-length, listBelow-at, listBelow-same}
-use Rattle.pareto.specs.Flat.{flatDominates}
-use Rattle.pareto.specs.Post.{Sorted}
-use Rattle.pareto.proofs.Flat.{flatDominates-rowBeats}
-use Rattle.pareto.proofs.Sorting.{sorted-same}
-use Rattle.plans.specs.Filled.{RowsOf}
+use Rattle.front_laws.specs.Flat.{flatDominates}
+use Rattle.front_laws.specs.Post.{Sorted}
+use Rattle.front_laws.proofs.Flat.{flatDominates-rowBeats}
+use Rattle.front_laws.proofs.Sorting.{sorted-same}
+use Rattle.plan_rows.specs.Filled.{RowsOf}
 
 -- the sort of a pool's rows gives its plans' fronts
 pub rows-fronts : (marks : List ℕ) (plans : ℕ → Plan) (n : ℕ) (rows₀ rows : List Float) (o₀ o r₀ r e₀ e : List ℕ) (x : ℕ) → RowsOf marks plans n rows₀ rows

@@ -22,7 +22,7 @@ fn front_ranks(pool: &[u64], directions: &[u8], fronts: &mut [usize])
     let n = plans::plan_count(pool);
     let m = directions.len();
     let mut rows: [f64; MAX_VALUES] = [0.0; MAX_VALUES];
-    plans::fill_rows(pool, directions, n, &mut rows);
+    plan_rows::fill_rows(pool, directions, n, &mut rows);
     let mut order: [usize; MAX_PLANS] = [0; MAX_PLANS];
     let mut ends: [usize; MAX_PLANS] = [0; MAX_PLANS];
     pareto::fast_non_dominated_sort(&rows, m, n, &mut order, fronts, &mut ends);

@@ -19,9 +19,9 @@ fn spread(u: f64, k: u64) -> f64
     ensures { λ r. ⌜ r ≡ spread u k ⌝ }
 {
     if u <= 0.5 {
-        return real::root(2.0 * u, k);
+        return powers::root(2.0 * u, k);
     }
-    real::root(1.0 / (2.0 * (1.0 - u)), k)
+    powers::root(1.0 / (2.0 * (1.0 - u)), k)
 }
 
 // Simulated binary crossover of two reals.
@@ -56,11 +56,11 @@ fn mutation_shift(x: f64, low: f64, high: f64, range: f64, k: u64, u: f64) -> f6
     ensures { λ r. ⌜ r ≡ mutationShift x low high range k u ⌝ }
 {
     if u < 0.5 {
-        let y = real::power(1.0 - (x - low) / range, k);
-        return real::root(2.0 * u + (1.0 - 2.0 * u) * y, k) - 1.0;
+        let y = powers::power(1.0 - (x - low) / range, k);
+        return powers::root(2.0 * u + (1.0 - 2.0 * u) * y, k) - 1.0;
     }
-    let y = real::power(1.0 - (high - x) / range, k);
-    1.0 - real::root(2.0 * (1.0 - u) + 2.0 * (u - 0.5) * y, k)
+    let y = powers::power(1.0 - (high - x) / range, k);
+    1.0 - powers::root(2.0 * (1.0 - u) + 2.0 * (u - 0.5) * y, k)
 }
 
 // Polynomial mutation of a real. It draws before it looks at the range.

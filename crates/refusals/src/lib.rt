@@ -48,7 +48,7 @@ pub fn refusal(
         return Check::Refused(3);
     }
     let m = directions.len();
-    if das_dennis::bad_divisions(m, divisions) {
+    if divisions::bad_divisions(m, divisions) {
         return Check::Refused(4);
     }
     let n = plans::plan_count(pool);

@@ -40,7 +40,7 @@ fn turn_column(rows: &mut Rows, k: usize, m: usize, j: usize, mark: u8)
 {
     let mut i = j;
     while i < k {
-        rows[i] = pareto::to_minimize(rows[i], mark);
+        rows[i] = domination::to_minimize(rows[i], mark);
         i += m;
     }
 }
@@ -123,7 +123,7 @@ fn fill_table(m: usize, h: usize, table: &mut Table) -> usize
     requires { ⌜ (1 ≤ m) × (m ≤ 8) ⌝ }
     ensures { λ r. ⌜ r * m ≤ 8192 ⌝ }
 {
-    if das_dennis::bad_divisions(m, h) {
+    if divisions::bad_divisions(m, h) {
         return 0;
     }
     das_dennis::das_dennis(m, h, table)

@@ -8,7 +8,7 @@ ghost use mathlib.Core.Bool.{true};
 ghost use Prim.Native.Nat.{_*_, _≤_};
 ghost use lib.ListN.{length};
 ghost use Rattle.replay.specs.Post.{Ahead};
-ghost use Rattle.pareto.specs.Flat.{KnownRows};
+ghost use Rattle.front_laws.specs.Flat.{KnownRows};
 
 type Rows = [f64; 8192];
 
@@ -40,7 +40,7 @@ fn read_row(input: &Words, at: usize, m: usize, base: usize, rows: &mut Rows) ->
 {
     let mut j: usize = 0;
     while j < m {
-        let x = pareto::to_minimize(real_at(input, at + j), mark(input, j + 2));
+        let x = domination::to_minimize(real_at(input, at + j), mark(input, j + 2));
         set_real(rows, base + j, x);
         j += 1;
     }
@@ -61,7 +61,7 @@ fn read_reals(input: &Words, at: usize, k: usize, values: &mut [f64; 16])
 // Of the first k constraints.
 fn feasible(values: &[f64], k: usize) -> bool {
     if k <= values.len() {
-        pareto::is_feasible(&values[..k])
+        domination::is_feasible(&values[..k])
     } else {
         false
     }
@@ -69,7 +69,7 @@ fn feasible(values: &[f64], k: usize) -> bool {
 
 fn violation(values: &[f64], k: usize) -> f64 {
     if k <= values.len() {
-        pareto::total_violation(&values[..k])
+        domination::total_violation(&values[..k])
     } else {
         0.0
     }
@@ -157,13 +157,13 @@ fn as_word(b: bool) -> u64 {
 fn first_beats(rows: &Rows, m: usize) -> u64
     requires { ⌜ m ≤ 8 ⌝ }
 {
-    as_word(pareto::dominates(rows, m, 0, 1))
+    as_word(domination::dominates(rows, m, 0, 1))
 }
 
 fn first_beats_constrained(rows: &Rows, m: usize, flags: &Flags, sums: &Sums) -> u64
     requires { ⌜ m ≤ 8 ⌝ }
 {
-    as_word(pareto::constrained_dominates(rows, m, flags, sums, 0, 1))
+    as_word(domination::constrained_dominates(rows, m, flags, sums, 0, 1))
 }
 
 // 30: two rows.

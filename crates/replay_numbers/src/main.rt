@@ -91,7 +91,7 @@ fn power(y: f64, k: u64, out: &mut Words) -> usize {
     if 100 < k {
         return 0;
     }
-    put_real(out, real::power(y, k))
+    put_real(out, powers::power(y, k))
 }
 
 fn root(v: f64, k: u64, out: &mut Words) -> usize {
@@ -101,7 +101,7 @@ fn root(v: f64, k: u64, out: &mut Words) -> usize {
     if 100 < k {
         return 0;
     }
-    put_real(out, real::root(v, k))
+    put_real(out, powers::root(v, k))
 }
 
 fn draws(input: &Words, command: u64, out: &mut Words) -> usize {
@@ -125,7 +125,7 @@ fn numbers(input: &Words, command: u64, out: &mut Words) -> usize {
     match command {
         20 => power(x, k, out),
         21 => root(x, k, out),
-        22 => put_real(out, real::sqrt(x)),
+        22 => put_real(out, square_root::sqrt(x)),
         23 => put_real(out, real::round(x)),
         24 => put_real(out, real::midpoint(x, y)),
         25 => put_real(out, real::clamp(x, y, real_at(input, 3))),

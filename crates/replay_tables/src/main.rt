@@ -24,7 +24,7 @@ fn digest(table: &[f64], n: usize) -> u64
 fn table(m: usize, h: usize, out: &mut Words) -> usize
     requires { ⌜ (1 ≤ m) × (m ≤ 8) ⌝ }
 {
-    if das_dennis::bad_divisions(m, h) {
+    if divisions::bad_divisions(m, h) {
         return 0;
     }
     let mut table = [0.0; 8192];

@@ -1,6 +1,6 @@
 -- What holds of every draw, whatever the state: words are words, a draw below n is below n, a draw from a to b lies there. Assumes nothing.
 use mathlib.Core.Path.{_≡_, refl}
-use mathlib.Core.Bool.{Bool, true, false, _&&_}
+use mathlib.Core.Bool.{false}
 use Prim.Native.Nat.{ℕ, _+_, _*_, _/_, _^_, _<_, zero-le}
 use native.Mathlib.Nat.{mod-lt, mul-lt-mul-of-pos-right}
 use native.Mathlib.Omega.{arith}
@@ -14,7 +14,7 @@ use mir.Syntax.{w64}
 use mir.Val.{SFits}
 use Rattle.float_laws.proofs.Units.{Number, counts→le, counts→lt, counts-finite}
 use Rattle.float_laws.proofs.Order.{le-trans}
-use Rattle.float_laws.proofs.Constants.{nought, nought-counts, one, one-counts, exp2, minus-exp2, bounded}
+use Rattle.float_laws.proofs.Constants.{nought, nought-counts, one, one-counts, exp2, minus-exp2, exp2-wider, bounded}
 use Rattle.float_laws.proofs.InRange as in-range
 use Rattle.model.specs.Real.{within}
 use Rattle.model.specs.Draw.{step, wordOf, drawWord, unitOf, drawF64, drawUsize, drawI64, f64Range}
@@ -61,10 +61,6 @@ pub drawI64-within : (a b : ℤ) (s : ℕ) → SFits w64 a → SFits w64 b → (
 unfolding drawI64
 drawI64-within a b s fa fb h = (pick-low a b fa fb h (drawWord s .value), pick-high a b fa fb h (drawWord s .value))
 
-pub wider : T (le (minus-exp2 1000) (minus-exp2 53)) × T (le (exp2 53) (exp2 1000))
-unfolding le
-wider = (tt, tt)
-
 -- "The result lies in low..high", for bounds of at most 2^53 in magnitude
 pub f64Range-within : (low high : Float) (s : ℕ) → T (fits binary64 low) → T (fits binary64 high) → T (le low high) → T (le (minus-exp2 53) low) → T (le high (exp2 53))
     → T (within low high (f64Range low high s .value))
@@ -76,5 +72,5 @@ f64Range-within low high s fl fh h kl kh =
     let top = exp2 53 in
     let d =
     in-range.drawn low high (unitOf w) (w / 2 ^ 12) (bounded binary64 low 53 53 fl kl (le-trans low high top h kh)) (bounded binary64 high 53 53 fh (le-trans bottom low high kl h) kh) h
-    (le-trans (minus-exp2 1000) bottom low (wider .0) kl) (le-trans high top (exp2 1000) kh (wider .1)) (upper-below w b) (unit-counts w b) in
+    (le-trans (minus-exp2 1000) bottom low (exp2-wider .0) kl) (le-trans high top (exp2 1000) kh (exp2-wider .1)) (upper-below w b) (unit-counts w b) in
     and-i (le low _) (le _ high) (d .0) (d .1)

@@ -41,7 +41,7 @@ pub fn wrapping_mul_u64(a: u64, b: u64) -> u64
 }
 
 // The generator's next state.
-pub fn step(s: u64) -> u64
+fn step(s: u64) -> u64
     ensures { λ r. ⌜ r ≡ step s ⌝ }
 {
     let p = wrapping_mul_u64(s, 6364136223846793005);

@@ -24,7 +24,7 @@ use Rattle.model.specs.Session.{state, given, opened}
 use Rattle.model.specs.Calls.{openOf, Opens}
 use Rattle.model.specs.Refusal.{firstOf, wholeEta, openRefusal, badDirections, badSessionSize, badSessionDivisions, badGivenDivisions, badDivisions, outsideDivisions, badOperators, measurable, isInfinity, goodIdeal, maxSize, maxLines}
 use Rattle.model.specs.Property.{ConfigOk, SessionOk}
-use Rattle.das_dennis.proofs.Divisions.{auto-inside}
+use Rattle.reference_laws.proofs.Divisions.{auto-inside}
 use Rattle.session_laws.proofs.Tests.{or-both, and-both}
 
 -- ---- the ideal that a session starts from: plus infinity everywhere

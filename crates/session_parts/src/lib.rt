@@ -113,8 +113,8 @@ fn opened(
 {
     let n_obj = directions.len();
     let marks = marks_of(directions);
-    let h = das_dennis::divisions_of(n_obj, size, divisions);
-    let n = das_dennis::population_size(n_obj, size, divisions);
+    let h = divisions::divisions_of(n_obj, size, divisions);
+    let n = divisions::population_size(n_obj, size, divisions);
     let config = Config {
         n_obj,
         directions: marks,
@@ -157,7 +157,7 @@ fn open_refusal(
     if bad_size {
         return Opening::Refused(3);
     }
-    if das_dennis::bad_session_divisions(directions.len(), size, divisions) {
+    if divisions::bad_session_divisions(directions.len(), size, divisions) {
         return Opening::Refused(4);
     }
     if bad_operators {

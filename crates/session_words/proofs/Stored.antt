@@ -11,7 +11,7 @@ use lib.Ieee.Bits.{ofBits-toBits}
 use lib.ListN.{length, getD, drop}
 use lib.Seq.{getD-append-add, ext-getD, take-all}
 use Rattle.list_laws.proofs.Built.{listBelow-length, listBelow-at, listBelow-take}
-use Rattle.real.proofs.Ints.{int-of-word-of}
+use Rattle.real_laws.proofs.Ints.{int-of-word-of}
 use Rattle.model.specs.declared.Config.{Config}
 use Rattle.model.specs.declared.Distribution.{Distribution}
 use Rattle.model.specs.declared.Distribution.the-variants as dist

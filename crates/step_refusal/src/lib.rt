@@ -61,7 +61,7 @@ pub fn refusal(
         return Check::Refused(3);
     }
     let m = directions.len();
-    if das_dennis::bad_divisions(m, divisions) {
+    if divisions::bad_divisions(m, divisions) {
         return Check::Refused(4);
     }
     if dimensions::bad_operators(crossover_prob, crossover_eta, mutation_eta) {

@@ -15,8 +15,8 @@ use Rattle.float_laws.proofs.Units.{Number}
 use Rattle.float_laws.proofs.Order as order
 use Rattle.float_laws.proofs.Constants.{nought, exp2, minus-exp2}
 use Rattle.float_laws.proofs.Arithmetic.{div-mono-left}
-use Rattle.real.proofs.Clamped.{clamp-within}
-use Rattle.real.proofs.Between.{root-within}
+use Rattle.real_laws.proofs.Clamped.{clamp-within}
+use Rattle.real_laws.proofs.Between.{root-within}
 use Rattle.rng_util.proofs.Draws.{drawUsize-below}
 use Rattle.model.specs.declared.Distribution.{Distribution}
 use Rattle.model.specs.declared.Distribution.the-variants as dist

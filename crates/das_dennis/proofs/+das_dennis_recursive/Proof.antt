@@ -13,8 +13,9 @@ use lib.ListN.{length, take, drop, set, length-append, length-drop}
 use lib.Seq.{length-take-le}
 use Rattle.model.specs.Lists.{joinBelow}
 use Rattle.model.specs.Reference.{ratio}
-use Rattle.das_dennis.specs.Rows.{rowsFrom}
-use Rattle.das_dennis.proofs.Rows.{part, rows-some, rows-none, join-more, room, stored, tail-all, written}
+use Rattle.reference_laws.specs.Rows.{rowsFrom}
+use Rattle.list_laws.proofs.Built.{joinBelow-more}
+use Rattle.reference_laws.proofs.Rows.{part, rows-some, rows-none, room, stored, tail-all, written}
 use Rattle.das_dennis.proofs.das_dennis_recursive.Reads as own
 use Rattle.das_dennis.proofs.das_dennis_recursive.Kinds as kinds
 use Rattle.das_dennis.proofs.+das_dennis_recursive.Lts-das_dennis_recursive as lts
@@ -195,10 +196,10 @@ module _ (t : ℕ) where
         most = omega arith;
         count = refl;
         same = same-len-mid (l .at) (length (l .table) - l .at) (l .table) (call .last .1 .1 .1 .1 .1 .0) (call .kept .1 .1 .1 .1 .1 .0) ∙ l .inv .same;
-        place = omega (arith, g, l .inv .place, ap length (join-more F (l .i)), length-append (joinBelow F (l .i)) (F (l .i)));
+        place = omega (arith, g, l .inv .place, ap length (joinBelow-more F (l .i)), length-append (joinBelow F (l .i)) (F (l .i)));
         body = written (l .table) (l .at) (omega arith) (joinBelow F (l .i)) (F (l .i)) (a .table .now) (call .last .1 .1 .1 .1 .1 .0) (call .result)
             (l .inv .place) (l .inv .body) q
-            ∙ ap (λ (x : List Float). x ++ drop (l .at + call .result) (a .table .now)) (sym (join-more F (l .i)));
+            ∙ ap (λ (x : List Float). x ++ drop (l .at + call .result) (a .table .now)) (sym (joinBelow-more F (l .i)));
       }
 
   need-same-length-2 : lts.Need-same-length-2 (coordinate.Asked, coordinate.Learnt, put-row.Asked, put-row.Learnt, below t, own.Post) (at-measure t) own.Post Inv-loop μ-loop

@@ -8,8 +8,8 @@ use lib.Ieee.{Float}
 use lib.ListN.{drop}
 use Rattle.model.specs.Lists.{over}
 use Rattle.model.specs.Reference.{pointCount}
-use Rattle.das_dennis.specs.Rows.{rowsFrom}
-use Rattle.das_dennis.proofs.Rows.{whole-rows, whole-length}
+use Rattle.reference_laws.specs.Rows.{rowsFrom}
+use Rattle.reference_laws.proofs.Rows.{whole-rows, whole-length}
 use borrow.Author.Needs.{needs}
 use Rattle.das_dennis.proofs.das_dennis.Statement.{statement}
 use Rattle.das_dennis.proofs.das_dennis.Tie as tie

@@ -1,7 +1,7 @@
 -- `counted`: where refusal 4 does not apply, 8,192 entries are room enough. Assumes nothing.
 use mathlib.Core.Path.{sym, _∙_}
 use native.Mathlib.Omega.{arith}
-use Rattle.das_dennis.proofs.Divisions.{allowed, table-room}
+use Rattle.reference_laws.proofs.Divisions.{allowed, table-room}
 use borrow.Author.Needs.{needs}
 use Rattle.das_dennis_main.proofs.counted.Statement.{statement}
 use Rattle.das_dennis_main.proofs.counted.Tie as tie

@@ -10,7 +10,7 @@ use Rattle.model.specs.declared.Rng.{Rng}
 use Rattle.model.specs.Calls.{wordRequest}
 use Rattle.model.specs.Plan.{planCount}
 use Rattle.model.specs.Association.{Request}
-use Rattle.plans.proofs.Pool.{pool-row-lengths}
+use Rattle.plan_rows.proofs.Pool.{pool-row-lengths}
 use Rattle.pool_sort.specs.Laid.{RowsIn}
 use Rattle.list_laws.proofs.Runs.{few-values}
 use Rattle.nsga3.proofs.Answer.{rows-in, accepted-exit, fill-room}

@@ -4,8 +4,8 @@ use native.Mathlib.Omega.{arith}
 use borrow.Author.Needs.{needs}
 use lib.ListN.{replicate, getD-replicate}
 use Rattle.model.specs.Refusal.{maxSize}
-use Rattle.pareto.proofs.Flat.{flatBeats-rows}
-use Rattle.pareto.proofs.Sorting.{sorted-same}
+use Rattle.front_laws.proofs.Flat.{flatBeats-rows}
+use Rattle.front_laws.proofs.Sorting.{sorted-same}
 use Rattle.pareto.proofs.fast_non_dominated_sort.Statement.{statement}
 use Rattle.pareto.proofs.fast_non_dominated_sort.Tie as tie
 

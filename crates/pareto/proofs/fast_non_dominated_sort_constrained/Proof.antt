@@ -1,14 +1,14 @@
 -- the order holds the first k + 1 fronts, the counts and ranks are those of round k, and `ends` has the ends of the fronts before
-use Prim.Native.Nat.{_-_, _≤_, _<_}
+use Prim.Native.Nat.{_-_}
 use mathlib.Core.Path.{_≡_, refl, _∙_}
 use native.Mathlib.Numerals.{add-one}
 use native.Mathlib.Omega.{arith}
 use borrow.Author.Needs.{needs}
 use lib.ListN.{length}
 use Rattle.model.specs.Refusal.{maxSize}
-use Rattle.pareto.specs.Flat.{flatBeats}
-use Rattle.pareto.proofs.Flat.{flatBeats-strict}
-use Rattle.pareto.proofs.Sorting.{Sorting, sorting-first, first-rest, sorting-ready, sorting-more, sorting-done}
+use Rattle.front_laws.specs.Flat.{flatBeats}
+use Rattle.front_laws.proofs.Flat.{flatBeats-strict}
+use Rattle.front_laws.proofs.Sorting.{Sorting, sorting-first, first-rest, sorting-ready, sorting-more, sorting-done}
 use Rattle.pareto.proofs.fast_non_dominated_sort_constrained.Statement.{statement}
 use Rattle.pareto.proofs.fast_non_dominated_sort_constrained.Tie as tie
 

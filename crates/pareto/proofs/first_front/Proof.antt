@@ -7,7 +7,7 @@ use native.Mathlib.Omega.{arith}
 use borrow.Author.Tests.{eq-eqb, ne-eqb}
 use lib.Dec.{eqb}
 use lib.ListN.{length, getD, length-set}
-use Rattle.pareto.proofs.Writes.{Picked, picked-none, picked-yes, picked-no}
+use Rattle.list_laws.proofs.Stores.{Picked, picked-none, picked-yes, picked-no}
 use Rattle.pareto.proofs.first_front.Statement.{statement}
 use Rattle.pareto.proofs.first_front.Tie as tie
 

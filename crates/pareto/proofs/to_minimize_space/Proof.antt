@@ -6,7 +6,7 @@ use borrow.Author.Needs.{needs}
 use lib.ListN.{length, set}
 use Rattle.model.specs.Lists.{listBelow, over}
 use Rattle.list_laws.proofs.Built.{over-none, over-more, over-size}
-use Rattle.pareto.specs.Flat.{minimised}
+use Rattle.front_laws.specs.Flat.{minimised}
 use Rattle.pareto.proofs.to_minimize_space.Statement.{statement}
 use Rattle.pareto.proofs.to_minimize_space.Tie as tie
 

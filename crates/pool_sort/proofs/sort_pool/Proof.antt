@@ -10,8 +10,8 @@ use Rattle.model.specs.declared.Rng.{Rng}
 use Rattle.model.specs.Calls.{wordRequest}
 use Rattle.model.specs.Plan.{planCount}
 use Rattle.model.specs.Association.{Request}
-use Rattle.plans.proofs.Pool.{pool-constraint-counts}
-use Rattle.plans.proofs.Sorted.{KnownPool, words-known}
+use Rattle.plan_rows.proofs.Pool.{pool-constraint-counts}
+use Rattle.plan_rows.proofs.Sorted.{KnownPool, words-known}
 use Rattle.pool_sort.proofs.Sorting.{fronts-few, known-rows, sorts}
 use Rattle.pool_sort.proofs.sort_pool.Statement.{statement}
 use Rattle.pool_sort.proofs.sort_pool.Tie as tie

@@ -3,8 +3,8 @@ use borrow.Author.Needs.{needs}
 use mathlib.Core.Path.{sym, ap, subst}
 use lib.Dec.{T}
 use lib.Ieee.{ofBits, neg, toSigned}
-use Rattle.real.proofs.Nan.{ne-nan, eq-not-nan}
-use Rattle.real.proofs.Casts.{above-range, below-range}
+use Rattle.real_laws.proofs.Nan.{ne-nan, eq-not-nan}
+use Rattle.real_laws.proofs.Casts.{above-range, below-range}
 use Rattle.real.proofs.int_of_real.Statement.{statement}
 use Rattle.real.proofs.int_of_real.Tie as tie
 

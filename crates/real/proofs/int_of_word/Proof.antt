@@ -7,7 +7,7 @@ use lib.IntN.{pos, negsuc}
 use mir.Syntax.{w64}
 use mir.Val.{SFits, toZ}
 use mir.ValLaws.{toZ-pos, toZ-ofZ}
-use Rattle.real.proofs.Ints.{other, intOfWord-even, intOfWord-odd}
+use Rattle.real_laws.proofs.Ints.{other, intOfWord-even, intOfWord-odd}
 use Rattle.real.proofs.int_of_word.Statement.{statement}
 use Rattle.real.proofs.int_of_word.Tie as tie
 

@@ -7,7 +7,7 @@ use Prim.Native.Nat.{ℕ, _%_, _^_, _<_, _≤_}
 use lib.Dec.{T}
 use lib.Ieee.{nan, binary64, div, ofBits, nanBits}
 use lib.Ieee.Bits.{nanBits-is, nanBits-above}
-use Rattle.real.proofs.Nan.{is-nan}
+use Rattle.real_laws.proofs.Nan.{is-nan}
 use Rattle.real.proofs.real_of_word.Statement.{statement}
 use Rattle.real.proofs.real_of_word.Tie as tie
 

@@ -1,14 +1,14 @@
 -- By the sign, and by whether x has digits after the point. Assumes nothing.
 use borrow.Author.Needs.{needs}
 use mathlib.Core.Path.{_≡_, sym, ap, _∙_, subst}
-use mathlib.Core.Bool.{Bool, true, false, not}
+use mathlib.Core.Bool.{false}
 use lib.Dec.{T}
 use lib.Ieee.{Float, binary64, ofBits, fits, neg, lt, isNan}
 use lib.Ieee.Fits.{neg-fits}
 use Rattle.float_laws.proofs.Order.{lt→le, nlt→le, le-not-nan}
 use Rattle.float_laws.proofs.Constants.{nought, exp2}
 use Rattle.list_laws.proofs.Bools.{true-T, false-T}
-use Rattle.real.proofs.Halves.{round-by-neg, above-zero, from-whole, from-whole-neg, zero-or-nan}
+use Rattle.real_laws.proofs.Halves.{round-by-neg, above-zero, from-whole, from-whole-neg, zero-or-nan}
 use Rattle.real.proofs.round.Statement.{statement}
 use Rattle.real.proofs.round.Tie as tie
 

@@ -8,7 +8,7 @@ use lib.Dec.{T}
 use lib.IntN.{pos}
 use lib.Ieee.{Float, binary64, le, lt, add, ofInt, ofBits}
 use Rattle.float_laws.proofs.Constants.{nought}
-use Rattle.real.proofs.Halves.{castable, Parted, parted}
+use Rattle.real_laws.proofs.Halves.{castable, Parted, parted}
 use Rattle.real.proofs.round_above_zero.Statement.{statement}
 use Rattle.real.proofs.round_above_zero.Tie as tie
 

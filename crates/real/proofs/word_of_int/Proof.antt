@@ -6,7 +6,7 @@ use lib.Signed.{leZ}
 use mir.Syntax.{w64}
 use mir.Val.{toZ, ofZ}
 use mir.ValLaws.{toZ-pos, toZ-ofZ}
-use Rattle.real.proofs.Ints.{Up, up, Down, down}
+use Rattle.real_laws.proofs.Ints.{Up, up, Down, down}
 use Rattle.real.proofs.word_of_int.Statement.{statement}
 use Rattle.real.proofs.word_of_int.Tie as tie
 

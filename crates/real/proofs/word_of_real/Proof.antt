@@ -2,7 +2,7 @@
 use borrow.Author.Needs.{needs}
 use mathlib.Core.Path.{sym, ap}
 use lib.Ieee.{binary64, toBits}
-use Rattle.real.proofs.Nan.{ne-nan, eq-not-nan}
+use Rattle.real_laws.proofs.Nan.{ne-nan, eq-not-nan}
 use Rattle.real.proofs.word_of_real.Statement.{statement}
 use Rattle.real.proofs.word_of_real.Tie as tie
 

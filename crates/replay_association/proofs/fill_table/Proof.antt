@@ -1,7 +1,7 @@
 -- `fill_table`. Assumes nothing.
 use mathlib.Core.Path.{sym, _∙_}
 use native.Mathlib.Omega.{arith}
-use Rattle.das_dennis.proofs.Divisions.{allowed, table-room}
+use Rattle.reference_laws.proofs.Divisions.{allowed, table-room}
 use borrow.Author.Needs.{needs}
 use Rattle.replay_association.proofs.fill_table.Statement.{statement}
 use Rattle.replay_association.proofs.fill_table.Tie as tie

@@ -3,7 +3,7 @@ use borrow.Author.Needs.{needs}
 use mathlib.Core.Path.{sym, _∙_}
 use native.Mathlib.Omega.{arith}
 use Rattle.model.specs.Session.{given}
-use Rattle.das_dennis.proofs.Divisions.{session-allowed}
+use Rattle.reference_laws.proofs.Divisions.{session-allowed}
 use Rattle.replay_reference.proofs.opened.Statement.{statement}
 use Rattle.replay_reference.proofs.opened.Tie as tie
 

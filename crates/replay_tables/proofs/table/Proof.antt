@@ -2,7 +2,7 @@
 use borrow.Author.Needs.{needs}
 use mathlib.Core.Path.{sym, _∙_}
 use native.Mathlib.Omega.{arith}
-use Rattle.das_dennis.proofs.Divisions.{allowed, table-room}
+use Rattle.reference_laws.proofs.Divisions.{allowed, table-room}
 use Rattle.replay_tables.proofs.table.Statement.{statement}
 use Rattle.replay_tables.proofs.table.Tie as tie
 

@@ -1,7 +1,7 @@
 -- The upper 52 digits of the word over 2^52. Assumes nothing.
 use borrow.Author.Needs.{needs}
 use mathlib.Core.Path.{_≡_, sym, ap, _∙_, subst}
-use Prim.Native.Nat.{ℕ, _/_, _^_, _≤_, _<_}
+use Prim.Native.Nat.{ℕ, _/_, _^_, _<_}
 use native.Mathlib.Omega.{arith}
 use lib.Dec.{le→leb}
 use lib.IntN.{pos}

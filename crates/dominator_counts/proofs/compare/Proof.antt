@@ -1,0 +1,85 @@
+use mathlib.Core.Bool.{true}
+use mathlib.Core.Path.{_≡_, refl}
+use borrow.Author.Needs.{needs}
+use Rattle.front_laws.specs.Flat.{flatBeats}
+use Rattle.front_laws.proofs.Flat.{flatBeats-asymmetric}
+use Rattle.dominator_counts.proofs.compare.Statement.{statement}
+use Rattle.dominator_counts.proofs.compare.Tie as tie
+
+shared-slice-read-if1 : tie.Need-shared-slice-read-if1
+shared-slice-read-if1 c = search needs
+
+shared-slice-read-if2 : tie.Need-shared-slice-read-if2
+shared-slice-read-if2 c = search needs
+
+compare-rows-requires : tie.Need-compare-rows-requires
+compare-rows-requires c κs = search needs
+
+returns : tie.Need-returns
+unfolding flatBeats
+returns c = rw (c .before .before .before .if1 .taken, c .before .if2 .taken) (c .compare-rows .ensures)
+
+returns-2 : tie.Need-returns-2
+unfolding flatBeats
+returns-2 c = rw (c .before .before .if1 .taken, c .if2 .left) (refl, refl)
+
+shared-slice-read-if3 : tie.Need-shared-slice-read-if3
+shared-slice-read-if3 c = search needs
+
+returns-3 : tie.Need-returns-3
+unfolding flatBeats
+returns-3 c = rw (c .before .before .if1 .left, c .if3 .taken) (refl, refl)
+
+mul-u : tie.Need-mul-u
+mul-u c = search needs
+
+shared-slice-read-u : tie.Need-shared-slice-read-u
+shared-slice-read-u c = search needs
+
+mul-v : tie.Need-mul-v
+mul-v c = search needs
+
+shared-slice-read-v : tie.Need-shared-slice-read-v
+shared-slice-read-v c = search needs
+
+returns-4 : tie.Need-returns-4
+unfolding flatBeats
+returns-4 c =
+    let a = c .before .before .before .before .before .before .before .before .before .before .args in
+    let l = c .before .before .before .before .before .if1 .left in
+    let k = c .before .before .before .if3 .left in
+    let e : flatBeats (a .rows .now) (a .m) (a .feasible .now) (a .violations .now) (a .p) (a .q) ≡ true = rw (l, k) (c .if4 .taken) in
+    (e, flatBeats-asymmetric (a .rows .now) (a .m) (a .feasible .now) (a .violations .now) (a .p) (a .q) e)
+
+returns-5 : tie.Need-returns-5
+unfolding flatBeats
+returns-5 c =
+    let l = c .before .before .before .before .before .before .if1 .left in
+    let k = c .before .before .before .before .if3 .left in
+    (rw (l, k) (c .before .if4 .left), rw (l, k) (c .if5 .taken))
+
+returns-6 : tie.Need-returns-6
+unfolding flatBeats
+returns-6 c =
+    let l = c .before .before .before .before .before .before .if1 .left in
+    let k = c .before .before .before .before .if3 .left in
+    (rw (l, k) (c .before .if4 .left), rw (l, k) (c .if5 .left))
+
+pub compare-spec : {M : Type 1} → statement M
+compare-spec =
+    tie.close
+    (tie.spec
+    shared-slice-read-if1
+    shared-slice-read-if2
+    compare-rows-requires
+    returns
+    returns-2
+    shared-slice-read-if3
+    returns-3
+    mul-u
+    shared-slice-read-u
+    mul-v
+    shared-slice-read-v
+    returns-4
+    returns-5
+    returns-6)

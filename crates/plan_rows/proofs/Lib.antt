@@ -1,0 +1,4 @@
+pub mod Rows
+pub mod Constraints
+pub mod Pool
+pub mod Sorted

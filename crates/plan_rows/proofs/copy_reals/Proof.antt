@@ -1,0 +1,88 @@
+-- `copy_reals`: the first j reals stand at the front
+use Prim.Native.Nat.{ℕ, _+_, _-_, _≤_}
+use mathlib.Core.Path.{_≡_, ap, sym, _∙_}
+use native.Mathlib.Omega.{arith}
+use borrow.Author.Needs.{needs}
+use lib.Ieee.{Float}
+use lib.ListN.{length, getD, set, take}
+use Rattle.model.specs.Lists.{listBelow, over}
+use Rattle.model.specs.Real.{real}
+use Rattle.list_laws.proofs.Built.{listBelow-length, over-none, over-more, over-size, over-take}
+use Rattle.plan_rows.proofs.copy_reals.Statement.{statement}
+use Rattle.plan_rows.proofs.copy_reals.Tie as tie
+
+abbrev Inv-loop : tie.InvT-loop
+Inv-loop words at n out₀ j₀ out j = (j ≤ n) × (out ≡ over (listBelow (λ i. real (getD words (at + i) 0)) j) out₀)
+
+abbrev μ-loop : tie.MeasureT-loop
+μ-loop words at n out₀ j₀ out j = n - j
+
+-- the list keeps its length
+size : (c : tie.At-loop Inv-loop μ-loop) → length (c .loop .out) ≡ length (c .before .before .before .args .out .now)
+size c = ap length (c .loop .inv .1) ∙ over-size _ _ _ (omega arith)
+
+loop-holds : tie.Need-loop-holds Inv-loop μ-loop
+loop-holds c = (omega arith, sym (over-none _ _))
+
+add-real-of-word : tie.Need-add-real-of-word Inv-loop μ-loop
+add-real-of-word c = omega arith
+
+mul-real-of-word : tie.Need-mul-real-of-word Inv-loop μ-loop
+mul-real-of-word c = omega arith
+
+shared-slice-read-real-of-word : tie.Need-shared-slice-read-real-of-word Inv-loop μ-loop
+shared-slice-read-real-of-word c = omega arith
+
+real-of-word-requires : tie.Need-real-of-word-requires Inv-loop μ-loop
+real-of-word-requires c κs = search needs
+
+mul-out : tie.Need-mul-out Inv-loop μ-loop
+mul-out c = omega arith
+
+slice-write-out : tie.Need-slice-write-out Inv-loop μ-loop
+slice-write-out c = omega (arith, size (c .before .before .before))
+
+add-j : tie.Need-add-j Inv-loop μ-loop
+add-j c = omega arith
+
+loop-less : tie.Need-loop-less Inv-loop μ-loop
+loop-less c = omega arith
+
+loop-again : tie.Need-loop-again Inv-loop μ-loop
+loop-again c =
+    let l = c .before .before .before .loop in
+    let a = c .before .before .before .before .before .before in
+    let f : ℕ → Float = λ i. real (getD (a .args .words .now) (a .args .at + i) 0) in
+    let out = over (listBelow f (l .j)) (a .args .out .now) in (
+      omega arith,
+      ap (λ t. set t (l .j) (c .real-of-word .result)) (l .inv .1) ∙ ap (set out (l .j)) (c .real-of-word .ensures)
+          ∙ over-more f (l .j) (a .args .out .now) (omega arith),
+    )
+
+same-length : tie.Need-same-length Inv-loop μ-loop
+same-length c = size (c .before)
+
+returns : tie.Need-returns Inv-loop μ-loop
+returns c =
+    let l = c .before .loop in
+    let e : l .j ≡ c .before .before .before .before .args .n = omega arith in
+    rw (← e) (ap (take (l .j)) (l .inv .1) ∙ over-take _ _ (l .j) (listBelow-length _ (l .j)))
+
+pub copy-reals-spec : {M : Type 1} → statement M
+copy-reals-spec =
+    tie.close
+    (tie.spec
+    Inv-loop
+    μ-loop
+    loop-holds
+    add-real-of-word
+    mul-real-of-word
+    shared-slice-read-real-of-word
+    real-of-word-requires
+    mul-out
+    slice-write-out
+    add-j
+    loop-less
+    loop-again
+    same-length
+    returns)

@@ -1,0 +1,112 @@
+-- `fill_plan`: the constraints, copied as reals, are those of the plan
+use Prim.Native.Nat.{_*_}
+use mathlib.Core.Path.{ap, sym, _∙_}
+use native.Mathlib.Omega.{arith}
+use borrow.Author.Needs.{needs}
+use lib.ListN.{set}
+use lib.Seq.{length-take-le}
+use Rattle.model.specs.Plan.{planOf, planWords}
+use Rattle.model.specs.Row.{feasible, violation}
+use Rattle.plan_rows.proofs.Constraints.{constraints-words}
+use Rattle.plan_rows.proofs.fill_plan.Statement.{statement}
+use Rattle.plan_rows.proofs.fill_plan.Tie as tie
+
+mul-at : tie.Need-mul-at
+mul-at c = search needs
+
+add-count : tie.Need-add-count
+add-count c = search needs
+
+mul-count : tie.Need-mul-count
+mul-count c = search needs
+
+shared-slice-read-count : tie.Need-shared-slice-read-count
+shared-slice-read-count c = search needs
+
+add-copy-reals : tie.Need-add-copy-reals
+add-copy-reals c = search needs
+
+slice-aggregate-copy-reals : tie.Need-slice-aggregate-copy-reals
+slice-aggregate-copy-reals c = search needs
+
+copy-reals-requires : tie.Need-copy-reals-requires
+unfolding planOf
+copy-reals-requires c κs = let a = c .before .before .before .before .before in (omega (arith, a .pre .1), omega (arith, a .pre .1))
+
+array-share-prefix-constraints : tie.Need-array-share-prefix-constraints
+unfolding planOf
+array-share-prefix-constraints c = let a = c .before .before .before .before .before .before .before in omega (arith, a .pre .1, c .before .copy-reals .kept .1 .1 .1 .0)
+
+slice-aggregate-is-feasible : tie.Need-slice-aggregate-is-feasible
+unfolding planOf
+slice-aggregate-is-feasible c =
+    let f = c .before .before .copy-reals in
+    let a = c .before .before .before .before .before .before .before .before in
+    sym (length-take-le _ (f .last .1 .1 .1 .0) (omega (arith, a .pre .1, f .kept .1 .1 .1 .0)))
+
+is-feasible-requires : tie.Need-is-feasible-requires
+is-feasible-requires c κs = search needs
+
+slice-write-feasible : tie.Need-slice-write-feasible
+slice-write-feasible c = search needs
+
+array-share-prefix-constraints-2 : tie.Need-array-share-prefix-constraints-2
+unfolding planOf
+array-share-prefix-constraints-2 c = let a = c .before .before .before .before .before .before .before .before .before in omega (arith, a .pre .1, c .before .before .before .copy-reals .kept .1 .1 .1 .0)
+
+slice-aggregate-total-violation : tie.Need-slice-aggregate-total-violation
+unfolding planOf
+slice-aggregate-total-violation c =
+    let f = c .before .before .before .before .copy-reals in
+    let a = c .before .before .before .before .before .before .before .before .before .before in
+    sym (length-take-le _ (f .last .1 .1 .1 .0) (omega (arith, a .pre .1, f .kept .1 .1 .1 .0)))
+
+total-violation-requires : tie.Need-total-violation-requires
+total-violation-requires c κs = search needs
+
+mul-violations : tie.Need-mul-violations
+mul-violations c = search needs
+
+slice-write-violations : tie.Need-slice-write-violations
+slice-write-violations c = search needs
+
+same-length : tie.Need-same-length
+same-length c = search needs
+
+same-length-2 : tie.Need-same-length-2
+same-length-2 c = search needs
+
+returns : tie.Need-returns
+unfolding planOf
+returns c =
+    let f = c .before .before .before .before .before .copy-reals in
+    let a = c .before .before .before .before .before .before .before .before .before .before .before in
+    let e = f .ensures ∙ sym (constraints-words (a .args .pool .now) (a .args .p * planWords) (a .pre .1)) in
+    record {
+      feasibility = ap (set (a .args .feasible .now) (a .args .p)) (c .before .before .is-feasible .ensures ∙ ap feasible e);
+      violations = ap (set (a .args .violations .now) (a .args .p)) (c .total-violation .ensures ∙ ap violation e);
+    }
+
+pub fill-plan-spec : {M : Type 1} → statement M
+fill-plan-spec =
+    tie.close
+    (tie.spec
+    mul-at
+    add-count
+    mul-count
+    shared-slice-read-count
+    add-copy-reals
+    slice-aggregate-copy-reals
+    copy-reals-requires
+    array-share-prefix-constraints
+    slice-aggregate-is-feasible
+    is-feasible-requires
+    slice-write-feasible
+    array-share-prefix-constraints-2
+    slice-aggregate-total-violation
+    total-violation-requires
+    mul-violations
+    slice-write-violations
+    same-length
+    same-length-2
+    returns)

@@ -1,0 +1,210 @@
+-- "keeping P(lower) <= v < P(upper)": true of the ends from the first halving to the last, for 0 < v ≤ 2^51. Assumes nothing.
+use mathlib.Core.Path.{_≡_, refl, sym, ap, subst}
+use mathlib.Core.Logic.{_⊎_, inl, inr}
+use mathlib.Core.Bool.{Bool, true, false, not, cond}
+use Prim.Native.Nat.{ℕ, zero, suc, _+_, _-_, _*_, _/_, _%_, _^_, _≤_, _<_}
+use native.Mathlib.Nat.{mul-pos, zero-add, le-of-eq, le-trans as le-trans-ℕ}
+use native.Mathlib.Omega.{arith}
+use borrow.Author.Tests.{leb-true, leb-false, eqb-true, eqb-false}
+use lib.Dec.{T, leb, eqb}
+use lib.Pow.{pow-pos}
+use lib.Ieee.{Float, binary64, le, lt, mul, fits, isNan, eq, ofBits, toBits, odd}
+use lib.Ieee.Bits.{ofBits-fits, toBits-ofBits}
+use lib.Ieee.Exact.{HasValue, odd-sign}
+use lib.Ieee.Scale.{finite}
+use Rattle.float_laws.proofs.Units.{Number, Counts, counts→le, counts→lt}
+use Rattle.float_laws.proofs.Order.{le-trans, le-not-nan, lt→le, lt→nle, eq→le, lt-or-le, le-lt-trans, lt-le-trans}
+use Rattle.float_laws.proofs.Rounding.{unsigned, value-counts}
+use Rattle.float_laws.proofs.Patterns.{bits→le}
+use Rattle.float_laws.proofs.Constants.{nought, nought-counts, nought-le-one, one, one-number, exp2}
+use Rattle.float_laws.proofs.Arithmetic.{mul-mono}
+use Rattle.model.specs.Real.{real, nought as origin}
+use Rattle.model.specs.Numbers.{powerUp, P, Ends, ends, halved, halvings, R}
+use Rattle.real_laws.proofs.Roots.Exact.{has-sign}
+use Rattle.real_laws.proofs.Roots.Pattern.{read-low, read-normal}
+use Rattle.real_laws.proofs.Powers.{rise, below-inf, inf-mul, fits-power, above-power, power-mono}
+use Rattle.real_laws.proofs.Halving.{Top, neighbours, upper-half, lower-half, gap, adjacent}
+
+-- ---- the real of a pattern up to that of 2^52
+counted : (q k : ℕ) → (g : ℕ) × HasValue (odd 53 false q k 1074) false g (2 ^ 1074) × (0 < q → 0 < g)
+counted q k = (q * 2 ^ k, odd-sign 53 false q k 1074, λ h. mul-pos h (pow-pos k))
+
+abbrev Counted : ℕ → Float → Type 0
+Counted b x = (g : ℕ) × HasValue x false g (2 ^ 1074) × (0 < b → 0 < g)
+
+pattern : (b : ℕ) → b ≤ Top → Counted b (real b)
+pattern b t = go (eqb (b / 2 ^ 52) 0) refl
+  where
+    go : (z : Bool) → eqb (b / 2 ^ 52) 0 ≡ z → Counted b (real b)
+    go true e =
+        let f = eqb-true (b / 2 ^ 52) 0 e in
+        let c = counted (b % 2 ^ 52) 0 in
+        subst (Counted b) (sym (read-low b f)) (c .0, c .1, λ h. c .2 (omega arith))
+    go false e =
+        let f = eqb-false (b / 2 ^ 52) 0 e in
+        let c = counted (2 ^ 52 + b % 2 ^ 52) (b / 2 ^ 52 - 1) in
+        subst (Counted b) (sym (read-normal b (b / 2 ^ 52 - 1) (b % 2 ^ 52) (omega arith) refl (omega arith))) (c .0, c .1, λ h. c .2 (omega arith))
+
+pub record FromZero (b : ℕ) : Type 0 where
+  pub finite : T (finite (real b))
+  pub clear : T (unsigned (real b))
+  pub from : T (le nought (real b))
+  pub above : 0 < b → T (lt nought (real b))
+  pub own : toBits binary64 (real b) ≡ b
+
+pub from-zero : (b : ℕ) → b ≤ Top → FromZero b
+from-zero b t =
+    let c = pattern b t in
+    let i : Counts binary64 (real b) (c .0) 0 = value-counts binary64 (real b) false (c .0) (c .0) 0 (c .1) (sym (zero-add (c .0))) in
+    let s = has-sign (real b) (c .0) (2 ^ 1074) (c .1) in
+    record {
+      finite = s .2;
+      clear = s .0;
+      from = counts→le binary64 nought (real b) 0 0 (c .0) 0 (nought-counts binary64) i (omega arith);
+      above = λ h. counts→lt binary64 nought (real b) 0 0 (c .0) 0 (nought-counts binary64) i (let p = c .2 h in omega arith);
+      own = toBits-ofBits binary64 b (omega arith) (s .1);
+    }
+
+le-or-lt : (a b : ℕ) → (a ≤ b) ⊎ (b < a)
+le-or-lt a b = go (leb a b) refl
+  where
+    go : (t : Bool) → leb a b ≡ t → (a ≤ b) ⊎ (b < a)
+    go true e = inl (leb-true a b e)
+    go false e = inr (leb-false a b e)
+
+-- ---- the first two ends
+zero-power : (j : ℕ) → powerUp nought j ≡ nought
+unfolding powerUp mul
+zero-power zero = refl
+zero-power (suc j) = ap (λ (p : Float). mul binary64 p nought) (zero-power j)
+
+one-top : mul binary64 one (exp2 52) ≡ exp2 52
+unfolding mul
+one-top = refl
+
+-- what is known of 0, 1, 2^51 and 2^52 by computing
+record Orders : Type 0 where
+  one-top : T (le one (exp2 52))
+  half-top : T (lt (exp2 51) (exp2 52))
+  nought-top : T (lt nought (exp2 52))
+  top-top : T (le (exp2 52) (exp2 52))
+  top-fits : T (fits binary64 (exp2 52))
+  top-real : T (not (isNan (exp2 52)))
+
+orders : Orders
+unfolding le lt fits isNan
+orders = record { one-top = tt; half-top = tt; nought-top = tt; top-top = tt; top-fits = tt; top-real = tt }
+
+top-number : Number binary64 (exp2 52)
+top-number = record { held = orders .top-fits; finite = tt }
+
+-- no power of 2^52 is below it
+top-power : (j : ℕ) → T (le (exp2 52) (powerUp (exp2 52) j))
+unfolding powerUp
+top-power zero = orders .top-top
+top-power (suc j) =
+    let p = powerUp (exp2 52) j in
+    let h = top-power j in
+    elim (rise p (le-trans nought (exp2 52) p (lt→le nought (exp2 52) (orders .nought-top)) h)) [
+      | inl e ↦
+          subst (λ (x : Float). T (le (exp2 52) (mul binary64 x (exp2 52)))) (sym e)
+          (subst (λ (x : Float). T (le (exp2 52) x)) (sym (inf-mul (exp2 52) (orders .nought-top))) (below-inf (exp2 52) (orders .top-real)))
+      | inr G ↦
+          subst (λ (x : Float). T (le x (mul binary64 p (exp2 52)))) one-top
+          (mul-mono binary64 one p (exp2 52) (exp2 52) (one-number binary64) (record { held = fits-power (exp2 52) (orders .top-fits) j; finite = G }) top-number top-number
+          nought-le-one (lt→le nought (exp2 52) (orders .nought-top)) (le-trans one (exp2 52) p (orders .one-top) h) (orders .top-top))
+    ]
+
+not-zero : (v : Float) → T (lt nought v) → eq v origin ≡ false
+unfolding ofBits
+not-zero v h = go (eq v origin) refl
+  where
+    go : (b : Bool) → eq v origin ≡ b → b ≡ false
+    go false e = refl
+    go true e = absurd (lt→nle nought v h (eq→le v nought (subst T (sym e) tt)))
+
+-- ---- every halving
+module _ (v : Float) (k : ℕ) (above : T (lt nought v)) (small : T (le v (exp2 51))) where
+  pub record Kept (e : Ends) : Type 0 where
+    pub under : T (le (P (real (e .lower)) k) v)
+    pub over : T (lt v (P (real (e .upper)) k))
+
+  first : Kept (ends 0 Top)
+  unfolding ofBits
+  first =
+      record {
+        under = subst (λ (x : Float). T (le x v)) (sym (zero-power (k - 1))) (lt→le nought v above);
+        over = le-lt-trans v (exp2 51) (powerUp (exp2 52) (k - 1)) small (lt-le-trans (exp2 51) (exp2 52) (powerUp (exp2 52) (k - 1)) (orders .half-top) (top-power (k - 1)));
+      }
+
+  -- the middle parts them: its power is at most v, or beyond it
+  beyond : (m : ℕ) → 0 < m → m ≤ Top → le (P (real m) k) v ≡ false → T (lt v (P (real m) k))
+  beyond m h t e =
+      let z = from-zero m t in
+      let n = above-power (real m) (ofBits-fits binary64 m) (z .finite) (z .above h) (k - 1) in
+      elim (lt-or-le v (P (real m) k) (le-not-nan nought v (lt→le nought v above) .1) (le-not-nan nought (P (real m) k) n .1)) [ inl l ↦ l | inr g ↦ absurd (subst T e g) ]
+
+  step : (l u : ℕ) → u ≤ Top → Kept (ends l u) → Kept (halved v k (ends l u))
+  step l u t r = go (leb u (suc l)) refl (le (P (real ((l + u) / 2)) k) v) refl
+    where
+      go : (p : Bool) → leb u (suc l) ≡ p → (q : Bool) → le (P (real ((l + u) / 2)) k) v ≡ q → Kept (halved v k (ends l u))
+      go true a q b = subst Kept (sym (neighbours v k l u (leb-true u (suc l) a))) r
+      go false a true b = subst Kept (sym (upper-half v k l u (leb-false u (suc l) a) b)) (record { under = subst T (sym b) tt; over = r .over })
+      go false a false b =
+          let h = leb-false u (suc l) a in
+          subst Kept (sym (lower-half v k l u h b)) (record { under = r .under; over = beyond ((l + u) / 2) (omega arith) (omega arith) b })
+
+  pub kept : (n : ℕ) → Kept (halvings v k n)
+  unfolding halvings
+  kept zero = first
+  kept (suc n) = let e = halvings v k n in step (e .lower) (e .upper) (gap v k n .top) (kept n)
+
+  -- ---- so for R: its power is at most v, and that of the next double is beyond v
+  pub lower-is : R v k ≡ real (halvings v k 63 .lower)
+  unfolding R
+  lower-is = ap (λ (b : Bool). cond b origin (real (halvings v k 63 .lower))) (not-zero v above)
+
+  pub root-under : T (le (P (R v k) k) v)
+  root-under = subst (λ (x : Float). T (le (P x k) v)) (sym lower-is) (kept 63 .under)
+
+  pub next-over : T (lt v (P (real (suc (halvings v k 63 .lower))) k))
+  next-over = subst (λ (u : ℕ). T (lt v (P (real u) k))) (adjacent v k) (kept 63 .over)
+
+  -- no double from zero up that is greater has a power of at most v
+  pub root-greatest : (y : Float) → T (fits binary64 y) → T (unsigned y) → T (le (P y k) v) → T (le y (R v k))
+  root-greatest y Y N h =
+      let l = halvings v k 63 .lower in
+      let g = gap v k 63 in
+      let a = adjacent v k in
+      let o = g .order in
+      let t = g .top in
+      let here = from-zero l (omega arith) in
+      let next = from-zero (suc l) (omega arith) in
+      elim (le-or-lt (toBits binary64 y) l) [
+        | inl m ↦
+            subst (λ (x : Float). T (le y x)) (sym lower-is)
+            (bits→le binary64 y (real l) Y (ofBits-fits binary64 l) N (here .clear) (le-trans-ℕ m (le-of-eq (sym (here .own)))))
+        | inr m ↦
+            let up = bits→le binary64 (real (suc l)) y (ofBits-fits binary64 (suc l)) Y (next .clear) N (le-trans-ℕ (le-of-eq (next .own)) m) in
+            absurd
+            (lt→nle v (P (real (suc l)) k) next-over
+            (le-trans (P (real (suc l)) k) (P y k) v (power-mono (real (suc l)) y (ofBits-fits binary64 (suc l)) Y (next .from) up (k - 1)) h))
+      ]
+
+-- ---- of any v and k: R lies within 0..2^52
+abbrev UpToTop : Float → Type 0
+UpToTop x = T (fits binary64 x) × T (le nought x) × T (le x (exp2 52))
+
+real-within : (b : ℕ) → b ≤ Top → UpToTop (real b)
+unfolding toBits
+real-within b t =
+    let f = from-zero b t in
+    (ofBits-fits binary64 b, f .from, bits→le binary64 (real b) (exp2 52) (ofBits-fits binary64 b) (orders .top-fits) (f .clear) tt (le-trans-ℕ (le-of-eq (f .own)) t))
+
+pub root-within : (v : Float) (k : ℕ) → UpToTop (R v k)
+unfolding R
+root-within v k = go (eq v origin)
+  where
+    go : (b : Bool) → UpToTop (cond b origin (real (halvings v k 63 .lower)))
+    go true = real-within 0 (omega arith)
+    go false = real-within (halvings v k 63 .lower) (let g = gap v k 63 in let o = g .order in let t = g .top in omega arith)

@@ -1,0 +1,199 @@
+-- A double from 0 on that is below another times 1 - 2 ^ -30 has a root below the other's, also after both are rounded (`sqrt-apart`). Assumes nothing.
+-- In numerals, 1073741824 is 2 ^ 30 and 1099511627776 is 2 ^ 40.
+use mathlib.Core.Path.{_≡_, refl, sym, ap, _∙_, subst}
+use Prim.Native.Nat.{ℕ, zero, suc, _+_, _-_, _*_, _/_, _^_, _≤_, _<_}
+use native.Mathlib.Nat.{le-trans, le-of-eq, le-of-lt, lt-of-lt-of-le, lt-of-not-le, not-le-of-lt, zero-mul, mul-assoc, mul-left-comm, mul-mul-mul-comm, mul-pos, mul-le-mul-left, mul-le-mul-right, mul-lt-mul-of-pos-right, zero-lt-suc, le-div-iff-mul-le, div-lt-iff-lt-mul}
+use native.Mathlib.Omega.{arith}
+use mathlib.Core.Bool.{Bool, true, false}
+use lib.IntN.{ℤ, negsuc}
+use lib.Dec.{T}
+use lib.Pow.{pow-add, pow-pos, pow-mono}
+use lib.Ieee.{Float, nan, inf, fin, binary64, size, fits, le, lt, mul}
+use lib.Ieee.Digits.{size-lt}
+use lib.Ieee.Exact.{HasValue}
+use Rattle.float_laws.proofs.Units.{Counts, le→counts, counts→lt}
+use Rattle.float_laws.proofs.Order.{lt→nle, lt→le, le-lt-trans}
+use Rattle.float_laws.proofs.Rounding.{rounded-le, value-counts}
+use Rattle.float_laws.proofs.Arithmetic.{mul-count}
+use Rattle.float_laws.proofs.Constants.{nought, nought-counts}
+use Rattle.model.specs.Numbers.{nearRoot, dropped, sqrtOf}
+use Rattle.real_laws.proofs.Roots.Whole.{nearRoot-near, square-mono}
+use Rattle.real_laws.proofs.Roots.Units.{shiftOf, counted, rootUnits, rootUnits-zero, root-counted}
+use Rattle.real_laws.proofs.Roots.Monotone.{kept-ge}
+
+-- ---- the square of a root in units, beside the number: within one in 2 ^ 40, where digits are dropped
+
+near-none : nearRoot 0 ≡ 0
+unfolding nearRoot size
+near-none = refl
+
+lower : (Q q v : ℕ) → 2 ^ 52 * q ≤ Q → Q < v + q → 1099511627775 * Q ≤ 1099511627776 * v
+lower Q q v a b = omega arith
+
+higher : (Q q v : ℕ) → 2 ^ 52 ≤ q → 2 ^ 52 * q ≤ Q → v ≤ Q + q → 1099511627776 * (v + 1) ≤ 1099511627777 * Q
+higher Q q v k a b = omega arith
+
+module _ (n : ℕ) (h : 0 < dropped n) where
+  abbrev k : ℕ
+  k = dropped n
+
+  abbrev U : ℕ
+  U = 2 ^ (2 * k)
+
+  abbrev v : ℕ
+  v = n / U
+
+  abbrev q : ℕ
+  q = nearRoot v
+
+  square : rootUnits n * rootUnits n ≡ q * q * U
+  square = mul-mul-mul-comm q (2 ^ k) q (2 ^ k) ∙ ap (λ (x : ℕ). q * q * x) (sym (pow-add 2 k k)) ∙ ap (λ (x : ℕ). q * q * 2 ^ x) (twice k)
+    where
+      twice : (k : ℕ) → k + k ≡ 2 * k
+      twice k = omega arith
+
+  large : 2 ^ 52 * q ≤ q * q
+  large = mul-le-mul-right q (kept-ge n h)
+
+  some : 0 < v
+  some = lt-of-not-le (λ (g : v ≤ 0).
+      let e : v ≡ 0 = omega arith in
+      not-le-of-lt (pow-pos 52) (subst (λ (x : ℕ). 2 ^ 52 ≤ x) near-none (subst (λ (x : ℕ). 2 ^ 52 ≤ nearRoot x) e (kept-ge n h))))
+
+  not-above : 1099511627775 * (rootUnits n * rootUnits n) ≤ 1099511627776 * n
+  not-above =
+      let a = mul-le-mul-right U (lower (q * q) q v large (nearRoot-near v .1 some)) in
+      let b = mul-le-mul-left 1099511627776 (le-div-iff-mul-le (pow-pos (2 * k)) .0 (le-of-eq refl)) in
+      subst (λ (x : ℕ). 1099511627775 * x ≤ 1099511627776 * n) (sym square)
+      (le-trans (le-of-eq (sym (mul-assoc 1099511627775 (q * q) U))) (le-trans a (le-trans (le-of-eq (mul-assoc 1099511627776 v U)) b)))
+
+  not-below : 1099511627776 * n ≤ 1099511627777 * (rootUnits n * rootUnits n)
+  not-below =
+      let a = mul-le-mul-right U (higher (q * q) q v (kept-ge n h) large (nearRoot-near v .0)) in
+      let b = mul-le-mul-left 1099511627776 (le-of-lt (div-lt-iff-lt-mul (pow-pos (2 * k)) .0 (one-more v))) in
+      subst (λ (x : ℕ). 1099511627776 * n ≤ 1099511627777 * x) (sym square)
+      (le-trans b (le-trans (le-of-eq (sym (mul-assoc 1099511627776 (v + 1) U))) (le-trans a (le-of-eq (mul-assoc 1099511627777 (q * q) U)))))
+    where
+      one-more : (v : ℕ) → v < v + 1
+      one-more v = omega arith
+
+-- ---- in units: a number that is not 0, times 2 ^ 1074
+drops : (g : ℕ) → 0 < g → 0 < dropped (g * 2 ^ 1074)
+drops g p = lt-of-not-le (λ (l : dropped (g * 2 ^ 1074) ≤ 0).
+    not-le-of-lt (lt-of-lt-of-le (size-lt (g * 2 ^ 1074)) (pow-mono (few (size (g * 2 ^ 1074)) l))) (mul-le-mul-right (2 ^ 1074) p))
+  where
+    few : (z : ℕ) → (z - 105) / 2 ≤ 0 → z ≤ 1074
+    few z h = omega arith
+
+clear : (a b x y : ℕ) → 1099511627775 * x ≤ 1099511627776 * a → 1099511627776 * b ≤ 1099511627777 * y → y ≤ x → 1073741824 * a < 1073741823 * b → ⊥
+clear a b x y h k l m = omega arith
+
+apart-units : (a b : ℕ) → 0 < dropped a → 0 < dropped b → 1073741824 * a < 1073741823 * b → rootUnits a < rootUnits b
+apart-units a b A B h = lt-of-not-le (λ (l : rootUnits b ≤ rootUnits a).
+    clear a b (rootUnits a * rootUnits a) (rootUnits b * rootUnits b) (not-above a A) (not-below b B) (square-mono (rootUnits b) (rootUnits a) l) h)
+
+-- ---- floats
+
+-- 1 - 2 ^ -30
+abbrev pub nearlyOne : Float
+nearlyOne = fin false 1073741823 (negsuc 29)
+
+nearlyOne-counts : Counts binary64 nearlyOne (1073741823 * 2 ^ 1044) 0
+nearlyOne-counts = (1073741823 * 2 ^ 1044, refl, refl)
+
+-- g is at least h * (1 - 2 ^ -30): over the units L, which are 2 ^ 30 times D
+room : (g h D L : ℕ) → L ≡ 1073741824 * D → 1073741823 * h ≤ 1073741824 * g → h * (1073741823 * D) * L + 0 * (L * L) ≤ g * (L * L) + 0 * L
+room g h D L e l =
+    let a : 1073741823 * h * (D * L) ≤ 1073741824 * g * (D * L) = mul-le-mul-right (D * L) l in
+    let b : h * (1073741823 * D) * L ≡ 1073741823 * h * (D * L) = simp (mul-assoc, mul-left-comm) refl in
+    let c : g * (L * L) ≡ g * (1073741824 * D * L) = ap (λ (x : ℕ). g * (x * L)) e in
+    let d : g * (1073741824 * D * L) ≡ 1073741824 * g * (D * L) = simp (mul-assoc, mul-left-comm) refl in
+    let z = zero-mul L in
+    let w = zero-mul (L * L) in
+    omega arith
+
+below : (s b : Float) (g h : ℕ) → T (fits binary64 s) → Counts binary64 s g 0 → Counts binary64 b h 0 → T (lt s (mul binary64 b nearlyOne)) → 1073741824 * g < 1073741823 * h
+below s b g h S a c l = lt-of-not-le (λ (k : 1073741823 * h ≤ 1073741824 * g).
+    lt→nle s (mul binary64 b nearlyOne) l
+    (rounded-le binary64 (mul binary64 b nearlyOne) s (h * (1073741823 * 2 ^ 1044)) 0 (2 ^ 1074 * 2 ^ 1074) g 0 (mul-pos (pow-pos 1074) (pow-pos 1074))
+    (mul-count binary64 b nearlyOne h (1073741823 * 2 ^ 1044) c nearlyOne-counts) S a (room g h (2 ^ 1044) (2 ^ 1074) refl k)))
+
+scaled : (g h L : ℕ) → 1073741824 * g < 1073741823 * h → 0 < L → 1073741824 * (g * L) < 1073741823 * (h * L)
+scaled g h L l p =
+    let a = mul-lt-mul-of-pos-right l p in
+    let b = mul-assoc 1073741824 g L in
+    let c = mul-assoc 1073741823 h L in
+    omega arith
+
+some-units : (g h : ℕ) → 1073741824 * g < 1073741823 * h → 0 < h
+some-units g h l = omega arith
+
+apart-counts : (g h : ℕ) → 1073741824 * g < 1073741823 * h → rootUnits (g * 2 ^ 1074) < rootUnits (h * 2 ^ 1074)
+apart-counts zero h l =
+    let d = drops h (some-units 0 h l) in
+    subst (λ (x : ℕ). x < rootUnits (h * 2 ^ 1074)) (sym (ap rootUnits (zero-mul (2 ^ 1074)) ∙ rootUnits-zero))
+    (mul-pos (lt-of-lt-of-le (pow-pos 52) (kept-ge (h * 2 ^ 1074) d)) (pow-pos (dropped (h * 2 ^ 1074))))
+apart-counts (suc g) h l =
+    apart-units (suc g * 2 ^ 1074) (h * 2 ^ 1074) (drops (suc g) (zero-lt-suc g)) (drops h (some-units (suc g) h l)) (scaled (suc g) h (2 ^ 1074) l (pow-pos 1074))
+
+-- ---- the counts of doubles and of their roots
+bare : (g : ℕ) → g ≡ 0 + g
+bare g = omega arith
+
+plain : (a b : ℕ) → a < b → a + 0 < b + 0
+plain a b h = omega arith
+
+zero-of : (g : ℕ) → 0 + g ≤ 0 + 0 → g ≡ 0
+zero-of g h = omega arith
+
+as-count : (v : Float) (g : ℕ) → HasValue v false g (2 ^ 1074) → Counts binary64 v g 0
+as-count v g a = value-counts binary64 v false g g 0 a (bare g)
+
+-- a double with the sign set that is from 0 on is a zero
+minus-zero : (m : ℕ) (e : ℤ) (S : T (fits binary64 (fin true m e))) → T (le nought (fin true m e)) → m * 2 ^ shiftOf true m e S ≡ 0
+minus-zero m e S h =
+    let g = m * 2 ^ shiftOf true m e S in
+    zero-of g (le→counts binary64 nought (fin true m e) 0 0 0 g (nought-counts binary64) (value-counts binary64 (fin true m e) true g 0 g (counted true m e S) (bare g)) h)
+
+-- so a double from 0 on and its root have counts without a sign
+rootCount : (s : Bool) (m : ℕ) (e : ℤ) → T (fits binary64 (fin s m e)) → T (le nought (fin s m e))
+    → (g : ℕ) × Counts binary64 (fin s m e) g 0 × Counts binary64 (sqrtOf (fin s m e)) (rootUnits (g * 2 ^ 1074)) 0
+rootCount false m e S h =
+    let g = m * 2 ^ shiftOf false m e S in
+    (g, as-count (fin false m e) g (counted false m e S), as-count (sqrtOf (fin false m e)) (rootUnits (g * 2 ^ 1074)) (root-counted false m e S h))
+rootCount true m e S h =
+    let g = m * 2 ^ shiftOf true m e S in
+    let z = minus-zero m e S h in
+    let r : rootUnits (0 * 2 ^ 1074) ≡ 0 = ap rootUnits (zero-mul (2 ^ 1074)) ∙ rootUnits-zero in
+    let w : rootUnits (g * 2 ^ 1074) ≡ 0 = ap (λ (x : ℕ). rootUnits (x * 2 ^ 1074)) z ∙ r in (
+      0,
+      value-counts binary64 (fin true m e) true g 0 0 (counted true m e S) (sym z ∙ bare g),
+      subst (λ (x : ℕ). Counts binary64 (sqrtOf (fin true m e)) x 0) (sym r)
+          (value-counts binary64 (sqrtOf (fin true m e)) true (rootUnits (g * 2 ^ 1074)) 0 0 (root-counted true m e S h) (sym w ∙ bare (rootUnits (g * 2 ^ 1074)))),
+    )
+
+below-inf : (v : Float) (g n : ℕ) → Counts binary64 v g n → T (lt v (inf false))
+unfolding lt
+below-inf nan g n a = absurd a
+below-inf (inf t) g n a = absurd a
+below-inf (fin t m e) g n a = tt
+
+-- THEOREM
+pub sqrt-apart : (s b : Float) → T (fits binary64 s) → T (fits binary64 b) → T (le nought s) → T (lt s b) → T (lt s (mul binary64 b nearlyOne)) → T (lt (sqrtOf s) (sqrtOf b))
+unfolding le lt sqrtOf
+sqrt-apart nan b S B h k l = absurd h
+sqrt-apart (inf true) b S B h k l = absurd h
+sqrt-apart (inf false) nan S B h k l = absurd k
+sqrt-apart (inf false) (inf true) S B h k l = absurd k
+sqrt-apart (inf false) (inf false) S B h k l = absurd k
+sqrt-apart (inf false) (fin t n d) S B h k l = absurd k
+sqrt-apart (fin s m e) nan S B h k l = absurd k
+sqrt-apart (fin s m e) (inf true) S B h k l = absurd k
+sqrt-apart (fin s m e) (inf false) S B h k l = let a = rootCount s m e S h in below-inf (sqrtOf (fin s m e)) (rootUnits (a .0 * 2 ^ 1074)) 0 (a .2)
+sqrt-apart (fin s m e) (fin t n d) S B h k l =
+    let x = fin s m e in
+    let y = fin t n d in
+    let a = rootCount s m e S h in
+    let c = rootCount t n d B (lt→le nought y (le-lt-trans nought x y h k)) in
+    counts→lt binary64 (sqrtOf x) (sqrtOf y) (rootUnits (a .0 * 2 ^ 1074)) 0 (rootUnits (c .0 * 2 ^ 1074)) 0 (a .2) (c .2)
+    (plain (rootUnits (a .0 * 2 ^ 1074)) (rootUnits (c .0 * 2 ^ 1074)) (apart-counts (a .0) (c .0) (below x y (a .0) (c .0) S (a .1) (c .1) l)))

@@ -1,0 +1,1 @@
+// Laws of the float leaves: no code.

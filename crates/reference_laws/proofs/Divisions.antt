@@ -1,0 +1,90 @@
+-- Divisions within refusal 4's bounds, and which a session uses. Assumes nothing.
+use Prim.Native.Nat.{ℕ, suc, _*_, _≤_, _<_}
+use mathlib.Core.Path.{_≡_, refl, sym, _∙_}
+use mathlib.Core.Bool.{Bool, true, false, cond, _&&_, _||_, false≢true}
+use mathlib.Core.Option.{Option, none, some}
+use native.Mathlib.Nat.{max-eq-left, max-eq-right, le-of-lt, mul-le-mul}
+use borrow.Author.Tests.{le-leb, lt-leb, leb-true, ltb-true, ltb-false, not-false}
+use native.Mathlib.Omega.{arith}
+use lib.Dec.{leb, ltb}
+use Rattle.model.specs.Lists.{firstBelow}
+use Rattle.model.specs.Reference.{pointCount, autoDivisions, divisionsOf, populationSize, orElse}
+use Rattle.model.specs.Refusal.{badDivisions, badSessionDivisions, outsideDivisions, maxLines}
+use Rattle.reference_laws.proofs.First.{reaches}
+
+-- ---- tests
+
+or-none : (a b : Bool) → (a || b) ≡ false → (a ≡ false) × (b ≡ false)
+or-none false b e = (refl, e)
+or-none true b e = absurd (false≢true (sym e))
+
+and-both : (a b : Bool) → (a && b) ≡ true → (a ≡ true) × (b ≡ true)
+and-both true b e = (refl, e)
+and-both false b e = absurd (false≢true e)
+
+-- ---- refusal 4
+
+inside : (h : ℕ) → outsideDivisions h ≡ false → (1 ≤ h) × (h ≤ 199)
+inside h e =
+    let w = and-both (leb 1 h) (leb h 199) (not-false _ e) in
+    (leb-true 1 h (w .0), leb-true h 199 (w .1))
+
+inside-holds : (h : ℕ) → 1 ≤ h → h ≤ 199 → outsideDivisions h ≡ false
+inside-holds h a b = rw (le-leb 1 h a, le-leb h 199 b)
+
+-- what is left where refusal 4 does not apply
+pub record Allowed (m h : ℕ) : Type 0 where
+  pub least : 1 ≤ h
+  pub most : h ≤ 199
+  pub lines : pointCount m h ≤ 1024
+
+pub allowed : (m h : ℕ) → badDivisions m h ≡ false → Allowed m h
+unfolding badDivisions
+allowed m h e =
+    let w = or-none (outsideDivisions h) (ltb maxLines (pointCount m h)) e in
+    let i = inside h (w .0) in
+    record { least = i .0; most = i .1; lines = ltb-false maxLines (pointCount m h) (w .1) }
+
+-- 8,192 entries are room for every table that is allowed
+pub table-room : (m h : ℕ) → m ≤ 8 → Allowed m h → pointCount m h * m ≤ 8192
+table-room m h l a = mul-le-mul (a .lines) l
+
+-- each way that the test goes
+pub bad-below : (m h : ℕ) → h < 1 → true ≡ badDivisions m h
+unfolding badDivisions
+bad-below m h a = rw (lt-leb 1 h a)
+
+pub bad-above : (m h : ℕ) → 199 < h → true ≡ badDivisions m h
+unfolding badDivisions
+bad-above m h a = rw (le-leb 1 h (omega arith), lt-leb h 199 a)
+
+pub bad-by-lines : (m h p : ℕ) → 1 ≤ h → h ≤ 199 → p ≡ pointCount m h → ltb 1024 p ≡ badDivisions m h
+unfolding badDivisions
+bad-by-lines m h p a b e = rw (inside-holds h a b, e)
+
+-- ---- a session's
+
+pub auto-inside : (m target : ℕ) → outsideDivisions (autoDivisions m target) ≡ false
+unfolding autoDivisions
+auto-inside m target = by-test (firstBelow (reaches m target) 199) (ltb (firstBelow (reaches m target) 199) 199) refl
+  where
+    by-test : (i : ℕ) (b : Bool) → ltb i 199 ≡ b → outsideDivisions (cond b (suc i) 12) ≡ false
+    by-test i true e = inside-holds (suc i) (omega arith) (omega (arith, ltb-true i 199 e))
+    by-test i false e = refl
+
+-- refusal 4 at opening is that of the divisions that the session would use
+pub session-bad : (m : ℕ) (size divisions : Option ℕ) → badDivisions m (divisionsOf m size divisions) ≡ badSessionDivisions m size divisions
+unfolding badDivisions badSessionDivisions divisionsOf
+session-bad m size (some h) = refl
+session-bad m size none = rw (auto-inside m (orElse size 100))
+
+pub session-allowed : (m : ℕ) (size divisions : Option ℕ) → badSessionDivisions m size divisions ≡ false → Allowed m (divisionsOf m size divisions)
+session-allowed m size divisions e = allowed m (divisionsOf m size divisions) (session-bad m size divisions ∙ e)
+
+pub population-small : (m n : ℕ) (size divisions : Option ℕ) → n ≡ orElse size (pointCount m (divisionsOf m size divisions)) → n < 4 → 4 ≡ populationSize m size divisions
+unfolding populationSize
+population-small m n size divisions e l = rw (← e) (sym (max-eq-left (le-of-lt l)))
+
+pub population-large : (m n : ℕ) (size divisions : Option ℕ) → n ≡ orElse size (pointCount m (divisionsOf m size divisions)) → 4 ≤ n → n ≡ populationSize m size divisions
+unfolding populationSize
+population-large m n size divisions e l = rw (← e) (sym (max-eq-right l))

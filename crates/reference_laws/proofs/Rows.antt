@@ -1,0 +1,165 @@
+-- Laws of the rows that the recursion writes, and of a table whose rest is written. Assumes nothing.
+use Prim.Native.Nat.{ℕ, zero, suc, _+_, _-_, _*_, _<_, _≤_}
+use mathlib.Core.Path.{_≡_, refl, sym, ap, _∙_}
+use mathlib.Core.List.{List, [], _∷_, _++_, map, flatten, append-assoc, append-nil, List·Memᴰ, List·Memᴰ·head, List·Memᴰ·tail, Memᴰ·of-map}
+use native.Mathlib.Nat.{le-refl, add-zero, add-suc, suc-mul, zero-mul}
+use native.Mathlib.Numerals.{add-one}
+use native.Mathlib.Omega.{arith}
+use lib.Ieee.{Float, nan}
+use lib.ListN.{length, take, drop, getD, set, length-append, length-drop, length-map, List·getD-append}
+use lib.Seq.{take-suc-set, take-at, drop-at, drop-drop, take-length, drop-length, getD-append-add}
+use borrow.Rule.Slice.PartMut.{putMid}
+use Rattle.model.specs.Lists.{joinBelow, over}
+use Rattle.model.specs.Reference.{ratio, tuples, lattice, pointCount, dasDennis}
+use Rattle.list_laws.proofs.Built.{joinBelow-more, joinBelow-same, over-at}
+use Rattle.list_laws.proofs.Runs.{row-inside}
+use Rattle.reference_laws.specs.Rows.{rowsFrom}
+use Rattle.reference_laws.proofs.Count.{branch, lattice-count}
+use Rattle.reference_laws.proofs.Table.{lattice-table}
+
+-- ---- f 0 ++ .. ++ f (n - 1)
+
+module _ {A : Type 0} (f : ℕ → List A) where
+  join-add : (i k : ℕ) → length (joinBelow f i) ≤ length (joinBelow f (i + k))
+  unfolding joinBelow
+  join-add i zero = rw add-zero (le-refl _)
+  join-add i (suc k) = rw (add-suc, length-append) (let h = join-add i k in omega arith)
+
+  join-mono : (i n : ℕ) → i ≤ n → length (joinBelow f i) ≤ length (joinBelow f n)
+  join-mono i n h = let e : i + (n - i) ≡ n = omega arith in rw e at (join-add i (n - i))
+
+  -- where all n fit, there is room for the next behind the first i
+  pub room : (i n k : ℕ) → i < n → length (joinBelow f n) ≤ k → length (joinBelow f i) + length (f i) ≤ k
+  room i n k l h = omega (arith, join-mono (i + 1) n (omega arith), ap length (joinBelow-more f i), length-append (joinBelow f i) (f i))
+
+-- ---- the rows of the recursion
+
+flatten-append : {A : Type 0} (a b : List (List A)) → flatten (a ++ b) ≡ flatten a ++ flatten b
+unfolding flatten
+flatten-append [] b = refl
+flatten-append (l ∷ a) b = rw (flatten-append a b, append-assoc)
+
+map-join : {A B : Type 0} (f : A → B) (a b : List A) → map f (a ++ b) ≡ map f a ++ map f b
+map-join f [] b = refl
+map-join f (x ∷ a) b = ap (λ l. f x ∷ l) (map-join f a b)
+
+-- the rows that begin with `before` and go on with each tuple
+abbrev rows : List Float → ℕ → List (List ℕ) → List Float
+rows before h ts = flatten (map (λ t. before ++ map (ratio h) t) ts)
+
+rows-join : (before : List Float) (h : ℕ) (F : ℕ → List (List ℕ)) (n : ℕ) → rows before h (joinBelow F n) ≡ joinBelow (λ i. rows before h (F i)) n
+unfolding joinBelow flatten
+rows-join before h F zero = refl
+rows-join before h F (suc n) =
+    let row : List ℕ → List Float = λ t. before ++ map (ratio h) t in
+    ap flatten (map-join row (joinBelow F n) (F n))
+    ∙ flatten-append (map row (joinBelow F n)) (map row (F n))
+    ∙ ap (λ (l : List Float). l ++ rows before h (F n)) (rows-join before h F n)
+
+rows-branch : (before : List Float) (h i : ℕ) (ts : List (List ℕ)) → rows before h (map (λ t. i ∷ t) ts) ≡ rows (before ++ (ratio h i ∷ [])) h ts
+unfolding flatten
+rows-branch before h i [] = refl
+rows-branch before h i (t ∷ ts) =
+    let e = append-assoc before (ratio h i ∷ []) (map (ratio h) t) in
+    ap (λ (l : List Float). (before ++ (ratio h i ∷ map (ratio h) t)) ++ l) (rows-branch before h i ts)
+    ∙ ap (λ (l : List Float). l ++ rows (before ++ (ratio h i ∷ [])) h ts) (sym e)
+
+-- the rows whose next coordinate is i
+abbrev pub part : List Float → ℕ → ℕ → ℕ → ℕ → List Float
+part before left rest h i = rowsFrom (before ++ (ratio h i ∷ [])) (left - 1) (rest - i) h
+
+pub rows-some : (before : List Float) (left rest h : ℕ) → (left ≡ 0 → ⊥) → rowsFrom before left rest h ≡ joinBelow (part before left rest h) (rest + 1)
+unfolding rowsFrom tuples
+rows-some before zero rest h f = absurd (f refl)
+rows-some before (suc d) rest h f =
+    let e : d ≡ suc d - 1 = omega arith in
+    rows-join before h (branch d rest) (suc rest)
+    ∙ joinBelow-same (λ i. rows before h (branch d rest i)) (part before (suc d) rest h) (suc rest)
+    (λ i l. rows-branch before h i (tuples d (rest - i)) ∙ ap (λ (k : ℕ). rows (before ++ (ratio h i ∷ [])) h (tuples k (rest - i))) e)
+    ∙ ap (joinBelow (part before (suc d) rest h)) (sym (add-one rest))
+
+pub rows-none : (before : List Float) (left rest h : ℕ) → left ≡ 0 → rowsFrom before left rest h ≡ before ++ (ratio h rest ∷ [])
+unfolding rowsFrom tuples flatten
+rows-none before left rest h e = rw e (append-nil _)
+
+-- ---- the table
+
+-- the next coordinate stored in a row
+pub stored : (l : List Float) (d : ℕ) (x : Float) → d < length l → take (d + 1) (set l d x) ≡ take d l ++ (x ∷ [])
+stored l d x h = rw add-one (take-suc-set l d x h)
+
+-- the table after the next part was written behind what stands: the part that was lent goes to the table's end
+module _ (t : List Float) (at : ℕ) (h : at ≤ length t) where
+  pub tail-all : take (length t - at) (drop at t) ≡ drop at t
+  tail-all = ap (λ (n : ℕ). take n (drop at t)) (sym (length-drop at t)) ∙ take-length (drop at t)
+
+  tail-none : drop (length t - at) (drop at t) ≡ []
+  tail-none = ap (λ (n : ℕ). drop n (drop at t)) (sym (length-drop at t)) ∙ drop-length (drop at t)
+
+  pub written : (a b t₀ last : List Float) (k : ℕ) → at ≡ length a → t ≡ a ++ drop at t₀ → last ≡ b ++ drop k (take (length t - at) (drop at t))
+      → putMid at (length t - at) t last ≡ (a ++ b) ++ drop (at + k) t₀
+  written a b t₀ last k e g q =
+      let q₁ : last ≡ b ++ drop (at + k) t₀ =
+      q ∙ ap (λ (l : List Float). b ++ drop k l) (tail-all ∙ ap (drop at) g ∙ drop-at a (drop at t₀) at (sym e))
+      ∙ ap (λ (l : List Float). b ++ l) (drop-drop k at t₀) in
+      let p : take at t ≡ a = ap (take at) g ∙ take-at a (drop at t₀) at (sym e) in
+      rw (tail-none, p, append-nil, q₁, append-assoc)
+
+-- ---- the whole table
+
+-- its length: as many coordinates as lines times objectives
+flat-length : (m h : ℕ) (ts : List (List ℕ)) → ((t : List ℕ) → List·Memᴰ t ts → length t ≡ m) → length (rows [] h ts) ≡ length ts * m
+unfolding flatten
+flat-length m h [] each = sym (zero-mul m)
+flat-length m h (t ∷ ts) each =
+    let i = flat-length m h ts (λ u w. each u (List·Memᴰ·tail w)) in
+    let e = each t (List·Memᴰ·head refl) in
+    omega (arith, length-append (map (ratio h) t) (rows [] h ts), length-map t (ratio h), suc-mul (length ts) m)
+
+pub whole-rows : (m h : ℕ) → rowsFrom [] (m - 1) h h ≡ flatten (dasDennis m h)
+unfolding rowsFrom dasDennis
+whole-rows m h = refl
+
+pub whole-length : (m h : ℕ) → 1 ≤ m → length (rowsFrom [] (m - 1) h h) ≡ pointCount m h * m
+unfolding rowsFrom
+whole-length m h p =
+    flat-length m h (lattice m h) (λ t w. lattice-table m h p .nothingElse t w .coordinates)
+    ∙ ap (λ (n : ℕ). n * m) (sym (lattice-count m h p))
+
+-- ---- reading the table
+
+-- coordinate j of line l, as association reads it
+abbrev pub line : ℕ → ℕ → ℕ → ℕ → Float
+line m h l j = getD (getD (dasDennis m h) l []) j nan
+
+-- rows of m entries, one after the other: entry j of row l
+flat-at : (m : ℕ) (rs : List (List Float)) → ((r : List Float) → List·Memᴰ r rs → length r ≡ m) → (l j : ℕ) (d : Float) → l < length rs → j < m
+    → getD (flatten rs) (l * m + j) d ≡ getD (getD rs l []) j d
+unfolding flatten
+flat-at m [] each l j d a b = absurd (omega arith)
+flat-at m (r ∷ rs) each zero j d a b =
+    let e : 0 * m + j ≡ j = omega arith in
+    rw e (List·getD-append r (flatten rs) d j (omega (arith, each r (List·Memᴰ·head refl))))
+flat-at m (r ∷ rs) each (suc l) j d a b =
+    let e : suc l * m + j ≡ length r + (l * m + j) = omega (arith, suc-mul l m, each r (List·Memᴰ·head refl)) in
+    rw e (getD-append-add r (flatten rs) (l * m + j) d) ∙ flat-at m rs (λ u w. each u (List·Memᴰ·tail w)) l j d (omega arith) b
+
+row-length : (m h : ℕ) → 1 ≤ m → (r : List Float) → List·Memᴰ r (dasDennis m h) → length r ≡ m
+unfolding dasDennis
+row-length m h p r w =
+    let u = Memᴰ·of-map (λ (t : List ℕ). map (ratio h) t) (lattice m h) w in
+    ap length (sym (u .2)) ∙ length-map (u .0) (ratio h) ∙ lattice-table m h p .nothingElse (u .0) (u .1) .coordinates
+
+pub lines-count : (m h : ℕ) → 1 ≤ m → length (dasDennis m h) ≡ pointCount m h
+unfolding dasDennis
+lines-count m h p = length-map (lattice m h) (λ (t : List ℕ). map (ratio h) t) ∙ sym (lattice-count m h p)
+
+pub flat-length-is : (m h : ℕ) → 1 ≤ m → length (flatten (dasDennis m h)) ≡ pointCount m h * m
+flat-length-is m h p = ap length (sym (whole-rows m h)) ∙ whole-length m h p
+
+-- an entry of a slice that `das_dennis` has written
+pub table-at : (m h l j : ℕ) (old : List Float) → 1 ≤ m → l < pointCount m h → j < m → getD (over (flatten (dasDennis m h)) old) (l * m + j) nan ≡ line m h l j
+table-at m h l j old p a b =
+    let rows = flatten (dasDennis m h) in
+    over-at rows old (l * m + j) nan (omega (arith, flat-length-is m h p, row-inside l (pointCount m h) m a))
+    ∙ flat-at m (dasDennis m h) (row-length m h p) l j nan (omega (arith, lines-count m h p)) b

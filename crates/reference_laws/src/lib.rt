@@ -1,0 +1,1 @@
+// Laws of the reference table and of its divisions: no code.

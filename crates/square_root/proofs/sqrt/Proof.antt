@@ -1,0 +1,113 @@
+-- `sqrt` meets its contract. Its tests tell apart the ways that `sqrtOf` goes. Assumes nothing.
+use mathlib.Core.Path.{_≡_, refl, sym, ap, _∙_, subst}
+use Prim.Native.Nat.{ℕ, zero, suc, _*_, _<_, _≤_}
+use native.Mathlib.Nat.{not-le-of-lt, mul-pos, zero-mul, zero-lt-suc}
+use native.Mathlib.Omega.{arith}
+use mathlib.Core.Bool.{Bool, true, false, not, _||_, Bool·beq, true≢false}
+use borrow.Author.Tests.{lt-ltb}
+use lib.IntN.{ℤ}
+use lib.Dec.{T, eqb, ltb, eqb→eq}
+use lib.Ieee.{Float, nan, inf, fin, binary64, up, down, level as levelled, lt, eq, div, fits, isNan, ofBits, toBits}
+use lib.Ieee.Fits.{up-pos, and-l}
+use lib.Ieee.Bits.{ofBits-toBits}
+use Rattle.float_laws.proofs.Rounding.{unsigned}
+use Rattle.float_laws.proofs.Patterns.{lt→bits}
+use Rattle.float_laws.proofs.Constants.{nought}
+use Rattle.model.specs.Numbers.{sqrtOf}
+use Rattle.square_root.proofs.sqrt.Statement.{statement}
+use Rattle.square_root.proofs.sqrt.Tie as tie
+
+-- ---- x is above 0
+not-nan : (x : Float) → lt nought x ≡ true → T (not (isNan x))
+unfolding lt isNan
+not-nan nan h = absurd (true≢false (sym h))
+not-nan (inf s) h = tt
+not-nan (fin s m e) h = tt
+
+clear : (x : Float) → lt nought x ≡ true → T (unsigned x)
+unfolding lt
+clear nan h = absurd (true≢false (sym h))
+clear (inf true) h = absurd (true≢false (sym h))
+clear (inf false) h = tt
+clear (fin true m e) h = absurd (true≢false (sym h))
+clear (fin false m e) h = tt
+
+pattern-above : (x : Float) → T (fits binary64 x) → lt nought x ≡ true → 0 < toBits binary64 x
+unfolding fits toBits
+pattern-above x X h = lt→bits binary64 nought x tt X tt (clear x h) (subst T (sym h) tt)
+
+pattern-below : (m : ℕ) (e : ℤ) → T (fits binary64 (fin false m e)) → toBits binary64 (fin false m e) < 0x7ff0_0000_0000_0000
+unfolding fits toBits lt
+pattern-below m e X = lt→bits binary64 (fin false m e) (inf false) X tt tt tt tt
+
+-- and has the pattern of the infinity, or one beyond it
+infinite : (x : Float) → T (fits binary64 x) → lt nought x ≡ true → 0x7ff0_0000_0000_0000 ≤ toBits binary64 x → x ≡ sqrtOf x
+unfolding lt sqrtOf
+infinite nan X h l = refl
+infinite (inf true) X h l = absurd (true≢false (sym h))
+infinite (inf false) X h l = refl
+infinite (fin true m e) X h l = absurd (true≢false (sym h))
+infinite (fin false m e) X h l = absurd (not-le-of-lt (pattern-below m e X) l)
+
+-- ---- x is not above 0: it is level with 0, or it has no root
+not-pos : (a : ℕ) → 0 < a → a ≡ 0 → ⊥
+not-pos a h e = omega arith
+
+level : (x : Float) → eq x nought ≡ true → x ≡ sqrtOf x
+unfolding eq sqrtOf
+level nan h = absurd (true≢false (sym h))
+level (inf s) h = absurd (true≢false (sym h))
+level (fin s zero e) h = refl
+level (fin s (suc m) e) h = absurd (not-pos (suc m * up e * 1) (mul-pos (mul-pos (zero-lt-suc m) (up-pos e)) (zero-lt-suc 0)) (eqb→eq (suc m * up e * 1) (0 * 1 * down e) (and-l (eqb (suc m * up e * 1) (0 * 1 * down e)) (Bool·beq s false || eqb (suc m * up e * 1) 0) (subst T (sym h) tt)) ∙ zero-mul (down e)))
+
+zero-level : (s : Bool) (e : ℤ) → eq (fin s 0 e) nought ≡ true
+unfolding eq
+zero-level s e = ap (λ (a : ℕ). levelled s (a * 1) false (0 * down e)) (zero-mul (up e)) ∙ ap (λ (b : ℕ). levelled s 0 false b) (zero-mul (down e)) ∙ both s
+  where
+    both : (s : Bool) → levelled s 0 false 0 ≡ true
+    both true = refl
+    both false = refl
+
+suc-above : (m : ℕ) (e : ℤ) → lt nought (fin false (suc m) e) ≡ true
+unfolding lt
+suc-above m e = ap (λ (a : ℕ). ltb a (suc m * up e * 1)) (zero-mul (down e)) ∙ lt-ltb 0 (suc m * up e * 1) (mul-pos (mul-pos (zero-lt-suc m) (up-pos e)) (zero-lt-suc 0))
+
+no-root : (x : Float) → lt nought x ≡ false → eq x nought ≡ false → nan ≡ sqrtOf x
+unfolding lt sqrtOf
+no-root nan h k = refl
+no-root (inf true) h k = refl
+no-root (inf false) h k = absurd (true≢false h)
+no-root (fin s zero e) h k = absurd (true≢false (sym (zero-level s e) ∙ k))
+no-root (fin true (suc m) e) h k = refl
+no-root (fin false (suc m) e) h k = absurd (true≢false (sym (suc-above m e) ∙ h))
+
+-- ---- the needs
+held : (c : tie.Start) → T (fits binary64 (c .args .x))
+held c = subst T (sym (c .good .0 .1)) tt
+
+float-to-bits-b : tie.Need-float-to-bits-b
+unfolding ofBits
+float-to-bits-b c = not-nan (c .before .args .x) (c .if1 .taken)
+
+root-of-pattern-requires : tie.Need-root-of-pattern-requires
+unfolding ofBits
+root-of-pattern-requires c κs = (pattern-above (c .before .before .args .x) (held (c .before .before)) (c .before .if1 .taken), c .if2 .taken)
+
+returns : tie.Need-returns
+returns c = c .root-of-pattern .ensures ∙ ap sqrtOf (ofBits-toBits binary64 (c .before .before .before .args .x) (held (c .before .before .before)))
+
+returns-2 : tie.Need-returns-2
+unfolding ofBits
+returns-2 c = infinite (c .before .before .args .x) (held (c .before .before)) (c .before .if1 .taken) (c .if2 .left)
+
+returns-3 : tie.Need-returns-3
+unfolding ofBits
+returns-3 c = level (c .before .before .args .x) (c .if3 .taken)
+
+returns-4 : tie.Need-returns-4
+unfolding ofBits div
+returns-4 c = no-root (c .before .before .args .x) (c .before .if1 .left) (c .if3 .left)
+
+pub sqrt-spec : {M : Type 1} → statement M
+sqrt-spec =
+    tie.close (tie.spec float-to-bits-b root-of-pattern-requires returns returns-2 returns-3 returns-4)
