@@ -1,16 +1,21 @@
 -- `choose_words`: the selection's answer, and the listing of what it hands out
-use mathlib.Core.Path.{ap, sym, _∙_}
+use Prim.Native.Nat.{ℕ}
+use mathlib.Core.Path.{_≡_, ap, sym, _∙_}
 use mathlib.Core.List.{List}
 use lib.Ieee.{Float}
-use lib.ListN.{length}
+use lib.ListN.{length, replicate, length-replicate}
 use lib.Seq.{length-take-le}
 use native.Mathlib.Omega.{arith}
 use borrow.Author.Needs.{needs}
-use Rattle.model.specs.Calls.{wordRequest}
-use Rattle.pool_choice.specs.Choice.{listExit}
-use Rattle.pool_choice.proofs.Words.{ideal-start, refused-exit, through, limits, text-short, listed-exit}
+use Rattle.model.specs.Calls.{wordRequest, lent, roomOf}
+use Rattle.pool_laws.specs.Choice.{roomy, listExit}
+use Rattle.pool_laws.proofs.Words.{ideal-start, refused-exit, through, limits, text-short, listed-exit}
 use Rattle.pool_choice.proofs.choose_words.Statement.{statement}
 use Rattle.pool_choice.proofs.choose_words.Tie as tie
+
+-- each list that is lent has 1,024 entries
+roomed : roomOf (lent (replicate 1024 0) (replicate 1024 0) (replicate 1024 0)) ≡ roomy
+roomed = rw (length-replicate {A = ℕ} 1024 0)
 
 array-borrow-prefix-ideal : tie.Need-array-borrow-prefix-ideal
 array-borrow-prefix-ideal c = search needs
@@ -80,7 +85,7 @@ returns c =
     let o = c .before in
     let s = o .before .before .before .before .before .before in
     let a = s .before .before .before .before .before .before .before .before .args in
-    refused-exit _ _ _ (s .nsga3-select .ensures .whole) (omega arith) (omega arith) (omega arith) _ (a .out .now) (o .outcome .given .1)
+    refused-exit _ _ _ (s .nsga3-select .ensures .whole) roomed _ (a .out .now) (o .outcome .given .1)
     ∙ ap (λ (i : List Float). listExit (wordRequest (a .pool .now) (a .directions .now) (a .divisions) (a .size) (a .rng) i) (a .out .now))
     (ideal-start (length (a .directions .now)) (s .before .before .before .before .before .before .before .before .pre))
 
@@ -95,7 +100,7 @@ returns-2 c =
     let s = o .before .before .before .before .before .before in
     let a = s .before .before .before .before .before .before .before .before .args in
     l .put-listing .ensures
-    ∙ listed-exit _ _ _ (s .nsga3-select .ensures .whole) _ (o .outcome2 .given .1) (a .out .now) _ (p .plan-count .ensures)
+    ∙ listed-exit _ _ _ (s .nsga3-select .ensures .whole) _ (o .outcome2 .given .1) roomed (a .out .now) _ (p .plan-count .ensures)
     ∙ ap (λ (i : List Float). listExit (wordRequest (a .pool .now) (a .directions .now) (a .divisions) (a .size) (a .rng) i) (a .out .now))
     (ideal-start (length (a .directions .now)) (s .before .before .before .before .before .before .before .before .pre))
 
