@@ -24,8 +24,9 @@ use Rattle.list_laws.proofs.Bools.{by-bool, and-left, and-right}
 use Rattle.list_laws.proofs.Tests.{allBelow-same}
 use Rattle.demand3_laws.proofs.Accepted.{pool-plan}
 use Rattle.pool_file.specs.declared.Header.{Header}
-use Rattle.pool_file.specs.Parsing.{Pool, capped, roomed}
-use Rattle.pool_file.proofs.Blocks.{planOf-same}
+use Rattle.pool_plans.specs.Blocks.{roomed}
+use Rattle.pool_file.specs.Parsing.{Pool, capped}
+use Rattle.pool_plans.proofs.Blocks.{planOf-same}
 use Rattle.pool_laws.proofs.Shapes.{Shape, Whole, parse-whole}
 
 -- ---- marks

@@ -21,7 +21,7 @@ use Rattle.pool_file.specs.declared.Header.{Header}
 use Rattle.pool_file.specs.declared.Parsed.{Parsed as Answer}
 use Rattle.pool_file.specs.declared.Parsed.the-variants as answer
 use Rattle.pool_file.specs.Parsing.{PoolIs, Pool, capped}
-use Rattle.pool_file.proofs.Options.{by-option}
+use Rattle.pool_number.proofs.Options.{by-option}
 use Rattle.pool_laws.specs.Choice.{exit, textRefusal, requestText, roomy, orElse, listExit, Crowded}
 use Rattle.pool_laws.proofs.Carried.{Carried, select-same, carried, stored, directions-same}
 use Rattle.pool_laws.proofs.Refusals.{file-refusal}

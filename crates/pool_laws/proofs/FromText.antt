@@ -1,26 +1,25 @@
 -- WHAT THE PRINTED TEXT TELLS: the plan count, the kept list's length, and each plan's front, line and place of first keeping. So where no plan is kept
 -- twice it tells the kept list, and `Demand3` of `choose` speaks of the list that is printed. What a padded list repeats it does not tell.
-use Prim.Native.Nat.{ℕ, zero, suc, _+_, _*_, _-_, _/_, _%_, _^_, _≤_, _<_}
+use Prim.Native.Nat.{ℕ, zero, suc, _+_, _*_, _-_, _/_, _%_, _≤_, _<_}
 use mathlib.Core.Path.{_≡_, refl, ap, sym, _∙_, subst}
-use mathlib.Core.Bool.{Bool, true, false, cond}
-use mathlib.Core.Logic.{_⊎_, inl, inr, ⊎-elim}
+use mathlib.Core.Bool.{true, false}
+use mathlib.Core.Logic.{_⊎_, ⊎-elim}
 use mathlib.Core.List.{List, [], _∷_, _++_, append-assoc, append-nil}
-use mathlib.Core.Option.{Option, none, some}
 use native.Mathlib.Nat.{not-suc-le-zero}
 use native.Mathlib.Omega.{arith}
-use borrow.Author.Tests.{lt-ltb, le-ltb, ltb-true, ltb-false, eq-eqb, ne-eqb, eqb-true, eqb-false}
+use borrow.Author.Tests.{lt-ltb, ltb-true, eq-eqb, ne-eqb, eqb-true, eqb-false}
 use lib.Dec.{eqb, ltb}
 use lib.ListN.{length, getD}
 use lib.Seq.{ext-getD}
 use Rattle.model.specs.Lists.{listBelow, joinBelow, firstBelow, In, Distinct}
-use Rattle.model.specs.Kept.{Selected, selected, noLine}
-use Rattle.model.specs.Demand3.{Demand3}
-use Rattle.model.specs.PoolFile.{PoolFile, fileRequest, fileText, ascii, digitsOf, decimal, lineText, placeOf, headerText, planText, listingText}
+use Rattle.model.specs.Kept.{Selected, noLine}
+use Rattle.model.specs.PoolFile.{ascii, digitsOf, decimal, lineText, placeOf, headerText, planText, listingText}
 use Rattle.model.specs.Refusal.{maxSize}
 use Rattle.list_laws.proofs.Bools.{by-bool}
 use Rattle.list_laws.proofs.First.{firstBelow-at, firstBelow-passes}
 use Rattle.list_laws.proofs.Members.{getD-in}
 use Rattle.niching.proofs.Places.{different-places}
+use Rattle.pool_laws.specs.Text.{listed}
 use Rattle.pool_laws.proofs.Lengths.{Small, place-le}
 use Rattle.pool_laws.proofs.Listing.{header-text}
 
@@ -219,3 +218,8 @@ pub same-list : (n : ℕ) (l k : List ℕ) → Distinct l → ((p : ℕ) → In 
     → ((p : ℕ) → p < n → placeOf l p ≡ placeOf k p) → l ≡ k
 same-list n l k d inside e f =
     ext-getD 0 l k e (λ i h. sym (kept-there k (getD l i 0) i (sym (f (getD l i 0) (inside _ (getD-in l i h))) ∙ place-once l d i h)))
+
+-- a padded list is not told: whether the third of two plans' three places has plan 0 or plan 1, the text is the same
+pub padding-hidden : (fronts lines : List ℕ) → listingText 2 (listed (0 ∷ 1 ∷ 0 ∷ []) fronts lines) ≡ listingText 2 (listed (0 ∷ 1 ∷ 1 ∷ []) fronts lines)
+unfolding listingText joinBelow planText placeOf firstBelow
+padding-hidden fronts lines = refl

@@ -16,7 +16,7 @@ use Rattle.model.specs.Association.{Request}
 use Rattle.model.specs.Kept.{selected}
 use Rattle.model.specs.Refusal.{selectRefusal}
 use Rattle.model.specs.Calls.{Lent, lent, roomOf, SelectExit, selectAccepted, selectBy, selectOf, chooseBy, maxText}
-use Rattle.pool_file.proofs.Options.{by-option}
+use Rattle.pool_number.proofs.Options.{by-option}
 use Rattle.nsga3_laws.specs.Admitted.{Admitted}
 use Rattle.nsga3_laws.proofs.Admitted.{admitted}
 use Rattle.pool_laws.proofs.Printed.{selected-short}

@@ -16,9 +16,9 @@ use lib.ListN.{length, drop, getD, length-drop, drop-of-length-le}
 use lib.Seq.{drop-cons}
 use Rattle.model.specs.PoolFile.{Parsed, numberFrom, number}
 use Rattle.list_laws.proofs.Bools.{by-bool}
-use Rattle.pool_file.specs.declared.Read.{Read}
-use Rattle.pool_file.specs.declared.Read.the-variants.{Number, Broken}
-use Rattle.pool_file.specs.Reading.{read, asRead, numberAt, Ends, ReadIs}
+use Rattle.pool_number.specs.declared.Read.{Read}
+use Rattle.pool_number.specs.declared.Read.the-variants.{Number, Broken}
+use Rattle.pool_number.specs.Reading.{read, asRead, numberAt, Ends, ReadIs}
 
 -- ---- groups past 64 bits: model's definition reads on and refuses at the end
 

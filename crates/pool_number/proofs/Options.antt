@@ -8,7 +8,7 @@ use native.Mathlib.Nat.{not-suc-le-zero}
 use native.Mathlib.Omega.{arith}
 use lib.ListN.{length, length-append}
 use Rattle.model.specs.PoolFile.{Parsed, Reader, many}
-use Rattle.pool_file.specs.Reading.{read}
+use Rattle.pool_number.specs.Reading.{read}
 
 module _ {A : Type 0} where
   pub by-option : {C : Type 0} (o : Option A) → (o ≡ none → C) → ((a : A) → o ≡ some a → C) → C

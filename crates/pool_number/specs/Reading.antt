@@ -5,8 +5,8 @@ use mathlib.Core.List.{List}
 use mathlib.Core.Option.{Option, none, some}
 use lib.ListN.{length, drop}
 use Rattle.model.specs.PoolFile.{Parsed, number}
-use Rattle.pool_file.specs.declared.Read.{Read}
-use Rattle.pool_file.specs.declared.Read.the-variants.{Number, Broken}
+use Rattle.pool_number.specs.declared.Read.{Read}
+use Rattle.pool_number.specs.declared.Read.the-variants.{Number, Broken}
 
 -- a reader's answer
 module _ {A : Type 0} where

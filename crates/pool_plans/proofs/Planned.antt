@@ -11,12 +11,12 @@ use lib.Seq.{getD-at}
 use Rattle.model.specs.Plan.{Plan, planOf, planAt, planWords}
 use Rattle.model.specs.PoolFile.{Parsed, many, plan, noPlan}
 use Rattle.model.specs.Refusal.{maxSize}
-use Rattle.pool_file.specs.declared.End.{End}
-use Rattle.pool_file.specs.declared.End.the-variants as end
-use Rattle.pool_file.specs.Reading.{read}
-use Rattle.pool_file.specs.Parsing.{Block, BlockIs, Plans, roomed}
-use Rattle.pool_file.proofs.Options.{many-zero, many-more, many-stop, many-length}
-use Rattle.pool_file.proofs.Blocks.{planOf-same}
+use Rattle.pool_plans.specs.declared.End.{End}
+use Rattle.pool_plans.specs.declared.End.the-variants as end
+use Rattle.pool_number.specs.Reading.{read}
+use Rattle.pool_plans.specs.Blocks.{Block, BlockIs, Plans, roomed}
+use Rattle.pool_number.proofs.Options.{many-zero, many-more, many-stop, many-length}
+use Rattle.pool_plans.proofs.Blocks.{planOf-same}
 
 pub plans-none : (file : List ℕ) (at m : ℕ) (o : List ℕ) → Plans file at m 0 o at
 plans-none file at m o = record { plans = []; reads = many-zero (plan m) (drop at file); stored = λ h p l. absurd (omega arith) }

@@ -18,11 +18,12 @@ use Rattle.model.specs.Plan.{Plan, Setting, planOf, planWords}
 use Rattle.model.specs.PoolFile.{Parsed, number, many, plan}
 use Rattle.list_laws.proofs.Bools.{by-bool}
 use Rattle.list_laws.proofs.Built.{listBelow-same, listBelow-take}
-use Rattle.pool_file.specs.Reading.{read, Ends}
-use Rattle.pool_file.specs.declared.End.{End}
-use Rattle.pool_file.specs.declared.End.the-variants as end
-use Rattle.pool_file.specs.Parsing.{Words, WordsIs, Block, roomed}
-use Rattle.pool_file.proofs.Options.{many-length}
+use Rattle.pool_number.specs.Reading.{read, Ends}
+use Rattle.pool_plans.specs.declared.End.{End}
+use Rattle.pool_plans.specs.declared.End.the-variants as end
+use Rattle.pool_plans.specs.Blocks.{Words, WordsIs, Block, roomed}
+use Rattle.pool_number.proofs.Options.{many-length}
+use Rattle.pool_plans.proofs.Storing.{stored-plain}
 use Rattle.list_laws.proofs.Runs.{before-run, past-run, in-run}
 
 -- ---- the plan that words form
@@ -215,32 +216,33 @@ plan-good m bytes vs rest c rest′ cs rest″ e f g = rw (e, f, g)
 -- ---- the block, by how far its reader gets
 
 module _ (file : List ℕ) (at m base : ℕ) (l : List ℕ) where
-  pub block-none : (o : List ℕ) (r : End) → WordsIs file at m 8 (base + 2) l o r → r ≡ end.Broken → plan m (drop at file) ≡ none
-  block-none o r w e = plan-none m (drop at file) (subst (λ (x : End). WordsIs file at m 8 (base + 2) l o x) e w)
+  pub block-none : (o : List ℕ) (r : End) → WordsIs (λ v. v) file at m 8 (base + 2) l o r → r ≡ end.Broken → plan m (drop at file) ≡ none
+  block-none o r w e = plan-none m (drop at file) (subst (λ (x : End). WordsIs (λ v. v) file at m 8 (base + 2) l o x) e w)
 
-  module _ (o₁ : List ℕ) (r : End) (p : ℕ) (w : WordsIs file at m 8 (base + 2) l o₁ r) (e : r ≡ end.At p) where
-    first : Words file at m 8 (base + 2) l o₁ p
-    first = subst (λ (x : End). WordsIs file at m 8 (base + 2) l o₁ x) e w
+  module _ (o₁ : List ℕ) (r : End) (p : ℕ) (w : WordsIs (λ v. v) file at m 8 (base + 2) l o₁ r) (e : r ≡ end.At p) where
+    first : Words (λ v. v) file at m 8 (base + 2) l o₁ p
+    first = subst (λ (x : End). WordsIs (λ v. v) file at m 8 (base + 2) l o₁ x) e w
 
     pub block-no-count : number (drop p file) ≡ none → plan m (drop at file) ≡ none
     block-no-count f = plan-no-count m (drop at file) (first .values) (drop p file) (first .reads) f
 
-    module _ (c q : ℕ) (f : Ends file p c q) (o₂ : List ℕ) (r′ : End) (w′ : WordsIs file q c 16 (base + 11) o₁ o₂ r′) where
+    module _ (c q : ℕ) (f : Ends file p c q) (o₂ : List ℕ) (r′ : End) (w′ : WordsIs (λ v. v) file q c 16 (base + 11) o₁ o₂ r′) where
       pub block-short : r′ ≡ end.Broken → plan m (drop at file) ≡ none
       block-short g = plan-short m (drop at file) (first .values) (drop p file) c (drop q file) (first .reads) (f .reads)
-          (subst (λ (x : End). WordsIs file q c 16 (base + 11) o₁ o₂ x) g w′)
+          (subst (λ (x : End). WordsIs (λ v. v) file q c 16 (base + 11) o₁ o₂ x) g w′)
 
       pub block-good : (next : ℕ) (o : List ℕ) → r′ ≡ end.At next → base + planWords ≤ length l
           → o ≡ set (set (set (set o₂ base 0) (base + 1) m) (base + 10) c) (base + 27) 0 → Block file at m base l o next
       unfolding block filled rows counted
       block-good next o g room k =
-          let second = subst (λ (x : End). WordsIs file q c 16 (base + 11) o₁ o₂ x) g w′ in
+          let second = subst (λ (x : End). WordsIs (λ v. v) file q c 16 (base + 11) o₁ o₂ x) g w′ in
           let vs = first .values in
           let cs = second .values in
           let a = many-length number m (drop at file) vs (drop p file) (first .reads) in
           let b = many-length number c (drop q file) cs (drop next file) (second .reads) in
           let z : o ≡ block l base m c vs cs a b room =
-          k ∙ ap (λ (t : List ℕ). counted t base m c) (second .stored ∙ ap (λ (t : List ℕ). sets t (base + 11) (take 16 cs)) (first .stored)) in
+          k ∙ ap (λ (t : List ℕ). counted t base m c) (stored-plain file q c 16 (base + 11) o₁ o₂ next second
+          ∙ ap (λ (t : List ℕ). sets t (base + 11) (take 16 cs)) (stored-plain file at m 8 (base + 2) l o₁ p first)) in
           record {
             held = made m vs c cs;
             reads = plan-good m (drop at file) vs (drop p file) c (drop q file) cs (drop next file) (first .reads) (f .reads) (second .reads);

@@ -4,10 +4,10 @@ use mathlib.Core.Path.{_≡_, refl, _∙_}
 use native.Mathlib.Omega.{arith}
 use borrow.Author.Needs.{needs}
 use lib.ListN.{length}
-use Rattle.pool_file.specs.Parsing.{Plans}
-use Rattle.pool_file.proofs.Planned.{plans-none, plans-more, plans-stop}
-use Rattle.pool_file.proofs.read_plans.Statement.{statement}
-use Rattle.pool_file.proofs.read_plans.Tie as tie
+use Rattle.pool_plans.specs.Blocks.{Plans}
+use Rattle.pool_plans.proofs.Planned.{plans-none, plans-more, plans-stop}
+use Rattle.pool_plans.proofs.read_plans.Statement.{statement}
+use Rattle.pool_plans.proofs.read_plans.Tie as tie
 
 abbrev Inv-loop : tie.InvT-loop
 Inv-loop file at m n pool₀ p₀ i₀ pool p i = (i ≤ n) × (length pool ≡ length pool₀) × Plans file at m i pool p

@@ -1,8 +1,8 @@
 use borrow.Author.Needs.{needs}
 use native.Mathlib.Omega.{arith}
 use lib.ListN.{length-set}
-use Rattle.pool_file.proofs.put_counts.Statement.{statement}
-use Rattle.pool_file.proofs.put_counts.Tie as tie
+use Rattle.pool_plans.proofs.put_counts.Statement.{statement}
+use Rattle.pool_plans.proofs.put_counts.Tie as tie
 
 mul-pool : tie.Need-mul-pool
 mul-pool c = search needs

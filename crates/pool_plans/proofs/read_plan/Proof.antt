@@ -1,9 +1,9 @@
 -- `read_plan`: the values, the constraint count and the constraints, each where its reader leaves off.
 use borrow.Author.Needs.{needs}
-use Rattle.pool_file.proofs.Numbers.{ends-of, broken-of}
-use Rattle.pool_file.proofs.Blocks.{block-none, block-no-count, block-short, block-good}
-use Rattle.pool_file.proofs.read_plan.Statement.{statement}
-use Rattle.pool_file.proofs.read_plan.Tie as tie
+use Rattle.pool_number.proofs.Numbers.{ends-of, broken-of}
+use Rattle.pool_plans.proofs.Blocks.{block-none, block-no-count, block-short, block-good}
+use Rattle.pool_plans.proofs.read_plan.Statement.{statement}
+use Rattle.pool_plans.proofs.read_plan.Tie as tie
 
 add-read-words : tie.Need-add-read-words
 add-read-words c = search needs

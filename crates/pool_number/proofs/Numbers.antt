@@ -10,10 +10,10 @@ use lib.ListN.{length, drop, length-drop}
 use lib.Seq.{drop-drop}
 use Rattle.model.specs.PoolFile.{Parsed, numberFrom, number}
 use Rattle.list_laws.proofs.Bools.{by-bool}
-use Rattle.pool_file.specs.declared.Read.{Read}
-use Rattle.pool_file.specs.declared.Read.the-variants.{Number, Broken}
-use Rattle.pool_file.specs.Reading.{read, asRead, numberAt, Ends, ReadIs}
-use Rattle.pool_file.proofs.Options.{by-option, none-some, some-same}
+use Rattle.pool_number.specs.declared.Read.{Read}
+use Rattle.pool_number.specs.declared.Read.the-variants.{Number, Broken}
+use Rattle.pool_number.specs.Reading.{read, asRead, numberAt, Ends, ReadIs}
+use Rattle.pool_number.proofs.Options.{by-option, none-some, some-same}
 
 -- some bytes, and at least one, are taken from the front
 record Front (bytes : List ℕ) (p : Parsed ℕ) : Type 0 where

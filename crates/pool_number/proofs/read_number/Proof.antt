@@ -6,12 +6,12 @@ use mathlib.Core.List.{List, [], _∷_}
 use Prim.Native.Nat.{ℕ, _+_, _*_, _%_, _^_, _-_, _<_, _≤_}
 use native.Mathlib.Omega.{arith}
 use lib.ListN.{length, drop, getD}
-use Rattle.pool_file.specs.declared.Read.the-variants.{Number, Broken}
+use Rattle.pool_number.specs.declared.Read.the-variants.{Number, Broken}
 use Rattle.model.specs.PoolFile.{numberFrom, number}
-use Rattle.pool_file.specs.Reading.{asRead}
-use Rattle.pool_file.proofs.Groups.{Taken, taken, wider, from-over, from-padded, from-zero, from-last, from-more, from-end, as-number}
-use Rattle.pool_file.proofs.read_number.Statement.{statement}
-use Rattle.pool_file.proofs.read_number.Tie as tie
+use Rattle.pool_number.specs.Reading.{asRead}
+use Rattle.pool_number.proofs.Groups.{Taken, taken, wider, from-over, from-padded, from-zero, from-last, from-more, from-end, as-number}
+use Rattle.pool_number.proofs.read_number.Statement.{statement}
+use Rattle.pool_number.proofs.read_number.Tie as tie
 
 abbrev Inv-loop : tie.InvT-loop
 Inv-loop bytes at n₀ p₀ k₀ n p k = (k ≤ 63) × ((k % 7 ≡ 0) × ((n < 2 ^ k) × (numberFrom k n (drop p bytes) ≡ number (drop at bytes))))
