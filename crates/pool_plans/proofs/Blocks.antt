@@ -226,15 +226,16 @@ module _ (file : List ℕ) (at m base : ℕ) (l : List ℕ) where
     pub block-no-count : number (drop p file) ≡ none → plan m (drop at file) ≡ none
     block-no-count f = plan-no-count m (drop at file) (first .values) (drop p file) (first .reads) f
 
-    module _ (c q : ℕ) (f : Ends file p c q) (o₂ : List ℕ) (r′ : End) (w′ : WordsIs (λ v. v) file q c 16 (base + 11) o₁ o₂ r′) where
-      pub block-short : r′ ≡ end.Broken → plan m (drop at file) ≡ none
-      block-short g = plan-short m (drop at file) (first .values) (drop p file) c (drop q file) (first .reads) (f .reads)
-          (subst (λ (x : End). WordsIs (λ v. v) file q c 16 (base + 11) o₁ o₂ x) g w′)
+    module _ (c q : ℕ) (f : Ends file p c q) (o₂ : List ℕ) (r′ : End) where
+      -- wherever the constraints were to stand
+      pub block-short : (place : ℕ) → WordsIs (λ v. v) file q c 16 place o₁ o₂ r′ → r′ ≡ end.Broken → plan m (drop at file) ≡ none
+      block-short place w′ g = plan-short m (drop at file) (first .values) (drop p file) c (drop q file) (first .reads) (f .reads)
+          (subst (λ (x : End). WordsIs (λ v. v) file q c 16 place o₁ o₂ x) g w′)
 
-      pub block-good : (next : ℕ) (o : List ℕ) → r′ ≡ end.At next → base + planWords ≤ length l
+      pub block-good : WordsIs (λ v. v) file q c 16 (base + 11) o₁ o₂ r′ → (next : ℕ) (o : List ℕ) → r′ ≡ end.At next → base + planWords ≤ length l
           → o ≡ set (set (set (set o₂ base 0) (base + 1) m) (base + 10) c) (base + 27) 0 → Block file at m base l o next
       unfolding block filled rows counted
-      block-good next o g room k =
+      block-good w′ next o g room k =
           let second = subst (λ (x : End). WordsIs (λ v. v) file q c 16 (base + 11) o₁ o₂ x) g w′ in
           let vs = first .values in
           let cs = second .values in

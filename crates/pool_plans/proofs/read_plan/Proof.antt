@@ -72,7 +72,7 @@ returns-3 c =
     let s = w .before .before .before .before in
     block-short (s .args .file .now) (s .args .at) (s .args .m) (s .args .base) (s .args .pool .now) _ _ (p .p .given .0 .0) (w .read-words .ensures) (p .p .given .1)
     (k .c .given .0 .0) (k .c .given .0 .1 .0)
-    (ends-of _ (p .p .given .0 .0) _ _ _ (n .read-number .ensures) (k .c .given .1)) _ _ (v .read-words2 .ensures) (c .enum-told3 .given .1)
+    (ends-of _ (p .p .given .0 .0) _ _ _ (n .read-number .ensures) (k .c .given .1)) _ _ _ (v .read-words2 .ensures) (c .enum-told3 .given .1)
 
 put-counts-requires : tie.Need-put-counts-requires
 put-counts-requires c κs = search needs
