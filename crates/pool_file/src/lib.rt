@@ -1,25 +1,16 @@
-// The pool file (document 01, "Pool file"): the reader of its numbers, and the parser that lays its plans out as words.
-use model::MAX_PLANS;
-use model::PLAN_WORDS;
+// The pool file (document 01, "Pool file"): its header, its direction marks and its plans.
+use pool_number::Read;
+use pool_number::read_number;
+use pool_plans::End;
+use pool_plans::read_plans;
+use pool_plans::read_words;
 ghost use mathlib.Core.Path.{_≡_};
-ghost use Prim.Native.Nat.{_+_, _*_, _<_, _≤_};
-ghost use lib.ListN.{length, set};
+ghost use Prim.Native.Nat.{_*_, _≤_};
+ghost use lib.ListN.{length};
 ghost use Rattle.model.specs.Plan.{planWords, maxValues};
 ghost use Rattle.model.specs.Refusal.{maxSize};
-ghost use Rattle.pool_file.specs.Reading.{numberAt};
-ghost use Rattle.pool_file.specs.Parsing.{WordsIs, MarksIs, capped, BlockIs, PlansIs, HeadingIs, PoolIs};
-
-// A number and the place after it, or bytes that break the form or end early.
-pub enum Read {
-    Number(u64, usize),
-    Broken,
-}
-
-// The place after what was read, or bytes that break the form or end early.
-pub enum End {
-    At(usize),
-    Broken,
-}
+ghost use Rattle.pool_plans.specs.Blocks.{WordsIs};
+ghost use Rattle.pool_file.specs.Parsing.{capped, HeadingIs, PoolIs};
 
 // The five numbers that a pool file begins with.
 pub struct Header {
@@ -43,63 +34,7 @@ pub enum Parsed {
 }
 
 // The longest file.
-pub const MAX_FILE: usize = 65536;
-
-fn wide(x: u8) -> u64
-    ensures { λ r. ⌜ r ≡ x ⌝ }
-{
-    x as u64
-}
-
-// The number that starts at a place: groups of seven bits, lowest first, top bit set on all but the last byte, shortest form, below 2^64.
-pub fn read_number(bytes: &[u8], at: usize) -> Read
-    ensures { λ r. ⌜ r ≡ numberAt (now (bytes .entry)) at ⌝ }
-{
-    let mut n: u64 = 0;
-    let mut p = at;
-    let mut k: u32 = 0;
-    while p < bytes.len() {
-        let b = wide(bytes[p]);
-        let low = b % 128;
-        if k == 63 {
-            if 1 < b {
-                return Read::Broken;
-            }
-        }
-        n += low << k;
-        p += 1;
-        if b < 128 {
-            if b == 0 {
-                if 0 < k {
-                    return Read::Broken;
-                }
-            }
-            return Read::Number(n, p);
-        }
-        k += 7;
-    }
-    Read::Broken
-}
-
-// Reads n numbers; the first keep of them are stored from base on.
-fn read_words(file: &[u8], at: usize, n: usize, keep: usize, pool: &mut [u64], base: usize) -> End
-    requires { ⌜ base + keep ≤ length (now pool) ⌝ }
-    ensures { λ r. ⌜ WordsIs (now (file .entry)) at n keep base (now (pool .entry)) (now (pool .exit)) r ⌝ }
-{
-    let mut p = at;
-    let mut i: usize = 0;
-    while i < n {
-        let Read::Number(v, next) = read_number(file, p) else {
-            return End::Broken;
-        };
-        if i < keep {
-            pool[base + i] = v;
-        }
-        p = next;
-        i += 1;
-    }
-    End::At(p)
-}
+const MAX_FILE: usize = 65536;
 
 // A mark as a byte: 0 and 1 as they are, 2 for every other.
 fn capped(v: u64) -> u8
@@ -111,7 +46,7 @@ fn capped(v: u64) -> u8
 // Reads n direction marks; the first 8 of them are stored at the front.
 fn read_marks(file: &[u8], at: usize, n: usize, directions: &mut [u8]) -> End
     requires { ⌜ maxValues ≤ length (now directions) ⌝ }
-    ensures { λ r. ⌜ MarksIs (now (file .entry)) at n (now (directions .entry)) (now (directions .exit)) r ⌝ }
+    ensures { λ r. ⌜ WordsIs capped (now (file .entry)) at n maxValues 0 (now (directions .entry)) (now (directions .exit)) r ⌝ }
 {
     let mut p = at;
     let mut i: usize = 0;
@@ -128,87 +63,22 @@ fn read_marks(file: &[u8], at: usize, n: usize, directions: &mut [u8]) -> End
     End::At(p)
 }
 
-// The words of a plan beside its values and constraints: its number, its row length and its two other counts.
-fn put_counts(pool: &mut [u64], base: usize, m: u64, c: u64)
-    requires { ⌜ base + planWords ≤ length (now pool) ⌝ }
-    ensures { λ _. ⌜ now (pool .exit) ≡ set (set (set (set (now (pool .entry)) base 0) (base + 1) m) (base + 10) c) (base + 27) 0 ⌝ }
-{
-    pool[base] = 0;
-    pool[base + 1] = m;
-    pool[base + 10] = c;
-    pool[base + 27] = 0;
-}
-
-// Reads a plan of m values into the block of words at base: its first 8 values and its first 16 constraints have room there.
-fn read_plan(file: &[u8], at: usize, m: usize, pool: &mut [u64], base: usize) -> End
-    requires { ⌜ base + planWords ≤ length (now pool) ⌝ }
-    ensures { λ r. ⌜ BlockIs (now (file .entry)) at m base (now (pool .entry)) (now (pool .exit)) r ⌝ }
-{
-    let End::At(p) = read_words(file, at, m, 8, pool, base + 2) else {
-        return End::Broken;
-    };
-    let Read::Number(c, q) = read_number(file, p) else {
-        return End::Broken;
-    };
-    let End::At(next) = read_words(file, q, c as usize, 16, pool, base + 11) else {
-        return End::Broken;
-    };
-    put_counts(pool, base, m as u64, c);
-    End::At(next)
-}
-
-// Where plan i is stored: in its block, and past a pool's last one anywhere, since such a pool is refused.
-fn block_of(i: usize) -> usize
-    ensures { λ r. ⌜ (r + planWords ≤ maxSize * planWords) × (i < maxSize → r ≡ i * planWords) ⌝ }
-{
-    if i < MAX_PLANS { i * PLAN_WORDS } else { 0 }
-}
-
-// Reads n plans of m values, each into its block. A count that is larger than the bytes left ends at the first plan that is not there.
-fn read_plans(file: &[u8], at: usize, m: usize, n: usize, pool: &mut [u64]) -> End
-    requires { ⌜ maxSize * planWords ≤ length (now pool) ⌝ }
-    ensures { λ r. ⌜ PlansIs (now (file .entry)) at m n (now (pool .exit)) r ⌝ }
-{
-    let mut p = at;
-    let mut i: usize = 0;
-    while i < n {
-        let base = block_of(i);
-        let End::At(next) = read_plan(file, p, m, pool, base) else {
-            return End::Broken;
-        };
-        p = next;
-        i += 1;
-    }
-    End::At(p)
-}
-
 // The five numbers that a pool file begins with.
 fn read_header(file: &[u8]) -> Heading
     ensures { λ r. ⌜ HeadingIs (now (file .entry)) r ⌝ }
 {
-    let Read::Number(m, a) = read_number(file, 0) else {
-        return Heading::Broken;
-    };
-    let Read::Number(divisions, b) = read_number(file, a) else {
-        return Heading::Broken;
-    };
-    let Read::Number(size, c) = read_number(file, b) else {
-        return Heading::Broken;
-    };
-    let Read::Number(count, d) = read_number(file, c) else {
-        return Heading::Broken;
-    };
-    let Read::Number(seed, e) = read_number(file, d) else {
+    let mut words: [u64; 5] = [0; 5];
+    let End::At(at) = read_words(file, 0, 5, 5, &mut words, 0) else {
         return Heading::Broken;
     };
     let header = Header {
-        m: m,
-        divisions: divisions,
-        size: size,
-        count: count,
-        seed: seed,
+        m: words[0],
+        divisions: words[1],
+        size: words[2],
+        count: words[3],
+        seed: words[4],
     };
-    Heading::Good(header, e)
+    Heading::Good(header, at)
 }
 
 // The whole file: its header, its first 8 direction marks, and each plan of a pool that is not too large in its block.

@@ -9,25 +9,24 @@ use native.Mathlib.Nat.{not-suc-le-zero, mul-le-mul-right, le-trans}
 use native.Mathlib.Omega.{arith}
 use borrow.Author.Tests.{lt-ltb, le-ltb, ltb-true, ltb-false, le-leb, lt-leb, leb-true, leb-false}
 use lib.Dec.{eqb, leb, ltb}
-use lib.Ieee.{Float, nan}
-use lib.ListN.{length, getD, take, replicate, length-map, List·getD-map, List·getD-eq-default}
+use lib.Ieee.{Float}
+use lib.ListN.{length, getD, take, replicate, length-map, List·getD-eq-default}
 use lib.Seq.{length-take-le, getD-take, take-all}
 use Rattle.model.specs.declared.Rng.{Rng}
-use Rattle.model.specs.declared.Direction.{Direction}
 use Rattle.model.specs.Lists.{listBelow, allBelow, allIn}
 use Rattle.model.specs.Real.{infinity}
 use Rattle.model.specs.Plan.{Plan, planOf, planAt, planCount, planWords, maxValues, maxConstraints}
-use Rattle.model.specs.Row.{directionOf, toMinimize, rowOf}
 use Rattle.model.specs.Association.{Request, objectives}
-use Rattle.model.specs.Kept.{selected}
 use Rattle.model.specs.PoolFile.{PoolFile, parse, noPlan, fileRequest}
-use Rattle.model.specs.Refusal.{maxSize, badDirections, badSize, badDivisions, badCount, badPool, goodPlan, goodIdeal, measurable}
+use Rattle.model.specs.Refusal.{Room, maxSize, badDirections, badDivisions, badPool, goodPlan, goodIdeal, noRoom, selectRefusal}
 use Rattle.model.specs.Calls.{wordRequest}
 use Rattle.list_laws.proofs.Bools.{by-bool, and-left, and-right}
-use Rattle.list_laws.proofs.Tests.{allBelow-same, allBelow-each}
+use Rattle.list_laws.proofs.Tests.{allBelow-same}
+use Rattle.demand3_laws.proofs.Accepted.{pool-plan}
 use Rattle.pool_file.specs.declared.Header.{Header}
-use Rattle.pool_file.specs.Parsing.{Pool, capped, roomed}
-use Rattle.pool_file.proofs.Blocks.{planOf-same}
+use Rattle.pool_plans.specs.Blocks.{roomed}
+use Rattle.pool_file.specs.Parsing.{Pool, capped}
+use Rattle.pool_plans.proofs.Blocks.{planOf-same}
 use Rattle.pool_laws.proofs.Shapes.{Shape, Whole, parse-whole}
 
 -- ---- marks
@@ -42,12 +41,6 @@ capped-good : (k : ℕ) → leb (capped k) 1 ≡ leb k 1
 capped-good k = by-bool (ltb k 2)
     (λ e. let h = ltb-true k 2 e in ap (λ (x : ℕ). leb x 1) (capped-low k (omega arith)))
     (λ e. let h = ltb-false k 2 e in ap (λ (x : ℕ). leb x 1) (capped-high k h) ∙ sym (lt-leb k 1 (omega arith)))
-
-capped-direction : (k : ℕ) → directionOf (capped k) ≡ directionOf k
-capped-direction zero = refl
-capped-direction (suc k) = by-bool (ltb (suc k) 2)
-    (λ e. let h = ltb-true (suc k) 2 e in ap directionOf (capped-low (suc k) (omega arith)))
-    (λ e. let h = ltb-false (suc k) 2 e in ap directionOf (capped-high (suc k) h))
 
 marks-good : (l : List ℕ) → allIn (λ k. leb k 1) (map capped l) ≡ allIn (λ k. leb k 1) l
 unfolding allIn
@@ -101,16 +94,15 @@ roomed-good m p h s = by-bool (leb (p .constraintCount) maxConstraints)
 -- a request of words and a request of a file: what applies to one applies to the other, and where 2 and 8 do not, they are one
 pub record Carried (w r : Request) : Type 0 where
   pub two : badDirections (w .marks) ≡ badDirections (r .marks)
-  pub three : badSize (w .size) ≡ badSize (r .size)
+  pub size : w .size ≡ r .size
   pub four : badDivisions (objectives w) (w .divisions) ≡ badDivisions (objectives r) (r .divisions)
-  pub seven : badCount (w .count) ≡ badCount (r .count)
+  pub count : w .count ≡ r .count
   pub eight : badPool w ≡ badPool r
-  pub rows : (p j : ℕ) → rowOf (w .marks) (w .plans p) j ≡ rowOf (r .marks) (r .plans p) j
-  pub good : (p : ℕ) → goodPlan (objectives w) (w .plans p) ≡ goodPlan (objectives r) (r .plans p)
   pub same : badDirections (r .marks) ≡ false → badPool r ≡ false → w ≡ r
 
-pub selects : (w r : Request) → Carried w r → badDirections (r .marks) ≡ false → badPool r ≡ false → selected w ≡ selected r
-selects w r c a b = ap selected (c .same a b)
+pub select-same : (w r : Request) → Carried w r → (room : Room) → selectRefusal w room ≡ selectRefusal r room
+unfolding selectRefusal noRoom
+select-same w r c room = rw (c .eight, c .four, c .two, c .size, c .count)
 
 abbrev asked : List ℕ → ℕ → ℕ → ℕ → (ℕ → Plan) → List Float → ℕ → Request
 asked marks divisions size count plans ideal state =
@@ -139,25 +131,12 @@ pool-same w r a b c d =
 
 -- where 8 does not apply, no plan has over 16 constraints
 pool-good : (r : Request) → badPool r ≡ false → (p : ℕ) → p < r .count → r .plans p .constraintCount ≤ maxConstraints
-unfolding badPool goodPlan
+unfolding goodPlan
 pool-good r h p l =
-    let a : allBelow (λ p. goodPlan (objectives r) (r .plans p)) (r .count) ≡ true = and-left _ (goodIdeal (objectives r) (r .ideal)) (passes _ h) in
-    let g = allBelow-each (λ p. goodPlan (objectives r) (r .plans p)) (r .count) a p l in
-    leb-true (r .plans p .constraintCount) maxConstraints (and-left (leb (r .plans p .constraintCount) maxConstraints) _ (and-right (eqb (r .plans p .rowLength) (objectives r)) _ g))
-  where
-    passes : (b : Bool) → not b ≡ false → b ≡ true
-    passes true e = refl
-    passes false e = absurd (true≢false e)
+    leb-true (r .plans p .constraintCount) maxConstraints
+    (and-left (leb (r .plans p .constraintCount) maxConstraints) _ (and-right (eqb (r .plans p .rowLength) (objectives r)) _ (pool-plan r h p l)))
 
 -- ---- the words and the file
-
--- a plan as it stands in its block, beside the file's
-pub record Held (m : ℕ) (block p : Plan) : Type 0 where
-  pub rowLength : block .rowLength ≡ m
-  pub row : block .row ≡ p .row
-  pub constraintCount : block .constraintCount ≡ p .constraintCount
-  pub constraints : block .constraints ≡ take maxConstraints (p .constraints)
-  pub settingCount : block .settingCount ≡ 0
 
 -- the request that the parser's words form
 abbrev pub stored : Header → List ℕ → List ℕ → Request
@@ -201,22 +180,8 @@ module _ (file : List ℕ) (h : Header) (directions pool : List ℕ) (w : Pool f
       let c = w .count in
       subst (λ (m : ℕ). Shape m (getD (f .plans) p noPlan)) (w .objectives) (whole .plans p (omega arith))
 
-  -- each plan of the pool has its row, its constraint count and its first 16 constraints in its block
-  pub held : (p : ℕ) → p < h .count → Held (h .m) (planAt pool p) (getD (w .form .plans) p noPlan)
-  held p l =
-      let e = w .plans small p l in
-      let s = shape p l in
-      let r = s .row in
-      record {
-        rowLength = ap (λ (q : Plan). q .rowLength) e ∙ s .rowLength;
-        row = ap (λ (q : Plan). q .row) e ∙ take-all 8 (getD (f .plans) p noPlan .row) (omega arith);
-        constraintCount = ap (λ (q : Plan). q .constraintCount) e;
-        constraints = ap (λ (q : Plan). q .constraints) e;
-        settingCount = ap (λ (q : Plan). q .settingCount) e;
-      }
-
   -- a plan with at most 16 constraints is stored as it is
-  pub plan-same : (p : ℕ) → p < h .count → getD (f .plans) p noPlan .constraintCount ≤ maxConstraints → planAt words p ≡ getD (f .plans) p noPlan
+  plan-same : (p : ℕ) → p < h .count → getD (f .plans) p noPlan .constraintCount ≤ maxConstraints → planAt words p ≡ getD (f .plans) p noPlan
   plan-same p l c = plan-in p l ∙ roomed-same (h .m) (getD (f .plans) p noPlan) few (shape p l) c
 
   -- in the pool or past it
@@ -224,19 +189,7 @@ module _ (file : List ℕ) (h : Header) (directions pool : List ℕ) (w : Pool f
     either : (p < h .count → C) → (h .count ≤ p → C) → C
     either a b = by-bool (ltb p (h .count)) (λ e. a (ltb-true p (h .count) e)) (λ e. b (ltb-false p (h .count) e))
 
-  pub row-same : (p j : ℕ) → rowOf (take (h .m) directions) (planAt words p) j ≡ rowOf (f .marks) (getD (f .plans) p noPlan) j
-  unfolding rowOf
-  row-same p j =
-      let r : planAt words p .row ≡ getD (f .plans) p noPlan .row = either p
-      (λ l. let s = shape p l .row in
-      ap (λ (q : Plan). q .row) (plan-in p l) ∙ take-all 8 (getD (f .plans) p noPlan .row) (omega arith))
-      (λ l. ap (λ (q : Plan). q .row) (plan-past p l)) in
-      let d : directionOf (getD (take (h .m) directions) j 0) ≡ directionOf (getD (f .marks) j 0) =
-      ap (λ (l : List ℕ). directionOf (getD l j 0)) marks ∙ ap directionOf (List·getD-map capped (f .marks) j 0) ∙ capped-direction (getD (f .marks) j 0) in
-      ap (λ (x : Direction). toMinimize x (getD (planAt words p .row) j nan)) d
-      ∙ ap (λ (l : List Float). toMinimize (directionOf (getD (f .marks) j 0)) (getD l j nan)) r
-
-  pub good-same : (p : ℕ) → goodPlan (h .m) (planAt words p) ≡ goodPlan (h .m) (getD (f .plans) p noPlan)
+  good-same : (p : ℕ) → goodPlan (h .m) (planAt words p) ≡ goodPlan (h .m) (getD (f .plans) p noPlan)
   good-same p = either p
       (λ l. ap (goodPlan (h .m)) (plan-in p l) ∙ roomed-good (h .m) (getD (f .plans) p noPlan) few (shape p l))
       (λ l. ap (goodPlan (h .m)) (plan-past p l))
@@ -260,12 +213,10 @@ module _ (file : List ℕ) (h : Header) (directions pool : List ℕ) (w : Pool f
       ∙ ap (λ (k : ℕ). goodPlan k (getD (f .plans) p noPlan)) (sym objectives-file) in
       record {
         two = ap badDirections marks ∙ directions-same (f .marks);
-        three = ap badSize (sym (w .size));
+        size = sym (w .size);
         four = ap (λ (k : ℕ). badDivisions k (h .divisions)) o ∙ ap (badDivisions (length (f .marks))) (sym (w .divisions));
-        seven = ap badCount n;
+        count = n;
         eight = pool-same (stored h directions pool) (fileRequest f) o n g i;
-        rows = row-same;
-        good = g;
         same = λ a b. request-same (stored h directions pool) (fileRequest f)
             (marks ∙ marks-same (f .marks) (directions-good (f .marks) a)) (sym (w .divisions)) (sym (w .size)) n
             (fun-ext (λ p. either p

@@ -1,17 +1,23 @@
 -- DEMAND 3 as `choose` promises it: the plans of a pool file in good form have as many values as there are objectives.
 use Prim.Native.Nat.{ℕ, _≤_}
-use mathlib.Core.Path.{_≡_, refl, subst}
+use mathlib.Core.Path.{_≡_, refl, sym, _∙_, subst}
 use mathlib.Core.List.{List, List·Memᴰ·head, List·Memᴰ·tail}
 use mathlib.Core.Option.{Option, none, some}
 use native.Mathlib.Omega.{arith}
-use Rattle.model.specs.Kept.{selected}
-use Rattle.model.specs.PoolFile.{PoolFile, parse, fileRequest}
-use Rattle.model.specs.Refusal.{fileRefusal, refusalOfParsed, chooseRefusal}
+use Rattle.model.specs.Kept.{Selected, selected}
+use Rattle.model.specs.PoolFile.{PoolFile, parse, fileRequest, listingText, fileText}
+use Rattle.model.specs.Refusal.{selectRefusal, fileRefusal, refusalOfParsed, chooseRefusal}
 use Rattle.model.specs.Demand3.{Demand3}
 use Rattle.demand3_laws.specs.Facts.{Accepted}
 use Rattle.demand3_laws.proofs.Accepted.{demand3}
 use Rattle.demand3_laws.proofs.Calls.{applies-not}
+use Rattle.nsga3_laws.proofs.Admitted.{admitted}
+use Rattle.pool_laws.specs.Choice.{roomy, orElse}
 use Rattle.pool_laws.proofs.Shapes.{Whole, parse-whole}
+use Rattle.pool_laws.proofs.Lengths.{Small}
+use Rattle.pool_laws.proofs.Printed.{selected-small}
+use Rattle.pool_laws.proofs.Refusals.{file-refusal}
+use Rattle.pool_laws.proofs.FromText.{text-tells, same-list}
 
 file-accepted : (f : PoolFile) (out : ℕ) → Whole f → fileRefusal f out ≡ none → Accepted (fileRequest f)
 unfolding fileRefusal
@@ -28,3 +34,37 @@ pub choose-demand3 : (bytes : List ℕ) (out : ℕ) → chooseRefusal bytes out 
 unfolding chooseRefusal
 choose-demand3 bytes out e f read enough =
     demand3 (fileRequest f) (file-accepted f out (parse-whole bytes f read) (subst (λ (o : Option PoolFile). refusalOfParsed o out ≡ none) read e)) enough
+
+-- ---- the list that is printed
+
+-- the numbers of what a file selects are small
+file-small : (f : PoolFile) (out : ℕ) → fileRefusal f out ≡ none → Small (f .count) (selected (fileRequest f))
+file-small f out e =
+    let a = admitted (fileRequest f) roomy (first-none (selectRefusal (fileRequest f) roomy) _ (sym (file-refusal f out) ∙ e)) in
+    selected-small (fileRequest f) (a .few) (a .fewPlans) (a .fewLines)
+  where
+    first-none : (a b : Option ℕ) → orElse a b ≡ none → a ≡ none
+    first-none none b h = refl
+    first-none (some n) b h = h
+
+-- THE TEXT DETERMINES THE LIST: whatever selection has the listing that is printed for a file has the file's kept list
+pub text-kept : (f : PoolFile) (out : ℕ) → Whole f → fileRefusal f out ≡ none → f .size ≤ f .count
+    → (n : ℕ) (s : Selected) → Small n s → listingText n s ≡ fileText f → s .kept ≡ selected (fileRequest f) .kept
+text-kept f out whole e enough n s small t =
+    let d = demand3 (fileRequest f) (file-accepted f out whole e) enough in
+    let told = text-tells (f .count) n (selected (fileRequest f)) s (file-small f out e) small (sym t) in
+    sym (same-list (f .count) (selected (fileRequest f) .kept) (s .kept) (d .distinct) (d .inPool) (told .size) (told .places))
+
+-- so two files with one text have one kept list
+pub one-list : (f g : PoolFile) (out room : ℕ) → Whole f → fileRefusal f out ≡ none → fileRefusal g room ≡ none → f .size ≤ f .count → fileText g ≡ fileText f
+    → selected (fileRequest g) .kept ≡ selected (fileRequest f) .kept
+one-list f g out room whole e h enough t = text-kept f out whole e enough (g .count) (selected (fileRequest g)) (file-small g room h) t
+
+-- and demand 3 holds of the list that is printed
+pub printed-demand3 : (bytes : List ℕ) (out : ℕ) → chooseRefusal bytes out ≡ none → (f : PoolFile) → parse bytes ≡ some f → f .size ≤ f .count
+    → (n : ℕ) (s : Selected) → Small n s → listingText n s ≡ fileText f → Demand3 (fileRequest f) (s .kept)
+unfolding chooseRefusal
+printed-demand3 bytes out e f read enough n s small t =
+    subst (λ (l : List ℕ). Demand3 (fileRequest f) l)
+    (sym (text-kept f out (parse-whole bytes f read) (subst (λ (o : Option PoolFile). refusalOfParsed o out ≡ none) read e) enough n s small t))
+    (choose-demand3 bytes out e f read enough)

@@ -14,6 +14,7 @@ use Rattle.model.specs.PoolFile.{ascii, digitsOf, decimal, lineText, placeOf, h
 use Rattle.model.specs.Refusal.{maxSize}
 use Rattle.model.specs.Calls.{maxText}
 use Rattle.list_laws.proofs.Bools.{by-bool}
+use Rattle.pool_laws.proofs.Decimals.{space, newline, dash}
 
 digits-few : (d n : ℕ) → n < 10 → length (digitsOf d n) ≤ 1
 unfolding digitsOf
@@ -32,25 +33,13 @@ pub decimal-four : (n : ℕ) → n < 10000 → length (decimal n) ≤ 4
 decimal-four n h =
     digits-more 20 n 3 (λ d. digits-more d (n / 10) 2 (λ d. digits-more d (n / 10 / 10) 1 (λ d. digits-few d (n / 10 / 10 / 10) (omega arith))))
 
-one-byte : length (ascii " ") ≡ 1
-unfolding ascii listBelow
-one-byte = refl
-
-newline-byte : length (ascii "\n") ≡ 1
-unfolding ascii listBelow
-newline-byte = refl
-
-dash-byte : length (ascii "-") ≡ 1
-unfolding ascii listBelow
-dash-byte = refl
-
 line-four : (l : ℕ) → (l ≤ maxSize) ⊎ (l ≡ noLine) → length (lineText l) ≤ 4
 unfolding lineText
 line-four l h = by-bool (eqb l noLine)
-    (λ e. rw e (omega (arith, dash-byte)))
+    (λ e. rw e (omega (arith, ap length dash)))
     (λ e. rw e (decimal-four l (⊎-elim (λ u. omega arith) (λ u. absurd (eqb-false l noLine e u)) h)))
 
-place-le : (kept : List ℕ) (p : ℕ) → placeOf kept p ≤ length kept
+pub place-le : (kept : List ℕ) (p : ℕ) → placeOf kept p ≤ length kept
 unfolding placeOf
 place-le kept p =
     let k = firstBelow (λ i. eqb (getD kept i 0) p) (length kept) in
@@ -82,7 +71,7 @@ plan-short count sel s p h =
     let b = decimal-four (getD (sel .fronts) p 0) (omega arith) in
     let c = line-four (getD (sel .lines) p 0) (s .lines p h) in
     let d = decimal-four (placeOf (sel .kept) p) (omega (arith, place-le (sel .kept) p)) in
-    simp length-append (omega (arith, one-byte, newline-byte))
+    simp length-append (omega (arith, ap length space, ap length newline))
 
 rows-short : (f : ℕ → List ℕ) (n : ℕ) → ((p : ℕ) → p < n → length (f p) ≤ 20) → length (joinBelow f n) ≤ n * 20
 unfolding joinBelow

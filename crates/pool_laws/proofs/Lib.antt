@@ -1,6 +1,17 @@
 pub mod Shortest
+pub mod Decimals
+pub mod Puts
+pub mod Places
 pub mod Lengths
+pub mod Listing
 pub mod Printed
+pub mod Listed
+pub mod FromText
 pub mod Shapes
 pub mod Carried
+pub mod Refusals
 pub mod Demand3
+pub mod Texts
+pub mod Words
+pub mod Crowded
+pub mod Files

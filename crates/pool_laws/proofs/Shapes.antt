@@ -12,8 +12,10 @@ use Rattle.model.specs.Real.{real}
 use Rattle.model.specs.Plan.{Plan, Setting}
 use Rattle.model.specs.PoolFile.{Parsed, Reader, PoolFile, number, many, plan, poolFile, parse, wholly, ifNoneLeft, maxFile, noPlan}
 use Rattle.list_laws.proofs.Bools.{by-bool}
-use Rattle.pool_file.specs.Reading.{read}
-use Rattle.pool_file.proofs.Options.{by-option, none-some, some-same, Parts, many-parts, many-length}
+use Rattle.pool_number.specs.Reading.{read}
+use Rattle.pool_file.specs.Parsing.{afterHeader}
+use Rattle.pool_file.proofs.Whole.{header-first}
+use Rattle.pool_number.proofs.Options.{by-option, none-some, some-same, Parts, many-parts, many-length}
 
 -- ---- each of many
 
@@ -68,27 +70,23 @@ pub record Whole (f : PoolFile) : Type 0 where
 whole-as : (f g : PoolFile) → f ≡ g → Whole f → Whole g
 whole-as f g e w = subst (λ (t : PoolFile). Whole t) e w
 
+after-whole : (m h size n seed : ℕ) (bytes : List ℕ) (p : Parsed PoolFile) → afterHeader m h size n seed bytes ≡ some p → Whole (p .value)
+unfolding afterHeader
+after-whole m h size n seed bytes p e = by-option (many m number bytes)
+    (λ z. none-some (rw z at e))
+    (λ k u. by-option (many n (plan m) (k .rest))
+    (λ z. none-some (rw (u, z) at e))
+    (λ l v. whole-as _ (p .value) (ap (λ (t : Parsed PoolFile). t .value) (some-same (rw (u, v) at e))) (record {
+      marks = many-length number m bytes (k .value) (k .rest) u;
+      count = many-length (plan m) n (k .rest) (l .value) (l .rest) v;
+      plans = many-each (plan m) (Shape m) (plan-shape m) noPlan n (k .rest) (l .value) (l .rest) v;
+    })))
+
 file-whole : (bytes : List ℕ) (p : Parsed PoolFile) → poolFile bytes ≡ some p → Whole (p .value)
-unfolding poolFile
-file-whole bytes p e = by-option (number bytes)
-    (λ n. none-some (rw n at e))
-    (λ a u. by-option (number (a .rest))
-    (λ n. none-some (rw (u, n) at e))
-    (λ b v. by-option (number (b .rest))
-    (λ n. none-some (rw (u, v, n) at e))
-    (λ c w. by-option (number (c .rest))
-    (λ n. none-some (rw (u, v, w, n) at e))
-    (λ d x. by-option (number (d .rest))
-    (λ n. none-some (rw (u, v, w, x, n) at e))
-    (λ s y. by-option (many (a .value) number (s .rest))
-    (λ n. none-some (rw (u, v, w, x, y, n) at e))
-    (λ k z. by-option (many (d .value) (plan (a .value)) (k .rest))
-    (λ n. none-some (rw (u, v, w, x, y, z, n) at e))
-    (λ l o. whole-as _ (p .value) (ap (λ (t : Parsed PoolFile). t .value) (some-same (rw (u, v, w, x, y, z, o) at e))) (record {
-      marks = many-length number (a .value) (s .rest) (k .value) (k .rest) z;
-      count = many-length (plan (a .value)) (d .value) (k .rest) (l .value) (l .rest) o;
-      plans = many-each (plan (a .value)) (Shape (a .value)) (plan-shape (a .value)) noPlan (d .value) (k .rest) (l .value) (l .rest) o;
-    }))))))))
+file-whole bytes p e = by-option (many 5 number bytes)
+    (λ z. none-some (rw z at (sym (header-first bytes) ∙ e)))
+    (λ l u. after-whole (getD (l .value) 0 0) (getD (l .value) 1 0) (getD (l .value) 2 0) (getD (l .value) 3 0) (getD (l .value) 4 0) (l .rest) p
+    (rw u at (sym (header-first bytes) ∙ e)))
 
 none-left : (l : List ℕ) (f g : PoolFile) → ifNoneLeft l f ≡ some g → f ≡ g
 none-left [] f g e = some-same e

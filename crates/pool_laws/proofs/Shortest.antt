@@ -13,8 +13,8 @@ use lib.Pow.{shr-lt, pow-add}
 use lib.ListN.{length, getD}
 use Rattle.model.specs.PoolFile.{Parsed, numberFrom, number, groupsOf, written}
 use Rattle.list_laws.proofs.Bools.{by-bool, and-left, and-right}
-use Rattle.pool_file.specs.Reading.{read}
-use Rattle.pool_file.proofs.Options.{none-some, some-same}
+use Rattle.pool_number.specs.Reading.{read}
+use Rattle.pool_number.proofs.Options.{none-some, some-same}
 
 -- how many bits g + 1 groups hold
 width : ℕ → ℕ

@@ -3,7 +3,7 @@ use Prim.Native.Nat.{_*_}
 use mathlib.Core.Path.{sym}
 use native.Mathlib.Omega.{arith}
 use lib.Seq.{length-take-le}
-use Rattle.pool_choice.proofs.Files.{broken, many-objectives, crowded-pool, chosen-words}
+use Rattle.pool_laws.proofs.Files.{broken, many-objectives, crowded-pool, chosen-words}
 use borrow.Author.Needs.{needs}
 use Rattle.pool_choice.proofs.choose.Statement.{statement}
 use Rattle.pool_choice.proofs.choose.Tie as tie

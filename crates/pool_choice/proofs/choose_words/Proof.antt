@@ -1,16 +1,59 @@
 -- `choose_words`: the selection's answer, and the listing of what it hands out
-use mathlib.Core.Path.{ap, sym, _∙_}
+use Prim.Native.Nat.{ℕ, _≤_}
+use mathlib.Core.Path.{_≡_, ap, sym, _∙_, subst}
 use mathlib.Core.List.{List}
 use lib.Ieee.{Float}
-use lib.ListN.{length}
+use lib.ListN.{length, take, replicate, length-replicate}
 use lib.Seq.{length-take-le}
 use native.Mathlib.Omega.{arith}
 use borrow.Author.Needs.{needs}
-use Rattle.model.specs.Calls.{wordRequest}
-use Rattle.pool_choice.specs.Choice.{listExit}
-use Rattle.pool_choice.proofs.Words.{ideal-start, refused-exit, through, limits, text-short, listed-exit}
+use Rattle.model.specs.declared.Outcome.the-variants as outcome
+use Rattle.model.specs.Real.{infinity}
+use Rattle.model.specs.Association.{Request}
+use Rattle.model.specs.PoolFile.{listingText}
+use Rattle.model.specs.Refusal.{maxSize}
+use Rattle.model.specs.Calls.{Lent, lent, roomOf, SelectExit, selectOf, wordRequest, maxText}
+use Rattle.pool_laws.specs.Text.{listed}
+use Rattle.pool_laws.specs.Choice.{roomy, textExit, listExit}
+use Rattle.pool_laws.proofs.Words.{ideal-start, refused-exit, through, limits, text-short, listed-exit}
 use Rattle.pool_choice.proofs.choose_words.Statement.{statement}
 use Rattle.pool_choice.proofs.choose_words.Tie as tie
+
+-- each list that is lent has 1,024 entries
+roomed : roomOf (lent (replicate 1024 0) (replicate 1024 0) (replicate 1024 0)) ≡ roomy
+roomed = rw (length-replicate {A = ℕ} 1024 0)
+
+-- a selection that went through: what its listing is made of
+record Went (r : Request) (n : ℕ) (kept fronts lines : List ℕ) : Type 0 where
+  pub few : n ≤ maxSize
+  pub fewPlans : r .count ≤ maxSize
+  pub short : length (listingText (r .count) (listed (take n kept) fronts lines)) ≤ maxText
+  pub exits : (out : List ℕ) (count : ℕ) → count ≡ r .count → textExit (listingText count (listed (take n kept) fronts lines)) out ≡ listExit r out
+
+went-of : (r : Request) (entry : Lent) (x : SelectExit) → x ≡ selectOf r entry → roomOf entry ≡ roomy → (n : ℕ) → x .answer .outcome ≡ outcome.Kept n
+    → Went r n (x .slices .kept) (x .slices .fronts) (x .slices .lines)
+went-of r entry x e room n h =
+    let w = limits r entry x e n h in
+    let t = through r entry x e n h in
+    record {
+      few = omega (arith, w .few, t .size);
+      fewPlans = w .fewPlans;
+      short = text-short r entry x e n h;
+      exits = listed-exit r entry x e n h room;
+    }
+
+went : (o : tie.After-outcome2) → let s = o .before .before .before .before .before .before in
+    let a = s .before .before .before .before .before .before .before .before .args in
+    Went (wordRequest (a .pool .now) (a .directions .now) (a .divisions) (a .size) (a .rng) (replicate (length (a .directions .now)) infinity)) (o .outcome2 .given .0 .0)
+    (s .nsga3-select .last .1 .1 .1 .1 .1 .1 .0) (s .nsga3-select .last .1 .1 .1 .1 .1 .1 .1 .0) (s .nsga3-select .last .1 .1 .1 .1 .1 .1 .1 .1 .0)
+went o =
+    let s = o .before .before .before .before .before .before in
+    let t = s .before .before .before .before .before .before .before .before in
+    let a = t .args in
+    subst (λ (i : List Float). Went (wordRequest (a .pool .now) (a .directions .now) (a .divisions) (a .size) (a .rng) i) (o .outcome2 .given .0 .0)
+    (s .nsga3-select .last .1 .1 .1 .1 .1 .1 .0) (s .nsga3-select .last .1 .1 .1 .1 .1 .1 .1 .0) (s .nsga3-select .last .1 .1 .1 .1 .1 .1 .1 .1 .0))
+    (ideal-start (length (a .directions .now)) (t .pre))
+    (went-of _ _ _ (s .nsga3-select .ensures .whole) roomed _ (o .outcome2 .given .1))
 
 array-borrow-prefix-ideal : tie.Need-array-borrow-prefix-ideal
 array-borrow-prefix-ideal c = search needs
@@ -40,20 +83,13 @@ plan-count-requires : tie.Need-plan-count-requires
 plan-count-requires c κs = search needs
 
 array-share-prefix-kept : tie.Need-array-share-prefix-kept
-array-share-prefix-kept c =
-    let o = c .before .before in
-    let s = o .before .before .before .before .before .before in
-    let w = limits _ _ _ (s .nsga3-select .ensures .whole) _ (o .outcome2 .given .1) in
-    let t = through _ _ _ (s .nsga3-select .ensures .whole) _ (o .outcome2 .given .1) in
-    omega (arith, w .few, t .size)
+array-share-prefix-kept c = omega (arith, went (c .before .before) .few)
 
 slice-aggregate-put-listing : tie.Need-slice-aggregate-put-listing
 slice-aggregate-put-listing c =
     let o = c .before .before .before in
     let s = o .before .before .before .before .before .before in
-    let w = limits _ _ _ (s .nsga3-select .ensures .whole) _ (o .outcome2 .given .1) in
-    let t = through _ _ _ (s .nsga3-select .ensures .whole) _ (o .outcome2 .given .1) in
-    sym (length-take-le _ (s .nsga3-select .last .1 .1 .1 .1 .1 .1 .0) (omega (arith, w .few, t .size, s .nsga3-select .kept .1 .1 .1 .1 .1 .1 .0)))
+    sym (length-take-le _ (s .nsga3-select .last .1 .1 .1 .1 .1 .1 .0) (omega (arith, went o .few, s .nsga3-select .kept .1 .1 .1 .1 .1 .1 .0)))
 
 slice-aggregate-put-listing-2 : tie.Need-slice-aggregate-put-listing-2
 slice-aggregate-put-listing-2 c = search needs
@@ -66,13 +102,13 @@ put-listing-requires c κs =
     let p = c .before .before .before .before in
     let o = p .before .before in
     let s = o .before .before .before .before .before .before in
-    let w = limits _ _ _ (s .nsga3-select .ensures .whole) _ (o .outcome2 .given .1) in (
+    let w = went o in (
       (
         omega (arith, w .fewPlans, p .plan-count .ensures),
         omega (arith, w .fewPlans, p .plan-count .ensures, s .nsga3-select .kept .1 .1 .1 .1 .1 .1 .1 .0),
         omega (arith, w .fewPlans, p .plan-count .ensures, s .nsga3-select .kept .1 .1 .1 .1 .1 .1 .1 .1 .0),
       ),
-      rw (p .plan-count .ensures) (text-short _ _ _ (s .nsga3-select .ensures .whole) _ (o .outcome2 .given .1)),
+      rw (p .plan-count .ensures) (w .short),
     )
 
 returns : tie.Need-returns
@@ -80,7 +116,7 @@ returns c =
     let o = c .before in
     let s = o .before .before .before .before .before .before in
     let a = s .before .before .before .before .before .before .before .before .args in
-    refused-exit _ _ _ (s .nsga3-select .ensures .whole) (omega arith) (omega arith) (omega arith) _ (a .out .now) (o .outcome .given .1)
+    refused-exit _ _ _ (s .nsga3-select .ensures .whole) roomed _ (a .out .now) (o .outcome .given .1)
     ∙ ap (λ (i : List Float). listExit (wordRequest (a .pool .now) (a .directions .now) (a .divisions) (a .size) (a .rng) i) (a .out .now))
     (ideal-start (length (a .directions .now)) (s .before .before .before .before .before .before .before .before .pre))
 
@@ -92,12 +128,8 @@ returns-2 c =
     let l = c .before .before in
     let p = l .before .before .before .before .before in
     let o = p .before .before in
-    let s = o .before .before .before .before .before .before in
-    let a = s .before .before .before .before .before .before .before .before .args in
-    l .put-listing .ensures
-    ∙ listed-exit _ _ _ (s .nsga3-select .ensures .whole) _ (o .outcome2 .given .1) (a .out .now) _ (p .plan-count .ensures)
-    ∙ ap (λ (i : List Float). listExit (wordRequest (a .pool .now) (a .directions .now) (a .divisions) (a .size) (a .rng) i) (a .out .now))
-    (ideal-start (length (a .directions .now)) (s .before .before .before .before .before .before .before .before .pre))
+    let a = o .before .before .before .before .before .before .before .before .before .before .before .before .before .before .args in
+    l .put-listing .ensures ∙ went o .exits (a .out .now) (p .plan-count .result) (p .plan-count .ensures)
 
 pub choose-words-spec : {M : Type 1} → statement M
 choose-words-spec =

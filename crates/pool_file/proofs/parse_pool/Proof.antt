@@ -1,7 +1,7 @@
 -- `parse_pool`: header, marks, plans and end, each where the one before it leaves off.
 use native.Mathlib.Omega.{arith}
 use borrow.Author.Needs.{needs}
-use Rattle.pool_file.proofs.Whole.{parse-long, parse-no-header, parse-no-marks, parse-no-plans, parse-runs-on, parse-good}
+use Rattle.pool_file.proofs.Whole.{Begun, Marked, parse-long, parse-no-header, parse-begun, parse-no-marks, parse-marked, parse-no-plans, parse-runs-on, parse-good}
 use Rattle.pool_file.proofs.parse_pool.Statement.{statement}
 use Rattle.pool_file.proofs.parse_pool.Tie as tie
 
@@ -20,10 +20,11 @@ enum-told c = search needs
 returns-2 : tie.Need-returns-2
 returns-2 c =
     let r = c .before .before in
-    let e = r .before in
-    let s = e .before .before .before .before in
-    let file = s .args .file .now in
-    parse-no-header file (e .if1 .left) _ (r .read-header .ensures) (c .enum-told .given .1)
+    parse-no-header _ (r .before .if1 .left) _ (r .read-header .ensures) (c .enum-told .given .1)
+
+-- the header is read
+begun : (c : tie.After-header) → Begun (c .before .before .before .before .before .before .before .args .file .now) (c .header .given .0 .0) (c .header .given .0 .1 .0)
+begun c = let r = c .before .before in parse-begun _ (r .before .if1 .left) _ (r .read-header .ensures) _ _ (c .header .given .1)
 
 read-marks-requires : tie.Need-read-marks-requires
 read-marks-requires c κs = search needs
@@ -41,12 +42,15 @@ returns-3 : tie.Need-returns-3
 returns-3 c =
     let w = c .before .before .before .before in
     let h = w .before .before .before in
-    let r = h .before .before in
-    let e = r .before in
-    let s = e .before .before .before .before in
-    let file = s .args .file .now in
-    parse-no-marks file (e .if1 .left) _ (r .read-header .ensures) (h .header .given .0 .0) (h .header .given .0 .1 .0) (h .header .given .1)
-    (s .args .directions .now) _ _ (w .read-marks .ensures) (c .enum-told2 .given .1)
+    parse-no-marks _ _ _ (begun h) _ _ _ (w .read-marks .ensures) (c .enum-told2 .given .1)
+
+-- .. and the marks
+marked : (c : tie.After-next) → let h = c .before .before .before .before .before .before .before in
+    let a = h .before .before .before .before .before .before .before .args in
+    Marked (a .file .now) (h .header .given .0 .0) (a .directions .now) (c .before .before .before .before .read-marks .last .1 .1 .1 .0) (c .next .given .0 .0)
+marked c =
+    let w = c .before .before .before .before in
+    parse-marked _ _ _ (begun (w .before .before .before)) _ _ _ (w .read-marks .ensures) _ (c .next .given .1)
 
 read-plans-requires : tie.Need-read-plans-requires
 read-plans-requires c κs = search needs
@@ -66,16 +70,7 @@ same-length-3 c = search needs
 returns-4 : tie.Need-returns-4
 returns-4 c =
     let y = c .before .before .before .before in
-    let x = y .before .before .before in
-    let w = x .before .before .before .before in
-    let h = w .before .before .before in
-    let r = h .before .before in
-    let e = r .before in
-    let s = e .before .before .before .before in
-    let file = s .args .file .now in
-    parse-no-plans file (e .if1 .left) _ (r .read-header .ensures) (h .header .given .0 .0) (h .header .given .0 .1 .0) (h .header .given .1)
-    (s .args .directions .now) _ _ (w .read-marks .ensures) (x .next .given .0 .0) (x .next .given .1)
-    _ _ (y .read-plans .ensures) (c .enum-told3 .given .1)
+    parse-no-plans _ _ _ _ _ (marked (y .before .before .before)) _ _ (y .read-plans .ensures) (c .enum-told3 .given .1)
 
 same-length-4 : tie.Need-same-length-4
 same-length-4 c = search needs
@@ -87,16 +82,7 @@ returns-5 : tie.Need-returns-5
 returns-5 c =
     let z = c .before .before in
     let y = z .before .before .before .before in
-    let x = y .before .before .before in
-    let w = x .before .before .before .before in
-    let h = w .before .before .before in
-    let r = h .before .before in
-    let e = r .before in
-    let s = e .before .before .before .before in
-    let file = s .args .file .now in
-    parse-runs-on file (e .if1 .left) _ (r .read-header .ensures) (h .header .given .0 .0) (h .header .given .0 .1 .0) (h .header .given .1)
-    (s .args .directions .now) _ _ (w .read-marks .ensures) (x .next .given .0 .0) (x .next .given .1)
-    _ _ (y .read-plans .ensures) (z .end .given .0 .0) (z .end .given .1) (c .if2 .taken)
+    parse-runs-on _ _ _ _ _ (marked (y .before .before .before)) _ _ (y .read-plans .ensures) _ (z .end .given .1) (c .if2 .taken)
 
 same-length-6 : tie.Need-same-length-6
 same-length-6 c = search needs
@@ -109,15 +95,8 @@ returns-6 c =
     let z = c .before .before in
     let y = z .before .before .before .before in
     let x = y .before .before .before in
-    let w = x .before .before .before .before in
-    let h = w .before .before .before in
-    let r = h .before .before in
-    let e = r .before in
-    let s = e .before .before .before .before in
-    let file = s .args .file .now in
-    parse-good file (e .if1 .left) _ (r .read-header .ensures) (h .header .given .0 .0) (h .header .given .0 .1 .0) (h .header .given .1)
-    (s .args .directions .now) _ _ (w .read-marks .ensures) (x .next .given .0 .0) (x .next .given .1)
-    _ _ (y .read-plans .ensures) (z .end .given .0 .0) (z .end .given .1) (s .pre .0) (c .if2 .left)
+    let s = x .before .before .before .before .before .before .before .before .before .before .before .before .before .before in
+    parse-good _ _ _ _ _ (marked x) _ _ (y .read-plans .ensures) _ (z .end .given .1) (s .pre .0) (c .if2 .left)
 
 pub parse-pool-spec : {M : Type 1} → statement M
 parse-pool-spec =

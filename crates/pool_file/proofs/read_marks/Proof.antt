@@ -5,20 +5,21 @@ use mathlib.Core.Logic.{⊎-elim}
 use native.Mathlib.Omega.{arith}
 use borrow.Author.Needs.{needs}
 use lib.ListN.{length, length-set, set}
-use Rattle.pool_file.specs.Parsing.{Marks}
-use Rattle.pool_file.proofs.Numbers.{ends-of, broken-of}
-use Rattle.pool_file.proofs.Storing.{marks-none, marks-kept, marks-past, marks-stop}
+use Rattle.pool_plans.specs.Blocks.{Words}
+use Rattle.pool_file.specs.Parsing.{capped}
+use Rattle.pool_number.proofs.Numbers.{ends-of, broken-of}
+use Rattle.pool_plans.proofs.Storing.{words-none, words-kept, words-past, words-stop}
 use Rattle.pool_file.proofs.read_marks.Statement.{statement}
 use Rattle.pool_file.proofs.read_marks.Tie as tie
 
 abbrev Inv-loop : tie.InvT-loop
-Inv-loop file at n directions₀ p₀ i₀ directions p i = (i ≤ n) × (length directions ≡ length directions₀) × Marks file at i directions₀ directions p
+Inv-loop file at n directions₀ p₀ i₀ directions p i = (i ≤ n) × (length directions ≡ length directions₀) × Words capped file at i 8 0 directions₀ directions p
 
 abbrev μ-loop : tie.MeasureT-loop
 μ-loop file at n directions₀ p₀ i₀ directions p i = n - i
 
 loop-holds : tie.Need-loop-holds Inv-loop μ-loop
-loop-holds c = (omega arith, refl, marks-none _ _ _)
+loop-holds c = (omega arith, refl, words-none _ _ _ _ _ _)
 
 read-number-requires : tie.Need-read-number-requires Inv-loop μ-loop
 read-number-requires c κs = search needs
@@ -36,7 +37,7 @@ returns : tie.Need-returns Inv-loop μ-loop
 returns c =
     let r = c .before .before in
     let l = r .before .before .loop in
-    marks-stop _ _ _ (l .i) _ (l .p) (l .directions) (r .before .loop-test .taken) (broken-of _ (l .p) _ (r .read-number .ensures) (c .enum-told .given .1)) (l .inv .2)
+    words-stop _ _ _ _ _ _ (l .i) _ (l .p) (l .directions) (r .before .loop-test .taken) (broken-of _ (l .p) _ (r .read-number .ensures) (c .enum-told .given .1)) (l .inv .2)
 
 capped-requires : tie.Need-capped-requires Inv-loop μ-loop
 capped-requires c κs = search needs
@@ -57,8 +58,8 @@ loop-again c =
     let l = r .before .before .loop in
     let e = ends-of _ (l .p) _ (v .v .given .0 .0) (v .v .given .0 .1 .0) (r .read-number .ensures) (v .v .given .1) in
     ⊎-elim
-    (λ w. rw (w .2, w .1 .ensures) (omega arith, length-set (l .directions) (l .i) _ ∙ l .inv .1, marks-kept _ _ _ (l .i) (l .p) _ _ (l .directions) e (l .inv .2) (w .0 .taken)))
-    (λ w. rw (w .1) (omega arith, l .inv .1, marks-past _ _ _ (l .i) (l .p) _ _ (l .directions) e (l .inv .2) (w .0 .left)))
+    (λ w. rw (w .2, w .1 .ensures) (omega arith, length-set (l .directions) (l .i) _ ∙ l .inv .1, words-kept _ _ _ _ _ _ (l .i) (l .p) _ _ (l .directions) e (l .inv .2) (w .0 .taken) _ (omega arith)))
+    (λ w. rw (w .1) (omega arith, l .inv .1, words-past _ _ _ _ _ _ (l .i) (l .p) _ _ (l .directions) e (l .inv .2) (w .0 .left)))
     (c .if1 .came)
 
 same-length-2 : tie.Need-same-length-2 Inv-loop μ-loop

@@ -1,48 +1,44 @@
 -- `put_plan`: four fields, one after the other.
-use mathlib.Core.List.{_++_}
 use borrow.Author.Needs.{needs}
-use Rattle.model.specs.PoolFile.{ascii, decimal, lineText}
-use Rattle.pool_text.specs.Text.{fieldsText}
-use Rattle.pool_text.proofs.Puts.{room-1, room-2, room-3, room-4, put-four}
+use lib.ListN.{length-append}
+use Rattle.pool_laws.specs.Text.{fields, fieldsText}
+use Rattle.pool_laws.proofs.Puts.{room-1, room-2, room-3, room-4, put-four}
 use Rattle.pool_text.proofs.put_plan.Statement.{statement}
 use Rattle.pool_text.proofs.put_plan.Tie as tie
 
-put-field-requires : tie.Need-put-field-requires
+put-number-requires : tie.Need-put-number-requires
 unfolding fieldsText
-put-field-requires c κs =
+put-number-requires c κs =
     let s = c .before .before in
     let a = s .args in
-    room-1 (a .out .now) (a .at) (decimal (a .p) ++ ascii " ") (decimal (a .front) ++ ascii " ") (lineText (a .line) ++ ascii " ") (decimal (a .place) ++ ascii "\n") (s .pre)
+    room-1 (a .out .now) (a .at) (fields (a .p) (a .front) (a .line) (a .place)) (s .pre)
 
-put-field-requires-2 : tie.Need-put-field-requires-2
+put-number-requires-2 : tie.Need-put-number-requires-2
 unfolding fieldsText
-put-field-requires-2 c κs =
+put-number-requires-2 c κs =
     let w = c .before .before .before in
     let s = w .before .before .before in
     let a = s .args in
-    room-2 _ (a .at) (decimal (a .p) ++ ascii " ") (decimal (a .front) ++ ascii " ") (lineText (a .line) ++ ascii " ") (decimal (a .place) ++ ascii "\n") (s .pre)
-    _ _ (w .put-field .ensures)
+    room-2 _ (a .at) (fields (a .p) (a .front) (a .line) (a .place)) (s .pre) _ _ (w .put-number .ensures)
 
-put-line-field-requires : tie.Need-put-line-field-requires
+put-line-requires : tie.Need-put-line-requires
 unfolding fieldsText
-put-line-field-requires c κs =
+put-line-requires c κs =
     let x = c .before .before .before in
     let w = x .before .before .before .before in
     let s = w .before .before .before in
     let a = s .args in
-    room-3 _ (a .at) (decimal (a .p) ++ ascii " ") (decimal (a .front) ++ ascii " ") (lineText (a .line) ++ ascii " ") (decimal (a .place) ++ ascii "\n") (s .pre)
-    _ _ (w .put-field .ensures) _ _ (x .put-field2 .ensures)
+    room-3 _ (a .at) (fields (a .p) (a .front) (a .line) (a .place)) (s .pre) _ _ (w .put-number .ensures) _ _ (x .put-number2 .ensures)
 
-put-last-requires : tie.Need-put-last-requires
+put-number-requires-3 : tie.Need-put-number-requires-3
 unfolding fieldsText
-put-last-requires c κs =
+put-number-requires-3 c κs =
     let y = c .before .before .before in
     let x = y .before .before .before .before in
     let w = x .before .before .before .before in
     let s = w .before .before .before in
     let a = s .args in
-    room-4 _ (a .at) (decimal (a .p) ++ ascii " ") (decimal (a .front) ++ ascii " ") (lineText (a .line) ++ ascii " ") (decimal (a .place) ++ ascii "\n") (s .pre)
-    _ _ (w .put-field .ensures) _ _ (x .put-field2 .ensures) _ _ (y .put-line-field .ensures)
+    simp length-append (simp length-append at (room-4 _ (a .at) (fields (a .p) (a .front) (a .line) (a .place)) (s .pre) _ _ (w .put-number .ensures) _ _ (x .put-number2 .ensures) _ _ (y .put-line .ensures)))
 
 same-length : tie.Need-same-length
 same-length c = search needs
@@ -56,16 +52,16 @@ returns c =
     let w = x .before .before .before .before in
     let s = w .before .before .before in
     let a = s .args in
-    put-four _ (a .at) (decimal (a .p) ++ ascii " ") (decimal (a .front) ++ ascii " ") (lineText (a .line) ++ ascii " ") (decimal (a .place) ++ ascii "\n") (s .pre)
-    _ _ (w .put-field .ensures) _ _ (x .put-field2 .ensures) _ _ (y .put-line-field .ensures) _ _ (z .put-last .ensures)
+    put-four _ (a .at) (fields (a .p) (a .front) (a .line) (a .place)) (s .pre) _ _ (w .put-number .ensures) _ _ (x .put-number2 .ensures) _ _ (y .put-line .ensures)
+    _ _ (z .put-number3 .ensures)
 
 pub put-plan-spec : {M : Type 1} → statement M
 put-plan-spec =
     tie.close
     (tie.spec
-    put-field-requires
-    put-field-requires-2
-    put-line-field-requires
-    put-last-requires
+    put-number-requires
+    put-number-requires-2
+    put-line-requires
+    put-number-requires-3
     same-length
     returns)

@@ -1,0 +1,95 @@
+-- From the parser's answer to the promise of `choose`.
+use Prim.Native.Nat.{ℕ, _*_, _≤_, _<_}
+use mathlib.Core.Path.{_≡_, refl, ap, sym, _∙_, subst}
+use mathlib.Core.Bool.{true, and-false}
+use mathlib.Core.List.{List, map, List·Memᴰ·head, List·Memᴰ·tail}
+use mathlib.Core.Option.{Option, none, some}
+use native.Mathlib.Omega.{arith}
+use borrow.Author.Tests.{lt-leb}
+use lib.Dec.{leb}
+use lib.ListN.{length, take, replicate, length-map}
+use lib.Seq.{length-take-le}
+use Rattle.model.specs.declared.Chosen.the-variants as chosen
+use Rattle.model.specs.Real.{infinity}
+use Rattle.model.specs.Plan.{planWords, maxValues}
+use Rattle.model.specs.Association.{Request}
+use Rattle.model.specs.PoolFile.{PoolFile, parse, fileRequest, fileText}
+use Rattle.model.specs.Refusal.{maxSize, badDirections, selectRefusal, refusalOfParsed, fileRefusal, chooseRefusal}
+use Rattle.model.specs.Calls.{ChooseExit, chooseBy, textOf, chooseOf, Chooses, wordRequest}
+use Rattle.demand3_laws.proofs.Calls.{applies-not}
+use Rattle.pool_file.specs.declared.Header.{Header}
+use Rattle.pool_file.specs.declared.Parsed.{Parsed as Answer}
+use Rattle.pool_file.specs.declared.Parsed.the-variants as answer
+use Rattle.pool_file.specs.Parsing.{PoolIs, Pool, capped}
+use Rattle.pool_number.proofs.Options.{by-option}
+use Rattle.pool_laws.specs.Choice.{exit, textRefusal, requestText, roomy, orElse, listExit, Crowded}
+use Rattle.pool_laws.proofs.Carried.{Carried, select-same, carried, stored, directions-same}
+use Rattle.pool_laws.proofs.Refusals.{file-refusal}
+use Rattle.pool_laws.proofs.Crowded.{directions-first}
+use Rattle.pool_laws.proofs.Demand3.{choose-demand3}
+
+promise : (file out : List ℕ) (x : ChooseExit) → x ≡ chooseOf file out → Chooses file out x
+promise file out x e = record { whole = e; demand3 = choose-demand3 file (length out) }
+
+-- ---- a file in no form
+
+pub broken : (file directions pool : List ℕ) (a : Answer) → PoolIs file directions pool a → a ≡ answer.Broken → (out : List ℕ)
+    → Chooses file out (exit (chosen.Refused 1) out)
+unfolding chooseOf chooseRefusal
+broken file directions pool a p e out =
+    let n : parse file ≡ none = subst (λ (t : Answer). PoolIs file directions pool t) e p in
+    promise file out _ (sym (ap (λ (o : Option PoolFile). chooseBy (refusalOfParsed o (length out)) (textOf o) out) n))
+
+-- ---- the words' request and the file's
+
+alike-exit : (w r : Request) → Carried w r → (out : List ℕ) → listExit w out ≡ listExit r out
+unfolding selectRefusal
+alike-exit w r c out = by-option (selectRefusal r roomy)
+    (λ o. ap (λ (t : Request). listExit t out)
+    (c .same (applies-not (List·Memᴰ·head refl) o) (applies-not (List·Memᴰ·tail (List·Memᴰ·tail (List·Memᴰ·tail (List·Memᴰ·tail (List·Memᴰ·head refl))))) o)))
+    (λ n o. by-number w n (select-same w r c roomy ∙ o) ∙ sym (by-number r n o))
+  where
+    by-number : (q : Request) (n : ℕ) → selectRefusal q roomy ≡ some n → listExit q out ≡ exit (chosen.Refused n) out
+    by-number q n o = ap (λ (t : Option ℕ). chooseBy (orElse t (textRefusal (requestText q) (length out))) (requestText q) out) o
+
+-- ---- a file in good form
+
+module _ (file directions pool : List ℕ) (a : Answer) (p : PoolIs file directions pool a) (h : Header) (e : a ≡ answer.Good h) (out : List ℕ) where
+  held : Pool file h directions pool
+  held = subst (λ (t : Answer). PoolIs file directions pool t) e p
+
+  -- what its request answers
+  file-exit : (x : ChooseExit) → x ≡ chooseBy (fileRefusal (held .form) (length out)) (fileText (held .form)) out → Chooses file out x
+  unfolding chooseOf chooseRefusal
+  file-exit x g =
+      promise file out x (g ∙ sym (ap (λ (o : Option PoolFile). chooseBy (refusalOfParsed o (length out)) (textOf o) out) (held .parsed)))
+
+  refused : (n : ℕ) → fileRefusal (held .form) (length out) ≡ some n → Chooses file out (exit (chosen.Refused n) out)
+  refused n g = file-exit _ (sym (ap (λ (o : Option ℕ). chooseBy o (fileText (held .form)) out) g))
+
+  many-marks : 8 < h .m → badDirections (held .form .marks) ≡ true
+  unfolding badDirections
+  many-marks g = rw (lt-leb (length (held .form .marks)) 8 (omega (arith, held .markCount)), and-false (leb 1 (length (held .form .marks))))
+
+  pub many-objectives : 8 < h .m → Chooses file out (exit (chosen.Refused 2) out)
+  many-objectives g = refused 2 (directions-first (held .form) (length out) (many-marks g))
+
+  module _ (few : h .m ≤ maxValues) where
+    marks : take (h .m) directions ≡ map capped (held .form .marks)
+    marks = held .marks few
+
+    pub crowded-pool : maxSize < h .count → (n : ℕ) → Crowded (take (h .m) directions) (h .divisions) (h .size) n → Chooses file out (exit (chosen.Refused n) out)
+    crowded-pool g n c =
+        refused n (c (held .form) (length out) (sym (ap badDirections marks ∙ directions-same (held .form .marks)))
+        (sym (ap length marks ∙ length-map (held .form .marks) capped)) (held .divisions) (held .size) (omega (arith, held .count)))
+
+    pub chosen-words : h .count ≤ maxSize → maxSize * planWords ≤ length pool → h .m ≤ length directions → (x : ChooseExit)
+        → x ≡ listExit (wordRequest (take (h .count * planWords) pool) (take (h .m) directions) (h .divisions) (h .size) (record { s = h .seed })
+        (replicate (length (take (h .m) directions)) infinity)) out
+        → Chooses file out x
+    chosen-words small room within x g =
+        file-exit x (g
+        ∙ ap (λ (k : ℕ). listExit (wordRequest (take (h .count * planWords) pool) (take (h .m) directions) (h .divisions) (h .size) (record { s = h .seed }) (replicate k infinity)) out)
+        (length-take-le (h .m) directions within)
+        ∙ alike-exit (stored h directions pool) (fileRequest (held .form)) (carried file h directions pool held few small room) out
+        ∙ sym (ap (λ (o : Option ℕ). chooseBy o (fileText (held .form)) out) (file-refusal (held .form) (length out))))

@@ -1,0 +1,225 @@
+-- WHAT THE PRINTED TEXT TELLS: the plan count, the kept list's length, and each plan's front, line and place of first keeping. So where no plan is kept
+-- twice it tells the kept list, and `Demand3` of `choose` speaks of the list that is printed. What a padded list repeats it does not tell.
+use Prim.Native.Nat.{ℕ, zero, suc, _+_, _*_, _-_, _/_, _%_, _≤_, _<_}
+use mathlib.Core.Path.{_≡_, refl, ap, sym, _∙_, subst}
+use mathlib.Core.Bool.{true, false}
+use mathlib.Core.Logic.{_⊎_, ⊎-elim}
+use mathlib.Core.List.{List, [], _∷_, _++_, append-assoc, append-nil}
+use native.Mathlib.Nat.{not-suc-le-zero}
+use native.Mathlib.Omega.{arith}
+use borrow.Author.Tests.{lt-ltb, ltb-true, eq-eqb, ne-eqb, eqb-true, eqb-false}
+use lib.Dec.{eqb, ltb}
+use lib.ListN.{length, getD}
+use lib.Seq.{ext-getD}
+use Rattle.model.specs.Lists.{listBelow, joinBelow, firstBelow, In, Distinct}
+use Rattle.model.specs.Kept.{Selected, noLine}
+use Rattle.model.specs.PoolFile.{ascii, digitsOf, decimal, lineText, placeOf, headerText, planText, listingText}
+use Rattle.model.specs.Refusal.{maxSize}
+use Rattle.list_laws.proofs.Bools.{by-bool}
+use Rattle.list_laws.proofs.First.{firstBelow-at, firstBelow-passes}
+use Rattle.list_laws.proofs.Members.{getD-in}
+use Rattle.niching.proofs.Places.{different-places}
+use Rattle.pool_laws.specs.Text.{listed}
+use Rattle.pool_laws.proofs.Lengths.{Small, place-le}
+use Rattle.pool_laws.proofs.Listing.{header-text}
+
+-- ---- words, each ended by a space or a newline
+
+-- every byte is past the space
+abbrev Visible : List ℕ → Type 0
+Visible [] = Unit {0}
+Visible (b ∷ l) = (32 < b) × Visible l
+
+visible-append : (s t : List ℕ) → Visible s → Visible t → Visible (s ++ t)
+visible-append [] t v w = w
+visible-append (b ∷ s) t v w = (v .0, visible-append s t (v .1) w)
+
+-- two texts that begin with a word each: the words are one, and what follows is
+record Cut (v w s t : List ℕ) : Type 0 where
+  pub word : v ≡ w
+  pub rest : s ≡ t
+
+cut : (v w : List ℕ) (e : ℕ) (s t : List ℕ) → e ≤ 32 → Visible v → Visible w → v ++ (e ∷ s) ≡ w ++ (e ∷ t) → Cut v w s t
+cut [] [] e s t h x y q = record { word = refl; rest = cc }
+cut [] (c ∷ w) e s t h x y q = let z : e ≡ c = cc in absurd (omega (arith, y .0))
+cut (b ∷ v) [] e s t h x y q = let z : b ≡ e = cc in absurd (omega (arith, x .0))
+cut (b ∷ v) (c ∷ w) e s t h x y q =
+    let f : b ≡ c = cc in
+    let g : v ++ (e ∷ s) ≡ w ++ (e ∷ t) = cc in
+    let r = cut v w e s t h (x .1) (y .1) g in
+    record { word = ap (λ (l : List ℕ). b ∷ l) (r .word) ∙ ap (λ (k : ℕ). k ∷ w) f; rest = r .rest }
+
+-- ---- a number in decimal is read back
+
+abbrev valueFrom : ℕ → List ℕ → ℕ
+valueFrom n [] = n
+valueFrom n (b ∷ l) = valueFrom (n * 10 + (b - 48)) l
+
+value-snoc : (l : List ℕ) (n b : ℕ) → valueFrom n (l ++ (b ∷ [])) ≡ valueFrom n l * 10 + (b - 48)
+value-snoc [] n b = refl
+value-snoc (c ∷ l) n b = value-snoc l (n * 10 + (c - 48)) b
+
+-- the numbers of so many digits
+abbrev limit : ℕ → ℕ
+limit zero = 1
+limit (suc d) = limit d * 10
+
+digits-value : (d n : ℕ) → n < limit d → valueFrom 0 (digitsOf d n) ≡ n
+unfolding digitsOf
+digits-value zero n h = omega arith
+digits-value (suc d) n h = by-bool (ltb n 10)
+    (λ e. rw e (omega arith))
+    (λ e. rw e (value-snoc (digitsOf d (n / 10)) 0 (48 + n % 10) ∙ omega (arith, digits-value d (n / 10) (omega arith))))
+
+digits-visible : (d n : ℕ) → Visible (digitsOf d n)
+unfolding digitsOf
+digits-visible zero n = tt
+digits-visible (suc d) n = by-bool (ltb n 10)
+    (λ e. rw e (omega arith, tt))
+    (λ e. rw e (visible-append (digitsOf d (n / 10)) ((48 + n % 10) ∷ []) (digits-visible d (n / 10)) (omega arith, tt)))
+
+decimal-same : (n m : ℕ) → n < 10000 → m < 10000 → decimal n ≡ decimal m → n ≡ m
+decimal-same n m h g e = sym (digits-value 20 n (omega arith)) ∙ ap (valueFrom 0) e ∙ digits-value 20 m (omega arith)
+
+numbers : (n m e : ℕ) (s t : List ℕ) → e ≤ 32 → decimal n ++ (e ∷ s) ≡ decimal m ++ (e ∷ t) → Cut (decimal n) (decimal m) s t
+numbers n m e s t h q = cut (decimal n) (decimal m) e s t h (digits-visible 20 n) (digits-visible 20 m) q
+
+-- ---- a line's number or `-`
+
+line-visible : (l : ℕ) → Visible (lineText l)
+unfolding lineText ascii listBelow
+line-visible l = by-bool (eqb l noLine) (λ e. rw e (omega arith, tt)) (λ e. rw e (digits-visible 20 l))
+
+-- no number is written as the dash: it would be read back as 0, which is written otherwise
+dash-not : (n : ℕ) → n < 10000 → ascii "-" ≡ decimal n → ⊥
+unfolding ascii listBelow digitsOf
+dash-not n h e =
+    let z : 0 ≡ n = ap (valueFrom 0) e ∙ digits-value 20 n (omega arith) in
+    let d : _≡_ {A = List ℕ} (45 ∷ []) (48 ∷ []) = e ∙ ap decimal (sym z) in
+    let c : _≡_ {A = ℕ} 45 48 = cc in
+    omega arith
+
+line-same : (l m : ℕ) → (l ≤ maxSize) ⊎ (l ≡ noLine) → (m ≤ maxSize) ⊎ (m ≡ noLine) → lineText l ≡ lineText m → l ≡ m
+unfolding lineText
+line-same l m h g e = by-bool (eqb l noLine)
+    (λ u. by-bool (eqb m noLine)
+    (λ v. eqb-true l noLine u ∙ sym (eqb-true m noLine v))
+    (λ v. absurd (dash-not m (below m g v) (rw (u, v) at e))))
+    (λ u. by-bool (eqb m noLine)
+    (λ v. absurd (dash-not l (below l h u) (sym (rw (u, v) at e))))
+    (λ v. decimal-same l m (below l h u) (below m g v) (rw (u, v) at e)))
+  where
+    below : (k : ℕ) → (k ≤ maxSize) ⊎ (k ≡ noLine) → eqb k noLine ≡ false → k < 10000
+    below k s f = ⊎-elim (λ a. omega arith) (λ a. absurd (eqb-false k noLine f a)) s
+
+-- ---- a plan's line
+
+-- what two lines of a plan that are one text have in common
+record Line (a b : Selected) (p : ℕ) : Type 0 where
+  pub front : getD (a .fronts) p 0 ≡ getD (b .fronts) p 0
+  pub line : getD (a .lines) p 0 ≡ getD (b .lines) p 0
+  pub place : placeOf (a .kept) p ≡ placeOf (b .kept) p
+
+-- a line as its words, before what follows it
+plan-words : (a : Selected) (p : ℕ) (s : List ℕ) → planText a p ++ s
+    ≡ decimal p ++ (32 ∷ (decimal (getD (a .fronts) p 0) ++ (32 ∷ (lineText (getD (a .lines) p 0) ++ (32 ∷ (decimal (placeOf (a .kept) p) ++ (10 ∷ s)))))))
+unfolding planText ascii listBelow
+plan-words a p s = simp append-assoc
+
+line-told : (n m : ℕ) (a b : Selected) → Small n a → Small m b → (p : ℕ) → p < n → p < m → (s t : List ℕ) → planText a p ++ s ≡ planText b p ++ t → Line a b p × (s ≡ t)
+line-told n m a b x y p h g s t e =
+    let w = numbers p p 32 _ _ (omega arith) (sym (plan-words a p s) ∙ e ∙ plan-words b p t) in
+    let f = numbers (getD (a .fronts) p 0) (getD (b .fronts) p 0) 32 _ _ (omega arith) (w .rest) in
+    let l = cut (lineText (getD (a .lines) p 0)) (lineText (getD (b .lines) p 0)) 32 _ _ (omega arith) (line-visible (getD (a .lines) p 0)) (line-visible (getD (b .lines) p 0)) (f .rest) in
+    let k = numbers (placeOf (a .kept) p) (placeOf (b .kept) p) 10 _ _ (omega arith) (l .rest) in (
+      record {
+        front = decimal-same _ _ (omega (arith, x .fronts p h)) (omega (arith, y .fronts p g)) (f .word);
+        line = line-same _ _ (x .lines p h) (y .lines p g) (l .word);
+        place = decimal-same _ _ (omega (arith, place-le (a .kept) p, x .kept)) (omega (arith, place-le (b .kept) p, y .kept)) (k .word);
+      },
+      k .rest,
+    )
+
+-- ---- the lines of all plans
+
+-- joined texts, the first before the others
+join-first : (f : ℕ → List ℕ) (n : ℕ) → joinBelow f (suc n) ≡ f 0 ++ joinBelow (λ p. f (suc p)) n
+unfolding joinBelow
+join-first f zero = sym (append-nil (f 0))
+join-first f (suc n) = ap (λ (l : List ℕ). l ++ f (suc n)) (join-first f n) ∙ append-assoc (f 0) (joinBelow (λ p. f (suc p)) n) (f (suc n))
+
+-- where each text tells something and where it ends, the joined texts tell it of all
+each : (n : ℕ) (f g : ℕ → List ℕ) (Told : ℕ → Type 0) → ((p : ℕ) → p < n → (s t : List ℕ) → f p ++ s ≡ g p ++ t → Told p × (s ≡ t))
+    → joinBelow f n ≡ joinBelow g n → (p : ℕ) → p < n → Told p
+each zero f g Told c e p h = absurd (not-suc-le-zero h)
+each (suc n) f g Told c e zero h = c 0 (omega arith) _ _ (sym (join-first f n) ∙ e ∙ join-first g n) .0
+each (suc n) f g Told c e (suc p) h =
+    each n (λ i. f (suc i)) (λ i. g (suc i)) (λ i. Told (suc i)) (λ i u. c (suc i) (omega arith))
+    (c 0 (omega arith) _ _ (sym (join-first f n) ∙ e ∙ join-first g n) .1) p (omega arith)
+
+-- ---- the listing
+
+-- what two listings that are one text have in common
+pub record Told (n m : ℕ) (a b : Selected) : Type 0 where
+  pub count : n ≡ m
+  pub size : length (a .kept) ≡ length (b .kept)
+  pub fronts : (p : ℕ) → p < n → getD (a .fronts) p 0 ≡ getD (b .fronts) p 0
+  pub lines : (p : ℕ) → p < n → getD (a .lines) p 0 ≡ getD (b .lines) p 0
+  pub places : (p : ℕ) → p < n → placeOf (a .kept) p ≡ placeOf (b .kept) p
+
+-- a listing as the header's words and the lines after them
+listing-words : (n : ℕ) (a : Selected) → listingText n a
+    ≡ (112 ∷ 108 ∷ 97 ∷ 110 ∷ 115 ∷ 32 ∷ []) ++ (decimal n ++ (32 ∷ ((107 ∷ 101 ∷ 112 ∷ 116 ∷ 32 ∷ []) ++ (decimal (length (a .kept)) ++ (10 ∷ joinBelow (planText a) n)))))
+unfolding listingText
+listing-words n a = rw header-text (simp append-assoc)
+
+pub text-tells : (n m : ℕ) (a b : Selected) → Small n a → Small m b → listingText n a ≡ listingText m b → Told n m a b
+text-tells n m a b x y e =
+    let c = numbers n m 32 _ _ (omega arith) (plans (sym (listing-words n a) ∙ e ∙ listing-words m b)) in
+    let k = numbers (length (a .kept)) (length (b .kept)) 10 _ _ (omega arith) (kept (c .rest)) in
+    let o : n ≡ m = decimal-same n m (omega (arith, x .plans)) (omega (arith, y .plans)) (c .word) in
+    let l = each n (planText a) (planText b) (Line a b) (λ p h s t v. line-told n m a b x y p h (omega arith) s t v) (k .rest ∙ ap (joinBelow (planText b)) (sym o)) in
+    record {
+      count = o;
+      size = decimal-same _ _ (omega (arith, x .kept)) (omega (arith, y .kept)) (k .word);
+      fronts = λ p h. l p h .front;
+      lines = λ p h. l p h .line;
+      places = λ p h. l p h .place;
+    }
+  where
+    plans : {s t : List ℕ} → (112 ∷ 108 ∷ 97 ∷ 110 ∷ 115 ∷ 32 ∷ []) ++ s ≡ (112 ∷ 108 ∷ 97 ∷ 110 ∷ 115 ∷ 32 ∷ []) ++ t → s ≡ t
+    plans e = cc
+
+    kept : {s t : List ℕ} → (107 ∷ 101 ∷ 112 ∷ 116 ∷ 32 ∷ []) ++ s ≡ (107 ∷ 101 ∷ 112 ∷ 116 ∷ 32 ∷ []) ++ t → s ≡ t
+    kept e = cc
+
+-- ---- the kept list
+
+-- a plan's place is where it is kept, if it is kept once; and a plan is kept at its place
+place-once : (l : List ℕ) → Distinct l → (i : ℕ) → i < length l → placeOf l (getD l i 0) ≡ suc i
+unfolding placeOf
+place-once l d i h =
+    let k = firstBelow-at (λ j. eqb (getD l j 0) (getD l i 0)) (length l) i h (eq-eqb (getD l i 0) (getD l i 0) refl)
+    (λ t u. ne-eqb (getD l t 0) (getD l i 0) (λ e. let z = different-places l d t i (omega arith) h e in omega arith)) in
+    rw (k, lt-ltb i (length l) h)
+
+kept-there : (l : List ℕ) (p i : ℕ) → placeOf l p ≡ suc i → getD l i 0 ≡ p
+unfolding placeOf
+kept-there l p i e =
+    let k = firstBelow (λ j. eqb (getD l j 0) p) (length l) in
+    by-bool (ltb k (length l))
+    (λ u. let z : suc k ≡ suc i = rw u at e in
+    let w : k ≡ i = omega arith in
+    eqb-true (getD l i 0) p (subst (λ (j : ℕ). eqb (getD l j 0) p ≡ true) w (firstBelow-passes (λ j. eqb (getD l j 0) p) (length l) (ltb-true k (length l) u))))
+    (λ u. let z : 0 ≡ suc i = rw u at e in absurd (omega arith))
+
+-- a list of different plans of the pool is told by their places
+pub same-list : (n : ℕ) (l k : List ℕ) → Distinct l → ((p : ℕ) → In p l → p < n) → length l ≡ length k
+    → ((p : ℕ) → p < n → placeOf l p ≡ placeOf k p) → l ≡ k
+same-list n l k d inside e f =
+    ext-getD 0 l k e (λ i h. sym (kept-there k (getD l i 0) i (sym (f (getD l i 0) (inside _ (getD-in l i h))) ∙ place-once l d i h)))
+
+-- a padded list is not told: whether the third of two plans' three places has plan 0 or plan 1, the text is the same
+pub padding-hidden : (fronts lines : List ℕ) → listingText 2 (listed (0 ∷ 1 ∷ 0 ∷ []) fronts lines) ≡ listingText 2 (listed (0 ∷ 1 ∷ 1 ∷ []) fronts lines)
+unfolding listingText joinBelow planText placeOf firstBelow
+padding-hidden fronts lines = refl

@@ -1,0 +1,76 @@
+-- The listing as the code puts it together.
+use Prim.Native.Nat.{ℕ, zero, suc, _+_, _≤_, _<_}
+use mathlib.Core.Path.{_≡_, refl, ap, sym, _∙_}
+use mathlib.Core.Logic.{⊎-elim}
+use mathlib.Core.List.{List, [], _∷_, _++_, append-assoc}
+use native.Mathlib.Nat.{not-suc-le-zero, eq-or-lt-of-le}
+use native.Mathlib.Omega.{arith}
+use lib.ListN.{length, getD, length-append}
+use Rattle.model.specs.Lists.{listBelow, joinBelow}
+use Rattle.model.specs.PoolFile.{ascii, decimal, lineText, headerText, planText, placeOf, listingText, refusedText}
+use Rattle.list_laws.proofs.Built.{joinBelow-same}
+use Rattle.pool_laws.specs.Text.{Put, joined, ended, headings, listed, fieldsText, fieldsOf}
+use Rattle.pool_laws.proofs.Puts.{room-first, room-rest, put-as, put-then}
+
+-- ---- the texts of the header and of a refusal
+
+pub header-text : (count kept : ℕ) → headerText count kept ≡ joined (headings count kept)
+unfolding headerText ascii listBelow
+header-text count kept = sym (simp append-assoc)
+
+pub refused-text : (n : ℕ) → refusedText n ≡ (114 ∷ 101 ∷ 102 ∷ 117 ∷ 115 ∷ 101 ∷ 100 ∷ 32 ∷ []) ++ ended (decimal n) 10
+unfolding refusedText ascii listBelow
+refused-text n = refl
+
+-- ---- the lines
+
+-- a line that is still to come has room
+pub join-room : (f : ℕ → List ℕ) (p n : ℕ) → p < n → length (joinBelow f p) + length (f p) ≤ length (joinBelow f n)
+unfolding joinBelow
+join-room f p zero h = absurd (not-suc-le-zero h)
+join-room f p (suc n) h =
+    let g : p ≤ n = omega arith in
+    let l = length-append (joinBelow f n) (f n) in
+    ⊎-elim
+    (λ e. let u : length (joinBelow f p) ≡ length (joinBelow f n) = ap (λ (k : ℕ). length (joinBelow f k)) e in
+    let v : length (f p) ≡ length (f n) = ap (λ (k : ℕ). length (f k)) e in omega arith)
+    (λ m. omega (arith, join-room f p n m))
+    (eq-or-lt-of-le g)
+
+fields-plan : (kept fronts lines : List ℕ) (p place : ℕ) → place ≡ placeOf kept p
+    → planText (listed kept fronts lines) p ≡ fieldsText p (getD fronts p 0) (getD lines p 0) place
+unfolding planText fieldsText ascii listBelow
+fields-plan kept fronts lines p place e = rw e (sym (simp append-assoc))
+
+pub listing-text : (count : ℕ) (kept fronts lines places : List ℕ) → ((p : ℕ) → p < count → getD places p 0 ≡ placeOf kept p)
+    → listingText count (listed kept fronts lines) ≡ headerText count (length kept) ++ joinBelow (fieldsOf fronts lines places) count
+unfolding listingText
+listing-text count kept fronts lines places h =
+    ap (λ (l : List ℕ). headerText count (length kept) ++ l)
+    (joinBelow-same (planText (listed kept fronts lines)) (fieldsOf fronts lines places) count
+    (λ p l. fields-plan kept fronts lines p (getD places p 0) (h p l)))
+
+-- ---- the header and then the lines
+
+module _ (count : ℕ) (kept fronts lines places : List ℕ) (right : (p : ℕ) → p < count → getD places p 0 ≡ placeOf kept p) (o₀ : List ℕ)
+    (room : length (listingText count (listed kept fronts lines)) ≤ length o₀) where
+  abbrev header : List ℕ
+  header = headerText count (length kept)
+
+  abbrev rows : List ℕ
+  rows = joinBelow (fieldsOf fronts lines places) count
+
+  whole : 0 + length (header ++ rows) ≤ length o₀
+  whole = omega (arith, ap length (listing-text count kept fronts lines places right))
+
+  pub header-room : 0 + length header ≤ length o₀
+  header-room = room-first 0 (length o₀) header rows whole
+
+  module _ (o₁ : List ℕ) (r₁ : ℕ) (p₁ : Put o₀ 0 header o₁ r₁) where
+    pub rows-room : r₁ + length rows ≤ length o₁
+    rows-room = room-rest o₀ o₁ 0 r₁ header rows whole p₁
+
+    pub listing-put : (o₂ : List ℕ) (r₂ : ℕ) → Put o₁ r₁ rows o₂ r₂ → Put o₀ 0 (listingText count (listed kept fronts lines)) o₂ r₂
+    listing-put o₂ r₂ p₂ =
+        put-as o₀ o₂ 0 r₂ (header ++ rows) _ (sym (listing-text count kept fronts lines places right))
+        (put-then o₀ o₁ o₂ 0 r₁ r₂ header rows p₁ p₂)

@@ -1,0 +1,84 @@
+-- Laws of texts put one after the other.
+use Prim.Native.Nat.{ℕ, _+_, _≤_, _<_}
+use mathlib.Core.Path.{_≡_, refl, ap, sym, _∙_}
+use mathlib.Core.List.{List, [], _∷_, _++_}
+use native.Mathlib.Nat.{add-zero, zero-add}
+use native.Mathlib.Numerals.{add-one}
+use native.Mathlib.Omega.{arith}
+use lib.ListN.{length, getD, take, drop, set, length-append}
+use lib.Seq.{sets, sets-eq, length-sets, take-suc, take-length, length-take-le}
+use Rattle.model.specs.Lists.{over}
+use Rattle.list_laws.proofs.Runs.{sets-append, sets-snoc}
+use Rattle.pool_laws.specs.Text.{Put, Four, joined}
+
+pub put-nothing : (o : List ℕ) (at : ℕ) → Put o at [] o at
+put-nothing o at = record { stored = refl; ends = omega arith }
+
+pub put-then : (o₀ o₁ o₂ : List ℕ) (at r₁ r₂ : ℕ) (a b : List ℕ) → Put o₀ at a o₁ r₁ → Put o₁ r₁ b o₂ r₂ → Put o₀ at (a ++ b) o₂ r₂
+put-then o₀ o₁ o₂ at r₁ r₂ a b p q = record {
+  stored =
+      q .stored ∙ ap (λ (l : List ℕ). sets l r₁ b) (p .stored) ∙ ap (λ (k : ℕ). sets (sets o₀ at a) k b) (p .ends)
+      ∙ sym (sets-append o₀ at a b);
+  ends = omega (arith, p .ends, q .ends, length-append a b);
+}
+
+pub put-length : (o₀ o₁ : List ℕ) (at r : ℕ) (a : List ℕ) → Put o₀ at a o₁ r → length o₁ ≡ length o₀
+put-length o₀ o₁ at r a p = ap length (p .stored) ∙ length-sets o₀ at a
+
+-- room for a whole text is room for its first part, and then for the rest
+pub room-first : (at n : ℕ) (a b : List ℕ) → at + length (a ++ b) ≤ n → at + length a ≤ n
+room-first at n a b h = omega (arith, length-append a b)
+
+pub room-rest : (o₀ o₁ : List ℕ) (at r : ℕ) (a b : List ℕ) → at + length (a ++ b) ≤ length o₀ → Put o₀ at a o₁ r → r + length b ≤ length o₁
+room-rest o₀ o₁ at r a b h p = omega (arith, length-append a b, p .ends, put-length o₀ o₁ at r a p)
+
+-- the same text by another name
+pub put-as : (o₀ o₁ : List ℕ) (at r : ℕ) (a b : List ℕ) → a ≡ b → Put o₀ at a o₁ r → Put o₀ at b o₁ r
+put-as o₀ o₁ at r a b e p = record { stored = p .stored ∙ ap (λ (l : List ℕ). sets o₀ at l) e; ends = p .ends ∙ ap (λ (l : List ℕ). at + length l) e }
+
+-- a text put byte by byte: one more, and all
+pub put-more : (o₀ o₁ text : List ℕ) (at i : ℕ) → i < length text → Put o₀ at (take i text) o₁ (at + i)
+    → Put o₀ at (take (i + 1) text) (set o₁ (at + i) (getD text i 0)) (at + (i + 1))
+put-more o₀ o₁ text at i h p =
+    let t : take (i + 1) text ≡ take i text ++ (getD text i 0 ∷ []) = rw add-one (take-suc text i 0 h) in
+    let n = length-take-le i text (omega arith) in
+    record {
+      stored =
+          ap (λ (l : List ℕ). set l (at + i) (getD text i 0)) (p .stored) ∙ sets-snoc o₀ at (at + i) (take i text) (getD text i 0) (p .ends)
+          ∙ ap (λ (l : List ℕ). sets o₀ at l) (sym t);
+      ends = omega (arith, length-take-le (i + 1) text (omega arith));
+    }
+
+-- at the front: what lies past the text is as it was
+pub put-over : (o₀ o₁ : List ℕ) (r : ℕ) (a : List ℕ) → length a ≤ length o₀ → Put o₀ 0 a o₁ r → o₁ ≡ over a o₀
+put-over o₀ o₁ r a h p =
+    p .stored ∙ sets-eq a o₀ 0 (omega arith) ∙ ap (λ (k : ℕ). a ++ drop k o₀) (zero-add (length a))
+
+-- ---- four texts, one after the other
+
+module _ (o₀ : List ℕ) (at : ℕ) (t : Four) (room : at + length (joined t) ≤ length o₀) where
+  pub room-1 : at + length (t .first) ≤ length o₀
+  room-1 = room-first at (length o₀) (t .first) (t .second ++ (t .third ++ t .fourth)) room
+
+  module _ (o₁ : List ℕ) (r₁ : ℕ) (p₁ : Put o₀ at (t .first) o₁ r₁) where
+    left-1 : r₁ + length (t .second ++ (t .third ++ t .fourth)) ≤ length o₁
+    left-1 = room-rest o₀ o₁ at r₁ (t .first) (t .second ++ (t .third ++ t .fourth)) room p₁
+
+    pub room-2 : r₁ + length (t .second) ≤ length o₁
+    room-2 = room-first r₁ (length o₁) (t .second) (t .third ++ t .fourth) left-1
+
+    module _ (o₂ : List ℕ) (r₂ : ℕ) (p₂ : Put o₁ r₁ (t .second) o₂ r₂) where
+      left-2 : r₂ + length (t .third ++ t .fourth) ≤ length o₂
+      left-2 = room-rest o₁ o₂ r₁ r₂ (t .second) (t .third ++ t .fourth) left-1 p₂
+
+      pub room-3 : r₂ + length (t .third) ≤ length o₂
+      room-3 = room-first r₂ (length o₂) (t .third) (t .fourth) left-2
+
+      module _ (o₃ : List ℕ) (r₃ : ℕ) (p₃ : Put o₂ r₂ (t .third) o₃ r₃) where
+        pub room-4 : r₃ + length (t .fourth) ≤ length o₃
+        room-4 = room-rest o₂ o₃ r₂ r₃ (t .third) (t .fourth) left-2 p₃
+
+        pub put-four : (o₄ : List ℕ) (r₄ : ℕ) → Put o₃ r₃ (t .fourth) o₄ r₄ → Put o₀ at (joined t) o₄ r₄
+        put-four o₄ r₄ p₄ =
+            put-then o₀ o₁ o₄ at r₁ r₄ (t .first) (t .second ++ (t .third ++ t .fourth)) p₁
+            (put-then o₁ o₂ o₄ r₁ r₂ r₄ (t .second) (t .third ++ t .fourth) p₂ (put-then o₂ o₃ o₄ r₂ r₃ r₄ (t .third) (t .fourth) p₃ p₄))

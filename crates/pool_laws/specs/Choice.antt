@@ -1,0 +1,48 @@
+-- What `choose` answers and writes, for a request of words or of a file.
+use Prim.Native.Nat.{ℕ, _<_}
+use mathlib.Core.Path.{_≡_}
+use mathlib.Core.Bool.{cond}
+use mathlib.Core.List.{List}
+use mathlib.Core.Option.{Option, none, some}
+use lib.Dec.{ltb}
+use lib.ListN.{length}
+use Rattle.model.specs.declared.Chosen.{Chosen}
+use Rattle.model.specs.Association.{Request}
+use Rattle.model.specs.Kept.{selected}
+use Rattle.model.specs.PoolFile.{PoolFile, listingText}
+use Rattle.model.specs.Refusal.{Room, maxSize, badDirections, selectRefusal, fileRefusal}
+use Rattle.model.specs.Calls.{ChooseExit, chooseBy}
+
+abbrev pub exit : Chosen → List ℕ → ChooseExit
+exit r out = record { answer = r; out = out }
+
+-- a text, where there is room for it
+abbrev pub textRefusal : List ℕ → ℕ → Option ℕ
+textRefusal text out = cond (ltb out (length text)) (some 10) none
+
+abbrev pub textExit : List ℕ → List ℕ → ChooseExit
+textExit text out = chooseBy (textRefusal text (length out)) text out
+
+-- the listing of what a request selects
+abbrev pub requestText : Request → List ℕ
+requestText r = listingText (r .count) (selected r)
+
+-- room for every list that a selection hands out
+abbrev pub roomy : Room
+roomy = record { kept = maxSize; fronts = maxSize; lines = maxSize }
+
+abbrev pub orElse : Option ℕ → Option ℕ → Option ℕ
+orElse none o = o
+orElse (some n) o = some n
+
+-- the refusal of a request whose listing is to be written: the selection's, or the text's; `fileRefusal` is that of a file's request (`file-refusal`)
+abbrev pub listRefusal : Request → ℕ → Option ℕ
+listRefusal r out = orElse (selectRefusal r roomy) (textRefusal (requestText r) out)
+
+abbrev pub listExit : Request → List ℕ → ChooseExit
+listExit r out = chooseBy (listRefusal r (length out)) (requestText r) out
+
+-- n answers every file of more than 1,024 plans with such directions, divisions and size
+abbrev pub Crowded : List ℕ → ℕ → ℕ → ℕ → Type 0
+Crowded marks divisions size n = (f : PoolFile) (out : ℕ) → badDirections (f .marks) ≡ badDirections marks → length (f .marks) ≡ length marks
+    → f .divisions ≡ divisions → f .size ≡ size → maxSize < f .count → fileRefusal f out ≡ some n

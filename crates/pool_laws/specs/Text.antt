@@ -1,0 +1,68 @@
+-- A text put into a lent slice, and the listing's parts in model's words.
+use Prim.Native.Nat.{ℕ, suc, _+_, _≤_, _<_}
+use mathlib.Core.Path.{_≡_}
+use mathlib.Core.Bool.{cond}
+use mathlib.Core.List.{List, [], _∷_, _++_}
+use lib.Dec.{eqb, ltb}
+use lib.ListN.{length, getD}
+use lib.Seq.{sets}
+use Rattle.model.specs.Lists.{firstBelow, joinBelow}
+use Rattle.model.specs.Kept.{Selected}
+use Rattle.model.specs.PoolFile.{decimal, lineText}
+
+-- a text stands from `at` on and ends at r; the rest is as it was
+pub record Put (before : List ℕ) (at : ℕ) (text after : List ℕ) (r : ℕ) : Type 0 where
+  pub stored : after ≡ sets before at text
+  pub ends : r ≡ at + length text
+
+-- a selection of which the listing shows these lists
+abbrev pub listed : List ℕ → List ℕ → List ℕ → Selected
+listed kept fronts lines = record { kept = kept; fronts = fronts; lines = lines; ideal = []; state = 0 }
+
+-- four texts, one after the other
+pub record Four : Type 0 where
+  pub first : List ℕ
+  pub second : List ℕ
+  pub third : List ℕ
+  pub fourth : List ℕ
+
+abbrev pub joined : Four → List ℕ
+joined t = t .first ++ (t .second ++ (t .third ++ t .fourth))
+
+-- a word and the byte that ends it: a space (32) or the newline (10)
+abbrev pub ended : List ℕ → ℕ → List ℕ
+ended word end = word ++ (end ∷ [])
+
+-- the header: the words `plans` and `kept`, each with its number
+abbrev pub headings : ℕ → ℕ → Four
+headings count kept = record {
+  first = 112 ∷ 108 ∷ 97 ∷ 110 ∷ 115 ∷ 32 ∷ [];
+  second = ended (decimal count) 32;
+  third = 107 ∷ 101 ∷ 112 ∷ 116 ∷ 32 ∷ [];
+  fourth = ended (decimal kept) 10;
+}
+
+-- a plan's line: its index, its front, its reference line and its place
+abbrev pub fields : ℕ → ℕ → ℕ → ℕ → Four
+fields p front line place = record {
+  first = ended (decimal p) 32;
+  second = ended (decimal front) 32;
+  third = ended (lineText line) 32;
+  fourth = ended (decimal place) 10;
+}
+
+unfoldable pub fieldsText : ℕ → ℕ → ℕ → ℕ → List ℕ
+fieldsText p front line place = joined (fields p front line place)
+
+abbrev pub fieldsOf : List ℕ → List ℕ → List ℕ → ℕ → List ℕ
+fieldsOf fronts lines places p = fieldsText p (getD fronts p 0) (getD lines p 0) (getD places p 0)
+
+-- where plan p is first kept among the first n entries of the kept list, from 1; 0 if it is not
+unfoldable pub placeIn : List ℕ → ℕ → ℕ → ℕ
+placeIn kept n p = let i = firstBelow (λ i. eqb (getD kept i 0) p) n in cond (ltb i n) (suc i) 0
+
+-- plan p is marked as kept at place i + 1, unless it is marked already or there is no room for it
+pub record Marked (before : List ℕ) (p i : ℕ) (after : List ℕ) : Type 0 where
+  pub same : length after ≡ length before
+  pub here : p < length before → getD after p 0 ≡ cond (eqb (getD before p 0) 0) (i + 1) (getD before p 0)
+  pub others : (q : ℕ) → (q ≡ p → ⊥) → getD after q 0 ≡ getD before q 0

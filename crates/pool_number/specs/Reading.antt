@@ -1,0 +1,33 @@
+-- What the reader of numbers answers, in model's words.
+use Prim.Native.Nat.{ℕ, _-_, _≤_, _<_}
+use mathlib.Core.Path.{_≡_}
+use mathlib.Core.List.{List}
+use mathlib.Core.Option.{Option, none, some}
+use lib.ListN.{length, drop}
+use Rattle.model.specs.PoolFile.{Parsed, number}
+use Rattle.pool_number.specs.declared.Read.{Read}
+use Rattle.pool_number.specs.declared.Read.the-variants.{Number, Broken}
+
+-- a reader's answer
+module _ {A : Type 0} where
+  abbrev pub read : A → List ℕ → Option (Parsed A)
+  read a bytes = some (record { value = a; rest = bytes })
+
+-- model's answer as the code's: of n bytes, the number ends where so many are left
+abbrev pub asRead : ℕ → Option (Parsed ℕ) → Read
+asRead n none = Broken
+asRead n (some p) = Number (p .value) (n - length (p .rest))
+
+-- the number that starts at a place
+abbrev pub numberAt : List ℕ → ℕ → Read
+numberAt bytes at = asRead (length bytes) (number (drop at bytes))
+
+-- the same by cases: the bytes left are those from the place answered on, which lies past the start and not past the end
+pub record Ends (bytes : List ℕ) (at v next : ℕ) : Type 0 where
+  pub reads : number (drop at bytes) ≡ read v (drop next bytes)
+  pub past : at < next
+  pub inside : next ≤ length bytes
+
+abbrev pub ReadIs : List ℕ → ℕ → Read → Type 0
+ReadIs bytes at (Number v next) = Ends bytes at v next
+ReadIs bytes at Broken = number (drop at bytes) ≡ none

@@ -1,0 +1,62 @@
+// The parts of `choose`: a listing handed out where there is room for it, and the number that answers too many plans.
+ghost use mathlib.Core.Path.{_≡_};
+ghost use Prim.Native.Nat.{_≤_};
+ghost use lib.ListN.{length, take};
+ghost use Rattle.model.specs.Lists.{over};
+ghost use Rattle.model.specs.PoolFile.{listingText};
+ghost use Rattle.model.specs.Refusal.{maxSize};
+ghost use Rattle.model.specs.Calls.{maxText};
+ghost use Rattle.pool_laws.specs.Text.{listed};
+ghost use Rattle.pool_laws.specs.Choice.{exit, textExit, Crowded};
+use model::Chosen;
+use model::MAX_TEXT;
+
+// The first n bytes of a text, at the front of another slice.
+fn copy_text(text: &[u8], n: usize, out: &mut [u8])
+    requires { ⌜ (n ≤ length (now text)) × (n ≤ length (now out)) ⌝ }
+    ensures { λ _. ⌜ now (out .exit) ≡ over (take n (now (text .entry))) (now (out .entry)) ⌝ }
+{
+    let mut i = 0;
+    while i < n {
+        out[i] = text[i];
+        i += 1;
+    }
+}
+
+// The listing of a selection, if the slice lent has room for it: nothing is written before its length is known.
+pub fn put_listing(
+    count: usize,
+    kept: &[usize],
+    fronts: &[usize],
+    lines: &[usize],
+    out: &mut [u8],
+) -> Chosen
+    requires { ⌜ (count ≤ maxSize) × (count ≤ length (now fronts)) × (count ≤ length (now lines)) ⌝ }
+    requires { ⌜ length (listingText count (listed (now kept) (now fronts) (now lines))) ≤ maxText ⌝ }
+    ensures { λ r. ⌜ exit r (now (out .exit))
+        ≡ textExit (listingText count (listed (now (kept .entry)) (now (fronts .entry)) (now (lines .entry)))) (now (out .entry)) ⌝ }
+{
+    let mut text: [u8; MAX_TEXT] = [0; MAX_TEXT];
+    let n = pool_text::write_listing(count, kept, fronts, lines, &mut text);
+    if out.len() < n {
+        return Chosen::Refused(10);
+    }
+    copy_text(&text, n, out);
+    Chosen::Written(n)
+}
+
+// The number that answers a pool of more than 1,024 plans, of which there are no words: 7, or one that comes before it.
+pub fn crowded(directions: &[u8], divisions: usize, size: usize) -> u8
+    ensures { λ r. ⌜ Crowded (now (directions .entry)) divisions size r ⌝ }
+{
+    if plans::bad_directions(directions) {
+        return 2;
+    }
+    if plans::bad_count(size) {
+        return 3;
+    }
+    if das_dennis::bad_divisions(directions.len(), divisions) {
+        return 4;
+    }
+    7
+}

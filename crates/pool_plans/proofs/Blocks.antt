@@ -1,0 +1,252 @@
+-- A plan in its block of words.
+use Prim.Native.Nat.{ℕ, suc, _+_, _*_, _≤_, _<_, min}
+use mathlib.Core.Path.{_≡_, refl, ap, sym, _∙_, subst}
+use mathlib.Core.Logic.{_⊎_, ⊎-elim}
+use mathlib.Core.Bool.{true, false}
+use mathlib.Core.List.{List, [], _∷_, _++_, map}
+use mathlib.Core.Option.{Option, none, some}
+use native.Mathlib.Nat.{add-zero, min-eq-left, min-eq-right, min-le-left, min-le-right, le-min}
+use native.Mathlib.Omega.{arith}
+use borrow.Author.Tests.{leb-true, leb-false}
+use lib.Dec.{leb}
+use lib.Ieee.{Float}
+use lib.ListN.{length, getD, take, drop, set, length-take, length-map, length-set, List·getD-map}
+use lib.Seq.{sets, length-sets, take-all, getD-take, getD-set-same, getD-set-other}
+use Rattle.model.specs.Lists.{listBelow}
+use Rattle.model.specs.Real.{real}
+use Rattle.model.specs.Plan.{Plan, Setting, planOf, planWords}
+use Rattle.model.specs.PoolFile.{Parsed, number, many, plan}
+use Rattle.list_laws.proofs.Bools.{by-bool}
+use Rattle.list_laws.proofs.Built.{listBelow-same, listBelow-take}
+use Rattle.pool_number.specs.Reading.{read, Ends}
+use Rattle.pool_plans.specs.declared.End.{End}
+use Rattle.pool_plans.specs.declared.End.the-variants as end
+use Rattle.pool_plans.specs.Blocks.{Words, WordsIs, Block, roomed}
+use Rattle.pool_number.proofs.Options.{many-length}
+use Rattle.pool_plans.proofs.Storing.{stored-plain}
+use Rattle.list_laws.proofs.Runs.{before-run, past-run, in-run}
+
+-- ---- the plan that words form
+
+-- the first values, as far as there is room
+values-of : (word : ℕ → ℕ) (vs : List ℕ) (n room : ℕ) → length vs ≡ n → ((j : ℕ) → j < n → j < room → word j ≡ getD vs j 0)
+    → listBelow (λ j. real (word j)) (min n room) ≡ take room (map real vs)
+values-of word vs n room e h =
+    let s : length (map real vs) ≡ n = length-map vs real ∙ e in
+    let a = min-le-left n room in
+    let b = min-le-right n room in
+    sym (listBelow-take (λ j. real (word j)) (min n room) (real 0) (map real vs) (omega arith)
+    (λ t l. List·getD-map real vs t 0 ∙ ap real (sym (h t (omega arith) (omega arith)))))
+    ∙ by-bool (leb n room)
+    (λ w. let l : n ≤ room = leb-true n room w in
+    ap (λ (k : ℕ). take k (map real vs)) (min-eq-left l) ∙ take-all n (map real vs) (omega arith) ∙ sym (take-all room (map real vs) (omega arith)))
+    (λ w. let l : room ≤ n = omega (arith, leb-false n room w) in ap (λ (k : ℕ). take k (map real vs)) (min-eq-right l))
+
+-- a plan of m values and c constraints
+abbrev pub made : ℕ → List ℕ → ℕ → List ℕ → Plan
+made m vs c cs = record {
+  number = 0;
+  rowLength = m;
+  row = map real vs;
+  constraintCount = c;
+  constraints = map real cs;
+  settingCount = 0;
+  settings = [];
+}
+
+planOf-made : (word : ℕ → ℕ) (m c : ℕ) (vs cs : List ℕ) → length vs ≡ m → length cs ≡ c
+    → word 0 ≡ 0 → word 1 ≡ m → ((j : ℕ) → j < m → j < 8 → word (2 + j) ≡ getD vs j 0)
+    → word 10 ≡ c → ((j : ℕ) → j < c → j < 16 → word (11 + j) ≡ getD cs j 0) → word 27 ≡ 0
+    → planOf word ≡ roomed (made m vs c cs)
+unfolding planOf listBelow
+planOf-made word m c vs cs a b w0 w1 w2 w10 w11 w27 =
+    rw (w0, w1, w10, w27, values-of (λ j. word (2 + j)) vs m 8 a w2, values-of (λ j. word (11 + j)) cs c 16 b w11)
+
+-- only the words of the block matter
+abbrev setting : (ℕ → ℕ) → ℕ → Setting
+setting word j = record { param = word (28 + 3 * j); kind = word (29 + 3 * j); value = word (30 + 3 * j) }
+
+pub planOf-same : (f g : ℕ → ℕ) → ((j : ℕ) → j < planWords → f j ≡ g j) → planOf f ≡ planOf g
+unfolding planOf
+planOf-same f g h =
+    let r = min-le-right (g 1) 8 in
+    let c = min-le-right (g 10) 16 in
+    let s = min-le-right (g 27) 32 in
+    rw (
+      h 0 (omega arith),
+      h 1 (omega arith),
+      h 10 (omega arith),
+      h 27 (omega arith),
+      listBelow-same (λ j. real (f (2 + j))) (λ j. real (g (2 + j))) (min (g 1) 8) (λ t l. ap real (h (2 + t) (omega arith))),
+      listBelow-same (λ j. real (f (11 + j))) (λ j. real (g (11 + j))) (min (g 10) 16) (λ t l. ap real (h (11 + t) (omega arith))),
+      listBelow-same (setting f) (setting g) (min (g 27) 32) (λ t l. rw (h (28 + 3 * t) (omega arith), h (29 + 3 * t) (omega arith), h (30 + 3 * t) (omega arith))),
+    )
+
+-- ---- what is stored
+
+-- the counts stand at their four places, and the other words stay
+abbrev one-count : List ℕ → ℕ → List ℕ
+one-count l base = set l base 0
+
+abbrev two-counts : List ℕ → ℕ → ℕ → List ℕ
+two-counts l base m = set (one-count l base) (base + 1) m
+
+abbrev three-counts : List ℕ → ℕ → ℕ → ℕ → List ℕ
+three-counts l base m c = set (two-counts l base m) (base + 10) c
+
+counted : List ℕ → ℕ → ℕ → ℕ → List ℕ
+counted l base m c = set (three-counts l base m c) (base + 27) 0
+
+module _ (l : List ℕ) (base m c : ℕ) (room : base + 124 ≤ length l) where
+  counted-0 : getD (counted l base m c) (base + 0) 0 ≡ 0
+  unfolding counted
+  counted-0 = rw add-zero
+      (getD-set-other (three-counts l base m c) (base + 27) base 0 0 (λ e. omega arith)
+      ∙ getD-set-other (two-counts l base m) (base + 10) base c 0 (λ e. omega arith)
+      ∙ getD-set-other (one-count l base) (base + 1) base m 0 (λ e. omega arith) ∙ getD-set-same l base 0 0 (omega arith))
+
+  counted-1 : getD (counted l base m c) (base + 1) 0 ≡ m
+  unfolding counted
+  counted-1 =
+      getD-set-other (three-counts l base m c) (base + 27) (base + 1) 0 0 (λ e. omega arith)
+      ∙ getD-set-other (two-counts l base m) (base + 10) (base + 1) c 0 (λ e. omega arith)
+      ∙ getD-set-same (one-count l base) (base + 1) m 0 (simp length-set (omega arith))
+
+  counted-10 : getD (counted l base m c) (base + 10) 0 ≡ c
+  unfolding counted
+  counted-10 =
+      getD-set-other (three-counts l base m c) (base + 27) (base + 10) 0 0 (λ e. omega arith)
+      ∙ getD-set-same (two-counts l base m) (base + 10) c 0 (simp length-set (omega arith))
+
+  counted-27 : getD (counted l base m c) (base + 27) 0 ≡ 0
+  unfolding counted
+  counted-27 = getD-set-same (three-counts l base m c) (base + 27) 0 0 (simp length-set (omega arith))
+
+  counted-other : (i : ℕ) → (i ≡ base → ⊥) → (i ≡ base + 1 → ⊥) → (i ≡ base + 10 → ⊥) → (i ≡ base + 27 → ⊥) → getD (counted l base m c) i 0 ≡ getD l i 0
+  unfolding counted
+  counted-other i e0 e1 e10 e27 =
+      getD-set-other (three-counts l base m c) (base + 27) i 0 0 e27 ∙ getD-set-other (two-counts l base m) (base + 10) i c 0 e10
+      ∙ getD-set-other (one-count l base) (base + 1) i m 0 e1 ∙ getD-set-other l base i 0 0 e0
+
+-- as many as there is room for, of those that there are
+taken-le : (room : ℕ) (vs : List ℕ) → length (take room vs) ≤ room
+taken-le room vs = omega (arith, length-take room vs, min-le-left room (length vs))
+
+taken-lt : (room n j : ℕ) (vs : List ℕ) → length vs ≡ n → j < n → j < room → j < length (take room vs)
+taken-lt room n j vs e h g = let m : suc j ≤ min room (length vs) = le-min (omega arith) (omega arith) in omega (arith, length-take room vs)
+
+module _ (l : List ℕ) (base m c : ℕ) (vs cs : List ℕ) (a : length vs ≡ m) (b : length cs ≡ c) (room : base + 124 ≤ length l) where
+  rows : List ℕ
+  rows = sets l (base + 2) (take 8 vs)
+
+  filled : List ℕ
+  filled = sets rows (base + 11) (take 16 cs)
+
+  rows-length : length rows ≡ length l
+  unfolding rows
+  rows-length = length-sets l (base + 2) (take 8 vs)
+
+  filled-length : length filled ≡ length l
+  unfolding filled
+  filled-length = length-sets rows (base + 11) (take 16 cs) ∙ rows-length
+
+  block : List ℕ
+  block = counted filled base m c
+
+  space : base + 124 ≤ length filled
+  space = omega (arith, filled-length)
+
+  value-at : (j : ℕ) → j < m → j < 8 → getD block (base + (2 + j)) 0 ≡ getD vs j 0
+  unfolding block filled rows
+  value-at j h g =
+      let e : base + (2 + j) ≡ base + 2 + j = omega arith in
+      counted-other filled base m c space (base + (2 + j)) (λ z. omega arith) (λ z. omega arith) (λ z. omega arith) (λ z. omega arith)
+      ∙ before-run rows (base + 11) (take 16 cs) (base + (2 + j)) (omega arith)
+      ∙ ap (λ (k : ℕ). getD rows k 0) e
+      ∙ in-run l (base + 2) (take 8 vs) j (taken-lt 8 m j vs a h g) (omega arith)
+      ∙ getD-take 8 vs j 0 g
+
+  constraint-at : (j : ℕ) → j < c → j < 16 → getD block (base + (11 + j)) 0 ≡ getD cs j 0
+  unfolding block filled
+  constraint-at j h g =
+      let e : base + (11 + j) ≡ base + 11 + j = omega arith in
+      counted-other filled base m c space (base + (11 + j)) (λ z. omega arith) (λ z. omega arith) (λ z. omega arith) (λ z. omega arith)
+      ∙ ap (λ (k : ℕ). getD filled k 0) e
+      ∙ in-run rows (base + 11) (take 16 cs) j (taken-lt 16 c j cs b h g) (omega (arith, rows-length))
+      ∙ getD-take 16 cs j 0 g
+
+  block-plan : planOf (λ j. getD block (base + j) 0) ≡ roomed (made m vs c cs)
+  unfolding block
+  block-plan =
+      planOf-made (λ j. getD block (base + j) 0) m c vs cs a b (counted-0 filled base m c space) (counted-1 filled base m c space) value-at
+      (counted-10 filled base m c space) constraint-at (counted-27 filled base m c space)
+
+  block-others : (i : ℕ) → (i < base) ⊎ (base + 124 ≤ i) → getD block i 0 ≡ getD l i 0
+  unfolding block filled rows
+  block-others i w =
+      let n8 = taken-le 8 vs in
+      let n16 = taken-le 16 cs in
+      ⊎-elim
+      (λ h. counted-other filled base m c space i (λ z. omega arith) (λ z. omega arith) (λ z. omega arith) (λ z. omega arith)
+      ∙ before-run rows (base + 11) (take 16 cs) i (omega arith) ∙ before-run l (base + 2) (take 8 vs) i (omega arith))
+      (λ h. counted-other filled base m c space i (λ z. omega arith) (λ z. omega arith) (λ z. omega arith) (λ z. omega arith)
+      ∙ past-run rows (base + 11) (take 16 cs) i (omega arith) ∙ past-run l (base + 2) (take 8 vs) i (omega arith))
+      w
+
+-- ---- the reader of a plan, by how far it gets
+
+plan-none : (m : ℕ) (bytes : List ℕ) → many m number bytes ≡ none → plan m bytes ≡ none
+unfolding plan
+plan-none m bytes e = rw e
+
+plan-no-count : (m : ℕ) (bytes : List ℕ) (vs rest : List ℕ) → many m number bytes ≡ read vs rest → number rest ≡ none → plan m bytes ≡ none
+unfolding plan
+plan-no-count m bytes vs rest e f = rw (e, f)
+
+plan-short : (m : ℕ) (bytes : List ℕ) (vs rest : List ℕ) (c : ℕ) (rest′ : List ℕ) → many m number bytes ≡ read vs rest → number rest ≡ read c rest′
+    → many c number rest′ ≡ none → plan m bytes ≡ none
+unfolding plan
+plan-short m bytes vs rest c rest′ e f g = rw (e, f, g)
+
+plan-good : (m : ℕ) (bytes : List ℕ) (vs rest : List ℕ) (c : ℕ) (rest′ cs rest″ : List ℕ) → many m number bytes ≡ read vs rest → number rest ≡ read c rest′
+    → many c number rest′ ≡ read cs rest″ → plan m bytes ≡ read (made m vs c cs) rest″
+unfolding plan
+plan-good m bytes vs rest c rest′ cs rest″ e f g = rw (e, f, g)
+
+-- ---- the block, by how far its reader gets
+
+module _ (file : List ℕ) (at m base : ℕ) (l : List ℕ) where
+  pub block-none : (o : List ℕ) (r : End) → WordsIs (λ v. v) file at m 8 (base + 2) l o r → r ≡ end.Broken → plan m (drop at file) ≡ none
+  block-none o r w e = plan-none m (drop at file) (subst (λ (x : End). WordsIs (λ v. v) file at m 8 (base + 2) l o x) e w)
+
+  module _ (o₁ : List ℕ) (r : End) (p : ℕ) (w : WordsIs (λ v. v) file at m 8 (base + 2) l o₁ r) (e : r ≡ end.At p) where
+    first : Words (λ v. v) file at m 8 (base + 2) l o₁ p
+    first = subst (λ (x : End). WordsIs (λ v. v) file at m 8 (base + 2) l o₁ x) e w
+
+    pub block-no-count : number (drop p file) ≡ none → plan m (drop at file) ≡ none
+    block-no-count f = plan-no-count m (drop at file) (first .values) (drop p file) (first .reads) f
+
+    module _ (c q : ℕ) (f : Ends file p c q) (o₂ : List ℕ) (r′ : End) where
+      -- wherever the constraints were to stand
+      pub block-short : (place : ℕ) → WordsIs (λ v. v) file q c 16 place o₁ o₂ r′ → r′ ≡ end.Broken → plan m (drop at file) ≡ none
+      block-short place w′ g = plan-short m (drop at file) (first .values) (drop p file) c (drop q file) (first .reads) (f .reads)
+          (subst (λ (x : End). WordsIs (λ v. v) file q c 16 place o₁ o₂ x) g w′)
+
+      pub block-good : WordsIs (λ v. v) file q c 16 (base + 11) o₁ o₂ r′ → (next : ℕ) (o : List ℕ) → r′ ≡ end.At next → base + planWords ≤ length l
+          → o ≡ set (set (set (set o₂ base 0) (base + 1) m) (base + 10) c) (base + 27) 0 → Block file at m base l o next
+      unfolding block filled rows counted
+      block-good w′ next o g room k =
+          let second = subst (λ (x : End). WordsIs (λ v. v) file q c 16 (base + 11) o₁ o₂ x) g w′ in
+          let vs = first .values in
+          let cs = second .values in
+          let a = many-length number m (drop at file) vs (drop p file) (first .reads) in
+          let b = many-length number c (drop q file) cs (drop next file) (second .reads) in
+          let z : o ≡ block l base m c vs cs a b room =
+          k ∙ ap (λ (t : List ℕ). counted t base m c) (stored-plain file q c 16 (base + 11) o₁ o₂ next second
+          ∙ ap (λ (t : List ℕ). sets t (base + 11) (take 16 cs)) (stored-plain file at m 8 (base + 2) l o₁ p first)) in
+          record {
+            held = made m vs c cs;
+            reads = plan-good m (drop at file) vs (drop p file) c (drop q file) cs (drop next file) (first .reads) (f .reads) (second .reads);
+            stored = ap (λ (t : List ℕ). planOf (λ j. getD t (base + j) 0)) z ∙ block-plan l base m c vs cs a b room;
+            others = λ i h. ap (λ (t : List ℕ). getD t i 0) z ∙ block-others l base m c vs cs a b room i h;
+          }

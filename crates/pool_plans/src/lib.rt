@@ -1,0 +1,98 @@
+// The plans of a pool file (document 01, "Pool file"), each laid out in its block of words.
+use model::MAX_PLANS;
+use model::PLAN_WORDS;
+use pool_number::Read;
+use pool_number::read_number;
+ghost use mathlib.Core.Path.{_≡_};
+ghost use Prim.Native.Nat.{_+_, _*_, _<_, _≤_};
+ghost use lib.ListN.{length, set};
+ghost use Rattle.model.specs.Plan.{planWords};
+ghost use Rattle.model.specs.Refusal.{maxSize};
+ghost use Rattle.pool_plans.specs.Blocks.{WordsIs, BlockIs, PlansIs};
+
+// The place after what was read, or bytes that break the form or end early.
+pub enum End {
+    At(usize),
+    Broken,
+}
+
+// Reads n numbers; the first keep of them are stored from base on.
+pub fn read_words(
+    file: &[u8],
+    at: usize,
+    n: usize,
+    keep: usize,
+    pool: &mut [u64],
+    base: usize,
+) -> End
+    requires { ⌜ base + keep ≤ length (now pool) ⌝ }
+    ensures { λ r. ⌜ WordsIs (λ v. v) (now (file .entry)) at n keep base (now (pool .entry)) (now (pool .exit)) r ⌝ }
+{
+    let mut p = at;
+    let mut i: usize = 0;
+    while i < n {
+        let Read::Number(v, next) = read_number(file, p) else {
+            return End::Broken;
+        };
+        if i < keep {
+            pool[base + i] = v;
+        }
+        p = next;
+        i += 1;
+    }
+    End::At(p)
+}
+
+// The words of a plan beside its values and constraints: its number, its row length and its two other counts.
+fn put_counts(pool: &mut [u64], base: usize, m: u64, c: u64)
+    requires { ⌜ base + planWords ≤ length (now pool) ⌝ }
+    ensures { λ _. ⌜ now (pool .exit) ≡ set (set (set (set (now (pool .entry)) base 0) (base + 1) m) (base + 10) c) (base + 27) 0 ⌝ }
+{
+    pool[base] = 0;
+    pool[base + 1] = m;
+    pool[base + 10] = c;
+    pool[base + 27] = 0;
+}
+
+// Reads a plan of m values into the block of words at base: its first 8 values and its first 16 constraints have room there.
+fn read_plan(file: &[u8], at: usize, m: usize, pool: &mut [u64], base: usize) -> End
+    requires { ⌜ base + planWords ≤ length (now pool) ⌝ }
+    ensures { λ r. ⌜ BlockIs (now (file .entry)) at m base (now (pool .entry)) (now (pool .exit)) r ⌝ }
+{
+    let End::At(p) = read_words(file, at, m, 8, pool, base + 2) else {
+        return End::Broken;
+    };
+    let Read::Number(c, q) = read_number(file, p) else {
+        return End::Broken;
+    };
+    let End::At(next) = read_words(file, q, c as usize, 16, pool, base + 11) else {
+        return End::Broken;
+    };
+    put_counts(pool, base, m as u64, c);
+    End::At(next)
+}
+
+// Where plan i is stored: in its block, and past a pool's last one anywhere, since such a pool is refused.
+fn block_of(i: usize) -> usize
+    ensures { λ r. ⌜ (r + planWords ≤ maxSize * planWords) × (i < maxSize → r ≡ i * planWords) ⌝ }
+{
+    if i < MAX_PLANS { i * PLAN_WORDS } else { 0 }
+}
+
+// Reads n plans of m values, each into its block. A count that is larger than the bytes left ends at the first plan that is not there.
+pub fn read_plans(file: &[u8], at: usize, m: usize, n: usize, pool: &mut [u64]) -> End
+    requires { ⌜ maxSize * planWords ≤ length (now pool) ⌝ }
+    ensures { λ r. ⌜ PlansIs (now (file .entry)) at m n (now (pool .exit)) r ⌝ }
+{
+    let mut p = at;
+    let mut i: usize = 0;
+    while i < n {
+        let base = block_of(i);
+        let End::At(next) = read_plan(file, p, m, pool, base) else {
+            return End::Broken;
+        };
+        p = next;
+        i += 1;
+    }
+    End::At(p)
+}

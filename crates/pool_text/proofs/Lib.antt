@@ -1,4 +1,0 @@
-pub mod Puts
-pub mod Decimals
-pub mod Places
-pub mod Listing
