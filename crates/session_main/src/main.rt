@@ -118,17 +118,17 @@ fn put_records(history: &mut History) {
 }
 
 // The calls that are told: from which plan number on, how many, and on how many records of the history.
-struct Calls {
+struct Asking {
     plan: u64,
     times: u64,
     records: usize,
 }
 
-fn calls(plan: u64, times: u64, records: usize) -> Calls
+fn asked(plan: u64, times: u64, records: usize) -> Asking
     requires { ⌜ records ≤ 4 ⌝ }
     ensures { λ r. ⌜ r .records ≤ 4 ⌝ }
 {
-    Calls {
+    Asking {
         plan,
         times,
         records,
@@ -137,16 +137,16 @@ fn calls(plan: u64, times: u64, records: usize) -> Calls
 
 // Plan 0 adds the dimension. Plans 1 to 2,048 fill the generation, and 2,049 finds it full, while a plan of the generation does not. With the first four
 // plans in history a new generation is bred.
-fn calls_of(i: usize) -> Calls
+fn asked_of(i: usize) -> Asking
     ensures { λ r. ⌜ r .records ≤ 4 ⌝ }
 {
     match i {
-        0 => calls(0, 1, 0),
-        1 => calls(1, 2048, 0),
-        2 => calls(2049, 1, 3),
-        3 => calls(2048, 1, 3),
-        4 => calls(2049, 1, 4),
-        _ => calls(2050, 2047, 0),
+        0 => asked(0, 1, 0),
+        1 => asked(1, 2048, 0),
+        2 => asked(2049, 1, 3),
+        3 => asked(2048, 1, 3),
+        4 => asked(2049, 1, 4),
+        _ => asked(2050, 2047, 0),
     }
 }
 
@@ -161,7 +161,7 @@ fn fill(session: Session)
     let mut now = session;
     let mut i: usize = 0;
     while i < 6 {
-        let c = calls_of(i);
+        let c = asked_of(i);
         now = ask(
             now,
             c.plan,

@@ -7,10 +7,10 @@ use Rattle.session_main.proofs.fill.Statement.{statement}
 use Rattle.session_main.proofs.fill.Tie as tie
 
 abbrev Inv-loop : tie.InvT-loop
-Inv-loop session history₀ candidates₀ plans₀ next-dims₀ now₀ i₀ history candidates plans next-dims now i = (i ≤ 6) × SessionOk (state now candidates plans next-dims)
+Inv-loop history candidates₀ plans₀ next-dims₀ now₀ i₀ candidates plans next-dims now i = (i ≤ 6) × SessionOk (state now candidates plans next-dims)
 
 abbrev μ-loop : tie.MeasureT-loop
-μ-loop session history₀ candidates₀ plans₀ next-dims₀ now₀ i₀ history candidates plans next-dims now i = 6 - i
+μ-loop history candidates₀ plans₀ next-dims₀ now₀ i₀ candidates plans next-dims now i = 6 - i
 
 put-records-requires : tie.Need-put-records-requires Inv-loop μ-loop
 put-records-requires c κs = search needs
@@ -18,8 +18,8 @@ put-records-requires c κs = search needs
 loop-holds : tie.Need-loop-holds Inv-loop μ-loop
 loop-holds c = (search needs, c .before .before .pre _ _ _)
 
-calls-of-requires : tie.Need-calls-of-requires Inv-loop μ-loop
-calls-of-requires c κs = search needs
+asked-of-requires : tie.Need-asked-of-requires Inv-loop μ-loop
+asked-of-requires c κs = search needs
 
 ask-requires : tie.Need-ask-requires Inv-loop μ-loop
 ask-requires c κs = search needs
@@ -44,7 +44,7 @@ fill-spec =
     μ-loop
     put-records-requires
     loop-holds
-    calls-of-requires
+    asked-of-requires
     ask-requires
     add-i
     loop-less
