@@ -50,7 +50,7 @@ fn answered(outcome: Outcome) {
     }
 }
 
-// Zero for an ideal's entry that is 0.0, else one for one that is not finite; two for any other.
+// An entry of the ideal as a number: 0 for 0.0, 1 for infinity, 2 for any other.
 fn mark(x: f64) -> u64 {
     if x == 0.0 {
         return 0;

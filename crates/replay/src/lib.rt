@@ -1,18 +1,17 @@
 // The oracle's lines (oracle/README.md): numbers below 2^64 in decimal, parted by single spaces, an input line and its answer line by turns.
-// And the tally of a replay: how many answers agree.
-use libc::STDOUT_FILENO;
+// And the verdict on a case, with the tally of verdicts.
 ghost use mathlib.Core.Path.{_≡_};
-ghost use mathlib.Core.Bool.{true};
-ghost use Prim.Native.Nat.{ℕ, _+_, _<_, _≤_};
-ghost use lib.ListN.{length, getD};
+ghost use Prim.Native.Nat.{_+_, _%_, _^_, _<_, _≤_};
+ghost use lib.ListN.{length};
 ghost use Rattle.replay.specs.Post.{Within, Ahead};
+ghost use Rattle.replay.specs.Verdicts.{SameFirst, Compares, Counts};
 
-// A line's numbers.
-pub type Words = [u64; 4096];
+// A line's numbers; the longest of the stored lines has 5,135.
+pub type Words = [u64; 8192];
 
 // What stands at a position: a number, with the position after it and after one space; the end of the line, with the start of the next one; the
 // end of the input; or something else.
-pub enum Found {
+enum Found {
     Number(u64, usize),
     EndOfLine(usize),
     EndOfInput,
@@ -89,7 +88,7 @@ fn digits(bytes: &[u8], at: usize, first: u64) -> Found
 }
 
 // What stands at a position.
-pub fn next_number(bytes: &[u8], at: usize) -> Found
+fn next_number(bytes: &[u8], at: usize) -> Found
     ensures { λ r. ⌜ Within (at + 1) (length (now (bytes .entry))) r ⌝ }
 {
     if bytes.len() <= at {
@@ -122,7 +121,7 @@ fn skip_line(bytes: &[u8], at: usize) -> usize
     i
 }
 
-// A line that was read: whether it is numbers and nothing else, at most 4,096; how many; and where the next line starts.
+// A line that was read: whether it is numbers and nothing else, at most 8,192; how many; and where the next line starts.
 pub struct Line {
     pub whole: bool,
     pub count: usize,
@@ -131,7 +130,7 @@ pub struct Line {
 
 fn broken(bytes: &[u8], at: usize) -> Line
     requires { ⌜ at ≤ length (now bytes) ⌝ }
-    ensures { λ r. ⌜ (r .count ≤ 4096) × Ahead at (length (now (bytes .entry))) (r .next) ⌝ }
+    ensures { λ r. ⌜ (r .count ≤ 8192) × Ahead at (length (now (bytes .entry))) (r .next) ⌝ }
 {
     let next = skip_line(bytes, at);
     Line {
@@ -144,7 +143,7 @@ fn broken(bytes: &[u8], at: usize) -> Line
 // Reads the line at a position.
 pub fn read_line(bytes: &[u8], at: usize, line: &mut Words) -> Line
     requires { ⌜ at ≤ length (now bytes) ⌝ }
-    ensures { λ r. ⌜ (r .count ≤ 4096) × Ahead at (length (now (bytes .entry))) (r .next) ⌝ }
+    ensures { λ r. ⌜ (r .count ≤ 8192) × Ahead at (length (now (bytes .entry))) (r .next) ⌝ }
 {
     let mut i = at;
     let mut n: usize = 0;
@@ -152,7 +151,7 @@ pub fn read_line(bytes: &[u8], at: usize, line: &mut Words) -> Line
         let found = next_number(bytes, i);
         match found {
             Found::Number(w, next) => {
-                if 4096 <= n {
+                if 8192 <= n {
                     return broken(bytes, i);
                 }
                 line[n] = w;
@@ -179,34 +178,42 @@ pub fn read_line(bytes: &[u8], at: usize, line: &mut Words) -> Line
 
 // The number at a place; 0 where there is none.
 pub fn word(line: &Words, i: usize) -> u64 {
-    if i < 4096 { line[i] } else { 0 }
+    if i < 8192 { line[i] } else { 0 }
+}
+
+// The command of an input line, its first number; 0, which is none, where the line is not numbers.
+pub fn command(line: Line, words: &Words) -> u64 {
+    if line.whole {
+        return word(words, 0);
+    }
+    0
 }
 
 // Writes a number and answers the next place; past the end it writes nothing.
 pub fn put(line: &mut Words, i: usize, w: u64) -> usize
-    ensures { λ r. ⌜ r ≤ 4097 ⌝ }
+    ensures { λ r. ⌜ r ≤ 8193 ⌝ }
 {
-    if i < 4096 {
+    if i < 8192 {
         line[i] = w;
         return i + 1;
     }
-    4097
+    8193
 }
 
-// The place k further on; 4,097 stands for any past the end.
+// The place k further on; 8,193 stands for any past the end.
 pub fn ahead(i: usize, k: usize) -> usize
-    ensures { λ r. ⌜ r ≤ 4097 ⌝ }
+    ensures { λ r. ⌜ r ≤ 8193 ⌝ }
 {
-    if 4096 < i {
-        return 4097;
+    if 8192 < i {
+        return 8193;
     }
-    if 4096 - i < k {
-        return 4097;
+    if 8192 - i < k {
+        return 8193;
     }
     i + k
 }
 
-// What became of a case. Passed over is one that is no command of the program, or that is out of what the function asks.
+// What became of a case. Passed over is one that is no command, or whose input is out of what the function asks.
 pub enum Verdict {
     Agrees,
     Differs,
@@ -216,8 +223,8 @@ pub enum Verdict {
 
 // Whether two lines begin with the same n numbers.
 fn same(a: &Words, b: &Words, n: usize) -> bool
-    requires { ⌜ n ≤ 4096 ⌝ }
-    ensures { λ r. ⌜ (r ≡ true → ((k : ℕ) → k < n → getD (now (a .entry)) k 0 ≡ getD (now (b .entry)) k 0)) ⌝ }
+    requires { ⌜ n ≤ 8192 ⌝ }
+    ensures { λ r. ⌜ SameFirst n (now (a .entry)) (now (b .entry)) r ⌝ }
 {
     let mut i: usize = 0;
     while i < n {
@@ -231,11 +238,11 @@ fn same(a: &Words, b: &Words, n: usize) -> bool
 }
 
 // The n numbers given beside the k worked out; k is 0 for a case passed over.
-fn compared(given: &Words, n: usize, ours: &Words, k: usize) -> Verdict {
+fn compared(given: &Words, n: usize, ours: &Words, k: usize) -> Verdict
+    requires { ⌜ n ≤ 8192 ⌝ }
+    ensures { λ r. ⌜ Compares n (now (given .entry)) k (now (ours .entry)) r ⌝ }
+{
     if k == 0 {
-        return Verdict::PassedOver;
-    }
-    if 4096 < k {
         return Verdict::PassedOver;
     }
     if n != k {
@@ -248,23 +255,17 @@ fn compared(given: &Words, n: usize, ours: &Words, k: usize) -> Verdict {
     }
 }
 
-// The verdict on an input line, its answer line and what was worked out.
-pub fn judged(input: Line, answer: Line, given: &Words, ours: &Words, k: usize) -> Verdict {
-    let whole = input.whole;
-    if whole {
-        let whole = answer.whole;
-        if whole {
-            let n = answer.count;
-            return compared(given, n, ours, k);
+// The verdict on an input line, its answer line and the k numbers worked out.
+pub fn judged(input: Line, answer: Line, given: &Words, ours: &Words, k: usize) -> Verdict
+    requires { ⌜ answer .count ≤ 8192 ⌝ }
+    ensures { λ r. ⌜ Compares (answer .count) (now (given .entry)) k (now (ours .entry)) r ⌝ }
+{
+    if input.whole {
+        if answer.whole {
+            return compared(given, answer.count, ours, k);
         }
     }
     Verdict::Broken
-}
-
-// A case that was replayed, and where the next one starts.
-pub struct Step {
-    pub verdict: Verdict,
-    pub next: usize,
 }
 
 pub struct Tally {
@@ -274,20 +275,16 @@ pub struct Tally {
     pub broken: u64,
 }
 
-pub fn none() -> Tally {
-    Tally {
-        agree: 0,
-        differ: 0,
-        passed_over: 0,
-        broken: 0,
-    }
-}
-
-fn one_more(n: u64) -> u64 {
+fn one_more(n: u64) -> u64
+    ensures { λ r. ⌜ r ≡ (n + 1) % 2 ^ 64 ⌝ }
+{
     std::num::wrapping_add_u64(n, 1)
 }
 
-pub fn counted(tally: Tally, verdict: Verdict) -> Tally {
+// The tally with one verdict more.
+pub fn counted(tally: Tally, verdict: Verdict) -> Tally
+    ensures { λ r. ⌜ Counts verdict tally r ⌝ }
+{
     let mut t = tally;
     match verdict {
         Verdict::Agrees => t.agree = one_more(t.agree),
@@ -296,16 +293,4 @@ pub fn counted(tally: Tally, verdict: Verdict) -> Tally {
         Verdict::Broken => t.broken = one_more(t.broken),
     }
     t
-}
-
-fn number(n: u64, label: &[u8]) {
-    io::print_decimal(STDOUT_FILENO, n);
-    io::write_all(STDOUT_FILENO, label);
-}
-
-pub fn report(t: Tally) {
-    number(t.agree, b" agree, ");
-    number(t.differ, b" differ, ");
-    number(t.passed_over, b" passed over, ");
-    number(t.broken, b" broken\n");
 }

@@ -1,5 +1,5 @@
 // What the oracle's lines are made of beside numbers (oracle/README.md): marks, reals, plans, dimensions and settings, read from a line at a place and
-// written to one; and a case, which is an input line and its answer line.
+// written to one; and what the lines of the two calls on a pool have in common.
 use model::CategoricalDistribution;
 use model::DimensionInfo;
 use model::Distribution;
@@ -7,51 +7,21 @@ use model::FloatDistribution;
 use model::IntDistribution;
 use model::OptionF64;
 use model::OptionI64;
+use model::OptionUsize;
 use model::ParamValue;
-use replay::Line;
-use replay::Tally;
 use replay::Words;
 use settings::Slot;
+ghost use mathlib.Core.Path.{_≡_};
 ghost use Prim.Native.Nat.{_*_, _≤_};
-ghost use lib.ListN.{length};
-ghost use Rattle.replay.specs.Post.{Ahead};
 
 pub type Marks = [u8; 16];
 
 pub type Reals = [f64; 16];
 
-// ---- cases
+// 1,025 plans of 124 words, one plan more than is accepted, and a number for each.
+pub type Pool = [u64; 127100];
 
-// An input line, its answer line, and where the next case starts.
-pub struct Case {
-    pub input: Line,
-    pub answer: Line,
-    pub next: usize,
-}
-
-// Reads the case at a position.
-pub fn next_case(bytes: &[u8], at: usize, input: &mut Words, given: &mut Words) -> Case
-    requires { ⌜ at ≤ length (now bytes) ⌝ }
-    ensures { λ r. ⌜ Ahead at (length (now (bytes .entry))) (r .next) ⌝ }
-{
-    let line = replay::read_line(bytes, at, input);
-    let middle = line.next;
-    let reply = replay::read_line(bytes, middle, given);
-    let next = reply.next;
-    Case {
-        input: line,
-        answer: reply,
-        next,
-    }
-}
-
-// The tally with a case's verdict, k numbers having been worked out.
-pub fn tallied(tally: Tally, case: Case, given: &Words, ours: &Words, k: usize) -> Tally {
-    let input = case.input;
-    let answer = case.answer;
-    let verdict = replay::judged(input, answer, given, ours, k);
-    replay::counted(tally, verdict)
-}
+pub type Places = [usize; 1025];
 
 // ---- numbers
 
@@ -63,13 +33,27 @@ pub fn int_at(input: &Words, i: usize) -> i64 {
     real::int_of_word(replay::word(input, i))
 }
 
+// A mark and a number: none where the mark is 0.
+pub fn option_at(input: &Words, at: usize) -> OptionUsize
+    requires { ⌜ at ≤ 8193 ⌝ }
+{
+    if replay::word(input, at) == 0 {
+        return OptionUsize::None;
+    }
+    OptionUsize::Some(replay::word(input, at + 1) as usize)
+}
+
+pub fn as_word(b: bool) -> u64 {
+    if b { 1 } else { 0 }
+}
+
 pub fn least(a: usize, b: usize) -> usize
     ensures { λ r. ⌜ (r ≤ a) × (r ≤ b) ⌝ }
 {
     if a < b { a } else { b }
 }
 
-pub fn less_one(n: usize) -> usize
+fn less_one(n: usize) -> usize
     ensures { λ r. ⌜ r ≤ n ⌝ }
 {
     if n == 0 { 0 } else { n - 1 }
@@ -81,7 +65,7 @@ fn mark(w: u64) -> u8 {
 }
 
 pub fn read_marks(input: &Words, at: usize, m: usize, marks: &mut Marks)
-    requires { ⌜ (at ≤ 4097) × (m ≤ 16) ⌝ }
+    requires { ⌜ (at ≤ 8193) × (m ≤ 16) ⌝ }
 {
     let mut j: usize = 0;
     while j < m {
@@ -92,7 +76,7 @@ pub fn read_marks(input: &Words, at: usize, m: usize, marks: &mut Marks)
 
 // k reals from `at` on.
 pub fn read_reals(input: &Words, at: usize, k: usize, reals: &mut Reals)
-    requires { ⌜ (at ≤ 4097) × (k ≤ 16) ⌝ }
+    requires { ⌜ (at ≤ 8193) × (k ≤ 16) ⌝ }
 {
     let mut j: usize = 0;
     while j < k {
@@ -102,7 +86,7 @@ pub fn read_reals(input: &Words, at: usize, k: usize, reals: &mut Reals)
 }
 
 pub fn put_real(out: &mut Words, at: usize, x: f64) -> usize
-    ensures { λ r. ⌜ r ≤ 4097 ⌝ }
+    ensures { λ r. ⌜ r ≤ 8193 ⌝ }
 {
     replay::put(out, at, real::word_of_real(x))
 }
@@ -143,7 +127,7 @@ fn set_word(pool: &mut [u64], i: usize, w: u64) {
 
 // k words from `at` on, into the pool from `base` on.
 fn copy_words(input: &Words, at: usize, k: usize, base: usize, pool: &mut [u64])
-    requires { ⌜ (at ≤ 4097) × (k ≤ 96) × (base ≤ 600000) ⌝ }
+    requires { ⌜ (at ≤ 8193) × (k ≤ 96) × (base ≤ 600000) ⌝ }
 {
     let mut j: usize = 0;
     while j < k {
@@ -154,7 +138,7 @@ fn copy_words(input: &Words, at: usize, k: usize, base: usize, pool: &mut [u64])
 
 // The words of n entries: three for a setting, one for a value.
 fn words_of(n: usize, settings: bool) -> usize
-    requires { ⌜ n ≤ 4096 ⌝ }
+    requires { ⌜ n ≤ 8192 ⌝ }
     ensures { λ r. ⌜ r ≤ 3 * n ⌝ }
 {
     if settings { 3 * n } else { n }
@@ -169,14 +153,14 @@ fn read_part(
     base: usize,
     pool: &mut [u64],
 ) -> usize
-    requires { ⌜ (at ≤ 4097) × (room ≤ 32) × (base ≤ 599999) ⌝ }
-    ensures { λ r. ⌜ r ≤ 4097 ⌝ }
+    requires { ⌜ (at ≤ 8193) × (room ≤ 32) × (base ≤ 599999) ⌝ }
+    ensures { λ r. ⌜ r ≤ 8193 ⌝ }
 {
     let count = replay::word(input, at);
     set_word(pool, base, count);
     let n = count as usize;
-    if 4096 < n {
-        return 4097;
+    if 8192 < n {
+        return 8193;
     }
     let from = replay::ahead(at, 1);
     let held = words_of(least(n, room), settings);
@@ -186,8 +170,8 @@ fn read_part(
 
 // The plan at `at`, into the pool from `base` on: its number, row, constraints and settings. The place after it.
 pub fn read_plan(input: &Words, at: usize, base: usize, pool: &mut [u64]) -> usize
-    requires { ⌜ (at ≤ 4097) × (base ≤ 599000) ⌝ }
-    ensures { λ r. ⌜ r ≤ 4097 ⌝ }
+    requires { ⌜ (at ≤ 8193) × (base ≤ 599000) ⌝ }
+    ensures { λ r. ⌜ r ≤ 8193 ⌝ }
 {
     set_word(pool, base, replay::word(input, at));
     let row = replay::ahead(at, 1);
@@ -198,8 +182,8 @@ pub fn read_plan(input: &Words, at: usize, base: usize, pool: &mut [u64]) -> usi
 
 // The n plans from `at` on, into the pool from plan `first` on; the place after them.
 pub fn read_plans(input: &Words, at: usize, n: usize, first: usize, pool: &mut [u64]) -> usize
-    requires { ⌜ (at ≤ 4097) × (n ≤ 4097) × (first ≤ 4097) ⌝ }
-    ensures { λ r. ⌜ r ≤ 4097 ⌝ }
+    requires { ⌜ (at ≤ 8193) × (n ≤ 4097) × (first ≤ 4097) ⌝ }
+    ensures { λ r. ⌜ r ≤ 8193 ⌝ }
 {
     let mut place = at;
     let mut p: usize = 0;
@@ -225,7 +209,7 @@ pub struct ReadDimensions {
 }
 
 fn float(input: &Words, at: usize, log_scale: bool, step: OptionF64) -> Distribution
-    requires { ⌜ at ≤ 4097 ⌝ }
+    requires { ⌜ at ≤ 8193 ⌝ }
 {
     Distribution::Float(FloatDistribution {
         low: real_at(input, at + 1),
@@ -236,7 +220,7 @@ fn float(input: &Words, at: usize, log_scale: bool, step: OptionF64) -> Distribu
 }
 
 fn int(input: &Words, at: usize, log_scale: bool, step: OptionI64) -> Distribution
-    requires { ⌜ at ≤ 4097 ⌝ }
+    requires { ⌜ at ≤ 8193 ⌝ }
 {
     Distribution::Int(IntDistribution {
         low: int_at(input, at + 1),
@@ -252,7 +236,7 @@ fn categorical(n_choices: usize) -> Distribution {
 
 // A Float's step, where the mark at `at` says that there is one.
 fn float_step(input: &Words, at: usize) -> OptionF64
-    requires { ⌜ at ≤ 5000 ⌝ }
+    requires { ⌜ at ≤ 9000 ⌝ }
 {
     if replay::word(input, at) == 0 {
         return OptionF64::None;
@@ -261,7 +245,7 @@ fn float_step(input: &Words, at: usize) -> OptionF64
 }
 
 fn int_step(input: &Words, at: usize) -> OptionI64
-    requires { ⌜ at ≤ 5000 ⌝ }
+    requires { ⌜ at ≤ 9000 ⌝ }
 {
     if replay::word(input, at) == 0 {
         return OptionI64::None;
@@ -278,7 +262,7 @@ fn short_step(input: &Words, at: usize) -> OptionI64 {
 }
 
 fn read(distribution: Distribution, at: usize, words: usize) -> ReadDimension
-    ensures { λ r. ⌜ r .next ≤ 4097 ⌝ }
+    ensures { λ r. ⌜ r .next ≤ 8193 ⌝ }
 {
     let next = replay::ahead(at, words);
     ReadDimension { distribution, next }
@@ -286,8 +270,8 @@ fn read(distribution: Distribution, at: usize, words: usize) -> ReadDimension
 
 // The dimension at `at`, and the place after it.
 pub fn read_dimension(input: &Words, at: usize) -> ReadDimension
-    requires { ⌜ at ≤ 4097 ⌝ }
-    ensures { λ r. ⌜ r .next ≤ 4097 ⌝ }
+    requires { ⌜ at ≤ 8193 ⌝ }
+    ensures { λ r. ⌜ r .next ≤ 8193 ⌝ }
 {
     let form = replay::word(input, at);
     if form == 0 {
@@ -310,7 +294,7 @@ pub fn read_dimension(input: &Words, at: usize) -> ReadDimension
     if form == 4 {
         return read(int(input, at, log_scale, int_step(input, at + 4)), at, 6);
     }
-    read(categorical(0), 4097, 0)
+    read(categorical(0), 8193, 0)
 }
 
 fn blank_dimensions() -> [DimensionInfo; 32] {
@@ -321,8 +305,8 @@ fn blank_dimensions() -> [DimensionInfo; 32] {
 
 // The n dimensions from `at` on, of which the first 32 are kept; the place after them.
 pub fn read_dimensions(input: &Words, at: usize, n: usize) -> ReadDimensions
-    requires { ⌜ at ≤ 4097 ⌝ }
-    ensures { λ r. ⌜ r .next ≤ 4097 ⌝ }
+    requires { ⌜ at ≤ 8193 ⌝ }
+    ensures { λ r. ⌜ r .next ≤ 8193 ⌝ }
 {
     let mut dims = blank_dimensions();
     let mut next = at;
@@ -340,7 +324,7 @@ pub fn read_dimensions(input: &Words, at: usize, n: usize) -> ReadDimensions
 }
 
 fn put_float(out: &mut Words, at: usize, d: FloatDistribution) -> usize
-    ensures { λ r. ⌜ r ≤ 4097 ⌝ }
+    ensures { λ r. ⌜ r ≤ 8193 ⌝ }
 {
     let form = replay::put(out, at, 0);
     let low = put_real(out, form, d.low);
@@ -348,7 +332,7 @@ fn put_float(out: &mut Words, at: usize, d: FloatDistribution) -> usize
 }
 
 fn put_int(out: &mut Words, at: usize, d: IntDistribution) -> usize
-    ensures { λ r. ⌜ r ≤ 4097 ⌝ }
+    ensures { λ r. ⌜ r ≤ 8193 ⌝ }
 {
     let step = d.step;
     let form = replay::put(out, at, 1);
@@ -362,7 +346,7 @@ fn put_int(out: &mut Words, at: usize, d: IntDistribution) -> usize
 
 // A dimension in its short form.
 pub fn put_dimension(out: &mut Words, at: usize, d: Distribution) -> usize
-    ensures { λ r. ⌜ r ≤ 4097 ⌝ }
+    ensures { λ r. ⌜ r ≤ 8193 ⌝ }
 {
     match d {
         Distribution::Float(f) => put_float(out, at, f),
@@ -389,8 +373,8 @@ fn blank_settings() -> [Slot; 32] {
 
 // The n settings from `at` on; the place after them.
 pub fn read_settings(input: &Words, at: usize, n: usize) -> ReadSettings
-    requires { ⌜ (at ≤ 4097) × (n ≤ 32) ⌝ }
-    ensures { λ r. ⌜ r .next ≤ 4097 ⌝ }
+    requires { ⌜ (at ≤ 8193) × (n ≤ 32) ⌝ }
+    ensures { λ r. ⌜ r .next ≤ 8193 ⌝ }
 {
     let mut params = blank_settings();
     let mut next = at;
@@ -414,7 +398,7 @@ fn kind_of(v: ParamValue) -> u64 {
 }
 
 pub fn put_setting(out: &mut Words, at: usize, v: ParamValue) -> usize
-    ensures { λ r. ⌜ r ≤ 4097 ⌝ }
+    ensures { λ r. ⌜ r ≤ 8193 ⌝ }
 {
     let kind = replay::put(out, at, kind_of(v));
     replay::put(out, kind, settings::to_word(v))
@@ -482,4 +466,86 @@ pub fn put_candidates(
         p += 1;
     }
     place
+}
+
+// ---- the calls on a pool, 70 and 87
+
+// What their lines begin with, but for marks and ideal: the numbers after the marks, how long the ideal is, and how many plans follow.
+pub struct Call {
+    pub m: usize,
+    pub divisions: usize,
+    pub size: usize,
+    pub state: u64,
+    pub ideal: usize,
+    pub plans: usize,
+}
+
+pub fn call_of(input: &Words, m: usize, ideal: usize, plans: usize) -> Call
+    requires { ⌜ m ≤ 16 ⌝ }
+    ensures { λ r. ⌜ (r .m ≡ m) × (r .ideal ≡ ideal) × (r .plans ≡ plans) ⌝ }
+{
+    Call {
+        m,
+        divisions: replay::word(input, m + 3) as usize,
+        size: replay::word(input, m + 4) as usize,
+        state: replay::word(input, m + 5),
+        ideal,
+        plans,
+    }
+}
+
+// How much of the lent slices' arrays a call is lent.
+pub struct Room {
+    pub kept: usize,
+    pub fronts: usize,
+    pub lines: usize,
+    pub offspring: usize,
+}
+
+// The words of so many candidates.
+fn candidate_words(size: usize, n_dims: usize) -> usize
+    requires { ⌜ size * «n_dims» ≤ 32768 ⌝ }
+    ensures { λ r. ⌜ r ≤ 32768 ⌝ }
+{
+    size * n_dims
+}
+
+// The lengths of the full answer; where `short` is 1, 2, 3 or 4 the kept list's, the fronts', the lines' or the offspring's slice lacks one place.
+pub fn room_for(size: usize, n: usize, n_dims: usize, short: u64) -> Room
+    requires { ⌜ n ≤ 1025 ⌝ }
+    ensures { λ r. ⌜ (r .kept ≤ 1025) × (r .fronts ≤ 1025) × (r .lines ≤ 1025) × (r .offspring ≤ 32768) ⌝ }
+{
+    let most = least(size, 1024);
+    let dims = least(n_dims, 32);
+    let words = candidate_words(most, dims);
+    let mut room = Room {
+        kept: most,
+        fronts: n,
+        lines: n,
+        offspring: words,
+    };
+    match short {
+        1 => room.kept = less_one(most),
+        2 => room.fronts = less_one(n),
+        3 => room.lines = less_one(n),
+        4 => room.offspring = less_one(words),
+        _ => {}
+    }
+    room
+}
+
+// The refusal that an answer of k numbers is; 99, which is none, for any other answer.
+pub fn refusal_of(out: &Words, k: usize) -> u64 {
+    if k == 1 { replay::word(out, 0) } else { 99 }
+}
+
+// The refusal that two tries agree on; 0 is no try.
+pub fn agreed(a: u64, b: u64) -> u64 {
+    if a == 0 {
+        return b;
+    }
+    if b == 0 {
+        return a;
+    }
+    if a == b { a } else { 99 }
 }

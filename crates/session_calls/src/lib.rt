@@ -73,7 +73,7 @@ pub fn sampled(
 }
 
 // Of whole arrays.
-pub fn called(
+fn called(
     session: Session,
     distribution: Distribution,
     plan: u64,

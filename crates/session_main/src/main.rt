@@ -40,7 +40,7 @@ fn unit() -> Distribution {
     })
 }
 
-// A setting is told by its kind alone.
+// What a call answers; of a setting only that it is one.
 fn tell_answer(outcome: Sampling) {
     match outcome {
         Sampling::Setting(_) => {
@@ -109,8 +109,47 @@ fn put_record(history: &mut History, i: usize, plan: u64)
     history[at + 3] = real::word_of_real(0.0 - x);
 }
 
+// The records of plans 1 to 4.
+fn put_records(history: &mut History) {
+    put_record(history, 0, 1);
+    put_record(history, 1, 2);
+    put_record(history, 2, 3);
+    put_record(history, 3, 4);
+}
+
+// The calls that are told: from which plan number on, how many, and on how many records of the history.
+struct Asking {
+    plan: u64,
+    times: u64,
+    records: usize,
+}
+
+fn asked(plan: u64, times: u64, records: usize) -> Asking
+    requires { ⌜ records ≤ 4 ⌝ }
+    ensures { λ r. ⌜ r .records ≤ 4 ⌝ }
+{
+    Asking {
+        plan,
+        times,
+        records,
+    }
+}
+
 // Plan 0 adds the dimension. Plans 1 to 2,048 fill the generation, and 2,049 finds it full, while a plan of the generation does not. With the first four
 // plans in history a new generation is bred.
+fn asked_of(i: usize) -> Asking
+    ensures { λ r. ⌜ r .records ≤ 4 ⌝ }
+{
+    match i {
+        0 => asked(0, 1, 0),
+        1 => asked(1, 2048, 0),
+        2 => asked(2049, 1, 3),
+        3 => asked(2048, 1, 3),
+        4 => asked(2049, 1, 4),
+        _ => asked(2050, 2047, 0),
+    }
+}
+
 fn fill(session: Session)
     requires { ⌜ ((cs ps ns : List ℕ) → SessionOk (state session cs ps ns)) ⌝ }
 {
@@ -118,70 +157,23 @@ fn fill(session: Session)
     let mut candidates = [0u64; 65536];
     let mut plans = [0u64; 2048];
     let mut next_dims = [0usize; 2048];
-    put_record(&mut history, 0, 1);
-    put_record(&mut history, 1, 2);
-    put_record(&mut history, 2, 3);
-    put_record(&mut history, 3, 4);
-    let a = ask(
-        session,
-        0,
-        1,
-        &history,
-        0,
-        &mut candidates,
-        &mut plans,
-        &mut next_dims,
-    );
-    let b = ask(
-        a,
-        1,
-        2048,
-        &history,
-        0,
-        &mut candidates,
-        &mut plans,
-        &mut next_dims,
-    );
-    let c = ask(
-        b,
-        2049,
-        1,
-        &history,
-        3,
-        &mut candidates,
-        &mut plans,
-        &mut next_dims,
-    );
-    let d = ask(
-        c,
-        2048,
-        1,
-        &history,
-        3,
-        &mut candidates,
-        &mut plans,
-        &mut next_dims,
-    );
-    let e = ask(
-        d,
-        2049,
-        1,
-        &history,
-        4,
-        &mut candidates,
-        &mut plans,
-        &mut next_dims,
-    );
-    ask(
-        e,
-        2050,
-        2047,
-        &history,
-        0,
-        &mut candidates,
-        &mut plans,
-        &mut next_dims,
-    );
+    put_records(&mut history);
+    let mut now = session;
+    let mut i: usize = 0;
+    while i < 6 {
+        let c = asked_of(i);
+        now = ask(
+            now,
+            c.plan,
+            c.times,
+            &history,
+            c.records,
+            &mut candidates,
+            &mut plans,
+            &mut next_dims,
+        );
+        i += 1;
+    }
 }
 
 fn sessions() {

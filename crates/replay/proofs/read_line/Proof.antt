@@ -8,7 +8,7 @@ use Rattle.replay.proofs.read_line.Statement.{statement}
 use Rattle.replay.proofs.read_line.Tie as tie
 
 abbrev Inv-loop : tie.InvT-loop
-Inv-loop bytes at line₀ i₀ n₀ line i n = (at ≤ i) × ((i ≤ length bytes) × (n ≤ 4096))
+Inv-loop bytes at line₀ i₀ n₀ line i n = (at ≤ i) × ((i ≤ length bytes) × (n ≤ 8192))
 
 abbrev μ-loop : tie.MeasureT-loop
 μ-loop bytes at line₀ i₀ n₀ line i n = length bytes - i

@@ -39,10 +39,10 @@ loop-again : tie.Need-loop-again Inv-loop μ-loop
 loop-again c = (omega arith, below-more _ _ (c .before .before .before .before .loop .inv .1) (c .if1 .taken))
 
 returns : tie.Need-returns Inv-loop μ-loop
-returns c = λ e k h. let z : _≡_ {A = ℕ} 0 1 = cc in omega arith
+returns c = λ all. c .if1 .left (all _ (search needs))
 
 returns-2 : tie.Need-returns-2 Inv-loop μ-loop
-returns-2 c = λ e k h. c .before .loop .inv .1 k (omega arith)
+returns-2 c = λ k h. c .before .loop .inv .1 k (omega arith)
 
 pub same-spec : {M : Type 1} → statement M
 same-spec =

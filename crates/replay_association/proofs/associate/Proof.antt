@@ -13,20 +13,14 @@ word-requires-2 c κs = search needs
 returns : tie.Need-returns
 returns c = search needs
 
-values-of-requires : tie.Need-values-of-requires
-values-of-requires c κs = mul-le-mul (c .if1 .left) (c .before .before .before .pre .1)
-
-ahead-requires : tie.Need-ahead-requires
-ahead-requires c κs = search needs
+read-rows-requires : tie.Need-read-rows-requires
+read-rows-requires c κs = search needs
 
 returns-2 : tie.Need-returns-2
 returns-2 c = search needs
 
-read-rows-requires : tie.Need-read-rows-requires
-read-rows-requires c κs = search needs
-
 associated-requires : tie.Need-associated-requires
-associated-requires c κs = search needs
+associated-requires c κs = let e = c .before .before .before .before .before .before in (search needs, search needs, search needs, mul-le-mul (e .if1 .left) (e .before .before .before .pre .1))
 
 returns-3 : tie.Need-returns-3
 returns-3 c = search needs
@@ -38,9 +32,7 @@ associate-spec =
     word-requires
     word-requires-2
     returns
-    values-of-requires
-    ahead-requires
-    returns-2
     read-rows-requires
+    returns-2
     associated-requires
     returns-3)

@@ -19,26 +19,20 @@ returns c = search needs
 values-of-requires : tie.Need-values-of-requires
 values-of-requires c κs = mul-le-mul (c .if1 .left) (c .before .before .pre .1)
 
-add-at : tie.Need-add-at
-add-at c = search needs
+read-marks-requires : tie.Need-read-marks-requires
+read-marks-requires c κs = search needs
 
-add-at-2 : tie.Need-add-at-2
-add-at-2 c = search needs
+add-read-rows : tie.Need-add-read-rows
+add-read-rows c = search needs
 
-ahead-requires : tie.Need-ahead-requires
-ahead-requires c κs = search needs
-
-returns-2 : tie.Need-returns-2
-returns-2 c = search needs
+add-read-rows-2 : tie.Need-add-read-rows-2
+add-read-rows-2 c = search needs
 
 read-rows-requires : tie.Need-read-rows-requires
 read-rows-requires c κs = search needs
 
-read-marks-requires : tie.Need-read-marks-requires
-read-marks-requires c κs = search needs
-
-turn-rows-requires : tie.Need-turn-rows-requires
-turn-rows-requires c κs = search needs
+returns-2 : tie.Need-returns-2
+returns-2 c = search needs
 
 add-read-reals : tie.Need-add-read-reals
 add-read-reals c = search needs
@@ -61,13 +55,11 @@ normalize-spec =
     word-requires
     returns
     values-of-requires
-    add-at
-    add-at-2
-    ahead-requires
-    returns-2
-    read-rows-requires
     read-marks-requires
-    turn-rows-requires
+    add-read-rows
+    add-read-rows-2
+    read-rows-requires
+    returns-2
     add-read-reals
     read-reals-requires
     put-normalized-requires

@@ -5,7 +5,7 @@ use Rattle.replay_association.proofs.put_nearest.Statement.{statement}
 use Rattle.replay_association.proofs.put_nearest.Tie as tie
 
 abbrev Inv-loop : tie.InvT-loop
-Inv-loop out₀ lines distances n place₀ i₀ out place i = (i ≤ n) × (n ≤ 512)
+Inv-loop out₀ lines distances n place₀ i₀ out place i = (i ≤ n) × (n ≤ 1024)
 
 abbrev μ-loop : tie.MeasureT-loop
 μ-loop out₀ lines distances n place₀ i₀ out place i = n - i

@@ -5,7 +5,7 @@ use Rattle.replay_breeding.proofs.read_places.Statement.{statement}
 use Rattle.replay_breeding.proofs.read_places.Tie as tie
 
 abbrev Inv-loop : tie.InvT-loop
-Inv-loop input at n places₀ i₀ places i = (i ≤ n) × ((n ≤ 1025) × (at ≤ 4097))
+Inv-loop input at n places₀ i₀ places i = (i ≤ n) × ((n ≤ 1025) × (at ≤ 8193))
 
 abbrev μ-loop : tie.MeasureT-loop
 μ-loop input at n places₀ i₀ places i = n - i

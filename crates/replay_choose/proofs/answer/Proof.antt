@@ -9,20 +9,14 @@ use Rattle.replay_choose.proofs.answer.Tie as tie
 word-requires : tie.Need-word-requires
 word-requires c κs = search needs
 
-returns : tie.Need-returns
-returns c = search needs
-
-word-requires-2 : tie.Need-word-requires-2
-word-requires-2 c κs = search needs
-
 ahead-requires : tie.Need-ahead-requires
 ahead-requires c κs = search needs
 
+returns : tie.Need-returns
+returns c = search needs
+
 returns-2 : tie.Need-returns-2
 returns-2 c = search needs
-
-returns-3 : tie.Need-returns-3
-returns-3 c = search needs
 
 slice-aggregate-fill-file : tie.Need-slice-aggregate-fill-file
 slice-aggregate-fill-file c = search needs
@@ -39,26 +33,24 @@ slice-aggregate-text-of c = sym (length-take-le _ _ (omega arith))
 text-of-requires : tie.Need-text-of-requires
 text-of-requires c κs = search needs
 
+returns-3 : tie.Need-returns-3
+returns-3 c = search needs
+
 returns-4 : tie.Need-returns-4
 returns-4 c = search needs
-
-returns-5 : tie.Need-returns-5
-returns-5 c = search needs
 
 pub answer-spec : {M : Type 1} → statement M
 answer-spec =
     tie.close
     (tie.spec
     word-requires
-    returns
-    word-requires-2
     ahead-requires
+    returns
     returns-2
-    returns-3
     slice-aggregate-fill-file
     fill-file-requires
     array-share-prefix-file
     slice-aggregate-text-of
     text-of-requires
-    returns-4
-    returns-5)
+    returns-3
+    returns-4)

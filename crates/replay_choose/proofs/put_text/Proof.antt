@@ -5,22 +5,16 @@ use Rattle.replay_choose.proofs.put_text.Statement.{statement}
 use Rattle.replay_choose.proofs.put_text.Tie as tie
 
 abbrev Inv-loop : tie.InvT-loop
-Inv-loop text n out₀ i₀ out i = (i ≤ n) × (n ≤ 4095)
+Inv-loop text n out₀ place₀ i₀ out place i = i ≤ n
 
 abbrev μ-loop : tie.MeasureT-loop
-μ-loop text n out₀ i₀ out i = n - i
-
-returns : tie.Need-returns Inv-loop μ-loop
-returns c = search needs
+μ-loop text n out₀ place₀ i₀ out place i = n - i
 
 put-requires : tie.Need-put-requires Inv-loop μ-loop
 put-requires c κs = search needs
 
 loop-holds : tie.Need-loop-holds Inv-loop μ-loop
 loop-holds c = search needs
-
-add-put : tie.Need-add-put Inv-loop μ-loop
-add-put c = search needs
 
 element-copy-out-wide : tie.Need-element-copy-out-wide Inv-loop μ-loop
 element-copy-out-wide c = search needs
@@ -40,11 +34,8 @@ loop-less c = search needs
 loop-again : tie.Need-loop-again Inv-loop μ-loop
 loop-again c = search needs
 
-add-result : tie.Need-add-result Inv-loop μ-loop
-add-result c = search needs
-
-returns-2 : tie.Need-returns-2 Inv-loop μ-loop
-returns-2 c = search needs
+returns : tie.Need-returns Inv-loop μ-loop
+returns c = search needs
 
 pub put-text-spec : {M : Type 1} → statement M
 put-text-spec =
@@ -52,15 +43,12 @@ put-text-spec =
     (tie.spec
     Inv-loop
     μ-loop
-    returns
     put-requires
     loop-holds
-    add-put
     element-copy-out-wide
     wide-requires
     put-requires-2
     add-i
     loop-less
     loop-again
-    add-result
-    returns-2)
+    returns)

@@ -13,6 +13,9 @@ word-requires c κs = search needs
 returns : tie.Need-returns
 returns c = search needs
 
+read-marks-requires : tie.Need-read-marks-requires
+read-marks-requires c κs = search needs
+
 add-read-plans : tie.Need-add-read-plans
 add-read-plans c = search needs
 
@@ -23,10 +26,10 @@ returns-2 : tie.Need-returns-2
 returns-2 c = search needs
 
 sorted-constrained-requires : tie.Need-sorted-constrained-requires
-sorted-constrained-requires c κs = let e = c .before .before .before .before .before .before .before .before .before .before in (e .if1 .left, mul-le-mul (e .if1 .left) (e .before .before .pre))
+sorted-constrained-requires c κs = let e = c .before .before .before .before .before .before .before .before .before .before .before .before .before in (e .if1 .left, mul-le-mul (e .if1 .left) (e .before .before .pre))
 
 sorted-requires : tie.Need-sorted-requires
-sorted-requires c κs = let e = c .before .before .before .before .before .before .before .before in (e .if1 .left, mul-le-mul (e .if1 .left) (e .before .before .pre))
+sorted-requires c κs = let e = c .before .before .before .before .before .before .before .before .before .before .before in (e .if1 .left, mul-le-mul (e .if1 .left) (e .before .before .pre))
 
 returns-3 : tie.Need-returns-3
 returns-3 c = search needs
@@ -41,6 +44,7 @@ fronts-spec =
     add-word
     word-requires
     returns
+    read-marks-requires
     add-read-plans
     read-plans-requires
     returns-2

@@ -5,10 +5,10 @@ use Rattle.replay_fronts.proofs.read_plans.Statement.{statement}
 use Rattle.replay_fronts.proofs.read_plans.Tie as tie
 
 abbrev Inv-loop : tie.InvT-loop
-Inv-loop input at m n constrained rows₀ flags₀ sums₀ place₀ base₀ p₀ rows flags sums place base p = (p ≤ n) × ((n ≤ 1024) × ((m ≤ 8) × ((place ≤ 4097) × (base ≤ 8 * p))))
+Inv-loop input at m n constrained marks rows₀ flags₀ sums₀ place₀ base₀ p₀ rows flags sums place base p = (p ≤ n) × ((n ≤ 1024) × ((m ≤ 8) × ((place ≤ 8193) × (base ≤ 8 * p))))
 
 abbrev μ-loop : tie.MeasureT-loop
-μ-loop input at m n constrained rows₀ flags₀ sums₀ place₀ base₀ p₀ rows flags sums place base p = n - p
+μ-loop input at m n constrained marks rows₀ flags₀ sums₀ place₀ base₀ p₀ rows flags sums place base p = n - p
 
 loop-holds : tie.Need-loop-holds Inv-loop μ-loop
 loop-holds c = search needs

@@ -5,10 +5,10 @@ use Rattle.replay_fronts.proofs.read_row.Statement.{statement}
 use Rattle.replay_fronts.proofs.read_row.Tie as tie
 
 abbrev Inv-loop : tie.InvT-loop
-Inv-loop input at m base rows₀ j₀ rows j = (j ≤ m) × ((m ≤ 8) × ((at ≤ 4097) × (base ≤ 8192)))
+Inv-loop input at m base marks rows₀ j₀ rows j = (j ≤ m) × ((m ≤ 8) × ((at ≤ 8193) × (base ≤ 8192)))
 
 abbrev μ-loop : tie.MeasureT-loop
-μ-loop input at m base rows₀ j₀ rows j = m - j
+μ-loop input at m base marks rows₀ j₀ rows j = m - j
 
 loop-holds : tie.Need-loop-holds Inv-loop μ-loop
 loop-holds c = search needs
@@ -19,11 +19,8 @@ add-real-at c = search needs
 real-at-requires : tie.Need-real-at-requires Inv-loop μ-loop
 real-at-requires c κs = search needs
 
-add-mark : tie.Need-add-mark Inv-loop μ-loop
-add-mark c = search needs
-
-mark-requires : tie.Need-mark-requires Inv-loop μ-loop
-mark-requires c κs = search needs
+element-copy-out-to-minimize : tie.Need-element-copy-out-to-minimize Inv-loop μ-loop
+element-copy-out-to-minimize c = search needs
 
 to-minimize-requires : tie.Need-to-minimize-requires Inv-loop μ-loop
 to-minimize-requires c κs = search needs
@@ -58,8 +55,7 @@ read-row-spec =
     loop-holds
     add-real-at
     real-at-requires
-    add-mark
-    mark-requires
+    element-copy-out-to-minimize
     to-minimize-requires
     add-set-real
     set-real-requires

@@ -7,7 +7,7 @@ use Rattle.replay_session.proofs.calls.Statement.{statement}
 use Rattle.replay_session.proofs.calls.Tie as tie
 
 abbrev Inv-loop : tie.InvT-loop
-Inv-loop input n at count out₀ history₀ candidates₀ plans₀ next-dims₀ put stand₀ i₀ out history candidates plans next-dims stand i = (i ≤ count) × (((stand .held ≤ 4097) × (stand .next ≤ 4097)) × SessionOk (state (stand .session) candidates plans next-dims))
+Inv-loop input n at count out₀ history₀ candidates₀ plans₀ next-dims₀ put stand₀ i₀ out history candidates plans next-dims stand i = (i ≤ count) × (((stand .held ≤ 4097) × (stand .next ≤ 8193)) × SessionOk (state (stand .session) candidates plans next-dims))
 
 abbrev μ-loop : tie.MeasureT-loop
 μ-loop input n at count out₀ history₀ candidates₀ plans₀ next-dims₀ put stand₀ i₀ out history candidates plans next-dims stand i = count - i

@@ -5,7 +5,7 @@ use Rattle.replay_session.proofs.take_history.Statement.{statement}
 use Rattle.replay_session.proofs.take_history.Tie as tie
 
 abbrev Inv-loop : tie.InvT-loop
-Inv-loop input at keep copies count history₀ next held₀ c₀ history held c = (c ≤ copies) × ((held ≤ 4097) × ((count ≤ 4097) × ((at ≤ 4097) × (next ≤ 4097))))
+Inv-loop input at keep copies count history₀ next held₀ c₀ history held c = (c ≤ copies) × ((held ≤ 4097) × ((count ≤ 4097) × ((at ≤ 8193) × (next ≤ 8193))))
 
 abbrev μ-loop : tie.MeasureT-loop
 μ-loop input at keep copies count history₀ next held₀ c₀ history held c = copies - c

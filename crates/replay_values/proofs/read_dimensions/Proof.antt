@@ -5,7 +5,7 @@ use Rattle.replay_values.proofs.read_dimensions.Statement.{statement}
 use Rattle.replay_values.proofs.read_dimensions.Tie as tie
 
 abbrev Inv-loop : tie.InvT-loop
-Inv-loop input at n dims₀ next₀ i₀ dims next i = (i ≤ n) × (next ≤ 4097)
+Inv-loop input at n dims₀ next₀ i₀ dims next i = (i ≤ n) × (next ≤ 8193)
 
 abbrev μ-loop : tie.MeasureT-loop
 μ-loop input at n dims₀ next₀ i₀ dims next i = n - i

@@ -5,7 +5,7 @@ use Rattle.replay_values.proofs.read_marks.Statement.{statement}
 use Rattle.replay_values.proofs.read_marks.Tie as tie
 
 abbrev Inv-loop : tie.InvT-loop
-Inv-loop input at m marks₀ j₀ marks j = (j ≤ m) × ((m ≤ 16) × (at ≤ 4097))
+Inv-loop input at m marks₀ j₀ marks j = (j ≤ m) × ((m ≤ 16) × (at ≤ 8193))
 
 abbrev μ-loop : tie.MeasureT-loop
 μ-loop input at m marks₀ j₀ marks j = m - j

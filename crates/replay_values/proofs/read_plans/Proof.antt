@@ -7,7 +7,7 @@ use Rattle.replay_values.proofs.read_plans.Statement.{statement}
 use Rattle.replay_values.proofs.read_plans.Tie as tie
 
 abbrev Inv-loop : tie.InvT-loop
-Inv-loop input at n first pool₀ place₀ p₀ pool place p = (p ≤ n) × ((n ≤ 4097) × ((first ≤ 4097) × ((place ≤ 4097) × (length pool ≡ length pool₀))))
+Inv-loop input at n first pool₀ place₀ p₀ pool place p = (p ≤ n) × ((n ≤ 4097) × ((first ≤ 4097) × ((place ≤ 8193) × (length pool ≡ length pool₀))))
 
 abbrev μ-loop : tie.MeasureT-loop
 μ-loop input at n first pool₀ place₀ p₀ pool place p = n - p

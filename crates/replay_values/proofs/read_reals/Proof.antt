@@ -5,7 +5,7 @@ use Rattle.replay_values.proofs.read_reals.Statement.{statement}
 use Rattle.replay_values.proofs.read_reals.Tie as tie
 
 abbrev Inv-loop : tie.InvT-loop
-Inv-loop input at k reals₀ j₀ reals j = (j ≤ k) × ((k ≤ 16) × (at ≤ 4097))
+Inv-loop input at k reals₀ j₀ reals j = (j ≤ k) × ((k ≤ 16) × (at ≤ 8193))
 
 abbrev μ-loop : tie.MeasureT-loop
 μ-loop input at k reals₀ j₀ reals j = k - j

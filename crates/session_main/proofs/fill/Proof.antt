@@ -1,53 +1,52 @@
 -- `fill`. Assumes nothing.
+use Prim.Native.Nat.{_-_, _≤_}
 use borrow.Author.Needs.{needs}
+use Rattle.model.specs.Session.{state}
+use Rattle.model.specs.Property.{SessionOk}
 use Rattle.session_main.proofs.fill.Statement.{statement}
 use Rattle.session_main.proofs.fill.Tie as tie
 
-put-record-requires : tie.Need-put-record-requires
-put-record-requires c κs = search needs
+abbrev Inv-loop : tie.InvT-loop
+Inv-loop history candidates₀ plans₀ next-dims₀ now₀ i₀ candidates plans next-dims now i = (i ≤ 6) × SessionOk (state now candidates plans next-dims)
 
-put-record-requires-2 : tie.Need-put-record-requires-2
-put-record-requires-2 c κs = search needs
+abbrev μ-loop : tie.MeasureT-loop
+μ-loop history candidates₀ plans₀ next-dims₀ now₀ i₀ candidates plans next-dims now i = 6 - i
 
-put-record-requires-3 : tie.Need-put-record-requires-3
-put-record-requires-3 c κs = search needs
+put-records-requires : tie.Need-put-records-requires Inv-loop μ-loop
+put-records-requires c κs = search needs
 
-put-record-requires-4 : tie.Need-put-record-requires-4
-put-record-requires-4 c κs = search needs
+loop-holds : tie.Need-loop-holds Inv-loop μ-loop
+loop-holds c = (search needs, c .before .before .pre _ _ _)
 
-ask-requires : tie.Need-ask-requires
-ask-requires c κs = (c .before .before .before .before .before .before .before .before .before .before .before .before .pre _ _ _, search needs)
+asked-of-requires : tie.Need-asked-of-requires Inv-loop μ-loop
+asked-of-requires c κs = search needs
 
-ask-requires-2 : tie.Need-ask-requires-2
-ask-requires-2 c κs = search needs
+ask-requires : tie.Need-ask-requires Inv-loop μ-loop
+ask-requires c κs = search needs
 
-ask-requires-3 : tie.Need-ask-requires-3
-ask-requires-3 c κs = search needs
+add-i : tie.Need-add-i Inv-loop μ-loop
+add-i c = search needs
 
-ask-requires-4 : tie.Need-ask-requires-4
-ask-requires-4 c κs = search needs
+loop-less : tie.Need-loop-less Inv-loop μ-loop
+loop-less c = search needs
 
-ask-requires-5 : tie.Need-ask-requires-5
-ask-requires-5 c κs = search needs
+loop-again : tie.Need-loop-again Inv-loop μ-loop
+loop-again c = search needs
 
-ask-requires-6 : tie.Need-ask-requires-6
-ask-requires-6 c κs = search needs
-
-returns : tie.Need-returns
+returns : tie.Need-returns Inv-loop μ-loop
 returns c = search needs
 
 pub fill-spec : {M : Type 1} → statement M
 fill-spec =
     tie.close
     (tie.spec
-    put-record-requires
-    put-record-requires-2
-    put-record-requires-3
-    put-record-requires-4
+    Inv-loop
+    μ-loop
+    put-records-requires
+    loop-holds
+    asked-of-requires
     ask-requires
-    ask-requires-2
-    ask-requires-3
-    ask-requires-4
-    ask-requires-5
-    ask-requires-6
+    add-i
+    loop-less
+    loop-again
     returns)

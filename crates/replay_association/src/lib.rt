@@ -1,0 +1,181 @@
+// The answers to the oracle's lines of association: normalisation, the nearest lines, and the distance from a line.
+use replay::Words;
+use replay_fronts::Rows;
+use replay_reference::Table;
+use replay_values::Reals;
+ghost use mathlib.Core.Path.{_≡_};
+ghost use Prim.Native.Nat.{_*_, _≤_};
+
+type Places = [usize; 1024];
+
+type Distances = [f64; 1024];
+
+// The values of n rows of m.
+fn values_of(n: usize, m: usize) -> usize
+    requires { ⌜ n * m ≤ 8192 ⌝ }
+    ensures { λ r. ⌜ (r ≡ n * m) × (r ≤ 8192) ⌝ }
+{
+    n * m
+}
+
+// ---- normalisation
+
+fn normalized_of(
+    rows: &Rows,
+    n: usize,
+    m: usize,
+    ideal: &mut Reals,
+    intercepts: &mut Reals,
+    normalized: &mut Rows,
+)
+    requires { ⌜ (m ≤ 8) × (n * m ≤ 8192) ⌝ }
+{
+    association::update_ideal_point(rows, n, m, ideal);
+    association::find_intercepts(rows, n, m, ideal, intercepts);
+    association::normalize_objectives(rows, n, m, ideal, intercepts, normalized);
+}
+
+// The ideal after, the intercepts, and the normalised rows.
+fn put_normalized(rows: &Rows, n: usize, m: usize, k: usize, start: Reals, out: &mut Words) -> usize
+    requires { ⌜ (m ≤ 8) × (n * m ≤ 8192) ⌝ }
+{
+    let mut ideal = start;
+    let mut intercepts = [0.0; 16];
+    let mut normalized = [0.0; 8192];
+    normalized_of(rows, n, m, &mut ideal, &mut intercepts, &mut normalized);
+    let a = put_first(out, 0, &ideal, m);
+    let b = put_first(out, a, &intercepts, m);
+    put_rows(out, b, &normalized, k)
+}
+
+fn put_first(out: &mut Words, at: usize, reals: &Reals, m: usize) -> usize {
+    replay_values::put_reals(out, at, reals, m)
+}
+
+fn put_rows(out: &mut Words, at: usize, rows: &Rows, k: usize) -> usize {
+    replay_values::put_reals(out, at, rows, k)
+}
+
+// 60: after the marks stand the ideal, n and n rows.
+fn normalize(input: &Words, words: usize, m: usize, out: &mut Words) -> usize
+    requires { ⌜ (1 ≤ m) × (m ≤ 8) ⌝ }
+{
+    let n = replay::word(input, m + m + 2) as usize;
+    if 1024 < n {
+        return 0;
+    }
+    let k = values_of(n, m);
+    let mut marks = [0u8; 16];
+    replay_values::read_marks(input, 2, m, &mut marks);
+    let mut rows = [0.0; 8192];
+    let end = replay_fronts::read_rows(input, m + m + 3, m, n, &marks, &mut rows);
+    if end != words {
+        return 0;
+    }
+    let mut ideal = [0.0; 16];
+    replay_values::read_reals(input, m + 2, m, &mut ideal);
+    put_normalized(&rows, n, m, k, ideal, out)
+}
+
+// ---- the nearest lines
+
+fn nearest(
+    rows: &Rows,
+    n: usize,
+    m: usize,
+    table: &Table,
+    n_lines: usize,
+    lines: &mut Places,
+    distances: &mut Distances,
+)
+    requires { ⌜ (n ≤ 1024) × (n * m ≤ 8192) × («n_lines» * m ≤ 8192) ⌝ }
+{
+    association::associate_to_reference_points(rows, n, m, table, n_lines, lines, distances);
+}
+
+// Per row its line and distance.
+fn put_nearest(out: &mut Words, lines: &Places, distances: &Distances, n: usize) -> usize
+    requires { ⌜ n ≤ 1024 ⌝ }
+{
+    let mut place: usize = 0;
+    let mut i: usize = 0;
+    while i < n {
+        let line = replay::put(out, place, lines[i] as u64);
+        place = replay_values::put_real(out, line, distances[i]);
+        i += 1;
+    }
+    place
+}
+
+// The answer of n rows and the table of m and h.
+fn associated(rows: &Rows, n: usize, m: usize, h: usize, out: &mut Words) -> usize
+    requires { ⌜ (1 ≤ m) × (m ≤ 8) × (n ≤ 1024) × (n * m ≤ 8192) ⌝ }
+{
+    let mut table = [0.0; 8192];
+    let n_lines = replay_reference::fill_table(m, h, &mut table);
+    if n_lines == 0 {
+        return 0;
+    }
+    let mut lines = [0usize; 1024];
+    let mut distances = [0.0; 1024];
+    nearest(rows, n, m, &table, n_lines, &mut lines, &mut distances);
+    put_nearest(out, &lines, &distances, n)
+}
+
+// 61: after m stand h, n and n rows.
+fn associate(input: &Words, words: usize, m: usize, out: &mut Words) -> usize
+    requires { ⌜ (1 ≤ m) × (m ≤ 8) ⌝ }
+{
+    let h = replay::word(input, 2) as usize;
+    let n = replay::word(input, 3) as usize;
+    if 1024 < n {
+        return 0;
+    }
+    let marks = [0u8; 16];
+    let mut rows = [0.0; 8192];
+    let end = replay_fronts::read_rows(input, 4, m, n, &marks, &mut rows);
+    if end != words {
+        return 0;
+    }
+    associated(&rows, n, m, h, out)
+}
+
+// ---- the distance
+
+fn distance_of(point: &Reals, line: &Reals, m: usize) -> f64
+    requires { ⌜ m ≤ 8 ⌝ }
+{
+    association::perpendicular_distance(point, 0, line, 0, m)
+}
+
+// 62: after m stand the point and the line.
+fn distance(input: &Words, words: usize, m: usize, out: &mut Words) -> usize
+    requires { ⌜ m ≤ 8 ⌝ }
+{
+    if words != m + m + 2 {
+        return 0;
+    }
+    let mut point = [0.0; 16];
+    let mut line = [0.0; 16];
+    replay_values::read_reals(input, 2, m, &mut point);
+    replay_values::read_reals(input, m + 2, m, &mut line);
+    replay_values::put_real(out, 0, distance_of(&point, &line, m))
+}
+
+// The answer to an input line of n numbers; how many numbers it has, 0 for a case passed over.
+pub fn answer(input: &Words, n: usize, out: &mut Words) -> usize {
+    let command = replay::word(input, 0);
+    let m = replay::word(input, 1) as usize;
+    if 8 < m {
+        return 0;
+    }
+    if m < 1 {
+        return 0;
+    }
+    match command {
+        60 => normalize(input, n, m, out),
+        61 => associate(input, n, m, out),
+        62 => distance(input, n, m, out),
+        _ => 0,
+    }
+}
