@@ -155,7 +155,7 @@ pub extern "C" fn locustdomino_open(
 {
     let size = optional(has_size, size);
     let divisions = optional(has_divisions, divisions);
-    let opened = session_parts::open(
+    let opened = session_opening::open(
         directions,
         seed,
         size,

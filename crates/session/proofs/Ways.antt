@@ -1,7 +1,7 @@
 -- The ways of a call that adds no dimension: what it meets, and what it leaves.
 use Prim.Native.Nat.{ℕ, _≤_, _<_}
 use mathlib.Core.Path.{_≡_, refl, sym, ap, ap₂, _∙_, subst}
-use mathlib.Core.Bool.{Bool, true, false, not, _&&_, _||_, true≢false, false≢true}
+use mathlib.Core.Bool.{Bool, true, false, not, _&&_, _||_, and-false, false≢true}
 use mathlib.Core.List.{List, []}
 use mathlib.Core.Option.{Option, none, some}
 use native.Mathlib.Omega.{arith}
@@ -23,17 +23,15 @@ use Rattle.model.specs.Session.{State, state, discovers, activate, breed, bredF
 use Rattle.model.specs.Refusal.{sampleRefusal, maxHistory, maxSize}
 use Rattle.model.specs.Calls.{refusedBy, roomOf, sampleOf}
 use Rattle.model.specs.Property.{SessionOk, DimensionsOk}
-use Rattle.session_laws.proofs.Tests.{and-both}
+use Rattle.session_laws.proofs.Tests.{and-both, and-fails-first}
 use Rattle.session_laws.proofs.Request.{dimensions-good, step-refusal, breed-refusal, short-refusal}
 use Rattle.session_laws.proofs.Steps.{discovery-ok, active-ok, known}
 use Rattle.session_laws.proofs.Sample.{discovery-phase}
 use Rattle.session_parts.specs.Exits.{exit, Ready}
-use Rattle.session.specs.Exits.{refusedWith, blankLent, breedRefusal, shortRefusal, BredExit, bredExit, breedBy}
+use Rattle.session_breeding.specs.Breeding.{blankLent, breedRefusal, shortRefusal, BredExit, bredExit, breedBy}
+use Rattle.session_breeding.proofs.Breeding.{rooms}
+use Rattle.session.specs.Exits.{refusedWith}
 use Rattle.session.proofs.Refusals.{at-7, at-10, at-11, at-none, no-and, leaves-refused}
-
-and-no-right : (a : Bool) → (a && false) ≡ false
-and-no-right true = refl
-and-no-right false = refl
 
 module _ (s : Session) (cs ps ns : List ℕ) (d : Distribution) (plan : ℕ) (history : List ℕ) where
   abbrev st : State
@@ -60,7 +58,7 @@ module _ (s : Session) (cs ps ns : List ℕ) (d : Distribution) (plan : ℕ) (hi
       no-11 : (isNew st plan ≡ true → s .progress .«n_plans» < maxPlans) → (leb maxPlans (s .progress .«n_plans») && (isNew st plan && not (breeds st history))) ≡ false
       no-11 h = by-bool (isNew st plan)
           (λ e. no-and _ _ (lt-leb maxPlans (s .progress .«n_plans») (h e)))
-          (λ e. ap (λ (b : Bool). leb maxPlans (s .progress .«n_plans») && (b && not (breeds st history))) e ∙ and-no-right (leb maxPlans (s .progress .«n_plans»)))
+          (λ e. ap (λ (b : Bool). leb maxPlans (s .progress .«n_plans») && (b && not (breeds st history))) e ∙ and-false (leb maxPlans (s .progress .«n_plans»)))
 
       pub unbred-none : (isNew st plan ≡ true → s .progress .«n_plans» < maxPlans) → refusal ≡ none
       unfolding sampleRefusal
@@ -92,13 +90,9 @@ module _ (s : Session) (cs ps ns : List ℕ) (d : Distribution) (plan : ℕ) (hi
   unfolding discovers
   others e = e
 
-  pub active-others : isActive s ≡ true → discovers st plan ≡ false
-  unfolding discovers
-  active-others a = ap (λ (b : Bool). not b && discoversFor (s .«discovery_trial_id») plan) a
-
   pub first-others : discoversFor (s .«discovery_trial_id») plan ≡ false → discovers st plan ≡ false
   unfolding discovers
-  first-others a = ap (λ (b : Bool). not (isActive s) && b) a ∙ and-no-right (not (isActive s))
+  first-others a = ap (λ (b : Bool). not (isActive s) && b) a ∙ and-false (not (isActive s))
 
   pub first-unbred : isActive s ≡ false → breeds st history ≡ false
   unfolding breeds
@@ -134,20 +128,13 @@ module _ (s : Session) (cs ps ns : List ℕ) (d : Distribution) (plan : ℕ) (hi
 
   -- ---- the property
 
-  short : longEnough (state s cs ps []) ≡ true → ⊥
+  no-next : (xs : List ℕ) → longEnough (state s xs ps []) ≡ true → ⊥
   unfolding longEnough
-  short e = false≢true (and-right (leb maxPlans (length ps)) (leb maxPlans 0) (and-right (leb maxWords (length cs)) (leb maxPlans (length ps) && leb maxPlans 0) e))
+  no-next xs e = false≢true (and-right (leb maxPlans (length ps)) (leb maxPlans 0) (and-right (leb maxWords (length xs)) (leb maxPlans (length ps) && leb maxPlans 0) e))
 
   -- where no next dimensions are lent, the property asks nothing of the slices
-  pub without-next : SessionOk st → SessionOk (state s cs ps [])
-  without-next ok = record { config = ok .config; dimensions = ok .dimensions; phase = ok .phase; ideal = ok .ideal; lent = λ e. absurd (short e) }
-
-  none-lent : longEnough (state s [] ps []) ≡ true → ⊥
-  unfolding longEnough
-  none-lent e = false≢true e
-
-  pub without-any : SessionOk st → SessionOk (state s [] ps [])
-  without-any ok = record { config = ok .config; dimensions = ok .dimensions; phase = ok .phase; ideal = ok .ideal; lent = λ e. absurd (none-lent e) }
+  pub without-next : (xs : List ℕ) → SessionOk st → SessionOk (state s xs ps [])
+  without-next xs ok = record { config = ok .config; dimensions = ok .dimensions; phase = ok .phase; ideal = ok .ideal; lent = λ e. absurd (no-next xs e) }
 
   pub ready-active : SessionOk st → s .phase ≡ Active → Ready s
   ready-active ok e =
@@ -167,10 +154,14 @@ module _ (s : Session) (cs ps ns : List ℕ) (d : Distribution) (plan : ℕ) (hi
   pub some-dimension : SessionOk st → s .phase ≡ Discovery → discoversFor (s .«discovery_trial_id») plan ≡ false → 1 ≤ s .progress .«n_dims»
   some-dimension ok e f = known (s .«discovery_trial_id») plan (s .progress .«n_dims») f (discovery-ok st ok e .first)
 
+  -- a session is ready, and no plan has come, where so it is after a step
+  ready-as : (x : State) (u : Session) (after : List ℕ) → Ready (x .session) → x .session .progress .«n_plans» ≡ 0 → state u after ps ns ≡ x
+      → Ready u × (u .progress .«n_plans» ≡ 0)
+  ready-as x u after r n e = (subst (λ (y : State). Ready (y .session)) (sym e) r, ap (λ (y : State). y .session .progress .«n_plans») e ∙ n)
+
   pub ready-first : (u : Session) (after : List ℕ) → SessionOk st → 1 ≤ s .progress .«n_dims» → state u after ps ns ≡ activate st
       → Ready u × (u .progress .«n_plans» ≡ 0)
-  ready-first u after ok h e =
-      (subst (λ (x : State). Ready (x .session)) (sym e) (activated-ready (ok .dimensions) h), ap (λ (x : State). x .session .progress .«n_plans») e ∙ activated-none)
+  ready-first u after ok h = ready-as (activate st) u after (activated-ready (ok .dimensions) h) activated-none
 
   -- ---- breeding
 
@@ -183,8 +174,7 @@ module _ (s : Session) (cs ps ns : List ℕ) (d : Distribution) (plan : ℕ) (hi
   bred-none = refl
 
   pub ready-bred : (u : Session) (after : List ℕ) → Ready s → state u after ps ns ≡ breed st history → Ready u × (u .progress .«n_plans» ≡ 0)
-  ready-bred u after r e =
-      (subst (λ (x : State). Ready (x .session)) (sym e) (bred-ready r), ap (λ (x : State). x .session .progress .«n_plans») e ∙ bred-none)
+  ready-bred u after r = ready-as (breed st history) u after (bred-ready r) bred-none
 
   -- what its answer tells
   pub kept-tells : (o : Option ℕ) (c : Outcome) (n : ℕ) (x : State) → bredExit (refusedBy c) x ≡ breedBy o st history → c ≡ outcome.Kept n → (o ≡ none) × (x ≡ breed st history)
@@ -195,9 +185,6 @@ module _ (s : Session) (cs ps ns : List ℕ) (d : Distribution) (plan : ℕ) (hi
   refused-tells none c n x e f = absurd (not-some n (sym (ap (λ (y : Outcome). refusedBy y) f) ∙ ap (λ (b : BredExit). b .refusal) e))
   refused-tells (some q) c n x e f =
       (sym (ap (λ (b : BredExit). b .refusal) e) ∙ ap (λ (y : Outcome). refusedBy y) f, ap (λ (b : BredExit). b .after) e)
-
-  rooms : maxSize ≤ length (blankLent .kept)
-  rooms = omega (arith, length-replicate {A = ℕ} maxSize 0)
 
   -- the call's refusal is breeding's
   pub call-refusal : SessionOk st → breeds st history ≡ true → longEnough st ≡ true → planCount history ≤ maxHistory → maxWords ≤ length cs → refusal ≡ breedRefusal st history
@@ -222,9 +209,7 @@ module _ (s : Session) (cs ps ns : List ℕ) (d : Distribution) (plan : ℕ) (hi
   first-of p e = sym (ap (λ (x : Phase). not (pastDiscovery x) && discoversFor (s .«discovery_trial_id») plan) p) ∙ e
 
   pub not-full : (leb maxPlans (s .progress .«n_plans») && isNew st plan) ≡ false → isNew st plan ≡ true → s .progress .«n_plans» < maxPlans
-  not-full e new =
-      leb-false maxPlans (s .progress .«n_plans»)
-      (by-bool (leb maxPlans (s .progress .«n_plans»)) (λ b. absurd (true≢false (sym (and-both _ _ b new) ∙ e))) (λ b. b))
+  not-full e new = leb-false maxPlans (s .progress .«n_plans») (and-fails-first _ _ e new)
 
 -- a distribution, where a law asks for one that is not looked at
 abbrev pub unused : Distribution

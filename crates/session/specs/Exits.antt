@@ -1,67 +1,30 @@
--- What the parts of a session call answer, in the words of the calls' definitions.
-use Prim.Native.Nat.{ℕ}
+-- What the parts of a session call answer, in the words of its definition.
+use Prim.Native.Nat.{ℕ, _≤_}
+use mathlib.Core.Path.{_≡_}
 use mathlib.Core.Bool.{true}
-use mathlib.Core.List.{List, [], _∷_}
-use mathlib.Core.Option.{Option, none, some}
-use lib.Ieee.{Float}
-use lib.ListN.{take, replicate}
+use mathlib.Core.List.{List}
+use Rattle.model.specs.declared.Distribution.{Distribution}
 use Rattle.model.specs.declared.Sampled.{Sampled}
 use Rattle.model.specs.declared.Sampling.the-variants as sampling
-use Rattle.model.specs.declared.Selection.{Selection}
 use Rattle.model.specs.declared.Session.{Session}
-use Rattle.model.specs.Session.{State, requestOf, operatorsOf, breed}
-use Rattle.model.specs.Refusal.{check, firstOf, badPool, badParents, maxSize}
-use Rattle.model.specs.Calls.{Lent, StepExit, lent, wordRequest, stepOf}
+use Rattle.model.specs.Plan.{planCount}
+use Rattle.model.specs.Session.{State, longEnough}
+use Rattle.model.specs.Refusal.{maxHistory}
+use Rattle.model.specs.Calls.{SampleExit, sampleOf}
+use Rattle.model.specs.Property.{SessionOk}
 
 -- a refusal leaves the session as it was
 abbrev pub refusedWith : ℕ → Session → Sampled
 refusedWith n s = record { outcome = sampling.Refused n; session = s }
 
--- ---- the generation step of a session
+-- ---- a call that adds no dimension
 
--- what of a step's answer a session takes
-pub record Stepped : Type 0 where
-  pub answer : Selection
-  pub ideal : List Float
-  pub offspring : List ℕ
+-- what it asks: 7 and 10 do not apply
+pub record Called (st : State) (history : List ℕ) : Type 0 where
+  pub ok : SessionOk st
+  pub room : longEnough st ≡ true
+  pub few : planCount history ≤ maxHistory
 
-abbrev pub stepped : Selection → List Float → List ℕ → Stepped
-stepped r ideal offspring = record { answer = r; ideal = ideal; offspring = offspring }
-
-abbrev pub takenOf : StepExit → Stepped
-takenOf e = stepped (e .answer) (e .ideal) (e .offspring)
-
--- the lists that are lent for the selection
-abbrev pub blankLent : Lent
-blankLent = lent (replicate maxSize 0) (replicate maxSize 0) (replicate maxSize 0)
-
-abbrev pub stepOn : Session → List ℕ → List Float → List ℕ → Stepped
-stepOn s pool ideal offspring =
-    takenOf (stepOf (operatorsOf s) (wordRequest pool (take (s .config .«n_obj») (s .config .directions)) (s .config .divisions) (s .config .«population_size») (s .rng) ideal)
-    blankLent offspring)
-
--- ---- breeding
-
--- of a call that breeds, refusals 8 and 9 are left
-abbrev pub breedRefusal : State → List ℕ → Option ℕ
-breedRefusal st history =
-    firstOf (check 8 (badPool (requestOf st history)) ∷ check 9 (badParents (operatorsOf (st .session)) (requestOf st history)) ∷ [])
-
--- and 10 after them where a slice that is lent is too short
-abbrev pub shortRefusal : State → List ℕ → Option ℕ
-shortRefusal st history =
-    firstOf (check 8 (badPool (requestOf st history)) ∷ check 9 (badParents (operatorsOf (st .session)) (requestOf st history)) ∷ check 10 true ∷ [])
-
-pub record BredExit : Type 0 where
-  pub refusal : Option ℕ
-  pub after : State
-
-abbrev pub bredExit : Option ℕ → State → BredExit
-bredExit o st = record { refusal = o; after = st }
-
-abbrev pub breedBy : Option ℕ → State → List ℕ → BredExit
-breedBy none st history = bredExit none (breed st history)
-breedBy (some n) st history = bredExit (some n) st
-
-abbrev pub breedOf : State → List ℕ → BredExit
-breedOf st history = breedBy (breedRefusal st history) st history
+-- what it leaves is the call's answer, whatever dimension is passed
+abbrev pub Answers : SampleExit → State → ℕ → List ℕ → Type 0
+Answers e st plan history = (d : Distribution) → e ≡ sampleOf st d plan history

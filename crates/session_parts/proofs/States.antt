@@ -21,7 +21,7 @@ use Rattle.model.specs.Draw.{Drawn, drawn}
 use Rattle.model.specs.Setting.{kindOfDimension, toWord, ofWord, sampleRandom, sampleAll, sampleCandidates, wordsOf}
 use Rattle.model.specs.Session.{State, state, progress, dimensionOf, withRng, withProgress, overAt, discover, activate, overflow, enter, enlist, answer, isNew, placeIn, plansOf, sampleFromCandidate}
 use Rattle.session_parts.specs.Exits.{exit, settled, Ready}
-use Rattle.session_parts.proofs.Records.{has-place}
+use Rattle.session_records.proofs.Records.{has-place}
 
 -- ---- discovery
 

@@ -7,9 +7,10 @@ use Rattle.model.specs.declared.Sampled.{Sampled}
 use Rattle.model.specs.Session.{State, state, sampleFromCandidate, pastDiscovery}
 use Rattle.session_parts.specs.Exits.{exit, settled}
 use mathlib.Core.List.{[]}
+use Rattle.session_laws.proofs.Request.{active-discovers}
 use Rattle.session_laws.proofs.Steps.{long, active-ok}
 use Rattle.session.proofs.Refusals.{leaves-refused, leaves-accepted}
-use Rattle.session.proofs.Ways.{unused, ready-active, breeds-by, active-others, active-accepted, unbred-none, unbred-11, not-full}
+use Rattle.session.proofs.Ways.{unused, ready-active, breeds-by, active-accepted, unbred-none, unbred-11, not-full}
 use native.Mathlib.Omega.{arith}
 use borrow.Author.Needs.{needs}
 use Rattle.session.proofs.sample_active.Statement.{statement}
@@ -22,7 +23,7 @@ sample-bred-requires : tie.Need-sample-bred-requires
 sample-bred-requires c κs =
     let s = c .before .before .before .before .before .before .before .before .before .before .before .before in
     let a = s .args in
-    (s .pre .0, breeds-by (a .session) (a .candidates .now) (a .plans .now) (a .next-dims .now) unused 0 (a .history .now) true (ap pastDiscovery (s .pre .1)) (sym (c .before .before .before .before .evaluated .ensures) ∙ c .before .before .before .if1 .taken), s .pre .3, s .pre .2)
+    (s .pre .0, breeds-by (a .session) (a .candidates .now) (a .plans .now) (a .next-dims .now) unused 0 (a .history .now) true (ap pastDiscovery (s .pre .1)) (sym (c .before .before .before .before .evaluated .ensures) ∙ c .before .before .before .if1 .taken))
 
 same-length : tie.Need-same-length
 same-length c = c .before .before .before .before .before .before .sample-bred .kept .1 .1 .1 .0
@@ -40,7 +41,7 @@ full-requires : tie.Need-full-requires
 full-requires c κs =
     let s = c .before .before .before .before .before .before .before .before .before .before in
     let a = s .args in
-    omega (arith, active-ok (state (a .session) (a .candidates .now) (a .plans .now) (a .next-dims .now)) (s .pre .0) (s .pre .1) .room, long (state (a .session) (a .candidates .now) (a .plans .now) (a .next-dims .now)) (s .pre .2) .plans)
+    omega (arith, active-ok (state (a .session) (a .candidates .now) (a .plans .now) (a .next-dims .now)) (s .pre .0 .ok) (s .pre .1) .room, long (state (a .session) (a .candidates .now) (a .plans .now) (a .next-dims .now)) (s .pre .0 .room) .plans)
 
 refused-requires : tie.Need-refused-requires
 refused-requires c κs = tt
@@ -56,15 +57,15 @@ returns-2 c d =
     let b = breeds-by (a .session) (a .candidates .now) (a .plans .now) (a .next-dims .now) d (a .plan) (a .history .now) false i (sym (c .before .before .before .before .before .evaluated .ensures) ∙ c .before .before .before .before .if1 .left) in
     ap (λ (r : Sampled). exit r (a .candidates .now) (a .plans .now) (a .next-dims .now)) (c .refused .ensures)
     ∙ leaves-refused (a .session) (a .candidates .now) (a .plans .now) (a .next-dims .now) d (a .plan) (a .history .now) 11
-    (unbred-11 (a .session) (a .candidates .now) (a .plans .now) (a .next-dims .now) d (a .plan) (a .history .now) (active-others (a .session) (a .candidates .now) (a .plans .now) (a .next-dims .now) d (a .plan) (a .history .now) i) (s .pre .3) (s .pre .2) b (sym (c .before .before .full .ensures) ∙ c .before .if2 .taken))
+    (unbred-11 (a .session) (a .candidates .now) (a .plans .now) (a .next-dims .now) d (a .plan) (a .history .now) (active-discovers (state (a .session) (a .candidates .now) (a .plans .now) (a .next-dims .now)) (a .plan) i) (s .pre .0 .few) (s .pre .0 .room) b (sym (c .before .before .full .ensures) ∙ c .before .if2 .taken))
 
 sample-from-candidate-requires : tie.Need-sample-from-candidate-requires
 sample-from-candidate-requires c κs =
     let s = c .before .before .before .before .before .before .before .before .before .before .before .before .before .before .before in
     let a = s .args in
     let st = state (a .session) (a .candidates .now) (a .plans .now) (a .next-dims .now) in
-    let l = long st (s .pre .2) in (
-      ready-active (a .session) (a .candidates .now) (a .plans .now) (a .next-dims .now) unused 0 [] (s .pre .0) (s .pre .1),
+    let l = long st (s .pre .0 .room) in (
+      ready-active (a .session) (a .candidates .now) (a .plans .now) (a .next-dims .now) unused 0 [] (s .pre .0 .ok) (s .pre .1),
       l .words,
       l .plans,
       l .next,
@@ -86,10 +87,10 @@ returns-3 c d =
     let a = s .args in
     let i = ap pastDiscovery (s .pre .1) in
     let b = breeds-by (a .session) (a .candidates .now) (a .plans .now) (a .next-dims .now) d (a .plan) (a .history .now) false i (sym (c .before .before .before .before .before .before .before .before .before .before .before .before .before .before .evaluated .ensures) ∙ c .before .before .before .before .before .before .before .before .before .before .before .before .before .if1 .left) in
-    let o = active-others (a .session) (a .candidates .now) (a .plans .now) (a .next-dims .now) d (a .plan) (a .history .now) i in
+    let o = active-discovers (state (a .session) (a .candidates .now) (a .plans .now) (a .next-dims .now)) (a .plan) i in
     c .before .before .before .before .before .before .sample-from-candidate .ensures
     ∙ leaves-accepted (a .session) (a .candidates .now) (a .plans .now) (a .next-dims .now) d (a .plan) (a .history .now) _
-    (unbred-none (a .session) (a .candidates .now) (a .plans .now) (a .next-dims .now) d (a .plan) (a .history .now) o (s .pre .3) (s .pre .2) b (not-full (a .session) (a .candidates .now) (a .plans .now) (a .next-dims .now) d (a .plan) (a .history .now) (sym (c .before .before .before .before .before .before .before .before .before .before .before .full .ensures) ∙ c .before .before .before .before .before .before .before .before .before .before .if2 .left)))
+    (unbred-none (a .session) (a .candidates .now) (a .plans .now) (a .next-dims .now) d (a .plan) (a .history .now) o (s .pre .0 .few) (s .pre .0 .room) b (not-full (a .session) (a .candidates .now) (a .plans .now) (a .next-dims .now) d (a .plan) (a .history .now) (sym (c .before .before .before .before .before .before .before .before .before .before .before .full .ensures) ∙ c .before .before .before .before .before .before .before .before .before .before .if2 .left)))
     (active-accepted (a .session) (a .candidates .now) (a .plans .now) (a .next-dims .now) d (a .plan) (a .history .now) o i b)
 
 pub sample-active-spec : {M : Type 1} → statement M
