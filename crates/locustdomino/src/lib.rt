@@ -172,7 +172,7 @@ pub extern "C" fn locustdomino_open(
                 return 10;
             }
             let state = opened.session;
-            session_words::words_of_session(state, session);
+            session_encoding::words_of_session(state, session);
             0
         }
     }
@@ -228,7 +228,7 @@ pub extern "C" fn locustdomino_sample(
         Sampling::Refused(n) => wide(n),
         Sampling::Setting(v) => {
             let after = sampled.session;
-            session_words::words_of_session(after, session);
+            session_encoding::words_of_session(after, session);
             *kind = kind_of(v);
             *value = settings::to_word(v);
             0

@@ -1,10 +1,10 @@
 -- Lists joined, and lists written over.
 use Prim.Native.Nat.{ℕ, zero, suc, _*_, _≤_}
-use mathlib.Core.Path.{_≡_, sym, _∙_}
-use mathlib.Core.List.{List}
+use mathlib.Core.Path.{_≡_, refl, sym, ap, _∙_}
+use mathlib.Core.List.{List, [], _∷_, _++_}
 use native.Mathlib.Nat.{zero-mul, suc-mul}
 use native.Mathlib.Omega.{arith}
-use lib.ListN.{length, take, drop, length-append, length-take, length-drop}
+use lib.ListN.{length, take, drop, length-append, length-take, length-drop, drop-of-length-le}
 use Rattle.model.specs.Lists.{joinBelow, over}
 use Rattle.model.specs.Session.{overAt}
 
@@ -13,6 +13,14 @@ pub join-length : (f : ℕ → List ℕ) (w n : ℕ) → ((i : ℕ) → length (
 unfolding joinBelow
 join-length f w zero h = sym (zero-mul w)
 join-length f w (suc n) h = length-append (joinBelow f n) (f n) ∙ omega (arith, join-length f w n h, h n, suc-mul n w)
+
+-- a list as long as what it is laid over takes its place
+pub over-all : {A : Type 0} (new old : List A) → length old ≤ length new → over new old ≡ new
+over-all new old h = ap (λ t. new ++ t) (drop-of-length-le old h) ∙ nil new
+  where
+    nil : {B : Type 0} (l : List B) → l ++ [] ≡ l
+    nil [] = refl
+    nil (x ∷ l) = ap (λ t. x ∷ t) (nil l)
 
 -- a slice does not get shorter by what is written over it
 pub over-long : {A : Type 0} (new old : List A) → length old ≤ length (over new old)

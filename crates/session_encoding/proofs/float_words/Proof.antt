@@ -1,7 +1,7 @@
 -- Field by field.
 use borrow.Author.Needs.{needs}
-use Rattle.session_words.proofs.float_words.Statement.{statement}
-use Rattle.session_words.proofs.float_words.Tie as tie
+use Rattle.session_encoding.proofs.float_words.Statement.{statement}
+use Rattle.session_encoding.proofs.float_words.Tie as tie
 
 word-of-real-requires : tie.Need-word-of-real-requires
 word-of-real-requires c κs = search needs

@@ -1,8 +1,8 @@
 -- Field by field.
 use Rattle.session_words.specs.Coding.{stateWords}
 use borrow.Author.Needs.{needs}
-use Rattle.session_words.proofs.state_words.Statement.{statement}
-use Rattle.session_words.proofs.state_words.Tie as tie
+use Rattle.session_encoding.proofs.state_words.Statement.{statement}
+use Rattle.session_encoding.proofs.state_words.Tie as tie
 
 phase-word-requires : tie.Need-phase-word-requires
 phase-word-requires c κs = search needs

@@ -1,9 +1,9 @@
 -- Field by field.
-use Rattle.session_words.proofs.Marks.{int-laid}
+use Rattle.session_encoding.proofs.Laid.{int-laid}
 use Rattle.settings.proofs.Signed.{back}
 use borrow.Author.Needs.{needs}
-use Rattle.session_words.proofs.int_words.Statement.{statement}
-use Rattle.session_words.proofs.int_words.Tie as tie
+use Rattle.session_encoding.proofs.int_words.Statement.{statement}
+use Rattle.session_encoding.proofs.int_words.Tie as tie
 
 word-of-int-requires : tie.Need-word-of-int-requires
 word-of-int-requires c κs = search needs

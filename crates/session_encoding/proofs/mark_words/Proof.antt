@@ -1,7 +1,7 @@
 -- Place by place.
 use borrow.Author.Needs.{needs}
-use Rattle.session_words.proofs.mark_words.Statement.{statement}
-use Rattle.session_words.proofs.mark_words.Tie as tie
+use Rattle.session_encoding.proofs.mark_words.Statement.{statement}
+use Rattle.session_encoding.proofs.mark_words.Tie as tie
 
 array-read-wide : tie.Need-array-read-wide
 array-read-wide c = search needs

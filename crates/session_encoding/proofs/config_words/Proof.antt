@@ -1,8 +1,8 @@
 -- Field by field.
-use Rattle.session_words.proofs.Marks.{config-laid}
+use Rattle.session_encoding.proofs.Laid.{config-laid}
 use borrow.Author.Needs.{needs}
-use Rattle.session_words.proofs.config_words.Statement.{statement}
-use Rattle.session_words.proofs.config_words.Tie as tie
+use Rattle.session_encoding.proofs.config_words.Statement.{statement}
+use Rattle.session_encoding.proofs.config_words.Tie as tie
 
 mark-words-requires : tie.Need-mark-words-requires
 mark-words-requires c κs = search needs

@@ -1,10 +1,10 @@
 -- By cases on the step.
 use mathlib.Core.Path.{sym, ap, _∙_}
 use Rattle.session_words.specs.Coding.{stepWordI64}
 use Rattle.settings.proofs.Signed.{back}
 use borrow.Author.Needs.{needs}
-use Rattle.session_words.proofs.step_word_i64.Statement.{statement}
-use Rattle.session_words.proofs.step_word_i64.Tie as tie
+use Rattle.session_encoding.proofs.step_word_i64.Statement.{statement}
+use Rattle.session_encoding.proofs.step_word_i64.Tie as tie
 
 enum-told : tie.Need-enum-told
 enum-told c = search needs

@@ -23,7 +23,7 @@ use Rattle.model.specs.declared.Distribution.the-variants as dist
 use Rattle.model.specs.declared.Session.{Session}
 use Rattle.model.specs.Session.{noDimension}
 use Rattle.typed_laws.proofs.Held.{each-field, session-dimensions, session-ideal, session-directions}
-use Rattle.session_words.proofs.Stored.{Doubles, DoubleStep, ConfigStored, Stored}
+use Rattle.session_encoding.proofs.Stored.{Doubles, DoubleStep, ConfigStored, Stored}
 
 step-doubles : (o : OptionF64) (vs : List Val) → Is (enum.row step.the-type) o vs → DoubleStep o
 step-doubles optF64.None vs p = tt

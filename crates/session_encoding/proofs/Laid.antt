@@ -3,42 +3,33 @@ use Prim.Native.Nat.{ℕ, zero, suc, _+_, _*_, _≤_, _<_}
 use mathlib.Core.Path.{_≡_, refl, sym, ap, ap₂, _∙_}
 use mathlib.Core.List.{List, [], _∷_, _++_, append-assoc}
 use mathlib.Core.Logic.{⊎-elim}
-use native.Mathlib.Nat.{not-suc-le-zero, eq-or-lt-of-le, add-mul, one-mul}
+use native.Mathlib.Nat.{not-suc-le-zero, eq-or-lt-of-le}
 use native.Mathlib.Numerals.{add-one}
 use native.Mathlib.Omega.{arith}
-use lib.ListN.{length, getD, take, drop, length-append, drop-of-length-le, List·getD-append}
-use lib.Seq.{getD-append-add, length-take-le, take-append-add, drop-append-add, take-length}
-use Rattle.list_laws.proofs.Built.{listBelow-take, joinBelow-none, joinBelow-more}
+use lib.ListN.{length, getD, List·getD-append}
+use lib.Seq.{getD-append-add, take-length}
+use Rattle.list_laws.proofs.Built.{listBelow-take, joinBelow-more}
 use Rattle.candidates.proofs.Laid.{over-next, at-next}
+use Rattle.session_laws.proofs.Lists.{join-length}
+use Rattle.model.specs.declared.Config.{Config}
 use Rattle.model.specs.declared.Distribution.{Distribution}
 use Rattle.model.specs.declared.Distribution.the-variants as dist
+use Rattle.model.specs.declared.IntDistribution.{IntDistribution}
 use Rattle.model.specs.declared.Session.{Session}
-use Rattle.model.specs.Lists.{listBelow, joinBelow, over}
+use Rattle.model.specs.Lists.{one, listBelow, joinBelow, over}
+use Rattle.model.specs.Real.{bits}
+use Rattle.model.specs.Setting.{wordOfInt}
 use Rattle.model.specs.Session.{overAt, dimensionOf}
-use Rattle.session_words.specs.Coding.{dimensionWords, configWords, stateWords, idealWords, sessionWords}
+use Rattle.session_words.specs.Coding.{hasStepI64, stepWordI64, dimensionWords, eight, configWords, stateWords, idealWords, sessionWords}
 
 -- a list by its places
 pub by-places : (l : List ℕ) → listBelow (λ i. getD l i 0) (length l) ≡ l
 by-places l = sym (listBelow-take (λ i. getD l i 0) (length l) 0 l (omega arith) (λ t h. refl)) ∙ take-length l
 
--- a list as long as what it is laid over takes its place
-pub over-all : {A : Type 0} (new old : List A) → length old ≤ length new → over new old ≡ new
-over-all new old h = ap (λ t. new ++ t) (drop-of-length-le old h) ∙ nil new
-  where
-    nil : {B : Type 0} (l : List B) → l ++ [] ≡ l
-    nil [] = refl
-    nil (x ∷ l) = ap (λ t. x ∷ t) (nil l)
-
 module _ (f : ℕ → List ℕ) (k : ℕ) (each : (d : ℕ) → length (f d) ≡ k) where
-  pub join-length : (n : ℕ) → length (joinBelow f n) ≡ n * k
-  join-length zero = ap length (joinBelow-none f) ∙ omega arith
-  join-length (suc n) =
-      ap (λ t. length (joinBelow f t)) (sym (add-one n)) ∙ ap length (joinBelow-more f n) ∙ length-append (joinBelow f n) (f n)
-      ∙ omega (arith, join-length n, each n, add-mul n 1 k, one-mul k, ap (λ t. t * k) (sym (add-one n)))
-
   pub join-next : (at n : ℕ) (l : List ℕ) → at ≤ length l → overAt (at + n * k) (f n) (overAt at (joinBelow f n) l) ≡ overAt at (joinBelow f (n + 1)) l
   join-next at n l h =
-      at-next at (n * k) (joinBelow f n) (f n) l h (join-length n) ∙ ap (λ t. overAt at t l) (sym (joinBelow-more f n))
+      at-next at (n * k) (joinBelow f n) (f n) l h (join-length f k n each) ∙ ap (λ t. overAt at t l) (sym (joinBelow-more f n))
 
   -- a word of a block among the others
   pub joined-at : (n : ℕ) (rest : List ℕ) (d j : ℕ) → d < n → j < k → getD (joinBelow f n ++ rest) (d * k + j) 0 ≡ getD (f d) j 0
@@ -49,7 +40,7 @@ module _ (f : ℕ → List ℕ) (k : ℕ) (each : (d : ℕ) → length (f d) ≡
       let g : d ≤ n = omega arith in
       ap (λ t. getD t (d * k + j) 0) e
       ∙ ⊎-elim
-      (λ v. ap (λ t. getD (joinBelow f n ++ (f n ++ rest)) (t + j) 0) (ap (λ t. t * k) v ∙ sym (join-length n))
+      (λ v. ap (λ t. getD (joinBelow f n ++ (f n ++ rest)) (t + j) 0) (ap (λ t. t * k) v ∙ sym (join-length f k n each))
       ∙ getD-append-add (joinBelow f n) (f n ++ rest) j 0 ∙ List·getD-append (f n) rest 0 j (omega (arith, each n)) ∙ ap (λ t. getD (f t) j 0) (sym v))
       (λ m. joined-at n (f n ++ rest) d j m i)
       (eq-or-lt-of-le g)
@@ -60,6 +51,17 @@ pub dimension-length : (x : Distribution) → length (dimensionWords x) ≡ 6
 dimension-length (dist.Float d) = refl
 dimension-length (dist.Int d) = refl
 dimension-length (dist.Categorical d) = refl
+
+pub int-laid : (d : IntDistribution) (low high log has step : ℕ) → low ≡ wordOfInt (d .low) → high ≡ wordOfInt (d .high) → log ≡ one (d .«log_scale»)
+    → has ≡ hasStepI64 (d .step) → step ≡ stepWordI64 (d .step) → (1 ∷ low ∷ high ∷ log ∷ has ∷ step ∷ []) ≡ dimensionWords (dist.Int d)
+int-laid d low high log has step p q r t u = rw (p, q, r, t, u)
+
+pub config-laid : (c : Config) (m : List ℕ) (p e u : ℕ) → m ≡ eight (λ i. getD (c .directions) i 0) → p ≡ bits (c .«crossover_prob»)
+    → e ≡ bits (c .«crossover_eta») → u ≡ bits (c .«mutation_eta»)
+    → (c .«n_obj» ∷ getD m 0 0 ∷ getD m 1 0 ∷ getD m 2 0 ∷ getD m 3 0 ∷ getD m 4 0 ∷ getD m 5 0 ∷ getD m 6 0 ∷ getD m 7 0
+    ∷ c .divisions ∷ c .«population_size» ∷ p ∷ e ∷ u ∷ []) ≡ configWords c
+unfolding configWords
+config-laid c m p e u hm hp he hu = rw (hm, hp, he, hu)
 
 pub session-laid : (s : Session) (w w1 w2 w3 w4 cs ss zs : List ℕ) → cs ≡ configWords (s .config) → w1 ≡ overAt 0 cs w → ss ≡ stateWords s → w2 ≡ overAt 14 ss w1
     → zs ≡ idealWords (s .«ideal_point») → w3 ≡ overAt 22 zs w2 → w4 ≡ overAt 30 (joinBelow (λ d. dimensionWords (dimensionOf s d)) 32) w3

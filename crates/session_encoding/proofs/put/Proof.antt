@@ -6,9 +6,9 @@ use lib.ListN.{length, getD, set, length-set}
 use Rattle.model.specs.Lists.{listBelow}
 use Rattle.model.specs.Session.{overAt}
 use Rattle.candidates.proofs.Laid.{at-none, at-more}
-use Rattle.session_words.proofs.Laid.{by-places}
-use Rattle.session_words.proofs.put.Statement.{statement}
-use Rattle.session_words.proofs.put.Tie as tie
+use Rattle.session_encoding.proofs.Laid.{by-places}
+use Rattle.session_encoding.proofs.put.Statement.{statement}
+use Rattle.session_encoding.proofs.put.Tie as tie
 
 abbrev Inv-loop : tie.InvT-loop
 Inv-loop block at words₀ j₀ words j =

@@ -1,12 +1,12 @@
 -- Four blocks, laid one after the other; what they are read back as is the law of Stored.
 use mathlib.Core.Path.{ap, _∙_}
 use Rattle.session_words.specs.Coding.{sessionOf}
-use Rattle.session_words.proofs.Laid.{session-laid}
-use Rattle.session_words.proofs.Stored.{session-back}
-use Rattle.session_words.proofs.Typed.{stored}
+use Rattle.session_encoding.proofs.Laid.{session-laid}
+use Rattle.session_encoding.proofs.Stored.{session-back}
+use Rattle.session_encoding.proofs.Typed.{stored}
 use borrow.Author.Needs.{needs}
-use Rattle.session_words.proofs.words_of_session.Statement.{statement}
-use Rattle.session_words.proofs.words_of_session.Tie as tie
+use Rattle.session_encoding.proofs.words_of_session.Statement.{statement}
+use Rattle.session_encoding.proofs.words_of_session.Tie as tie
 
 config-words-requires : tie.Need-config-words-requires
 config-words-requires c κs = search needs

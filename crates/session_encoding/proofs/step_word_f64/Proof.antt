@@ -1,7 +1,7 @@
 -- By cases on the step.
 use borrow.Author.Needs.{needs}
-use Rattle.session_words.proofs.step_word_f64.Statement.{statement}
-use Rattle.session_words.proofs.step_word_f64.Tie as tie
+use Rattle.session_encoding.proofs.step_word_f64.Statement.{statement}
+use Rattle.session_encoding.proofs.step_word_f64.Tie as tie
 
 enum-told : tie.Need-enum-told
 enum-told c = search needs

@@ -1,8 +1,8 @@
 -- Place by place.
 use Rattle.session_words.specs.Coding.{idealWords}
 use borrow.Author.Needs.{needs}
-use Rattle.session_words.proofs.ideal_words.Statement.{statement}
-use Rattle.session_words.proofs.ideal_words.Tie as tie
+use Rattle.session_encoding.proofs.ideal_words.Statement.{statement}
+use Rattle.session_encoding.proofs.ideal_words.Tie as tie
 
 array-read-word-of-real : tie.Need-array-read-word-of-real
 array-read-word-of-real c = search needs

@@ -28,9 +28,9 @@ use Rattle.model.specs.declared.Session.{Session}
 use Rattle.model.specs.Lists.{one, listBelow, joinBelow, over}
 use Rattle.model.specs.Real.{real, bits}
 use Rattle.model.specs.Session.{dimensionOf, noDimension}
 use Rattle.session_words.specs.Coding.{marked, hasStepF64, stepWordF64, hasStepI64, stepWordI64, dimensionWords, stepF64, stepI64, dimensionAt, infoAt, dimensionsAt, phaseWord, phaseOf, hasFirst, firstWord, firstOf, eight, configWords, stateWords, idealWords, sessionWords, marksAt, idealAt, configAt, sessionOf}
 use Rattle.session_words.proofs.Marks.{float-is, int-is}
-use Rattle.session_words.proofs.Laid.{dimension-length, joined-at}
+use Rattle.session_encoding.proofs.Laid.{dimension-length, joined-at}
 
 -- ---- what is asked of a value that is stored: its reals are doubles, its directions bytes, and its arrays of their lengths
 
@@ -71,7 +71,7 @@ stepI64-back : (o : OptionI64) → o ≡ stepI64 (hasStepI64 o) (stepWordI64 o)
 stepI64-back optI64.None = refl
 stepI64-back (optI64.Some n) = ap optI64.Some (sym (int-of-word-of n))
 
-pub dimension-back : (x : Distribution) → Doubles x → x ≡ dimensionAt (dimensionWords x) 0
+dimension-back : (x : Distribution) → Doubles x → x ≡ dimensionAt (dimensionWords x) 0
 dimension-back (dist.Float d) h =
     float-is 0 _ _ (one (d .«log_scale»)) (hasStepF64 (d .step)) (stepWordF64 (d .step)) (d .low) (d .high) (d .«log_scale») (d .step) refl (sym (ofBits-toBits binary64 (d .low) (h .0))) (sym (ofBits-toBits binary64 (d .high) (h .1)))
     (marked-back (d .«log_scale»)) (stepF64-back (d .step) (h .2))
@@ -81,7 +81,7 @@ dimension-back (dist.Int d) h =
 dimension-back (dist.Categorical d) h = refl
 
 -- words that agree in six places stand for one dimension
-pub same-six : (v w : List ℕ) (at : ℕ) → ((j : ℕ) → j < 6 → getD v (at + j) 0 ≡ getD w j 0) → dimensionAt v at ≡ dimensionAt w 0
+same-six : (v w : List ℕ) (at : ℕ) → ((j : ℕ) → j < 6 → getD v (at + j) 0 ≡ getD w j 0) → dimensionAt v at ≡ dimensionAt w 0
 same-six v w at h =
     let n : at + 0 ≡ at = omega arith in
     let z : getD v at 0 ≡ getD w 0 0 = ap (λ k. getD v k 0) (sym n) ∙ h 0 (omega arith) in
@@ -89,12 +89,11 @@ same-six v w at h =
 
 -- ---- the parts of a session
 
-eights : {A : Type 0} (f g : ℕ → A) → f 0 ≡ g 0 → f 1 ≡ g 1 → f 2 ≡ g 2 → f 3 ≡ g 3 → f 4 ≡ g 4 → f 5 ≡ g 5 → f 6 ≡ g 6 → f 7 ≡ g 7 → eight f ≡ eight g
-eights f g a b c d e k l m = rw (a, b, c, d, e, k, l, m)
-
-by-eight : {A : Type 0} (l : List A) (z : A) → length l ≡ 8 → eight (λ i. getD l i z) ≡ l
+-- eight places that are an array's are the array
+eight-back : {A : Type 0} (f : ℕ → A) (l : List A) (z : A) → length l ≡ 8 → f 0 ≡ getD l 0 z → f 1 ≡ getD l 1 z → f 2 ≡ getD l 2 z → f 3 ≡ getD l 3 z
+    → f 4 ≡ getD l 4 z → f 5 ≡ getD l 5 z → f 6 ≡ getD l 6 z → f 7 ≡ getD l 7 z → eight f ≡ l
 unfolding listBelow
-by-eight l z p = sym (listBelow-take (λ i. getD l i z) 8 z l (omega arith) (λ t h. refl)) ∙ take-all 8 l (omega arith)
+eight-back f l z p a b c d e k m n = rw (a, b, c, d, e, k, m, n) (sym (listBelow-take (λ i. getD l i z) 8 z l (omega arith) (λ t h. refl)) ∙ take-all 8 l (omega arith))
 
 phase-back : (p : Phase) → phaseOf (phaseWord p) ≡ p
 phase-back Discovery = refl
@@ -169,9 +168,8 @@ module _ (s : Session) (old : List ℕ) (ok : Stored s) where
   marks-back : marksAt words ≡ s .config .directions
   unfolding marksAt sessionWords configWords
   marks-back =
-      eights (λ i. getD words (1 + i) 0 % 256) (λ i. getD (s .config .directions) i 0) (byte 0 (omega arith)) (byte 1 (omega arith)) (byte 2 (omega arith)) (byte 3 (omega arith))
+      eight-back (λ i. getD words (1 + i) 0 % 256) (s .config .directions) 0 (ok .config .marks) (byte 0 (omega arith)) (byte 1 (omega arith)) (byte 2 (omega arith)) (byte 3 (omega arith))
       (byte 4 (omega arith)) (byte 5 (omega arith)) (byte 6 (omega arith)) (byte 7 (omega arith))
-      ∙ by-eight (s .config .directions) 0 (ok .config .marks)
 
   double : (i : ℕ) → i < 8 → real (bits (getD (s .«ideal_point») i nan)) ≡ getD (s .«ideal_point») i nan
   double i h = ofBits-toBits binary64 (getD (s .«ideal_point») i nan) (ok .reals i h)
@@ -179,9 +177,8 @@ module _ (s : Session) (old : List ℕ) (ok : Stored s) where
   ideal-back : idealAt words ≡ s .«ideal_point»
   unfolding idealAt sessionWords configWords stateWords idealWords
   ideal-back =
-      eights (λ i. real (getD words (22 + i) 0)) (λ i. getD (s .«ideal_point») i nan) (double 0 (omega arith)) (double 1 (omega arith)) (double 2 (omega arith)) (double 3 (omega arith))
+      eight-back (λ i. real (getD words (22 + i) 0)) (s .«ideal_point») nan (ok .ideal) (double 0 (omega arith)) (double 1 (omega arith)) (double 2 (omega arith)) (double 3 (omega arith))
       (double 4 (omega arith)) (double 5 (omega arith)) (double 6 (omega arith)) (double 7 (omega arith))
-      ∙ by-eight (s .«ideal_point») nan (ok .ideal)
 
   config-back : configAt words ≡ s .config
   unfolding sessionWords configWords

@@ -1,9 +1,9 @@
 -- By cases on the dimension.
 use mathlib.Core.Path.{sym, ap, _∙_}
 use Rattle.session_words.specs.Coding.{dimensionWords}
 use borrow.Author.Needs.{needs}
-use Rattle.session_words.proofs.dimension_words.Statement.{statement}
-use Rattle.session_words.proofs.dimension_words.Tie as tie
+use Rattle.session_encoding.proofs.dimension_words.Statement.{statement}
+use Rattle.session_encoding.proofs.dimension_words.Tie as tie
 
 enum-known-d : tie.Need-enum-known-d
 enum-known-d c = search needs
