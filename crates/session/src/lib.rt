@@ -6,34 +6,21 @@ ghost use mathlib.Core.List.{List, []};
 ghost use mathlib.Core.Option.{some};
 ghost use Prim.Native.Nat.{ℕ, _≤_};
 ghost use Rattle.model.specs.Plan.{planCount};
-ghost use Rattle.model.specs.Session.{state, pastDiscovery, discoversFor, discovers, longEnough, breeds};
+ghost use Rattle.model.specs.Session.{state, pastDiscovery, discoversFor, discovers, longEnough};
 ghost use Rattle.model.specs.Refusal.{sampleRefusal};
 ghost use Rattle.model.specs.Calls.{sampleOf, Samples};
 ghost use Rattle.model.specs.Property.{SessionOk};
 ghost use Rattle.model.specs.declared.Distribution.{Distribution};
-ghost use Rattle.model.specs.declared.Phase.the-variants as phase;
 ghost use Rattle.session_parts.specs.Exits.{exit};
-ghost use Rattle.session.specs.Exits.{refusedWith, Called, Answers};
 use model::Distribution;
-use model::Outcome;
-use model::POOL_WORDS;
 use model::Phase;
 use model::Sampled;
-use model::Sampling;
 use model::Session;
 
 // The most records of a history.
 const MAX_HISTORY: usize = 4096;
 
 // ---- a call that adds a dimension
-
-// A refusal leaves the session as it was.
-fn refused(session: Session, number: u8) -> Sampled
-    ensures { λ r. ⌜ r ≡ refusedWith number session ⌝ }
-{
-    let outcome = Sampling::Refused(number);
-    Sampled { outcome, session }
-}
 
 // A call that adds a dimension.
 fn sample_discovering(
@@ -50,87 +37,15 @@ fn sample_discovering(
     let progress = session.progress;
     let n = progress.n_dims;
     if session_records::bad_dimension(n, distribution) {
-        return refused(session, 6);
+        return session_active::refused(session, 6);
     }
     if MAX_HISTORY < plans::plan_count(history) {
-        return refused(session, 7);
+        return session_active::refused(session, 7);
     }
     if long {
         return session_parts::discover(session, distribution, plan);
     }
-    refused(session, 10)
-}
-
-// ---- a call that adds no dimension
-
-// A call that breeds: the plan takes the first candidate of the new generation.
-fn sample_bred(
-    session: Session,
-    plan: u64,
-    history: &[u64],
-    candidates: &mut [u64],
-    plans: &mut [u64],
-    next_dims: &mut [usize],
-) -> Sampled
-    requires { ⌜ Called (state session (now candidates) (now plans) (now «next_dims»)) (now history)
-        × (breeds (state session (now candidates) (now plans) (now «next_dims»)) (now history) ≡ true) ⌝ }
-    ensures { λ r. ⌜ Answers (exit r (now (candidates .exit)) (now (plans .exit)) (now («next_dims» .exit)))
-        (state session (now (candidates .entry)) (now (plans .entry)) (now («next_dims» .entry))) plan (now (history .entry)) ⌝ }
-{
-    let mut pool = [0u64; POOL_WORDS];
-    let bred = session_breeding::breed(session, history, plans, &mut pool, candidates);
-    let outcome = bred.outcome;
-    let session = bred.session;
-    match outcome {
-        Outcome::Refused(number) => refused(session, number),
-        Outcome::Kept(_) => {
-            session_parts::sample_from_candidate(session, plan, candidates, plans, next_dims)
-        }
-    }
-}
-
-// A call past discovery: it breeds where the generation's plans all stand in history.
-fn sample_active(
-    session: Session,
-    plan: u64,
-    history: &[u64],
-    candidates: &mut [u64],
-    plans: &mut [u64],
-    next_dims: &mut [usize],
-) -> Sampled
-    requires { ⌜ Called (state session (now candidates) (now plans) (now «next_dims»)) (now history) × (session .phase ≡ phase.Active) ⌝ }
-    ensures { λ r. ⌜ Answers (exit r (now (candidates .exit)) (now (plans .exit)) (now («next_dims» .exit)))
-        (state session (now (candidates .entry)) (now (plans .entry)) (now («next_dims» .entry))) plan (now (history .entry)) ⌝ }
-{
-    let config = session.config;
-    let size = config.population_size;
-    let progress = session.progress;
-    let n = progress.n_plans;
-    if session_records::evaluated(history, plans, n, size) {
-        return sample_bred(session, plan, history, candidates, plans, next_dims);
-    }
-    if session_records::full(plans, n, plan) {
-        return refused(session, 11);
-    }
-    session_parts::sample_from_candidate(session, plan, candidates, plans, next_dims)
-}
-
-// The call that ends discovery: the first generation's candidates are drawn.
-fn sample_first(
-    session: Session,
-    plan: u64,
-    history: &[u64],
-    candidates: &mut [u64],
-    plans: &mut [u64],
-    next_dims: &mut [usize],
-) -> Sampled
-    requires { ⌜ Called (state session (now candidates) (now plans) (now «next_dims»)) (now history) × (session .phase ≡ phase.Discovery)
-        × (discoversFor (session .«discovery_trial_id») plan ≡ false) ⌝ }
-    ensures { λ r. ⌜ Answers (exit r (now (candidates .exit)) (now (plans .exit)) (now («next_dims» .exit)))
-        (state session (now (candidates .entry)) (now (plans .entry)) (now («next_dims» .entry))) plan (now (history .entry)) ⌝ }
-{
-    let session = session_parts::activate(session, candidates);
-    session_parts::sample_from_candidate(session, plan, candidates, plans, next_dims)
+    session_active::refused(session, 10)
 }
 
 // ---- a call that is lent a slice too short
@@ -179,16 +94,30 @@ fn answered(
         return sample_discovering(session, distribution, plan, history, long);
     }
     if MAX_HISTORY < plans::plan_count(history) {
-        return refused(session, 7);
+        return session_active::refused(session, 7);
     }
     if long {
         return match phase {
-            Phase::Discovery => sample_first(session, plan, history, candidates, plans, next_dims),
-            Phase::Active => sample_active(session, plan, history, candidates, plans, next_dims),
+            Phase::Discovery => session_active::sample_first(
+                session,
+                plan,
+                history,
+                candidates,
+                plans,
+                next_dims,
+            ),
+            Phase::Active => session_active::sample_active(
+                session,
+                plan,
+                history,
+                candidates,
+                plans,
+                next_dims,
+            ),
         };
     }
     let number = short_refusal(session, history, plans);
-    refused(session, number)
+    session_active::refused(session, number)
 }
 
 // A plan asks for its next setting; the answer, or the number of the refusal that the call meets. `history` has the evaluated plans; the other slices are lent

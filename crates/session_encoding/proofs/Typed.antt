@@ -1,15 +1,11 @@
 -- A session that code holds can be stored: its type promises what is asked of its reals, directions and arrays.
-use Prim.Native.Nat.{ℕ, zero, suc, _<_}
-use mathlib.Core.List.{List, [], _∷_, map}
+use Prim.Native.Nat.{zero, suc, _<_}
+use mathlib.Core.List.{List}
 use native.Mathlib.Omega.{arith}
 use lib.Dec.{T}
 use lib.Ieee.{nan, binary64, fits}
-use lib.ListN.{length, getD}
 use mir.Val.{Val}
-use base.Fml.{Fml}
-use denote.Shadow.{shadow}
 use denote.Laws.{Is}
-use denote.Array.{each}
 use denote.Struct.Declared as struct
 use denote.Enum.Declared as enum
 use Rattle.list_laws.proofs.Bools.{true-T}

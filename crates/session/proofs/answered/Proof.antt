@@ -1,15 +1,12 @@
 -- each way is as the definition has it
-use Prim.Native.Nat.{ℕ, _≤_, _<_}
-use mathlib.Core.Path.{_≡_, refl, sym, ap, ap₂, _∙_}
-use mathlib.Core.Bool.{Bool, true, false, not, _&&_}
+use Prim.Native.Nat.{_≤_, _<_}
+use mathlib.Core.Path.{refl, sym, ap, _∙_}
 use mathlib.Core.List.{[]}
-use lib.ListN.{length}
 use Rattle.model.specs.declared.Sampled.{Sampled}
-use Rattle.model.specs.Session.{State, state, sampleFromCandidate, pastDiscovery}
-use Rattle.session_parts.specs.Exits.{exit, settled}
+use Rattle.session_parts.specs.Exits.{exit}
 use Rattle.model.specs.Plan.{planCount}
-use Rattle.session.proofs.Refusals.{leaves-refused}
-use Rattle.session.proofs.Ways.{others, other-7, long-by, without-next, discovery-plans, first-of}
+use Rattle.session_active.proofs.Refusals.{leaves-refused}
+use Rattle.session_active.proofs.Ways.{others, other-7, long-by, without-next, discovery-plans, first-of}
 use native.Mathlib.Omega.{arith}
 use borrow.Author.Needs.{needs}
 use Rattle.session.proofs.answered.Statement.{statement}

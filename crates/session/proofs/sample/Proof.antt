@@ -1,10 +1,8 @@
 -- the answer is the definition's, of which the rest is proved
-use mathlib.Core.Path.{_≡_, sym, subst}
+use mathlib.Core.Path.{sym, subst}
 use Rattle.model.specs.Session.{state}
 use Rattle.model.specs.Calls.{Samples}
 use Rattle.session_laws.proofs.Sample.{samples}
-use native.Mathlib.Omega.{arith}
-use borrow.Author.Needs.{needs}
 use Rattle.session.proofs.sample.Statement.{statement}
 use Rattle.session.proofs.sample.Tie as tie
 

@@ -5,16 +5,16 @@ use Rattle.session_encoding.proofs.config_words.Statement.{statement}
 use Rattle.session_encoding.proofs.config_words.Tie as tie
 
 mark-words-requires : tie.Need-mark-words-requires
-mark-words-requires c κs = search needs
+mark-words-requires c κs = tt
 
 word-of-real-requires : tie.Need-word-of-real-requires
-word-of-real-requires c κs = search needs
+word-of-real-requires c κs = tt
 
 word-of-real-requires-2 : tie.Need-word-of-real-requires-2
-word-of-real-requires-2 c κs = search needs
+word-of-real-requires-2 c κs = tt
 
 word-of-real-requires-3 : tie.Need-word-of-real-requires-3
-word-of-real-requires-3 c κs = search needs
+word-of-real-requires-3 c κs = tt
 
 array-read-t13 : tie.Need-array-read-t13
 array-read-t13 c = search needs

@@ -9,13 +9,13 @@ enum-known-d : tie.Need-enum-known-d
 enum-known-d c = search needs
 
 float-words-requires : tie.Need-float-words-requires
-float-words-requires c κs = search needs
+float-words-requires c κs = tt
 
 enum-known-d-2 : tie.Need-enum-known-d-2
 enum-known-d-2 c = search needs
 
 int-words-requires : tie.Need-int-words-requires
-int-words-requires c κs = search needs
+int-words-requires c κs = tt
 
 enum-known-d-3 : tie.Need-enum-known-d-3
 enum-known-d-3 c = search needs

@@ -1,24 +1,23 @@
 -- Field by field.
 use Rattle.session_encoding.proofs.Laid.{int-laid}
 use Rattle.settings.proofs.Signed.{back}
-use borrow.Author.Needs.{needs}
 use Rattle.session_encoding.proofs.int_words.Statement.{statement}
 use Rattle.session_encoding.proofs.int_words.Tie as tie
 
 word-of-int-requires : tie.Need-word-of-int-requires
-word-of-int-requires c κs = search needs
+word-of-int-requires c κs = tt
 
 word-of-int-requires-2 : tie.Need-word-of-int-requires-2
-word-of-int-requires-2 c κs = search needs
+word-of-int-requires-2 c κs = tt
 
 mark-requires : tie.Need-mark-requires
-mark-requires c κs = search needs
+mark-requires c κs = tt
 
 has-step-i64-requires : tie.Need-has-step-i64-requires
-has-step-i64-requires c κs = search needs
+has-step-i64-requires c κs = tt
 
 step-word-i64-requires : tie.Need-step-word-i64-requires
-step-word-i64-requires c κs = search needs
+step-word-i64-requires c κs = tt
 
 returns : tie.Need-returns
 returns c =

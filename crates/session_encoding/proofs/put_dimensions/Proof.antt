@@ -34,7 +34,7 @@ array-copy-out-info : tie.Need-array-copy-out-info Inv-loop μ-loop
 array-copy-out-info c = omega arith
 
 dimension-words-requires : tie.Need-dimension-words-requires Inv-loop μ-loop
-dimension-words-requires c κs = search needs
+dimension-words-requires c κs = tt
 
 slice-aggregate-put : tie.Need-slice-aggregate-put Inv-loop μ-loop
 slice-aggregate-put c = search needs

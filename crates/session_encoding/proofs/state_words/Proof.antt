@@ -1,17 +1,16 @@
 -- Field by field.
 use Rattle.session_words.specs.Coding.{stateWords}
-use borrow.Author.Needs.{needs}
 use Rattle.session_encoding.proofs.state_words.Statement.{statement}
 use Rattle.session_encoding.proofs.state_words.Tie as tie
 
 phase-word-requires : tie.Need-phase-word-requires
-phase-word-requires c κs = search needs
+phase-word-requires c κs = tt
 
 has-first-requires : tie.Need-has-first-requires
-has-first-requires c κs = search needs
+has-first-requires c κs = tt
 
 first-word-requires : tie.Need-first-word-requires
-first-word-requires c κs = search needs
+first-word-requires c κs = tt
 
 returns : tie.Need-returns
 unfolding stateWords

@@ -10,7 +10,7 @@ enum-known-step : tie.Need-enum-known-step
 enum-known-step c = search needs
 
 word-of-real-requires : tie.Need-word-of-real-requires
-word-of-real-requires c κs = search needs
+word-of-real-requires c κs = tt
 
 returns : tie.Need-returns
 returns c = search needs

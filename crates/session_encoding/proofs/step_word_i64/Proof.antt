@@ -13,7 +13,7 @@ enum-known-step : tie.Need-enum-known-step
 enum-known-step c = search needs
 
 word-of-int-requires : tie.Need-word-of-int-requires
-word-of-int-requires c κs = search needs
+word-of-int-requires c κs = tt
 
 returns : tie.Need-returns
 returns c = search needs

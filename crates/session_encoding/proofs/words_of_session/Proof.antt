@@ -9,7 +9,7 @@ use Rattle.session_encoding.proofs.words_of_session.Statement.{statemen
 use Rattle.session_encoding.proofs.words_of_session.Tie as tie
 
 config-words-requires : tie.Need-config-words-requires
-config-words-requires c κs = search needs
+config-words-requires c κs = tt
 
 slice-aggregate-put : tie.Need-slice-aggregate-put
 slice-aggregate-put c = search needs
@@ -18,7 +18,7 @@ put-requires : tie.Need-put-requires
 put-requires c κs = search needs
 
 state-words-requires : tie.Need-state-words-requires
-state-words-requires c κs = search needs
+state-words-requires c κs = tt
 
 slice-aggregate-put-2 : tie.Need-slice-aggregate-put-2
 slice-aggregate-put-2 c = search needs
@@ -27,7 +27,7 @@ put-requires-2 : tie.Need-put-requires-2
 put-requires-2 c κs = search needs
 
 ideal-words-requires : tie.Need-ideal-words-requires
-ideal-words-requires c κs = search needs
+ideal-words-requires c κs = tt
 
 slice-aggregate-put-3 : tie.Need-slice-aggregate-put-3
 slice-aggregate-put-3 c = search needs
