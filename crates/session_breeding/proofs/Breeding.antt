@@ -20,7 +20,6 @@ use Rattle.model.specs.declared.Session.{Session}
 use Rattle.model.specs.Lists.{allBelow, joinBelow, over}
 use Rattle.model.specs.Plan.{planCount, planWords}
 use Rattle.model.specs.Association.{Request}
-use Rattle.model.specs.Setting.{generation}
 use Rattle.model.specs.Session.{State, state, evaluated, recordOf, blockOf, bredFrom, requestOf, operatorsOf, breed, maxWords}
 use Rattle.model.specs.Refusal.{Room, goodIdeal, stepRefusal, check, firstOf, badPool, badParents, maxSize}
 use Rattle.model.specs.Calls.{refusedBy, roomOf, wordRequest, stepAccepted, stepBy, stepOf}

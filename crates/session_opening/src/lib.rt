@@ -1,4 +1,4 @@
-// The public call `open` (document 01, "Session"; Rust: sampler/nsga3.rs). The functions below it are internal.
+// The public call `open` (document 01, "Session"; Rust: sampler/nsga3.rs). The other functions are internal.
 ghost use mathlib.Core.Path.{_≡_};
 ghost use mathlib.Core.Bool.{false};
 ghost use Prim.Native.Nat.{_≤_};

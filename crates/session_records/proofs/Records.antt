@@ -86,7 +86,7 @@ unfolding placeIn
 place-end l plan i h = rw (drop-of-length-le l {i = i} h)
 
 -- a number is listed just where its place is within the list
-pub has-place : (l : List ℕ) (plan : ℕ) → has l plan ≡ ltb (placeIn l plan) (length l)
+has-place : (l : List ℕ) (plan : ℕ) → has l plan ≡ ltb (placeIn l plan) (length l)
 unfolding has placeIn
 has-place [] plan = refl
 has-place (x ∷ l) plan = by-bool (eqb x plan)
@@ -98,10 +98,14 @@ has-place (x ∷ l) plan = by-bool (eqb x plan)
         (λ e. e ∙ sym (lt-ltb (suc a) (suc b) (omega (arith, ltb-true a b e))))
         (λ e. e ∙ sym (le-ltb (suc a) (suc b) (omega (arith, ltb-false a b e))))
 
+-- of the first n where its place is before n
+pub listed-by : (ps : List ℕ) (n plan i : ℕ) → n ≤ length ps → i ≡ placeIn (take n ps) plan → has (take n ps) plan ≡ ltb i n
+listed-by ps n plan i h e = has-place (take n ps) plan ∙ ap₂ (λ (a b : ℕ). ltb a b) (sym e) (length-take-le n ps h)
+
 -- a number is new where its place is past the others
 pub is-new-by : (ps : List ℕ) (n plan i : ℕ) → n ≤ length ps → i ≡ placeIn (take n ps) plan → not (has (take n ps) plan) ≡ leb n i
 is-new-by ps n plan i h e =
-    ap not (has-place (take n ps) plan ∙ ap₂ (λ (a b : ℕ). ltb a b) (sym e) (length-take-le n ps h))
+    ap not (listed-by ps n plan i h e)
     ∙ by-bool (leb n i)
     (λ b. ap not (le-ltb i n (leb-true n i b)) ∙ sym b)
     (λ b. ap not (lt-ltb i n (leb-false n i b)) ∙ sym b)

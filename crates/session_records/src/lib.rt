@@ -32,7 +32,7 @@ fn from_end(n: usize, j: usize) -> usize
 }
 
 // The place of a plan number's last record in a history, or the number of records where it has none.
-pub fn record_of(history: &[u64], plan: u64) -> usize
+fn record_of(history: &[u64], plan: u64) -> usize
     ensures { λ r. ⌜ r ≡ recordOf (now (history .entry)) plan ⌝ }
 {
     let n = plans::plan_count(history);

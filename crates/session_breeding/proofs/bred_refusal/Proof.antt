@@ -1,7 +1,7 @@
 -- the step's check, on the words bred from
 use Prim.Native.Nat.{_*_, _≤_}
 use mathlib.Core.List.{[]}
-use mathlib.Core.Path.{_≡_, refl, sym}
+use mathlib.Core.Path.{refl, sym}
 use lib.Seq.{length-take-le}
 use Rattle.session_breeding.proofs.Breeding.{ideal-room, evaluated-stand, evaluated-plans, short-refused, short-good}
 use native.Mathlib.Omega.{arith}

@@ -2,7 +2,6 @@
 use Prim.Native.Nat.{ℕ}
 use mathlib.Core.Path.{ap}
 use Rattle.session_breeding.specs.Breeding.{bredAt}
-use native.Mathlib.Omega.{arith}
 use borrow.Author.Needs.{needs}
 use Rattle.session_breeding.proofs.bred_session.Statement.{statement}
 use Rattle.session_breeding.proofs.bred_session.Tie as tie

@@ -1,7 +1,7 @@
 -- the step on the words bred from
 use Prim.Native.Nat.{_*_}
 use lib.ListN.{length}
-use mathlib.Core.Path.{_≡_, refl, sym, ap, _∙_}
+use mathlib.Core.Path.{_≡_, refl, sym, _∙_}
 use lib.Seq.{length-take-le}
 use Rattle.session_breeding.proofs.Breeding.{ideal-room, evaluated-stand, breed-refused, breed-kept}
 use native.Mathlib.Omega.{arith}
@@ -45,7 +45,7 @@ enum-told-2 : tie.Need-enum-told-2
 enum-told-2 c = search needs
 
 bred-session-requires : tie.Need-bred-session-requires
-bred-session-requires c κs = search needs
+bred-session-requires c κs = tt
 
 same-length : tie.Need-same-length
 same-length c = c .before .before .before .before .before .before .before .before .before .before .before .before .gather .kept .1 .1 .1 .0

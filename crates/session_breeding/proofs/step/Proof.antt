@@ -1,9 +1,7 @@
 -- what the step promises, but for the lists that are not handed out
-use mathlib.Core.Path.{_≡_, refl, sym, ap}
+use mathlib.Core.Path.{refl, sym, ap}
 use lib.Seq.{length-take-le}
 use Rattle.session_breeding.specs.Breeding.{takenOf}
-use native.Mathlib.Omega.{arith}
-use borrow.Author.Needs.{needs}
 use Rattle.session_breeding.proofs.step.Statement.{statement}
 use Rattle.session_breeding.proofs.step.Tie as tie
 

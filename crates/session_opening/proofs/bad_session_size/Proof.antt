@@ -3,7 +3,6 @@ use mathlib.Core.Path.{sym, ap}
 use Rattle.model.specs.declared.OptionUsize.{OptionUsize}
 use Rattle.model.specs.Session.{given}
 use Rattle.model.specs.Refusal.{badSessionSize}
-use native.Mathlib.Omega.{arith}
 use borrow.Author.Needs.{needs}
 use Rattle.session_opening.proofs.bad_session_size.Statement.{statement}
 use Rattle.session_opening.proofs.bad_session_size.Tie as tie

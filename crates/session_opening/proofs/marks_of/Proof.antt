@@ -7,7 +7,6 @@ use Rattle.model.specs.Lists.{listBelow, over}
 use Rattle.list_laws.proofs.Built.{over-none}
 use Rattle.nsga3_parts.proofs.Lists.{filled-more, copied}
 use native.Mathlib.Omega.{arith}
-use borrow.Author.Needs.{needs}
 use Rattle.session_opening.proofs.marks_of.Statement.{statement}
 use Rattle.session_opening.proofs.marks_of.Tie as tie
 

@@ -1,14 +1,13 @@
 -- what it answers tells whether it was refused
-use mathlib.Core.Path.{_≡_, sym, _∙_}
+use mathlib.Core.Path.{sym, _∙_}
 use Rattle.session_laws.proofs.Opened.{directions-good, divisions-good, ready-tells}
 use Rattle.session_opening.proofs.Opening.{refused-opens, ready-opens}
-use native.Mathlib.Omega.{arith}
 use borrow.Author.Needs.{needs}
 use Rattle.session_opening.proofs.open.Statement.{statement}
 use Rattle.session_opening.proofs.open.Tie as tie
 
 open-refusal-requires : tie.Need-open-refusal-requires
-open-refusal-requires c κs = search needs
+open-refusal-requires c κs = tt
 
 enum-told : tie.Need-enum-told
 enum-told c = search needs
@@ -17,7 +16,7 @@ enum-told-2 : tie.Need-enum-told-2
 enum-told-2 c = search needs
 
 blank-requires : tie.Need-blank-requires
-blank-requires c κs = search needs
+blank-requires c κs = tt
 
 returns : tie.Need-returns
 returns c =

@@ -1,20 +1,18 @@
 -- each test rules out what stands before it
-use mathlib.Core.Path.{_≡_, sym, _∙_}
+use mathlib.Core.Path.{sym, _∙_}
 use Rattle.demand3_laws.proofs.Accepted.{some-objectives}
 use Rattle.session_opening.proofs.Opening.{refused-2, refused-3, refused-4, refused-5, ready}
-use native.Mathlib.Omega.{arith}
-use borrow.Author.Needs.{needs}
 use Rattle.session_opening.proofs.open_refusal.Statement.{statement}
 use Rattle.session_opening.proofs.open_refusal.Tie as tie
 
 bad-session-size-requires : tie.Need-bad-session-size-requires
-bad-session-size-requires c κs = search needs
+bad-session-size-requires c κs = tt
 
 bad-operators-requires : tie.Need-bad-operators-requires
-bad-operators-requires c κs = search needs
+bad-operators-requires c κs = tt
 
 bad-directions-requires : tie.Need-bad-directions-requires
-bad-directions-requires c κs = search needs
+bad-directions-requires c κs = tt
 
 returns : tie.Need-returns
 returns c = refused-2 _ _ _ _ _ _ (sym (c .before .bad-directions .ensures) ∙ c .if1 .taken)

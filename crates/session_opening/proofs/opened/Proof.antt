@@ -1,9 +1,7 @@
 -- each part is as the definition has it
-use mathlib.Core.Path.{_≡_, sym, ap, _∙_}
+use mathlib.Core.Path.{_∙_}
 use Rattle.session_opening.proofs.Opening.{opened-is}
 use Rattle.demand3_laws.proofs.Accepted.{some-objectives}
-use native.Mathlib.Omega.{arith}
-use borrow.Author.Needs.{needs}
 use Rattle.session_opening.proofs.opened.Statement.{statement}
 use Rattle.session_opening.proofs.opened.Tie as tie
 
@@ -17,7 +15,7 @@ population-size-requires : tie.Need-population-size-requires
 population-size-requires c κs = (some-objectives _ (c .before .before .before .pre .0), c .before .before .before .pre .1)
 
 start-requires : tie.Need-start-requires
-start-requires c κs = search needs
+start-requires c κs = tt
 
 returns : tie.Need-returns
 returns c =

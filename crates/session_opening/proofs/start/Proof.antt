@@ -1,8 +1,6 @@
 -- 1 / 0 is plus infinity
 use mathlib.Core.Path.{refl}
 use lib.Ieee.{div, ofBits}
-use native.Mathlib.Omega.{arith}
-use borrow.Author.Needs.{needs}
 use Rattle.session_opening.proofs.start.Statement.{statement}
 use Rattle.session_opening.proofs.start.Tie as tie
 

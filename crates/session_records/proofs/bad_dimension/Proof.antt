@@ -1,10 +1,8 @@
 -- test by test
-use mathlib.Core.Path.{_≡_, refl, sym, ap, ap₂, _∙_}
-use mathlib.Core.Bool.{Bool, true, false, not, _&&_, _||_}
+use mathlib.Core.Path.{sym, ap, ap₂, _∙_}
+use mathlib.Core.Bool.{Bool, not, _||_}
 use borrow.Author.Tests.{le-leb, lt-leb}
 use Rattle.model.specs.Setting.{validDimension}
-use native.Mathlib.Omega.{arith}
-use borrow.Author.Needs.{needs}
 use Rattle.session_records.proofs.bad_dimension.Statement.{statement}
 use Rattle.session_records.proofs.bad_dimension.Tie as tie
 
@@ -12,7 +10,7 @@ returns : tie.Need-returns
 returns c = sym (ap (λ (x : Bool). x || not (validDimension (c .before .args .distribution))) (le-leb 32 _ (c .if1 .taken)))
 
 valid-dimension-requires : tie.Need-valid-dimension-requires
-valid-dimension-requires c κs = search needs
+valid-dimension-requires c κs = tt
 
 returns-2 : tie.Need-returns-2
 returns-2 c =

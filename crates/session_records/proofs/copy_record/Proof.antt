@@ -1,12 +1,11 @@
 -- the first j words are copied
 use Prim.Native.Nat.{ℕ, _+_, _-_, _*_, _≤_, _<_}
-use mathlib.Core.Path.{_≡_, refl, sym, ap, _∙_}
+use mathlib.Core.Path.{_≡_, refl, ap, _∙_}
 use lib.ListN.{length, getD, set, length-set}
 use Rattle.model.specs.Lists.{listBelow}
 use Rattle.model.specs.Session.{overAt}
 use Rattle.candidates.proofs.Laid.{at-none, at-more}
 use native.Mathlib.Omega.{arith}
-use borrow.Author.Needs.{needs}
 use Rattle.session_records.proofs.copy_record.Statement.{statement}
 use Rattle.session_records.proofs.copy_record.Tie as tie
 

@@ -1,10 +1,9 @@
 -- by cases on the phase and the first plan
-use mathlib.Core.Path.{_≡_, refl, sym, ap, ap₂, _∙_}
-use mathlib.Core.Bool.{Bool, true, false, not, _&&_, _||_}
+use mathlib.Core.Path.{sym, ap₂}
+use mathlib.Core.Bool.{not, _&&_}
 use Rattle.model.specs.declared.Phase.{Phase}
 use Rattle.model.specs.declared.OptionU64.{OptionU64}
 use Rattle.model.specs.Session.{pastDiscovery, discoversFor}
-use native.Mathlib.Omega.{arith}
 use borrow.Author.Needs.{needs}
 use Rattle.session_records.proofs.discovers.Statement.{statement}
 use Rattle.session_records.proofs.discovers.Tie as tie

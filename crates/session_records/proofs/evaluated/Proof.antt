@@ -1,15 +1,14 @@
 -- the first i plans stand in history
-use Prim.Native.Nat.{ℕ, _+_, _-_, _*_, _≤_, _<_}
-use mathlib.Core.Path.{_≡_, refl, sym, ap, ap₂, _∙_}
-use mathlib.Core.Bool.{Bool, true, false, _&&_}
+use Prim.Native.Nat.{ℕ, _-_, _≤_}
+use mathlib.Core.Path.{_≡_, sym, ap, ap₂, _∙_}
+use mathlib.Core.Bool.{Bool, true, _&&_}
 use lib.Dec.{leb, ltb}
-use lib.ListN.{length, getD}
+use lib.ListN.{length}
 use borrow.Author.Tests.{lt-ltb, le-ltb, le-leb, lt-leb}
 use Rattle.model.specs.Lists.{allBelow}
 use Rattle.list_laws.proofs.Tests.{allBelow-none, allBelow-yes, allBelow-no}
 use Rattle.session_records.proofs.Records.{stands}
 use native.Mathlib.Omega.{arith}
-use borrow.Author.Needs.{needs}
 use Rattle.session_records.proofs.evaluated.Statement.{statement}
 use Rattle.session_records.proofs.evaluated.Tie as tie
 
@@ -34,7 +33,7 @@ returns-2 c =
     (le-leb (a .size) (a .n-plans) (c .before .if1 .left)) (lt-leb (a .size) (length (a .plans .now)) (c .if2 .taken)))
 
 plan-count-requires : tie.Need-plan-count-requires Inv-loop μ-loop
-plan-count-requires c κs = search needs
+plan-count-requires c κs = tt
 
 loop-holds : tie.Need-loop-holds Inv-loop μ-loop
 loop-holds c = (omega arith, allBelow-none _)
@@ -46,7 +45,7 @@ shared-slice-read-record-of : tie.Need-shared-slice-read-record-of Inv-loop μ-l
 shared-slice-read-record-of c = omega arith
 
 record-of-requires : tie.Need-record-of-requires Inv-loop μ-loop
-record-of-requires c κs = search needs
+record-of-requires c κs = tt
 
 add-i : tie.Need-add-i Inv-loop μ-loop
 add-i c = omega arith

@@ -1,11 +1,10 @@
 -- a plan is new where its place is past the others
-use mathlib.Core.Path.{_≡_, refl, sym, ap, ap₂, _∙_}
-use mathlib.Core.Bool.{Bool, true, false, not, _&&_, _||_}
+use mathlib.Core.Path.{sym, ap, ap₂}
+use mathlib.Core.Bool.{Bool, not, _&&_}
 use borrow.Author.Tests.{le-leb, lt-leb}
 use lib.ListN.{take}
 use Rattle.model.specs.Lists.{has}
 use Rattle.session_records.proofs.Records.{is-new-by}
-use native.Mathlib.Omega.{arith}
 use borrow.Author.Needs.{needs}
 use Rattle.session_records.proofs.full.Statement.{statement}
 use Rattle.session_records.proofs.full.Tie as tie

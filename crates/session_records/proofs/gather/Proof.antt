@@ -1,11 +1,9 @@
 -- the records of the first i plans are copied
 use Prim.Native.Nat.{ℕ, _+_, _-_, _*_, _≤_, _<_}
-use mathlib.Core.Path.{_≡_, refl, sym, ap, ap₂, _∙_, subst}
-use mathlib.Core.Bool.{true, false, _&&_}
-use lib.Dec.{leb, ltb}
+use mathlib.Core.Path.{_≡_, refl, sym, ap, _∙_, subst}
 use lib.ListN.{length, getD}
 use borrow.Author.Tests.{ltb-true}
-use Rattle.model.specs.Lists.{allBelow, joinBelow, over}
+use Rattle.model.specs.Lists.{joinBelow, over}
 use Rattle.model.specs.Plan.{planCount}
 use Rattle.model.specs.Session.{recordOf, blockOf}
 use Rattle.list_laws.proofs.Tests.{allBelow-each}
@@ -13,7 +11,6 @@ use Rattle.list_laws.proofs.Built.{joinBelow-none, listBelow-length}
 use Rattle.candidates.proofs.Laid.{at-length}
 use Rattle.session_records.proofs.Records.{stands, records-more}
 use native.Mathlib.Omega.{arith}
-use borrow.Author.Needs.{needs}
 use Rattle.session_records.proofs.gather.Statement.{statement}
 use Rattle.session_records.proofs.gather.Tie as tie
 
@@ -34,7 +31,7 @@ shared-slice-read-record-of : tie.Need-shared-slice-read-record-of Inv-loop μ-l
 shared-slice-read-record-of c = omega arith
 
 record-of-requires : tie.Need-record-of-requires Inv-loop μ-loop
-record-of-requires c κs = search needs
+record-of-requires c κs = tt
 
 copy-record-requires : tie.Need-copy-record-requires Inv-loop μ-loop
 copy-record-requires c κs =

@@ -1,13 +1,12 @@
 -- the number stands at none of the first i places
-use Prim.Native.Nat.{ℕ, _+_, _-_, _*_, _≤_, _<_}
-use mathlib.Core.Path.{_≡_, refl, sym, ap, _∙_}
-use lib.ListN.{length, getD, take, drop}
+use Prim.Native.Nat.{_+_, _-_, _≤_}
+use mathlib.Core.Path.{_≡_, sym, _∙_}
+use lib.ListN.{take, drop}
 use lib.Seq.{length-take-le, getD-take}
 use native.Mathlib.Nat.{zero-add}
 use Rattle.model.specs.Session.{placeIn}
 use Rattle.session_records.proofs.Records.{place-here, place-next, place-end}
 use native.Mathlib.Omega.{arith}
-use borrow.Author.Needs.{needs}
 use Rattle.session_records.proofs.place_in.Statement.{statement}
 use Rattle.session_records.proofs.place_in.Tie as tie
 

@@ -1,6 +1,6 @@
 -- none of the last j records is of the number
-use Prim.Native.Nat.{ℕ, _+_, _-_, _*_, _≤_, _<_}
-use mathlib.Core.Path.{_≡_, refl, sym, ap, _∙_}
+use Prim.Native.Nat.{ℕ, _-_, _*_, _≤_, _<_}
+use mathlib.Core.Path.{_≡_, sym, ap, _∙_}
 use mathlib.Core.Bool.{false}
 use lib.ListN.{getD}
 use Rattle.session_records.proofs.Records.{isRecord, record-found, record-nowhere, others-more}
@@ -16,7 +16,7 @@ abbrev μ-loop : tie.MeasureT-loop
 μ-loop history plan n j₀ j = n - j
 
 plan-count-requires : tie.Need-plan-count-requires Inv-loop μ-loop
-plan-count-requires c κs = search needs
+plan-count-requires c κs = tt
 
 loop-holds : tie.Need-loop-holds Inv-loop μ-loop
 loop-holds c = (omega arith, λ t a b. absurd (omega arith))
