@@ -1,45 +1,12 @@
 // The public calls under C names, for controllers and stations in other languages. include/locustdomino.h says how each is called.
 // A call answers 0, or the number of the refusal. A refused call leaves all that it was lent as it was.
-use model::Chosen;
-use model::Opening;
-use model::OptionUsize;
-use model::Outcome;
-use model::ParamValue;
-use model::Rng;
-use model::Sampling;
-ghost use mathlib.Core.Path.{_≡_};
 ghost use Prim.Native.Nat.{_≤_};
 ghost use lib.ListN.{length};
-ghost use Rattle.model.specs.Setting.{kindOf};
 ghost use Rattle.model.specs.Session.{state};
 ghost use Rattle.model.specs.Property.{SessionOk};
 ghost use Rattle.session_words.specs.Coding.{sessionOf};
 ghost use Rattle.model.specs.Calls.{wordRequest, lent};
-ghost use Rattle.locustdomino.specs.Coded.{codeOf, keptOf, SelectsWords, StepsWords, rngOf, wordOperators, chosenCode, chosenLength, optional, OpensWords, sampledWords, SamplesWords, ListsWords};
-
-fn wide(n: u8) -> u64
-    ensures { λ r. ⌜ r ≡ n ⌝ }
-{
-    n as u64
-}
-
-fn code(outcome: Outcome) -> u64
-    ensures { λ r. ⌜ r ≡ codeOf outcome ⌝ }
-{
-    match outcome {
-        Outcome::Kept(n) => 0,
-        Outcome::Refused(n) => wide(n),
-    }
-}
-
-fn count(outcome: Outcome, old: usize) -> usize
-    ensures { λ r. ⌜ r ≡ keptOf outcome old ⌝ }
-{
-    match outcome {
-        Outcome::Kept(n) => n,
-        Outcome::Refused(n) => old,
-    }
-}
+ghost use Rattle.export_laws.specs.Coded.{SelectsWords, StepsWords, rngOf, wordOperators, optional, OpensWords, sampledWords, SamplesWords, ListsWords};
 
 // `nsga3_select`: the generator's state moves on in place. The kept list is as long as the size.
 #[no_mangle]
@@ -58,21 +25,17 @@ pub extern "C" fn locustdomino_select(
         (lent (now (kept .entry)) (now (fronts .entry)) (now (lines .entry)))
         (record { code = r; state = now (state .exit); ideal = now (ideal .exit); slices = lent (now (kept .exit)) (now (fronts .exit)) (now (lines .exit)) }) ⌝ }
 {
-    let answer = nsga3::nsga3_select(
+    selection_words::select_words(
         pool,
         directions,
         divisions,
         size,
-        Rng { s: *state },
+        state,
         ideal,
         kept,
         fronts,
         lines,
-    );
-    let rng = answer.rng;
-    *state = rng.s;
-    let outcome = answer.outcome;
-    code(outcome)
+    )
 }
 
 // `nsga3_generate_offspring`: the dimensions are as many as their slice has whole, six words each. `n_kept` is the kept list's length: the size, or 0 for a pool
@@ -100,16 +63,13 @@ pub extern "C" fn locustdomino_generate_offspring(
         (lent (now (kept .entry)) (now (fronts .entry)) (now (lines .entry))) (now (offspring .entry)) (now («n_kept» .entry))
         (record { code = r; kept = now («n_kept» .exit); state = now (state .exit); ideal = now (ideal .exit); slices = lent (now (kept .exit)) (now (fronts .exit)) (now (lines .exit)); offspring = now (offspring .exit) }) ⌝ }
 {
-    let n_dims = dimensions.len() / session_words::DIMENSION_WORDS;
-    let infos = session_words::dimensions_of_words(dimensions, 0);
-    let step = generation::nsga3_generate_offspring(
+    generation_words::generate_offspring_words(
         pool,
         directions,
         divisions,
         size,
-        Rng { s: *state },
-        infos,
-        n_dims,
+        state,
+        dimensions,
         crossover_prob,
         crossover_eta,
         mutation_eta,
@@ -118,22 +78,8 @@ pub extern "C" fn locustdomino_generate_offspring(
         fronts,
         lines,
         offspring,
-    );
-    let after = step.rng;
-    *state = after.s;
-    let kept_by = step.outcome;
-    *n_kept = count(kept_by, *n_kept);
-    code(kept_by)
-}
-
-// What may be left out: a mark of 0 says that it is.
-fn optional(has: u8, n: usize) -> OptionUsize
-    ensures { λ r. ⌜ r ≡ optional has n ⌝ }
-{
-    if has == 0 {
-        return OptionUsize::None;
-    }
-    OptionUsize::Some(n)
+        n_kept,
+    )
 }
 
 // `open`: the session's words go to the slice's front. A slice of fewer than 222 words meets 10, where no other number applies.
@@ -153,40 +99,18 @@ pub extern "C" fn locustdomino_open(
     ensures { λ r. ⌜ OpensWords (now (directions .entry)) seed (optional «has_size» size) (optional «has_divisions» divisions) «crossover_prob» «crossover_eta» «mutation_eta»
         (now (session .entry)) r (now (session .exit)) ⌝ }
 {
-    let size = optional(has_size, size);
-    let divisions = optional(has_divisions, divisions);
-    let opened = session_parts::open(
+    opening_words::open_words(
         directions,
         seed,
+        has_size,
         size,
+        has_divisions,
         divisions,
         crossover_prob,
         crossover_eta,
         mutation_eta,
-    );
-    let outcome = opened.outcome;
-    match outcome {
-        Opening::Refused(n) => wide(n),
-        Opening::Ready => {
-            if session.len() < session_words::SESSION_WORDS {
-                return 10;
-            }
-            let state = opened.session;
-            session_words::words_of_session(state, session);
-            0
-        }
-    }
-}
-
-// The number of a setting's kind: 0 Float, 1 Int, 2 Categorical.
-fn kind_of(v: ParamValue) -> u64
-    ensures { λ r. ⌜ r ≡ kindOf v ⌝ }
-{
-    match v {
-        ParamValue::Float(_) => 0,
-        ParamValue::Int(_) => 1,
-        ParamValue::Categorical(_) => 2,
-    }
+        session,
+    )
 }
 
 // `sample`: the session's words are read, and those of the session that it answers are written; a refusal writes none. Asked of the caller is the session
@@ -209,49 +133,17 @@ pub extern "C" fn locustdomino_sample(
         (now (kind .entry)) (now (value .entry))
         (sampledWords r (now (kind .exit)) (now (value .exit)) (now (session .exit)) (state (sessionOf (now (session .exit))) (now (candidates .exit)) (now (plans .exit)) (now («next_dims» .exit)))) ⌝ }
 {
-    if session.len() < session_words::SESSION_WORDS {
-        return 10;
-    }
-    let before = session_words::session_of_words(session);
-    let distribution = session_words::dimension_of_words(dimension, 0);
-    let sampled = session::sample(
-        before,
-        distribution,
+    sample_words::sample_words(
+        session,
+        dimension,
         plan,
         history,
         candidates,
         plans,
         next_dims,
-    );
-    let outcome = sampled.outcome;
-    match outcome {
-        Sampling::Refused(n) => wide(n),
-        Sampling::Setting(v) => {
-            let after = sampled.session;
-            session_words::words_of_session(after, session);
-            *kind = kind_of(v);
-            *value = settings::to_word(v);
-            0
-        }
-    }
-}
-
-fn chosen_code(answer: Chosen) -> u64
-    ensures { λ r. ⌜ r ≡ chosenCode answer ⌝ }
-{
-    match answer {
-        Chosen::Written(n) => 0,
-        Chosen::Refused(n) => wide(n),
-    }
-}
-
-fn chosen_length(answer: Chosen, old: usize) -> usize
-    ensures { λ r. ⌜ r ≡ chosenLength answer old ⌝ }
-{
-    match answer {
-        Chosen::Written(n) => n,
-        Chosen::Refused(n) => old,
-    }
+        kind,
+        value,
+    )
 }
 
 // `choose`: the text for a pool file, and its length.
@@ -259,7 +151,5 @@ fn chosen_length(answer: Chosen, old: usize) -> usize
 pub extern "C" fn locustdomino_choose(file: &[u8], out: &mut [u8], length: &mut usize) -> u64
     ensures { λ r. ⌜ ListsWords (now (file .entry)) (now (out .entry)) (now (length .entry)) (record { code = r; length = now (length .exit); out = now (out .exit) }) ⌝ }
 {
-    let answer = pool_choice::choose(file, out);
-    *length = chosen_length(answer, *length);
-    chosen_code(answer)
+    selection_words::choose_words(file, out, length)
 }

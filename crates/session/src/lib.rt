@@ -4,41 +4,23 @@ ghost use mathlib.Core.Path.{_≡_};
 ghost use mathlib.Core.Bool.{true, false, not, _&&_};
 ghost use mathlib.Core.List.{List, []};
 ghost use mathlib.Core.Option.{some};
-ghost use Prim.Native.Nat.{ℕ, _*_, _≤_, _<_};
-ghost use lib.ListN.{length};
+ghost use Prim.Native.Nat.{ℕ, _≤_};
 ghost use Rattle.model.specs.Plan.{planCount};
-ghost use Rattle.model.specs.Session.{state, pastDiscovery, discoversFor, discovers, longEnough, evaluated, breeds};
+ghost use Rattle.model.specs.Session.{state, pastDiscovery, discoversFor, discovers, longEnough};
 ghost use Rattle.model.specs.Refusal.{sampleRefusal};
-ghost use Rattle.model.specs.Calls.{refusedBy, sampleOf, Samples};
+ghost use Rattle.model.specs.Calls.{sampleOf, Samples};
 ghost use Rattle.model.specs.Property.{SessionOk};
 ghost use Rattle.model.specs.declared.Distribution.{Distribution};
-ghost use Rattle.model.specs.declared.Phase.the-variants as phase;
 ghost use Rattle.session_parts.specs.Exits.{exit};
-ghost use Rattle.session.specs.Exits.{refusedWith, stepped, stepOn, shortRefusal, bredExit, breedOf};
 use model::Distribution;
-use model::MAX_PLANS;
-use model::Outcome;
-use model::PLAN_WORDS;
-use model::POOL_WORDS;
 use model::Phase;
 use model::Sampled;
-use model::Sampling;
-use model::Selection;
 use model::Session;
-use refusals::Check;
 
 // The most records of a history.
 const MAX_HISTORY: usize = 4096;
 
 // ---- a call that adds a dimension
-
-// A refusal leaves the session as it was.
-fn refused(session: Session, number: u8) -> Sampled
-    ensures { λ r. ⌜ r ≡ refusedWith number session ⌝ }
-{
-    let outcome = Sampling::Refused(number);
-    Sampled { outcome, session }
-}
 
 // A call that adds a dimension.
 fn sample_discovering(
@@ -54,211 +36,19 @@ fn sample_discovering(
 {
     let progress = session.progress;
     let n = progress.n_dims;
-    if session_parts::bad_dimension(n, distribution) {
-        return refused(session, 6);
+    if session_records::bad_dimension(n, distribution) {
+        return session_active::refused(session, 6);
     }
     if MAX_HISTORY < plans::plan_count(history) {
-        return refused(session, 7);
+        return session_active::refused(session, 7);
     }
     if long {
         return session_parts::discover(session, distribution, plan);
     }
-    refused(session, 10)
-}
-
-// ---- breeding
-
-// The step of a session's generation, from the pool of the plans that it breeds from. The kept list, the fronts and the lines are not handed out.
-fn step(session: Session, pool: &[u64], ideal: &mut [f64], candidates: &mut [u64]) -> Selection
-    requires { ⌜ session .config .«n_obj» ≤ length (session .config .directions) ⌝ }
-    ensures { λ r. ⌜ stepped r (now (ideal .exit)) (now (candidates .exit)) ≡ stepOn session (now (pool .entry)) (now (ideal .entry)) (now (candidates .entry)) ⌝ }
-{
-    let config = session.config;
-    let n_obj = config.n_obj;
-    let directions = config.directions;
-    let dimensions = session.dimensions;
-    let progress = session.progress;
-    let rng = session.rng;
-    let mut kept = [0usize; MAX_PLANS];
-    let mut fronts = [0usize; MAX_PLANS];
-    let mut lines = [0usize; MAX_PLANS];
-    generation::nsga3_generate_offspring(
-        pool,
-        &directions[..n_obj],
-        config.divisions,
-        config.population_size,
-        rng,
-        dimensions,
-        progress.n_dims,
-        config.crossover_prob,
-        config.crossover_eta,
-        config.mutation_eta,
-        ideal,
-        &mut kept,
-        &mut fronts,
-        &mut lines,
-        candidates,
-    )
-}
-
-// What breeding answers: the refusal that it meets, with the session as it was, or the session after it.
-struct Bred {
-    outcome: Outcome,
-    session: Session,
-}
-
-// A new generation, bred from the first `size` plans of the present one, which the pool has room for.
-fn breed(
-    session: Session,
-    history: &[u64],
-    plans: &[u64],
-    pool: &mut [u64],
-    candidates: &mut [u64],
-) -> Bred
-    requires { ⌜ 126976 ≤ length (now pool) ⌝ }
-    requires { ⌜ SessionOk (state session (now candidates) (now plans) []) × (evaluated (state session (now candidates) (now plans) []) (now history) ≡ true)
-        × (2048 ≤ length (now plans)) × (65536 ≤ length (now candidates)) ⌝ }
-    ensures { λ r. ⌜ ((ns : List ℕ) → bredExit (refusedBy (r .outcome)) (state (r .session) (now (candidates .exit)) (now (plans .entry)) ns)
-        ≡ breedOf (state session (now (candidates .entry)) (now (plans .entry)) ns) (now (history .entry))) ⌝ }
-{
-    let config = session.config;
-    let n_obj = config.n_obj;
-    let size = config.population_size;
-    let mut ideal_point = session.ideal_point;
-    session_parts::gather(history, plans, size, pool);
-    let words = size * PLAN_WORDS;
-    let selection = step(
-        session,
-        &pool[..words],
-        &mut ideal_point[..n_obj],
-        candidates,
-    );
-    let outcome = selection.outcome;
-    let rng = selection.rng;
-    match outcome {
-        Outcome::Refused(_) => Bred { outcome, session },
-        Outcome::Kept(_) => {
-            let session = session_parts::bred_session(session, rng, ideal_point);
-            Bred { outcome, session }
-        }
-    }
-}
-
-// ---- a call that adds no dimension
-
-// A call that breeds: the plan takes the first candidate of the new generation.
-fn sample_bred(
-    session: Session,
-    plan: u64,
-    history: &[u64],
-    candidates: &mut [u64],
-    plans: &mut [u64],
-    next_dims: &mut [usize],
-) -> Sampled
-    requires { ⌜ SessionOk (state session (now candidates) (now plans) (now «next_dims»))
-        × (breeds (state session (now candidates) (now plans) (now «next_dims»)) (now history) ≡ true) × (planCount (now history) ≤ 4096)
-        × (longEnough (state session (now candidates) (now plans) (now «next_dims»)) ≡ true) ⌝ }
-    ensures { λ r. ⌜ ((d : Distribution) → exit r (now (candidates .exit)) (now (plans .exit)) (now («next_dims» .exit))
-        ≡ sampleOf (state session (now (candidates .entry)) (now (plans .entry)) (now («next_dims» .entry))) d plan (now (history .entry))) ⌝ }
-{
-    let mut pool = [0u64; POOL_WORDS];
-    let bred = breed(session, history, plans, &mut pool, candidates);
-    let outcome = bred.outcome;
-    let session = bred.session;
-    match outcome {
-        Outcome::Refused(number) => refused(session, number),
-        Outcome::Kept(_) => {
-            session_parts::sample_from_candidate(session, plan, candidates, plans, next_dims)
-        }
-    }
-}
-
-// A call past discovery: it breeds where the generation's plans all stand in history.
-fn sample_active(
-    session: Session,
-    plan: u64,
-    history: &[u64],
-    candidates: &mut [u64],
-    plans: &mut [u64],
-    next_dims: &mut [usize],
-) -> Sampled
-    requires { ⌜ SessionOk (state session (now candidates) (now plans) (now «next_dims»)) × (session .phase ≡ phase.Active)
-        × (longEnough (state session (now candidates) (now plans) (now «next_dims»)) ≡ true) × (planCount (now history) ≤ 4096) ⌝ }
-    ensures { λ r. ⌜ ((d : Distribution) → exit r (now (candidates .exit)) (now (plans .exit)) (now («next_dims» .exit))
-        ≡ sampleOf (state session (now (candidates .entry)) (now (plans .entry)) (now («next_dims» .entry))) d plan (now (history .entry))) ⌝ }
-{
-    let config = session.config;
-    let size = config.population_size;
-    let progress = session.progress;
-    let n = progress.n_plans;
-    if session_parts::evaluated(history, plans, n, size) {
-        return sample_bred(session, plan, history, candidates, plans, next_dims);
-    }
-    if session_parts::full(plans, n, plan) {
-        return refused(session, 11);
-    }
-    session_parts::sample_from_candidate(session, plan, candidates, plans, next_dims)
-}
-
-// The call that ends discovery: the first generation's candidates are drawn.
-fn sample_first(
-    session: Session,
-    plan: u64,
-    history: &[u64],
-    candidates: &mut [u64],
-    plans: &mut [u64],
-    next_dims: &mut [usize],
-) -> Sampled
-    requires { ⌜ SessionOk (state session (now candidates) (now plans) (now «next_dims»)) × (session .phase ≡ phase.Discovery)
-        × (discoversFor (session .«discovery_trial_id») plan ≡ false)
-        × (longEnough (state session (now candidates) (now plans) (now «next_dims»)) ≡ true) × (planCount (now history) ≤ 4096) ⌝ }
-    ensures { λ r. ⌜ ((d : Distribution) → exit r (now (candidates .exit)) (now (plans .exit)) (now («next_dims» .exit))
-        ≡ sampleOf (state session (now (candidates .entry)) (now (plans .entry)) (now («next_dims» .entry))) d plan (now (history .entry))) ⌝ }
-{
-    let session = session_parts::activate(session, candidates);
-    session_parts::sample_from_candidate(session, plan, candidates, plans, next_dims)
+    session_active::refused(session, 10)
 }
 
 // ---- a call that is lent a slice too short
-
-// The number of a call that would breed: 8 or 9 for the plans bred from, or else 10. The step is asked with room for all that it would hand out.
-fn bred_refusal(session: Session, history: &[u64], plans: &[u64]) -> u8
-    requires { ⌜ SessionOk (state session [] (now plans) []) × (evaluated (state session [] (now plans) []) (now history) ≡ true) ⌝ }
-    ensures { λ r. ⌜ shortRefusal (state session [] (now (plans .entry)) []) (now (history .entry)) ≡ some r ⌝ }
-{
-    let config = session.config;
-    let n_obj = config.n_obj;
-    let size = config.population_size;
-    let directions = config.directions;
-    let dimensions = session.dimensions;
-    let ideal_point = session.ideal_point;
-    let progress = session.progress;
-    let rng = session.rng;
-    let mut pool = [0u64; POOL_WORDS];
-    session_parts::gather(history, plans, size, &mut pool);
-    let words = size * PLAN_WORDS;
-    let check = step_refusal::refusal(
-        &pool[..words],
-        &directions[..n_obj],
-        config.divisions,
-        size,
-        rng,
-        dimensions,
-        progress.n_dims,
-        config.crossover_prob,
-        config.crossover_eta,
-        config.mutation_eta,
-        &ideal_point[..n_obj],
-        MAX_PLANS,
-        MAX_PLANS,
-        MAX_PLANS,
-        65536,
-    );
-    match check {
-        Check::Refused(number) => number,
-        Check::Good => 10,
-    }
-}
 
 // The number of a call that adds no dimension.
 fn short_refusal(session: Session, history: &[u64], plans: &[u64]) -> u8
@@ -275,8 +65,8 @@ fn short_refusal(session: Session, history: &[u64], plans: &[u64]) -> u8
     let Phase::Active = phase else {
         return 10;
     };
-    if session_parts::evaluated(history, plans, n, size) {
-        return bred_refusal(session, history, plans);
+    if session_records::evaluated(history, plans, n, size) {
+        return session_breeding::bred_refusal(session, history, plans);
     }
     10
 }
@@ -299,21 +89,35 @@ fn answered(
 {
     let phase = session.phase;
     let first = session.discovery_trial_id;
-    let long = session_parts::long_enough(candidates.len(), plans.len(), next_dims.len());
-    if session_parts::discovers(phase, first, plan) {
+    let long = session_records::long_enough(candidates.len(), plans.len(), next_dims.len());
+    if session_records::discovers(phase, first, plan) {
         return sample_discovering(session, distribution, plan, history, long);
     }
     if MAX_HISTORY < plans::plan_count(history) {
-        return refused(session, 7);
+        return session_active::refused(session, 7);
     }
     if long {
         return match phase {
-            Phase::Discovery => sample_first(session, plan, history, candidates, plans, next_dims),
-            Phase::Active => sample_active(session, plan, history, candidates, plans, next_dims),
+            Phase::Discovery => session_active::sample_first(
+                session,
+                plan,
+                history,
+                candidates,
+                plans,
+                next_dims,
+            ),
+            Phase::Active => session_active::sample_active(
+                session,
+                plan,
+                history,
+                candidates,
+                plans,
+                next_dims,
+            ),
         };
     }
     let number = short_refusal(session, history, plans);
-    refused(session, number)
+    session_active::refused(session, number)
 }
 
 // A plan asks for its next setting; the answer, or the number of the refusal that the call meets. `history` has the evaluated plans; the other slices are lent

@@ -34,7 +34,7 @@ pub fn opened(
 ) -> Opened
     ensures { λ r. ⌜ usableBy (r .outcome) (r .session) ⌝ }
 {
-    session_parts::open(
+    session_opening::open(
         directions,
         seed,
         size,

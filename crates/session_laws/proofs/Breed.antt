@@ -23,7 +23,9 @@ use Rattle.model.specs.Property.{SessionOk}
 use Rattle.candidate_laws.proofs.Sound.{AllHeld}
 use Rattle.candidate_laws.proofs.Generations.{generation-words}
 use Rattle.session_laws.proofs.Request.{dimensions-good}
-use Rattle.session_laws.proofs.Steps.{Long, over-long, no-fewer}
+use Rattle.session_laws.proofs.Tests.{no-fewer}
+use Rattle.session_laws.proofs.Lists.{over-long}
+use Rattle.session_laws.proofs.Steps.{Long}
 
 -- ---- a selection of the whole pool
 

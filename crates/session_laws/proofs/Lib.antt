@@ -1,4 +1,5 @@
 pub mod Tests
+pub mod Lists
 pub mod Opened
 pub mod Request
 pub mod Steps

@@ -19,13 +19,15 @@ use Rattle.model.specs.Lists.{firstBelow, allIn}
 use Rattle.model.specs.Real.{infinity, unit}
 use Rattle.model.specs.Plan.{maxValues}
 use Rattle.model.specs.Reference.{binomial, pointCount, autoDivisions, divisionsOf, populationSize, orElse}
+use Rattle.model.specs.declared.Opening.the-variants as opening
 use Rattle.model.specs.declared.OptionUsize.{OptionUsize}
+use Rattle.model.specs.declared.Session.{Session}
 use Rattle.model.specs.Session.{state, given, opened}
-use Rattle.model.specs.Calls.{openOf, Opens}
+use Rattle.model.specs.Calls.{openBy, openOf, Opens}
 use Rattle.model.specs.Refusal.{firstOf, wholeEta, openRefusal, badDirections, badSessionSize, badSessionDivisions, badGivenDivisions, badDivisions, outsideDivisions, badOperators, measurable, isInfinity, goodIdeal, maxSize, maxLines}
 use Rattle.model.specs.Property.{ConfigOk, SessionOk}
-use Rattle.reference_laws.proofs.Divisions.{auto-inside}
-use Rattle.session_laws.proofs.Tests.{or-both, and-both}
+use Rattle.das_dennis.proofs.Divisions.{auto-inside}
+use Rattle.session_laws.proofs.Tests.{or-both, and-both, no-fewer}
 
 -- ---- the ideal that a session starts from: plus infinity everywhere
 
@@ -62,7 +64,7 @@ size-within m (some size) divisions e f = let h = ltb-false maxSize size e in (o
 
 module _ (marks : List ℕ) (seed : ℕ) (size divisions : Option ℕ) (probability crossoverEta mutationEta : Float)
     (accepted : openRefusal marks size divisions probability crossoverEta mutationEta ≡ none) where
-  directions-good : badDirections marks ≡ false
+  pub directions-good : badDirections marks ≡ false
   unfolding openRefusal
   directions-good = applies-not (List·Memᴰ·head refl) accepted
 
@@ -70,7 +72,7 @@ module _ (marks : List ℕ) (seed : ℕ) (size divisions : Option ℕ) (probabil
   unfolding openRefusal
   size-good = applies-not (List·Memᴰ·tail (List·Memᴰ·head refl)) accepted
 
-  divisions-good : badSessionDivisions (length marks) size divisions ≡ false
+  pub divisions-good : badSessionDivisions (length marks) size divisions ≡ false
   unfolding openRefusal
   divisions-good = applies-not (List·Memᴰ·tail (List·Memᴰ·tail (List·Memᴰ·head refl))) accepted
 
@@ -104,18 +106,25 @@ module _ (marks : List ℕ) (seed : ℕ) (size divisions : Option ℕ) (probabil
   opened-ok candidates plans nextDims =
       record {
         config = config-good;
-        dimensions = record { few = omega arith; valid = λ d l. absurd (none-below l) };
+        dimensions = record { few = omega arith; valid = λ d l. absurd (no-fewer l) };
         phase = record { first = refl; noCandidates = refl; noPlans = refl };
         ideal = infinite-ideal (length marks) (some-objectives marks directions-good .1);
         lent = λ e. record {
-          different = λ i j l k same. none-below k;
-          next = λ i l. absurd (none-below l);
-          settings = λ i d l k. absurd (none-below l);
+          different = λ i j l k same. no-fewer k;
+          next = λ i l. absurd (no-fewer l);
+          settings = λ i d l k. absurd (no-fewer l);
         };
       }
-    where
-      none-below : {d : ℕ} → d < 0 → ⊥
-      none-below l = omega arith
+
+-- ---- an answer tells the refusal
+
+pub ready-tells : (o : Option ℕ) (s : Session) → openBy o s .outcome ≡ opening.Ready → o ≡ none
+ready-tells none s e = refl
+ready-tells (some n) s e = absurd (let z : _≡_ {A = ℕ} 0 1 = cc in omega arith)
+
+pub refused-tells : (o : Option ℕ) (s : Session) (n : ℕ) → openBy o s .outcome ≡ opening.Refused n → o ≡ some n
+refused-tells none s n e = absurd (let z : _≡_ {A = ℕ} 0 1 = cc in omega arith)
+refused-tells (some m) s n e = cc
 
 -- the whole promise of `open`, of its definition
 pub opens : (directions : List ℕ) (seed : ℕ) (size divisions : OptionUsize) (probability crossoverEta mutationEta : Float)

@@ -22,13 +22,9 @@ use Rattle.model.specs.Refusal.{check, firstOf, Room, noRoom, noStepRoom, badSi
 use Rattle.model.specs.Calls.{wordRequest}
 use Rattle.model.specs.Property.{DimensionsOk, SessionOk}
 use Rattle.session_laws.proofs.Tests.{or-both, passed-over, last-one}
+use Rattle.session_laws.proofs.Lists.{join-length}
 
 -- ---- the plans bred from are as many as the size
-
-join-length : (f : ℕ → List ℕ) (w n : ℕ) → ((i : ℕ) → length (f i) ≡ w) → length (joinBelow f n) ≡ n * w
-unfolding joinBelow
-join-length f w zero h = sym (zero-mul w)
-join-length f w (suc n) h = length-append (joinBelow f n) (f n) ∙ omega (arith, join-length f w n h, h n, suc-mul n w)
 
 pub bred-length : (st : State) (history : List ℕ) → length (bredFrom st history) ≡ st .session .config .«population_size» * planWords
 unfolding bredFrom
@@ -36,7 +32,7 @@ bred-length st history =
     join-length (λ i. blockOf history (recordOf history (getD (st .plans) i 0))) planWords (st .session .config .«population_size»)
     (λ i. listBelow-length _ planWords)
 
-pub bred-count : (st : State) (history : List ℕ) → planCount (bredFrom st history) ≡ st .session .config .«population_size»
+bred-count : (st : State) (history : List ℕ) → planCount (bredFrom st history) ≡ st .session .config .«population_size»
 bred-count st history = omega (arith, bred-length st history)
 
 -- so code's request, made of those words, is the session's
@@ -152,11 +148,3 @@ module _ (st : State) (history : List ℕ) (ok : SessionOk st) where
     pub breed-refusal : (d : Distribution) (plan : ℕ) → breeds st history ≡ true → longEnough st ≡ true → planCount history ≤ maxHistory
         → sampleRefusal st d plan history ≡ stepRefusal (operatorsOf (st .session)) (requestOf st history) room offspring
     breed-refusal d plan bred long few = sample-refusal d plan bred long few ∙ sym step-refusal
-
-    -- as code asks it, of the words bred from
-    pub breed-refusal-words : (d : Distribution) (plan : ℕ) → breeds st history ≡ true → longEnough st ≡ true → planCount history ≤ maxHistory
-        → sampleRefusal st d plan history ≡ stepRefusal (operatorsOf (st .session))
-        (wordRequest (bredFrom st history) (take (st .session .config .«n_obj») (st .session .config .directions)) (st .session .config .divisions)
-        (st .session .config .«population_size») (st .session .rng) (take (st .session .config .«n_obj») (st .session .«ideal_point»))) room offspring
-    breed-refusal-words d plan bred long few =
-        breed-refusal d plan bred long few ∙ ap (λ (r : Request). stepRefusal (operatorsOf (st .session)) r room offspring) (sym (bred-request st history))

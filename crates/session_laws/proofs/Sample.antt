@@ -19,13 +19,13 @@ use Rattle.model.specs.declared.Phase.the-variants.{Discovery, Active}
 use Rattle.model.specs.Plan.{maxSettings}
 use Rattle.model.specs.Setting.{validDimension}
 use Rattle.model.specs.Session.{State, dimensionOf, longEnough, isActive, pastDiscovery, discovers, isNew, breeds, breed, activate, discover, sampleFromCandidate, accepted, requestOf, operatorsOf, maxPlans}
-use Rattle.model.specs.Refusal.{sampleRefusal, badPool, badParents}
+use Rattle.model.specs.Refusal.{sampleRefusal, badParents}
 use Rattle.model.specs.Property.{SessionOk}
 use Rattle.model.specs.Calls.{sampleBy, sampleOf, Samples}
 use Rattle.model.proofs.Session as session
 use Rattle.candidate_laws.proofs.Sound.{AllHeld}
 use Rattle.typed_laws.proofs.Held.{session-dimensions, session-held}
-use Rattle.session_laws.proofs.Tests.{and-both, and-fails}
+use Rattle.session_laws.proofs.Tests.{and-both, and-fails, and-fails-first}
 use Rattle.session_laws.proofs.Request.{breeds-active}
 use Rattle.session_laws.proofs.Steps.{long, known, discovery-ok, active-ok, by-test, discover-ok, activate-ok, activate-long, sampleFromCandidate-ok}
 use Rattle.session_laws.proofs.Breed.{breed-ok, breed-long}
@@ -43,23 +43,19 @@ discovery-phase Active e = absurd (true≢false e)
 -- ---- what a call that is not refused rules out
 
 module _ (st : State) (d : Distribution) (plan : ℕ) (history : List ℕ) (e : sampleRefusal st d plan history ≡ none) where
-  pub not-6 : (discovers st plan && (leb maxSettings (st .session .progress .«n_dims») || not (validDimension d))) ≡ false
+  not-6 : (discovers st plan && (leb maxSettings (st .session .progress .«n_dims») || not (validDimension d))) ≡ false
   unfolding sampleRefusal
   not-6 = applies-not (List·Memᴰ·head refl) e
 
-  pub not-8 : (breeds st history && badPool (requestOf st history)) ≡ false
-  unfolding sampleRefusal
-  not-8 = applies-not (List·Memᴰ·tail (List·Memᴰ·tail (List·Memᴰ·head refl))) e
-
-  pub not-9 : (breeds st history && badParents (operatorsOf (st .session)) (requestOf st history)) ≡ false
+  not-9 : (breeds st history && badParents (operatorsOf (st .session)) (requestOf st history)) ≡ false
   unfolding sampleRefusal
   not-9 = applies-not (List·Memᴰ·tail (List·Memᴰ·tail (List·Memᴰ·tail (List·Memᴰ·head refl)))) e
 
-  pub not-10 : longEnough st ≡ true
+  not-10 : longEnough st ≡ true
   unfolding sampleRefusal
   not-10 = not-false _ (applies-not (List·Memᴰ·tail (List·Memᴰ·tail (List·Memᴰ·tail (List·Memᴰ·tail (List·Memᴰ·head refl))))) e)
 
-  pub not-11 : (leb maxPlans (st .session .progress .«n_plans») && (isNew st plan && not (breeds st history))) ≡ false
+  not-11 : (leb maxPlans (st .session .progress .«n_plans») && (isNew st plan && not (breeds st history))) ≡ false
   unfolding sampleRefusal
   not-11 = applies-not (List·Memᴰ·tail (List·Memᴰ·tail (List·Memᴰ·tail (List·Memᴰ·tail (List·Memᴰ·tail (List·Memᴰ·head refl)))))) e
 
@@ -97,9 +93,7 @@ module _ (st : State) (d : Distribution) (plan : ℕ) (history : List ℕ) (ok :
     goes-on a h = sampleFromCandidate-ok st plan ok (active-phase (st .session .phase) a) (long st (not-10 st d plan history e)) room held
       where
         room : isNew st plan ≡ true → st .session .progress .«n_plans» < maxPlans
-        room new = by-bool (leb maxPlans (st .session .progress .«n_plans»))
-            (λ full. absurd (true≢false (sym (and-both _ _ new (ap not h)) ∙ and-fails _ _ (not-11 st d plan history e) full)))
-            (λ some. leb-false maxPlans _ some)
+        room new = leb-false maxPlans _ (and-fails-first _ _ (not-11 st d plan history e) (and-both _ _ new (ap not h)))
 
     pub accepted-ok : SessionOk (accepted st d plan history .after)
     unfolding accepted
@@ -117,14 +111,15 @@ module _ (st : State) (d : Distribution) (plan : ℕ) (history : List ℕ) (ok :
       by-refusal none e = accepted-ok e
       by-refusal (some n) e = ok
 
-  -- and the whole promise of `sample`, of its definition
-  pub samples : Samples st d plan history (sampleOf st d plan history)
-  samples = record { whole = refl; keeps = sample-ok; demand3 = sample-demand3 st d plan history ok }
-
--- of a session that code is given the types promise it: `sample` asks the property alone. `good` stands at `c .good` of the code's proof.
+-- of a session that code is given the types promise it: `sample` asks the property alone. `good` stands at `c .good` of the code's proof
 module _ (st : State) (d : Distribution) (plan : ℕ) (history : List ℕ) (ok : SessionOk st) (vs : List Val) (good : Is (struct.row session.the-type) (st .session) vs) where
-  pub given-held : AllHeld (dimensionOf (st .session)) (st .session .progress .«n_dims»)
+  given-held : AllHeld (dimensionOf (st .session)) (st .session .progress .«n_dims»)
   given-held k l = session-held (st .session) vs good k (omega (arith, ok .dimensions .few))
 
-  pub given-samples : Samples st d plan history (sampleOf st d plan history)
-  given-samples = samples st d plan history ok given-held (session-dimensions (st .session) vs good)
+  -- the whole promise of `sample`, of its definition
+  pub samples : Samples st d plan history (sampleOf st d plan history)
+  samples = record {
+    whole = refl;
+    keeps = sample-ok st d plan history ok given-held (session-dimensions (st .session) vs good);
+    demand3 = sample-demand3 st d plan history ok;
+  }

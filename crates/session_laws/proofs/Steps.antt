@@ -4,7 +4,7 @@ use mathlib.Core.Path.{_≡_, refl, sym, ap, _∙_, subst}
 use mathlib.Core.Bool.{Bool, true, false, cond, true≢false}
 use mathlib.Core.List.{List, [], _∷_, map}
 use mathlib.Core.Logic.{⊎-elim}
-use native.Mathlib.Nat.{eq-or-lt-of-le, le-trans, mul-le-mul, mul-le-mul-left}
+use native.Mathlib.Nat.{eq-or-lt-of-le, le-trans, mul-le-mul}
 use native.Mathlib.Omega.{arith}
 use lib.Dec.{eqb, leb, ltb}
 use lib.ListN.{length, getD, set, take, drop, length-append, length-take, length-drop, length-set}
@@ -25,8 +25,9 @@ use Rattle.model.specs.Refusal.{goodIdeal}
 use Rattle.model.specs.Property.{KnownBy, ConfigOk, DimensionsOk, DiscoveryOk, ActiveOk, PhaseOk, LentOk, SessionOk}
 use Rattle.candidate_laws.proofs.Sound.{AllHeld}
 use Rattle.candidate_laws.proofs.Sampled.{sampleAll-sound, sampleCandidates-sound}
-use Rattle.candidate_laws.proofs.Words.{place-below, words-within, words-put}
-use Rattle.session_laws.proofs.Tests.{and-both}
+use Rattle.candidate_laws.proofs.Words.{words-within, words-put}
+use Rattle.session_laws.proofs.Tests.{and-both, no-fewer}
+use Rattle.session_laws.proofs.Lists.{over-long, overAt-long}
 use Rattle.session_laws.proofs.Request.{dimensions-good}
 
 -- ---- the lengths of the lent slices
@@ -49,23 +50,6 @@ long st e =
 pub long-enough : (st : State) → Long st → longEnough st ≡ true
 unfolding longEnough
 long-enough st l = and-both _ _ (le-leb maxWords _ (l .words)) (and-both _ _ (le-leb maxPlans _ (l .plans)) (le-leb maxPlans _ (l .next)))
-
--- every setting of 2,048 candidates has its place
-pub setting-fits : (st : State) → DimensionsOk (st .session) → Long st → (i d : ℕ) → i < maxPlans → d < st .session .progress .«n_dims»
-    → i * st .session .progress .«n_dims» + d < length (st .candidates)
-setting-fits st ok l i d h k =
-    omega (arith, place-below i d (st .session .progress .«n_dims») maxPlans h k, mul-le-mul-left {m = st .session .progress .«n_dims»} {n = maxSettings} maxPlans (ok .few), l .words)
-
--- a slice does not get shorter by what is written over it
-pub over-long : {A : Type 0} (new old : List A) → length old ≤ length (over new old)
-over-long new old = omega (arith, length-append new (drop (length new) old), length-drop (length new) old)
-
-pub overAt-long : (at : ℕ) (new old : List ℕ) → length old ≤ length (overAt at new old)
-overAt-long at new old =
-    omega (arith, length-append (take at old) (over new (drop at old)), length-take at old, over-long new (drop at old), length-drop at old)
-
-pub no-fewer : {d : ℕ} → d < 0 → ⊥
-no-fewer l = omega arith
 
 -- ---- discovery
 

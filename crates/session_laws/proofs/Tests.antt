@@ -1,7 +1,9 @@
 -- Tests joined, and numbers of refusals that do not apply.
-use mathlib.Core.Path.{_≡_, refl}
+use Prim.Native.Nat.{ℕ, _<_}
+use mathlib.Core.Path.{_≡_, refl, sym, _∙_}
 use mathlib.Core.Bool.{Bool, true, false, _&&_, _||_, true≢false, false≢true}
 use mathlib.Core.List.{List, [], _∷_}
+use native.Mathlib.Omega.{arith}
 use Rattle.model.specs.Refusal.{Check, firstOf}
 
 -- a disjunction whose sides fail fails
@@ -9,7 +11,7 @@ pub or-both : (a b : Bool) → a ≡ false → b ≡ false → (a || b) ≡ fals
 or-both true b h k = absurd (true≢false h)
 or-both false b h k = k
 
--- a conjunction whose sides pass passes; one that fails, and whose first side passes, fails on the second
+-- a conjunction whose sides pass passes; one that fails, and whose one side passes, fails on the other
 pub and-both : (a b : Bool) → a ≡ true → b ≡ true → (a && b) ≡ true
 and-both true b h k = k
 and-both false b h k = absurd (false≢true h)
@@ -17,6 +19,13 @@ and-both false b h k = absurd (false≢true h)
 pub and-fails : (a b : Bool) → (a && b) ≡ false → a ≡ true → b ≡ false
 and-fails true b e h = e
 and-fails false b e h = absurd (false≢true h)
+
+pub and-fails-first : (a b : Bool) → (a && b) ≡ false → b ≡ true → a ≡ false
+and-fails-first false b e h = refl
+and-fails-first true b e h = absurd (true≢false (sym h ∙ e))
+
+pub no-fewer : {d : ℕ} → d < 0 → ⊥
+no-fewer l = omega arith
 
 -- ---- the first number that applies
 

@@ -3,13 +3,12 @@ use Prim.Native.Nat.{ℕ, _+_, _-_, _*_, _≤_, _<_}
 use mathlib.Core.Path.{_≡_, refl, sym, ap, ap₂, _∙_, subst}
 use mathlib.Core.Bool.{Bool, true, cond, not}
 use mathlib.Core.List.{List, map}
-use native.Mathlib.Nat.{add-mul, one-mul, mul-le-mul}
 use native.Mathlib.Omega.{arith}
 use borrow.Author.Tests.{lt-ltb, le-ltb, ltb-true, ltb-false}
 use lib.Dec.{ltb}
 use lib.ListN.{length, getD, set}
-use lib.Seq.{length-take-le}
 use Rattle.list_laws.proofs.Bools.{by-bool}
+use Rattle.list_laws.proofs.Runs.{row-within}
 use Rattle.model.specs.declared.Distribution.{Distribution}
 use Rattle.model.specs.declared.ParamValue.{ParamValue}
 use Rattle.model.specs.declared.OptionU64.the-variants as optU64
@@ -21,7 +20,7 @@ use Rattle.model.specs.Draw.{Drawn, drawn}
 use Rattle.model.specs.Setting.{kindOfDimension, toWord, ofWord, sampleRandom, sampleAll, sampleCandidates, wordsOf}
 use Rattle.model.specs.Session.{State, state, progress, dimensionOf, withRng, withProgress, overAt, discover, activate, overflow, enter, enlist, answer, isNew, placeIn, plansOf, sampleFromCandidate}
 use Rattle.session_parts.specs.Exits.{exit, settled, Ready}
-use Rattle.session_parts.proofs.Records.{has-place}
+use Rattle.session_records.proofs.Records.{listed-by}
 
 -- ---- discovery
 
@@ -67,7 +66,7 @@ module _ (s : Session) where
 
 -- a candidate fits where there are fewer than 2,048
 pub fits-more : (k n len : ℕ) → k < 2048 → n ≤ 32 → 65536 ≤ len → k * n + n ≤ len
-fits-more k n len h i l = omega (arith, add-mul k 1 n, one-mul n, mul-le-mul {n₁ = k + 1} {m₁ = n} {n₂ = 2048} {m₂ = 32} (omega arith) i)
+fits-more k n len h i l = row-within k 2048 n len h (omega arith)
 
 pub overflow-is : (s : Session) (c : List ParamValue) (g : ℕ) (cs ps ns after : List ℕ) (t u : Session)
     → drawn c g ≡ sampleAll (dimensionOf s) (s .progress .«n_dims») (s .rng .s)
@@ -156,7 +155,7 @@ module _ (st : State) (plan i : ℕ) (room : st .session .progress .«n_plans» 
   count = st .session .progress .«n_plans»
 
   listed : has (plansOf st) plan ≡ ltb i count
-  listed = has-place (plansOf st) plan ∙ ap₂ (λ (a b : ℕ). ltb a b) (sym e) (length-take-le count (st .plans) room)
+  listed = listed-by (st .plans) count plan i room e
 
   pub is-new : count ≤ i → isNew st plan ≡ true
   is-new h = ap not (listed ∙ le-ltb i count h)

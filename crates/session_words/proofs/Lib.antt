@@ -1,4 +1,1 @@
 pub mod Marks
-pub mod Laid
-pub mod Stored
-pub mod Typed

@@ -1,4 +1,4 @@
--- Words are read and written as the coding says: a mark that is not 0 is yes, and what is put together from its parts.
+-- Words are read as the coding says: a mark that is not 0 is yes, and a dimension is put together from its parts.
 use Prim.Native.Nat.{ℕ, zero, suc, _≤_}
 use mathlib.Core.Path.{_≡_, refl}
 use mathlib.Core.Bool.{Bool}
@@ -8,14 +8,11 @@ use lib.IntN.{ℤ}
 use lib.Ieee.{Float}
 use lib.ListN.{length, getD}
 use Rattle.model.specs.declared.Distribution.the-variants as dist
-use Rattle.model.specs.declared.IntDistribution.{IntDistribution}
 use Rattle.model.specs.declared.OptionF64.{OptionF64}
 use Rattle.model.specs.declared.OptionI64.{OptionI64}
-use Rattle.model.specs.declared.Config.{Config}
-use Rattle.model.specs.Lists.{one}
-use Rattle.model.specs.Real.{real, bits}
-use Rattle.model.specs.Setting.{wordOfInt, intOfWord}
-use Rattle.session_words.specs.Coding.{marked, hasStepI64, stepWordI64, stepF64, stepI64, distributionOf, dimensionWords, eight, configWords}
+use Rattle.model.specs.Real.{real}
+use Rattle.model.specs.Setting.{intOfWord}
+use Rattle.session_words.specs.Coding.{marked, stepF64, stepI64, distributionOf}
 
 pub by-suc : {A : Type 0} (f : ℕ → A) (a : A) → ((k : ℕ) → f (suc k) ≡ a) → (w : ℕ) → (w ≡ 0 → ⊥) → f w ≡ a
 by-suc f a h zero n = absurd (n refl)
@@ -40,14 +37,3 @@ module _ (kind low high log has step : ℕ) where
   pub int-is : (a b : ℤ) (g : Bool) (o : OptionI64) → kind ≡ 1 → a ≡ intOfWord low → b ≡ intOfWord high → g ≡ marked log → o ≡ stepI64 has step
       → dist.Int (record { low = a; high = b; «log_scale» = g; step = o }) ≡ distributionOf kind low high log has step
   int-is a b g o k p q r t = rw (k, p, q, r, t)
-
-pub int-laid : (d : IntDistribution) (low high log has step : ℕ) → low ≡ wordOfInt (d .low) → high ≡ wordOfInt (d .high) → log ≡ one (d .«log_scale»)
-    → has ≡ hasStepI64 (d .step) → step ≡ stepWordI64 (d .step) → (1 ∷ low ∷ high ∷ log ∷ has ∷ step ∷ []) ≡ dimensionWords (dist.Int d)
-int-laid d low high log has step p q r t u = rw (p, q, r, t, u)
-
-pub config-laid : (c : Config) (m : List ℕ) (p e u : ℕ) → m ≡ eight (λ i. getD (c .directions) i 0) → p ≡ bits (c .«crossover_prob»)
-    → e ≡ bits (c .«crossover_eta») → u ≡ bits (c .«mutation_eta»)
-    → (c .«n_obj» ∷ getD m 0 0 ∷ getD m 1 0 ∷ getD m 2 0 ∷ getD m 3 0 ∷ getD m 4 0 ∷ getD m 5 0 ∷ getD m 6 0 ∷ getD m 7 0
-    ∷ c .divisions ∷ c .«population_size» ∷ p ∷ e ∷ u ∷ []) ≡ configWords c
-unfolding configWords
-config-laid c m p e u hm hp he hu = rw (hm, hp, he, hu)

@@ -1,14 +1,12 @@
 -- each way is as the definition has it
-use Prim.Native.Nat.{ℕ, _≤_, _<_}
-use mathlib.Core.Path.{_≡_, refl, sym, ap, ap₂, _∙_}
-use mathlib.Core.Bool.{Bool, true, false, not, _&&_}
-use lib.ListN.{length}
+use Prim.Native.Nat.{_≤_, _<_}
+use mathlib.Core.Path.{refl, sym, ap, _∙_}
+use mathlib.Core.List.{[]}
 use Rattle.model.specs.declared.Sampled.{Sampled}
-use Rattle.model.specs.Session.{State, state, sampleFromCandidate, pastDiscovery}
-use Rattle.session_parts.specs.Exits.{exit, settled}
+use Rattle.session_parts.specs.Exits.{exit}
 use Rattle.model.specs.Plan.{planCount}
-use Rattle.session.proofs.Refusals.{leaves-refused}
-use Rattle.session.proofs.Ways.{others, other-7, long-by, without-any, discovery-plans, first-of}
+use Rattle.session_active.proofs.Refusals.{leaves-refused}
+use Rattle.session_active.proofs.Ways.{others, other-7, long-by, without-next, discovery-plans, first-of}
 use native.Mathlib.Omega.{arith}
 use borrow.Author.Needs.{needs}
 use Rattle.session.proofs.answered.Statement.{statement}
@@ -54,7 +52,7 @@ sample-first-requires c κs =
     let a = s .args in
     let few : planCount (a .history .now) ≤ 4096 = omega (arith, c .before .before .before .before .before .before .if2 .left, c .before .before .before .before .before .before .before .plan-count .ensures) in
     let p = c .before .before .before .enum-told .given .1 in
-    (s .pre, p, first-of (a .session) (a .candidates .now) (a .plans .now) (a .next-dims .now) (a .distribution) (a .plan) (a .history .now) p (sym (c .before .before .before .before .before .before .before .before .before .discovers .ensures) ∙ c .before .before .before .before .before .before .before .before .if1 .left), long-by (a .session) (a .candidates .now) (a .plans .now) (a .next-dims .now) (a .distribution) (a .plan) (a .history .now) _ (c .before .before .before .before .before .before .before .before .before .before .long-enough .ensures) ∙ c .before .before .before .before .before .if3 .taken, few)
+    (record { ok = s .pre; room = long-by (a .session) (a .candidates .now) (a .plans .now) (a .next-dims .now) (a .distribution) (a .plan) (a .history .now) _ (c .before .before .before .before .before .before .before .before .before .before .long-enough .ensures) ∙ c .before .before .before .before .before .if3 .taken; few = few }, p, first-of (a .session) (a .candidates .now) (a .plans .now) (a .next-dims .now) (a .distribution) (a .plan) (a .history .now) p (sym (c .before .before .before .before .before .before .before .before .before .discovers .ensures) ∙ c .before .before .before .before .before .before .before .before .if1 .left))
 
 enum-told-2 : tie.Need-enum-told-2
 enum-told-2 c = search needs
@@ -64,7 +62,7 @@ sample-active-requires c κs =
     let s = c .before .before .before .before .before .before .before .before .before .before .before .before .before .before .before in
     let a = s .args in
     let few : planCount (a .history .now) ≤ 4096 = omega (arith, c .before .before .before .before .before .before .if2 .left, c .before .before .before .before .before .before .before .plan-count .ensures) in
-    (s .pre, c .before .before .before .enum-told2 .given .1, long-by (a .session) (a .candidates .now) (a .plans .now) (a .next-dims .now) (a .distribution) (a .plan) (a .history .now) _ (c .before .before .before .before .before .before .before .before .before .before .long-enough .ensures) ∙ c .before .before .before .before .before .if3 .taken, few)
+    (record { ok = s .pre; room = long-by (a .session) (a .candidates .now) (a .plans .now) (a .next-dims .now) (a .distribution) (a .plan) (a .history .now) _ (c .before .before .before .before .before .before .before .before .before .before .long-enough .ensures) ∙ c .before .before .before .before .before .if3 .taken; few = few }, c .before .before .before .enum-told2 .given .1)
 
 same-length : tie.Need-same-length
 same-length c = c .before .before .before .before .before .before .sample-first .kept .1 .1 .1 .0
@@ -95,7 +93,7 @@ short-refusal-requires c κs =
     let s = c .before .before .before .before .before .before .before .before .before .before .before in
     let a = s .args in
     let few : planCount (a .history .now) ≤ 4096 = omega (arith, c .before .before .if2 .left, c .before .before .before .plan-count .ensures) in
-    (without-any (a .session) (a .candidates .now) (a .plans .now) (a .next-dims .now) (a .distribution) (a .plan) (a .history .now) (s .pre), few)
+    (without-next (a .session) (a .candidates .now) (a .plans .now) (a .next-dims .now) (a .distribution) (a .plan) (a .history .now) [] (s .pre), few)
 
 refused-requires-2 : tie.Need-refused-requires-2
 refused-requires-2 c κs = tt

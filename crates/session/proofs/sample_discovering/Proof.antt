@@ -1,21 +1,19 @@
 -- test by test
-use mathlib.Core.Path.{_≡_, refl, sym, ap, ap₂, _∙_}
-use mathlib.Core.Bool.{Bool, true, false, not, _&&_, _||_}
+use mathlib.Core.Path.{sym, ap, _∙_}
 use Prim.Native.Nat.{_≤_, _<_}
 use Rattle.model.specs.declared.Sampled.{Sampled}
 use Rattle.model.specs.Plan.{planCount}
 use Rattle.session_parts.specs.Exits.{exit}
-use Rattle.session.proofs.Refusals.{adds, few-dimensions, valid-one, leaves-refused, leaves-accepted, adds-6, adds-7, adds-10, adds-none, adds-accepted}
+use Rattle.session_active.proofs.Refusals.{adds, few-dimensions, valid-one, leaves-refused, leaves-accepted, adds-6, adds-7, adds-10, adds-none, adds-accepted}
 use native.Mathlib.Omega.{arith}
-use borrow.Author.Needs.{needs}
 use Rattle.session.proofs.sample_discovering.Statement.{statement}
 use Rattle.session.proofs.sample_discovering.Tie as tie
 
 bad-dimension-requires : tie.Need-bad-dimension-requires
-bad-dimension-requires c κs = search needs
+bad-dimension-requires c κs = tt
 
 refused-requires : tie.Need-refused-requires
-refused-requires c κs = search needs
+refused-requires c κs = tt
 
 returns : tie.Need-returns
 returns c cs ps ns l =
@@ -24,10 +22,10 @@ returns c cs ps ns l =
     ∙ leaves-refused _ cs ps ns _ _ _ 6 (adds-6 _ cs ps ns _ _ _ (adds _ _ cs ps ns (s .pre .0)) (s .pre .1) (sym (c .before .before .bad-dimension .ensures) ∙ c .before .if1 .taken))
 
 plan-count-requires : tie.Need-plan-count-requires
-plan-count-requires c κs = search needs
+plan-count-requires c κs = tt
 
 refused-requires-2 : tie.Need-refused-requires-2
-refused-requires-2 c κs = search needs
+refused-requires-2 c κs = tt
 
 returns-2 : tie.Need-returns-2
 returns-2 c cs ps ns l =
@@ -52,7 +50,7 @@ returns-3 c cs ps ns l =
     (adds-accepted _ cs ps ns _ _ _ a (s .pre .1))
 
 refused-requires-3 : tie.Need-refused-requires-3
-refused-requires-3 c κs = search needs
+refused-requires-3 c κs = tt
 
 returns-4 : tie.Need-returns-4
 returns-4 c cs ps ns l =

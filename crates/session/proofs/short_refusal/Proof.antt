@@ -1,9 +1,9 @@
 -- 10, but for a call that would breed
 use mathlib.Core.Bool.{true, false}
 use mathlib.Core.List.{[]}
-use mathlib.Core.Path.{_≡_, sym, ap, _∙_}
+use mathlib.Core.Path.{sym, ap, _∙_}
 use Rattle.model.specs.Session.{pastDiscovery}
-use Rattle.session.proofs.Ways.{unused, other-10, first-unbred, breeds-by, evaluated-short, short-bred}
+use Rattle.session_active.proofs.Ways.{unused, other-10, first-unbred, breeds-by, evaluated-short, short-bred}
 use borrow.Author.Needs.{needs}
 use Rattle.session.proofs.short_refusal.Statement.{statement}
 use Rattle.session.proofs.short_refusal.Tie as tie

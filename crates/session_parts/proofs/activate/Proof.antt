@@ -1,6 +1,5 @@
 -- the candidates are drawn and laid
 use Rattle.session_parts.proofs.States.{activate-is}
-use native.Mathlib.Omega.{arith}
 use borrow.Author.Needs.{needs}
 use Rattle.session_parts.proofs.activate.Statement.{statement}
 use Rattle.session_parts.proofs.activate.Tie as tie

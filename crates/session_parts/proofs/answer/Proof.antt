@@ -21,7 +21,7 @@ array-copy-out-info : tie.Need-array-copy-out-info
 array-copy-out-info c = omega (arith, c .before .before .before .before .before .before .pre .0 .few)
 
 kind-of-dimension-requires : tie.Need-kind-of-dimension-requires
-kind-of-dimension-requires c κs = search needs
+kind-of-dimension-requires c κs = tt
 
 mul-of-word : tie.Need-mul-of-word
 mul-of-word c =
@@ -48,7 +48,7 @@ shared-slice-read-of-word c =
     omega (arith, c .before .before .before .if1 .taken)
 
 of-word-requires : tie.Need-of-word-requires
-of-word-requires c κs = search needs
+of-word-requires c κs = tt
 
 add-next-dims : tie.Need-add-next-dims
 add-next-dims c = search needs
@@ -80,7 +80,7 @@ sample-random-requires c κs =
     each _ _ (s .pre .0 .dims) (s .args .session .progress .«n_dims» - 1) (omega (arith, s .pre .0 .some))
 
 with-rng-requires : tie.Need-with-rng-requires
-with-rng-requires c κs = search needs
+with-rng-requires c κs = tt
 
 returns-2 : tie.Need-returns-2
 returns-2 c ps = answer-drawn _ _ _ ps _ _ _ _ (c .before .before .before .before .before .if1 .left) (c .before .before .sample-random .ensures) (c .with-rng .ensures)

@@ -1,6 +1,5 @@
 -- the dimension is entered, and the setting drawn from it
 use Rattle.session_parts.proofs.States.{discover-is}
-use native.Mathlib.Omega.{arith}
 use borrow.Author.Needs.{needs}
 use Rattle.session_parts.proofs.discover.Statement.{statement}
 use Rattle.session_parts.proofs.discover.Tie as tie

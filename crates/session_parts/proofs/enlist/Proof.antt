@@ -1,5 +1,5 @@
 -- the plan is entered, after a candidate more where there is none for it
-use mathlib.Core.Path.{_≡_, ap, _∙_}
+use mathlib.Core.Path.{ap, _∙_}
 use Rattle.model.specs.Session.{State, enter}
 use Rattle.session_parts.proofs.States.{enlist-next, enlist-over, overflowed-plans}
 use native.Mathlib.Omega.{arith}

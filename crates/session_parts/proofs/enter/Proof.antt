@@ -1,6 +1,5 @@
 -- the plan's number and its first dimension are stored
 use Rattle.session_parts.proofs.States.{enter-is}
-use native.Mathlib.Omega.{arith}
 use borrow.Author.Needs.{needs}
 use Rattle.session_parts.proofs.enter.Statement.{statement}
 use Rattle.session_parts.proofs.enter.Tie as tie
@@ -21,7 +20,7 @@ add-t8 : tie.Need-add-t8
 add-t8 c = search needs
 
 with-progress-requires : tie.Need-with-progress-requires
-with-progress-requires c κs = search needs
+with-progress-requires c κs = tt
 
 same-length : tie.Need-same-length
 same-length c = search needs

@@ -25,10 +25,10 @@ add-t13 : tie.Need-add-t13
 add-t13 c = search needs
 
 with-rng-requires : tie.Need-with-rng-requires
-with-rng-requires c κs = search needs
+with-rng-requires c κs = tt
 
 with-progress-requires : tie.Need-with-progress-requires
-with-progress-requires c κs = search needs
+with-progress-requires c κs = tt
 
 same-length : tie.Need-same-length
 same-length c = search needs

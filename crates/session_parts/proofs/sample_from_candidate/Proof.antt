@@ -1,5 +1,5 @@
 -- a plan's place tells whether it is new
-use mathlib.Core.Path.{_≡_, ap, _∙_}
+use mathlib.Core.Path.{ap, _∙_}
 use Rattle.model.specs.Session.{State, state, answer}
 use Rattle.session_parts.specs.Exits.{settled}
 use Rattle.session_parts.proofs.States.{is-new, known-plan, new-plan, enlisted-ready}

@@ -1,28 +1,27 @@
 -- Field by field.
-use borrow.Author.Needs.{needs}
 use Rattle.session_words.proofs.config_at.Statement.{statement}
 use Rattle.session_words.proofs.config_at.Tie as tie
 
 word-at-requires : tie.Need-word-at-requires
-word-at-requires c κs = search needs
+word-at-requires c κs = tt
 
 marks-at-requires : tie.Need-marks-at-requires
-marks-at-requires c κs = search needs
+marks-at-requires c κs = tt
 
 word-at-requires-2 : tie.Need-word-at-requires-2
-word-at-requires-2 c κs = search needs
+word-at-requires-2 c κs = tt
 
 word-at-requires-3 : tie.Need-word-at-requires-3
-word-at-requires-3 c κs = search needs
+word-at-requires-3 c κs = tt
 
 real-at-requires : tie.Need-real-at-requires
-real-at-requires c κs = search needs
+real-at-requires c κs = tt
 
 real-at-requires-2 : tie.Need-real-at-requires-2
-real-at-requires-2 c κs = search needs
+real-at-requires-2 c κs = tt
 
 real-at-requires-3 : tie.Need-real-at-requires-3
-real-at-requires-3 c κs = search needs
+real-at-requires-3 c κs = tt
 
 returns : tie.Need-returns
 returns c = cc

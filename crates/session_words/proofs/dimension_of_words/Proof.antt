@@ -4,40 +4,40 @@ use Rattle.session_words.proofs.dimension_of_words.Statement.{statement
 use Rattle.session_words.proofs.dimension_of_words.Tie as tie
 
 word-at-requires : tie.Need-word-at-requires
-word-at-requires c κs = search needs
+word-at-requires c κs = tt
 
 add-word-at : tie.Need-add-word-at
 add-word-at c = search needs
 
 word-at-requires-2 : tie.Need-word-at-requires-2
-word-at-requires-2 c κs = search needs
+word-at-requires-2 c κs = tt
 
 add-word-at-2 : tie.Need-add-word-at-2
 add-word-at-2 c = search needs
 
 word-at-requires-3 : tie.Need-word-at-requires-3
-word-at-requires-3 c κs = search needs
+word-at-requires-3 c κs = tt
 
 add-word-at-3 : tie.Need-add-word-at-3
 add-word-at-3 c = search needs
 
 word-at-requires-4 : tie.Need-word-at-requires-4
-word-at-requires-4 c κs = search needs
+word-at-requires-4 c κs = tt
 
 add-word-at-4 : tie.Need-add-word-at-4
 add-word-at-4 c = search needs
 
 word-at-requires-5 : tie.Need-word-at-requires-5
-word-at-requires-5 c κs = search needs
+word-at-requires-5 c κs = tt
 
 add-word-at-5 : tie.Need-add-word-at-5
 add-word-at-5 c = search needs
 
 word-at-requires-6 : tie.Need-word-at-requires-6
-word-at-requires-6 c κs = search needs
+word-at-requires-6 c κs = tt
 
 distribution-of-requires : tie.Need-distribution-of-requires
-distribution-of-requires c κs = search needs
+distribution-of-requires c κs = tt
 
 returns : tie.Need-returns
 returns c = cc

@@ -3,21 +3,20 @@ use mathlib.Core.Path.{refl, sym, _∙_}
 use Rattle.session_words.proofs.Marks.{by-two, float-is, int-is}
 use Rattle.session_words.specs.Coding.{distributionOf}
 use Rattle.settings.proofs.Signed.{back}
-use borrow.Author.Needs.{needs}
 use Rattle.session_words.proofs.distribution_of.Statement.{statement}
 use Rattle.session_words.proofs.distribution_of.Tie as tie
 
 marked-requires : tie.Need-marked-requires
-marked-requires c κs = search needs
+marked-requires c κs = tt
 
 step-f64-requires : tie.Need-step-f64-requires
-step-f64-requires c κs = search needs
+step-f64-requires c κs = tt
 
 real-of-word-requires : tie.Need-real-of-word-requires
-real-of-word-requires c κs = search needs
+real-of-word-requires c κs = tt
 
 real-of-word-requires-2 : tie.Need-real-of-word-requires-2
-real-of-word-requires-2 c κs = search needs
+real-of-word-requires-2 c κs = tt
 
 returns : tie.Need-returns
 returns c =
@@ -25,13 +24,13 @@ returns c =
     (c .before .before .before .before .marked .ensures) (c .before .before .step-f64 .ensures)
 
 step-i64-requires : tie.Need-step-i64-requires
-step-i64-requires c κs = search needs
+step-i64-requires c κs = tt
 
 int-of-word-requires : tie.Need-int-of-word-requires
-int-of-word-requires c κs = search needs
+int-of-word-requires c κs = tt
 
 int-of-word-requires-2 : tie.Need-int-of-word-requires-2
-int-of-word-requires-2 c κs = search needs
+int-of-word-requires-2 c κs = tt
 
 returns-2 : tie.Need-returns-2
 returns-2 c =

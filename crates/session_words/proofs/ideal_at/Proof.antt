@@ -1,32 +1,31 @@
 -- Place by place.
 use Rattle.session_words.specs.Coding.{idealAt}
-use borrow.Author.Needs.{needs}
 use Rattle.session_words.proofs.ideal_at.Statement.{statement}
 use Rattle.session_words.proofs.ideal_at.Tie as tie
 
 real-at-requires : tie.Need-real-at-requires
-real-at-requires c κs = search needs
+real-at-requires c κs = tt
 
 real-at-requires-2 : tie.Need-real-at-requires-2
-real-at-requires-2 c κs = search needs
+real-at-requires-2 c κs = tt
 
 real-at-requires-3 : tie.Need-real-at-requires-3
-real-at-requires-3 c κs = search needs
+real-at-requires-3 c κs = tt
 
 real-at-requires-4 : tie.Need-real-at-requires-4
-real-at-requires-4 c κs = search needs
+real-at-requires-4 c κs = tt
 
 real-at-requires-5 : tie.Need-real-at-requires-5
-real-at-requires-5 c κs = search needs
+real-at-requires-5 c κs = tt
 
 real-at-requires-6 : tie.Need-real-at-requires-6
-real-at-requires-6 c κs = search needs
+real-at-requires-6 c κs = tt
 
 real-at-requires-7 : tie.Need-real-at-requires-7
-real-at-requires-7 c κs = search needs
+real-at-requires-7 c κs = tt
 
 real-at-requires-8 : tie.Need-real-at-requires-8
-real-at-requires-8 c κs = search needs
+real-at-requires-8 c κs = tt
 
 returns : tie.Need-returns
 unfolding idealAt

@@ -1,32 +1,31 @@
 -- Place by place.
 use Rattle.session_words.specs.Coding.{marksAt}
-use borrow.Author.Needs.{needs}
 use Rattle.session_words.proofs.marks_at.Statement.{statement}
 use Rattle.session_words.proofs.marks_at.Tie as tie
 
 mark-at-requires : tie.Need-mark-at-requires
-mark-at-requires c κs = search needs
+mark-at-requires c κs = tt
 
 mark-at-requires-2 : tie.Need-mark-at-requires-2
-mark-at-requires-2 c κs = search needs
+mark-at-requires-2 c κs = tt
 
 mark-at-requires-3 : tie.Need-mark-at-requires-3
-mark-at-requires-3 c κs = search needs
+mark-at-requires-3 c κs = tt
 
 mark-at-requires-4 : tie.Need-mark-at-requires-4
-mark-at-requires-4 c κs = search needs
+mark-at-requires-4 c κs = tt
 
 mark-at-requires-5 : tie.Need-mark-at-requires-5
-mark-at-requires-5 c κs = search needs
+mark-at-requires-5 c κs = tt
 
 mark-at-requires-6 : tie.Need-mark-at-requires-6
-mark-at-requires-6 c κs = search needs
+mark-at-requires-6 c κs = tt
 
 mark-at-requires-7 : tie.Need-mark-at-requires-7
-mark-at-requires-7 c κs = search needs
+mark-at-requires-7 c κs = tt
 
 mark-at-requires-8 : tie.Need-mark-at-requires-8
-mark-at-requires-8 c κs = search needs
+mark-at-requires-8 c κs = tt
 
 returns : tie.Need-returns
 unfolding marksAt

@@ -1,13 +1,12 @@
 -- A word, read as a real.
-use borrow.Author.Needs.{needs}
 use Rattle.session_words.proofs.real_at.Statement.{statement}
 use Rattle.session_words.proofs.real_at.Tie as tie
 
 word-at-requires : tie.Need-word-at-requires
-word-at-requires c κs = search needs
+word-at-requires c κs = tt
 
 real-of-word-requires : tie.Need-real-of-word-requires
-real-of-word-requires c κs = search needs
+real-of-word-requires c κs = tt
 
 returns : tie.Need-returns
 returns c = cc

@@ -5,34 +5,34 @@ use Rattle.session_words.proofs.session_of_words.Statement.{statement}
 use Rattle.session_words.proofs.session_of_words.Tie as tie
 
 config-at-requires : tie.Need-config-at-requires
-config-at-requires c κs = search needs
+config-at-requires c κs = tt
 
 word-at-requires : tie.Need-word-at-requires
-word-at-requires c κs = search needs
+word-at-requires c κs = tt
 
 phase-of-requires : tie.Need-phase-of-requires
-phase-of-requires c κs = search needs
+phase-of-requires c κs = tt
 
 word-at-requires-2 : tie.Need-word-at-requires-2
-word-at-requires-2 c κs = search needs
+word-at-requires-2 c κs = tt
 
 word-at-requires-3 : tie.Need-word-at-requires-3
-word-at-requires-3 c κs = search needs
+word-at-requires-3 c κs = tt
 
 first-of-requires : tie.Need-first-of-requires
-first-of-requires c κs = search needs
+first-of-requires c κs = tt
 
 word-at-requires-4 : tie.Need-word-at-requires-4
-word-at-requires-4 c κs = search needs
+word-at-requires-4 c κs = tt
 
 dimensions-of-words-requires : tie.Need-dimensions-of-words-requires
 dimensions-of-words-requires c κs = search needs
 
 ideal-at-requires : tie.Need-ideal-at-requires
-ideal-at-requires c κs = search needs
+ideal-at-requires c κs = tt
 
 progress-at-requires : tie.Need-progress-at-requires
-progress-at-requires c κs = search needs
+progress-at-requires c κs = tt
 
 returns : tie.Need-returns
 unfolding sessionOf

@@ -11,7 +11,7 @@ returns : tie.Need-returns
 returns c = search needs
 
 real-of-word-requires : tie.Need-real-of-word-requires
-real-of-word-requires c κs = search needs
+real-of-word-requires c κs = tt
 
 returns-2 : tie.Need-returns-2
 returns-2 c =

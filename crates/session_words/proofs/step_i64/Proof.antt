@@ -12,7 +12,7 @@ returns : tie.Need-returns
 returns c = search needs
 
 int-of-word-requires : tie.Need-int-of-word-requires
-int-of-word-requires c κs = search needs
+int-of-word-requires c κs = tt
 
 returns-2 : tie.Need-returns-2
 returns-2 c =

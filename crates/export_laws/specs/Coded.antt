@@ -1,0 +1,183 @@
+-- What each public call leaves, in numbers and lists alone, as a program in another language takes it.
+use Prim.Native.Nat.{ℕ, zero, suc, _≤_}
+use mathlib.Core.Path.{_≡_}
+use mathlib.Core.Bool.{true, cond}
+use mathlib.Core.List.{List}
+use mathlib.Core.Option.{none, some}
+use lib.Dec.{ltb}
+use lib.Ieee.{Float}
+use lib.ListN.{length, take}
+use Rattle.model.specs.declared.Chosen.{Chosen}
+use Rattle.model.specs.declared.Chosen.the-variants as chosen
+use Rattle.model.specs.declared.Opening.{Opening}
+use Rattle.model.specs.declared.Opening.the-variants as opening
+use Rattle.model.specs.declared.OptionUsize.{OptionUsize}
+use Rattle.model.specs.declared.OptionUsize.the-variants as optUsize
+use Rattle.model.specs.declared.Sampling.{Sampling}
+use Rattle.model.specs.declared.Sampling.the-variants as sampling
+use Rattle.model.specs.declared.Session.{Session}
+use Rattle.model.specs.declared.Outcome.{Outcome}
+use Rattle.model.specs.declared.Outcome.the-variants as outcome
+use Rattle.model.specs.declared.Rng.{Rng}
+use Rattle.model.specs.Association.{Request}
+use Rattle.model.specs.Calls.{Lent, roomOf, SelectExit, StepExit, ChooseExit, SampleExit, operators, selectOf, stepOf, openOf, sampleOf, chooseOf}
+use Rattle.model.specs.Demand3.{Demand3}
+use Rattle.model.specs.Kept as keeping
+use Rattle.model.specs.Lists.{over}
+use Rattle.model.specs.PoolFile.{PoolFile, parse, fileRequest}
+use Rattle.model.specs.Refusal.{selectRefusal, stepRefusal, sampleRefusal, chooseRefusal}
+use Rattle.model.specs.Setting.{Operators, WordsWithin, generation, kindOf, toWord}
+use Rattle.model.specs.Session.{State, state, breeds, requestOf, operatorsOf}
+use Rattle.model.specs.Property.{SessionOk}
+use Rattle.session_words.specs.Coding.{dimensionAt, dimensionsAt, dimensionCount, sessionWidth, sessionWords, sessionOf}
+
+abbrev pub rngOf : ℕ → Rng
+rngOf n = record { s = n }
+
+-- ---- selection and generation step
+
+-- 0 where a list is kept; else the refusal's number, which is never 0
+abbrev pub codeOf : Outcome → ℕ
+codeOf (outcome.Kept n) = 0
+codeOf (outcome.Refused n) = n
+
+-- how many plans are kept; a refusal leaves the number that was there
+abbrev pub keptOf : Outcome → ℕ → ℕ
+keptOf (outcome.Kept n) old = n
+keptOf (outcome.Refused n) old = old
+
+pub record Selected : Type 0 where
+  pub code : ℕ
+  pub state : ℕ
+  pub ideal : List Float
+  pub slices : Lent
+
+abbrev pub selected : SelectExit → Selected
+selected e = record { code = codeOf (e .answer .outcome); state = e .answer .rng .s; ideal = e .ideal; slices = e .slices }
+
+-- THE PROMISE of `locustdomino_select`. The list that it hands out is the first `size` entries of `kept`
+pub record SelectsWords (r : Request) (entry : Lent) (exit : Selected) : Type 0 where
+  pub whole : exit ≡ selected (selectOf r entry)
+  pub demand3 : selectRefusal r (roomOf entry) ≡ none → r .size ≤ r .count → Demand3 r (take (r .size) (exit .slices .kept))
+
+pub record Stepped : Type 0 where
+  pub code : ℕ
+  pub kept : ℕ
+  pub state : ℕ
+  pub ideal : List Float
+  pub slices : Lent
+  pub offspring : List ℕ
+
+abbrev pub stepped : ℕ → StepExit → Stepped
+stepped old e = record {
+  code = codeOf (e .answer .outcome);
+  kept = keptOf (e .answer .outcome) old;
+  state = e .answer .rng .s;
+  ideal = e .ideal;
+  slices = e .slices;
+  offspring = e .offspring;
+}
+
+-- THE PROMISE of `locustdomino_generate_offspring`; `old` is the number that `n_kept` had. The list that it hands out is the first `n_kept` entries of `kept`;
+-- it selects from a pool of two plans on, and hands out no setting outside its bounds
+pub record StepsWords (o : Operators) (r : Request) (entry : Lent) (offspring : List ℕ) (old : ℕ) (exit : Stepped) : Type 0 where
+  pub whole : exit ≡ stepped old (stepOf o r entry offspring)
+  pub demand3 : stepRefusal o r (roomOf entry) (length offspring) ≡ none → 2 ≤ r .count → r .size ≤ r .count
+      → Demand3 r (take (exit .kept) (exit .slices .kept))
+  pub bounds : stepRefusal o r (roomOf entry) (length offspring) ≡ none → WordsWithin (o .dims) (o .dimCount) (r .size) (exit .offspring)
+
+-- the operators of a step whose dimensions are given as words: as many as are there whole
+abbrev pub wordOperators : List ℕ → Float → Float → Float → Operators
+wordOperators dims probability crossoverEta mutationEta = operators (dimensionsAt dims 0) (dimensionCount dims) probability crossoverEta mutationEta
+
+-- ---- opening
+
+-- a size or a number of divisions, where its mark is not 0
+abbrev pub optional : ℕ → ℕ → OptionUsize
+optional zero n = optUsize.None
+optional (suc k) n = optUsize.Some n
+
+pub record Written : Type 0 where
+  pub code : ℕ
+  pub words : List ℕ
+
+abbrev pub written : ℕ → List ℕ → Written
+written n ws = record { code = n; words = ws }
+
+-- the session's words at the slice's front; a slice too short for them meets 10 and stays as it was
+abbrev pub putSession : Session → List ℕ → Written
+putSession s ws = cond (ltb (length ws) sessionWidth) (written 10 ws) (written 0 (over (sessionWords s) ws))
+
+abbrev pub openedBy : Opening → Session → List ℕ → Written
+openedBy opening.Ready s ws = putSession s ws
+openedBy (opening.Refused n) s ws = written n ws
+
+-- THE PROMISE of `locustdomino_open`: where it answers 0, the words stand for the session that is opened, which has the session property
+pub record OpensWords (directions : List ℕ) (seed : ℕ) (size divisions : OptionUsize) (probability crossoverEta mutationEta : Float) (entry : List ℕ) (code : ℕ) (exit : List ℕ) : Type 0 where
+  pub whole : written code exit
+      ≡ openedBy (openOf directions seed size divisions probability crossoverEta mutationEta .outcome) (openOf directions seed size divisions probability crossoverEta mutationEta .session) entry
+  pub holds : code ≡ 0 → sessionOf exit ≡ openOf directions seed size divisions probability crossoverEta mutationEta .session
+  pub gives : code ≡ 0 → (candidates plans nextDims : List ℕ) → SessionOk (state (sessionOf exit) candidates plans nextDims)
+
+-- ---- a session call
+
+-- the number answered, the setting's kind and word, the session's words, and the state that these and the lent slices stand for
+pub record SampledWords : Type 0 where
+  pub code : ℕ
+  pub kind : ℕ
+  pub value : ℕ
+  pub words : List ℕ
+  pub after : State
+
+abbrev pub sampledWords : ℕ → ℕ → ℕ → List ℕ → State → SampledWords
+sampledWords n k v ws st = record { code = n; kind = k; value = v; words = ws; after = st }
+
+-- a refusal leaves the words, the kind and the value that were there
+abbrev pub sampledBy : Sampling → State → ℕ → ℕ → List ℕ → SampledWords
+sampledBy (sampling.Setting x) st k v ws = sampledWords 0 (kindOf x) (toWord x) (over (sessionWords (st .session)) ws) st
+sampledBy (sampling.Refused n) st k v ws = sampledWords n k v ws st
+
+abbrev pub sampledExit : SampleExit → ℕ → ℕ → List ℕ → SampledWords
+sampledExit e k v ws = sampledBy (e .answer) (e .after) k v ws
+
+-- too few words for a session meet 10. The dimension is an input and no answer: of its words those past the slice's end are 0, so that an empty slice
+-- stands for a Float from 0 to 0
+unfoldable pub sampleWords : List ℕ → List ℕ → ℕ → List ℕ → List ℕ → List ℕ → List ℕ → ℕ → ℕ → SampledWords
+sampleWords ws ds plan history cs ps ns k v =
+    let st = state (sessionOf ws) cs ps ns in
+    cond (ltb (length ws) sessionWidth) (sampledWords 10 k v ws st) (sampledExit (sampleOf st (dimensionAt ds 0) plan history) k v ws)
+
+-- THE PROMISE of `locustdomino_sample`. `after` is what the words and slices at exit stand for: the state that the call leaves, which has the property again.
+-- Where it breeds, its list is selection's
+pub record SamplesWords (ws ds : List ℕ) (plan : ℕ) (history cs ps ns : List ℕ) (k v : ℕ) (exit : SampledWords) : Type 0 where
+  pub whole : exit ≡ sampleWords ws ds plan history cs ps ns k v
+  pub keeps : sessionWidth ≤ length ws → SessionOk (exit .after)
+  pub demand3 : sessionWidth ≤ length ws → sampleRefusal (state (sessionOf ws) cs ps ns) (dimensionAt ds 0) plan history ≡ none
+      → breeds (state (sessionOf ws) cs ps ns) history ≡ true
+      → Demand3 (requestOf (state (sessionOf ws) cs ps ns) history)
+      (generation (operatorsOf (sessionOf ws)) (requestOf (state (sessionOf ws) cs ps ns) history) .kept)
+
+-- ---- the choice for a pool file
+
+abbrev pub chosenCode : Chosen → ℕ
+chosenCode (chosen.Written n) = 0
+chosenCode (chosen.Refused n) = n
+
+-- the text's length; a refusal leaves the number that was there
+abbrev pub chosenLength : Chosen → ℕ → ℕ
+chosenLength (chosen.Written n) old = n
+chosenLength (chosen.Refused n) old = old
+
+pub record Listed : Type 0 where
+  pub code : ℕ
+  pub length : ℕ
+  pub out : List ℕ
+
+abbrev pub listed : ℕ → ChooseExit → Listed
+listed old e = record { code = chosenCode (e .answer); length = chosenLength (e .answer) old; out = e .out }
+
+-- THE PROMISE of `locustdomino_choose`; `old` is the number that `length` had
+pub record ListsWords (bytes entry : List ℕ) (old : ℕ) (exit : Listed) : Type 0 where
+  pub whole : exit ≡ listed old (chooseOf bytes entry)
+  pub demand3 : chooseRefusal bytes (length entry) ≡ none → (f : PoolFile) → parse bytes ≡ some f → f .size ≤ f .count
+      → Demand3 (fileRequest f) (keeping.selected (fileRequest f) .kept)

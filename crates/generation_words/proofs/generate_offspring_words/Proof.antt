@@ -1,0 +1,59 @@
+-- `generate_offspring_words`. Assumes nothing.
+use Prim.Native.Nat.{_/_}
+use mathlib.Core.Path.{ap}
+use lib.ListN.{length}
+use Rattle.model.specs.Calls.{operators}
+use Rattle.export_laws.proofs.Export.{step-coded}
+use borrow.Author.Needs.{needs}
+use Rattle.generation_words.proofs.generate_offspring_words.Statement.{statement}
+use Rattle.generation_words.proofs.generate_offspring_words.Tie as tie
+
+dimensions-of-words-requires : tie.Need-dimensions-of-words-requires
+dimensions-of-words-requires c κs = search needs
+
+nsga3-generate-offspring-requires : tie.Need-nsga3-generate-offspring-requires
+nsga3-generate-offspring-requires c κs = tt
+
+count-requires : tie.Need-count-requires
+count-requires c κs = search needs
+
+code-requires : tie.Need-code-requires
+code-requires c κs = tt
+
+same-length : tie.Need-same-length
+same-length c = search needs
+
+same-length-2 : tie.Need-same-length-2
+same-length-2 c = search needs
+
+same-length-3 : tie.Need-same-length-3
+same-length-3 c = search needs
+
+same-length-4 : tie.Need-same-length-4
+same-length-4 c = search needs
+
+same-length-5 : tie.Need-same-length-5
+same-length-5 c = search needs
+
+returns : tie.Need-returns
+returns c =
+    let a = c .before .before .before .before .before .before .before .before .before .before .before .before .before .before .before .before .before .before .before .before .before .before .before .before .before .before .before .before .before .before .args in
+    let e =
+    ap (λ x. operators x (length (a .dimensions .now) / 6) (a .crossover-prob) (a .crossover-eta) (a .mutation-eta))
+    (c .before .before .before .before .before .before .before .before .before .before .before .before .before .before .before .before .before .before .before .before .before .dimensions-of-words .ensures) in
+    step-coded _ _ _ _ _ _ _ _ _ e (c .before .before .before .before .before .before .before .before .before .before .before .before .before .before .nsga3-generate-offspring .ensures) (c .before .count .ensures) (c .code .ensures)
+
+pub generate-offspring-words-spec : {M : Type 1} → statement M
+generate-offspring-words-spec =
+    tie.close
+    (tie.spec
+    dimensions-of-words-requires
+    nsga3-generate-offspring-requires
+    count-requires
+    code-requires
+    same-length
+    same-length-2
+    same-length-3
+    same-length-4
+    same-length-5
+    returns)

@@ -1,0 +1,77 @@
+// `nsga3_select` and `choose`, in numbers and lists alone: what their C names do.
+use model::Chosen;
+use model::Outcome;
+use model::Rng;
+ghost use mathlib.Core.Path.{_≡_};
+ghost use Rattle.model.specs.Calls.{wordRequest, lent};
+ghost use Rattle.export_laws.specs.Coded.{codeOf, SelectsWords, rngOf, chosenCode, chosenLength, ListsWords};
+
+// A call answers 0, or the number of the refusal.
+pub fn code(outcome: Outcome) -> u64
+    ensures { λ r. ⌜ r ≡ codeOf outcome ⌝ }
+{
+    match outcome {
+        Outcome::Kept(n) => 0,
+        Outcome::Refused(n) => session_words::wide(n),
+    }
+}
+
+// `nsga3_select`: the generator's state moves on in place. The kept list is as long as the size.
+pub fn select_words(
+    pool: &[u64],
+    directions: &[u8],
+    divisions: usize,
+    size: usize,
+    state: &mut u64,
+    ideal: &mut [f64],
+    kept: &mut [usize],
+    fronts: &mut [usize],
+    lines: &mut [usize],
+) -> u64
+    ensures { λ r. ⌜ SelectsWords (wordRequest (now (pool .entry)) (now (directions .entry)) divisions size (rngOf (now (state .entry))) (now (ideal .entry)))
+        (lent (now (kept .entry)) (now (fronts .entry)) (now (lines .entry)))
+        (record { code = r; state = now (state .exit); ideal = now (ideal .exit); slices = lent (now (kept .exit)) (now (fronts .exit)) (now (lines .exit)) }) ⌝ }
+{
+    let answer = nsga3::nsga3_select(
+        pool,
+        directions,
+        divisions,
+        size,
+        Rng { s: *state },
+        ideal,
+        kept,
+        fronts,
+        lines,
+    );
+    let rng = answer.rng;
+    *state = rng.s;
+    let outcome = answer.outcome;
+    code(outcome)
+}
+
+fn chosen_code(answer: Chosen) -> u64
+    ensures { λ r. ⌜ r ≡ chosenCode answer ⌝ }
+{
+    match answer {
+        Chosen::Written(n) => 0,
+        Chosen::Refused(n) => session_words::wide(n),
+    }
+}
+
+fn chosen_length(answer: Chosen, old: usize) -> usize
+    ensures { λ r. ⌜ r ≡ chosenLength answer old ⌝ }
+{
+    match answer {
+        Chosen::Written(n) => n,
+        Chosen::Refused(n) => old,
+    }
+}
+
+// `choose`: the text for a pool file, and its length.
+pub fn choose_words(file: &[u8], out: &mut [u8], length: &mut usize) -> u64
+    ensures { λ r. ⌜ ListsWords (now (file .entry)) (now (out .entry)) (now (length .entry)) (record { code = r; length = now (length .exit); out = now (out .exit) }) ⌝ }
+{
+    let answer = pool_choice::choose(file, out);
+    *length = chosen_length(answer, *length);
+    chosen_code(answer)
+}

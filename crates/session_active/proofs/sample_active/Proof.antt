@@ -1,0 +1,111 @@
+-- breeding comes first, then refusal 11
+use mathlib.Core.Path.{refl, sym, ap, _∙_}
+use mathlib.Core.Bool.{true, false}
+use Rattle.model.specs.declared.Sampled.{Sampled}
+use Rattle.model.specs.Session.{state, pastDiscovery}
+use Rattle.session_parts.specs.Exits.{exit}
+use mathlib.Core.List.{[]}
+use Rattle.session_laws.proofs.Request.{active-discovers}
+use Rattle.session_laws.proofs.Steps.{long, active-ok}
+use Rattle.session_active.proofs.Refusals.{leaves-refused, leaves-accepted}
+use Rattle.session_active.proofs.Ways.{unused, ready-active, breeds-by, active-accepted, unbred-none, unbred-11, not-full}
+use native.Mathlib.Omega.{arith}
+use Rattle.session_active.proofs.sample_active.Statement.{statement}
+use Rattle.session_active.proofs.sample_active.Tie as tie
+
+evaluated-requires : tie.Need-evaluated-requires
+evaluated-requires c κs = tt
+
+sample-bred-requires : tie.Need-sample-bred-requires
+sample-bred-requires c κs =
+    let s = c .before .before .before .before .before .before .before .before .before .before .before .before in
+    let a = s .args in
+    (s .pre .0, breeds-by (a .session) (a .candidates .now) (a .plans .now) (a .next-dims .now) unused 0 (a .history .now) true (ap pastDiscovery (s .pre .1)) (sym (c .before .before .before .before .evaluated .ensures) ∙ c .before .before .before .if1 .taken))
+
+same-length : tie.Need-same-length
+same-length c = c .before .before .before .before .before .before .sample-bred .kept .1 .1 .1 .0
+
+same-length-2 : tie.Need-same-length-2
+same-length-2 c = c .before .before .before .before .before .before .sample-bred .kept .1 .1 .1 .1 .0
+
+same-length-3 : tie.Need-same-length-3
+same-length-3 c = c .before .before .before .before .before .before .sample-bred .kept .1 .1 .1 .1 .1 .0
+
+returns : tie.Need-returns
+returns c d = c .before .before .before .before .before .before .sample-bred .ensures d
+
+full-requires : tie.Need-full-requires
+full-requires c κs =
+    let s = c .before .before .before .before .before .before .before .before .before .before in
+    let a = s .args in
+    omega (arith, active-ok (state (a .session) (a .candidates .now) (a .plans .now) (a .next-dims .now)) (s .pre .0 .ok) (s .pre .1) .room, long (state (a .session) (a .candidates .now) (a .plans .now) (a .next-dims .now)) (s .pre .0 .room) .plans)
+
+refused-requires : tie.Need-refused-requires
+refused-requires c κs = tt
+
+same-length-4 : tie.Need-same-length-4
+same-length-4 c = refl
+
+returns-2 : tie.Need-returns-2
+returns-2 c d =
+    let s = c .before .before .before .before .before .before .before .before .before .before .before .before .before in
+    let a = s .args in
+    let i = ap pastDiscovery (s .pre .1) in
+    let b = breeds-by (a .session) (a .candidates .now) (a .plans .now) (a .next-dims .now) d (a .plan) (a .history .now) false i (sym (c .before .before .before .before .before .evaluated .ensures) ∙ c .before .before .before .before .if1 .left) in
+    ap (λ (r : Sampled). exit r (a .candidates .now) (a .plans .now) (a .next-dims .now)) (c .refused .ensures)
+    ∙ leaves-refused (a .session) (a .candidates .now) (a .plans .now) (a .next-dims .now) d (a .plan) (a .history .now) 11
+    (unbred-11 (a .session) (a .candidates .now) (a .plans .now) (a .next-dims .now) d (a .plan) (a .history .now) (active-discovers (state (a .session) (a .candidates .now) (a .plans .now) (a .next-dims .now)) (a .plan) i) (s .pre .0 .few) (s .pre .0 .room) b (sym (c .before .before .full .ensures) ∙ c .before .if2 .taken))
+
+sample-from-candidate-requires : tie.Need-sample-from-candidate-requires
+sample-from-candidate-requires c κs =
+    let s = c .before .before .before .before .before .before .before .before .before .before .before .before .before .before .before in
+    let a = s .args in
+    let st = state (a .session) (a .candidates .now) (a .plans .now) (a .next-dims .now) in
+    let l = long st (s .pre .0 .room) in (
+      ready-active (a .session) (a .candidates .now) (a .plans .now) (a .next-dims .now) unused 0 [] (s .pre .0 .ok) (s .pre .1),
+      l .words,
+      l .plans,
+      l .next,
+      not-full (a .session) (a .candidates .now) (a .plans .now) (a .next-dims .now) unused (a .plan) [] (sym (c .before .before .before .before .full .ensures) ∙ c .before .before .before .if2 .left),
+    )
+
+same-length-5 : tie.Need-same-length-5
+same-length-5 c = c .before .before .before .before .before .before .sample-from-candidate .kept .1 .1 .0
+
+same-length-6 : tie.Need-same-length-6
+same-length-6 c = c .before .before .before .before .before .before .sample-from-candidate .kept .1 .1 .1 .0
+
+same-length-7 : tie.Need-same-length-7
+same-length-7 c = c .before .before .before .before .before .before .sample-from-candidate .kept .1 .1 .1 .1 .0
+
+returns-3 : tie.Need-returns-3
+returns-3 c d =
+    let s = c .before .before .before .before .before .before .before .before .before .before .before .before .before .before .before .before .before .before .before .before .before .before in
+    let a = s .args in
+    let i = ap pastDiscovery (s .pre .1) in
+    let b = breeds-by (a .session) (a .candidates .now) (a .plans .now) (a .next-dims .now) d (a .plan) (a .history .now) false i (sym (c .before .before .before .before .before .before .before .before .before .before .before .before .before .before .evaluated .ensures) ∙ c .before .before .before .before .before .before .before .before .before .before .before .before .before .if1 .left) in
+    let o = active-discovers (state (a .session) (a .candidates .now) (a .plans .now) (a .next-dims .now)) (a .plan) i in
+    c .before .before .before .before .before .before .sample-from-candidate .ensures
+    ∙ leaves-accepted (a .session) (a .candidates .now) (a .plans .now) (a .next-dims .now) d (a .plan) (a .history .now) _
+    (unbred-none (a .session) (a .candidates .now) (a .plans .now) (a .next-dims .now) d (a .plan) (a .history .now) o (s .pre .0 .few) (s .pre .0 .room) b (not-full (a .session) (a .candidates .now) (a .plans .now) (a .next-dims .now) d (a .plan) (a .history .now) (sym (c .before .before .before .before .before .before .before .before .before .before .before .full .ensures) ∙ c .before .before .before .before .before .before .before .before .before .before .if2 .left)))
+    (active-accepted (a .session) (a .candidates .now) (a .plans .now) (a .next-dims .now) d (a .plan) (a .history .now) o i b)
+
+pub sample-active-spec : {M : Type 1} → statement M
+sample-active-spec =
+    tie.close
+    (tie.spec
+    evaluated-requires
+    sample-bred-requires
+    same-length
+    same-length-2
+    same-length-3
+    returns
+    full-requires
+    refused-requires
+    same-length-4
+    returns-2
+    sample-from-candidate-requires
+    same-length-5
+    same-length-6
+    same-length-7
+    returns-3)

@@ -1,0 +1,113 @@
+-- breeding's answer tells whether the call was refused
+use mathlib.Core.Path.{_≡_, refl, ap, _∙_}
+use lib.ListN.{length}
+use Rattle.model.specs.declared.Sampled.{Sampled}
+use Rattle.model.specs.Session.{State, state, sampleFromCandidate}
+use Rattle.session_parts.specs.Exits.{exit, settled}
+use mathlib.Core.List.{[]}
+use native.Mathlib.Nat.{le-refl}
+use Rattle.session_laws.proofs.Request.{breeds-active, active-discovers}
+use Rattle.session_laws.proofs.Steps.{long}
+use Rattle.session_laws.proofs.Sample.{active-phase}
+use Rattle.session_breeding.specs.Breeding.{breedRefusal}
+use Rattle.session_active.proofs.Refusals.{leaves-accepted}
+use Rattle.session_active.proofs.Ways.{unused, without-next, evaluated-without, ready-active, ready-bred, kept-tells, refused-tells, call-refusal, leaves-same, bred-accepted}
+use native.Mathlib.Omega.{arith}
+use borrow.Author.Needs.{needs}
+use Rattle.session_active.proofs.sample_bred.Statement.{statement}
+use Rattle.session_active.proofs.sample_bred.Tie as tie
+
+slice-aggregate-breed : tie.Need-slice-aggregate-breed
+slice-aggregate-breed c = refl
+
+breed-requires : tie.Need-breed-requires
+breed-requires c κs =
+    let s = c .before .before .before .before .before .before .before in
+    let a = s .args in
+    let st = state (a .session) (a .candidates .now) (a .plans .now) (a .next-dims .now) in
+    let l = long st (s .pre .0 .room) in
+    (le-refl 126976, (without-next (a .session) (a .candidates .now) (a .plans .now) (a .next-dims .now) unused 0 [] (a .candidates .now) (s .pre .0 .ok), evaluated-without (a .session) (a .candidates .now) (a .plans .now) (a .next-dims .now) unused 0 (a .history .now) (s .pre .1), l .plans, l .words))
+
+enum-known-outcome : tie.Need-enum-known-outcome
+enum-known-outcome c = search needs
+
+refused-requires : tie.Need-refused-requires
+refused-requires c κs = tt
+
+enum-told : tie.Need-enum-told
+enum-told c = search needs
+
+sample-from-candidate-requires : tie.Need-sample-from-candidate-requires
+sample-from-candidate-requires c κs =
+    let s = c .before .before .before .before .before .before .before .before .before .before .before .before .before .before .before .before .before in
+    let a = s .args in
+    let st = state (a .session) (a .candidates .now) (a .plans .now) (a .next-dims .now) in
+    let l = long st (s .pre .0 .room) in
+    let b = c .before .before .before .before .before .before .before .before .before .breed in
+    let k = kept-tells (a .session) (a .candidates .now) (a .plans .now) (a .next-dims .now) unused 0 (a .history .now) (breedRefusal st (a .history .now)) _ (c .before .before .before .enum-told .given .0 .0) _ (b .ensures (a .next-dims .now)) (c .before .before .before .enum-told .given .1) in
+    let r = ready-bred (a .session) (a .candidates .now) (a .plans .now) (a .next-dims .now) unused 0 (a .history .now) _ _
+    (ready-active (a .session) (a .candidates .now) (a .plans .now) (a .next-dims .now) unused 0 [] (s .pre .0 .ok) (active-phase _ (breeds-active st (a .history .now) (s .pre .1)))) (k .1) in
+    let same : length (b .last .1 .1 .1 .1 .0) ≡ length (a .candidates .now) = b .kept .1 .1 .1 .1 .0 in
+    (r .0, omega (arith, l .words), l .plans, l .next, λ new. omega (arith, r .1))
+
+same-length : tie.Need-same-length
+same-length c = c .before .before .before .before .before .before .before .before .breed .kept .1 .1 .1 .1 .0
+
+same-length-2 : tie.Need-same-length-2
+same-length-2 c = refl
+
+returns : tie.Need-returns
+returns c d =
+    let s = c .before .before .before .before .before .before .before .before .before .before .before .before .before .before .before .before in
+    let a = s .args in
+    let st = state (a .session) (a .candidates .now) (a .plans .now) (a .next-dims .now) in
+    let l = long st (s .pre .0 .room) in
+    let b = c .before .before .before .before .before .before .before .before .breed in
+    let told = c .before .before .outcome .given in
+    let k = refused-tells (a .session) (a .candidates .now) (a .plans .now) (a .next-dims .now) d (a .plan) (a .history .now) (breedRefusal st (a .history .now)) _ (told .0 .0) _ (b .ensures (a .next-dims .now)) (told .1) in
+    ap (λ (r : Sampled). exit r (b .last .1 .1 .1 .1 .0) (a .plans .now) (a .next-dims .now)) (c .refused .ensures)
+    ∙ leaves-same (a .session) (a .candidates .now) (a .plans .now) (a .next-dims .now) d (a .plan) (a .history .now) (told .0 .0) _ _
+    (call-refusal (a .session) (a .candidates .now) (a .plans .now) (a .next-dims .now) d (a .plan) (a .history .now) (s .pre .0 .ok) (s .pre .1) (s .pre .0 .room) (s .pre .0 .few) (l .words) ∙ k .0) (k .1)
+
+same-length-3 : tie.Need-same-length-3
+same-length-3 c = c .before .before .before .before .before .before .sample-from-candidate .kept .1 .1 .0 ∙ c .before .before .before .before .before .before .before .before .before .before .before .before .before .before .before .before .breed .kept .1 .1 .1 .1 .0
+
+same-length-4 : tie.Need-same-length-4
+same-length-4 c = c .before .before .before .before .before .before .sample-from-candidate .kept .1 .1 .1 .0
+
+same-length-5 : tie.Need-same-length-5
+same-length-5 c = c .before .before .before .before .before .before .sample-from-candidate .kept .1 .1 .1 .1 .0
+
+returns-2 : tie.Need-returns-2
+returns-2 c d =
+    let s = c .before .before .before .before .before .before .before .before .before .before .before .before .before .before .before .before .before .before .before .before .before .before .before .before in
+    let a = s .args in
+    let st = state (a .session) (a .candidates .now) (a .plans .now) (a .next-dims .now) in
+    let l = long st (s .pre .0 .room) in
+    let b = c .before .before .before .before .before .before .before .before .before .before .before .before .before .before .before .before .breed in
+    let told = c .before .before .before .before .before .before .before .before .before .before .enum-told .given in
+    let k = kept-tells (a .session) (a .candidates .now) (a .plans .now) (a .next-dims .now) d (a .plan) (a .history .now) (breedRefusal st (a .history .now)) _ (told .0 .0) _ (b .ensures (a .next-dims .now)) (told .1) in
+    let i = breeds-active st (a .history .now) (s .pre .1) in
+    c .before .before .before .before .before .before .sample-from-candidate .ensures
+    ∙ ap (λ (x : State). settled (sampleFromCandidate x (a .plan))) (k .1)
+    ∙ leaves-accepted (a .session) (a .candidates .now) (a .plans .now) (a .next-dims .now) d (a .plan) (a .history .now) _
+    (call-refusal (a .session) (a .candidates .now) (a .plans .now) (a .next-dims .now) d (a .plan) (a .history .now) (s .pre .0 .ok) (s .pre .1) (s .pre .0 .room) (s .pre .0 .few) (l .words) ∙ k .0)
+    (bred-accepted (a .session) (a .candidates .now) (a .plans .now) (a .next-dims .now) d (a .plan) (a .history .now) (active-discovers st (a .plan) i) i (s .pre .1))
+
+pub sample-bred-spec : {M : Type 1} → statement M
+sample-bred-spec =
+    tie.close
+    (tie.spec
+    slice-aggregate-breed
+    breed-requires
+    enum-known-outcome
+    refused-requires
+    enum-told
+    sample-from-candidate-requires
+    same-length
+    same-length-2
+    returns
+    same-length-3
+    same-length-4
+    same-length-5
+    returns-2)

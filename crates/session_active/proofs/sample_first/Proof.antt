@@ -1,0 +1,66 @@
+-- the candidates are drawn, and the plan takes the first
+use Prim.Native.Nat.{_<_}
+use mathlib.Core.Path.{_≡_, ap, _∙_}
+use lib.ListN.{length}
+use Rattle.model.specs.Session.{State, state, sampleFromCandidate, pastDiscovery}
+use Rattle.session_parts.specs.Exits.{settled}
+use mathlib.Core.List.{[]}
+use Rattle.session_laws.proofs.Request.{dimensions-good, offspring-fit}
+use Rattle.session_laws.proofs.Steps.{long, discovery-ok}
+use Rattle.session_active.proofs.Refusals.{leaves-accepted}
+use Rattle.session_active.proofs.Ways.{unused, ready-first, some-dimension, first-others, first-unbred, first-accepted, unbred-none}
+use native.Mathlib.Omega.{arith}
+use Rattle.session_active.proofs.sample_first.Statement.{statement}
+use Rattle.session_active.proofs.sample_first.Tie as tie
+
+activate-requires : tie.Need-activate-requires
+activate-requires c κs =
+    let s = c .before .before .before .before .before in
+    let a = s .args in
+    let st = state (a .session) (a .candidates .now) (a .plans .now) (a .next-dims .now) in
+    (dimensions-good (a .session) (s .pre .0 .ok .dimensions), omega (arith, offspring-fit st [] (s .pre .0 .ok), long st (s .pre .0 .room) .words))
+
+sample-from-candidate-requires : tie.Need-sample-from-candidate-requires
+sample-from-candidate-requires c κs =
+    let s = c .before .before .before .before .before .before .before .before .before .before .before in
+    let a = s .args in
+    let st = state (a .session) (a .candidates .now) (a .plans .now) (a .next-dims .now) in
+    let l = long st (s .pre .0 .room) in
+    let e = c .before .before .before .before .before .activate in
+    let r = ready-first (a .session) (a .candidates .now) (a .plans .now) (a .next-dims .now) unused (a .plan) [] _ _ (s .pre .0 .ok) (some-dimension (a .session) (a .candidates .now) (a .plans .now) (a .next-dims .now) unused (a .plan) [] (s .pre .0 .ok) (s .pre .1) (s .pre .2)) (e .ensures (a .plans .now) (a .next-dims .now)) in
+    let same : length (e .last .1 .0) ≡ length (a .candidates .now) = e .kept .1 .0 in
+    (r .0, omega (arith, l .words), l .plans, l .next, λ new. omega (arith, r .1))
+
+same-length : tie.Need-same-length
+same-length c = c .before .before .before .before .before .before .sample-from-candidate .kept .1 .1 .0 ∙ c .before .before .before .before .before .before .before .before .before .before .before .before .activate .kept .1 .0
+
+same-length-2 : tie.Need-same-length-2
+same-length-2 c = c .before .before .before .before .before .before .sample-from-candidate .kept .1 .1 .1 .0
+
+same-length-3 : tie.Need-same-length-3
+same-length-3 c = c .before .before .before .before .before .before .sample-from-candidate .kept .1 .1 .1 .1 .0
+
+returns : tie.Need-returns
+returns c d =
+    let s = c .before .before .before .before .before .before .before .before .before .before .before .before .before .before .before .before .before .before in
+    let a = s .args in
+    let e = c .before .before .before .before .before .before .before .before .before .before .before .before .activate in
+    let o = first-others (a .session) (a .candidates .now) (a .plans .now) (a .next-dims .now) d (a .plan) (a .history .now) (s .pre .2) in
+    let i = ap pastDiscovery (s .pre .1) in
+    let full : a .session .progress .«n_plans» < 2048 = omega (arith, discovery-ok (state (a .session) (a .candidates .now) (a .plans .now) (a .next-dims .now)) (s .pre .0 .ok) (s .pre .1) .noPlans) in
+    c .before .before .before .before .before .before .sample-from-candidate .ensures
+    ∙ ap (λ (x : State). settled (sampleFromCandidate x (a .plan))) (e .ensures (a .plans .now) (a .next-dims .now))
+    ∙ leaves-accepted (a .session) (a .candidates .now) (a .plans .now) (a .next-dims .now) d (a .plan) (a .history .now) _
+    (unbred-none (a .session) (a .candidates .now) (a .plans .now) (a .next-dims .now) d (a .plan) (a .history .now) o (s .pre .0 .few) (s .pre .0 .room) (first-unbred (a .session) (a .candidates .now) (a .plans .now) (a .next-dims .now) d (a .plan) (a .history .now) i) (λ new. full))
+    (first-accepted (a .session) (a .candidates .now) (a .plans .now) (a .next-dims .now) d (a .plan) (a .history .now) o i)
+
+pub sample-first-spec : {M : Type 1} → statement M
+sample-first-spec =
+    tie.close
+    (tie.spec
+    activate-requires
+    sample-from-candidate-requires
+    same-length
+    same-length-2
+    same-length-3
+    returns)

@@ -1,0 +1,173 @@
+-- Breeding from its parts: the pool is the plans bred from, and what the step answers is what the session becomes.
+use Prim.Native.Nat.{ℕ, _+_, _*_, _≤_}
+use mathlib.Core.Path.{_≡_, refl, sym, ap, ap₂, _∙_}
+use mathlib.Core.Bool.{Bool, true, false}
+use mathlib.Core.List.{List, [], _∷_, _++_}
+use mathlib.Core.Option.{Option, none, some}
+use native.Mathlib.Omega.{arith}
+use native.Mathlib.Nat.{le-refl}
+use borrow.Author.Tests.{eqb-true, leb-true}
+use lib.Dec.{leb, ltb}
+use lib.Ieee.{Float}
+use lib.ListN.{length, getD, take, drop, length-take, length-replicate}
+use Rattle.list_laws.proofs.Bools.{and-left, and-right}
+use Rattle.list_laws.proofs.Built.{over-take}
+use Rattle.demand3_laws.proofs.Calls.{not-some}
+use Rattle.model.specs.declared.Outcome.{Outcome}
+use Rattle.model.specs.declared.Outcome.the-variants as outcome
+use Rattle.model.specs.declared.Selection.{Selection}
+use Rattle.model.specs.declared.Session.{Session}
+use Rattle.model.specs.Lists.{allBelow, joinBelow, over}
+use Rattle.model.specs.Plan.{planCount, planWords}
+use Rattle.model.specs.Association.{Request}
+use Rattle.model.specs.Session.{State, state, evaluated, recordOf, blockOf, bredFrom, requestOf, operatorsOf, breed, maxWords}
+use Rattle.model.specs.Refusal.{Room, goodIdeal, stepRefusal, check, firstOf, badPool, badParents, maxSize}
+use Rattle.model.specs.Calls.{refusedBy, roomOf, wordRequest, stepAccepted, stepBy, stepOf}
+use Rattle.model.specs.Property.{SessionOk}
+use Rattle.refusals.specs.declared.Check.{Check}
+use Rattle.refusals.specs.declared.Check.the-variants as check
+use Rattle.refusals.specs.Checked.{checked}
+use Rattle.session_laws.proofs.Request.{bred-length, bred-request, step-refusal}
+use Rattle.session_breeding.specs.Breeding.{bredSession, Stepped, stepped, takenOf, blankLent, stepOn, breedRefusal, shortRefusal, bredExit, breedBy, breedOf}
+
+-- an ideal that is good has its m entries
+pub ideal-room : (m : ℕ) (ideal : List Float) → goodIdeal m (take m ideal) ≡ true → m ≤ length ideal
+unfolding goodIdeal
+ideal-room m ideal e = omega (arith, eqb-true (length (take m ideal)) m (and-left _ _ e), length-take m ideal)
+
+-- what comes before the others in a test that the generation is evaluated
+pub evaluated-stand : (st : State) (history : List ℕ) → evaluated st history ≡ true
+    → allBelow (λ i. ltb (recordOf history (getD (st .plans) i 0)) (planCount history)) (st .session .config .«population_size») ≡ true
+unfolding evaluated
+evaluated-stand st history e =
+    and-right (leb (st .session .config .«population_size») (length (st .plans))) _
+    (and-right (leb (st .session .config .«population_size») (st .session .progress .«n_plans»)) _ e)
+
+-- and that the slice holds their numbers
+pub evaluated-plans : (st : State) (history : List ℕ) → evaluated st history ≡ true → st .session .config .«population_size» ≤ length (st .plans)
+unfolding evaluated
+evaluated-plans st history e =
+    leb-true _ _ (and-left (leb (st .session .config .«population_size») (length (st .plans))) _
+    (and-right (leb (st .session .config .«population_size») (st .session .progress .«n_plans»)) _ e))
+
+-- each list lent for the selection has room
+pub rooms : maxSize ≤ length (blankLent .kept)
+rooms = omega (arith, length-replicate {A = ℕ} maxSize 0)
+
+-- ---- 10 after 8 and 9
+
+then-same : (a b : Bool) (n : ℕ) → some n ≡ firstOf (check 8 a ∷ check 9 b ∷ []) → firstOf (check 8 a ∷ check 9 b ∷ check 10 true ∷ []) ≡ some n
+unfolding firstOf
+then-same true b n e = sym e
+then-same false true n e = sym e
+then-same false false n e = absurd (not-some n e)
+
+then-10 : (a b : Bool) → none ≡ firstOf (check 8 a ∷ check 9 b ∷ []) → firstOf (check 8 a ∷ check 9 b ∷ check 10 true ∷ []) ≡ some 10
+unfolding firstOf
+then-10 true b e = absurd (not-some 8 (sym e))
+then-10 false true e = absurd (not-some 9 (sym e))
+then-10 false false e = refl
+
+module _ (s : Session) (cs ps : List ℕ) (history : List ℕ) where
+  abbrev size : ℕ
+  size = s .config .«population_size»
+
+  abbrev m : ℕ
+  m = s .config .«n_obj»
+
+  abbrev at : List ℕ → State
+  at ns = state s cs ps ns
+
+  abbrev ideal : List Float
+  ideal = take m (s .«ideal_point»)
+
+  -- the words before the last record are the plans bred from
+  pool-part : (pool after : List ℕ) → after ≡ over (joinBelow (λ i. blockOf history (recordOf history (getD ps i 0))) size) pool
+      → take (size * planWords) after ≡ bredFrom (at []) history
+  unfolding bredFrom
+  pool-part pool after e = ap (take (size * planWords)) e ∙ over-take _ pool (size * planWords) (bred-length (at []) history)
+
+  same-request : (ns : List ℕ) → requestOf (at []) history ≡ requestOf (at ns) history
+  unfolding bredFrom
+  same-request ns = refl
+
+  module _ (ok : SessionOk (at [])) (long : maxWords ≤ length cs) where
+    step-is-refused : stepRefusal (operatorsOf s) (requestOf (at []) history) (roomOf blankLent) (length cs) ≡ breedRefusal (at []) history
+    step-is-refused = step-refusal (at []) history ok (roomOf blankLent) (length cs) rooms rooms rooms long
+
+    -- what the step on those words answers
+    step-is : stepOn s (bredFrom (at []) history) ideal cs ≡ takenOf (stepBy (breedRefusal (at []) history) (operatorsOf s) (requestOf (at []) history) blankLent cs)
+    unfolding stepOf
+    step-is =
+        ap (λ (r : Request). takenOf (stepOf (operatorsOf s) r blankLent cs)) (bred-request (at []) history)
+        ∙ ap (λ (o : Option ℕ). takenOf (stepBy o (operatorsOf s) (requestOf (at []) history) blankLent cs)) step-is-refused
+
+  -- ---- a check of the step alone, with room for what it would hand out
+
+  module _ (ok : SessionOk (at [])) (pool gathered : List ℕ) (g : gathered ≡ over (joinBelow (λ i. blockOf history (recordOf history (getD ps i 0))) size) pool)
+      (c : Check)
+      (e : checked c ≡ stepRefusal (operatorsOf s)
+      (wordRequest (take (size * planWords) gathered) (take m (s .config .directions)) (s .config .divisions) size (s .rng) ideal)
+      (record { kept = maxSize; fronts = maxSize; lines = maxSize }) maxWords) where
+    abbrev room : Room
+    room = record { kept = maxSize; fronts = maxSize; lines = maxSize }
+
+    check-is : checked c ≡ breedRefusal (at []) history
+    check-is =
+        e
+        ∙ ap (λ (p : List ℕ). stepRefusal (operatorsOf s) (wordRequest p (take m (s .config .directions)) (s .config .divisions) size (s .rng) ideal) room maxWords)
+        (pool-part pool gathered g)
+        ∙ ap (λ (r : Request). stepRefusal (operatorsOf s) r room maxWords) (bred-request (at []) history)
+        ∙ step-refusal (at []) history ok room maxWords (le-refl maxSize) (le-refl maxSize) (le-refl maxSize) (le-refl maxWords)
+
+    pub short-refused : (n : ℕ) → c ≡ check.Refused n → shortRefusal (at []) history ≡ some n
+    short-refused n f = then-same _ _ n (sym (ap checked f) ∙ check-is)
+
+    pub short-good : c ≡ check.Good → shortRefusal (at []) history ≡ some 10
+    short-good f = then-10 _ _ (sym (ap checked f) ∙ check-is)
+
+  -- ---- by the answer
+
+  module _ (r : Selection) (after : List Float) (words ns : List ℕ) where
+    -- refused: nothing has changed
+    refused-by : (o : Option ℕ) (n : ℕ) → stepped r after words ≡ takenOf (stepBy o (operatorsOf s) (requestOf (at []) history) blankLent cs)
+        → r .outcome ≡ outcome.Refused n → bredExit (refusedBy (r .outcome)) (state s words ps ns) ≡ breedBy o (at ns) history
+    unfolding stepAccepted
+    refused-by none n e f =
+        let k = ap (λ (x : Stepped). x .answer .outcome) e in
+        absurd (let z : _≡_ {A = ℕ} 0 1 = cc in omega arith)
+    refused-by (some q) n e f =
+        ap₂ (λ (x : Outcome) (y : List ℕ). bredExit (refusedBy x) (state s y ps ns)) (ap (λ (x : Stepped). x .answer .outcome) e) (ap (λ (x : Stepped). x .offspring) e)
+
+    -- bred: the generator, the ideal and the candidates are the step's
+    bred-by : (o : Option ℕ) (n : ℕ) (u : Session) → stepped r after words ≡ takenOf (stepBy o (operatorsOf s) (requestOf (at []) history) blankLent cs)
+        → r .outcome ≡ outcome.Kept n → length after ≡ m → u ≡ bredSession s (r .rng .s) (after ++ drop m (s .«ideal_point»))
+        → bredExit (refusedBy (r .outcome)) (state u words ps ns) ≡ breedBy o (at ns) history
+    unfolding stepAccepted breed bredFrom
+    bred-by (some q) n u e f h k =
+        let z = ap (λ (x : Stepped). x .answer .outcome) e in
+        absurd (let z : _≡_ {A = ℕ} 0 1 = cc in omega arith)
+    bred-by none n u e f h k =
+        ap₂ (λ (x : Option ℕ) (y : Session). bredExit x (state y words ps ns)) (ap (λ (x : Outcome). refusedBy x) f)
+        (k ∙ ap (λ (x : ℕ). bredSession s (r .rng .s) (after ++ drop x (s .«ideal_point»))) (sym h))
+        ∙ ap (λ (x : Stepped). bredExit none (state (bredSession s (x .answer .rng .s) (over (x .ideal) (s .«ideal_point»))) (x .offspring) ps ns)) e
+
+  -- ---- what breeding answers
+
+  same-refusal : (ns : List ℕ) → breedBy (breedRefusal (at []) history) (at ns) history ≡ breedOf (at ns) history
+  same-refusal ns =
+      ap (λ (q : Request). breedBy (firstOf (check 8 (badPool q) ∷ check 9 (badParents (operatorsOf s) q) ∷ [])) (at ns) history) (same-request ns)
+
+  module _ (ok : SessionOk (at [])) (long : maxWords ≤ length cs) (pool gathered : List ℕ)
+      (g : gathered ≡ over (joinBelow (λ i. blockOf history (recordOf history (getD ps i 0))) size) pool)
+      (r : Selection) (after : List Float) (words ns : List ℕ) (e : stepped r after words ≡ stepOn s (take (size * planWords) gathered) ideal cs) where
+    answer-is : stepped r after words ≡ takenOf (stepBy (breedRefusal (at []) history) (operatorsOf s) (requestOf (at []) history) blankLent cs)
+    answer-is = e ∙ ap (λ (p : List ℕ). stepOn s p ideal cs) (pool-part pool gathered g) ∙ step-is ok long
+
+    pub breed-refused : (n : ℕ) → r .outcome ≡ outcome.Refused n → bredExit (refusedBy (r .outcome)) (state s words ps ns) ≡ breedOf (at ns) history
+    breed-refused n f = refused-by r after words ns (breedRefusal (at []) history) n answer-is f ∙ same-refusal ns
+
+    pub breed-kept : (n : ℕ) (u : Session) (ip : List Float) → r .outcome ≡ outcome.Kept n → length after ≡ m → ip ≡ after ++ drop m (s .«ideal_point»)
+        → u ≡ bredSession s (r .rng .s) ip → bredExit (refusedBy (r .outcome)) (state u words ps ns) ≡ breedOf (at ns) history
+    breed-kept n u ip f h i k =
+        bred-by r after words ns (breedRefusal (at []) history) n u answer-is f h (k ∙ ap (λ (x : List Float). bredSession s (r .rng .s) x) i) ∙ same-refusal ns

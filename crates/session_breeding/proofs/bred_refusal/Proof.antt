@@ -1,0 +1,81 @@
+-- the step's check, on the words bred from
+use Prim.Native.Nat.{_*_, _≤_}
+use mathlib.Core.List.{[]}
+use mathlib.Core.Path.{refl, sym}
+use lib.Seq.{length-take-le}
+use Rattle.session_breeding.proofs.Breeding.{ideal-room, evaluated-stand, evaluated-plans, short-refused, short-good}
+use native.Mathlib.Omega.{arith}
+use borrow.Author.Needs.{needs}
+use Rattle.session_breeding.proofs.bred_refusal.Statement.{statement}
+use Rattle.session_breeding.proofs.bred_refusal.Tie as tie
+
+slice-aggregate-gather : tie.Need-slice-aggregate-gather
+slice-aggregate-gather c = refl
+
+gather-requires : tie.Need-gather-requires
+gather-requires c κs =
+    let s = c .before .before .before .before .before .before .before .before .before in
+    let room : s .args .session .config .«population_size» * 124 ≤ 126976 = omega (arith, s .pre .0 .config .atMost) in
+    (evaluated-plans _ _ (s .pre .1), room, evaluated-stand _ _ (s .pre .1))
+
+mul-words : tie.Need-mul-words
+mul-words c = search needs
+
+array-share-prefix-pool : tie.Need-array-share-prefix-pool
+array-share-prefix-pool c = search needs
+
+slice-aggregate-refusal : tie.Need-slice-aggregate-refusal
+slice-aggregate-refusal c = sym (length-take-le _ _ (array-share-prefix-pool (c .before)))
+
+array-share-prefix-directions : tie.Need-array-share-prefix-directions
+array-share-prefix-directions c = search needs
+
+slice-aggregate-refusal-2 : tie.Need-slice-aggregate-refusal-2
+slice-aggregate-refusal-2 c = sym (length-take-le _ _ (c .before .before .before .before .before .before .before .before .before .before .before .before .before .pre .0 .config .objectives))
+
+array-share-prefix-ideal-point : tie.Need-array-share-prefix-ideal-point
+array-share-prefix-ideal-point c = ideal-room _ _ (c .before .before .before .before .before .before .before .before .before .before .before .before .before .pre .0 .ideal)
+
+slice-aggregate-refusal-3 : tie.Need-slice-aggregate-refusal-3
+slice-aggregate-refusal-3 c = sym (length-take-le _ _ (ideal-room _ _ (c .before .before .before .before .before .before .before .before .before .before .before .before .before .before .pre .0 .ideal)))
+
+refusal-requires : tie.Need-refusal-requires
+refusal-requires c κs = tt
+
+enum-known-check : tie.Need-enum-known-check
+enum-known-check c = search needs
+
+enum-told : tie.Need-enum-told
+enum-told c = search needs
+
+returns : tie.Need-returns
+returns c =
+    let s = c .before .before .before .before .before .before .before .before .before .before .before .before .before .before .before .before .before .before in
+    let a = s .args in
+    let told = c .before .check .given in
+    short-refused (a .session) [] (a .plans .now) (a .history .now) (s .pre .0) _ _ (c .before .before .before .before .before .before .before .before .gather .ensures) _ (c .before .before .before .refusal .ensures) (told .0 .0) (told .1)
+
+returns-2 : tie.Need-returns-2
+returns-2 c =
+    let s = c .before .before .before .before .before .before .before .before .before .before .before .before .before .before .before .before .before in
+    let a = s .args in
+    short-good (a .session) [] (a .plans .now) (a .history .now) (s .pre .0) _ _ (c .before .before .before .before .before .before .before .gather .ensures) _ (c .before .before .refusal .ensures) (c .enum-told .given .1)
+
+pub bred-refusal-spec : {M : Type 1} → statement M
+bred-refusal-spec =
+    tie.close
+    (tie.spec
+    slice-aggregate-gather
+    gather-requires
+    mul-words
+    array-share-prefix-pool
+    slice-aggregate-refusal
+    array-share-prefix-directions
+    slice-aggregate-refusal-2
+    array-share-prefix-ideal-point
+    slice-aggregate-refusal-3
+    refusal-requires
+    enum-known-check
+    enum-told
+    returns
+    returns-2)

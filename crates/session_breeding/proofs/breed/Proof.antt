@@ -1,0 +1,100 @@
+-- the step on the words bred from
+use Prim.Native.Nat.{_*_}
+use lib.ListN.{length}
+use mathlib.Core.Path.{_≡_, refl, sym, _∙_}
+use lib.Seq.{length-take-le}
+use Rattle.session_breeding.proofs.Breeding.{ideal-room, evaluated-stand, breed-refused, breed-kept}
+use native.Mathlib.Omega.{arith}
+use borrow.Author.Needs.{needs}
+use Rattle.session_breeding.proofs.breed.Statement.{statement}
+use Rattle.session_breeding.proofs.breed.Tie as tie
+
+gather-requires : tie.Need-gather-requires
+gather-requires c κs =
+    let s = c .before .before .before .before .before .before .before in
+    (omega (arith, s .pre .1 .0 .config .atMost, s .pre .1 .2), omega (arith, s .pre .1 .0 .config .atMost, s .pre .0), evaluated-stand _ _ (s .pre .1 .1))
+
+mul-words : tie.Need-mul-words
+mul-words c = record { fits = omega (arith, c .before .before .before .before .before .before .before .before .before .before .pre .1 .0 .config .atMost) }
+
+slice-reshare-prefix-step : tie.Need-slice-reshare-prefix-step
+slice-reshare-prefix-step c =
+    let s = c .before .before .before .before .before .before .before .before .before .before in
+    let same : length (c .before .before .gather .last .1 .1 .1 .0) ≡ length (s .args .pool .now) = c .before .before .gather .kept .1 .1 .1 .0 in
+    omega (arith, s .pre .0, s .pre .1 .0 .config .atMost)
+
+slice-aggregate-step : tie.Need-slice-aggregate-step
+slice-aggregate-step c =
+    let s = c .before .before .before .before .before .before .before .before .before .before .before in
+    let same : length (c .before .before .before .gather .last .1 .1 .1 .0) ≡ length (s .args .pool .now) = c .before .before .before .gather .kept .1 .1 .1 .0 in
+    sym (length-take-le (s .args .session .config .«population_size» * 124) (c .before .before .before .gather .last .1 .1 .1 .0) (omega (arith, s .pre .0, s .pre .1 .0 .config .atMost)))
+
+array-borrow-prefix-ideal-point : tie.Need-array-borrow-prefix-ideal-point
+array-borrow-prefix-ideal-point c = ideal-room _ _ (c .before .before .before .before .before .before .before .before .before .before .before .pre .1 .0 .ideal)
+
+slice-aggregate-step-2 : tie.Need-slice-aggregate-step-2
+slice-aggregate-step-2 c = sym (length-take-le _ _ (ideal-room _ _ (c .before .before .before .before .before .before .before .before .before .before .before .before .pre .1 .0 .ideal)))
+
+step-requires : tie.Need-step-requires
+step-requires c κs = c .before .before .before .before .before .before .before .before .before .before .before .before .before .pre .1 .0 .config .objectives
+
+enum-told : tie.Need-enum-told
+enum-told c = search needs
+
+enum-told-2 : tie.Need-enum-told-2
+enum-told-2 c = search needs
+
+bred-session-requires : tie.Need-bred-session-requires
+bred-session-requires c κs = tt
+
+same-length : tie.Need-same-length
+same-length c = c .before .before .before .before .before .before .before .before .before .before .before .before .gather .kept .1 .1 .1 .0
+
+same-length-2 : tie.Need-same-length-2
+same-length-2 c = c .before .before .before .before .before .before .step .kept .1 .1 .1 .0
+
+returns : tie.Need-returns
+returns c ns =
+    let s = c .before .before .before .before .before .before .before .before .before .before .before .before .before .before .before .before .before .before .before .before in
+    let a = s .args in
+    let g = c .before .before .before .before .before .before .before .before .before .before .before .before .gather in
+    let t = c .before .before .before .before .before .before .step in
+    let told = c .enum-told .given in
+    breed-refused (a .session) (a .candidates .now) (a .plans .now) (a .history .now) (s .pre .1 .0) (s .pre .1 .3) (a .pool .now) _ (g .ensures) _ _ _ ns (t .ensures) (told .0 .0) (told .1)
+
+same-length-3 : tie.Need-same-length-3
+same-length-3 c = c .before .before .before .before .before .before .before .before .before .before .before .before .before .gather .kept .1 .1 .1 .0
+
+same-length-4 : tie.Need-same-length-4
+same-length-4 c = c .before .before .before .before .before .before .before .step .kept .1 .1 .1 .0
+
+returns-2 : tie.Need-returns-2
+returns-2 c ns =
+    let s = c .before .before .before .before .before .before .before .before .before .before .before .before .before .before .before .before .before .before .before .before .before in
+    let a = s .args in
+    let g = c .before .before .before .before .before .before .before .before .before .before .before .before .before .gather in
+    let t = c .before .before .before .before .before .before .before .step in
+    let told = c .before .enum-told2 .given in
+    breed-kept (a .session) (a .candidates .now) (a .plans .now) (a .history .now) (s .pre .1 .0) (s .pre .1 .3) (a .pool .now) _ (g .ensures) _ _ _ ns (t .ensures) (told .0 .0) _ _ (told .1)
+    (t .kept .1 .1 .0 ∙ length-take-le _ _ (ideal-room _ _ (s .pre .1 .0 .ideal))) refl (c .bred-session .ensures)
+
+pub breed-spec : {M : Type 1} → statement M
+breed-spec =
+    tie.close
+    (tie.spec
+    gather-requires
+    mul-words
+    slice-reshare-prefix-step
+    slice-aggregate-step
+    array-borrow-prefix-ideal-point
+    slice-aggregate-step-2
+    step-requires
+    enum-told
+    enum-told-2
+    bred-session-requires
+    same-length
+    same-length-2
+    returns
+    same-length-3
+    same-length-4
+    returns-2)

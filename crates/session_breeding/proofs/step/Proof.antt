@@ -1,0 +1,47 @@
+-- what the step promises, but for the lists that are not handed out
+use mathlib.Core.Path.{refl, sym, ap}
+use lib.Seq.{length-take-le}
+use Rattle.session_breeding.specs.Breeding.{takenOf}
+use Rattle.session_breeding.proofs.step.Statement.{statement}
+use Rattle.session_breeding.proofs.step.Tie as tie
+
+array-share-prefix-directions : tie.Need-array-share-prefix-directions
+array-share-prefix-directions c = c .before .before .before .before .before .before .before .before .pre
+
+slice-aggregate-nsga3-generate-offspring : tie.Need-slice-aggregate-nsga3-generate-offspring
+slice-aggregate-nsga3-generate-offspring c = sym (length-take-le _ _ (c .before .before .before .before .before .before .before .before .before .pre))
+
+slice-aggregate-nsga3-generate-offspring-2 : tie.Need-slice-aggregate-nsga3-generate-offspring-2
+slice-aggregate-nsga3-generate-offspring-2 c = refl
+
+slice-aggregate-nsga3-generate-offspring-3 : tie.Need-slice-aggregate-nsga3-generate-offspring-3
+slice-aggregate-nsga3-generate-offspring-3 c = refl
+
+slice-aggregate-nsga3-generate-offspring-4 : tie.Need-slice-aggregate-nsga3-generate-offspring-4
+slice-aggregate-nsga3-generate-offspring-4 c = refl
+
+nsga3-generate-offspring-requires : tie.Need-nsga3-generate-offspring-requires
+nsga3-generate-offspring-requires c κs = tt
+
+same-length : tie.Need-same-length
+same-length c = c .before .before .before .before .before .before .before .nsga3-generate-offspring .kept .1 .1 .1 .1 .1 .1 .1 .1 .1 .1 .0
+
+same-length-2 : tie.Need-same-length-2
+same-length-2 c = c .before .before .before .before .before .before .before .nsga3-generate-offspring .kept .1 .1 .1 .1 .1 .1 .1 .1 .1 .1 .1 .1 .1 .1 .0
+
+returns : tie.Need-returns
+returns c = ap takenOf (c .before .before .before .before .before .before .before .nsga3-generate-offspring .ensures .whole)
+
+pub step-spec : {M : Type 1} → statement M
+step-spec =
+    tie.close
+    (tie.spec
+    array-share-prefix-directions
+    slice-aggregate-nsga3-generate-offspring
+    slice-aggregate-nsga3-generate-offspring-2
+    slice-aggregate-nsga3-generate-offspring-3
+    slice-aggregate-nsga3-generate-offspring-4
+    nsga3-generate-offspring-requires
+    same-length
+    same-length-2
+    returns)

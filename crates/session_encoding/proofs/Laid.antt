@@ -1,0 +1,78 @@
+-- Blocks of words laid into a slice, block after block from a place on.
+use Prim.Native.Nat.{ℕ, zero, suc, _+_, _*_, _≤_, _<_}
+use mathlib.Core.Path.{_≡_, refl, sym, ap, ap₂, _∙_}
+use mathlib.Core.List.{List, [], _∷_, _++_, append-assoc}
+use mathlib.Core.Logic.{⊎-elim}
+use native.Mathlib.Nat.{not-suc-le-zero, eq-or-lt-of-le}
+use native.Mathlib.Numerals.{add-one}
+use native.Mathlib.Omega.{arith}
+use lib.ListN.{length, getD, List·getD-append}
+use lib.Seq.{getD-append-add, take-length}
+use Rattle.list_laws.proofs.Built.{listBelow-take, joinBelow-more}
+use Rattle.candidates.proofs.Laid.{over-next, at-next}
+use Rattle.session_laws.proofs.Lists.{join-length}
+use Rattle.model.specs.declared.Config.{Config}
+use Rattle.model.specs.declared.Distribution.{Distribution}
+use Rattle.model.specs.declared.Distribution.the-variants as dist
+use Rattle.model.specs.declared.IntDistribution.{IntDistribution}
+use Rattle.model.specs.declared.Session.{Session}
+use Rattle.model.specs.Lists.{one, listBelow, joinBelow, over}
+use Rattle.model.specs.Real.{bits}
+use Rattle.model.specs.Setting.{wordOfInt}
+use Rattle.model.specs.Session.{overAt, dimensionOf}
+use Rattle.session_words.specs.Coding.{hasStepI64, stepWordI64, dimensionWords, eight, configWords, stateWords, idealWords, sessionWords}
+
+-- a list by its places
+pub by-places : (l : List ℕ) → listBelow (λ i. getD l i 0) (length l) ≡ l
+by-places l = sym (listBelow-take (λ i. getD l i 0) (length l) 0 l (omega arith) (λ t h. refl)) ∙ take-length l
+
+module _ (f : ℕ → List ℕ) (k : ℕ) (each : (d : ℕ) → length (f d) ≡ k) where
+  pub join-next : (at n : ℕ) (l : List ℕ) → at ≤ length l → overAt (at + n * k) (f n) (overAt at (joinBelow f n) l) ≡ overAt at (joinBelow f (n + 1)) l
+  join-next at n l h =
+      at-next at (n * k) (joinBelow f n) (f n) l h (join-length f k n each) ∙ ap (λ t. overAt at t l) (sym (joinBelow-more f n))
+
+  -- a word of a block among the others
+  pub joined-at : (n : ℕ) (rest : List ℕ) (d j : ℕ) → d < n → j < k → getD (joinBelow f n ++ rest) (d * k + j) 0 ≡ getD (f d) j 0
+  joined-at zero rest d j h i = absurd (not-suc-le-zero h)
+  joined-at (suc n) rest d j h i =
+      let e : joinBelow f (suc n) ++ rest ≡ joinBelow f n ++ (f n ++ rest) =
+      ap (λ t. joinBelow f t ++ rest) (sym (add-one n)) ∙ ap (λ t. t ++ rest) (joinBelow-more f n) ∙ append-assoc (joinBelow f n) (f n) rest in
+      let g : d ≤ n = omega arith in
+      ap (λ t. getD t (d * k + j) 0) e
+      ∙ ⊎-elim
+      (λ v. ap (λ t. getD (joinBelow f n ++ (f n ++ rest)) (t + j) 0) (ap (λ t. t * k) v ∙ sym (join-length f k n each))
+      ∙ getD-append-add (joinBelow f n) (f n ++ rest) j 0 ∙ List·getD-append (f n) rest 0 j (omega (arith, each n)) ∙ ap (λ t. getD (f t) j 0) (sym v))
+      (λ m. joined-at n (f n ++ rest) d j m i)
+      (eq-or-lt-of-le g)
+
+-- ---- the words of a session
+
+pub dimension-length : (x : Distribution) → length (dimensionWords x) ≡ 6
+dimension-length (dist.Float d) = refl
+dimension-length (dist.Int d) = refl
+dimension-length (dist.Categorical d) = refl
+
+pub int-laid : (d : IntDistribution) (low high log has step : ℕ) → low ≡ wordOfInt (d .low) → high ≡ wordOfInt (d .high) → log ≡ one (d .«log_scale»)
+    → has ≡ hasStepI64 (d .step) → step ≡ stepWordI64 (d .step) → (1 ∷ low ∷ high ∷ log ∷ has ∷ step ∷ []) ≡ dimensionWords (dist.Int d)
+int-laid d low high log has step p q r t u = rw (p, q, r, t, u)
+
+pub config-laid : (c : Config) (m : List ℕ) (p e u : ℕ) → m ≡ eight (λ i. getD (c .directions) i 0) → p ≡ bits (c .«crossover_prob»)
+    → e ≡ bits (c .«crossover_eta») → u ≡ bits (c .«mutation_eta»)
+    → (c .«n_obj» ∷ getD m 0 0 ∷ getD m 1 0 ∷ getD m 2 0 ∷ getD m 3 0 ∷ getD m 4 0 ∷ getD m 5 0 ∷ getD m 6 0 ∷ getD m 7 0
+    ∷ c .divisions ∷ c .«population_size» ∷ p ∷ e ∷ u ∷ []) ≡ configWords c
+unfolding configWords
+config-laid c m p e u hm hp he hu = rw (hm, hp, he, hu)
+
+pub session-laid : (s : Session) (w w1 w2 w3 w4 cs ss zs : List ℕ) → cs ≡ configWords (s .config) → w1 ≡ overAt 0 cs w → ss ≡ stateWords s → w2 ≡ overAt 14 ss w1
+    → zs ≡ idealWords (s .«ideal_point») → w3 ≡ overAt 22 zs w2 → w4 ≡ overAt 30 (joinBelow (λ d. dimensionWords (dimensionOf s d)) 32) w3
+    → w4 ≡ over (sessionWords s) w
+unfolding configWords stateWords idealWords sessionWords
+session-laid s w w1 w2 w3 w4 cs ss zs p p1 q q2 r r3 t =
+    let c = configWords (s .config) in
+    let u = stateWords s in
+    let z = idealWords (s .«ideal_point») in
+    let d = joinBelow (λ d. dimensionWords (dimensionOf s d)) 32 in
+    let a1 : w1 ≡ over c w = p1 ∙ ap (λ x. overAt 0 x w) p in
+    let a2 : w2 ≡ over (c ++ u) w = q2 ∙ ap₂ (λ x y. overAt 14 x y) q a1 ∙ over-next c u w 14 refl in
+    let a3 : w3 ≡ over ((c ++ u) ++ z) w = r3 ∙ ap₂ (λ x y. overAt 22 x y) r a2 ∙ over-next (c ++ u) z w 22 refl in
+    t ∙ ap (λ x. overAt 30 d x) a3 ∙ over-next ((c ++ u) ++ z) d w 30 refl

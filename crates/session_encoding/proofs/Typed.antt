@@ -1,0 +1,60 @@
+-- A session that code holds can be stored: its type promises what is asked of its reals, directions and arrays.
+use Prim.Native.Nat.{zero, suc, _<_}
+use mathlib.Core.List.{List}
+use native.Mathlib.Omega.{arith}
+use lib.Dec.{T}
+use lib.Ieee.{nan, binary64, fits}
+use mir.Val.{Val}
+use denote.Laws.{Is}
+use denote.Struct.Declared as struct
+use denote.Enum.Declared as enum
+use Rattle.list_laws.proofs.Bools.{true-T}
+use Rattle.model.proofs.OptionF64 as step
+use Rattle.model.proofs.Distribution as distribution
+use Rattle.model.proofs.Session as session
+use Rattle.model.specs.declared.OptionF64.{OptionF64}
+use Rattle.model.specs.declared.OptionF64.the-variants as optF64
+use Rattle.model.specs.declared.Distribution.{Distribution}
+use Rattle.model.specs.declared.Distribution.the-variants as dist
+use Rattle.model.specs.declared.Session.{Session}
+use Rattle.model.specs.Session.{noDimension}
+use Rattle.typed_laws.proofs.Held.{each-field, session-dimensions, session-ideal, session-directions}
+use Rattle.session_encoding.proofs.Stored.{Doubles, DoubleStep, ConfigStored, Stored}
+
+step-doubles : (o : OptionF64) (vs : List Val) → Is (enum.row step.the-type) o vs → DoubleStep o
+step-doubles optF64.None vs p = tt
+step-doubles (optF64.Some x) vs p = true-T _ (p .1 .1 .1 .1 .0 .1)
+
+doubles : (d : Distribution) (vs : List Val) → Is (enum.row distribution.the-type) d vs → Doubles d
+doubles (dist.Float d) vs p =
+    let q = p .1 .1 .1 .1 .0 .1 .1 in
+    (true-T _ (q .0 .1), true-T _ (q .1 .0 .1), step-doubles (d .step) _ (q .1 .1 .1 .0))
+doubles (dist.Int d) vs p = tt
+doubles (dist.Categorical d) vs p = tt
+
+module _ (s : Session) (vs : List Val) (p : Is (struct.row session.the-type) s vs) where
+  config-stored : ConfigStored (s .config)
+  config-stored =
+      let q = p .1 .1 .0 .1 .1 in
+      let e = session-directions s vs p in
+      record {
+        marks = session-directions s vs p;
+        bytes = λ i h. each-field _ _ (λ x. x < 256) (λ x us r. omega (arith, r .1)) 0 (s .config .directions) (q .1 .0 .0) (q .1 .0 .1 .1) i (omega arith);
+        probability = true-T _ (q .1 .1 .1 .1 .0 .1);
+        crossoverEta = true-T _ (q .1 .1 .1 .1 .1 .0 .1);
+        mutationEta = true-T _ (q .1 .1 .1 .1 .1 .1 .0 .1);
+      }
+
+  pub stored : Stored s
+  stored =
+      let ds = p .1 .1 .1 .1 .1 .1 .0 in
+      let zs = p .1 .1 .1 .1 .1 .1 .1 .0 in
+      let n = session-dimensions s vs p in
+      let m = session-ideal s vs p in
+      record {
+        config = config-stored;
+        dimensions = session-dimensions s vs p;
+        doubles = λ d h. each-field _ _ (λ x. Doubles (x .distribution)) (λ x us r. doubles (x .distribution) _ (r .1 .1 .0)) noDimension (s .dimensions) (ds .0) (ds .1 .1) d (omega arith);
+        ideal = session-ideal s vs p;
+        reals = λ i h. each-field _ _ (λ x. T (fits binary64 x)) (λ x us r. true-T _ (r .1)) nan (s .«ideal_point») (zs .0) (zs .1 .1) i (omega arith);
+      }

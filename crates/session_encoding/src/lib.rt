@@ -1,0 +1,248 @@
+// A session's words, written into a lent slice (specs/Coding.antt of `session_words` has the layout). All functions are internal.
+ghost use mathlib.Core.Path.{_≡_};
+ghost use Prim.Native.Nat.{_+_, _≤_};
+ghost use lib.ListN.{length, getD};
+ghost use Rattle.model.specs.declared.Distribution.the-variants as dist;
+ghost use Rattle.model.specs.Lists.{one, joinBelow, over};
+ghost use Rattle.model.specs.Session.{noDimension, overAt};
+ghost use Rattle.session_words.specs.Coding.{hasStepF64, stepWordF64, hasStepI64, stepWordI64, dimensionWords, phaseWord, hasFirst, firstWord, eight, configWords, stateWords, idealWords, sessionWords, sessionOf};
+use model::Config;
+use model::DimensionInfo;
+use model::Distribution;
+use model::FloatDistribution;
+use model::IntDistribution;
+use model::OptionF64;
+use model::OptionI64;
+use model::OptionU64;
+use model::Phase;
+use model::Session;
+use session_words::DIMENSION_WORDS;
+use session_words::HEAD_WORDS;
+
+// ---- a dimension
+
+fn mark(b: bool) -> u64
+    ensures { λ r. ⌜ r ≡ one b ⌝ }
+{
+    if b {
+        return 1;
+    }
+    0
+}
+
+fn has_step_f64(step: OptionF64) -> u64
+    ensures { λ r. ⌜ r ≡ hasStepF64 step ⌝ }
+{
+    match step {
+        OptionF64::None => 0,
+        OptionF64::Some(_) => 1,
+    }
+}
+
+fn step_word_f64(step: OptionF64) -> u64
+    ensures { λ r. ⌜ r ≡ stepWordF64 step ⌝ }
+{
+    match step {
+        OptionF64::None => 0,
+        OptionF64::Some(x) => real::word_of_real(x),
+    }
+}
+
+fn has_step_i64(step: OptionI64) -> u64
+    ensures { λ r. ⌜ r ≡ hasStepI64 step ⌝ }
+{
+    match step {
+        OptionI64::None => 0,
+        OptionI64::Some(_) => 1,
+    }
+}
+
+fn step_word_i64(step: OptionI64) -> u64
+    ensures { λ r. ⌜ r ≡ stepWordI64 step ⌝ }
+{
+    match step {
+        OptionI64::None => 0,
+        OptionI64::Some(n) => real::word_of_int(n),
+    }
+}
+
+fn float_words(d: FloatDistribution) -> [u64; 6]
+    ensures { λ r. ⌜ r ≡ dimensionWords (dist.Float d) ⌝ }
+{
+    let step = d.step;
+    let low = real::word_of_real(d.low);
+    let high = real::word_of_real(d.high);
+    let log = mark(d.log_scale);
+    let has_step = has_step_f64(step);
+    let step = step_word_f64(step);
+    [0, low, high, log, has_step, step]
+}
+
+fn int_words(d: IntDistribution) -> [u64; 6]
+    ensures { λ r. ⌜ r ≡ dimensionWords (dist.Int d) ⌝ }
+{
+    let step = d.step;
+    let low = real::word_of_int(d.low);
+    let high = real::word_of_int(d.high);
+    let log = mark(d.log_scale);
+    let has_step = has_step_i64(step);
+    let step = step_word_i64(step);
+    [1, low, high, log, has_step, step]
+}
+
+// A dimension's six words.
+fn dimension_words(d: Distribution) -> [u64; 6]
+    ensures { λ r. ⌜ r ≡ dimensionWords d ⌝ }
+{
+    match d {
+        Distribution::Float(f) => float_words(f),
+        Distribution::Int(i) => int_words(i),
+        Distribution::Categorical(c) => [2, c.n_choices as u64, 0, 0, 0, 0],
+    }
+}
+
+// ---- a session
+
+fn phase_word(phase: Phase) -> u64
+    ensures { λ r. ⌜ r ≡ phaseWord phase ⌝ }
+{
+    match phase {
+        Phase::Discovery => 0,
+        Phase::Active => 1,
+    }
+}
+
+fn has_first(first: OptionU64) -> u64
+    ensures { λ r. ⌜ r ≡ hasFirst first ⌝ }
+{
+    match first {
+        OptionU64::None => 0,
+        OptionU64::Some(_) => 1,
+    }
+}
+
+fn first_word(first: OptionU64) -> u64
+    ensures { λ r. ⌜ r ≡ firstWord first ⌝ }
+{
+    match first {
+        OptionU64::None => 0,
+        OptionU64::Some(plan) => plan,
+    }
+}
+
+fn mark_words(marks: [u8; 8]) -> [u64; 8]
+    ensures { λ r. ⌜ r ≡ eight (λ i. getD marks i 0) ⌝ }
+{
+    let a = session_words::wide(marks[0]);
+    let b = session_words::wide(marks[1]);
+    let c = session_words::wide(marks[2]);
+    let d = session_words::wide(marks[3]);
+    let e = session_words::wide(marks[4]);
+    let f = session_words::wide(marks[5]);
+    let g = session_words::wide(marks[6]);
+    let h = session_words::wide(marks[7]);
+    [a, b, c, d, e, f, g, h]
+}
+
+fn ideal_words(ideal: [f64; 8]) -> [u64; 8]
+    ensures { λ r. ⌜ r ≡ idealWords ideal ⌝ }
+{
+    let a = real::word_of_real(ideal[0]);
+    let b = real::word_of_real(ideal[1]);
+    let c = real::word_of_real(ideal[2]);
+    let d = real::word_of_real(ideal[3]);
+    let e = real::word_of_real(ideal[4]);
+    let f = real::word_of_real(ideal[5]);
+    let g = real::word_of_real(ideal[6]);
+    let h = real::word_of_real(ideal[7]);
+    [a, b, c, d, e, f, g, h]
+}
+
+fn config_words(config: Config) -> [u64; 14]
+    ensures { λ r. ⌜ r ≡ configWords config ⌝ }
+{
+    let marks = config.directions;
+    let m = mark_words(marks);
+    let p = real::word_of_real(config.crossover_prob);
+    let c = real::word_of_real(config.crossover_eta);
+    let e = real::word_of_real(config.mutation_eta);
+    let n = config.n_obj as u64;
+    let h = config.divisions as u64;
+    let size = config.population_size as u64;
+    [
+        n,
+        m[0],
+        m[1],
+        m[2],
+        m[3],
+        m[4],
+        m[5],
+        m[6],
+        m[7],
+        h,
+        size,
+        p,
+        c,
+        e,
+    ]
+}
+
+fn state_words(session: Session) -> [u64; 8]
+    ensures { λ r. ⌜ r ≡ stateWords session ⌝ }
+{
+    let phase = session.phase;
+    let first = session.discovery_trial_id;
+    let rng = session.rng;
+    let progress = session.progress;
+    let p = phase_word(phase);
+    let has = has_first(first);
+    let plan = first_word(first);
+    let d = progress.n_dims as u64;
+    let c = progress.n_candidates as u64;
+    let n = progress.n_plans as u64;
+    [p, has, plan, rng.s, d, c, n, progress.generation]
+}
+
+// Words put into a slice from a place on.
+fn put(block: &[u64], at: usize, words: &mut [u64])
+    requires { ⌜ at + length (now block) ≤ length (now words) ⌝ }
+    ensures { λ _. ⌜ now (words .exit) ≡ overAt at (now (block .entry)) (now (words .entry)) ⌝ }
+{
+    let mut j = 0;
+    while j < block.len() {
+        words[at + j] = block[j];
+        j += 1;
+    }
+}
+
+fn put_dimensions(dims: [DimensionInfo; 32], words: &mut [u64])
+    requires { ⌜ 222 ≤ length (now words) ⌝ }
+    ensures { λ _. ⌜ now (words .exit) ≡ overAt 30 (joinBelow (λ d. dimensionWords (getD dims d noDimension .distribution)) 32) (now (words .entry)) ⌝ }
+{
+    let mut d = 0;
+    while d < 32 {
+        let info = dims[d];
+        let distribution = info.distribution;
+        let block = dimension_words(distribution);
+        put(&block, HEAD_WORDS + d * DIMENSION_WORDS, words);
+        d += 1;
+    }
+}
+
+// A session's words at a slice's front. Read back, they are the session.
+pub fn words_of_session(session: Session, words: &mut [u64])
+    requires { ⌜ 222 ≤ length (now words) ⌝ }
+    ensures laid { λ _. ⌜ now (words .exit) ≡ over (sessionWords session) (now (words .entry)) ⌝ }
+    ensures back { λ _. ⌜ sessionOf (now (words .exit)) ≡ session ⌝ }
+{
+    let config = session.config;
+    let ideal = session.ideal_point;
+    let dims = session.dimensions;
+    let head = config_words(config);
+    put(&head, 0, words);
+    let state = state_words(session);
+    put(&state, 14, words);
+    let ideal = ideal_words(ideal);
+    put(&ideal, 22, words);
+    put_dimensions(dims, words);
+}

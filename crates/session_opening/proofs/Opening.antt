@@ -1,0 +1,87 @@
+-- The refusals of an opening, one after the other.
+use Prim.Native.Nat.{ℕ}
+use mathlib.Core.Path.{_≡_, sym, ap, ap₂, _∙_, subst}
+use mathlib.Core.Bool.{Bool, true, false}
+use mathlib.Core.List.{List}
+use mathlib.Core.Option.{Option, none, some}
+use lib.Ieee.{Float}
+use lib.ListN.{length, replicate}
+use Rattle.model.specs.declared.Opening.{Opening}
+use Rattle.model.specs.declared.Opening.the-variants as opening
+use Rattle.model.specs.declared.Opened.{Opened}
+use Rattle.model.specs.declared.OptionUsize.{OptionUsize}
+use Rattle.model.specs.declared.Session.{Session}
+use Rattle.model.specs.Lists.{over}
+use Rattle.model.specs.Plan.{maxValues}
+use Rattle.model.specs.Reference.{divisionsOf, populationSize}
+use Rattle.model.specs.Session.{blank, given, opened}
+use Rattle.model.specs.Calls.{openBy, openOf, Opens}
+use Rattle.session_laws.proofs.Opened.{ready-tells, refused-tells, opens}
+use Rattle.model.specs.Refusal.{firstOf, openRefusal, badDirections, badSessionSize, badSessionDivisions, badOperators}
+use Rattle.session_opening.specs.Opening.{openingBy, start}
+
+module _ (marks : List ℕ) (size divisions : Option ℕ) (probability crossoverEta mutationEta : Float) where
+  abbrev answer : Opening
+  answer = openingBy (openRefusal marks size divisions probability crossoverEta mutationEta)
+
+  abbrev lines : Bool
+  lines = badSessionDivisions (length marks) size divisions
+
+  pub refused-2 : badDirections marks ≡ true → opening.Refused 2 ≡ answer
+  unfolding openRefusal firstOf
+  refused-2 a = rw a
+
+  pub refused-3 : badDirections marks ≡ false → badSessionSize size ≡ true → opening.Refused 3 ≡ answer
+  unfolding openRefusal firstOf
+  refused-3 a b = rw (a, b)
+
+  pub refused-4 : badDirections marks ≡ false → badSessionSize size ≡ false → lines ≡ true → opening.Refused 4 ≡ answer
+  unfolding openRefusal firstOf
+  refused-4 a b c = rw (a, b, c)
+
+  pub refused-5 : badDirections marks ≡ false → badSessionSize size ≡ false → lines ≡ false → badOperators probability crossoverEta mutationEta ≡ true
+      → opening.Refused 5 ≡ answer
+  unfolding openRefusal firstOf
+  refused-5 a b c d = rw (a, b, c, d)
+
+  pub ready : badDirections marks ≡ false → badSessionSize size ≡ false → lines ≡ false → badOperators probability crossoverEta mutationEta ≡ false
+      → opening.Ready ≡ answer
+  unfolding openRefusal firstOf
+  ready a b c d = rw (a, b, c, d)
+
+-- ---- the promise, by the answer
+
+module _ (marks : List ℕ) (seed : ℕ) (size divisions : OptionUsize) (probability crossoverEta mutationEta : Float) where
+  abbrev refusal : Option ℕ
+  refusal = openRefusal marks (given size) (given divisions) probability crossoverEta mutationEta
+
+  abbrev good : Session
+  good = opened marks seed (given size) (given divisions) probability crossoverEta mutationEta
+
+  abbrev Promise : Opened → Type 0
+  Promise = Opens marks seed size divisions probability crossoverEta mutationEta
+
+  -- an answer that is the definition's has the rest of the promise
+  by-refusal : (o : Option ℕ) (t : Opening) (s : Session) → refusal ≡ o → record { outcome = t; session = s } ≡ openBy o good
+      → Promise (record { outcome = t; session = s })
+  unfolding openOf
+  by-refusal o t s r e =
+      subst Promise (sym (e ∙ ap (λ (x : Option ℕ). openBy x good) (sym r))) (opens marks seed size divisions probability crossoverEta mutationEta)
+
+  pub refused-opens : (t : Opening) (n : ℕ) (s : Session) → t ≡ openingBy refusal → t ≡ opening.Refused n → s ≡ blank
+      → Promise (record { outcome = t; session = s })
+  refused-opens t n s e f g =
+      by-refusal (some n) t s (refused-tells refusal blank n (sym e ∙ f)) (ap₂ (λ (x : Opening) (y : Session). record { outcome = x; session = y }) f g)
+
+  pub ready-opens : (t : Opening) (s : Session) → t ≡ openingBy refusal → t ≡ opening.Ready → s ≡ good → Promise (record { outcome = t; session = s })
+  ready-opens t s e f g =
+      by-refusal none t s (ready-tells refusal blank (sym e ∙ f)) (ap₂ (λ (x : Opening) (y : Session). record { outcome = x; session = y }) f g)
+
+-- ---- the session that is opened, from its parts
+
+pub opened-is : (marks : List ℕ) (seed : ℕ) (size divisions : Option ℕ) (probability crossoverEta mutationEta : Float) (m : List ℕ) (h n : ℕ)
+    → m ≡ over marks (replicate maxValues 0) → h ≡ divisionsOf (length marks) size divisions → n ≡ populationSize (length marks) size divisions
+    → start (record { «n_obj» = length marks; directions = m; divisions = h; «population_size» = n; «crossover_prob» = probability; «crossover_eta» = crossoverEta; «mutation_eta» = mutationEta }) seed
+    ≡ opened marks seed size divisions probability crossoverEta mutationEta
+unfolding opened
+opened-is marks seed size divisions probability crossoverEta mutationEta m h n e f g = rw (e, f, g)

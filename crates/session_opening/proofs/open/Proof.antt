@@ -1,0 +1,44 @@
+-- what it answers tells whether it was refused
+use mathlib.Core.Path.{sym, _∙_}
+use Rattle.session_laws.proofs.Opened.{directions-good, divisions-good, ready-tells}
+use Rattle.session_opening.proofs.Opening.{refused-opens, ready-opens}
+use borrow.Author.Needs.{needs}
+use Rattle.session_opening.proofs.open.Statement.{statement}
+use Rattle.session_opening.proofs.open.Tie as tie
+
+open-refusal-requires : tie.Need-open-refusal-requires
+open-refusal-requires c κs = tt
+
+enum-told : tie.Need-enum-told
+enum-told c = search needs
+
+enum-told-2 : tie.Need-enum-told-2
+enum-told-2 c = search needs
+
+blank-requires : tie.Need-blank-requires
+blank-requires c κs = tt
+
+returns : tie.Need-returns
+returns c =
+    let told = c .before .enum-told2 .given in
+    refused-opens _ _ _ _ _ _ _ _ (told .0 .0) _ (c .before .before .before .open-refusal .ensures) (told .1) (c .blank .ensures)
+
+opened-requires : tie.Need-opened-requires
+opened-requires c κs =
+    let r = ready-tells _ _ (sym (c .before .before .open-refusal .ensures) ∙ c .enum-told .given .1) in
+    (directions-good _ 0 _ _ _ _ _ r, divisions-good _ 0 _ _ _ _ _ r)
+
+returns-2 : tie.Need-returns-2
+returns-2 c = ready-opens _ _ _ _ _ _ _ _ _ (c .before .before .before .open-refusal .ensures) (c .before .enum-told .given .1) (c .opened .ensures)
+
+pub open-spec : {M : Type 1} → statement M
+open-spec =
+    tie.close
+    (tie.spec
+    open-refusal-requires
+    enum-told
+    enum-told-2
+    blank-requires
+    returns
+    opened-requires
+    returns-2)

@@ -1,0 +1,187 @@
+// The public call `open` (document 01, "Session"; Rust: sampler/nsga3.rs). The other functions are internal.
+ghost use mathlib.Core.Path.{_≡_};
+ghost use mathlib.Core.Bool.{false};
+ghost use Prim.Native.Nat.{_≤_};
+ghost use lib.ListN.{length, replicate};
+ghost use Rattle.model.specs.Lists.{over};
+ghost use Rattle.model.specs.Refusal.{badDirections, badSessionSize, badSessionDivisions, openRefusal};
+ghost use Rattle.model.specs.Session.{given, opened, blank};
+ghost use Rattle.model.specs.Calls.{Opens};
+ghost use Rattle.session_opening.specs.Opening.{openingBy, start};
+use model::CategoricalDistribution;
+use model::Config;
+use model::DimensionInfo;
+use model::Distribution;
+use model::MAX_PLANS;
+use model::Opened;
+use model::Opening;
+use model::OptionU64;
+use model::OptionUsize;
+use model::Phase;
+use model::Progress;
+use model::Rng;
+use model::Session;
+
+// A session without a dimension, a candidate or a plan.
+fn start(config: Config, rng: Rng) -> Session
+    ensures { λ r. ⌜ r ≡ start config (rng .s) ⌝ }
+{
+    let phase = Phase::Discovery;
+    let discovery_trial_id = OptionU64::None;
+    let distribution = Distribution::Categorical(CategoricalDistribution { n_choices: 1 });
+    let blank = DimensionInfo { distribution };
+    let dimensions = [blank; 32];
+    let infinity = 1.0 / 0.0;
+    let ideal_point = [infinity; 8];
+    let progress = Progress {
+        n_dims: 0,
+        n_candidates: 0,
+        n_plans: 0,
+        generation: 0,
+    };
+    Session {
+        config,
+        phase,
+        discovery_trial_id,
+        rng,
+        dimensions,
+        ideal_point,
+        progress,
+    }
+}
+
+// The session beside a refusal.
+fn blank() -> Session
+    ensures { λ r. ⌜ r ≡ blank ⌝ }
+{
+    let directions = [0u8; 8];
+    let config = Config {
+        n_obj: 0,
+        directions,
+        divisions: 0,
+        population_size: 0,
+        crossover_prob: 0.0,
+        crossover_eta: 0.0,
+        mutation_eta: 0.0,
+    };
+    let rng = Rng { s: 0 };
+    start(config, rng)
+}
+
+// The direction marks, as a session holds them.
+fn marks_of(directions: &[u8]) -> [u8; 8]
+    requires { ⌜ length (now directions) ≤ 8 ⌝ }
+    ensures { λ r. ⌜ r ≡ over (now (directions .entry)) (replicate 8 0) ⌝ }
+{
+    let mut marks = [0u8; 8];
+    let mut i = 0;
+    while i < directions.len() {
+        marks[i] = directions[i];
+        i += 1;
+    }
+    marks
+}
+
+// The session that an accepted opening answers.
+fn opened(
+    directions: &[u8],
+    seed: u64,
+    size: OptionUsize,
+    divisions: OptionUsize,
+    probability: f64,
+    crossover_eta: f64,
+    mutation_eta: f64,
+) -> Session
+    requires { ⌜ (badDirections (now directions) ≡ false) × (badSessionDivisions (length (now directions)) (given size) (given divisions) ≡ false) ⌝ }
+    ensures { λ r. ⌜ r ≡ opened (now (directions .entry)) seed (given size) (given divisions) probability «crossover_eta» «mutation_eta» ⌝ }
+{
+    let n_obj = directions.len();
+    let marks = marks_of(directions);
+    let h = das_dennis::divisions_of(n_obj, size, divisions);
+    let n = das_dennis::population_size(n_obj, size, divisions);
+    let config = Config {
+        n_obj,
+        directions: marks,
+        divisions: h,
+        population_size: n,
+        crossover_prob: probability,
+        crossover_eta,
+        mutation_eta,
+    };
+    let rng = Rng { s: seed };
+    start(config, rng)
+}
+
+// Refusal 3 at the opening of a session.
+fn bad_session_size(size: OptionUsize) -> bool
+    ensures { λ r. ⌜ r ≡ badSessionSize (given size) ⌝ }
+{
+    match size {
+        OptionUsize::Some(n) => MAX_PLANS < n,
+        OptionUsize::None => false,
+    }
+}
+
+// The first refusal of an opening that applies.
+fn open_refusal(
+    directions: &[u8],
+    size: OptionUsize,
+    divisions: OptionUsize,
+    probability: f64,
+    crossover_eta: f64,
+    mutation_eta: f64,
+) -> Opening
+    ensures { λ r. ⌜ r ≡ openingBy (openRefusal (now (directions .entry)) (given size) (given divisions) probability «crossover_eta» «mutation_eta») ⌝ }
+{
+    let bad_size = bad_session_size(size);
+    let bad_operators = settings::bad_operators(probability, crossover_eta, mutation_eta);
+    if plans::bad_directions(directions) {
+        return Opening::Refused(2);
+    }
+    if bad_size {
+        return Opening::Refused(3);
+    }
+    if das_dennis::bad_session_divisions(directions.len(), size, divisions) {
+        return Opening::Refused(4);
+    }
+    if bad_operators {
+        return Opening::Refused(5);
+    }
+    Opening::Ready
+}
+
+// A session for directions (0 minimise, 1 maximise) and a seed, with a size, divisions and operators; or the number of what is wrong with them.
+pub fn open(
+    directions: &[u8],
+    seed: u64,
+    size: OptionUsize,
+    divisions: OptionUsize,
+    probability: f64,
+    crossover_eta: f64,
+    mutation_eta: f64,
+) -> Opened
+    ensures { λ r. ⌜ Opens (now (directions .entry)) seed size divisions probability «crossover_eta» «mutation_eta» r ⌝ }
+{
+    let outcome = open_refusal(
+        directions,
+        size,
+        divisions,
+        probability,
+        crossover_eta,
+        mutation_eta,
+    );
+    let Opening::Ready = outcome else {
+        let session = blank();
+        return Opened { outcome, session };
+    };
+    let session = opened(
+        directions,
+        seed,
+        size,
+        divisions,
+        probability,
+        crossover_eta,
+        mutation_eta,
+    );
+    Opened { outcome, session }
+}
