@@ -309,3 +309,13 @@ pub getD-in : (l : List ℕ) (i : ℕ) → i < length l → In (getD l i 0) l
 getD-in [] i h = absurd (omega arith)
 getD-in (p ∷ l) zero h = List·Memᴰ·head refl
 getD-in (p ∷ l) (suc i) h = List·Memᴰ·tail (getD-in l i (omega arith))
+
+-- different entries stand at different places
+pub different-places : (l : List ℕ) → Distinct l → (i j : ℕ) → i < length l → j < length l → getD l i 0 ≡ getD l j 0 → i ≡ j
+different-places [] d i j h k e = absurd (not-suc-le-zero h)
+different-places (x ∷ l) d zero zero h k e = refl
+different-places (x ∷ l) (Pairwise·cons a d) zero (suc j) h k e =
+    absurd (a (getD l j 0) ∣ getD-in l j (omega arith) ∣₁ e)
+different-places (x ∷ l) (Pairwise·cons a d) (suc i) zero h k e =
+    absurd (a (getD l i 0) ∣ getD-in l i (omega arith) ∣₁ (sym e))
+different-places (x ∷ l) (Pairwise·cons a d) (suc i) (suc j) h k e = ap suc (different-places l d i j (omega arith) (omega arith) e)

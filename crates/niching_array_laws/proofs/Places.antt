@@ -2,7 +2,7 @@
 use Prim.Native.Nat.{ℕ, zero, suc, _+_, _-_, _≤_, _<_}
 use mathlib.Core.Path.{_≡_, refl, ap, sym, _∙_}
 use mathlib.Core.Bool.{Bool, true, false, cond, _&&_}
-use mathlib.Core.List.{List, [], _∷_, _++_, map, map-append, append-nil, Pairwise·cons}
+use mathlib.Core.List.{List, [], _∷_, _++_, map, map-append, append-nil}
 use mathlib.Core.Logic.{⊎-elim}
 use native.Mathlib.Nat.{not-suc-le-zero, eq-or-lt-of-le}
 use native.Mathlib.Numerals.{add-one}
@@ -17,7 +17,7 @@ use Rattle.model.specs.Kept.{nearestFrom, nearest}
 use Rattle.list_laws.specs.Occ.{occ}
 use Rattle.list_laws.proofs.Bools.{by-bool}
 use Rattle.list_laws.proofs.Counts.{countBelow-yes, countBelow-no, countBelow-same}
-use Rattle.list_laws.proofs.Members.{keep-append, keep-yes, keep-no, keep-nil, occ-in, occ-cons, empty-of, getD-in}
+use Rattle.list_laws.proofs.Members.{keep-append, keep-yes, keep-no, keep-nil, occ-in, occ-cons, empty-of}
 use Rattle.list_laws.proofs.Kept.{keepBelow-none, keepBelow-yes, keepBelow-no, keepBelow-length, keepBelow-room}
 use Rattle.niching_array_laws.specs.Niche.{Kth}
 
@@ -157,14 +157,3 @@ countBelow-drop f g (suc n) i h a b s =
     (λ x. countBelow-yes f n x ∙ omega (arith, ap (countBelow g) (add-one n), countBelow-yes g n (w ∙ x)))
     (λ x. countBelow-no f n x ∙ omega (arith, ap (countBelow g) (add-one n), countBelow-no g n (w ∙ x))))
     (eq-or-lt-of-le u)
-
--- ---- different entries stand at different places
-
-pub different-places : (l : List ℕ) → Distinct l → (i j : ℕ) → i < length l → j < length l → getD l i 0 ≡ getD l j 0 → i ≡ j
-different-places [] d i j h k e = absurd (not-suc-le-zero h)
-different-places (x ∷ l) d zero zero h k e = refl
-different-places (x ∷ l) (Pairwise·cons a d) zero (suc j) h k e =
-    absurd (a (getD l j 0) ∣ getD-in l j (omega arith) ∣₁ e)
-different-places (x ∷ l) (Pairwise·cons a d) (suc i) zero h k e =
-    absurd (a (getD l i 0) ∣ getD-in l i (omega arith) ∣₁ (sym e))
-different-places (x ∷ l) (Pairwise·cons a d) (suc i) (suc j) h k e = ap suc (different-places l d i j (omega arith) (omega arith) e)

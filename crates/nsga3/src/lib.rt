@@ -6,12 +6,12 @@ ghost use Rattle.model.specs.Kept.{selectedSplit, selected};
 ghost use Rattle.model.specs.Calls.{wordRequest, lent, selectAccepted, Selects};
 ghost use Rattle.nsga3_laws.specs.Admitted.{Admitted};
 ghost use Rattle.nsga3.specs.Handed.{SortedPool, Hands, exit};
+use front_cut::Cut;
 use model::MAX_PLANS;
 use model::MAX_VALUES;
 use model::Outcome;
 use model::Rng;
 use model::Selection;
-use front_cut::Cut;
 use refusals::Check;
 
 // The kept list where a front is split: the whole fronts, then plans that niching picks from the split one. The ideal moves, and every plan gets a line.

@@ -17,8 +17,7 @@ use Rattle.model.specs.PoolFile.{ascii, digitsOf, decimal, lineText, placeOf, h
 use Rattle.model.specs.Refusal.{maxSize}
 use Rattle.list_laws.proofs.Bools.{by-bool}
 use Rattle.list_laws.proofs.First.{firstBelow-at, firstBelow-passes}
-use Rattle.list_laws.proofs.Members.{getD-in}
-use Rattle.niching.proofs.Places.{different-places}
+use Rattle.list_laws.proofs.Members.{getD-in, different-places}
 use Rattle.pool_laws.specs.Text.{listed}
 use Rattle.pool_laws.proofs.Lengths.{Small, place-le}
 use Rattle.pool_laws.proofs.Listing.{header-text}

@@ -55,7 +55,7 @@ pub fn crowded(directions: &[u8], divisions: usize, size: usize) -> u8
     if plans::bad_count(size) {
         return 3;
     }
-    if das_dennis::bad_divisions(directions.len(), divisions) {
+    if divisions::bad_divisions(directions.len(), divisions) {
         return 4;
     }
     7

@@ -11,8 +11,8 @@ ghost use Rattle.model.specs.Calls.{wordRequest};
 ghost use Rattle.model.specs.Refusal.{goodPlan};
 ghost use Rattle.model.specs.declared.Rng.{Rng};
 ghost use Rattle.pool_sort.specs.Laid.{RowsIn, Sorts};
-use model::MAX_PLANS;
 use front_cut::Cut;
+use model::MAX_PLANS;
 
 // Lists the pool's plans front by front, with each plan's front, and says where the fronts part for the size.
 pub fn sort_pool(

@@ -30,9 +30,9 @@ fn normalized_of(
 )
     requires { ⌜ (m ≤ 8) × (n * m ≤ 8192) ⌝ }
 {
-    association::update_ideal_point(rows, n, m, ideal);
-    association::find_intercepts(rows, n, m, ideal, intercepts);
-    association::normalize_objectives(rows, n, m, ideal, intercepts, normalized);
+    normalization::update_ideal_point(rows, n, m, ideal);
+    normalization::find_intercepts(rows, n, m, ideal, intercepts);
+    normalization::normalize_objectives(rows, n, m, ideal, intercepts, normalized);
 }
 
 // The ideal after, the intercepts, and the normalised rows.
@@ -145,7 +145,7 @@ fn associate(input: &Words, words: usize, m: usize, out: &mut Words) -> usize
 fn distance_of(point: &Reals, line: &Reals, m: usize) -> f64
     requires { ⌜ m ≤ 8 ⌝ }
 {
-    association::perpendicular_distance(point, 0, line, 0, m)
+    distances::perpendicular_distance(point, 0, line, 0, m)
 }
 
 // 62: after m stand the point and the line.

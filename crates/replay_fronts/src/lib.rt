@@ -6,7 +6,7 @@ use replay_values::Reals;
 ghost use mathlib.Core.Path.{_≡_};
 ghost use mathlib.Core.Bool.{true};
 ghost use Prim.Native.Nat.{_*_, _≤_};
-ghost use Rattle.pareto.specs.Flat.{KnownRows};
+ghost use Rattle.front_laws.specs.Flat.{KnownRows};
 
 // The rows of 1,024 plans of 8 values.
 pub type Rows = [f64; 8192];
@@ -37,7 +37,7 @@ fn read_row(
 {
     let mut j: usize = 0;
     while j < m {
-        let x = pareto::to_minimize(replay_values::real_at(input, at + j), marks[j]);
+        let x = domination::to_minimize(replay_values::real_at(input, at + j), marks[j]);
         set_real(rows, base + j, x);
         j += 1;
     }
@@ -47,7 +47,7 @@ fn read_row(
 // Of the first k constraints.
 fn feasible(values: &[f64], k: usize) -> bool {
     if k <= values.len() {
-        pareto::is_feasible(&values[..k])
+        domination::is_feasible(&values[..k])
     } else {
         false
     }
@@ -55,7 +55,7 @@ fn feasible(values: &[f64], k: usize) -> bool {
 
 fn violation(values: &[f64], k: usize) -> f64 {
     if k <= values.len() {
-        pareto::total_violation(&values[..k])
+        domination::total_violation(&values[..k])
     } else {
         0.0
     }
@@ -169,13 +169,13 @@ pub fn read_rows(
 fn first_beats(rows: &Rows, m: usize) -> u64
     requires { ⌜ m ≤ 8 ⌝ }
 {
-    replay_values::as_word(pareto::dominates(rows, m, 0, 1))
+    replay_values::as_word(domination::dominates(rows, m, 0, 1))
 }
 
 fn first_beats_constrained(rows: &Rows, m: usize, flags: &Flags, sums: &Sums) -> u64
     requires { ⌜ m ≤ 8 ⌝ }
 {
-    replay_values::as_word(pareto::constrained_dominates(rows, m, flags, sums, 0, 1))
+    replay_values::as_word(domination::constrained_dominates(rows, m, flags, sums, 0, 1))
 }
 
 // 30: two rows.

@@ -10,7 +10,7 @@ pub fn fill_table(m: usize, h: usize, table: &mut Table) -> usize
     requires { ⌜ (1 ≤ m) × (m ≤ 8) ⌝ }
     ensures { λ r. ⌜ r * m ≤ 8192 ⌝ }
 {
-    if das_dennis::bad_divisions(m, h) {
+    if divisions::bad_divisions(m, h) {
         return 0;
     }
     das_dennis::das_dennis(m, h, table)
@@ -65,7 +65,7 @@ fn table_digest(m: usize, h: usize, out: &mut Words) -> usize
 fn automatic(m: usize, target: usize, out: &mut Words) -> usize
     requires { ⌜ (1 ≤ m) × (m ≤ 8) ⌝ }
 {
-    replay::put(out, 0, das_dennis::auto_divisions(m, target) as u64)
+    replay::put(out, 0, divisions::auto_divisions(m, target) as u64)
 }
 
 // 52
@@ -75,7 +75,7 @@ fn count(m: usize, h: usize, out: &mut Words) -> usize
     if 199 < h {
         return 0;
     }
-    replay::put(out, 0, das_dennis::point_count(m, h) as u64)
+    replay::put(out, 0, divisions::point_count(m, h) as u64)
 }
 
 // Whether a mark is neither 0 nor 1.
@@ -106,17 +106,17 @@ fn opened(m: usize, size: OptionUsize, divisions: OptionUsize, out: &mut Words) 
     if too_large(size) {
         return replay::put(out, 0, 3);
     }
-    if das_dennis::bad_session_divisions(m, size, divisions) {
+    if divisions::bad_session_divisions(m, size, divisions) {
         return replay::put(out, 0, 4);
     }
-    let h = das_dennis::divisions_of(m, size, divisions);
+    let h = divisions::divisions_of(m, size, divisions);
     replay::put(out, 0, 0);
     replay::put(out, 1, h as u64);
-    replay::put(out, 2, das_dennis::point_count(m, h) as u64);
+    replay::put(out, 2, divisions::point_count(m, h) as u64);
     replay::put(
         out,
         3,
-        das_dennis::population_size(m, size, divisions) as u64,
+        divisions::population_size(m, size, divisions) as u64,
     )
 }
 

@@ -18,7 +18,7 @@ use model::Progress;
 use model::Rng;
 use model::Selection;
 use model::Session;
-use nsga3::Check;
+use refusals::Check;
 
 // The step of a session's generation, from the pool of the plans that it breeds from. The kept list, the fronts and the lines are not handed out.
 fn step(session: Session, pool: &[u64], ideal: &mut [f64], candidates: &mut [u64]) -> Selection
@@ -138,7 +138,7 @@ pub fn bred_refusal(session: Session, history: &[u64], plans: &[u64]) -> u8
     let mut pool = [0u64; POOL_WORDS];
     session_records::gather(history, plans, size, &mut pool);
     let words = size * PLAN_WORDS;
-    let check = generation::refusal(
+    let check = step_refusal::refusal(
         &pool[..words],
         &directions[..n_obj],
         config.divisions,

@@ -26,7 +26,7 @@ use Rattle.model.specs.Session.{state, given, opened}
 use Rattle.model.specs.Calls.{openBy, openOf, Opens}
 use Rattle.model.specs.Refusal.{firstOf, wholeEta, openRefusal, badDirections, badSessionSize, badSessionDivisions, badGivenDivisions, badDivisions, outsideDivisions, badOperators, measurable, isInfinity, goodIdeal, maxSize, maxLines}
 use Rattle.model.specs.Property.{ConfigOk, SessionOk}
-use Rattle.das_dennis.proofs.Divisions.{auto-inside}
+use Rattle.reference_laws.proofs.Divisions.{auto-inside}
 use Rattle.session_laws.proofs.Tests.{or-both, and-both, no-fewer}
 
 -- ---- the ideal that a session starts from: plus infinity everywhere

@@ -97,8 +97,8 @@ fn opened(
 {
     let n_obj = directions.len();
     let marks = marks_of(directions);
-    let h = das_dennis::divisions_of(n_obj, size, divisions);
-    let n = das_dennis::population_size(n_obj, size, divisions);
+    let h = divisions::divisions_of(n_obj, size, divisions);
+    let n = divisions::population_size(n_obj, size, divisions);
     let config = Config {
         n_obj,
         directions: marks,
@@ -134,14 +134,14 @@ fn open_refusal(
     ensures { λ r. ⌜ r ≡ openingBy (openRefusal (now (directions .entry)) (given size) (given divisions) probability «crossover_eta» «mutation_eta») ⌝ }
 {
     let bad_size = bad_session_size(size);
-    let bad_operators = settings::bad_operators(probability, crossover_eta, mutation_eta);
+    let bad_operators = dimensions::bad_operators(probability, crossover_eta, mutation_eta);
     if plans::bad_directions(directions) {
         return Opening::Refused(2);
     }
     if bad_size {
         return Opening::Refused(3);
     }
-    if das_dennis::bad_session_divisions(directions.len(), size, divisions) {
+    if divisions::bad_session_divisions(directions.len(), size, divisions) {
         return Opening::Refused(4);
     }
     if bad_operators {

@@ -27,7 +27,7 @@ pub fn discover(session: Session, distribution: Distribution, plan: u64) -> Samp
     ensures { λ r. ⌜ ((cs ps ns : List ℕ) → exit r cs ps ns ≡ settled (discover (state session cs ps ns) distribution plan)) ⌝ }
 {
     let rng = session.rng;
-    let v = settings::sample_random(distribution, rng);
+    let v = sampling::sample_random(distribution, rng);
     let value = v.value;
     let rng = v.rng;
     let before = session.progress;
@@ -119,7 +119,7 @@ fn overflow(session: Session, candidates: &mut [u64]) -> Session
     let k = before.n_candidates;
     let dimensions = session.dimensions;
     let rng = session.rng;
-    let c = settings::sample_all(dimensions, n, rng);
+    let c = sampling::sample_all(dimensions, n, rng);
     let params = c.params;
     let rng = c.rng;
     candidates::put_candidate(params, n, k * n, candidates);
@@ -194,7 +194,7 @@ fn answer(session: Session, i: usize, candidates: &[u64], next_dims: &mut [usize
     let info = dimensions[n - 1];
     let distribution = info.distribution;
     let rng = session.rng;
-    let v = settings::sample_random(distribution, rng);
+    let v = sampling::sample_random(distribution, rng);
     let value = v.value;
     let rng = v.rng;
     let outcome = Sampling::Setting(value);

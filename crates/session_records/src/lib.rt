@@ -149,7 +149,7 @@ pub fn bad_dimension(n: usize, distribution: Distribution) -> bool
     if MAX_DIMS <= n {
         return true;
     }
-    if settings::valid_dimension(distribution) {
+    if dimensions::valid_dimension(distribution) {
         return false;
     }
     true
