@@ -121,18 +121,6 @@ large (x ∷ t) q h = by-bool (ltb q x)
 eighth-of : (m h q : ℕ) → m ≤ 8 → 8 * q < h → m * q < h
 eighth-of m h q l g = omega (arith, mul-le-mul-right q l)
 
--- there is a line
-tuples-some : (d r : ℕ) → 1 ≤ length (tuples d r)
-unfolding tuples joinBelow
-tuples-some zero r = omega arith
-tuples-some (suc d) r =
-    let here = map (λ t. r ∷ t) (tuples d (r - r)) in
-    let before = joinBelow (λ i. map (λ t. i ∷ t) (tuples d (r - i))) r in
-    omega (arith, length-append before here, length-map (tuples d (r - r)) (λ t. r ∷ t), tuples-some d (r - r))
-
-pub lines-some : (m h : ℕ) → 1 ≤ m → 0 < pointCount m h
-lines-some m h w = omega (arith, lattice-count m h w, tuples-some (m - 1) h)
-
 module _ (m h : ℕ) (wide : 1 ≤ m) (narrow : m ≤ 8) (some : 1 ≤ h) (few : h ≤ 199) (l : ℕ) (inside : l < pointCount m h) where
   abbrev point : List ℕ
   point = getD (lattice m h) l []

@@ -19,7 +19,8 @@ use Rattle.niching_laws.proofs.Association.{lineOf-inside}
 use Rattle.niching_laws.proofs.Association as association-laws
 use Rattle.association_laws.proofs.Search.{distance-long}
 use Rattle.association_laws.proofs.Within.{Upto, Measured, normalised-unit}
-use Rattle.association_laws.proofs.Coordinates.{eighth, lines-some, coordinate-unit, coordinate-large}
+use Rattle.reference_laws.proofs.Count.{lines-some}
+use Rattle.association_laws.proofs.Coordinates.{eighth, coordinate-unit, coordinate-large}
 use Rattle.association_laws.proofs.Distances.{Ladder, squares, sixtyFourth, mul-upto, sum-upto, sum-least, quotient-upto, off-upto}
 
 -- ---- the closed facts

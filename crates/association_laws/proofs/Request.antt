@@ -8,11 +8,11 @@ use Rattle.model.specs.Lists.{listBelow, over}
 use Rattle.model.specs.Real.{_⊖_, _⊘_}
 use Rattle.model.specs.Reference.{dasDennis, pointCount}
 use Rattle.model.specs.Association.{Request, objectives, lineCount, valueOf, idealOf, interceptOf, normalised, coordinate, distanceTo, distance, association, lineOf, leastFrom, greatest, interceptFrom, nearestOf}
-use Rattle.list_laws.proofs.Built.{listBelow-same}
+use Rattle.list_laws.proofs.Built.{listBelow-same, over-below}
 use Rattle.association_laws.specs.Flat.{flatRows, leastAt, interceptAt, normalAt, nearestAt}
 use Rattle.association_laws.specs.Request.{Pool, StartIn, IdealIn, InterceptsIn, NormalisedIn, LinesIn, Associates}
 use Rattle.association_laws.proofs.Same.{least-same, greatest-same, distance-same, nearest-same}
-use Rattle.association_laws.proofs.Places.{over-below, over-rows, over-lines}
+use Rattle.association_laws.proofs.Places.{over-rows, over-lines}
 
 -- ---- what `das_dennis` leaves, of m objectives and h divisions: k lines
 module _ (r : Request) (m h k : ℕ) (width : m ≡ objectives r) (d : h ≡ r .divisions) (c : k ≡ pointCount m h) where

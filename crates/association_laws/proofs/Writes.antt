@@ -9,7 +9,7 @@ use lib.Ieee.{Float}
 use lib.ListN.{length, getD, drop, set, length-append}
 use lib.Seq.{sets, sets-eq, getD-set-other}
 use Rattle.model.specs.Lists.{listBelow, joinBelow, over}
-use Rattle.list_laws.proofs.Runs.{sets-append}
+use Rattle.list_laws.proofs.Runs.{sets-append, sets-past}
 use Rattle.association_laws.specs.Flat.{flatRows}
 use Rattle.list_laws.proofs.Built.{listBelow-none, listBelow-more, listBelow-length}
 
@@ -39,10 +39,6 @@ module _ {A : Type 0} where
   front-done f l l₀ n h e = e ∙ over-sets (listBelow f n) l₀ (let s = listBelow-length f n in omega arith)
 
   -- what stands past a run is as it was
-  sets-past : (d : A) (l : List A) (i : ℕ) (s : List A) (j : ℕ) → i + length s ≤ j → getD (sets l i s) j d ≡ getD l j d
-  sets-past d l i [] j h = refl
-  sets-past d l i (x ∷ s) j h = sets-past d (set l i x) (suc i) s j (omega arith) ∙ getD-set-other l i j x d (λ e. omega arith)
-
   pub front-past : (f : ℕ → A) (d : A) (l l₀ : List A) (n : ℕ) → l ≡ sets l₀ 0 (listBelow f n) → getD l n d ≡ getD l₀ n d
   front-past f d l l₀ n e =
       ap (λ t. getD t n d) e ∙ sets-past d l₀ 0 (listBelow f n) n (let s = listBelow-length f n in omega arith)

@@ -4,21 +4,21 @@ use mathlib.Core.Path.{_≡_}
 use mathlib.Core.Bool.{Bool, true, false, _&&_}
 use mathlib.Core.List.{List}
 use native.Mathlib.Omega.{arith}
-use lib.Dec.{eqb, leb}
+use lib.Dec.{eqb, leb, ltb}
 use lib.Ieee.{nan, isNan}
 use lib.ListN.{length, getD}
-use borrow.Author.Tests.{leb-true, not-false}
+use borrow.Author.Tests.{eqb-false, leb-true, ltb-false, not-false}
 use Rattle.model.specs.Lists.{allIn}
 use Rattle.model.specs.Plan.{maxConstraints}
 use Rattle.model.specs.Row.{directionOf, rowOf}
 use Rattle.model.specs.Association.{Request, objectives, lineCount, valueOf, dominance, distanceTo, lineOf}
 use Rattle.model.specs.Kept.{before, isSplit, splitFront, filled, selected}
-use Rattle.model.specs.Refusal.{badDirections, measurable, goodPlan, badPool}
+use Rattle.model.specs.Refusal.{badDirections, badCount, measurable, goodPlan, badPool}
 use Rattle.model.specs.Demand3.{Demand3}
 use Rattle.niching_laws.specs.Niching.{ByProcedure}
-use Rattle.list_laws.proofs.Bools.{or-left, and-left, and-right}
+use Rattle.list_laws.proofs.Bools.{or-left, or-right, and-left, and-right}
 use Rattle.front_laws.proofs.Plans.{known-toMinimize, measurable-known, beats-strict}
-use Rattle.association_laws.proofs.Coordinates.{lines-some}
+use Rattle.reference_laws.proofs.Count.{lines-some}
 use Rattle.demand3_laws.specs.Facts.{Strict, Accepted}
 use Rattle.list_laws.proofs.Tests.{allBelow-each, allIn-each}
 use Rattle.demand3_laws.proofs.Covered.{front-facts}
@@ -31,6 +31,12 @@ unfolding badDirections
 some-objectives marks h =
     let e = not-false _ (or-left _ _ h) in
     (leb-true 1 (length marks) (and-left _ _ e), leb-true (length marks) 8 (and-right (leb 1 (length marks)) _ e))
+
+-- a size or a count is 1 to 1,024
+pub one-to-1024 : (n : ℕ) → badCount n ≡ false → (0 < n) × (n ≤ 1024)
+one-to-1024 n e =
+    let h = eqb-false n 0 (or-left (eqb n 0) (ltb 1024 n) e) in
+    (omega arith, ltb-false 1024 n (or-right (eqb n 0) (ltb 1024 n) e))
 
 pub pool-plan : (r : Request) → badPool r ≡ false → (p : ℕ) → p < r .count → goodPlan (objectives r) (r .plans p) ≡ true
 unfolding badPool

@@ -22,7 +22,9 @@ use Rattle.niching_laws.proofs.Association.{lineOf-inside, kept-distance}
 use Rattle.demand3_laws.specs.Facts.{FrontFacts}
 use Rattle.list_laws.proofs.Bools.{by-bool}
 use Rattle.demand3_laws.proofs.Counts.{Exactly, tally-exactly}
-use Rattle.demand3_laws.proofs.Fronts.{inFirst-more, inFront-new, inFront-first, dominators-first, listing-exactly, front-exactly}
+use Rattle.front_laws.proofs.Rounds.{inFirst-more}
+use Rattle.front_laws.proofs.Order.{inFront-new, inFront-first}
+use Rattle.demand3_laws.proofs.Fronts.{dominators-first, listing-exactly, front-exactly}
 use Rattle.demand3_laws.proofs.Sizes.{sizeOf-len, split-room, split-short, split-kept, split-only, whole-fill, whole-kept, whole-none}
 
 module _ (r : Request) (facts : FrontFacts (dominance r) (r .count)) where

@@ -15,29 +15,13 @@ use Rattle.demand3_laws.specs.Facts.{FrontFacts}
 use Rattle.list_laws.proofs.Bools.{by-bool}
 use Rattle.demand3_laws.proofs.Counts.{Exactly, exactly-of, length-exactly}
 use Rattle.list_laws.proofs.Tests.{anyBelow-at}
+use Rattle.front_laws.proofs.Rounds.{inFirst-more}
+use Rattle.front_laws.proofs.Order.{inFront-new, inFront-first}
 
 -- ---- for any d, by the paper's definition
 
 module _ (d : ℕ → ℕ → Bool) (n : ℕ) where
-  pub inFirst-more : (k p : ℕ) → inFirst d n k p ≡ true → inFirst d n (suc k) p ≡ true
-  unfolding inFirst
-  inFirst-more k p e = rw e
-
-  pub inFirst-later : (k j p : ℕ) → k ≤ j → inFirst d n k p ≡ true → inFirst d n j p ≡ true
-  inFirst-later k zero p h e = let same : 0 ≡ k = omega arith in ap (λ i. inFirst d n i p) same ∙ e
-  inFirst-later k (suc j) p h e =
-      ⊎-elim (λ same. ap (λ i. inFirst d n i p) (sym same) ∙ e) (λ less. inFirst-more j p (inFirst-later k j p (omega arith) e)) (eq-or-lt-of-le h)
-
-  -- a member of front k is in none before, and in the first k + 1
-  pub inFront-new : (k p : ℕ) → inFront d n k p ≡ true → inFirst d n k p ≡ false
-  unfolding undominatedOfRest
-  inFront-new k p e = by-bool (inFirst d n k p) (λ y. absurd (false≢true (rw y at e))) (λ y. y)
-
-  pub inFront-first : (k p : ℕ) → inFront d n k p ≡ true → inFirst d n (suc k) p ≡ true
-  unfolding inFirst
-  inFront-first k p e = rw e (or-true (inFirst d n k p))
-
-  -- and who is new in the first k + 1 is in front k
+  -- who is new in the first k + 1 is in front k
   pub new-inFront : (k p : ℕ) → inFirst d n (suc k) p ≡ true → inFirst d n k p ≡ false → inFront d n k p ≡ true
   unfolding inFirst
   new-inFront k p h e = rw e at h
@@ -62,7 +46,7 @@ module _ (d : ℕ → ℕ → Bool) (n : ℕ) where
   unfolding inFirst
   dominators-first zero p q e h dom = rest-undominated zero p q e h dom
   dominators-first (suc k) p q e h dom = by-bool (inFirst d n (suc k) p)
-      (λ y. inFirst-more k q (dominators-first k p q y h dom))
+      (λ y. inFirst-more d n k q (dominators-first k p q y h dom))
       (λ y. rest-undominated (suc k) p q (new-inFront (suc k) p e y) h dom)
 
 -- ---- by the front facts

@@ -13,15 +13,7 @@ use Rattle.model.specs.Association.{Request, objectives}
 use Rattle.model.specs.Setting.{Operators}
 use Rattle.model.specs.Refusal.{Room, firstOf, badDirections, badSize, badDivisions, badOperators, badDimensions, badCount, goodPlan, goodIdeal, badPool, breedable, badParents, noRoom, noStepRoom, selectRefusal, stepRefusal}
 use Rattle.demand3_laws.proofs.Calls.{applies-not}
-use Rattle.demand3_laws.proofs.Accepted.{some-objectives}
-
--- a size or a count is 1 to 1,024
-pub one-to-1024 : (n : ℕ) → badCount n ≡ false → (0 < n) × (n ≤ 1024)
-one-to-1024 n e = (go n (or-left (eqb n 0) (ltb 1024 n) e), ltb-false 1024 n (or-right (eqb n 0) (ltb 1024 n) e))
-  where
-    go : (n : ℕ) → eqb n 0 ≡ false → 0 < n
-    go zero h = absurd (true≢false h)
-    go (suc n) h = omega arith
+use Rattle.demand3_laws.proofs.Accepted.{one-to-1024, some-objectives}
 
 -- it passes each test
 pub record Passed (o : Operators) (r : Request) (room : Room) (offspring : ℕ) : Type 0 where

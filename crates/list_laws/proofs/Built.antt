@@ -98,6 +98,14 @@ module _ {A : Type 0} where
   over-size f j l h = over-length (listBelow f j) l (omega (arith, listBelow-length f j))
 
   -- an entry at its front
+  -- the step of a loop that fills a slice from its front
+  pub over-set : (f : ℕ → A) (l l₀ : List A) (i : ℕ) (x : A) → i < length l₀ → l ≡ over (listBelow f i) l₀ → x ≡ f i → set l i x ≡ over (listBelow f (i + 1)) l₀
+  over-set f l l₀ i x h e v = ap₂ (λ t y. set t i y) e v ∙ over-more f i l₀ h
+
+  -- the front of a list, place by place
+  pub listBelow-copy : (d : A) (from : List A) (n : ℕ) → n ≤ length from → listBelow (λ t. getD from t d) n ≡ take n from
+  listBelow-copy d from n h = sym (listBelow-take (λ t. getD from t d) n d from h (λ t l. refl))
+
   pub over-at : (new old : List A) (i : ℕ) (d : A) → i < length new → getD (over new old) i d ≡ getD new i d
   over-at new old i d h = List·getD-append new (drop (length new) old) d i h
 

@@ -22,9 +22,9 @@ pub before-run : (l : List ℕ) (i : ℕ) (s : List ℕ) (j : ℕ) → j < i →
 before-run l i [] j h = refl
 before-run l i (x ∷ s) j h = before-run (set l i x) (suc i) s j (omega arith) ∙ getD-set-other l i j x 0 (λ e. omega arith)
 
-pub past-run : (l : List ℕ) (i : ℕ) (s : List ℕ) (j : ℕ) → i + length s ≤ j → getD (sets l i s) j 0 ≡ getD l j 0
-past-run l i [] j h = refl
-past-run l i (x ∷ s) j h = past-run (set l i x) (suc i) s j (omega arith) ∙ getD-set-other l i j x 0 (λ e. omega arith)
+pub sets-past : {A : Type 0} (d : A) (l : List A) (i : ℕ) (s : List A) (j : ℕ) → i + length s ≤ j → getD (sets l i s) j d ≡ getD l j d
+sets-past d l i [] j h = refl
+sets-past d l i (x ∷ s) j h = sets-past d (set l i x) (suc i) s j (omega arith) ∙ getD-set-other l i j x d (λ e. omega arith)
 
 -- and in it stands what was stored
 pub in-run : (l : List ℕ) (i : ℕ) (s : List ℕ) (k : ℕ) → k < length s → i + k < length l → getD (sets l i s) (i + k) 0 ≡ getD s k 0

@@ -15,14 +15,13 @@ use Rattle.model.specs.Front.{front, listing}
 use Rattle.model.specs.Association.{Request, objectives, lineCount, dominance, idealOf, association, lineOf}
 use Rattle.model.specs.Kept.{wholeFronts, before, isSplit, splitFront, filled, selectedSplit, picks}
 use Rattle.list_laws.specs.Occ.{AllUnder}
-use Rattle.list_laws.proofs.Built.{listBelow-length, over-length, over-take}
+use Rattle.list_laws.proofs.Built.{listBelow-length, over-length, over-take, over-below}
 use Rattle.list_laws.proofs.Members.{under-in, under-at, in-occ}
 use Rattle.front_laws.proofs.Order.{listing-below}
 use Rattle.front_laws.proofs.Rounds.{found}
 use Rattle.front_laws.proofs.Theorems.{front-distinct}
 use Rattle.niching_laws.proofs.Association.{lineOf-inside}
 use Rattle.association_laws.specs.Request.{Pool, StartIn, LinesIn, Associates}
-use Rattle.association_laws.proofs.Places.{over-below}
 use Rattle.association_laws.proofs.Request.{lines-at}
 use Rattle.front_cut.specs.declared.Cut.{Cut}
 use Rattle.niching_array_laws.specs.Niche.{Splits, NichingSelects, picksOf}

@@ -13,9 +13,9 @@ use Rattle.model.specs.Association.{Request, objectives, lineCount}
 use Rattle.model.specs.Refusal.{Room, badDirections, badSize, badDivisions, badCount, badPool, noRoom, goodPlan, goodIdeal, maxSize, selectRefusal}
 use Rattle.list_laws.proofs.Bools.{and-left, and-right, or-left, or-right}
 use Rattle.reference_laws.proofs.Divisions.{allowed}
-use Rattle.demand3_laws.proofs.Accepted.{some-objectives}
+use Rattle.demand3_laws.proofs.Accepted.{one-to-1024, some-objectives}
 use Rattle.demand3_laws.proofs.Calls.{applies-not}
-use Rattle.association_laws.proofs.Coordinates.{lines-some}
+use Rattle.reference_laws.proofs.Count.{lines-some}
 use Rattle.nsga3_laws.specs.Admitted.{Admitted}
 
 module _ (r : Request) (room : Room) (e : selectRefusal r room ≡ none) where
@@ -42,9 +42,6 @@ module _ (r : Request) (room : Room) (e : selectRefusal r room ≡ none) where
   slices : noRoom r room ≡ false
   unfolding selectRefusal
   slices = applies-not (List·Memᴰ·tail (List·Memᴰ·tail (List·Memᴰ·tail (List·Memᴰ·tail (List·Memᴰ·tail (List·Memᴰ·head refl)))))) e
-
-  some-plans : 0 < r .count
-  some-plans = let h = eqb-false (r .count) 0 (or-left (eqb (r .count) 0) (ltb maxSize (r .count)) count) in omega arith
 
   accepted : (allBelow (λ p. goodPlan (objectives r) (r .plans p)) (r .count) && goodIdeal (objectives r) (r .ideal)) ≡ true
   unfolding badPool
@@ -73,9 +70,9 @@ module _ (r : Request) (room : Room) (e : selectRefusal r room ≡ none) where
     coarse = allowed (objectives r) (r .divisions) divisions .most;
     someLines = lines-some (objectives r) (r .divisions) (some-objectives (r .marks) directions .0);
     fewLines = allowed (objectives r) (r .divisions) divisions .lines;
-    somePlans = some-plans;
-    fewPlans = ltb-false maxSize (r .count) (or-right (eqb (r .count) 0) _ count);
-    few = ltb-false maxSize (r .size) (or-right (eqb (r .size) 0) _ size);
+    somePlans = one-to-1024 (r .count) count .0;
+    fewPlans = one-to-1024 (r .count) count .1;
+    few = one-to-1024 (r .size) size .1;
     good = and-left _ _ accepted;
     ideal = ideal-length;
     kept = room-each .0;

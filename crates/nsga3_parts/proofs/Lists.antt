@@ -1,23 +1,16 @@
 -- Lists filled from their front, and one list written behind another.
-use Prim.Native.Nat.{ℕ, _+_, _-_, _≤_, _<_}
-use mathlib.Core.Path.{_≡_, refl, ap, ap₂, sym, _∙_}
+use Prim.Native.Nat.{ℕ, _+_, _-_, _≤_}
+use mathlib.Core.Path.{_≡_, ap, ap₂, sym, _∙_}
 use mathlib.Core.List.{List, [], _∷_, _++_, append-assoc, append-nil}
 use native.Mathlib.Omega.{arith}
 use borrow.Rule.Slice.PartMut.{midOf, putMid}
-use lib.ListN.{length, getD, set, take, drop, replicate, length-append, length-drop, length-replicate, getD-replicate}
+use lib.ListN.{length, take, drop, replicate, length-append, length-drop, length-replicate, getD-replicate}
 use lib.Seq.{take-length, drop-length, drop-drop}
 use Rattle.model.specs.Lists.{listBelow, over}
-use Rattle.list_laws.proofs.Built.{listBelow-take, over-more, over-take, over-drop}
+use Rattle.list_laws.proofs.Built.{listBelow-take, over-take, over-drop}
 
 module _ {A : Type 0} where
-  -- one more entry stored at the front
-  pub filled-more : (f : ℕ → A) (l l₀ : List A) (i : ℕ) (x : A) → i < length l₀ → l ≡ over (listBelow f i) l₀ → x ≡ f i → set l i x ≡ over (listBelow f (i + 1)) l₀
-  filled-more f l l₀ i x h e v = ap₂ (λ t y. set t i y) e v ∙ over-more f i l₀ h
-
-  -- the front of a list, and a list of one entry again and again, place by place
-  pub copied : (d : A) (from : List A) (n : ℕ) → n ≤ length from → listBelow (λ t. getD from t d) n ≡ take n from
-  copied d from n h = sym (listBelow-take (λ t. getD from t d) n d from h (λ t l. refl))
-
+  -- a list of one entry again and again, place by place
   pub repeated : (x : A) (n : ℕ) → listBelow (λ t. x) n ≡ replicate n x
   repeated x n =
       sym (listBelow-take (λ t. x) n x (replicate n x) (omega (arith, length-replicate n x)) (λ t l. getD-replicate n t x x l))

@@ -24,7 +24,7 @@ use Rattle.pool_plans.specs.declared.End.the-variants as end
 use Rattle.pool_plans.specs.Blocks.{Words, WordsIs, Block, roomed}
 use Rattle.pool_number.proofs.Options.{many-length}
 use Rattle.pool_plans.proofs.Storing.{stored-plain}
-use Rattle.list_laws.proofs.Runs.{before-run, past-run, in-run}
+use Rattle.list_laws.proofs.Runs.{before-run, sets-past, in-run}
 
 -- ---- the plan that words form
 
@@ -190,7 +190,7 @@ module _ (l : List ℕ) (base m c : ℕ) (vs cs : List ℕ) (a : length vs ≡ m
       (λ h. counted-other filled base m c space i (λ z. omega arith) (λ z. omega arith) (λ z. omega arith) (λ z. omega arith)
       ∙ before-run rows (base + 11) (take 16 cs) i (omega arith) ∙ before-run l (base + 2) (take 8 vs) i (omega arith))
       (λ h. counted-other filled base m c space i (λ z. omega arith) (λ z. omega arith) (λ z. omega arith) (λ z. omega arith)
-      ∙ past-run rows (base + 11) (take 16 cs) i (omega arith) ∙ past-run l (base + 2) (take 8 vs) i (omega arith))
+      ∙ sets-past 0 rows (base + 11) (take 16 cs) i (omega arith) ∙ sets-past 0 l (base + 2) (take 8 vs) i (omega arith))
       w
 
 -- ---- the reader of a plan, by how far it gets

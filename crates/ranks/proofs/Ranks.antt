@@ -6,33 +6,25 @@ use mathlib.Core.List.{List}
 use native.Mathlib.Nat.{mul-le-mul-left, mul-le-mul-right}
 use native.Mathlib.Omega.{arith}
 use lib.Ieee.{Float}
-use lib.ListN.{length, getD, drop, List·getD-append}
+use lib.ListN.{length, getD}
 use Rattle.model.specs.Lists.{listBelow, over}
 use Rattle.model.specs.Plan.{Plan}
 use Rattle.model.specs.Row.{rowBeats}
 use Rattle.model.specs.Front.{frontOf, frontList}
-use Rattle.list_laws.proofs.Built.{listBelow-length, listBelow-at, listBelow-same}
+use Rattle.list_laws.proofs.Built.{listBelow-same, over-below}
 use Rattle.front_laws.specs.Flat.{flatDominates}
 use Rattle.front_laws.specs.Post.{Sorted}
-use Rattle.front_laws.proofs.Flat.{flatDominates-rowBeats}
-use Rattle.front_laws.proofs.Sorting.{sorted-same}
+use Rattle.front_laws.proofs.Meaning.{sorted-rowBeats}
 use Rattle.plan_rows.specs.Filled.{RowsOf}
 
 -- the sort of a pool's rows gives its plans' fronts
 pub rows-fronts : (marks : List ℕ) (plans : ℕ → Plan) (n : ℕ) (rows₀ rows : List Float) (o₀ o r₀ r e₀ e : List ℕ) (x : ℕ) → RowsOf marks plans n rows₀ rows
     → Sorted (flatDominates rows (length marks)) n o₀ o r₀ r e₀ e x → r ≡ over (frontList (rowBeats marks plans) n) r₀
-rows-fronts marks plans n rows₀ rows o₀ o r₀ r e₀ e x filled s =
-    sorted-same (flatDominates rows (length marks)) (rowBeats marks plans) n o₀ o r₀ r e₀ e x (flatDominates-rowBeats marks plans n rows (filled .values)) s .ranks
+rows-fronts marks plans n rows₀ rows o₀ o r₀ r e₀ e x filled s = sorted-rowBeats marks plans n rows o₀ o r₀ r e₀ e x (filled .values) s .ranks
 
 module _ (d : ℕ → ℕ → Bool) (n : ℕ) where
-  front-at : (r₀ : List ℕ) (p : ℕ) → p < n → getD (over (frontList d n) r₀) p 0 ≡ frontOf d n p
-  unfolding frontList
-  front-at r₀ p h =
-      List·getD-append (listBelow (frontOf d n) n) (drop (length (listBelow (frontOf d n) n)) r₀) 0 p (omega (arith, listBelow-length (frontOf d n) n))
-      ∙ listBelow-at (frontOf d n) n 0 p h
-
   -- those that a list points at
   pub fronts-of : (r₀ r kept : List ℕ) (count : ℕ) → r ≡ over (frontList d n) r₀ → ((i : ℕ) → i < count → getD kept i 0 < n)
       → listBelow (λ i. getD r (getD kept i 0) 0) count ≡ listBelow (λ i. frontOf d n (getD kept i 0)) count
-  fronts-of r₀ r kept count e h =
-      listBelow-same _ _ count (λ i l. ap (λ t. getD t (getD kept i 0) 0) e ∙ front-at r₀ (getD kept i 0) (h i l))
+  unfolding frontList
+  fronts-of r₀ r kept count e h = listBelow-same _ _ count (λ i l. over-below (frontOf d n) n r r₀ (getD kept i 0) 0 e (h i l))

@@ -3,7 +3,7 @@ use native.Mathlib.Omega.{arith}
 use native.Mathlib.Nat.{mul-le-mul-right}
 use borrow.Author.Needs.{needs}
 use lib.Ieee.{nan}
-use Rattle.association_laws.proofs.Places.{over-below}
+use Rattle.list_laws.proofs.Built.{over-below}
 use Rattle.association.proofs.associate_to_reference_points.Statement.{statement}
 use Rattle.association.proofs.associate_to_reference_points.Tie as tie
 

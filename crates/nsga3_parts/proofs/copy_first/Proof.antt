@@ -5,8 +5,7 @@ use mathlib.Core.Path.{_≡_, refl, ap, sym, _∙_}
 use native.Mathlib.Omega.{arith}
 use lib.ListN.{length, getD, length-set}
 use Rattle.model.specs.Lists.{listBelow, over}
-use Rattle.list_laws.proofs.Built.{over-none}
-use Rattle.nsga3_parts.proofs.Lists.{filled-more, copied}
+use Rattle.list_laws.proofs.Built.{over-none, over-set, listBelow-copy}
 use Rattle.nsga3_parts.proofs.copy_first.Statement.{statement}
 use Rattle.nsga3_parts.proofs.copy_first.Tie as tie
 
@@ -41,7 +40,7 @@ loop-again : tie.Need-loop-again Inv-loop μ-loop
 loop-again c =
     let l = c .before .before .loop in
     let a = c .before .before .before in
-    (omega arith, simp length-set (l .inv .1), filled-more _ _ _ _ _ (omega (arith, c .before .loop-test .taken, a .pre .1)) (l .inv .2) refl)
+    (omega arith, simp length-set (l .inv .1), over-set _ _ _ _ _ (omega (arith, c .before .loop-test .taken, a .pre .1)) (l .inv .2) refl)
 
 same-length : tie.Need-same-length Inv-loop μ-loop
 same-length c = c .before .loop .inv .1
@@ -52,7 +51,7 @@ returns c =
     let a = c .before .before in
     let e : l .i ≡ a .args .n = omega arith in
     l .inv .2 ∙ ap (λ k. over (listBelow (λ t. getD (a .args .from .now) t 0) k) (a .args .to .now)) e
-    ∙ ap (λ t. over t (a .args .to .now)) (copied 0 (a .args .from .now) (a .args .n) (a .pre .0))
+    ∙ ap (λ t. over t (a .args .to .now)) (listBelow-copy 0 (a .args .from .now) (a .args .n) (a .pre .0))
 
 pub copy-first-spec : {M : Type 1} → statement M
 copy-first-spec =

@@ -6,8 +6,8 @@ use native.Mathlib.Omega.{arith}
 use lib.ListN.{length, length-set}
 use Rattle.model.specs.Lists.{listBelow, over}
 use Rattle.model.specs.Kept.{noLine}
-use Rattle.list_laws.proofs.Built.{over-none}
-use Rattle.nsga3_parts.proofs.Lists.{filled-more, repeated}
+use Rattle.list_laws.proofs.Built.{over-none, over-set}
+use Rattle.nsga3_parts.proofs.Lists.{repeated}
 use Rattle.nsga3_parts.proofs.no_lines.Statement.{statement}
 use Rattle.nsga3_parts.proofs.no_lines.Tie as tie
 
@@ -35,7 +35,7 @@ loop-less c = search needs
 loop-again : tie.Need-loop-again Inv-loop μ-loop
 loop-again c =
     let l = c .before .loop in
-    (omega arith, simp length-set (l .inv .1), filled-more _ _ _ _ _ (omega (arith, c .loop-test .taken, c .before .before .pre)) (l .inv .2) refl)
+    (omega arith, simp length-set (l .inv .1), over-set _ _ _ _ _ (omega (arith, c .loop-test .taken, c .before .before .pre)) (l .inv .2) refl)
 
 same-length : tie.Need-same-length Inv-loop μ-loop
 same-length c = c .before .loop .inv .1

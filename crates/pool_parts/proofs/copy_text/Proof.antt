@@ -5,8 +5,7 @@ use mathlib.Core.Path.{_≡_, refl, ap, sym, _∙_}
 use native.Mathlib.Omega.{arith}
 use lib.ListN.{length, getD, length-set}
 use Rattle.model.specs.Lists.{listBelow, over}
-use Rattle.list_laws.proofs.Built.{over-none}
-use Rattle.nsga3_parts.proofs.Lists.{filled-more, copied}
+use Rattle.list_laws.proofs.Built.{over-none, over-set, listBelow-copy}
 use Rattle.pool_parts.proofs.copy_text.Statement.{statement}
 use Rattle.pool_parts.proofs.copy_text.Tie as tie
 
@@ -35,7 +34,7 @@ loop-again : tie.Need-loop-again Inv-loop μ-loop
 loop-again c =
     let l = c .before .before .loop in
     let a = c .before .before .before in
-    (omega arith, simp length-set (l .inv .1), filled-more _ _ _ _ _ (omega (arith, c .before .loop-test .taken, a .pre .1)) (l .inv .2) refl)
+    (omega arith, simp length-set (l .inv .1), over-set _ _ _ _ _ (omega (arith, c .before .loop-test .taken, a .pre .1)) (l .inv .2) refl)
 
 same-length : tie.Need-same-length Inv-loop μ-loop
 same-length c = c .before .loop .inv .1
@@ -46,7 +45,7 @@ returns c =
     let a = c .before .before in
     let e : l .i ≡ a .args .n = omega arith in
     l .inv .2 ∙ ap (λ k. over (listBelow (λ t. getD (a .args .text .now) t 0) k) (a .args .out .now)) e
-    ∙ ap (λ t. over t (a .args .out .now)) (copied 0 (a .args .text .now) (a .args .n) (a .pre .0))
+    ∙ ap (λ t. over t (a .args .out .now)) (listBelow-copy 0 (a .args .text .now) (a .args .n) (a .pre .0))
 
 pub copy-text-spec : {M : Type 1} → statement M
 copy-text-spec =

@@ -4,8 +4,7 @@ use mathlib.Core.Path.{_≡_, refl, sym, ap, _∙_}
 use lib.ListN.{length, getD, replicate, length-set}
 use lib.Seq.{take-length}
 use Rattle.model.specs.Lists.{listBelow, over}
-use Rattle.list_laws.proofs.Built.{over-none}
-use Rattle.nsga3_parts.proofs.Lists.{filled-more, copied}
+use Rattle.list_laws.proofs.Built.{over-none, over-set, listBelow-copy}
 use native.Mathlib.Omega.{arith}
 use Rattle.session_opening.proofs.marks_of.Statement.{statement}
 use Rattle.session_opening.proofs.marks_of.Tie as tie
@@ -35,7 +34,7 @@ loop-again : tie.Need-loop-again Inv-loop μ-loop
 loop-again c =
     let l = c .before .before .loop in
     let a = c .before .before .before .args in
-    (omega arith, omega arith, simp length-set (l .inv .2), filled-more (λ t. getD (a .directions .now) t 0) (l .marks) (replicate 8 0) (l .i) _ (omega arith) (l .inv .3) refl)
+    (omega arith, omega arith, simp length-set (l .inv .2), over-set (λ t. getD (a .directions .now) t 0) (l .marks) (replicate 8 0) (l .i) _ (omega arith) (l .inv .3) refl)
 
 returns : tie.Need-returns Inv-loop μ-loop
 returns c =
@@ -43,7 +42,7 @@ returns c =
     let d = c .before .before .args .directions .now in
     let e : l .i ≡ length d = omega arith in
     l .inv .3 ∙ ap (λ k. over (listBelow (λ t. getD d t 0) k) (replicate 8 0)) e
-    ∙ ap (λ t. over t (replicate 8 0)) (copied 0 d (length d) (omega arith) ∙ take-length d)
+    ∙ ap (λ t. over t (replicate 8 0)) (listBelow-copy 0 d (length d) (omega arith) ∙ take-length d)
 
 pub marks-of-spec : {M : Type 1} → statement M
 marks-of-spec =

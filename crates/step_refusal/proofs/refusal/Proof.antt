@@ -12,7 +12,7 @@ use Rattle.model.specs.Refusal.{badDirections, badSize, badDivisions, badOperat
 use Rattle.demand3_laws.proofs.Accepted.{some-objectives}
 use Rattle.settings.specs.Candidate.{dimensionsOf}
 use Rattle.settings.proofs.Valid.{few}
-use Rattle.generation_laws.proofs.Accepted.{one-to-1024}
+use Rattle.demand3_laws.proofs.Accepted.{one-to-1024}
 use Rattle.generation_laws.proofs.Refusals.{refused-2, refused-3, refused-4, refused-5, refused-6, refused-7, refused-8, refused-9, refused-10, not-refused}
 use Rattle.step_refusal.proofs.refusal.Statement.{statement}
 use Rattle.step_refusal.proofs.refusal.Tie as tie
