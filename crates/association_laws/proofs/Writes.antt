@@ -9,6 +9,7 @@ use lib.Ieee.{Float}
 use lib.ListN.{length, getD, drop, set, length-append}
 use lib.Seq.{sets, sets-eq, getD-set-other}
 use Rattle.model.specs.Lists.{listBelow, joinBelow, over}
+use Rattle.list_laws.proofs.Rows.{joinBelow-length}
 use Rattle.list_laws.proofs.Runs.{sets-append, sets-past}
 use Rattle.association_laws.specs.Flat.{flatRows}
 use Rattle.list_laws.proofs.Built.{listBelow-none, listBelow-more, listBelow-length}
@@ -50,10 +51,8 @@ unfolding flatRows joinBelow
 rows-none f l m = refl
 
 pub rows-length : (f : ℕ → ℕ → Float) (n m : ℕ) → length (flatRows f n m) ≡ n * m
-unfolding flatRows joinBelow
-rows-length f zero m = sym (zero-mul m)
-rows-length f (suc n) m =
-    length-append (flatRows f n m) (listBelow (f n) m) ∙ omega (arith, rows-length f n m, listBelow-length (f n) m, suc-mul n m)
+unfolding flatRows
+rows-length f n m = joinBelow-length (λ p. listBelow (f p) m) m n (λ p u. listBelow-length (f p) m)
 
 -- one more row stored behind the rows
 pub rows-more : (f : ℕ → ℕ → Float) (l k l₀ : List Float) (n m : ℕ) → l ≡ sets l₀ 0 (flatRows f n m) → k ≡ sets l (n * m) (listBelow (f n) m)

@@ -2,15 +2,16 @@
 use Prim.Native.Nat.{ℕ, zero, suc, _+_, _*_, _<_, _≤_}
 use mathlib.Core.Path.{_≡_, refl, sym, ap, _∙_}
 use mathlib.Core.Bool.{true, false, true≢false}
-use mathlib.Core.List.{List, [], _∷_, _++_, map}
+use mathlib.Core.List.{List, [], _∷_, _++_, map, flatten}
 use mathlib.Core.Logic.{⊎-elim}
-use native.Mathlib.Nat.{not-suc-le-zero, le-of-suc-le-suc, eq-or-lt-of-le, zero-mul, zero-add, suc-mul, add-mul, one-mul, mul-le-mul-right}
+use native.Mathlib.Nat.{not-suc-le-zero, eq-or-lt-of-le, suc-mul}
 use native.Mathlib.Omega.{arith}
 use lib.ListN.{length, getD, take, drop, length-append, length-map, List·getD-append}
 use lib.Seq.{getD-append-add, getD-take, length-take-le, ext-getD}
 use lib.Ieee.{binary64}
 use lib.Ieee.Bits.{ofBits-toBits}
 use Rattle.list_laws.proofs.Built.{listBelow-length, listBelow-at, map-at}
+use Rattle.list_laws.proofs.Rows.{row-lt, flatten-length, flatten-at}
 use Rattle.real_laws.proofs.Ints.{int-of-word-of}
 use Rattle.model.specs.declared.Distribution.{Distribution}
 use Rattle.model.specs.declared.Distribution.the-variants as dist
@@ -48,39 +49,27 @@ word-back (dist.Categorical d) (value.Categorical c) h b = refl
 abbrev pub AllLong : ℕ → List (List ParamValue) → Type 0
 AllLong n cs = (i : ℕ) → i < length cs → length (getD cs i []) ≡ n
 
+-- their words are rows, one after the other
+words-rows : (cs : List (List ParamValue)) → wordsOf cs ≡ flatten (map (map toWord) cs)
+unfolding wordsOf flatten
+words-rows [] = refl
+words-rows (c ∷ cs) = ap (λ (l : List ℕ). map toWord c ++ l) (words-rows cs)
+
+row-long : (n : ℕ) (cs : List (List ParamValue)) → AllLong n cs → (i : ℕ) → i < length (map (map toWord) cs) → length (getD (map (map toWord) cs) i []) ≡ n
+row-long n cs l i h =
+    let g : i < length cs = omega (arith, length-map cs (map toWord)) in
+    ap length (map-at (map toWord) cs i [] [] g) ∙ length-map (getD cs i []) toWord ∙ l i g
+
 pub long-length : (n : ℕ) (cs : List (List ParamValue)) → AllLong n cs → length (wordsOf cs) ≡ length cs * n
-unfolding wordsOf
-long-length n [] l = sym (zero-mul n)
-long-length n (c ∷ cs) l =
-    let e = long-length n cs (λ i h. l (suc i) (omega arith)) in
-    let g = l 0 (omega arith) in
-    let m = length-map c toWord in
-    length-append (map toWord c) (wordsOf cs) ∙ omega (arith, suc-mul (length cs) n)
+long-length n cs l =
+    ap length (words-rows cs) ∙ flatten-length n (map (map toWord) cs) (row-long n cs l) ∙ ap (λ (k : ℕ). k * n) (length-map cs (map toWord))
 
 pub long-at : (n : ℕ) (cs : List (List ParamValue)) → AllLong n cs → (i d : ℕ) → i < length cs → d < n → getD (wordsOf cs) (i * n + d) 0 ≡ toWord (settingOf (getD cs i []) d)
-unfolding wordsOf
-long-at n [] l i d h k = absurd (not-suc-le-zero h)
-long-at n (c ∷ cs) l zero d h k =
-    let g = l 0 (omega arith) in
-    let m = length-map c toWord in
-    ap (λ (j : ℕ). getD (map toWord c ++ wordsOf cs) j 0) (ap (λ (j : ℕ). j + d) (zero-mul n) ∙ zero-add d)
-    ∙ List·getD-append (map toWord c) (wordsOf cs) 0 d (omega arith)
-    ∙ map-at toWord c d 0 noValue (omega arith)
-long-at n (c ∷ cs) l (suc i) d h k =
-    let g = l 0 (omega arith) in
-    let m = length-map c toWord in
-    ap (λ (j : ℕ). getD (map toWord c ++ wordsOf cs) j 0) (place (length (map toWord c)) (suc-mul i n) (m ∙ g))
-    ∙ getD-append-add (map toWord c) (wordsOf cs) (i * n + d) 0
-    ∙ long-at n cs (λ j u. l (suc j) (omega arith)) i d (le-of-suc-le-suc h) k
-  where
-    place : (x : ℕ) → suc i * n ≡ i * n + n → x ≡ n → suc i * n + d ≡ x + (i * n + d)
-    place x e f = omega arith
-
--- place i * n + d is before place count * n
-pub place-below : (i d n count : ℕ) → i < count → d < n → i * n + d < count * n
-place-below i d n count h k =
-    let g = mul-le-mul-right {m = i + 1} {n = count} n (omega arith) in
-    omega (arith, add-mul i 1 n, one-mul n)
+long-at n cs l i d h k =
+    ap (λ (w : List ℕ). getD w (i * n + d) 0) (words-rows cs)
+    ∙ flatten-at n (map (map toWord) cs) (row-long n cs l) i d 0 (omega (arith, length-map cs (map toWord))) k
+    ∙ ap (λ (w : List ℕ). getD w d 0) (map-at (map toWord) cs i [] [] h)
+    ∙ map-at toWord (getD cs i []) d 0 noValue (omega (arith, l i h))
 
 module _ (dims : ℕ → Distribution) (n count : ℕ) (cs : List (List ParamValue)) (a : AllWithin dims n count cs) where
   long : AllLong n cs
@@ -96,7 +85,7 @@ module _ (dims : ℕ → Distribution) (n count : ℕ) (cs : List (List ParamVal
   pub words-front : (rest : List ℕ) (i d : ℕ) → i < count → d < n → getD (wordsOf cs ++ rest) (i * n + d) 0 ≡ toWord (settingOf (getD cs i []) d)
   words-front rest i d h k =
       let e = words-length in
-      let p = place-below i d n count h k in
+      let p = row-lt i d count n h k in
       List·getD-append (wordsOf cs) rest 0 (i * n + d) (omega arith) ∙ words-at i d h k
 
 -- ---- read back
@@ -140,7 +129,7 @@ module _ (dims : ℕ → Distribution) (n k : ℕ) (c : List ParamValue) (old : 
   -- what lay before it stands, and it lies behind
   pub put-before : (i d : ℕ) → i < k → d < n → getD (overAt (k * n) (map toWord c) old) (i * n + d) 0 ≡ getD old (i * n + d) 0
   put-before i d h l =
-      let p = place-below i d n k h l in
+      let p = row-lt i d k n h l in
       let f = front in
       List·getD-append (take (k * n) old) (over (map toWord c) (drop (k * n) old)) 0 (i * n + d) (omega arith) ∙ getD-take (k * n) old (i * n + d) 0 p
 

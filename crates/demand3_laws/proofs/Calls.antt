@@ -21,25 +21,9 @@ use Rattle.model.specs.Demand3.{Demand3}
 use Rattle.model.specs.Calls.{Lent, roomOf, handedOut, selectAccepted, selectOf, Selects, stepAccepted, stepOf, Steps}
 use Rattle.list_laws.proofs.Bools.{and-left}
 use Rattle.list_laws.proofs.Built.{listBelow-length}
+use Rattle.list_laws.proofs.Checks.{applies-not}
 use Rattle.demand3_laws.specs.Facts.{Accepted}
 use Rattle.demand3_laws.proofs.Accepted.{some-objectives, pool-plan, demand3}
-
--- ---- where no refusal is given, none of the numbers applies
-
-pub not-some : {A : Type 0} (a : A) → some a ≡ none → ⊥
-not-some a e = let z : _≡_ {A = ℕ} 0 1 = cc in omega arith
-
-not-given : (c : Check) (cs : List Check) → firstOf (c ∷ cs) ≡ none → (c .applies ≡ false) × (firstOf cs ≡ none)
-unfolding firstOf
-not-given c cs e = go (c .applies) refl e
-  where
-    go : (b : Bool) → c .applies ≡ b → cond b (some (c .number)) (firstOf cs) ≡ none → (c .applies ≡ false) × (firstOf cs ≡ none)
-    go true h k = absurd (not-some (c .number) k)
-    go false h k = (h, k)
-
-pub applies-not : {c : Check} {cs : List Check} → List·Memᴰ c cs → firstOf cs ≡ none → c .applies ≡ false
-applies-not (List·Memᴰ·head {x = c′} {xs = cs} e) h = ap (λ (k : Check). k .applies) e ∙ not-given c′ cs h .0
-applies-not (List·Memᴰ·tail {x = c′} {xs = cs} m) h = applies-not m (not-given c′ cs h .1)
 
 -- ---- plans that lie in a slice of words have as many values as they claim, up to 8
 

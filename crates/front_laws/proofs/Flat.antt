@@ -10,7 +10,7 @@ use Rattle.model.specs.Plan.{Plan}
 use Rattle.model.specs.Row.{rowOf, constrainedDominates, rowBeats, beats}
 use Rattle.front_laws.specs.Strict.{Strict}
 use Rattle.front_laws.proofs.Same.{Agree}
-use Rattle.list_laws.proofs.Runs.{row-inside}
+use Rattle.list_laws.proofs.Rows.{row-inside}
 use Rattle.front_laws.specs.Flat.{rowAt, flatDominates, flatBeats, Pool, Within, KnownRows, RowsOf, FlatOf}
 use Rattle.front_laws.proofs.Domination.{dominates-same, rule-irreflexive, rule-asymmetric, rule-transitive}
 
@@ -34,10 +34,6 @@ pub flatBeats-rows : (rows : List Float) (m : ℕ) (flags : List Bool) (sums : L
     → Agree (flatBeats rows m flags sums) (flatDominates rows m) n
 unfolding flatBeats
 flatBeats-rows rows m flags sums n h p q lp lq = rw (h p lp, h q lq)
-
--- the place of a row's entry is in the table
-pub row-lt : (p j n m : ℕ) → p < n → j < m → p * m + j < n * m
-row-lt p j n m h g = omega (arith, row-inside p n m h)
 
 -- rows without a NaN make it strict
 pub flatBeats-self : (rows : List Float) (m : ℕ) (flags : List Bool) (sums : List Float) (p : ℕ) → flatBeats rows m flags sums p p ≡ false

@@ -12,7 +12,7 @@ use Rattle.model.specs.Lists.{allBelow}
 use Rattle.model.specs.Association.{Request, objectives}
 use Rattle.model.specs.Setting.{Operators}
 use Rattle.model.specs.Refusal.{Room, firstOf, badDirections, badSize, badDivisions, badOperators, badDimensions, badCount, goodPlan, goodIdeal, badPool, breedable, badParents, noRoom, noStepRoom, selectRefusal, stepRefusal}
-use Rattle.demand3_laws.proofs.Calls.{applies-not}
+use Rattle.list_laws.proofs.Checks.{applies-not}
 use Rattle.demand3_laws.proofs.Accepted.{one-to-1024, some-objectives}
 
 -- it passes each test

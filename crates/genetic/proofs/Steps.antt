@@ -6,7 +6,6 @@ use Prim.Native.Nat.{ℕ, _<_}
 use native.Mathlib.Omega.{arith}
 use lib.Dec.{leb}
 use lib.Ieee.{Float, lt}
-use Rattle.rng_util.proofs.Draws.{drawUsize-below}
 use Rattle.model.specs.declared.Distribution.{Distribution}
 use Rattle.model.specs.declared.ParamValue.{ParamValue}
 use Rattle.model.specs.Draw.{Drawn, drawn, drawUsize}
@@ -28,9 +27,6 @@ module _ (dims : ℕ → Distribution) (n : ℕ) (probability : Float) (k : ℕ)
   crossover-not h = crossover-by true h
 
 -- ---- the tournament
-
-pub drawn-below : (n s i t : ℕ) → 0 < n → drawn i t ≡ drawUsize n s → i < n
-drawn-below n s i t h e = let v = ap (λ (d : Drawn ℕ). d .value) e in omega (arith, v, drawUsize-below n s h)
 
 pub tournament-is : (ranks : ℕ → ℕ) (n s i t j u : ℕ) (b : Bool) → drawn i t ≡ drawUsize n s → drawn j u ≡ drawUsize n t → leb (ranks i) (ranks j) ≡ b → drawn (cond b i j) u ≡ tournament ranks n s
 unfolding tournament

@@ -1,6 +1,6 @@
 -- Tests as values: cases on a test, its number, and the halves of a conjunction.
 use Prim.Native.Nat.{_≤_}
-use mathlib.Core.Path.{_≡_, refl}
+use mathlib.Core.Path.{_≡_, refl, sym, _∙_}
 use mathlib.Core.Logic.{_⊎_, inl, inr}
 use mathlib.Core.Bool.{Bool, true, false, not, _&&_, _||_, false≢true, true≢false}
 use native.Mathlib.Omega.{arith}
@@ -65,12 +65,33 @@ pub and-not-right : (a c : Bool) → (not a && c) ≡ true → c ≡ true
 and-not-right true c e = absurd (false≢true e)
 and-not-right false c e = e
 
--- a conjunction whose second half fails
+-- a conjunction whose halves pass passes; one that fails, and whose one half passes, fails in the other
+pub and-both : (a c : Bool) → a ≡ true → c ≡ true → (a && c) ≡ true
+and-both true c h k = k
+and-both false c h k = absurd (false≢true h)
+
+pub and-fails : (a c : Bool) → (a && c) ≡ false → a ≡ true → c ≡ false
+and-fails true c e h = e
+and-fails false c e h = absurd (false≢true h)
+
+pub and-fails-first : (a c : Bool) → (a && c) ≡ false → c ≡ true → a ≡ false
+and-fails-first false c e h = refl
+and-fails-first true c e h = absurd (true≢false (sym h ∙ e))
+
+-- a conjunction whose first half fails, and one whose second does
+pub and-not : (a c : Bool) → a ≡ false → (a && c) ≡ false
+and-not true c e = absurd (true≢false e)
+and-not false c e = refl
+
 pub and-no : (a c : Bool) → c ≡ false → (a && c) ≡ false
 and-no true c e = e
 and-no false c e = refl
 
--- neither half of a disjunction that fails passes
+-- a disjunction whose halves fail fails, and neither half of one that fails passes
+pub or-both : (a c : Bool) → a ≡ false → c ≡ false → (a || c) ≡ false
+or-both true c h k = absurd (true≢false h)
+or-both false c h k = k
+
 pub or-left : (a c : Bool) → (a || c) ≡ false → a ≡ false
 or-left true c e = e
 or-left false c e = refl

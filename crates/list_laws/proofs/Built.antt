@@ -1,13 +1,13 @@
 -- Laws of `listBelow`, `joinBelow` and `over`.
 use Prim.Native.Nat.{ℕ, zero, suc, _+_, _≤_, _<_}
 use mathlib.Core.Path.{_≡_, refl, ap, ap₂, sym, _∙_}
-use mathlib.Core.List.{List, [], _∷_, _++_, map, append-assoc}
+use mathlib.Core.List.{List, [], _∷_, _++_, map, append-assoc, append-nil}
 use mathlib.Core.Logic.{⊎-elim}
 use native.Mathlib.Nat.{not-suc-le-zero, eq-or-lt-of-le}
 use native.Mathlib.Numerals.{add-one}
 use native.Mathlib.Omega.{arith}
-use lib.ListN.{length, getD, set, take, drop, length-append, length-drop, take-append-drop, List·getD-append}
-use lib.Seq.{drop-cons, append-snoc, set-at, getD-at, ext-getD, length-take-le, getD-take, take-at, drop-at}
+use lib.ListN.{length, getD, set, take, drop, drop-of-length-le, length-append, length-drop, take-append-drop, List·getD-append}
+use lib.Seq.{drop-cons, append-snoc, take-length, set-at, getD-at, ext-getD, length-take-le, getD-take, take-at, drop-at}
 use Rattle.model.specs.Lists.{listBelow, joinBelow, over}
 
 module _ {A : Type 0} where
@@ -66,6 +66,14 @@ module _ {A : Type 0} where
   pub over-length : (new old : List A) → length new ≤ length old → length (over new old) ≡ length old
   over-length new old h = length-append new (drop (length new) old) ∙ omega (arith, length-drop (length new) old)
 
+  -- a list as long as what it is laid over takes its place
+  pub over-all : (new old : List A) → length old ≤ length new → over new old ≡ new
+  over-all new old h = ap (λ t. new ++ t) (drop-of-length-le old h) ∙ append-nil new
+
+  -- and a slice does not get shorter by what is written over it
+  pub over-long : (new old : List A) → length old ≤ length (over new old)
+  over-long new old = omega (arith, length-append new (drop (length new) old), length-drop (length new) old)
+
   pub over-take : (new old : List A) (n : ℕ) → length new ≡ n → take n (over new old) ≡ new
   over-take new old n e = take-at new (drop (length new) old) n e
 
@@ -97,7 +105,6 @@ module _ {A : Type 0} where
   pub over-size : (f : ℕ → A) (j : ℕ) (l : List A) → j ≤ length l → length (over (listBelow f j) l) ≡ length l
   over-size f j l h = over-length (listBelow f j) l (omega (arith, listBelow-length f j))
 
-  -- an entry at its front
   -- the step of a loop that fills a slice from its front
   pub over-set : (f : ℕ → A) (l l₀ : List A) (i : ℕ) (x : A) → i < length l₀ → l ≡ over (listBelow f i) l₀ → x ≡ f i → set l i x ≡ over (listBelow f (i + 1)) l₀
   over-set f l l₀ i x h e v = ap₂ (λ t y. set t i y) e v ∙ over-more f i l₀ h
@@ -106,6 +113,11 @@ module _ {A : Type 0} where
   pub listBelow-copy : (d : A) (from : List A) (n : ℕ) → n ≤ length from → listBelow (λ t. getD from t d) n ≡ take n from
   listBelow-copy d from n h = sym (listBelow-take (λ t. getD from t d) n d from h (λ t l. refl))
 
+  -- and the whole of it
+  pub listBelow-places : (d : A) (l : List A) → listBelow (λ t. getD l t d) (length l) ≡ l
+  listBelow-places d l = listBelow-copy d l (length l) (omega arith) ∙ take-length l
+
+  -- an entry at its front
   pub over-at : (new old : List A) (i : ℕ) (d : A) → i < length new → getD (over new old) i d ≡ getD new i d
   over-at new old i d h = List·getD-append new (drop (length new) old) d i h
 

@@ -108,3 +108,19 @@ pub lastBelow-same : (f g : ℕ → Bool) (n : ℕ) → ((t : ℕ) → t < n →
 unfolding lastBelow
 lastBelow-same f g zero h = refl
 lastBelow-same f g (suc n) h = rw (lastBelow-same f g n (λ t l. h t (omega arith)), h n (omega arith))
+
+-- none passes, and the last that does
+pub lastBelow-nowhere : (f : ℕ → Bool) (n : ℕ) → ((t : ℕ) → t < n → f t ≡ false) → lastBelow f n ≡ n
+lastBelow-nowhere f zero h = lastBelow-none f
+lastBelow-nowhere f (suc n) h =
+    ap (lastBelow f) (sym (add-one n)) ∙ lastBelow-no f n (h n (omega arith)) (lastBelow-nowhere f n (λ t l. h t (omega arith))) ∙ add-one n
+
+pub lastBelow-at : (f : ℕ → Bool) (n k : ℕ) → k < n → f k ≡ true → ((t : ℕ) → k < t → t < n → f t ≡ false) → lastBelow f n ≡ k
+lastBelow-at f zero k l e h = absurd (not-suc-le-zero l)
+lastBelow-at f (suc n) k l e h =
+    let i : k ≤ n = omega arith in
+    ⊎-elim
+    (λ v. ap (lastBelow f) (sym (add-one n)) ∙ lastBelow-yes f n (ap f (sym v) ∙ e) ∙ sym v)
+    (λ m. let r = lastBelow-at f n k m e (λ t a b. h t a (omega arith)) in
+    ap (lastBelow f) (sym (add-one n)) ∙ lastBelow-still f n (h n m (omega arith)) (omega arith) ∙ r)
+    (eq-or-lt-of-le i)

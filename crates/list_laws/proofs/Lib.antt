@@ -5,5 +5,7 @@ pub mod First
 pub mod Members
 pub mod Kept
 pub mod Built
+pub mod Rows
 pub mod Runs
 pub mod Stores
+pub mod Checks

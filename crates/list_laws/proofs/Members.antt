@@ -2,7 +2,7 @@
 use Prim.Native.Nat.{ℕ, zero, suc, _+_, _≤_, _<_}
 use mathlib.Core.Path.{_≡_, refl, ap, sym, _∙_}
 use mathlib.Core.Bool.{Bool, true, false, cond, _&&_, _||_, and-true, true≢false}
-use mathlib.Core.List.{List, [], _∷_, _++_, List·Memᴰ·head, List·Memᴰ·tail, List·Memᴰ·not-nil, List·Memᴰ·cases-cons, List·Memᴰ·append-cases, List·Memᴰ·eq-of-singleton, Memᴰ·cast, Pairwise·nil, Pairwise·cons, nodup-cons, nodup-nil, nodup-append}
+use mathlib.Core.List.{List, [], _∷_, _++_, List·Memᴰ, List·Memᴰ·head, List·Memᴰ·tail, List·Memᴰ·not-nil, List·Memᴰ·cases-cons, List·Memᴰ·append-cases, List·Memᴰ·eq-of-singleton, Memᴰ·cast, Pairwise·nil, Pairwise·cons, nodup-cons, nodup-nil, nodup-append}
 use mathlib.Core.Logic.{_⊎_, inl, inr, ⊎-elim, ∥∥₁-elim}
 use mathlib.Core.HLevel.{⊥-prop}
 use native.Mathlib.Nat.{not-suc-le-zero}
@@ -305,10 +305,18 @@ pub empty-of : (l : List ℕ) → length l ≡ 0 → l ≡ []
 empty-of [] h = refl
 empty-of (x ∷ l) h = absurd (omega arith)
 
+pub getD-member : {A : Type 0} (d : A) (l : List A) (i : ℕ) → i < length l → List·Memᴰ (getD l i d) l
+getD-member d [] i h = absurd (omega arith)
+getD-member d (x ∷ l) zero h = List·Memᴰ·head refl
+getD-member d (x ∷ l) (suc i) h = List·Memᴰ·tail (getD-member d l i (omega arith))
+
 pub getD-in : (l : List ℕ) (i : ℕ) → i < length l → In (getD l i 0) l
-getD-in [] i h = absurd (omega arith)
-getD-in (p ∷ l) zero h = List·Memᴰ·head refl
-getD-in (p ∷ l) (suc i) h = List·Memᴰ·tail (getD-in l i (omega arith))
+getD-in l i h = getD-member 0 l i h
+
+-- and what is listed stands at some place
+pub place-of : {p : ℕ} {l : List ℕ} → In p l → (i : ℕ) × (i < length l) × (getD l i 0 ≡ p)
+place-of (List·Memᴰ·head e) = (0, omega arith, sym e)
+place-of (List·Memᴰ·tail m) = let r = place-of m in (suc (r .0), omega (arith, r .1), r .2)
 
 -- different entries stand at different places
 pub different-places : (l : List ℕ) → Distinct l → (i j : ℕ) → i < length l → j < length l → getD l i 0 ≡ getD l j 0 → i ≡ j

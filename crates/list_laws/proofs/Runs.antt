@@ -1,9 +1,9 @@
 -- A run of stores: one more at its end, and what stands where afterwards.
-use Prim.Native.Nat.{ℕ, zero, suc, _+_, _-_, _*_, _≤_, _<_}
+use Prim.Native.Nat.{ℕ, zero, suc, _+_, _≤_, _<_}
 use mathlib.Core.Path.{_≡_, refl, ap, sym, _∙_}
 use mathlib.Core.List.{List, [], _∷_, _++_}
 use native.Mathlib.Omega.{arith}
-use native.Mathlib.Nat.{suc-add, add-suc, add-zero, suc-mul, mul-le-mul-right, mul-le-mul-left}
+use native.Mathlib.Nat.{suc-add, add-suc, add-zero}
 use lib.ListN.{length, getD, set, length-set}
 use lib.Seq.{sets, getD-set-other, getD-set-same}
 
@@ -33,21 +33,3 @@ in-run l i (x ∷ s) zero h g = rw add-zero (before-run (set l i x) (suc i) s i 
 in-run l i (x ∷ s) (suc k) h g =
     ap (λ (t : ℕ). getD (sets (set l i x) (suc i) s) t 0) (add-suc i k ∙ sym (suc-add i k))
     ∙ in-run (set l i x) (suc i) s k (omega arith) (simp length-set (omega arith))
-
--- ---- rows of m entries, one after the other
-
--- row p of n lies within them
-pub row-inside : (p n m : ℕ) → p < n → p * m + m ≤ n * m
-row-inside p n m h = omega (arith, suc-mul p m, mul-le-mul-right m h)
-
--- and within a list that has room for them all
-pub row-within : (p n m len : ℕ) → p < n → n * m ≤ len → p * m + m ≤ len
-row-within p n m len h l = omega (arith, row-inside p n m h)
-
--- factors within their limits have a product within the limits' product
-pub product : (a b n m : ℕ) → a ≤ n → b ≤ m → a * b ≤ n * m
-product a b n m h k = omega (arith, mul-le-mul-right b h, mul-le-mul-left n k)
-
--- at most 1,024 rows of at most 8 entries
-pub few-values : (n m : ℕ) → n ≤ 1024 → m ≤ 8 → n * m ≤ 8192
-few-values n m h k = product n m 1024 8 h k

@@ -12,14 +12,11 @@ use Rattle.model.specs.Draw.{Drawn, drawn, drawUsize}
 use Rattle.model.specs.Kept.{leastLines, drawFrom, nearest, drawMember}
 use Rattle.list_laws.proofs.Bools.{and-left}
 use Rattle.list_laws.proofs.Kept.{keepBelow-length}
-use Rattle.rng_util.proofs.Draws.{drawUsize-below}
+use Rattle.rng_util.proofs.Draws.{drawn-below}
 use Rattle.niching_array_laws.specs.Niche.{countOf, hasWaiting, isLeast, Open, Kth}
-use Rattle.niching_array_laws.proofs.Places.{kth-is, getD-map-in, nearest-map}
+use Rattle.list_laws.proofs.Built.{map-at}
+use Rattle.niching_array_laws.proofs.Places.{kth-is, nearest-map}
 use Rattle.niching_array_laws.proofs.Least.{IsLeastOf, leastLines-is}
-
--- a draw below n is below n
-pub draw-below : (n k s t : ℕ) → 0 < n → drawn k t ≡ drawUsize n s → k < n
-draw-below n k s t h e = let v : k ≡ drawUsize n s .value = ap (λ (d : Drawn ℕ). d .value) e in rw v (drawUsize-below n s h)
 
 -- the k-th of those that pass, k drawn, is drawn from them
 drawn-kth : (f : ℕ → Bool) (n k r s t : ℕ) → drawn k t ≡ drawUsize (countBelow f n) s → Kth f n k r → drawn r t ≡ drawFrom (keepBelow f n) s
@@ -35,7 +32,7 @@ drawn-map h l r s t u e =
     let d = drawUsize (length l) s in
     ap (λ (d : Drawn ℕ). drawn (h (d .value)) (d .state)) e
     ∙ sym (ap (λ c. drawn (getD (map h l) (drawUsize c s .value) 0) (drawUsize c s .state)) (length-map l h)
-    ∙ ap (λ v. drawn v (d .state)) (getD-map-in h l (d .value) (draw-below (length l) (d .value) s (d .state) u refl)))
+    ∙ ap (λ v. drawn v (d .state)) (map-at h l (d .value) 0 0 (drawn-below (length l) s (d .value) (d .state) u refl)))
 
 -- ---- a line
 

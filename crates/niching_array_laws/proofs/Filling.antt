@@ -14,7 +14,7 @@ use Rattle.model.specs.Draw.{Drawn}
 use Rattle.model.specs.Kept.{nicheCount, waiting, openLines, leastLines, drawFrom, drawMember, pickOne}
 use Rattle.list_laws.proofs.Bools.{by-bool}
 use Rattle.list_laws.proofs.Counts.{countBelow-same}
-use Rattle.list_laws.proofs.Members.{tally-le, keep-length, has-nil, has-cons, has-occ, has-append, has-in, different-places}
+use Rattle.list_laws.proofs.Members.{tally-le, keep-length, has-nil, has-cons, has-occ, has-append, has-in, different-places, place-of}
 use Rattle.list_laws.proofs.Kept.{keepBelow-same, keepBelow-length}
 use Rattle.niching_laws.proofs.Picks.{some-waits}
 use Rattle.niching_array_laws.specs.Niche.{lineIn, distanceIn, planAt, countOf, hasWaiting, waitsOn, places, members, OnLines, Measured, Awaits, Ready, pickAt, Took}
@@ -56,11 +56,6 @@ holds-first before front lines counts waits a b c d = record {
 }
 
 -- ---- the next pick
-
--- where a listed plan stands
-place-of : {p : ℕ} {l : List ℕ} → In p l → (i : ℕ) × (i < length l) × (getD l i 0 ≡ p)
-place-of (List·Memᴰ·head e) = (0, omega arith, sym e)
-place-of (List·Memᴰ·tail m) = let r = place-of m in (suc (r .0), omega (arith, r .1), r .2)
 
 module _ {before front lines picked counts waits : List ℕ} {taken : List Bool} (h : Holds before front lines picked counts waits taken) where
   -- the members of a line are those of the waiting plans that are on it

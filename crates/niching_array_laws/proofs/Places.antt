@@ -132,12 +132,6 @@ module _ (d : ℕ → Float) (h : ℕ → ℕ) where
   nearest-map [] u = absurd (omega arith)
   nearest-map (x ∷ l) u = nearestFrom-map x l
 
--- an entry of the images
-pub getD-map-in : (h : ℕ → ℕ) (l : List ℕ) (k : ℕ) → k < length l → getD (map h l) k 0 ≡ h (getD l k 0)
-getD-map-in h [] k u = absurd (not-suc-le-zero u)
-getD-map-in h (x ∷ l) zero u = refl
-getD-map-in h (x ∷ l) (suc k) u = getD-map-in h l k (omega arith)
-
 -- ---- one fewer
 
 -- a test that no longer passes at i alone passes once less

@@ -8,14 +8,14 @@ use native.Mathlib.Omega.{arith}
 use borrow.Rule.Slice.PartMut.{midOf, putMid}
 use lib.Ieee.{Float, nan}
 use lib.ListN.{length, getD, take, drop}
-use lib.Seq.{getD-take, length-take-le, take-length}
+use lib.Seq.{getD-take, length-take-le}
 use Rattle.model.specs.Lists.{In, Distinct, listBelow, over}
 use Rattle.model.specs.Reference.{dasDennis, pointCount}
 use Rattle.model.specs.Front.{front, listing}
 use Rattle.model.specs.Association.{Request, objectives, lineCount, dominance, idealOf, association, lineOf}
 use Rattle.model.specs.Kept.{wholeFronts, before, isSplit, splitFront, filled, selectedSplit, picks}
 use Rattle.list_laws.specs.Occ.{AllUnder}
-use Rattle.list_laws.proofs.Built.{listBelow-length, over-length, over-take, over-below}
+use Rattle.list_laws.proofs.Built.{listBelow-length, over-all, over-below}
 use Rattle.list_laws.proofs.Members.{under-in, under-at, in-occ}
 use Rattle.front_laws.proofs.Order.{listing-below}
 use Rattle.front_laws.proofs.Rounds.{found}
@@ -28,12 +28,6 @@ use Rattle.niching_array_laws.specs.Niche.{Splits, NichingSelects, picksOf}
 use Rattle.nsga3_laws.proofs.Agree.{Below, picks-agree}
 use Rattle.nsga3_parts.proofs.Lists.{written-behind}
 use Rattle.nsga3.specs.Handed.{SortedPool, Hands}
-
--- an ideal of m entries, moved, has no others
-moved-all : (f : ℕ → Float) (m : ℕ) (ideal old : List Float) → length old ≡ m → ideal ≡ over (listBelow f m) old → ideal ≡ listBelow f m
-moved-all f m ideal old e h =
-    sym (take-length ideal) ∙ ap (λ k. take k ideal) (ap length h ∙ over-length (listBelow f m) old (omega (arith, listBelow-length f m)) ∙ e)
-    ∙ ap (take m) h ∙ over-take (listBelow f m) old m (listBelow-length f m)
 
 module _ {r : Request} {keptRoom linesRoom : ℕ} {rows : List Float} {order : List ℕ} {c : Cut} (S : SortedPool r keptRoom linesRoom rows order c) where
   -- ---- the association, of n plans
@@ -110,7 +104,7 @@ module _ {r : Request} {keptRoom linesRoom : ℕ} {rows : List Float} {order : L
           → Hands (selectedSplit r) ideal kept₀ (putMid (c .whole) (length copied - c .whole) copied part) lines₀ lines t
       unfolding selectedSplit
       hands i kept₀ copied part t room₀ first N = record {
-        ideal = moved-all (idealOf r) (objectives r) ideal ideal₀ i (A .moved);
+        ideal = A .moved ∙ over-all (listBelow (idealOf r) (objectives r)) ideal₀ (omega (arith, i, listBelow-length (idealOf r) (objectives r)));
         kept = written-behind (take (c .whole) order) _ copied kept₀ part (c .whole)
             (length-take-le (c .whole) order (omega (arith, S .listed .cut .ahead, S .listed .cut .within, S .listed .places))) room₀ first (N .written)
             ∙ ap₂ (λ s d. over (s ++ d .value) kept₀) (S .listed .cut .listed) picks-are;

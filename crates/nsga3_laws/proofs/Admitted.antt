@@ -14,7 +14,7 @@ use Rattle.model.specs.Refusal.{Room, badDirections, badSize, badDivisions, bad
 use Rattle.list_laws.proofs.Bools.{and-left, and-right, or-left, or-right}
 use Rattle.reference_laws.proofs.Divisions.{allowed}
 use Rattle.demand3_laws.proofs.Accepted.{one-to-1024, some-objectives}
-use Rattle.demand3_laws.proofs.Calls.{applies-not}
+use Rattle.list_laws.proofs.Checks.{applies-not}
 use Rattle.reference_laws.proofs.Count.{lines-some}
 use Rattle.nsga3_laws.specs.Admitted.{Admitted}
 

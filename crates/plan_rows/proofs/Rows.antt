@@ -13,7 +13,7 @@ use Rattle.model.specs.Plan.{Plan, maxValues, planOf}
 use Rattle.model.specs.Real.{real}
 use Rattle.model.specs.Row.{directionOf, toMinimize, rowOf}
 use Rattle.list_laws.proofs.Built.{listBelow-at}
-use Rattle.front_laws.proofs.Flat.{row-lt}
+use Rattle.list_laws.proofs.Rows.{row-lt}
 use Rattle.plan_rows.specs.Filled.{RowAt, RowsOf}
 
 -- ---- a value

@@ -10,7 +10,7 @@ use Rattle.model.specs.Refusal.{selectRefusal, fileRefusal, refusalOfParsed, ch
 use Rattle.model.specs.Demand3.{Demand3}
 use Rattle.demand3_laws.specs.Facts.{Accepted}
 use Rattle.demand3_laws.proofs.Accepted.{demand3}
-use Rattle.demand3_laws.proofs.Calls.{applies-not}
+use Rattle.list_laws.proofs.Checks.{applies-not}
 use Rattle.nsga3_laws.proofs.Admitted.{admitted}
 use Rattle.pool_laws.specs.Choice.{roomy, orElse}
 use Rattle.pool_laws.proofs.Shapes.{Whole, parse-whole}

@@ -16,7 +16,7 @@ use Rattle.model.specs.Association.{Request}
 use Rattle.model.specs.PoolFile.{PoolFile, parse, fileRequest, fileText}
 use Rattle.model.specs.Refusal.{maxSize, badDirections, selectRefusal, refusalOfParsed, fileRefusal, chooseRefusal}
 use Rattle.model.specs.Calls.{ChooseExit, chooseBy, textOf, chooseOf, Chooses, wordRequest}
-use Rattle.demand3_laws.proofs.Calls.{applies-not}
+use Rattle.list_laws.proofs.Checks.{applies-not}
 use Rattle.pool_file.specs.declared.Header.{Header}
 use Rattle.pool_file.specs.declared.Parsed.{Parsed as Answer}
 use Rattle.pool_file.specs.declared.Parsed.the-variants as answer

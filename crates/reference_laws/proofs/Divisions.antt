@@ -1,33 +1,25 @@
 -- Divisions within refusal 4's bounds, and which a session uses. Assumes nothing.
 use Prim.Native.Nat.{ℕ, suc, _*_, _≤_, _<_}
 use mathlib.Core.Path.{_≡_, refl, sym, _∙_}
-use mathlib.Core.Bool.{Bool, true, false, cond, _&&_, _||_, false≢true}
+use mathlib.Core.Bool.{Bool, true, false, cond}
 use mathlib.Core.Option.{Option, none, some}
-use native.Mathlib.Nat.{max-eq-left, max-eq-right, le-of-lt, mul-le-mul}
+use native.Mathlib.Nat.{max-eq-left, max-eq-right, le-of-lt}
 use borrow.Author.Tests.{le-leb, lt-leb, leb-true, ltb-true, ltb-false, not-false}
 use native.Mathlib.Omega.{arith}
 use lib.Dec.{leb, ltb}
 use Rattle.model.specs.Lists.{firstBelow}
+use Rattle.list_laws.proofs.Rows.{few-values}
+use Rattle.list_laws.proofs.Bools.{and-left, and-right, or-left, or-right}
 use Rattle.model.specs.Reference.{pointCount, autoDivisions, divisionsOf, populationSize, orElse}
 use Rattle.model.specs.Refusal.{badDivisions, badSessionDivisions, outsideDivisions, maxLines}
 use Rattle.reference_laws.proofs.First.{reaches}
-
--- ---- tests
-
-or-none : (a b : Bool) → (a || b) ≡ false → (a ≡ false) × (b ≡ false)
-or-none false b e = (refl, e)
-or-none true b e = absurd (false≢true (sym e))
-
-and-both : (a b : Bool) → (a && b) ≡ true → (a ≡ true) × (b ≡ true)
-and-both true b e = (refl, e)
-and-both false b e = absurd (false≢true e)
 
 -- ---- refusal 4
 
 inside : (h : ℕ) → outsideDivisions h ≡ false → (1 ≤ h) × (h ≤ 199)
 inside h e =
-    let w = and-both (leb 1 h) (leb h 199) (not-false _ e) in
-    (leb-true 1 h (w .0), leb-true h 199 (w .1))
+    let w = not-false _ e in
+    (leb-true 1 h (and-left (leb 1 h) (leb h 199) w), leb-true h 199 (and-right (leb 1 h) (leb h 199) w))
 
 inside-holds : (h : ℕ) → 1 ≤ h → h ≤ 199 → outsideDivisions h ≡ false
 inside-holds h a b = rw (le-leb 1 h a, le-leb h 199 b)
@@ -41,13 +33,12 @@ pub record Allowed (m h : ℕ) : Type 0 where
 pub allowed : (m h : ℕ) → badDivisions m h ≡ false → Allowed m h
 unfolding badDivisions
 allowed m h e =
-    let w = or-none (outsideDivisions h) (ltb maxLines (pointCount m h)) e in
-    let i = inside h (w .0) in
-    record { least = i .0; most = i .1; lines = ltb-false maxLines (pointCount m h) (w .1) }
+    let i = inside h (or-left (outsideDivisions h) _ e) in
+    record { least = i .0; most = i .1; lines = ltb-false maxLines (pointCount m h) (or-right (outsideDivisions h) _ e) }
 
 -- 8,192 entries are room for every table that is allowed
 pub table-room : (m h : ℕ) → m ≤ 8 → Allowed m h → pointCount m h * m ≤ 8192
-table-room m h l a = mul-le-mul (a .lines) l
+table-room m h l a = few-values (pointCount m h) m (a .lines) l
 
 -- each way that the test goes
 pub bad-below : (m h : ℕ) → h < 1 → true ≡ badDivisions m h

@@ -3,7 +3,7 @@ use Prim.Native.Nat.{ℕ, zero, suc, _+_, _-_, _*_, _≤_, _<_}
 use mathlib.Core.Path.{_≡_, refl, sym, ap, subst, _∙_}
 use mathlib.Core.Logic.{_⊎_, inl, inr, ⊎-elim}
 use mathlib.Core.Bool.{Bool, true, false, _&&_}
-use mathlib.Core.List.{List, [], _∷_, map, List·Memᴰ, List·Memᴰ·head, List·Memᴰ·tail}
+use mathlib.Core.List.{List, [], _∷_, map}
 use native.Mathlib.Nat.{le-trans, le-of-eq, eq-or-lt-of-le, mul-comm, mul-assoc, mul-le-mul-left, mul-le-mul-right, suc-mul}
 use native.Mathlib.Omega.{arith}
 use borrow.Author.Tests.{le-ltb, leb-true, leb-false}
@@ -17,7 +17,9 @@ use Rattle.model.specs.Real.{_⊗_, nought, unit, within, sumTo}
 use Rattle.model.specs.Reference.{ratio, lattice, dasDennis, pointCount}
 use Rattle.model.specs.Association.{dot, smallNorm}
 use Rattle.model.specs.Papers.DasDennis1998.{total, IsPoint}
+use Rattle.list_laws.proofs.Bools.{T-true, and-i}
 use Rattle.list_laws.proofs.Built.{map-at}
+use Rattle.list_laws.proofs.Members.{getD-member}
 use Rattle.reference_laws.proofs.Count.{lattice-count}
 use Rattle.reference_laws.proofs.Table.{lattice-table}
 use Rattle.reference_laws.proofs.Rows.{line}
@@ -88,13 +90,6 @@ large-part m h t a b p = ⊎-elim (λ w. (w .0, omega (arith, w .1, p .coordinat
 
 -- ---- the entries of a list
 
-getD-member : {A : Type 0} (xs : List A) (l : ℕ) (d : A) → l < length xs → List·Memᴰ (getD xs l d) xs
-getD-member [] l d h = absurd (omega arith)
-getD-member (x ∷ xs) zero d h = List·Memᴰ·head refl
-getD-member (x ∷ xs) (suc l) d h = List·Memᴰ·tail (getD-member xs l d (omega arith))
-
--- ---- a line of the table
-
 line-is : (m h l j : ℕ) → j < length (getD (lattice m h) l []) → line m h l j ≡ ratio h (getD (getD (lattice m h) l []) j 0)
 unfolding dasDennis
 line-is m h l j g =
@@ -110,17 +105,12 @@ pub record Usable (m h l : ℕ) : Type 0 where
   pub norm : le sixtyFourth (dot m (line m h l) (line m h l)) ≡ true
   pub notSmall : lt (dot m (line m h l) (line m h l)) smallNorm ≡ false
 
-both : (a b : Bool) → T a → T b → (a && b) ≡ true
-both true true p q = refl
-both true false p q = absurd q
-both false b p q = absurd p
-
 within-unit : (x : Float) → Within 1 x → within nought unit x ≡ true
 unfolding ofBits
 within-unit x w =
-    both (le nought x) (le x unit)
+    T-true (within nought unit x) (and-i (le nought x) (le x unit)
     (le-of-values nought x 0 1 (num x) (den x) (leb→le 1 1 tt) (den-pos x) (refl, refl) (own x (w .plain)) (omega arith))
-    (le-of-values x unit (num x) (den x) 1 1 (den-pos x) (leb→le 1 1 tt) (own x (w .plain)) (refl, refl) (omega (arith, w .most)))
+    (le-of-values x unit (num x) (den x) 1 1 (den-pos x) (leb→le 1 1 tt) (own x (w .plain)) (refl, refl) (omega (arith, w .most))))
 
 least-le : (x : Float) → T (amount x) → Least 64 x → le sixtyFourth x ≡ true
 unfolding ofBits
@@ -143,7 +133,7 @@ usable zero h l a b c d g = absurd (omega arith)
 usable (suc n) h l a b c d g =
     let m = suc n in
     let t = getD (lattice m h) l [] in
-    let p = lattice-table m h a .nothingElse t (getD-member (lattice m h) l [] (omega (arith, lattice-count m h a))) in
+    let p = lattice-table m h a .nothingElse t (getD-member [] (lattice m h) l (omega (arith, lattice-count m h a))) in
     let is : (j : ℕ) → j < m → line m h l j ≡ ratio h (getD t j 0) = λ j k. line-is m h l j (omega (arith, p .coordinates)) in
     let most : (j : ℕ) → getD t j 0 ≤ h = λ j. omega (arith, part-most t j, p .onSimplex) in
     let each : (j : ℕ) → j < m → Within 1 (line m h l j) = λ j k. subst (Within 1) (sym (is j k)) (ratio-within h (getD t j 0) c d (most j)) in

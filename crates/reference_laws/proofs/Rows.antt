@@ -1,18 +1,19 @@
 -- Laws of the rows that the recursion writes, and of a table whose rest is written. Assumes nothing.
 use Prim.Native.Nat.{ℕ, zero, suc, _+_, _-_, _*_, _<_, _≤_}
 use mathlib.Core.Path.{_≡_, refl, sym, ap, _∙_}
-use mathlib.Core.List.{List, [], _∷_, _++_, map, flatten, append-assoc, append-nil, List·Memᴰ, List·Memᴰ·head, List·Memᴰ·tail, Memᴰ·of-map}
-use native.Mathlib.Nat.{le-refl, add-zero, add-suc, suc-mul, zero-mul}
+use mathlib.Core.List.{List, [], _∷_, _++_, map, flatten, append-assoc, append-nil, List·Memᴰ, Memᴰ·of-map}
+use native.Mathlib.Nat.{le-refl, add-zero, add-suc}
 use native.Mathlib.Numerals.{add-one}
 use native.Mathlib.Omega.{arith}
 use lib.Ieee.{Float, nan}
-use lib.ListN.{length, take, drop, getD, set, length-append, length-drop, length-map, List·getD-append}
-use lib.Seq.{take-suc-set, take-at, drop-at, drop-drop, take-length, drop-length, getD-append-add}
+use lib.ListN.{length, take, drop, getD, set, length-append, length-drop, length-map}
+use lib.Seq.{take-suc-set, take-at, drop-at, drop-drop, take-length, drop-length}
 use borrow.Rule.Slice.PartMut.{putMid}
 use Rattle.model.specs.Lists.{joinBelow, over}
 use Rattle.model.specs.Reference.{ratio, tuples, lattice, pointCount, dasDennis}
 use Rattle.list_laws.proofs.Built.{joinBelow-more, joinBelow-same, over-at}
-use Rattle.list_laws.proofs.Runs.{row-inside}
+use Rattle.list_laws.proofs.Rows.{row-inside, flatten-append, flatten-length, flatten-at}
+use Rattle.list_laws.proofs.Members.{getD-member}
 use Rattle.reference_laws.specs.Rows.{rowsFrom}
 use Rattle.reference_laws.proofs.Count.{branch, lattice-count}
 use Rattle.reference_laws.proofs.Table.{lattice-table}
@@ -33,11 +34,6 @@ module _ {A : Type 0} (f : ℕ → List A) where
   room i n k l h = omega (arith, join-mono (i + 1) n (omega arith), ap length (joinBelow-more f i), length-append (joinBelow f i) (f i))
 
 -- ---- the rows of the recursion
-
-flatten-append : {A : Type 0} (a b : List (List A)) → flatten (a ++ b) ≡ flatten a ++ flatten b
-unfolding flatten
-flatten-append [] b = refl
-flatten-append (l ∷ a) b = rw (flatten-append a b, append-assoc)
 
 map-join : {A B : Type 0} (f : A → B) (a b : List A) → map f (a ++ b) ≡ map f a ++ map f b
 map-join f [] b = refl
@@ -107,24 +103,9 @@ module _ (t : List Float) (at : ℕ) (h : at ≤ length t) where
 
 -- ---- the whole table
 
--- its length: as many coordinates as lines times objectives
-flat-length : (m h : ℕ) (ts : List (List ℕ)) → ((t : List ℕ) → List·Memᴰ t ts → length t ≡ m) → length (rows [] h ts) ≡ length ts * m
-unfolding flatten
-flat-length m h [] each = sym (zero-mul m)
-flat-length m h (t ∷ ts) each =
-    let i = flat-length m h ts (λ u w. each u (List·Memᴰ·tail w)) in
-    let e = each t (List·Memᴰ·head refl) in
-    omega (arith, length-append (map (ratio h) t) (rows [] h ts), length-map t (ratio h), suc-mul (length ts) m)
-
 pub whole-rows : (m h : ℕ) → rowsFrom [] (m - 1) h h ≡ flatten (dasDennis m h)
 unfolding rowsFrom dasDennis
 whole-rows m h = refl
-
-pub whole-length : (m h : ℕ) → 1 ≤ m → length (rowsFrom [] (m - 1) h h) ≡ pointCount m h * m
-unfolding rowsFrom
-whole-length m h p =
-    flat-length m h (lattice m h) (λ t w. lattice-table m h p .nothingElse t w .coordinates)
-    ∙ ap (λ (n : ℕ). n * m) (sym (lattice-count m h p))
 
 -- ---- reading the table
 
@@ -132,34 +113,29 @@ whole-length m h p =
 abbrev pub line : ℕ → ℕ → ℕ → ℕ → Float
 line m h l j = getD (getD (dasDennis m h) l []) j nan
 
--- rows of m entries, one after the other: entry j of row l
-flat-at : (m : ℕ) (rs : List (List Float)) → ((r : List Float) → List·Memᴰ r rs → length r ≡ m) → (l j : ℕ) (d : Float) → l < length rs → j < m
-    → getD (flatten rs) (l * m + j) d ≡ getD (getD rs l []) j d
-unfolding flatten
-flat-at m [] each l j d a b = absurd (omega arith)
-flat-at m (r ∷ rs) each zero j d a b =
-    let e : 0 * m + j ≡ j = omega arith in
-    rw e (List·getD-append r (flatten rs) d j (omega (arith, each r (List·Memᴰ·head refl))))
-flat-at m (r ∷ rs) each (suc l) j d a b =
-    let e : suc l * m + j ≡ length r + (l * m + j) = omega (arith, suc-mul l m, each r (List·Memᴰ·head refl)) in
-    rw e (getD-append-add r (flatten rs) (l * m + j) d) ∙ flat-at m rs (λ u w. each u (List·Memᴰ·tail w)) l j d (omega arith) b
-
 row-length : (m h : ℕ) → 1 ≤ m → (r : List Float) → List·Memᴰ r (dasDennis m h) → length r ≡ m
 unfolding dasDennis
 row-length m h p r w =
     let u = Memᴰ·of-map (λ (t : List ℕ). map (ratio h) t) (lattice m h) w in
     ap length (sym (u .2)) ∙ length-map (u .0) (ratio h) ∙ lattice-table m h p .nothingElse (u .0) (u .1) .coordinates
 
+row-at : (m h : ℕ) → 1 ≤ m → (l : ℕ) → l < length (dasDennis m h) → length (getD (dasDennis m h) l []) ≡ m
+row-at m h p l k = row-length m h p _ (getD-member [] (dasDennis m h) l k)
+
 pub lines-count : (m h : ℕ) → 1 ≤ m → length (dasDennis m h) ≡ pointCount m h
 unfolding dasDennis
 lines-count m h p = length-map (lattice m h) (λ (t : List ℕ). map (ratio h) t) ∙ sym (lattice-count m h p)
 
+-- as many coordinates as lines times objectives
 pub flat-length-is : (m h : ℕ) → 1 ≤ m → length (flatten (dasDennis m h)) ≡ pointCount m h * m
-flat-length-is m h p = ap length (sym (whole-rows m h)) ∙ whole-length m h p
+flat-length-is m h p = flatten-length m (dasDennis m h) (row-at m h p) ∙ ap (λ (n : ℕ). n * m) (lines-count m h p)
+
+pub whole-length : (m h : ℕ) → 1 ≤ m → length (rowsFrom [] (m - 1) h h) ≡ pointCount m h * m
+whole-length m h p = ap length (whole-rows m h) ∙ flat-length-is m h p
 
 -- an entry of a slice that `das_dennis` has written
 pub table-at : (m h l j : ℕ) (old : List Float) → 1 ≤ m → l < pointCount m h → j < m → getD (over (flatten (dasDennis m h)) old) (l * m + j) nan ≡ line m h l j
 table-at m h l j old p a b =
     let rows = flatten (dasDennis m h) in
     over-at rows old (l * m + j) nan (omega (arith, flat-length-is m h p, row-inside l (pointCount m h) m a))
-    ∙ flat-at m (dasDennis m h) (row-length m h p) l j nan (omega (arith, lines-count m h p)) b
+    ∙ flatten-at m (dasDennis m h) (row-at m h p) l j nan (omega (arith, lines-count m h p)) b

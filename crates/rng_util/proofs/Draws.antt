@@ -1,5 +1,5 @@
 -- What holds of every draw, whatever the state: words are words, a draw below n is below n, a draw from a to b lies there. Assumes nothing.
-use mathlib.Core.Path.{_≡_, refl}
+use mathlib.Core.Path.{_≡_, refl, ap}
 use mathlib.Core.Bool.{false}
 use Prim.Native.Nat.{ℕ, _+_, _*_, _/_, _^_, _<_, zero-le}
 use native.Mathlib.Nat.{mod-lt, mul-lt-mul-of-pos-right}
@@ -17,7 +17,7 @@ use Rattle.float_laws.proofs.Order.{le-trans}
 use Rattle.float_laws.proofs.Constants.{nought, nought-counts, one, one-counts, exp2, minus-exp2, exp2-wider, bounded}
 use Rattle.float_laws.proofs.InRange as in-range
 use Rattle.model.specs.Real.{within}
-use Rattle.model.specs.Draw.{step, wordOf, drawWord, unitOf, drawF64, drawUsize, drawI64, f64Range}
+use Rattle.model.specs.Draw.{Drawn, drawn, step, wordOf, drawWord, unitOf, drawF64, drawUsize, drawI64, f64Range}
 use Rattle.list_laws.proofs.Bools.{and-i}
 use Rattle.rng_util.proofs.Xor.{xorLow-below}
 use Rattle.rng_util.proofs.Unit.{upper-below, unit-counts}
@@ -55,6 +55,10 @@ drawF64-unit s =
 pub drawUsize-below : (n s : ℕ) → 0 < n → drawUsize n s .value < n
 unfolding drawUsize
 drawUsize-below n s h = mod-lt (drawWord s .value) h
+
+-- the same of what a call of `draw_usize` hands out
+pub drawn-below : (n s k t : ℕ) → 0 < n → drawn k t ≡ drawUsize n s → k < n
+drawn-below n s k t h e = let v = ap (λ (d : Drawn ℕ). d .value) e in omega (arith, v, drawUsize-below n s h)
 
 pub drawI64-within : (a b : ℤ) (s : ℕ) → SFits w64 a → SFits w64 b → (a ≤ℤ b) × (negℤ (pos (2 ^ 53)) ≤ℤ a) × (b ≤ℤ pos (2 ^ 53))
     → (a ≤ℤ drawI64 a b s .value) × (drawI64 a b s .value ≤ℤ b)

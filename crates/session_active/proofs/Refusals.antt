@@ -7,7 +7,7 @@ use mathlib.Core.Option.{Option, none, some}
 use native.Mathlib.Omega.{arith}
 use borrow.Author.Tests.{lt-ltb, le-ltb, lt-leb, leb-false}
 use lib.Dec.{leb}
-use Rattle.list_laws.proofs.Bools.{by-bool, and-not-left, or-left, or-right}
+use Rattle.list_laws.proofs.Bools.{by-bool, and-not, and-not-left, or-left, or-right}
 use Rattle.model.specs.declared.Distribution.{Distribution}
 use Rattle.model.specs.declared.Session.{Session}
 use Rattle.model.specs.Plan.{planCount, maxSettings}
@@ -42,9 +42,6 @@ at-11 a b c d e f ea eb ec ed ee ef = rw (ea, eb, ec, ed, ee, ef)
 pub at-none : (a b c d e f : Bool) → a ≡ false → b ≡ false → c ≡ false → d ≡ false → e ≡ false → f ≡ false → checks a b c d e f ≡ none
 unfolding firstOf
 at-none a b c d e f ea eb ec ed ee ef = rw (ea, eb, ec, ed, ee, ef)
-
-pub no-and : (a b : Bool) → a ≡ false → (a && b) ≡ false
-no-and a b e = ap (λ (x : Bool). x && b) e
 
 -- a dimension that is not refused
 pub few-dimensions : (n : ℕ) (d : Distribution) → (leb maxSettings n || not (validDimension d)) ≡ false → n < 32
@@ -88,10 +85,10 @@ module _ (s : Session) (cs ps ns : List ℕ) (d : Distribution) (plan : ℕ) (hi
 
     not-breeding : breeds st history ≡ false
     unfolding breeds
-    not-breeding = no-and (isActive s) _ discovery
+    not-breeding = and-not (isActive s) _ discovery
 
     not-full : (leb maxPlans (s .progress .«n_plans») && (isNew st plan && not (breeds st history))) ≡ false
-    not-full = no-and _ _ (lt-leb maxPlans (s .progress .«n_plans») (omega arith))
+    not-full = and-not _ _ (lt-leb maxPlans (s .progress .«n_plans») (omega arith))
 
     pub adds-6 : dimension ≡ true → refusal ≡ some 6
     unfolding sampleRefusal
@@ -106,11 +103,11 @@ module _ (s : Session) (cs ps ns : List ℕ) (d : Distribution) (plan : ℕ) (hi
 
     pub adds-10 : dimension ≡ false → planCount history ≤ maxHistory → longEnough st ≡ false → refusal ≡ some 10
     unfolding sampleRefusal
-    adds-10 e h l = at-10 _ _ _ _ _ _ (good-dimension e) (le-ltb maxHistory (planCount history) h) (no-and _ _ not-breeding) (no-and _ _ not-breeding) (ap not l)
+    adds-10 e h l = at-10 _ _ _ _ _ _ (good-dimension e) (le-ltb maxHistory (planCount history) h) (and-not _ _ not-breeding) (and-not _ _ not-breeding) (ap not l)
 
     pub adds-none : dimension ≡ false → planCount history ≤ maxHistory → longEnough st ≡ true → refusal ≡ none
     unfolding sampleRefusal
-    adds-none e h l = at-none _ _ _ _ _ _ (good-dimension e) (le-ltb maxHistory (planCount history) h) (no-and _ _ not-breeding) (no-and _ _ not-breeding) (ap not l) not-full
+    adds-none e h l = at-none _ _ _ _ _ _ (good-dimension e) (le-ltb maxHistory (planCount history) h) (and-not _ _ not-breeding) (and-not _ _ not-breeding) (ap not l) not-full
 
     pub adds-accepted : discover st d plan ≡ accepted st d plan history
     unfolding accepted

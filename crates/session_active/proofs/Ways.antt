@@ -8,8 +8,8 @@ use native.Mathlib.Omega.{arith}
 use borrow.Author.Tests.{lt-ltb, le-ltb, lt-leb, leb-false}
 use lib.Dec.{leb, ltb}
 use lib.ListN.{length, getD}
-use Rattle.list_laws.proofs.Bools.{by-bool, and-left, and-right, and-not-left}
-use Rattle.demand3_laws.proofs.Calls.{not-some}
+use Rattle.list_laws.proofs.Bools.{by-bool, and-left, and-right, and-not-left, and-both, and-fails-first, and-not}
+use Rattle.list_laws.proofs.Checks.{not-some}
 use Rattle.model.specs.declared.Distribution.{Distribution}
 use Rattle.model.specs.declared.Outcome.{Outcome}
 use Rattle.model.specs.declared.Outcome.the-variants as outcome
@@ -23,7 +23,6 @@ use Rattle.model.specs.Session.{State, state, discovers, activate, breed, bredF
 use Rattle.model.specs.Refusal.{sampleRefusal, maxHistory}
 use Rattle.model.specs.Calls.{refusedBy, roomOf, sampleOf}
 use Rattle.model.specs.Property.{SessionOk, DimensionsOk}
-use Rattle.session_laws.proofs.Tests.{and-both, and-fails-first}
 use Rattle.session_laws.proofs.Request.{dimensions-good, step-refusal, breed-refusal, short-refusal}
 use Rattle.session_laws.proofs.Steps.{discovery-ok, active-ok, known}
 use Rattle.session_laws.proofs.Sample.{discovery-phase}
@@ -31,7 +30,7 @@ use Rattle.session_parts.specs.Exits.{exit, Ready}
 use Rattle.session_breeding.specs.Breeding.{blankLent, breedRefusal, shortRefusal, BredExit, bredExit, breedBy}
 use Rattle.session_breeding.proofs.Breeding.{rooms}
 use Rattle.session_active.specs.Exits.{refusedWith}
-use Rattle.session_active.proofs.Refusals.{at-7, at-10, at-11, at-none, no-and, leaves-refused}
+use Rattle.session_active.proofs.Refusals.{at-7, at-10, at-11, at-none, leaves-refused}
 
 module _ (s : Session) (cs ps ns : List ℕ) (d : Distribution) (plan : ℕ) (history : List ℕ) where
   abbrev st : State
@@ -42,7 +41,7 @@ module _ (s : Session) (cs ps ns : List ℕ) (d : Distribution) (plan : ℕ) (hi
 
   module _ (other : discovers st plan ≡ false) where
     adds-none : (discovers st plan && (leb maxSettings (s .progress .«n_dims») || not (validDimension d))) ≡ false
-    adds-none = no-and _ _ other
+    adds-none = and-not _ _ other
 
     pub other-7 : maxHistory < planCount history → refusal ≡ some 7
     unfolding sampleRefusal
@@ -51,24 +50,24 @@ module _ (s : Session) (cs ps ns : List ℕ) (d : Distribution) (plan : ℕ) (hi
     -- a slice is too short, and the call breeds nothing
     pub other-10 : planCount history ≤ maxHistory → longEnough st ≡ false → breeds st history ≡ false → refusal ≡ some 10
     unfolding sampleRefusal
-    other-10 h l b = at-10 _ _ _ _ _ _ adds-none (le-ltb maxHistory (planCount history) h) (no-and _ _ b) (no-and _ _ b) (ap not l)
+    other-10 h l b = at-10 _ _ _ _ _ _ adds-none (le-ltb maxHistory (planCount history) h) (and-not _ _ b) (and-not _ _ b) (ap not l)
 
     -- neither a dimension added nor a generation bred
     module _ (few : planCount history ≤ maxHistory) (room : longEnough st ≡ true) (unbred : breeds st history ≡ false) where
       no-11 : (isNew st plan ≡ true → s .progress .«n_plans» < maxPlans) → (leb maxPlans (s .progress .«n_plans») && (isNew st plan && not (breeds st history))) ≡ false
       no-11 h = by-bool (isNew st plan)
-          (λ e. no-and _ _ (lt-leb maxPlans (s .progress .«n_plans») (h e)))
+          (λ e. and-not _ _ (lt-leb maxPlans (s .progress .«n_plans») (h e)))
           (λ e. ap (λ (b : Bool). leb maxPlans (s .progress .«n_plans») && (b && not (breeds st history))) e ∙ and-false (leb maxPlans (s .progress .«n_plans»)))
 
       pub unbred-none : (isNew st plan ≡ true → s .progress .«n_plans» < maxPlans) → refusal ≡ none
       unfolding sampleRefusal
       unbred-none h =
-          at-none _ _ _ _ _ _ adds-none (le-ltb maxHistory (planCount history) few) (no-and _ _ unbred) (no-and _ _ unbred) (ap not room) (no-11 h)
+          at-none _ _ _ _ _ _ adds-none (le-ltb maxHistory (planCount history) few) (and-not _ _ unbred) (and-not _ _ unbred) (ap not room) (no-11 h)
 
       pub unbred-11 : (leb maxPlans (s .progress .«n_plans») && isNew st plan) ≡ true → refusal ≡ some 11
       unfolding sampleRefusal
       unbred-11 h =
-          at-11 _ _ _ _ _ _ adds-none (le-ltb maxHistory (planCount history) few) (no-and _ _ unbred) (no-and _ _ unbred) (ap not room)
+          at-11 _ _ _ _ _ _ adds-none (le-ltb maxHistory (planCount history) few) (and-not _ _ unbred) (and-not _ _ unbred) (ap not room)
           (and-both _ _ (and-left (leb maxPlans (s .progress .«n_plans»)) (isNew st plan) h)
           (and-both _ _ (and-right (leb maxPlans (s .progress .«n_plans»)) (isNew st plan) h) (ap not unbred)))
 
@@ -96,7 +95,7 @@ module _ (s : Session) (cs ps ns : List ℕ) (d : Distribution) (plan : ℕ) (hi
 
   pub first-unbred : isActive s ≡ false → breeds st history ≡ false
   unfolding breeds
-  first-unbred a = no-and (isActive s) _ a
+  first-unbred a = and-not (isActive s) _ a
 
   -- the generation's test, as code makes it
   abbrev test : Bool

@@ -12,7 +12,7 @@ use lib.Ieee.{Float}
 use lib.ListN.{length, getD, take, drop, length-take, length-replicate}
 use Rattle.list_laws.proofs.Bools.{and-left, and-right}
 use Rattle.list_laws.proofs.Built.{over-take}
-use Rattle.demand3_laws.proofs.Calls.{not-some}
+use Rattle.list_laws.proofs.Checks.{not-some}
 use Rattle.model.specs.declared.Outcome.{Outcome}
 use Rattle.model.specs.declared.Outcome.the-variants as outcome
 use Rattle.model.specs.declared.Selection.{Selection}

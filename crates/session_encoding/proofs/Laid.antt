@@ -1,16 +1,11 @@
 -- Blocks of words laid into a slice, block after block from a place on.
-use Prim.Native.Nat.{ℕ, zero, suc, _+_, _*_, _≤_, _<_}
+use Prim.Native.Nat.{ℕ, _+_, _*_, _≤_}
 use mathlib.Core.Path.{_≡_, refl, sym, ap, ap₂, _∙_}
-use mathlib.Core.List.{List, [], _∷_, _++_, append-assoc}
-use mathlib.Core.Logic.{⊎-elim}
-use native.Mathlib.Nat.{not-suc-le-zero, eq-or-lt-of-le}
-use native.Mathlib.Numerals.{add-one}
-use native.Mathlib.Omega.{arith}
-use lib.ListN.{length, getD, List·getD-append}
-use lib.Seq.{getD-append-add, take-length}
-use Rattle.list_laws.proofs.Built.{listBelow-take, joinBelow-more}
+use mathlib.Core.List.{List, [], _∷_, _++_}
+use lib.ListN.{length, getD}
+use Rattle.list_laws.proofs.Built.{joinBelow-more}
 use Rattle.candidates.proofs.Laid.{over-next, at-next}
-use Rattle.session_laws.proofs.Lists.{join-length}
+use Rattle.list_laws.proofs.Rows.{joinBelow-length}
 use Rattle.model.specs.declared.Config.{Config}
 use Rattle.model.specs.declared.Distribution.{Distribution}
 use Rattle.model.specs.declared.Distribution.the-variants as dist
@@ -22,28 +17,10 @@ use Rattle.model.specs.Setting.{wordOfInt}
 use Rattle.model.specs.Session.{overAt, dimensionOf}
 use Rattle.session_words.specs.Coding.{hasStepI64, stepWordI64, dimensionWords, eight, configWords, stateWords, idealWords, sessionWords}
 
--- a list by its places
-pub by-places : (l : List ℕ) → listBelow (λ i. getD l i 0) (length l) ≡ l
-by-places l = sym (listBelow-take (λ i. getD l i 0) (length l) 0 l (omega arith) (λ t h. refl)) ∙ take-length l
-
 module _ (f : ℕ → List ℕ) (k : ℕ) (each : (d : ℕ) → length (f d) ≡ k) where
   pub join-next : (at n : ℕ) (l : List ℕ) → at ≤ length l → overAt (at + n * k) (f n) (overAt at (joinBelow f n) l) ≡ overAt at (joinBelow f (n + 1)) l
   join-next at n l h =
-      at-next at (n * k) (joinBelow f n) (f n) l h (join-length f k n each) ∙ ap (λ t. overAt at t l) (sym (joinBelow-more f n))
-
-  -- a word of a block among the others
-  pub joined-at : (n : ℕ) (rest : List ℕ) (d j : ℕ) → d < n → j < k → getD (joinBelow f n ++ rest) (d * k + j) 0 ≡ getD (f d) j 0
-  joined-at zero rest d j h i = absurd (not-suc-le-zero h)
-  joined-at (suc n) rest d j h i =
-      let e : joinBelow f (suc n) ++ rest ≡ joinBelow f n ++ (f n ++ rest) =
-      ap (λ t. joinBelow f t ++ rest) (sym (add-one n)) ∙ ap (λ t. t ++ rest) (joinBelow-more f n) ∙ append-assoc (joinBelow f n) (f n) rest in
-      let g : d ≤ n = omega arith in
-      ap (λ t. getD t (d * k + j) 0) e
-      ∙ ⊎-elim
-      (λ v. ap (λ t. getD (joinBelow f n ++ (f n ++ rest)) (t + j) 0) (ap (λ t. t * k) v ∙ sym (join-length f k n each))
-      ∙ getD-append-add (joinBelow f n) (f n ++ rest) j 0 ∙ List·getD-append (f n) rest 0 j (omega (arith, each n)) ∙ ap (λ t. getD (f t) j 0) (sym v))
-      (λ m. joined-at n (f n ++ rest) d j m i)
-      (eq-or-lt-of-le g)
+      at-next at (n * k) (joinBelow f n) (f n) l h (joinBelow-length f k n (λ i u. each i)) ∙ ap (λ t. overAt at t l) (sym (joinBelow-more f n))
 
 -- ---- the words of a session
 

@@ -30,7 +30,8 @@ use Rattle.model.specs.Real.{real, bits}
 use Rattle.model.specs.Session.{dimensionOf, noDimension}
 use Rattle.session_words.specs.Coding.{marked, hasStepF64, stepWordF64, hasStepI64, stepWordI64, dimensionWords, stepF64, stepI64, dimensionAt, infoAt, dimensionsAt, phaseWord, phaseOf, hasFirst, firstWord, firstOf, eight, configWords, stateWords, idealWords, sessionWords, marksAt, idealAt, configAt, sessionOf}
 use Rattle.session_words.proofs.Marks.{float-is, int-is}
-use Rattle.session_encoding.proofs.Laid.{dimension-length, joined-at}
+use Rattle.session_encoding.proofs.Laid.{dimension-length}
+use Rattle.list_laws.proofs.Rows.{joinBelow-front}
 
 -- ---- what is asked of a value that is stored: its reals are doubles, its directions bytes, and its arrays of their lengths
 
@@ -148,7 +149,7 @@ module _ (s : Session) (old : List ℕ) (ok : Stored s) where
   word-of d j h i =
       let e : 30 + d * 6 + j ≡ length head + (d * 6 + j) = omega (arith, head-length) in
       ap₂ (λ l k. getD l k 0) words-are e ∙ getD-append-add head (joinBelow block 32 ++ rest) (d * 6 + j) 0
-      ∙ joined-at block 6 (λ k. dimension-length (dimensionOf s k)) 32 rest d j h i
+      ∙ joinBelow-front block 6 32 (λ k u. dimension-length (dimensionOf s k)) rest d j 0 h i
 
   info-back : (d : ℕ) → d < 32 → infoAt words 30 d ≡ getD (s .dimensions) d noDimension
   info-back d h =

@@ -3,7 +3,7 @@ use Prim.Native.Nat.{ℕ, suc, _≤_}
 use mathlib.Core.Path.{_≡_, refl, ap, _∙_}
 use mathlib.Core.Bool.{Bool, false, _&&_}
 use mathlib.Core.List.{List, _++_}
-use native.Mathlib.Nat.{le-trans}
+use native.Mathlib.Nat.{le-trans, not-suc-le-zero}
 use native.Mathlib.Omega.{arith}
 use lib.Dec.{ltb}
 use lib.Ieee.{Float}
@@ -23,8 +23,7 @@ use Rattle.model.specs.Property.{SessionOk}
 use Rattle.candidate_laws.proofs.Sound.{AllHeld}
 use Rattle.candidate_laws.proofs.Generations.{generation-words}
 use Rattle.session_laws.proofs.Request.{dimensions-good}
-use Rattle.session_laws.proofs.Tests.{no-fewer}
-use Rattle.session_laws.proofs.Lists.{over-long}
+use Rattle.list_laws.proofs.Built.{over-long}
 use Rattle.session_laws.proofs.Steps.{Long}
 
 -- ---- a selection of the whole pool
@@ -75,8 +74,8 @@ module _ (st : State) (history : List ℕ) (ok : SessionOk st) where
           phase = record { someDimension = some; candidates = omega arith; room = omega arith };
           ideal = ap (λ (l : List Float). goodIdeal (st .session .config .«n_obj») (take (st .session .config .«n_obj») l)) breed-ideal ∙ ok .ideal;
           lent = λ e. record {
-            different = λ i j l k same. no-fewer k;
-            next = λ i l. absurd (no-fewer l);
+            different = λ i j l k same. not-suc-le-zero k;
+            next = λ i l. absurd (not-suc-le-zero l);
             settings = generation-words (operatorsOf (st .session)) (requestOf st history) held (dimensions-good (st .session) (ok .dimensions)) parents (st .candidates);
           };
         }

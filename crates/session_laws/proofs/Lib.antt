@@ -1,4 +1,3 @@
-pub mod Tests
 pub mod Lists
 pub mod Opened
 pub mod Request

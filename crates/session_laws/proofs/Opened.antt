@@ -4,16 +4,17 @@ use mathlib.Core.Path.{_≡_, refl, ap, _∙_}
 use mathlib.Core.Bool.{true, false, cond, not, _||_}
 use mathlib.Core.List.{List, [], _∷_, List·Memᴰ·head, List·Memᴰ·tail}
 use mathlib.Core.Option.{Option, none, some}
+use native.Mathlib.Nat.{not-suc-le-zero}
 use native.Mathlib.Omega.{arith}
 use lib.Dec.{leb, ltb}
 use lib.Ieee.{Float, binary64, eq, le, lt, ofBits, ofInt, toUnsigned}
 use lib.ListN.{length, take, drop, replicate, length-append, length-take, length-replicate, getD-replicate}
 use lib.Seq.{getD-take}
 use borrow.Author.Tests.{ltb-true, ltb-false, le-leb, eq-eqb}
-use Rattle.list_laws.proofs.Bools.{by-bool, or-left, or-right}
+use Rattle.list_laws.proofs.Bools.{by-bool, or-left, or-right, or-both, and-both}
 use Rattle.list_laws.proofs.Tests.{allIn-every}
 use Rattle.list_laws.proofs.Built.{over-take}
-use Rattle.demand3_laws.proofs.Calls.{applies-not}
+use Rattle.list_laws.proofs.Checks.{applies-not}
 use Rattle.demand3_laws.proofs.Accepted.{some-objectives}
 use Rattle.model.specs.Lists.{firstBelow, allIn}
 use Rattle.model.specs.Real.{infinity, unit}
@@ -27,7 +28,6 @@ use Rattle.model.specs.Calls.{openBy, openOf, Opens}
 use Rattle.model.specs.Refusal.{firstOf, wholeEta, openRefusal, badDirections, badSessionSize, badSessionDivisions, badGivenDivisions, badDivisions, outsideDivisions, badOperators, measurable, isInfinity, goodIdeal, maxSize, maxLines}
 use Rattle.model.specs.Property.{ConfigOk, SessionOk}
 use Rattle.reference_laws.proofs.Divisions.{auto-inside}
-use Rattle.session_laws.proofs.Tests.{or-both, and-both, no-fewer}
 
 -- ---- the ideal that a session starts from: plus infinity everywhere
 
@@ -106,13 +106,13 @@ module _ (marks : List ℕ) (seed : ℕ) (size divisions : Option ℕ) (probabil
   opened-ok candidates plans nextDims =
       record {
         config = config-good;
-        dimensions = record { few = omega arith; valid = λ d l. absurd (no-fewer l) };
+        dimensions = record { few = omega arith; valid = λ d l. absurd (not-suc-le-zero l) };
         phase = record { first = refl; noCandidates = refl; noPlans = refl };
         ideal = infinite-ideal (length marks) (some-objectives marks directions-good .1);
         lent = λ e. record {
-          different = λ i j l k same. no-fewer k;
-          next = λ i l. absurd (no-fewer l);
-          settings = λ i d l k. absurd (no-fewer l);
+          different = λ i j l k same. not-suc-le-zero k;
+          next = λ i l. absurd (not-suc-le-zero l);
+          settings = λ i d l k. absurd (not-suc-le-zero l);
         };
       }
 

@@ -8,7 +8,7 @@ use native.Mathlib.Omega.{arith}
 use lib.Dec.{leb, ltb}
 use lib.ListN.{length, getD, take, length-append, length-take}
 use borrow.Author.Tests.{le-ltb, ne-eqb}
-use Rattle.list_laws.proofs.Bools.{and-left, and-right}
+use Rattle.list_laws.proofs.Bools.{and-left, and-right, or-both}
 use Rattle.list_laws.proofs.Tests.{allBelow-every}
 use Rattle.list_laws.proofs.Built.{listBelow-length}
 use Rattle.model.specs.declared.Distribution.{Distribution}
@@ -21,16 +21,16 @@ use Rattle.model.specs.Session.{State, isActive, discovers, longEnough, blockOf
 use Rattle.model.specs.Refusal.{check, firstOf, Room, noRoom, noStepRoom, badSize, badDivisions, badDimensions, badPool, badParents, stepRefusal, sampleRefusal, maxSize, maxHistory}
 use Rattle.model.specs.Calls.{wordRequest}
 use Rattle.model.specs.Property.{DimensionsOk, SessionOk}
-use Rattle.session_laws.proofs.Tests.{or-both, passed-over, last-one}
-use Rattle.session_laws.proofs.Lists.{join-length}
+use Rattle.list_laws.proofs.Checks.{passed-over, last-one}
+use Rattle.list_laws.proofs.Rows.{joinBelow-length}
 
 -- ---- the plans bred from are as many as the size
 
 pub bred-length : (st : State) (history : List ℕ) → length (bredFrom st history) ≡ st .session .config .«population_size» * planWords
 unfolding bredFrom
 bred-length st history =
-    join-length (λ i. blockOf history (recordOf history (getD (st .plans) i 0))) planWords (st .session .config .«population_size»)
-    (λ i. listBelow-length _ planWords)
+    joinBelow-length (λ i. blockOf history (recordOf history (getD (st .plans) i 0))) planWords (st .session .config .«population_size»)
+    (λ i u. listBelow-length _ planWords)
 
 bred-count : (st : State) (history : List ℕ) → planCount (bredFrom st history) ≡ st .session .config .«population_size»
 bred-count st history = omega (arith, bred-length st history)

@@ -11,8 +11,9 @@ use mir.Val.{Val}
 use denote.Laws.{Is}
 use denote.Struct.Declared as struct
 use borrow.Author.Tests.{leb-false, not-true, not-false}
-use Rattle.list_laws.proofs.Bools.{by-bool, and-left, or-left, or-right}
-use Rattle.demand3_laws.proofs.Calls.{applies-not, sample-demand3}
+use Rattle.list_laws.proofs.Bools.{by-bool, and-left, or-left, or-right, and-both, and-fails, and-fails-first}
+use Rattle.list_laws.proofs.Checks.{applies-not}
+use Rattle.demand3_laws.proofs.Calls.{sample-demand3}
 use Rattle.model.specs.declared.Distribution.{Distribution}
 use Rattle.model.specs.declared.Phase.{Phase}
 use Rattle.model.specs.declared.Phase.the-variants.{Discovery, Active}
@@ -25,7 +26,6 @@ use Rattle.model.specs.Calls.{sampleBy, sampleOf, Samples}
 use Rattle.model.proofs.Session as session
 use Rattle.candidate_laws.proofs.Sound.{AllHeld}
 use Rattle.typed_laws.proofs.Held.{session-dimensions, session-held}
-use Rattle.session_laws.proofs.Tests.{and-both, and-fails, and-fails-first}
 use Rattle.session_laws.proofs.Request.{breeds-active}
 use Rattle.session_laws.proofs.Steps.{long, known, discovery-ok, active-ok, by-test, discover-ok, activate-ok, activate-long, sampleFromCandidate-ok}
 use Rattle.session_laws.proofs.Breed.{breed-ok, breed-long}

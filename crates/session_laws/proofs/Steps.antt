@@ -4,13 +4,13 @@ use mathlib.Core.Path.{_≡_, refl, sym, ap, _∙_, subst}
 use mathlib.Core.Bool.{Bool, true, false, cond, true≢false}
 use mathlib.Core.List.{List, [], _∷_, map}
 use mathlib.Core.Logic.{⊎-elim}
-use native.Mathlib.Nat.{eq-or-lt-of-le, le-trans, mul-le-mul}
+use native.Mathlib.Nat.{eq-or-lt-of-le, le-trans, mul-le-mul, not-suc-le-zero}
 use native.Mathlib.Omega.{arith}
 use lib.Dec.{eqb, leb, ltb}
 use lib.ListN.{length, getD, set, take, drop, length-append, length-take, length-drop, length-set}
 use lib.Seq.{getD-set-same, getD-set-other, set-out, getD-take}
 use borrow.Author.Tests.{ltb-true, ltb-false, le-leb, leb-true, eqb-true, eqb-false, not-true}
-use Rattle.list_laws.proofs.Bools.{by-bool, and-left, and-right, or-left, or-right}
+use Rattle.list_laws.proofs.Bools.{by-bool, and-left, and-right, or-left, or-right, and-both}
 use Rattle.model.specs.declared.Distribution.{Distribution}
 use Rattle.model.specs.declared.Phase.{Phase}
 use Rattle.model.specs.declared.Phase.the-variants.{Discovery, Active}
@@ -26,8 +26,8 @@ use Rattle.model.specs.Property.{KnownBy, ConfigOk, DimensionsOk, DiscoveryOk, 
 use Rattle.candidate_laws.proofs.Sound.{AllHeld}
 use Rattle.candidate_laws.proofs.Sampled.{sampleAll-sound, sampleCandidates-sound}
 use Rattle.candidate_laws.proofs.Words.{words-within, words-put}
-use Rattle.session_laws.proofs.Tests.{and-both, no-fewer}
-use Rattle.session_laws.proofs.Lists.{over-long, overAt-long}
+use Rattle.list_laws.proofs.Built.{over-long}
+use Rattle.session_laws.proofs.Lists.{overAt-long}
 use Rattle.session_laws.proofs.Request.{dimensions-good}
 
 -- ---- the lengths of the lent slices
@@ -83,9 +83,9 @@ module _ (st : State) (d : Distribution) (plan : ℕ) (ok : SessionOk st) (disco
         phase = record { first = omega arith; noCandidates = at .noCandidates; noPlans = at .noPlans };
         ideal = ok .ideal;
         lent = λ e. record {
-          different = λ i j l k same. no-fewer (rw (at .noPlans) at k);
-          next = λ i l. absurd (no-fewer (rw (at .noPlans) at l));
-          settings = λ i d l k. absurd (no-fewer (rw (at .noCandidates) at l));
+          different = λ i j l k same. not-suc-le-zero (rw (at .noPlans) at k);
+          next = λ i l. absurd (not-suc-le-zero (rw (at .noPlans) at l));
+          settings = λ i d l k. absurd (not-suc-le-zero (rw (at .noCandidates) at l));
         };
       }
 
@@ -107,8 +107,8 @@ module _ (st : State) (ok : SessionOk st) (discovery : st .session .phase ≡ Di
         phase = record { someDimension = some; candidates = omega arith; room = omega arith };
         ideal = ok .ideal;
         lent = λ e. record {
-          different = λ i j l k same. no-fewer k;
-          next = λ i l. absurd (no-fewer l);
+          different = λ i j l k same. not-suc-le-zero k;
+          next = λ i l. absurd (not-suc-le-zero l);
           settings = words-within (dimensionOf (st .session)) (st .session .progress .«n_dims») (st .session .config .«population_size») _
               (sampleCandidates-sound (dimensionOf (st .session)) (st .session .progress .«n_dims») held (dimensions-good (st .session) (ok .dimensions))
               (st .session .config .«population_size») (st .session .rng .s)) _;
@@ -201,7 +201,7 @@ module _ (st : State) (ok : SessionOk st) (active : st .session .phase ≡ Activ
 -- a number that is not listed stands at no place
 not-listed : (l : List ℕ) (q i : ℕ) → has l q ≡ false → i < length l → getD l i 0 ≡ q → ⊥
 unfolding has
-not-listed [] q i e h same = no-fewer h
+not-listed [] q i e h same = not-suc-le-zero h
 not-listed (x ∷ l) q zero e h same = eqb-false x q (or-left _ _ e) same
 not-listed (x ∷ l) q (suc i) e h same = not-listed l q i (or-right (eqb x q) _ e) (omega arith) same
 

@@ -8,7 +8,7 @@ use borrow.Author.Tests.{lt-ltb, le-ltb, ltb-true, ltb-false}
 use lib.Dec.{ltb}
 use lib.ListN.{length, getD, set}
 use Rattle.list_laws.proofs.Bools.{by-bool}
-use Rattle.list_laws.proofs.Runs.{row-within}
+use Rattle.list_laws.proofs.Rows.{row-within}
 use Rattle.model.specs.declared.Distribution.{Distribution}
 use Rattle.model.specs.declared.ParamValue.{ParamValue}
 use Rattle.model.specs.declared.OptionU64.the-variants as optU64

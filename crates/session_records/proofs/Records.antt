@@ -13,29 +13,12 @@ use lib.ListN.{length, getD, take, drop, drop-of-length-le}
 use lib.Seq.{drop-cons, length-take-le}
 use Rattle.list_laws.proofs.Bools.{by-bool}
 use Rattle.list_laws.proofs.Built.{listBelow-length, joinBelow-more}
-use Rattle.list_laws.proofs.First.{lastBelow-none, lastBelow-yes, lastBelow-still, lastBelow-no, lastBelow-same}
+use Rattle.list_laws.proofs.First.{lastBelow-nowhere, lastBelow-at, lastBelow-same}
 use Rattle.candidates.proofs.Laid.{over-next}
-use Rattle.session_laws.proofs.Lists.{join-length}
+use Rattle.list_laws.proofs.Rows.{joinBelow-length}
 use Rattle.model.specs.Lists.{lastBelow, joinBelow, has, over}
 use Rattle.model.specs.Plan.{planOf, planAt, planCount, planWords}
 use Rattle.model.specs.Session.{placeIn, recordOf, blockOf, overAt}
-
--- ---- the last that passes
-
-last-nowhere : (f : ℕ → Bool) (n : ℕ) → ((t : ℕ) → t < n → f t ≡ false) → lastBelow f n ≡ n
-last-nowhere f zero h = lastBelow-none f
-last-nowhere f (suc n) h =
-    ap (lastBelow f) (sym (add-one n)) ∙ lastBelow-no f n (h n (omega arith)) (last-nowhere f n (λ t l. h t (omega arith))) ∙ add-one n
-
-last-at : (f : ℕ → Bool) (n k : ℕ) → k < n → f k ≡ true → ((t : ℕ) → k < t → t < n → f t ≡ false) → lastBelow f n ≡ k
-last-at f zero k l e h = absurd (not-suc-le-zero l)
-last-at f (suc n) k l e h =
-    let i : k ≤ n = omega arith in
-    ⊎-elim
-    (λ v. ap (lastBelow f) (sym (add-one n)) ∙ lastBelow-yes f n (ap f (sym v) ∙ e) ∙ sym v)
-    (λ m. let r = last-at f n k m e (λ t a b. h t a (omega arith)) in
-    ap (lastBelow f) (sym (add-one n)) ∙ lastBelow-still f n (h n m (omega arith)) (omega arith) ∙ r)
-    (eq-or-lt-of-le i)
 
 -- ---- the last record of a number
 
@@ -53,10 +36,10 @@ module _ (history : List ℕ) (plan : ℕ) where
 
   pub record-found : (k : ℕ) → k < planCount history → getD history (k * planWords) 0 ≡ plan
       → ((t : ℕ) → k < t → t < planCount history → isRecord history plan t ≡ false) → recordOf history plan ≡ k
-  record-found k l e h = by-words ∙ last-at (isRecord history plan) (planCount history) k l (eq-eqb _ plan e) h
+  record-found k l e h = by-words ∙ lastBelow-at (isRecord history plan) (planCount history) k l (eq-eqb _ plan e) h
 
   pub record-nowhere : ((t : ℕ) → t < planCount history → isRecord history plan t ≡ false) → recordOf history plan ≡ planCount history
-  record-nowhere h = by-words ∙ last-nowhere (isRecord history plan) (planCount history) h
+  record-nowhere h = by-words ∙ lastBelow-nowhere (isRecord history plan) (planCount history) h
 
 -- one record more, from the end, that is of another number
 pub others-more : (history : List ℕ) (plan n j : ℕ) → j < n → (getD history ((n - 1 - j) * planWords) 0 ≡ plan → ⊥)
@@ -116,5 +99,5 @@ pub records-more : (f : ℕ → ℕ) (history old pool : List ℕ) (i k : ℕ) �
     → overAt (i * planWords) (blockOf history k) pool ≡ over (joinBelow (λ i. blockOf history (f i)) (i + 1)) old
 records-more f history old pool i k e g =
     ap₂ (λ a b. overAt (i * planWords) (blockOf history a) b) e g
-    ∙ over-next (joinBelow (λ i. blockOf history (f i)) i) (blockOf history (f i)) old (i * planWords) (join-length (λ i. blockOf history (f i)) planWords i (λ i. listBelow-length _ planWords))
+    ∙ over-next (joinBelow (λ i. blockOf history (f i)) i) (blockOf history (f i)) old (i * planWords) (joinBelow-length (λ i. blockOf history (f i)) planWords i (λ i u. listBelow-length _ planWords))
     ∙ ap (λ x. over x old) (sym (joinBelow-more (λ i. blockOf history (f i)) i))

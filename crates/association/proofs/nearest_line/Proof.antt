@@ -9,7 +9,7 @@ use Rattle.model.specs.Numbers.{sqrtOf}
 use Rattle.model.specs.Association.{dot}
 use Rattle.association_laws.specs.Flat.{from, squaresOf, distanceAt}
 use Rattle.association_laws.specs.Search.{Square, Found}
-use Rattle.list_laws.proofs.Runs.{row-inside}
+use Rattle.list_laws.proofs.Rows.{row-inside}
 use Rattle.association_laws.proofs.Search.{distance-root, found-none}
 use Rattle.association_laws.proofs.Squares.{squares-square}
 use Rattle.association.proofs.nearest_line.Statement.{statement}

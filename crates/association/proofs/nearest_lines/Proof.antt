@@ -6,7 +6,7 @@ use lib.ListN.{length, length-set}
 use lib.Seq.{sets}
 use Rattle.model.specs.Lists.{listBelow}
 use Rattle.association_laws.specs.Flat.{nearestAt}
-use Rattle.list_laws.proofs.Runs.{row-inside}
+use Rattle.list_laws.proofs.Rows.{row-inside}
 use Rattle.association_laws.proofs.Writes.{run-none, front-more, front-done}
 use Rattle.association.proofs.nearest_lines.Statement.{statement}
 use Rattle.association.proofs.nearest_lines.Tie as tie

@@ -11,7 +11,7 @@ use Rattle.settings.specs.Candidate.{dimensionsOf}
 use Rattle.settings.proofs.Valid.{few}
 use Rattle.candidate_laws.proofs.Sound.{AllHeld}
 use Rattle.typed_laws.proofs.Held.{array-held}
-use Rattle.list_laws.proofs.Runs.{product}
+use Rattle.list_laws.proofs.Rows.{product}
 use Rattle.generation_laws.proofs.Breeding.{bred-is}
 use Rattle.breeding.proofs.breed.Statement.{statement}
 use Rattle.breeding.proofs.breed.Tie as tie

@@ -9,7 +9,7 @@ use Rattle.model.specs.Lists.{over}
 use Rattle.model.specs.Setting.{toWord}
 use Rattle.settings.specs.Candidate.{dimensionsOf, settingsOf}
 use Rattle.settings.proofs.Valid.{few}
-use Rattle.list_laws.proofs.Runs.{row-within}
+use Rattle.list_laws.proofs.Rows.{row-within}
 use Rattle.candidates.proofs.Laid.{laid, left, laid-none, left-none, at-length, words-length, draw-more, lay-more}
 use Rattle.candidates.proofs.sample_candidates.Statement.{statement}
 use Rattle.candidates.proofs.sample_candidates.Tie as tie

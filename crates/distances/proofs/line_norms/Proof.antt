@@ -6,7 +6,7 @@ use lib.ListN.{length, length-set}
 use lib.Seq.{sets}
 use Rattle.model.specs.Lists.{listBelow}
 use Rattle.association_laws.specs.Flat.{normAt}
-use Rattle.list_laws.proofs.Runs.{row-inside}
+use Rattle.list_laws.proofs.Rows.{row-inside}
 use Rattle.association_laws.proofs.Writes.{run-none, front-more, front-done}
 use Rattle.distances.proofs.line_norms.Statement.{statement}
 use Rattle.distances.proofs.line_norms.Tie as tie

@@ -3,7 +3,7 @@ use Prim.Native.Nat.{ℕ}
 use lib.ListN.{length, getD}
 use Rattle.settings.specs.Candidate.{dimensionsOf}
 use Rattle.settings.proofs.Valid.{few}
-use Rattle.list_laws.proofs.Runs.{row-within}
+use Rattle.list_laws.proofs.Rows.{row-within}
 use Rattle.genetic.proofs.Broods.{winner-below, crossover-eta, mutation-eta, brood-is}
 use borrow.Author.Needs.{needs}
 use Rattle.genetic.proofs.brood.Statement.{statement}

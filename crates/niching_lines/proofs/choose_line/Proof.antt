@@ -1,6 +1,7 @@
 -- the k-th of the lines that have the least count
 use Rattle.niching_array_laws.proofs.Least.{IsLeastOf, leastBelow-is, least-some}
-use Rattle.niching_array_laws.proofs.Choosing.{draw-below, chosen-open, chosen-line}
+use Rattle.rng_util.proofs.Draws.{drawn-below}
+use Rattle.niching_array_laws.proofs.Choosing.{chosen-open, chosen-line}
 use borrow.Author.Needs.{needs}
 use Rattle.niching_lines.proofs.choose_line.Statement.{statement}
 use Rattle.niching_lines.proofs.choose_line.Tie as tie
@@ -25,7 +26,7 @@ nth-least-requires : tie.Need-nth-least-requires
 nth-least-requires c κs =
     let a = c .before .before .before .before .before .before in
     let n = c .before .before .count-least in
-    (a .pre .0, a .pre .1, rw (n .ensures) at (draw-below _ _ _ _ (rw (n .ensures) (least-some _ _ _ _ (least (c .before .before .before)))) (c .before .draw-usize .ensures)))
+    (a .pre .0, a .pre .1, rw (n .ensures) at (drawn-below _ _ _ _ (rw (n .ensures) (least-some _ _ _ _ (least (c .before .before .before)))) (c .before .draw-usize .ensures)))
 
 returns : tie.Need-returns
 returns c =

@@ -1,7 +1,8 @@
 -- at count 0 the nearest, else the k-th, k drawn
 use lib.ListN.{length}
 use Rattle.niching_array_laws.specs.Niche.{planAt, distanceIn, waitsOn, places}
-use Rattle.niching_array_laws.proofs.Choosing.{draw-below, member-nearest, member-drawn}
+use Rattle.rng_util.proofs.Draws.{drawn-below}
+use Rattle.niching_array_laws.proofs.Choosing.{member-nearest, member-drawn}
 use borrow.Author.Needs.{needs}
 use native.Mathlib.Omega.{arith}
 use Rattle.niching_members.proofs.choose_member.Statement.{statement}
@@ -28,7 +29,7 @@ draw-usize-requires c κs = search needs
 nth-member-requires-2 : tie.Need-nth-member-requires-2
 nth-member-requires-2 c κs =
     let a = c .before .before .before .before .before .before .before in
-    (a .pre .0, omega (arith, a .pre .2, draw-below (a .args .waiting) _ _ _ (a .pre .3) (c .before .draw-usize .ensures)))
+    (a .pre .0, omega (arith, a .pre .2, drawn-below (a .args .waiting) _ _ _ (a .pre .3) (c .before .draw-usize .ensures)))
 
 returns-2 : tie.Need-returns-2
 returns-2 c =

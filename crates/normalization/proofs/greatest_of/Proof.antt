@@ -6,7 +6,7 @@ use native.Mathlib.Omega.{arith}
 use lib.Ieee.{div, ofBits, neg}
 use Rattle.model.specs.Association.{greatest}
 use Rattle.association_laws.specs.Flat.{column}
-use Rattle.list_laws.proofs.Runs.{row-inside}
+use Rattle.list_laws.proofs.Rows.{row-inside}
 use Rattle.association_laws.proofs.Steps.{greatest-none, greatest-yes, greatest-no}
 use Rattle.normalization.proofs.greatest_of.Statement.{statement}
 use Rattle.normalization.proofs.greatest_of.Tie as tie

@@ -5,7 +5,7 @@ use native.Mathlib.Omega.{arith}
 use lib.ListN.{length}
 use lib.Seq.{sets}
 use Rattle.association_laws.specs.Flat.{normalAt, flatRows}
-use Rattle.list_laws.proofs.Runs.{row-inside}
+use Rattle.list_laws.proofs.Rows.{row-inside}
 use Rattle.association_laws.proofs.Writes.{rows-none, rows-more, rows-done}
 use Rattle.normalization.proofs.normalize_objectives.Statement.{statement}
 use Rattle.normalization.proofs.normalize_objectives.Tie as tie

@@ -12,7 +12,7 @@ use Rattle.model.specs.Plan.{planCount}
 use Rattle.model.specs.Association.{Request}
 use Rattle.plan_rows.proofs.Pool.{pool-row-lengths}
 use Rattle.pool_sort.specs.Laid.{RowsIn}
-use Rattle.list_laws.proofs.Runs.{few-values}
+use Rattle.list_laws.proofs.Rows.{few-values}
 use Rattle.nsga3.proofs.Answer.{rows-in, accepted-exit, fill-room}
 use Rattle.nsga3.proofs.select.Statement.{statement}
 use Rattle.nsga3.proofs.select.Tie as tie

@@ -10,7 +10,7 @@ use lib.ListN.{length, replicate}
 use Rattle.model.specs.Calls.{wordRequest}
 use Rattle.model.specs.Association.{Request, objectives}
 use Rattle.association_laws.specs.Request.{Associates}
-use Rattle.list_laws.proofs.Runs.{few-values}
+use Rattle.list_laws.proofs.Rows.{few-values}
 use Rattle.nsga3.proofs.Splitting.{pool-rows, table-lines, splits, hands}
 use Rattle.nsga3.proofs.select_split.Statement.{statement}
 use Rattle.nsga3.proofs.select_split.Tie as tie

@@ -5,7 +5,7 @@ use borrow.Author.Needs.{needs}
 use lib.ListN.{length}
 use Rattle.settings.specs.Candidate.{settingsOf}
 use Rattle.candidates.proofs.Laid.{words-length}
-use Rattle.list_laws.proofs.Runs.{row-within}
+use Rattle.list_laws.proofs.Rows.{row-within}
 use Rattle.offspring.proofs.Laying.{both, one, second-fits}
 use Rattle.offspring.proofs.put_children.Statement.{statement}
 use Rattle.offspring.proofs.put_children.Tie as tie

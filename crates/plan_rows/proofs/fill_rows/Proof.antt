@@ -4,7 +4,7 @@ use mathlib.Core.Path.{_≡_, refl, _∙_}
 use native.Mathlib.Omega.{arith}
 use lib.ListN.{length}
 use Rattle.model.specs.Plan.{planAt}
-use Rattle.list_laws.proofs.Runs.{row-inside}
+use Rattle.list_laws.proofs.Rows.{row-inside}
 use Rattle.plan_rows.proofs.Rows.{RowsTo, rows-none, rows-more, rows-done}
 use Rattle.plan_rows.proofs.fill_rows.Statement.{statement}
 use Rattle.plan_rows.proofs.fill_rows.Tie as tie

@@ -9,7 +9,7 @@ use Rattle.model.specs.Lists.{over}
 use Rattle.model.specs.Row.{rowBeats}
 use Rattle.model.specs.Front.{frontList}
 use Rattle.plan_rows.proofs.Pool.{pool-row-lengths, pool-known, rows-known}
-use Rattle.list_laws.proofs.Runs.{few-values}
+use Rattle.list_laws.proofs.Rows.{few-values}
 use Rattle.ranks.proofs.Ranks.{rows-fronts}
 use Rattle.ranks.proofs.front_ranks.Statement.{statement}
 use Rattle.ranks.proofs.front_ranks.Tie as tie

@@ -7,7 +7,7 @@ use borrow.Author.Count.{below-none, below-more}
 use lib.Ieee.{nan, isNan}
 use borrow.Author.Needs.{needs}
 use lib.ListN.{getD}
-use Rattle.front_laws.proofs.Flat.{row-lt}
+use Rattle.list_laws.proofs.Rows.{row-lt}
 use Rattle.replay_fronts.proofs.Nan.{no-nan}
 use Rattle.replay_fronts.proofs.known.Statement.{statement}
 use Rattle.replay_fronts.proofs.known.Tie as tie

@@ -6,7 +6,7 @@ use lib.ListN.{length, getD, set, length-set}
 use Rattle.model.specs.Lists.{listBelow}
 use Rattle.model.specs.Session.{overAt}
 use Rattle.candidates.proofs.Laid.{at-none, at-more}
-use Rattle.session_encoding.proofs.Laid.{by-places}
+use Rattle.list_laws.proofs.Built.{listBelow-places}
 use Rattle.session_encoding.proofs.put.Statement.{statement}
 use Rattle.session_encoding.proofs.put.Tie as tie
 
@@ -60,7 +60,7 @@ returns c =
     let l = c .before .loop in
     let a = c .before .before .args in
     let e : l .j ≡ length (a .block .now) = omega arith in
-    l .inv .2 ∙ ap (λ x. overAt (a .at) x (a .words .now)) (ap (listBelow (λ i. getD (a .block .now) i 0)) e ∙ by-places (a .block .now))
+    l .inv .2 ∙ ap (λ x. overAt (a .at) x (a .words .now)) (ap (listBelow (λ i. getD (a .block .now) i 0)) e ∙ listBelow-places (a .block .now))
 
 pub put-spec : {M : Type 1} → statement M
 put-spec =

@@ -9,7 +9,7 @@ use Rattle.model.specs.Lists.{joinBelow}
 use Rattle.model.specs.Session.{overAt, noDimension}
 use Rattle.list_laws.proofs.Built.{joinBelow-none}
 use Rattle.candidates.proofs.Laid.{at-length}
-use Rattle.session_laws.proofs.Lists.{join-length}
+use Rattle.list_laws.proofs.Rows.{joinBelow-length}
 use Rattle.session_words.specs.Coding.{dimensionWords}
 use Rattle.session_encoding.proofs.Laid.{dimension-length, join-next}
 use Rattle.session_encoding.proofs.put_dimensions.Statement.{statement}
@@ -66,7 +66,7 @@ loop-again c =
     let w = c .before .before .put .ensures ∙ ap₂ (λ x y. overAt (30 + l .d * 6) x y) (c .before .before .before .before .before .dimension-words .ensures) (l .inv .2)
     ∙ join-next f 6 each 30 (l .d) (a .words .now) (omega arith) in (
       omega arith,
-      ap length w ∙ at-length 30 (joinBelow f (l .d + 1)) (a .words .now) (omega (arith, join-length f 6 (l .d + 1) each)),
+      ap length w ∙ at-length 30 (joinBelow f (l .d + 1)) (a .words .now) (omega (arith, joinBelow-length f 6 (l .d + 1) (λ i u. each i))),
       w,
     )
 

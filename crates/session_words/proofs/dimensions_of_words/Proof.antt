@@ -5,9 +5,8 @@ use native.Mathlib.Omega.{arith}
 use lib.ListN.{length, set, replicate, length-set}
 use Rattle.model.specs.Lists.{listBelow, over}
 use Rattle.model.specs.Session.{blankDimension}
-use Rattle.list_laws.proofs.Built.{listBelow-length, over-none, over-more}
+use Rattle.list_laws.proofs.Built.{listBelow-length, over-none, over-more, over-all}
 use Rattle.session_words.specs.Coding.{infoAt, dimensionsAt}
-use Rattle.session_laws.proofs.Lists.{over-all}
 use Rattle.session_words.proofs.dimensions_of_words.Statement.{statement}
 use Rattle.session_words.proofs.dimensions_of_words.Tie as tie
 

@@ -1,7 +1,7 @@
 -- `no_step_room`: slice after slice
 use native.Mathlib.Omega.{arith}
 use borrow.Author.Needs.{needs}
-use Rattle.list_laws.proofs.Runs.{product}
+use Rattle.list_laws.proofs.Rows.{product}
 use Rattle.generation_laws.proofs.Refusals.{room-offspring, room-of-one, room-of-many}
 use Rattle.step_refusal.proofs.no_step_room.Statement.{statement}
 use Rattle.step_refusal.proofs.no_step_room.Tie as tie

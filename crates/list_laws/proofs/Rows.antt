@@ -1,0 +1,85 @@
+-- Lists of one length that stand one after the other: how long they are together, and which entry stands where.
+use Prim.Native.Nat.{ℕ, zero, suc, _+_, _*_, _≤_, _<_}
+use mathlib.Core.Path.{_≡_, refl, ap, sym, _∙_}
+use mathlib.Core.List.{List, [], _∷_, _++_, flatten, append-assoc, append-nil}
+use native.Mathlib.Nat.{not-suc-le-zero, zero-mul, suc-mul, mul-le-mul-right, mul-le-mul-left}
+use native.Mathlib.Omega.{arith}
+use lib.ListN.{length, getD, length-append, List·getD-append}
+use lib.Seq.{getD-append-add}
+use Rattle.model.specs.Lists.{listBelow, joinBelow}
+use Rattle.list_laws.proofs.Built.{listBelow-length, listBelow-at}
+
+-- ---- rows of m entries
+
+-- row p of n lies within them
+pub row-inside : (p n m : ℕ) → p < n → p * m + m ≤ n * m
+row-inside p n m h = omega (arith, suc-mul p m, mul-le-mul-right m h)
+
+-- and within a list that has room for them all
+pub row-within : (p n m len : ℕ) → p < n → n * m ≤ len → p * m + m ≤ len
+row-within p n m len h l = omega (arith, row-inside p n m h)
+
+-- and so does entry j of row p
+pub row-lt : (p j n m : ℕ) → p < n → j < m → p * m + j < n * m
+row-lt p j n m h g = omega (arith, row-inside p n m h)
+
+-- factors within their limits have a product within the limits' product
+pub product : (a b n m : ℕ) → a ≤ n → b ≤ m → a * b ≤ n * m
+product a b n m h k = omega (arith, mul-le-mul-right b h, mul-le-mul-left n k)
+
+-- at most 1,024 rows of at most 8 entries
+pub few-values : (n m : ℕ) → n ≤ 1024 → m ≤ 8 → n * m ≤ 8192
+few-values n m h k = product n m 1024 8 h k
+
+-- ---- a list of lists
+
+module _ {A : Type 0} where
+  pub flatten-append : (a b : List (List A)) → flatten (a ++ b) ≡ flatten a ++ flatten b
+  unfolding flatten
+  flatten-append [] b = refl
+  flatten-append (l ∷ a) b = rw (flatten-append a b, append-assoc)
+
+  pub flatten-length : (m : ℕ) (rows : List (List A)) → ((i : ℕ) → i < length rows → length (getD rows i []) ≡ m) → length (flatten rows) ≡ length rows * m
+  unfolding flatten
+  flatten-length m [] each = sym (zero-mul m)
+  flatten-length m (r ∷ rows) each =
+      let i = flatten-length m rows (λ i h. each (suc i) (omega arith)) in
+      omega (arith, length-append r (flatten rows), each 0 (omega arith), suc-mul (length rows) m)
+
+  -- entry j of row p
+  pub flatten-at : (m : ℕ) (rows : List (List A)) → ((i : ℕ) → i < length rows → length (getD rows i []) ≡ m) → (p j : ℕ) (d : A) → p < length rows → j < m
+      → getD (flatten rows) (p * m + j) d ≡ getD (getD rows p []) j d
+  unfolding flatten
+  flatten-at m [] each p j d a b = absurd (omega arith)
+  flatten-at m (r ∷ rows) each zero j d a b =
+      let e : 0 * m + j ≡ j = omega arith in
+      rw e (List·getD-append r (flatten rows) d j (omega (arith, each 0 (omega arith))))
+  flatten-at m (r ∷ rows) each (suc p) j d a b =
+      let e : suc p * m + j ≡ length r + (p * m + j) = omega (arith, suc-mul p m, each 0 (omega arith)) in
+      rw e (getD-append-add r (flatten rows) (p * m + j) d) ∙ flatten-at m rows (λ i h. each (suc i) (omega arith)) p j d (omega arith) b
+
+  -- ---- f 0 ++ .. ++ f (n - 1)
+
+  join-flatten : (f : ℕ → List A) (n : ℕ) → joinBelow f n ≡ flatten (listBelow f n)
+  unfolding joinBelow listBelow flatten
+  join-flatten f zero = refl
+  join-flatten f (suc n) =
+      ap (λ (l : List A). l ++ f n) (join-flatten f n) ∙ ap (λ (l : List A). flatten (listBelow f n) ++ l) (sym (append-nil (f n)))
+      ∙ sym (flatten-append (listBelow f n) (f n ∷ []))
+
+  module _ (f : ℕ → List A) (m n : ℕ) (each : (i : ℕ) → i < n → length (f i) ≡ m) where
+    long : (i : ℕ) → i < length (listBelow f n) → length (getD (listBelow f n) i []) ≡ m
+    long i h = let g : i < n = omega (arith, listBelow-length f n) in ap length (listBelow-at f n [] i g) ∙ each i g
+
+    pub joinBelow-length : length (joinBelow f n) ≡ n * m
+    joinBelow-length = ap length (join-flatten f n) ∙ flatten-length m (listBelow f n) long ∙ ap (λ (k : ℕ). k * m) (listBelow-length f n)
+
+    pub joinBelow-at : (p j : ℕ) (d : A) → p < n → j < m → getD (joinBelow f n) (p * m + j) d ≡ getD (f p) j d
+    joinBelow-at p j d h g =
+        ap (λ (l : List A). getD l (p * m + j) d) (join-flatten f n) ∙ flatten-at m (listBelow f n) long p j d (omega (arith, listBelow-length f n)) g
+        ∙ ap (λ (l : List A). getD l j d) (listBelow-at f n [] p h)
+
+    -- with anything behind them, as in `over (joinBelow f n) old`
+    pub joinBelow-front : (rest : List A) (p j : ℕ) (d : A) → p < n → j < m → getD (joinBelow f n ++ rest) (p * m + j) d ≡ getD (f p) j d
+    joinBelow-front rest p j d h g =
+        List·getD-append (joinBelow f n) rest d (p * m + j) (omega (arith, row-lt p j n m h g, joinBelow-length)) ∙ joinBelow-at p j d h g
