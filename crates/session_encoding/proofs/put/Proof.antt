@@ -60,7 +60,7 @@ returns c =
     let l = c .before .loop in
     let a = c .before .before .args in
     let e : l .j ≡ length (a .block .now) = omega arith in
-    l .inv .2 ∙ ap (λ x. overAt (a .at) x (a .words .now)) (ap (listBelow (λ i. getD (a .block .now) i 0)) e ∙ listBelow-places (a .block .now))
+    l .inv .2 ∙ ap (λ x. overAt (a .at) x (a .words .now)) (ap (listBelow (λ i. getD (a .block .now) i 0)) e ∙ listBelow-places 0 (a .block .now))
 
 pub put-spec : {M : Type 1} → statement M
 put-spec =
