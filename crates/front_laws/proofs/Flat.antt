@@ -1,5 +1,5 @@
 -- A pool in flat lists: its domination is that of its plans, and strict where no row has a NaN.
-use Prim.Native.Nat.{ℕ, _+_, _*_, _<_}
+use Prim.Native.Nat.{ℕ, _<_}
 use mathlib.Core.Path.{_≡_}
 use mathlib.Core.Bool.{Bool, true, false}
 use mathlib.Core.List.{List}
@@ -12,15 +12,7 @@ use Rattle.front_laws.specs.Strict.{Strict}
 use Rattle.front_laws.proofs.Same.{Agree}
 use Rattle.list_laws.proofs.Rows.{row-inside}
 use Rattle.front_laws.specs.Flat.{rowAt, flatDominates, flatBeats, Pool, Within, KnownRows, RowsOf, FlatOf}
-use Rattle.front_laws.proofs.Domination.{dominates-same, rule-irreflexive, rule-asymmetric, rule-transitive}
-
-pub flatBeats-beats : (marks : List ℕ) (plans : ℕ → Plan) (n : ℕ) (rows : List Float) (flags : List Bool) (sums : List Float)
-    → FlatOf marks plans n rows flags sums → Agree (flatBeats rows (length marks) flags sums) (beats marks plans) n
-unfolding flatBeats beats constrainedDominates
-flatBeats-beats marks plans n rows flags sums h p q lp lq =
-    let d = dominates-same (length marks) (rowAt rows (length marks) p) (rowOf marks (plans p)) (rowAt rows (length marks) q) (rowOf marks (plans q))
-    (λ j l. h .rowsOf p j lp l) (λ j l. h .rowsOf q j lq l) in
-    rw (h .flagsOf p lp, h .flagsOf q lq, h .sumsOf p lp, h .sumsOf q lq, d)
+use Rattle.front_laws.proofs.Domination.{dominates-same, rule-irreflexive, rule-asymmetric, rule-strict}
 
 pub flatDominates-rowBeats : (marks : List ℕ) (plans : ℕ → Plan) (n : ℕ) (rows : List Float)
     → RowsOf marks plans n rows → Agree (flatDominates rows (length marks)) (rowBeats marks plans) n
@@ -28,6 +20,12 @@ unfolding rowBeats
 flatDominates-rowBeats marks plans n rows h p q lp lq =
     dominates-same (length marks) (rowAt rows (length marks) p) (rowOf marks (plans p)) (rowAt rows (length marks) q) (rowOf marks (plans q))
     (λ j l. h p j lp l) (λ j l. h q j lq l)
+
+pub flatBeats-beats : (marks : List ℕ) (plans : ℕ → Plan) (n : ℕ) (rows : List Float) (flags : List Bool) (sums : List Float)
+    → FlatOf marks plans n rows flags sums → Agree (flatBeats rows (length marks) flags sums) (beats marks plans) n
+unfolding flatBeats beats constrainedDominates rowBeats
+flatBeats-beats marks plans n rows flags sums h p q lp lq =
+    rw (h .flagsOf p lp, h .flagsOf q lq, h .sumsOf p lp, h .sumsOf q lq, flatDominates-rowBeats marks plans n rows (h .rowsOf) p q lp lq)
 
 -- where every plan is feasible, flat rows decide alone
 pub flatBeats-rows : (rows : List Float) (m : ℕ) (flags : List Bool) (sums : List Float) (n : ℕ) → ((p : ℕ) → p < n → getD flags p false ≡ true)
@@ -48,13 +46,7 @@ flatBeats-asymmetric rows m flags sums p q =
 
 pub flatBeats-strict : (rows : List Float) (m : ℕ) (flags : List Bool) (sums : List Float) (n : ℕ) → KnownRows rows m n → Strict (flatBeats rows m flags sums) n
 unfolding flatBeats
-flatBeats-strict rows m flags sums n known =
-    record {
-      irreflexive = λ p l. flatBeats-self rows m flags sums p;
-      transitive = λ p q r lp lq lr x y.
-          rule-transitive m (getD flags p false) (getD flags q false) (getD flags r false) (getD sums p nan) (getD sums q nan) (getD sums r nan)
-          (rowAt rows m p) (rowAt rows m q) (rowAt rows m r) (known p lp) (known q lq) (known r lr) x y;
-    }
+flatBeats-strict rows m flags sums n = rule-strict m n (λ p. getD flags p false) (λ p. getD sums p nan) (rowAt rows m)
 
 -- two plans of a pool in flat lists are within the lists
 pub pool-pair : (rows : List Float) (m : ℕ) (flags : List Bool) (sums : List Float) (n p q : ℕ) → Pool rows m flags sums n → p < n → q < n

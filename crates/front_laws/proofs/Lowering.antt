@@ -2,12 +2,12 @@
 use Prim.Native.Nat.{ℕ, suc, _+_, _-_, _≤_, _<_}
 use mathlib.Core.Path.{_≡_, refl, ap, ap₂, sym, _∙_}
 use mathlib.Core.Bool.{Bool, false, _&&_}
-use mathlib.Core.List.{List, [], _∷_, _++_, append-assoc}
+use mathlib.Core.List.{List, [], _∷_, _++_, append-assoc, List·Memᴰ·head, List·Memᴰ·tail}
 use native.Mathlib.Omega.{arith}
 use borrow.Author.Tests.{eq-eqb, ne-eqb, eqb-true, eqb-false, lt-ltb, le-ltb}
 use lib.Dec.{eqb, ltb}
 use Rattle.model.specs.Front.{lower, freed, lowerAll, freedAll}
-use Rattle.model.specs.Lists.{one, tally}
+use Rattle.model.specs.Lists.{one, tally, In}
 use Rattle.list_laws.specs.Occ.{occ, AllUnder}
 use Rattle.list_laws.proofs.Bools.{by-bool}
 use Rattle.list_laws.proofs.Kept.{keepBelow-same, keepBelow-under, keepBelow-occ}
@@ -33,26 +33,31 @@ freedAll-append d n (p ∷ s) t counts =
     ap (λ l. freed d n p counts ++ l) (freedAll-append d n s t (lower d p counts))
     ∙ sym (append-assoc (freed d n p counts) (freedAll d n s (lower d p counts)) (freedAll d n t (lowerAll d s (lower d p counts))))
 
--- only the counts below n matter
-pub freed-same : (d : ℕ → ℕ → Bool) (n p : ℕ) (f g : ℕ → ℕ) → ((t : ℕ) → t < n → f t ≡ g t) → freed d n p f ≡ freed d n p g
-unfolding freed lower
-freed-same d n p f g h = keepBelow-same _ _ n (λ t l. ap (λ c. d p t && eqb (c - one (d p t)) 0) (h t l))
+-- only what the members dominate below n matters, and the counts there
+module _ (d e : ℕ → ℕ → Bool) (n : ℕ) where
+  pub lower-same : (p : ℕ) (f g : ℕ → ℕ) → ((t : ℕ) → t < n → d p t ≡ e p t) → ((t : ℕ) → t < n → f t ≡ g t)
+      → (t : ℕ) → t < n → lower d p f t ≡ lower e p g t
+  unfolding lower
+  lower-same p f g a h t l = ap₂ (λ c b. c - one b) (h t l) (a t l)
 
-pub lower-same : (d : ℕ → ℕ → Bool) (n p : ℕ) (f g : ℕ → ℕ) → ((t : ℕ) → t < n → f t ≡ g t) → (t : ℕ) → t < n → lower d p f t ≡ lower d p g t
-unfolding lower
-lower-same d n p f g h t l = ap (λ c. c - one (d p t)) (h t l)
+  pub freed-same : (p : ℕ) (f g : ℕ → ℕ) → ((t : ℕ) → t < n → d p t ≡ e p t) → ((t : ℕ) → t < n → f t ≡ g t) → freed d n p f ≡ freed e n p g
+  unfolding freed
+  freed-same p f g a h = keepBelow-same _ _ n (λ t l. ap₂ (λ b c. b && eqb c 0) (a t l) (lower-same p f g a h t l))
 
-pub lowerAll-same : (d : ℕ → ℕ → Bool) (n : ℕ) (l : List ℕ) (f g : ℕ → ℕ) → ((t : ℕ) → t < n → f t ≡ g t)
-    → (t : ℕ) → t < n → lowerAll d l f t ≡ lowerAll d l g t
-unfolding lowerAll
-lowerAll-same d n [] f g h = h
-lowerAll-same d n (p ∷ l) f g h = lowerAll-same d n l (lower d p f) (lower d p g) (lower-same d n p f g h)
+  pub lowerAll-same : (l : List ℕ) (f g : ℕ → ℕ) → ((p : ℕ) → In p l → (t : ℕ) → t < n → d p t ≡ e p t) → ((t : ℕ) → t < n → f t ≡ g t)
+      → (t : ℕ) → t < n → lowerAll d l f t ≡ lowerAll e l g t
+  unfolding lowerAll
+  lowerAll-same [] f g a h = h
+  lowerAll-same (p ∷ l) f g a h =
+      lowerAll-same l (lower d p f) (lower e p g) (λ q m. a q (List·Memᴰ·tail m)) (lower-same p f g (a p (List·Memᴰ·head refl)) h)
 
-pub freedAll-same : (d : ℕ → ℕ → Bool) (n : ℕ) (l : List ℕ) (f g : ℕ → ℕ) → ((t : ℕ) → t < n → f t ≡ g t) → freedAll d n l f ≡ freedAll d n l g
-unfolding freedAll
-freedAll-same d n [] f g h = refl
-freedAll-same d n (p ∷ l) f g h =
-    ap₂ (λ a b. a ++ b) (freed-same d n p f g h) (freedAll-same d n l (lower d p f) (lower d p g) (lower-same d n p f g h))
+  pub freedAll-same : (l : List ℕ) (f g : ℕ → ℕ) → ((p : ℕ) → In p l → (t : ℕ) → t < n → d p t ≡ e p t) → ((t : ℕ) → t < n → f t ≡ g t)
+      → freedAll d n l f ≡ freedAll e n l g
+  unfolding freedAll
+  freedAll-same [] f g a h = refl
+  freedAll-same (p ∷ l) f g a h =
+      ap₂ (λ x y. x ++ y) (freed-same p f g (a p (List·Memᴰ·head refl)) h)
+      (freedAll-same l (lower d p f) (lower e p g) (λ q m. a q (List·Memᴰ·tail m)) (lower-same p f g (a p (List·Memᴰ·head refl)) h))
 
 -- whom one member frees
 pub occ-freed : (d : ℕ → ℕ → Bool) (n p : ℕ) (counts : ℕ → ℕ) (q : ℕ) → q < n → occ q (freed d n p counts) ≡ one (d p q && eqb (lower d p counts q) 0)

@@ -5,7 +5,6 @@ use mathlib.Core.Path.{_≡_, refl, ap, sym, _∙_}
 use mathlib.Core.Bool.{Bool, true, false, not, _&&_, _||_, false≢true, true≢false}
 use mathlib.Core.List.{[]}
 use mathlib.Core.Logic.{_⊎_, inl, inr, ⊎-elim}
-use native.Mathlib.Nat.{eq-or-lt-of-le}
 use native.Mathlib.Omega.{arith}
 use borrow.Author.Tests.{eqb-true, eqb-false, ltb-true, ltb-false}
 use lib.Dec.{eqb, ltb}
@@ -14,27 +13,23 @@ use Rattle.model.specs.Front.{front, listing}
 use Rattle.model.specs.Lists.{one, countBelow}
 use Rattle.model.specs.Papers.Deb2002.{undominatedOfRest, inFirst, inFront}
 use Rattle.list_laws.specs.Occ.{occ, AllUnder}
-use Rattle.list_laws.proofs.Bools.{by-bool, and-not-left, and-not-right}
+use Rattle.list_laws.proofs.Bools.{by-bool, and-not-left, and-not-right, and-no}
 use Rattle.list_laws.proofs.Counts.{countBelow-le, countBelow-mono, countBelow-less, countBelow-all, all-countBelow, some-countBelow, none-countBelow, left-countBelow}
 use Rattle.list_laws.proofs.Members.{occ-nil, occ-append, occ-empty, length-below}
 use Rattle.front_laws.specs.Strict.{Strict}
+use Rattle.front_laws.proofs.Listings.{later}
 use Rattle.front_laws.proofs.Rounds.{waiting, inFront-count, inFirst-more, found}
 
 -- ---- for any d
 
 -- a plan of an earlier front is of an earlier front still, later on
 pub inFirst-later : (d : ℕ → ℕ → Bool) (n k j q : ℕ) → k ≤ j → inFirst d n k q ≡ true → inFirst d n j q ≡ true
-inFirst-later d n k zero q h e = ap (λ t. inFirst d n t q) z ∙ e
-  where
-    z : 0 ≡ k
-    z = omega arith
-inFirst-later d n k (suc j) q h e =
-    ⊎-elim (λ v. ap (λ t. inFirst d n t q) (sym v) ∙ e) (λ l. inFirst-more d n j q (inFirst-later d n k j q (omega arith) e)) (eq-or-lt-of-le h)
+inFirst-later d n k j q h e = later (λ t. inFirst d n t q ≡ true) (λ t. inFirst-more d n t q) k j h e
 
 -- a member of the paper's front k is of none before, is not dominated by the rest, and is of an earlier front from then on
 pub inFront-new : (d : ℕ → ℕ → Bool) (n k q : ℕ) → inFront d n k q ≡ true → inFirst d n k q ≡ false
 unfolding undominatedOfRest
-inFront-new d n k q e = by-bool (inFirst d n k q) (λ y. absurd (false≢true (rw y at e))) (λ y. y)
+inFront-new d n k q e = and-not-left (inFirst d n k q) _ e
 
 pub inFront-top : (d : ℕ → ℕ → Bool) (n k q : ℕ) → inFront d n k q ≡ true → waiting d n k q ≡ 0
 inFront-top d n k q e =
@@ -110,11 +105,7 @@ module _ (d : ℕ → ℕ → Bool) (n : ℕ) (s : Strict d n) where
   fewer k p q lp lq e = countBelow-less (λ t. not (inFirst d n k t) && d t p) (λ t. not (inFirst d n k t) && d t q) n p
       (λ t l v. by-bool (inFirst d n k t) (λ y. absurd (false≢true (rw y at v)))
       (λ y. rw y (s .transitive t p q l lp lq (rw y at v) (and-not-right (inFirst d n k p) (d p q) e))))
-      lp (last (inFirst d n k p) (d p p) (s .irreflexive p lp)) e
-    where
-      last : (a c : Bool) → c ≡ false → (not a && c) ≡ false
-      last true c v = refl
-      last false c v = v
+      lp (and-no (not (inFirst d n k p)) (d p p) (s .irreflexive p lp)) e
 
   over : (t p q : ℕ) → t < n → p < n → q < n → d p q ≡ true → (t ≡ p) ⊎ (d t p ≡ true) → d t q ≡ true
   over t p q lt lp lq g (inl e) = ap (λ x. d x q) e ∙ g

@@ -5,15 +5,15 @@ use mathlib.Core.Bool.{Bool}
 use mathlib.Core.List.{List, [], _∷_, _++_, append-nil}
 use native.Mathlib.Numerals.{add-one}
 use native.Mathlib.Omega.{arith}
-use lib.ListN.{length, getD, set, take, drop, length-append, length-set, take-append-drop}
-use lib.Seq.{sets, slice, slice-empty, slice-cons, length-take-le, take-suc, drop-append-le, take-take}
+use lib.ListN.{length, getD, set, take, drop, length-append, take-append-drop}
+use lib.Seq.{sets, length-sets, slice, slice-empty, slice-cons, length-take-le, take-suc, drop-append-le, take-take}
 use Rattle.model.specs.Front.{lower, freed, lowerAll, freedAll}
 use Rattle.model.specs.Lists.{one, tally}
 use Rattle.list_laws.proofs.Members.{tally-cons, tally-append}
 use Rattle.front_laws.specs.Ranks.{mark}
 use Rattle.front_laws.proofs.Lowering.{lowerAll-count, lowerAll-append, freedAll-append, freed-same}
-use Rattle.front_laws.proofs.Ranks.{mark-append}
-use Rattle.front_laws.specs.Post.{of, freedAt, Released}
+use Rattle.front_laws.proofs.Ranks.{mark-append, mark-length}
+use Rattle.front_laws.specs.Post.{of, freedAt, Released, Passing}
 use Rattle.list_laws.proofs.Runs.{sets-append, before-run}
 
 -- a part one longer
@@ -30,13 +30,6 @@ slice-parts f i t l h k u =
     ∙ drop-append-le f (take i l) (slice i t l) (omega (arith, length-take-le i l (omega arith)))
     ∙ ap (λ x. slice f i l ++ x) (slice-cons i t l 0 k u)
 
-pub record Passing (d : ℕ → ℕ → Bool) (n k start end : ℕ) (cs₀ o₀ r₀ : List ℕ) (i : ℕ) (cs o r : List ℕ) (len : ℕ) : Type 0 where
-  pub counts : (t : ℕ) → t < n → getD cs t 0 ≡ lowerAll d (slice start i o₀) (of cs₀) t
-  pub order : o ≡ sets o₀ end (freedAll d n (slice start i o₀) (of cs₀))
-  pub result : len ≡ end + length (freedAll d n (slice start i o₀) (of cs₀))
-  pub ranks : r ≡ mark (slice start i o₀) k r₀
-  pub kept : (length cs ≡ length cs₀) × (length o ≡ length o₀) × (length r ≡ length r₀)
-
 pub passing-first : (d : ℕ → ℕ → Bool) (n k start end : ℕ) (cs₀ o₀ r₀ : List ℕ) → Passing d n k start end cs₀ o₀ r₀ start cs₀ o₀ r₀ end
 unfolding lowerAll freedAll mark
 passing-first d n k start end cs₀ o₀ r₀ =
@@ -46,11 +39,17 @@ passing-first d n k start end cs₀ o₀ r₀ =
       order = rw e;
       result = rw e (omega arith);
       ranks = rw e;
-      kept = (refl, refl, refl);
     }
 
 module _ (d : ℕ → ℕ → Bool) (n k start end : ℕ) (cs₀ o₀ r₀ : List ℕ) (i : ℕ) (cs o r : List ℕ) (len : ℕ)
     (h : Passing d n k start end cs₀ o₀ r₀ i cs o r len) where
+  -- the order and the ranks keep their lengths
+  pub order-kept : length o ≡ length o₀
+  order-kept = ap length (h .order) ∙ length-sets o₀ end (freedAll d n (slice start i o₀) (of cs₀))
+
+  pub ranks-kept : length r ≡ length r₀
+  ranks-kept = ap length (h .ranks) ∙ mark-length (slice start i o₀) k r₀
+
   -- the member at place i is the one that stood there at first
   pub member-still : i < end → getD o i 0 ≡ getD o₀ i 0
   member-still l = ap (λ t. getD t i 0) (h .order) ∙ before-run o₀ end (freedAll d n (slice start i o₀) (of cs₀)) i l
@@ -71,7 +70,7 @@ module _ (d : ℕ → ℕ → Bool) (n k start end : ℕ) (cs₀ o₀ r₀ : Lis
 
   -- whom the member frees, at the counts as they are
   freed-now : freedAt d n (getD o₀ i 0) cs ≡ freed d n (getD o₀ i 0) (lowerAll d (slice start i o₀) (of cs₀))
-  freed-now = freed-same d n (getD o₀ i 0) (of cs) _ (h .counts)
+  freed-now = freed-same d d n (getD o₀ i 0) (of cs) _ (λ t l. refl) (h .counts)
 
   -- there is room for them
   pub passing-room : start ≤ i → i < end → end ≤ length o₀ → end + length (freedAll d n (slice start end o₀) (of cs₀)) ≤ length o₀
@@ -89,15 +88,13 @@ module _ (d : ℕ → ℕ → Bool) (n k start end : ℕ) (cs₀ o₀ r₀ : Lis
       ∙ length-append (freedAll d n x (of cs₀)) (freed d n p w ++ freedAll d n y (lower d p w)) in
       let g = length-append (freed d n p w) (freedAll d n y (lower d p w)) in
       let a = h .result in
-      let b = h .kept .1 in
-      omega arith
+      omega (arith, order-kept)
 
   -- the member's turn
   pub passing-more : (cs′ o′ : List ℕ) (x : ℕ) → start ≤ i → i < end → end ≤ length o₀ → Released d n (getD o i 0) len cs cs′ o o′ x
-      → length cs′ ≡ length cs → length o′ ≡ length o
       → Passing d n k start end cs₀ o₀ r₀ (i + 1) cs′ o′ (set r (getD o i 0) k) x
-  unfolding lowerAll freedAll mark lower
-  passing-more cs′ o′ x s l u f kc ko =
+  unfolding lowerAll freedAll freed mark lower
+  passing-more cs′ o′ x s l u f =
       let xs = slice start i o₀ in
       let p = getD o₀ i 0 in
       let w = lowerAll d xs (of cs₀) in
@@ -107,18 +104,17 @@ module _ (d : ℕ → ℕ → Bool) (n k start end : ℕ) (cs₀ o₀ r₀ : Lis
       let all = ap (λ q. freedAll d n q (of cs₀)) e ∙ fr in
       let now = ap (λ q. freedAt d n q cs) m ∙ freed-now in
       record {
-        counts = λ t v. f .counts t v ∙ ap (λ q. getD cs t 0 - one (d q t)) m ∙ ap (λ c. c - one (d p t)) (h .counts t v)
+        counts = λ t v. f .counts .under t v ∙ ap (λ q. getD cs t 0 - one (d q t)) m ∙ ap (λ c. c - one (d p t)) (h .counts t v)
             ∙ sym (ap (λ q. lowerAll d q (of cs₀) t) e ∙ ap (λ g. g t) (lowerAll-append d xs (p ∷ []) (of cs₀)));
-        order = f .order ∙ ap (sets o len) now ∙ ap (λ q. sets q len (freed d n p w)) (h .order)
+        order = f .order .order ∙ ap (sets o len) now ∙ ap (λ q. sets q len (freed d n p w)) (h .order)
             ∙ ap (λ q. sets (sets o₀ end (freedAll d n xs (of cs₀))) q (freed d n p w)) (h .result)
             ∙ sym (sets-append o₀ end (freedAll d n xs (of cs₀)) (freed d n p w))
             ∙ ap (sets o₀ end) (sym all);
-        result = let a = f .result in
+        result = let a = f .order .size in
             let b = ap length now in
             let g = h .result in
             let j = ap length all ∙ length-append (freedAll d n xs (of cs₀)) (freed d n p w) in
             omega arith;
         ranks = ap (λ q. set r q k) m ∙ ap (λ q. set q p k) (h .ranks)
             ∙ sym (ap (λ q. mark q k r₀) e ∙ mark-append xs (p ∷ []) k r₀);
-        kept = (kc ∙ h .kept .0, ko ∙ h .kept .1, length-set r (getD o i 0) k ∙ h .kept .2);
       }

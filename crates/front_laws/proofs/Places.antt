@@ -1,5 +1,5 @@
 -- Where the fronts stand in the listing, by their ends.
-use Prim.Native.Nat.{ℕ, zero, suc, _≤_, _<_}
+use Prim.Native.Nat.{ℕ, _≤_, _<_}
 use mathlib.Core.Path.{_≡_, ap, sym, _∙_}
 use mathlib.Core.Bool.{Bool}
 use mathlib.Core.List.{List, []}
@@ -9,26 +9,16 @@ use native.Mathlib.Omega.{arith}
 use borrow.Author.Tests.{eqb-true}
 use lib.Dec.{eqb}
 use lib.ListN.{length, getD, take}
-use lib.Seq.{take-take, take-append-le, take-length}
+use lib.Seq.{take-take}
 use Rattle.model.specs.Front.{front, listing, frontList}
 use Rattle.list_laws.proofs.Built.{listBelow-length, over-take, over-below}
 use Rattle.list_laws.proofs.First.{firstBelow-le, firstBelow-passes}
 use Rattle.list_laws.proofs.Members.{empty-of}
 use Rattle.front_laws.specs.Post.{frontCount, frontEnd, Sorted}
 use Rattle.front_laws.specs.Strict.{Strict}
-use Rattle.front_laws.proofs.Listings.{listing-more, listing-up}
+use Rattle.front_laws.proofs.Listings.{listing-take}
 use Rattle.front_laws.proofs.Order.{ended, listing-room}
 use Rattle.front_laws.proofs.Theorems.{listing-length-n}
-
--- a listing begins with every shorter one
-pub listing-take : (d : ℕ → ℕ → Bool) (n k j : ℕ) → k ≤ j → take (length (listing d n k)) (listing d n j) ≡ listing d n k
-listing-take d n k zero h = let e : k ≡ 0 = omega arith in rw e (take-length (listing d n 0))
-listing-take d n k (suc j) h = ⊎-elim
-    (λ e. rw e (take-length (listing d n (suc j))))
-    (λ l. let g : k ≤ j = omega arith in
-    ap (take (length (listing d n k))) (listing-more d n j)
-    ∙ take-append-le (length (listing d n k)) (listing d n j) (front d n j) (listing-up d n k j g) ∙ listing-take d n k j g)
-    (eq-or-lt-of-le h)
 
 -- the number of fronts is that of the first empty one
 module _ (d : ℕ → ℕ → Bool) (n : ℕ) where

@@ -1,44 +1,30 @@
 -- The two dominations of the plans of a pool: strict on accepted plans, the paper's, and what flat lists of the pool give.
 use Prim.Native.Nat.{ℕ, zero, suc, _+_, _≤_, _<_, min}
 use mathlib.Core.Path.{_≡_, refl, ap, _∙_}
-use mathlib.Core.Bool.{Bool, true, false, _&&_, false≢true}
+use mathlib.Core.Bool.{Bool, true, false, false≢true}
 use mathlib.Core.List.{List, []}
 use mathlib.Core.Logic.{_↔_}
 use native.Mathlib.Omega.{arith}
-use borrow.Author.Tests.{eqb-true}
-use lib.Dec.{eqb, leb}
 use lib.Ieee.{Float, nan, inf, fin, binary64, ofBits, lt, le, neg, isNan}
 use lib.ListN.{length, getD}
 use Rattle.model.specs.declared.Direction.{Direction}
 use Rattle.model.specs.declared.Direction.the-variants.{Minimize, Maximize}
-use Rattle.model.specs.Lists.{allIn}
 use Rattle.model.specs.Papers.Deb2002.{Dominates, Solution, ConstrainedDominates, onlyFeasible, lessViolation, bothFeasible}
-use Rattle.model.specs.Plan.{Plan, maxValues, maxConstraints, planOf}
+use Rattle.model.specs.Plan.{Plan, maxValues, planOf}
 use Rattle.model.specs.Real.{real}
 use Rattle.model.specs.Refusal.{measurable, goodPlan}
 use Rattle.model.specs.Row.{directionOf, toMinimize, rowOf, dominates, feasible, violation, byFeasibility, constrainedDominates, rowBeats, beats}
-use Rattle.list_laws.proofs.Bools.{T-true, true-T, T-false, false-T, and-left, and-right}
+use Rattle.list_laws.proofs.Bools.{T-true, true-T, T-false, false-T, and-left}
 use Rattle.list_laws.proofs.Built.{listBelow-length}
+use Rattle.list_laws.proofs.Checks.{good-length, good-values}
 use Rattle.list_laws.proofs.Tests.{allIn-each}
-use Rattle.front_laws.specs.Strict.{Strict}
+use Rattle.front_laws.specs.Strict.{Strict, Known}
 use Rattle.front_laws.proofs.Same.{Agree}
-use Rattle.front_laws.specs.Strict.{Known}
-use Rattle.front_laws.proofs.Domination.{dominates-paper, rule-irreflexive, rule-transitive}
+use Rattle.front_laws.proofs.Domination.{dominates-paper, rule-strict}
 use Rattle.float_laws.proofs.Order.{le-not-nan}
 use Rattle.front_laws.proofs.Violation.{feasible-none}
 
 -- ---- constrainedDominates, of any rows and constraints
-
-pub constrained-irreflexive : (m : ℕ) (a : ℕ → Float) (ca : List Float) → constrainedDominates m a ca a ca ≡ false
-unfolding constrainedDominates
-constrained-irreflexive m a ca = rule-irreflexive m (feasible ca) (violation ca) a
-
-pub constrained-transitive : (m : ℕ) (a : ℕ → Float) (ca : List Float) (b : ℕ → Float) (cb : List Float) (c : ℕ → Float) (cc : List Float)
-    → Known m a → Known m b → Known m c
-    → constrainedDominates m a ca b cb ≡ true → constrainedDominates m b cb c cc ≡ true → constrainedDominates m a ca c cc ≡ true
-unfolding constrainedDominates
-constrained-transitive m a ca b cb c cc ka kb kc h k =
-    rule-transitive m (feasible ca) (feasible cb) (feasible cc) (violation ca) (violation cb) (violation cc) a b c ka kb kc h k
 
 -- a row and constraints as the paper's rule sees them
 abbrev pub solution : (ℕ → Float) → List Float → Solution
@@ -94,43 +80,36 @@ measurable-known x e =
     T-false (isNan x)
     (le-not-nan (ofBits binary64 0xfe70_0000_0000_0000) x
     (true-T (le (ofBits binary64 0xfe70_0000_0000_0000) x)
-    (and-left (le (ofBits binary64 0xfe70_0000_0000_0000) x) (le x (ofBits binary64 0x7e70_0000_0000_0000)) e)) .1)
+    (and-left _ (le x (ofBits binary64 0x7e70_0000_0000_0000)) e)) .1)
 
--- A plan that passes refusal 8 and has the m values that it claims, as every plan of a slice of words has.
+-- A plan that passes refusal 8 and has m values, as every plan of a slice of words has.
 pub record Accepted (m : ℕ) (plan : Plan) : Type 0 where
   pub good : goodPlan m plan ≡ true
-  pub whole : length (plan .row) ≡ m
+  pub whole : m ≤ length (plan .row)
 
 -- its row has no NaN, whatever the directions
 pub accepted-known : (marks : List ℕ) (m : ℕ) (plan : Plan) → Accepted m plan → Known m (rowOf marks plan)
-unfolding rowOf goodPlan
+unfolding rowOf
 accepted-known marks m plan h j l =
-    let rest = and-right (eqb (plan .rowLength) m) (leb (plan .constraintCount) maxConstraints && (allIn measurable (plan .row) && allIn measurable (plan .constraints))) (h .good) in
-    let lists = and-right (leb (plan .constraintCount) maxConstraints) (allIn measurable (plan .row) && allIn measurable (plan .constraints)) rest in
-    let row = and-left (allIn measurable (plan .row)) (allIn measurable (plan .constraints)) lists in
     known-toMinimize (directionOf (getD marks j 0)) (getD (plan .row) j nan)
-    (measurable-known (getD (plan .row) j nan) (allIn-each measurable nan (plan .row) row j (omega (arith, h .whole))))
+    (measurable-known (getD (plan .row) j nan) (allIn-each measurable nan (plan .row) (good-values m plan (h .good)) j (omega (arith, h .whole))))
 
 -- a plan of words that passes refusal 8, where there are at most 8 objectives
 pub words-accepted : (m : ℕ) (word : ℕ → ℕ) → m ≤ maxValues → goodPlan m (planOf word) ≡ true → Accepted m (planOf word)
-unfolding planOf goodPlan
+unfolding planOf
 words-accepted m word h e =
-    let n = eqb-true (word 1) m (and-left (eqb (word 1) m) _ e) in
+    let n : word 1 ≡ m = good-length m (planOf word) e in
     record {
       good = e;
-      whole = listBelow-length (λ j. real (word (2 + j))) (min (word 1) maxValues) ∙ omega arith;
+      whole = omega (arith, listBelow-length (λ j. real (word (2 + j))) (min (word 1) maxValues));
     }
 
 -- where no row has a NaN
 module _ (marks : List ℕ) (plans : ℕ → Plan) (n : ℕ) (known : (p : ℕ) → p < n → Known (length marks) (rowOf marks (plans p))) where
   pub beats-strict : Strict (beats marks plans) n
-  unfolding beats
-  beats-strict = record {
-    irreflexive = λ p l. constrained-irreflexive (length marks) (rowOf marks (plans p)) (plans p .constraints);
-    transitive = λ p q r lp lq lr h k.
-        constrained-transitive (length marks) (rowOf marks (plans p)) (plans p .constraints) (rowOf marks (plans q)) (plans q .constraints)
-        (rowOf marks (plans r)) (plans r .constraints) (known p lp) (known q lq) (known r lr) h k;
-  }
+  unfolding beats constrainedDominates
+  beats-strict =
+      rule-strict (length marks) n (λ p. feasible (plans p .constraints)) (λ p. violation (plans p .constraints)) (λ p. rowOf marks (plans p)) known
 
 -- a plan as the paper's rule sees it
 abbrev pub solutionOf : List ℕ → Plan → Solution

@@ -1,6 +1,6 @@
 -- The turn of the release loop: the counts below q are lowered by member p, the others are as they were.
 use Prim.Native.Nat.{ℕ, _+_, _-_, _≤_, _<_}
-use mathlib.Core.Path.{_≡_, refl, ap, sym, _∙_}
+use mathlib.Core.Path.{_≡_, ap, sym, _∙_}
 use mathlib.Core.Bool.{Bool, true, false, _&&_}
 use mathlib.Core.List.{List}
 use native.Mathlib.Omega.{arith}
@@ -10,32 +10,28 @@ use lib.ListN.{length, getD, set}
 use Rattle.model.specs.Front.{lower, freed}
 use Rattle.model.specs.Lists.{one}
 use Rattle.list_laws.proofs.Kept.{keepBelow-room}
-use Rattle.front_laws.specs.Post.{of, freedAt, Freed}
+use Rattle.front_laws.specs.Post.{of, freedAt, Freed, frees, Releasing}
 use Rattle.list_laws.proofs.Stores.{Picked, picked-none, picked-no, picked-length, picked-more, Partly, partly-none, partly-set, partly-keep}
 
--- p frees q
-abbrev pub frees : (ℕ → ℕ → Bool) → ℕ → List ℕ → ℕ → Bool
-frees d p cs q = d p q && eqb (lower d p (of cs) q) 0
-
-abbrev pub Lowered : (ℕ → ℕ → Bool) → ℕ → List ℕ → ℕ → List ℕ → Type 0
+abbrev Lowered : (ℕ → ℕ → Bool) → ℕ → List ℕ → ℕ → List ℕ → Type 0
 Lowered d p cs₀ q cs = Partly (lower d p (of cs₀)) cs₀ q cs
 
 module _ (d : ℕ → ℕ → Bool) (p : ℕ) (cs₀ : List ℕ) (q : ℕ) (cs : List ℕ) (h : Lowered d p cs₀ q cs) where
-  pub lowered-yes : q < length cs₀ → d p q ≡ true → Lowered d p cs₀ (q + 1) (set cs q (getD cs q 0 - 1))
+  lowered-yes : q < length cs₀ → d p q ≡ true → Lowered d p cs₀ (q + 1) (set cs q (getD cs q 0 - 1))
   unfolding lower
   lowered-yes l e = partly-set (lower d p (of cs₀)) cs₀ q cs h (getD cs q 0 - 1) l (omega (arith, h .over q (omega arith), ap one e))
 
-  pub lowered-no : d p q ≡ false → Lowered d p cs₀ (q + 1) cs
+  lowered-no : d p q ≡ false → Lowered d p cs₀ (q + 1) cs
   unfolding lower
   lowered-no e = partly-keep (lower d p (of cs₀)) cs₀ q cs h (omega (arith, ap one e))
 
   -- the test that the turn makes says whether p frees q
-  pub frees-now : d p q ≡ true → frees d p cs₀ q ≡ eqb (getD cs q 0 - 1) 0
+  frees-now : d p q ≡ true → frees d p cs₀ q ≡ eqb (getD cs q 0 - 1) 0
   unfolding lower
   frees-now e = ap (λ b. b && eqb (getD cs₀ q 0 - one b) 0) e ∙ ap (λ v. eqb (v - 1) 0) (sym (h .over q (omega arith)))
 
   -- where it does there is room for it
-  pub frees-room : (n : ℕ) (o₀ : List ℕ) (at : ℕ) (o : List ℕ) (len : ℕ) → q < n → Picked (frees d p cs₀) o₀ at q o len
+  frees-room : (n : ℕ) (o₀ : List ℕ) (at : ℕ) (o : List ℕ) (len : ℕ) → q < n → Picked (frees d p cs₀) o₀ at q o len
       → at + length (freedAt d n p cs₀) ≤ length o₀ → d p q ≡ true → getD cs q 0 ≡ 1 → len < length o₀
   unfolding freed
   frees-room n o₀ at o len l k r e v =
@@ -43,37 +39,30 @@ module _ (d : ℕ → ℕ → Bool) (p : ℕ) (cs₀ : List ℕ) (q : ℕ) (cs :
 
 -- ---- counts and order together, as the loop of one member has them before its turn for q
 
-pub record Releasing (d : ℕ → ℕ → Bool) (p : ℕ) (cs₀ o₀ : List ℕ) (at q : ℕ) (cs o : List ℕ) (len : ℕ) : Type 0 where
-  pub lowered : Lowered d p cs₀ q cs
-  pub picked : Picked (frees d p cs₀) o₀ at q o len
-  pub size : length o ≡ length o₀
-
 pub releasing-first : (d : ℕ → ℕ → Bool) (p : ℕ) (cs₀ o₀ : List ℕ) (at : ℕ) → Releasing d p cs₀ o₀ at 0 cs₀ o₀ at
-releasing-first d p cs₀ o₀ at = record { lowered = partly-none (lower d p (of cs₀)) cs₀; picked = picked-none (frees d p cs₀) o₀ at; size = refl }
+releasing-first d p cs₀ o₀ at = record { counts = partly-none (lower d p (of cs₀)) cs₀; order = picked-none (frees d p cs₀) o₀ at }
 
 module _ (d : ℕ → ℕ → Bool) (p : ℕ) (cs₀ o₀ : List ℕ) (at q : ℕ) (cs o : List ℕ) (len : ℕ) (h : Releasing d p cs₀ o₀ at q cs o len) where
+  pub releasing-size : length o ≡ length o₀
+  releasing-size = picked-length (frees d p cs₀) o₀ at q o len (h .order)
+
   -- what lowering q's count asks, where p dominates q
   pub releasing-asks : (n : ℕ) → q < n → n ≤ length cs₀ → one (d p q) ≤ getD cs₀ q 0 → at + length (freedAt d n p cs₀) ≤ length o₀ → d p q ≡ true
       → (q < length cs) × (1 ≤ getD cs q 0) × (getD cs q 0 ≡ 1 → len < length o)
   releasing-asks n l m u r e =
-      let same = h .lowered .over q (omega arith) in
-      (omega arith, omega (arith, ap one e), λ v. omega (arith, frees-room d p cs₀ q cs (h .lowered) n o₀ at o len l (h .picked) r e v))
+      let same = h .counts .over q (omega arith) in
+      (omega (arith, h .counts .size), omega (arith, ap one e), λ v. omega (arith, releasing-size, frees-room d p cs₀ q cs (h .counts) n o₀ at o len l (h .order) r e v))
 
   pub releasing-yes : (cs′ o′ : List ℕ) (r : ℕ) → q < length cs₀ → d p q ≡ true → Freed q len cs cs′ o o′ r
       → Releasing d p cs₀ o₀ at (q + 1) cs′ o′ r
-  releasing-yes cs′ o′ r l e f =
-      let k : Picked (frees d p cs₀) o₀ at (q + 1) o′ r =
-      rw (f .order, f .result)
-      (picked-more (frees d p cs₀) o₀ at q o len (eqb (getD cs q 0 - 1) 0) (frees-now d p cs₀ q cs (h .lowered) e) (h .picked)) in
-      record {
-        lowered = rw (f .counts) (lowered-yes d p cs₀ q cs (h .lowered) l e);
-        picked = k;
-        size = picked-length (frees d p cs₀) o₀ at (q + 1) o′ r k;
-      }
+  releasing-yes cs′ o′ r l e f = record {
+    counts = rw (f .counts) (lowered-yes d p cs₀ q cs (h .counts) l e);
+    order = rw (f .order, f .result)
+        (picked-more (frees d p cs₀) o₀ at q o len (eqb (getD cs q 0 - 1) 0) (frees-now d p cs₀ q cs (h .counts) e) (h .order));
+  }
 
   pub releasing-no : d p q ≡ false → Releasing d p cs₀ o₀ at (q + 1) cs o len
   releasing-no e = record {
-    lowered = lowered-no d p cs₀ q cs (h .lowered) e;
-    picked = picked-no (frees d p cs₀) o₀ at q o len (ap (λ b. b && eqb (lower d p (of cs₀) q) 0) e) (h .picked);
-    size = h .size;
+    counts = lowered-no d p cs₀ q cs (h .counts) e;
+    order = picked-no (frees d p cs₀) o₀ at q o len (ap (λ b. b && eqb (lower d p (of cs₀) q) 0) e) (h .order);
   }

@@ -5,34 +5,32 @@ use mathlib.Core.Bool.{Bool, true, false, not, _&&_}
 use mathlib.Core.List.{List, []}
 use mathlib.Core.Logic.{_↔_}
 use native.Mathlib.Omega.{arith}
-use borrow.Author.Tests.{not-true, ltb-true, ltb-false}
-use lib.Dec.{ltb}
+use borrow.Author.Tests.{not-true}
 use lib.ListN.{length}
 use Rattle.model.specs.Front.{front, listing, frontOf, frontList}
 use Rattle.model.specs.Lists.{one, anyBelow, over, In, has, Distinct}
 use Rattle.model.specs.Papers.Deb2002.{undominatedOfRest, inFirst, inFront}
-use Rattle.list_laws.specs.Occ.{occ}
-use Rattle.list_laws.proofs.Bools.{by-bool, one-le, one-true, and-not-left, and-not-right}
+use Rattle.list_laws.specs.Occ.{occ, Below}
+use Rattle.list_laws.proofs.Bools.{by-bool, and-not-right}
 use Rattle.list_laws.proofs.Built.{over-filled}
 use Rattle.list_laws.proofs.First.{firstBelow-at}
-use Rattle.list_laws.proofs.Members.{in-occ, occ-in, has-in, in-has, under-in, occ-distinct}
+use Rattle.list_laws.proofs.Members.{has-in, in-has, under-below, exact-distinct, exact-passes, exact-in}
 use Rattle.list_laws.proofs.Tests.{anyBelow-each, anyBelow-nowhere}
 use Rattle.front_laws.specs.Ranks.{ranked}
 use Rattle.front_laws.specs.Strict.{Strict}
-use Rattle.front_laws.proofs.Order.{one-front, inFirst-front, not-dominated, under-front, all-inFirst, empty-inFirst, ended, listing-whole}
+use Rattle.front_laws.proofs.Order.{inFront-new, one-front, inFirst-front, not-dominated, under-front, all-inFirst, empty-inFirst, ended, listing-whole}
 use Rattle.front_laws.proofs.Ranks.{ranked-length, ranked-drop, ranked-at}
 use Rattle.front_laws.proofs.Rounds.{found}
 
-member-below : (d : ℕ → ℕ → Bool) (n k q : ℕ) → In q (front d n k) → q < n
-member-below d n k q m = under-in n q (front d n k) (found d n k .below) (in-occ q (front d n k) m)
+-- the members of a front are plans of the pool
+pub member-below : (d : ℕ → ℕ → Bool) (n k : ℕ) → Below n (front d n k)
+member-below d n k = under-below n (front d n k) (found d n k .below)
 
 member-inFront : (d : ℕ → ℕ → Bool) (n k q : ℕ) → In q (front d n k) → inFront d n k q ≡ true
-member-inFront d n k q m =
-    one-true (inFront d n k q)
-    (omega (arith, found d n k .exact q (member-below d n k q m), in-occ q (front d n k) m, one-le (inFront d n k q)))
+member-inFront d n k = exact-passes (inFront d n k) n (front d n k) (found d n k .below) (found d n k .exact)
 
 inFront-member : (d : ℕ → ℕ → Bool) (n k q : ℕ) → q < n → inFront d n k q ≡ true → In q (front d n k)
-inFront-member d n k q l e = occ-in q (front d n k) (omega (arith, found d n k .exact q l, ap one e))
+inFront-member d n k = exact-in (inFront d n k) n (front d n k) (found d n k .below) (found d n k .exact)
 
 -- the members of front k are those of the paper's: the undominated once the fronts before are set aside
 pub front-paper : (d : ℕ → ℕ → Bool) (n k q : ℕ) → In q (front d n k) ↔ ((q < n) × (inFront d n k q ≡ true))
@@ -47,7 +45,7 @@ front-undominated d n k q =
       (λ m. let e = member-inFront d n k q m in
           let none = not-true (anyBelow rest n) (and-not-right (inFirst d n k q) (not (anyBelow rest n)) e) in (
             member-below d n k q m,
-            and-not-left (inFirst d n k q) (not (anyBelow rest n)) e,
+            inFront-new d n k q e,
             λ p l y. ap (λ b. not b && d p q) (sym y) ∙ anyBelow-each rest n none p l,
           )),
       λ h. inFront-member d n k q (h .0)
@@ -58,9 +56,7 @@ front-undominated d n k q =
 
 -- no plan is twice in a front, or in the fronts together
 pub front-distinct : (d : ℕ → ℕ → Bool) (n k : ℕ) → Distinct (front d n k)
-front-distinct d n k = occ-distinct (front d n k) (λ q. by-bool (ltb q n)
-    (λ e. omega (arith, found d n k .exact q (ltb-true q n e), one-le (inFront d n k q)))
-    (λ e. omega (arith, found d n k .below q (ltb-false q n e))))
+front-distinct d n k = exact-distinct (inFront d n k) n (front d n k) (found d n k .below) (found d n k .exact)
 
 module _ (d : ℕ → ℕ → Bool) (n : ℕ) (s : Strict d n) where
   -- every plan stands once in one front, and in no other

@@ -1,13 +1,14 @@
 -- What the functions of the sort ask and promise, in the words of document 01's front list. `d p q` says that plan p dominates plan q.
 use Prim.Native.Nat.{ℕ, suc, _+_, _-_, _≤_, _<_}
 use mathlib.Core.Path.{_≡_}
-use mathlib.Core.Bool.{Bool, cond}
+use mathlib.Core.Bool.{Bool, cond, _&&_}
 use mathlib.Core.List.{List, [], _∷_}
 use lib.Dec.{eqb}
 use lib.ListN.{length, getD, set}
 use lib.Seq.{sets, slice}
 use Rattle.model.specs.Lists.{one, countBelow, tally, firstBelow, listBelow, over}
 use Rattle.model.specs.Front.{lower, freed, lowerAll, freedAll, front, listing, frontList}
+use Rattle.list_laws.proofs.Stores.{Picked, Partly}
 use Rattle.front_laws.specs.Ranks.{mark}
 
 -- the counts that a list holds
@@ -24,10 +25,14 @@ pub record Countable (n q : ℕ) (cs : List ℕ) : Type 0 where
   pub counted : n ≤ length cs
   pub low : (t : ℕ) → t < q → getD cs t 0 ≤ q
 
--- the counts of those that q dominates are raised, and r counts those that dominate q
-pub record Raised (d : ℕ → ℕ → Bool) (q : ℕ) (cs₀ cs : List ℕ) (r : ℕ) : Type 0 where
-  pub counts : (t : ℕ) → t < q → getD cs t 0 ≡ getD cs₀ t 0 + one (d q t)
-  pub result : r ≡ countBelow (λ p. d p q) q
+-- plan q has been compared with those before p: the counts of those that it dominates are raised, and r counts those that dominate q
+pub record Raising (d : ℕ → ℕ → Bool) (q : ℕ) (cs₀ : List ℕ) (p : ℕ) (cs : List ℕ) (r : ℕ) : Type 0 where
+  pub counts : Partly (λ t. getD cs₀ t 0 + one (d q t)) cs₀ p cs
+  pub result : r ≡ countBelow (λ s. d s q) p
+
+-- and with all before it
+abbrev pub Raised : (ℕ → ℕ → Bool) → ℕ → List ℕ → List ℕ → ℕ → Type 0
+Raised d q cs₀ cs r = Raising d q cs₀ q cs r
 
 -- one count lowered: q is listed at `at` if its count is now zero
 pub record Freed (q at : ℕ) (cs₀ cs o₀ o : List ℕ) (r : ℕ) : Type 0 where
@@ -42,11 +47,18 @@ pub record Releasable (d : ℕ → ℕ → Bool) (n p at : ℕ) (cs o : List ℕ
   pub fair : (t : ℕ) → t < n → one (d p t) ≤ getD cs t 0
   pub room : at + length (freedAt d n p cs) ≤ length o
 
--- the counts lowered by p, and whom it frees listed from `at` on
-pub record Released (d : ℕ → ℕ → Bool) (n p at : ℕ) (cs₀ cs o₀ o : List ℕ) (r : ℕ) : Type 0 where
-  pub counts : (t : ℕ) → t < n → getD cs t 0 ≡ lower d p (of cs₀) t
-  pub order : o ≡ sets o₀ at (freedAt d n p cs₀)
-  pub result : r ≡ at + length (freedAt d n p cs₀)
+-- p frees q
+abbrev pub frees : (ℕ → ℕ → Bool) → ℕ → List ℕ → ℕ → Bool
+frees d p cs q = d p q && eqb (lower d p (of cs) q) 0
+
+-- the counts below q lowered by p, and whom it frees below q listed from `at` on
+pub record Releasing (d : ℕ → ℕ → Bool) (p : ℕ) (cs₀ o₀ : List ℕ) (at q : ℕ) (cs o : List ℕ) (r : ℕ) : Type 0 where
+  pub counts : Partly (lower d p (of cs₀)) cs₀ q cs
+  pub order : Picked (frees d p cs₀) o₀ at q o r
+
+-- and all n counts
+abbrev pub Released : (ℕ → ℕ → Bool) → ℕ → ℕ → ℕ → List ℕ → List ℕ → List ℕ → List ℕ → ℕ → Type 0
+Released d n p at cs₀ cs o₀ o r = Releasing d p cs₀ o₀ at n cs o r
 
 -- a front stands in the order from `start` to `end`; its members lower no count below zero, and there is room for whom they free
 pub record Ready (d : ℕ → ℕ → Bool) (n start end : ℕ) (cs o rank : List ℕ) : Type 0 where
@@ -58,12 +70,16 @@ pub record Ready (d : ℕ → ℕ → Bool) (n start end : ℕ) (cs o rank : Lis
   pub room : end + length (freedAll d n (slice start end o) (of cs)) ≤ length o
   pub wide : n ≤ length rank
 
--- that front ranked k, the counts lowered by its members, and whom they free listed from `end` on
-pub record Passed (d : ℕ → ℕ → Bool) (n k start end : ℕ) (cs₀ cs o₀ o r₀ r : List ℕ) (x : ℕ) : Type 0 where
-  pub counts : (t : ℕ) → t < n → getD cs t 0 ≡ lowerAll d (slice start end o₀) (of cs₀) t
-  pub order : o ≡ sets o₀ end (freedAll d n (slice start end o₀) (of cs₀))
-  pub result : x ≡ end + length (freedAll d n (slice start end o₀) (of cs₀))
-  pub ranks : r ≡ mark (slice start end o₀) k r₀
+-- that front's members before place i ranked k, the counts lowered by them, and whom they free listed from `end` on
+pub record Passing (d : ℕ → ℕ → Bool) (n k start end : ℕ) (cs₀ o₀ r₀ : List ℕ) (i : ℕ) (cs o r : List ℕ) (x : ℕ) : Type 0 where
+  pub counts : (t : ℕ) → t < n → getD cs t 0 ≡ lowerAll d (slice start i o₀) (of cs₀) t
+  pub order : o ≡ sets o₀ end (freedAll d n (slice start i o₀) (of cs₀))
+  pub result : x ≡ end + length (freedAll d n (slice start i o₀) (of cs₀))
+  pub ranks : r ≡ mark (slice start i o₀) k r₀
+
+-- and all its members
+abbrev pub Passed : (ℕ → ℕ → Bool) → ℕ → ℕ → ℕ → ℕ → List ℕ → List ℕ → List ℕ → List ℕ → List ℕ → List ℕ → ℕ → Type 0
+Passed d n k start end cs₀ cs o₀ o r₀ r x = Passing d n k start end cs₀ o₀ r₀ end cs o r x
 
 -- how many fronts have members
 unfoldable pub frontCount : (ℕ → ℕ → Bool) → ℕ → ℕ

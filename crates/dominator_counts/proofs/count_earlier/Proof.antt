@@ -8,7 +8,8 @@ use lib.ListN.{length, getD}
 use Rattle.dominator_counts.specs.Compared.{Decides}
 use Rattle.dominator_counts.specs.declared.Winner.{Winner}
 use Rattle.front_laws.specs.Flat.{flatBeats}
-use Rattle.front_laws.proofs.Counting.{Raising, raising-first, raising-dominated, raising-dominates, raising-neither, raising-small}
+use Rattle.front_laws.specs.Post.{Raising}
+use Rattle.front_laws.proofs.Counting.{raising-first, raising-dominated, raising-dominates, raising-neither, raising-small}
 use Rattle.front_laws.proofs.Flat.{pool-pair}
 use Rattle.dominator_counts.proofs.count_earlier.Statement.{statement}
 use Rattle.dominator_counts.proofs.count_earlier.Tie as tie
@@ -30,7 +31,7 @@ small c = let a = c .before .before .before .before .before .before in
     raising-small _ _ _ _ _ _ (c .before .loop .inv .1) (a .args .n) (a .pre .1) (c .loop-test .taken)
 
 room : (c : tie.In-loop Inv-loop μ-loop) → c .before .loop .p < length (c .before .loop .counts)
-room c = omega (arith, c .before .before .before .before .before .before .pre .1 .plan, c .before .before .before .before .before .before .pre .1 .counted, c .before .loop .inv .1 .raised .size)
+room c = omega (arith, c .before .before .before .before .before .before .pre .1 .plan, c .before .before .before .before .before .before .pre .1 .counted, c .before .loop .inv .1 .counts .size)
 
 compare-requires : tie.Need-compare-requires Inv-loop μ-loop
 compare-requires c κs =
@@ -76,7 +77,7 @@ loop-again c =
     let g = flatBeats (a .rows .now) (a .m) (a .feasible .now) (a .violations .now) in
     let told : (v : Winner) → c .before .compare .result ≡ v → Decides v (g (l .p) (a .q)) (g (a .q) (l .p)) =
     λ v e. subst (λ v. Decides v (g (l .p) (a .q)) (g (a .q) (l .p))) e (c .before .compare .ensures) in
-    let r : l .p < length (a .counts .now) = omega (arith, room h, l .inv .1 .raised .size) in (
+    let r : l .p < length (a .counts .now) = omega (arith, room h, l .inv .1 .counts .size) in (
       omega arith,
       ⊎-elim
           (λ w. let f = told _ (w .1 .given .1) in rw (w .2, w .3) (raising-dominated _ _ _ _ _ _ (l .inv .1) (f .0) (f .1)))
@@ -88,14 +89,13 @@ loop-again c =
     )
 
 same-length : tie.Need-same-length Inv-loop μ-loop
-same-length c = c .before .loop .inv .1 .raised .size
+same-length c = c .before .loop .inv .1 .counts .size
 
 returns : tie.Need-returns Inv-loop μ-loop
 returns c =
     let l = c .before .loop in
     let e : l .p ≡ c .before .before .before .before .before .before .args .q = omega arith in
-    let h = rw e at (l .inv .1) in
-    record { counts = h .raised .under; result = h .count }
+    rw e at (l .inv .1)
 
 pub count-earlier-spec : {M : Type 1} → statement M
 count-earlier-spec =

@@ -4,9 +4,9 @@ use mathlib.Core.Path.{_≡_, sym, _∙_}
 use mathlib.Core.Logic.{⊎-elim}
 use native.Mathlib.Omega.{arith}
 use lib.ListN.{length}
-use Rattle.model.specs.Front.{freed}
 use Rattle.front_laws.specs.Flat.{flatBeats}
-use Rattle.front_laws.proofs.Steps.{Releasing, releasing-first, releasing-asks, releasing-yes, releasing-no}
+use Rattle.front_laws.specs.Post.{Releasing}
+use Rattle.front_laws.proofs.Steps.{releasing-first, releasing-size, releasing-asks, releasing-yes, releasing-no}
 use Rattle.front_laws.proofs.Flat.{pool-pair}
 use Rattle.front_round.proofs.release.Statement.{statement}
 use Rattle.front_round.proofs.release.Tie as tie
@@ -34,7 +34,7 @@ dominates-counted-requires c κs =
     let q = h .before .loop .q in
     let u = h .loop-test .taken in (
       pool-pair _ _ _ _ (a .args .n) (a .args .p) q (a .pre .0) (a .pre .1 .plan) u,
-      omega (arith, a .pre .1 .fair q u, h .before .loop .inv .1 .lowered .over q (omega arith)),
+      omega (arith, a .pre .1 .fair q u, h .before .loop .inv .1 .counts .over q (omega arith)),
     )
 
 lower-requires : tie.Need-lower-requires Inv-loop μ-loop
@@ -65,18 +65,16 @@ loop-again c =
     )
 
 same-length : tie.Need-same-length Inv-loop μ-loop
-same-length c = c .before .loop .inv .1 .lowered .size
+same-length c = c .before .loop .inv .1 .counts .size
 
 same-length-2 : tie.Need-same-length-2 Inv-loop μ-loop
-same-length-2 c = c .before .loop .inv .1 .size
+same-length-2 c = releasing-size _ _ _ _ _ _ _ _ _ (c .before .loop .inv .1)
 
 returns : tie.Need-returns Inv-loop μ-loop
-unfolding freed
 returns c =
     let l = c .before .loop in
     let e : l .q ≡ c .before .before .before .before .before .before .before .args .n = omega arith in
-    let h = rw e at (l .inv .1) in
-    record { counts = h .lowered .under; order = h .picked .order; result = h .picked .size }
+    rw e at (l .inv .1)
 
 pub release-spec : {M : Type 1} → statement M
 release-spec =

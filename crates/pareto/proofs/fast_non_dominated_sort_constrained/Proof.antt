@@ -1,5 +1,5 @@
 -- the order holds the first k + 1 fronts, the counts and ranks are those of round k, and `ends` has the ends of the fronts before
-use Prim.Native.Nat.{_-_}
+use Prim.Native.Nat.{_-_, _≤_, _<_}
 use mathlib.Core.Path.{_≡_, refl, _∙_}
 use native.Mathlib.Numerals.{add-one}
 use native.Mathlib.Omega.{arith}
@@ -8,7 +8,7 @@ use lib.ListN.{length}
 use Rattle.model.specs.Refusal.{maxSize}
 use Rattle.front_laws.specs.Flat.{flatBeats}
 use Rattle.front_laws.proofs.Flat.{flatBeats-strict}
-use Rattle.front_laws.proofs.Sorting.{Sorting, sorting-first, first-rest, sorting-ready, sorting-more, sorting-done}
+use Rattle.front_laws.proofs.Sorting.{Sorting, sorting-first, first-rest, sorting-within, order-size, ranks-size, ends-size, sorting-ready, sorting-more, sorting-done}
 use Rattle.pareto.proofs.fast_non_dominated_sort_constrained.Statement.{statement}
 use Rattle.pareto.proofs.fast_non_dominated_sort_constrained.Tie as tie
 
@@ -41,6 +41,13 @@ places b = b .before .before .before .before .before .before .count-all .kept .1
 abbrev entry : tie.After-slice-known4 Inv-loop μ-loop → tie.Start Inv-loop μ-loop
 entry b = b .before .before .before .before .before .before .before .before .before .before .before .before .before .before
 
+wide : (b : tie.After-slice-known4 Inv-loop μ-loop) → entry b .args .n ≤ length (b .before .before .first-front .last .1 .1 .0)
+wide b = omega (arith, b .before .before .first-front .kept .1 .1 .0, entry b .pre .3)
+
+-- in a turn k is below n
+early : (c : tie.In-loop Inv-loop μ-loop) → c .before .loop .k < entry (c .before .before) .args .n
+early c = let k = c .before .loop .inv .1 in omega (arith, k .few, sorting-within _ _ _ _ _ _ _ _ _ _ _ _ k, c .loop-test .taken)
+
 loop-holds : tie.Need-loop-holds Inv-loop μ-loop
 loop-holds c =
     let f = c .before .before .first-front in
@@ -48,12 +55,12 @@ loop-holds c =
     (refl, sorting-first _ _ _ _ _ _ _ _ (entry c .pre .3) (n .count-all .ensures) (f .ensures .0) (f .ensures .1))
 
 mul-ends : tie.Need-mul-ends Inv-loop μ-loop
-mul-ends c = let k = c .before .loop .inv .1 in omega (arith, k .few, k .within, c .loop-test .taken, entry (c .before .before) .pre .2)
+mul-ends c = omega (arith, early c, entry (c .before .before) .pre .2)
 
 slice-write-ends : tie.Need-slice-write-ends Inv-loop μ-loop
 slice-write-ends c =
-    let k = c .before .loop .inv .1 in
-    omega (arith, k .few, k .within, k .sizes .ends, c .loop-test .taken, entry (c .before .before) .pre .5)
+    let a = entry (c .before .before) in
+    omega (arith, early c, ends-size _ _ _ _ _ _ _ _ _ _ _ _ (c .before .loop .inv .1) (a .pre .5), a .pre .5)
 
 slice-aggregate-pass-front : tie.Need-slice-aggregate-pass-front Inv-loop μ-loop
 slice-aggregate-pass-front c = search needs
@@ -62,42 +69,38 @@ pass-front-requires : tie.Need-pass-front-requires Inv-loop μ-loop
 pass-front-requires c κs =
     let l = c .before .before .before .before .loop in
     let b = c .before .before .before .before .before in
-    let a = entry b in
-    let z = l .inv .1 .sizes in (
+    let a = entry b in (
       a .pre .0,
-      sorting-ready _ _ _ _ _ _ _ _ _ _ _ _ (l .inv .1) (omega (arith, l .inv .0, places b, a .pre .2))
-          (omega (arith, z .order, b .before .before .first-front .kept .1 .1 .0, a .pre .3)) (omega (arith, z .ranks, a .pre .4)),
+      sorting-ready _ _ _ _ _ _ _ _ _ _ _ _ (l .inv .1) (omega (arith, l .inv .0, places b, a .pre .2)) (wide b) (a .pre .4),
     )
 
 add-k : tie.Need-add-k Inv-loop μ-loop
 add-k c = omega arith
 
 loop-less : tie.Need-loop-less Inv-loop μ-loop
-loop-less c = omega arith
+loop-less c =
+    let h = c .before .before .before .before .before .before .before .before .before in
+    omega (arith, sorting-within _ _ _ _ _ _ _ _ _ _ _ _ (h .before .loop .inv .1), h .loop-test .taken)
 
 loop-again : tie.Need-loop-again Inv-loop μ-loop
 loop-again c =
     let p = c .before .before .before .before .before in
     let h = p .before .before .before .before in
     let l = h .before .loop in
-    let b = h .before .before in
-    let a = entry b in
-    let z = l .inv .1 .sizes in (
+    let b = h .before .before in (
       p .pass-front .kept .1 .1 .1 .1 .1 .1 .1 .1 .0 ∙ l .inv .0,
-      rw add-one (sorting-more _ _ _ _ _ _ _ _ _ _ _ _ (l .inv .1) _ _ _ _ (h .loop-test .taken)
-          (omega (arith, z .order, b .before .before .first-front .kept .1 .1 .0, a .pre .3))
-          (p .pass-front .ensures) (p .pass-front .kept .1 .1 .1 .1 .1 .1 .1 .1 .1 .0) (p .pass-front .kept .1 .1 .1 .1 .1 .1 .1 .1 .1 .1 .0)
-          (omega (arith, l .inv .1 .few, l .inv .1 .within, z .ends, h .loop-test .taken, a .pre .5))),
+      rw add-one (sorting-more _ _ _ _ _ _ _ _ _ _ _ _ (l .inv .1) _ _ _ _ (h .loop-test .taken) (wide b) (p .pass-front .ensures)
+          (omega (arith, early h, entry b .pre .5))),
     )
 
 same-length : tie.Need-same-length Inv-loop μ-loop
-same-length c = c .before .loop .inv .1 .sizes .order ∙ c .before .before .before .before .first-front .kept .1 .1 .0
+same-length c = order-size _ _ _ _ _ _ _ _ _ _ _ _ (c .before .loop .inv .1) (wide (c .before .before)) ∙ c .before .before .before .before .first-front .kept .1 .1 .0
 
 same-length-2 : tie.Need-same-length-2 Inv-loop μ-loop
-same-length-2 c = c .before .loop .inv .1 .sizes .ranks
+same-length-2 c = ranks-size _ _ _ _ _ _ _ _ _ _ _ _ (c .before .loop .inv .1)
 
 same-length-3 : tie.Need-same-length-3 Inv-loop μ-loop
-same-length-3 c = c .before .loop .inv .1 .sizes .ends
+same-length-3 c = ends-size _ _ _ _ _ _ _ _ _ _ _ _ (c .before .loop .inv .1) (entry (c .before .before) .pre .5)
 
 returns : tie.Need-returns Inv-loop μ-loop
 returns c =
@@ -106,7 +109,7 @@ returns c =
     let f = b .before .before .first-front in
     let n = b .before .before .before .before .before .before in
     let a = entry b in
-    sorting-done _ _ _ _ _ _ _ _ _ _ _ _ (l .inv .1) (flatBeats-strict _ _ _ _ _ (a .pre .1)) (a .pre .4) (a .pre .5) _
+    sorting-done _ _ _ _ _ _ _ _ _ _ _ _ (l .inv .1) (flatBeats-strict _ _ _ _ _ (a .pre .1)) (a .pre .4) _
     (first-rest _ _ _ (a .args .order .now) (a .args .rank .now) (a .args .ends .now) (n .count-all .last .1 .1 .1 .1 .1 .0) _ (a .pre .3) (n .count-all .ensures) (f .ensures .0) (f .ensures .1))
     (c .loop-test .left)
 
