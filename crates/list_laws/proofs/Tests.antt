@@ -8,8 +8,9 @@ use native.Mathlib.Nat.{not-suc-le-zero, eq-or-lt-of-le}
 use native.Mathlib.Numerals.{add-one}
 use native.Mathlib.Omega.{arith}
 use lib.ListN.{length, getD}
-use Rattle.model.specs.Lists.{anyBelow, allBelow, allIn, In}
+use Rattle.model.specs.Lists.{anyBelow, allBelow, allIn, listBelow, In}
 use Rattle.list_laws.proofs.Bools.{by-bool, and-left, and-right}
+use Rattle.list_laws.proofs.Built.{listBelow-length, listBelow-at}
 
 -- ---- anyBelow
 
@@ -129,3 +130,9 @@ unfolding allIn
 allIn-member f [] e q h = absurd (List·Memᴰ·not-nil h)
 allIn-member f (x ∷ l) e q h =
     ⊎-elim (λ v. ap f v ∙ and-left (f x) (allIn f l) e) (λ m. allIn-member f l (and-right (f x) (allIn f l) e) q m) (List·Memᴰ·cases-cons h)
+
+-- and of a list that is given place by place
+pub allIn-listBelow : {A : Type 0} (test : A → Bool) (f : ℕ → A) (n : ℕ) → allIn test (listBelow f n) ≡ allBelow (λ j. test (f j)) n
+allIn-listBelow test f n =
+    allIn-below test (f 0) (listBelow f n) ∙ ap (allBelow _) (listBelow-length f n)
+    ∙ allBelow-same _ _ n (λ j l. ap test (listBelow-at f n (f 0) j l))

@@ -6,16 +6,16 @@ use mathlib.Core.List.{List}
 use native.Mathlib.Nat.{add-assoc}
 use native.Mathlib.Omega.{arith}
 use borrow.Author.Tests.{lt-leb, le-leb, eq-eqb, ne-eqb}
-use lib.Dec.{eqb, leb, ltb}
+use lib.Dec.{eqb, leb}
 use lib.Ieee.{Float, nan, binary64, le, ofBits}
 use lib.ListN.{length, getD}
 use Rattle.model.specs.Lists.{allBelow, allIn, listBelow}
-use Rattle.model.specs.Plan.{planOf, maxValues, maxConstraints}
+use Rattle.model.specs.Plan.{Plan, planOf, maxValues, maxConstraints}
 use Rattle.model.specs.Real.{real}
-use Rattle.model.specs.Refusal.{badDirections, measurable, isInfinity, badCount, maxSize, goodIdeal, goodPlan}
+use Rattle.model.specs.Refusal.{badDirections, measurable, isInfinity, goodIdeal, goodPlan}
 use Rattle.list_laws.proofs.Bools.{and-no}
-use Rattle.list_laws.proofs.Built.{listBelow-length, listBelow-at}
-use Rattle.list_laws.proofs.Tests.{allIn-below, allBelow-same}
+use Rattle.list_laws.proofs.Built.{listBelow-same}
+use Rattle.list_laws.proofs.Tests.{allIn-below, allIn-listBelow}
 
 -- ---- directions
 
@@ -58,12 +58,6 @@ measurable-high x e = rw e
 abbrev pub idealEntry : Float → Bool
 idealEntry x = measurable x || isInfinity x
 
-pub entry-measurable : (x : Float) → measurable x ≡ true → idealEntry x ≡ true
-entry-measurable x e = rw e
-
-pub entry-infinite : (x : Float) → measurable x ≡ false → idealEntry x ≡ isInfinity x
-entry-infinite x e = rw e
-
 pub ideal-length : (m : ℕ) (ideal : List Float) → (length ideal ≡ m → ⊥) → goodIdeal m ideal ≡ false
 unfolding goodIdeal
 ideal-length m ideal h = rw (ne-eqb (length ideal) m h)
@@ -79,63 +73,42 @@ ideal-entries m ideal e = rw (eq-eqb (length ideal) m e) (allIn-below idealEntry
 abbrev pub measurableTo : List ℕ → ℕ → ℕ → Bool
 measurableTo words at n = allBelow (λ j. measurable (real (getD words (at + j) 0))) n
 
--- every entry of a list that is given place by place passes
-allIn-listBelow : (test : Float → Bool) (f : ℕ → Float) (n : ℕ) → allIn test (listBelow f n) ≡ allBelow (λ j. test (f j)) n
-allIn-listBelow test f n =
-    allIn-below test nan (listBelow f n) ∙ ap (allBelow _) (listBelow-length f n)
-    ∙ allBelow-same _ _ n (λ j l. ap test (listBelow-at f n nan j l))
+-- the plan that lies in a slice of words from place `at` on
+module _ (words : List ℕ) (at : ℕ) where
+  abbrev pub planFrom : Plan
+  planFrom = planOf (λ j. getD words (at + j) 0)
 
-module _ (m : ℕ) (word : ℕ → ℕ) where
-  pub plan-row-length : (word 1 ≡ m → ⊥) → goodPlan m (planOf word) ≡ false
-  unfolding goodPlan planOf
-  plan-row-length h = rw (ne-eqb (word 1) m h)
+  moved : (from n : ℕ) → listBelow (λ j. real (getD words (at + (from + j)) 0)) n ≡ listBelow (λ j. real (getD words (at + from + j) 0)) n
+  moved from n = listBelow-same _ _ n (λ j l. ap (λ t. real (getD words t 0)) (sym (add-assoc at from j)))
 
-  pub plan-constraints : maxConstraints < word 10 → goodPlan m (planOf word) ≡ false
-  unfolding goodPlan planOf
-  plan-constraints h = rw (lt-leb (word 10) maxConstraints h) (no (eqb (word 1) m))
-    where
-      no : (b : Bool) → (b && false) ≡ false
-      no b = and-no b false refl
+  -- its values and constraints
+  pub words-row : planFrom .row ≡ listBelow (λ j. real (getD words (at + 2 + j) 0)) (min (getD words (at + 1) 0) maxValues)
+  unfolding planOf
+  words-row = moved 2 _
 
-  pub plan-values : m ≤ maxValues → word 1 ≡ m → word 10 ≤ maxConstraints
-      → goodPlan m (planOf word) ≡ (allBelow (λ j. measurable (real (word (2 + j)))) m && allBelow (λ j. measurable (real (word (11 + j)))) (word 10))
-  unfolding goodPlan planOf
-  plan-values h e k =
-      let a : min (word 1) maxValues ≡ m = omega arith in
-      let b : min (word 10) maxConstraints ≡ word 10 = omega arith in
-      rw (eq-eqb (word 1) m e, le-leb (word 10) maxConstraints k)
-      (ap₂ (λ x y. x && y)
-      (allIn-listBelow measurable (λ j. real (word (2 + j))) (min (word 1) maxValues) ∙ ap (allBelow _) a)
-      (allIn-listBelow measurable (λ j. real (word (11 + j))) (min (word 10) maxConstraints) ∙ ap (allBelow _) b))
+  pub words-constraints : getD words (at + 10) 0 ≤ maxConstraints
+      → planFrom .constraints ≡ listBelow (λ j. real (getD words (at + 11 + j) 0)) (getD words (at + 10) 0)
+  unfolding planOf
+  words-constraints h =
+      let e : min (getD words (at + 10) 0) maxConstraints ≡ getD words (at + 10) 0 = omega arith in
+      moved 11 _ ∙ ap (listBelow _) e
 
--- the same of the words of a slice from place `at` on
-module _ (m : ℕ) (words : List ℕ) (at : ℕ) (h : m ≤ maxValues) (e : getD words (at + 1) 0 ≡ m) (k : getD words (at + 10) 0 ≤ maxConstraints) where
-  moved : (from n : ℕ) → allBelow (λ j. measurable (real (getD words (at + (from + j)) 0))) n ≡ measurableTo words (at + from) n
-  moved from n = allBelow-same _ _ n (λ j l. ap (λ t. measurable (real (getD words t 0))) (sym (add-assoc at from j)))
+  -- refusal 8 for it, test by test
+  module _ (m : ℕ) where
+    pub plan-row-length : (getD words (at + 1) 0 ≡ m → ⊥) → goodPlan m planFrom ≡ false
+    unfolding goodPlan planOf
+    plan-row-length h = rw (ne-eqb (getD words (at + 1) 0) m h)
 
-  measured : goodPlan m (planOf (λ j. getD words (at + j) 0)) ≡ (measurableTo words (at + 2) m && measurableTo words (at + 11) (getD words (at + 10) 0))
-  measured = plan-values m (λ j. getD words (at + j) 0) h e k ∙ ap₂ (λ x y. x && y) (moved 2 m) (moved 11 (getD words (at + 10) 0))
+    pub plan-constraints : maxConstraints < getD words (at + 10) 0 → goodPlan m planFrom ≡ false
+    unfolding goodPlan planOf
+    plan-constraints h = rw (lt-leb (getD words (at + 10) 0) maxConstraints h) (and-no (eqb (getD words (at + 1) 0) m) false refl)
 
-  pub plan-bad-row : measurableTo words (at + 2) m ≡ false → goodPlan m (planOf (λ j. getD words (at + j) 0)) ≡ false
-  plan-bad-row v = measured ∙ ap (λ b. b && measurableTo words (at + 11) (getD words (at + 10) 0)) v
-
-  pub plan-good-row : measurableTo words (at + 2) m ≡ true
-      → goodPlan m (planOf (λ j. getD words (at + j) 0)) ≡ measurableTo words (at + 11) (getD words (at + 10) 0)
-  plan-good-row v = measured ∙ ap (λ b. b && measurableTo words (at + 11) (getD words (at + 10) 0)) v
-
--- ---- a pool
-
-pub count-none : (n : ℕ) → n ≡ 0 → badCount n ≡ true
-count-none n e = rw (eq-eqb n 0 e)
-
-pub count-some : (n : ℕ) → (n ≡ 0 → ⊥) → badCount n ≡ ltb maxSize n
-count-some n h = rw (ne-eqb n 0 h)
-
-pub not-both : (a b : Bool) → a ≡ true → b ≡ true → false ≡ not (a && b)
-not-both a b e f = sym (ap₂ (λ x y. not (x && y)) e f)
-
-pub not-first : (a b : Bool) → a ≡ false → true ≡ not (a && b)
-not-first a b e = sym (ap (λ x. not (x && b)) e)
-
-pub not-second : (a b : Bool) → a ≡ true → b ≡ false → true ≡ not (a && b)
-not-second a b e f = sym (ap₂ (λ x y. not (x && y)) e f)
+    pub plan-measured : m ≤ maxValues → getD words (at + 1) 0 ≡ m → getD words (at + 10) 0 ≤ maxConstraints → (b : Bool) → measurableTo words (at + 2) m ≡ b
+        → goodPlan m planFrom ≡ (b && measurableTo words (at + 11) (getD words (at + 10) 0))
+    unfolding goodPlan planOf
+    plan-measured h e k b v =
+        let a : min (getD words (at + 1) 0) maxValues ≡ m = omega arith in
+        rw (eq-eqb (getD words (at + 1) 0) m e, le-leb (getD words (at + 10) 0) maxConstraints k)
+        (ap₂ (λ x y. x && y)
+        (ap (allIn measurable) (words-row ∙ ap (listBelow _) a) ∙ allIn-listBelow measurable _ m ∙ v)
+        (ap (allIn measurable) (words-constraints k) ∙ allIn-listBelow measurable _ (getD words (at + 10) 0)))

@@ -2,7 +2,6 @@
 use mathlib.Core.Path.{sym, _∙_}
 use borrow.Author.Needs.{needs}
 use lib.Ieee.{div, ofBits}
-use Rattle.plans.proofs.Refused.{entry-measurable, entry-infinite}
 use Rattle.plans.proofs.good_entry.Statement.{statement}
 use Rattle.plans.proofs.good_entry.Tie as tie
 
@@ -10,11 +9,11 @@ measurable-requires : tie.Need-measurable-requires
 measurable-requires c κs = search needs
 
 returns : tie.Need-returns
-returns c = sym (entry-measurable _ (sym (c .before .measurable .ensures) ∙ c .if1 .taken))
+returns c = let e = sym (c .before .measurable .ensures) ∙ c .if1 .taken in rw e
 
 returns-2 : tie.Need-returns-2
 unfolding div ofBits
-returns-2 c = sym (entry-infinite _ (sym (c .before .measurable .ensures) ∙ c .if1 .left))
+returns-2 c = let e = sym (c .before .measurable .ensures) ∙ c .if1 .left in rw e
 
 pub good-entry-spec : {M : Type 1} → statement M
 good-entry-spec = tie.close (tie.spec measurable-requires returns returns-2)

@@ -1,9 +1,10 @@
 -- `good_plan`: each test of refusal 8 in turn
 use Prim.Native.Nat.{_*_}
 use mathlib.Core.Path.{sym, _∙_}
+use mathlib.Core.Bool.{true, false}
 use borrow.Author.Needs.{needs}
 use Rattle.model.specs.Plan.{planWords}
-use Rattle.plans.proofs.Refused.{plan-row-length, plan-constraints, plan-bad-row, plan-good-row}
+use Rattle.plans.proofs.Refused.{plan-row-length, plan-constraints, plan-measured}
 use Rattle.plans.proofs.good_plan.Statement.{statement}
 use Rattle.plans.proofs.good_plan.Tie as tie
 
@@ -20,7 +21,7 @@ shared-slice-read-row-length : tie.Need-shared-slice-read-row-length
 shared-slice-read-row-length c = search needs
 
 returns : tie.Need-returns
-returns c = sym (plan-row-length _ _ (c .if1 .taken))
+returns c = let a = c .before .before .before .args in sym (plan-row-length (a .pool .now) (a .i * planWords) (a .m) (c .if1 .taken))
 
 add-count : tie.Need-add-count
 add-count c = search needs
@@ -32,7 +33,7 @@ shared-slice-read-count : tie.Need-shared-slice-read-count
 shared-slice-read-count c = search needs
 
 returns-2 : tie.Need-returns-2
-returns-2 c = sym (plan-constraints _ _ (c .if2 .taken))
+returns-2 c = let a = c .before .before .before .before .before .args in sym (plan-constraints (a .pool .now) (a .i * planWords) (a .m) (c .if2 .taken))
 
 add-measurable-words : tie.Need-add-measurable-words
 add-measurable-words c = search needs
@@ -51,14 +52,14 @@ returns-3 c =
     let at = c .before .before .before in
     let a = at .before .before .before .before .before in
     c .measurable-words2 .ensures
-    ∙ sym (plan-good-row (a .args .m) (a .args .pool .now) (a .args .i * planWords) (a .pre .1) (at .before .before .if1 .left) (at .if2 .left)
+    ∙ sym (plan-measured (a .args .pool .now) (a .args .i * planWords) (a .args .m) (a .pre .1) (at .before .before .if1 .left) (at .if2 .left) true
     (sym (c .before .before .measurable-words .ensures) ∙ c .before .if3 .taken))
 
 returns-4 : tie.Need-returns-4
 returns-4 c =
     let at = c .before .before in
     let a = at .before .before .before .before .before in
-    sym (plan-bad-row (a .args .m) (a .args .pool .now) (a .args .i * planWords) (a .pre .1) (at .before .before .if1 .left) (at .if2 .left)
+    sym (plan-measured (a .args .pool .now) (a .args .i * planWords) (a .args .m) (a .pre .1) (at .before .before .if1 .left) (at .if2 .left) false
     (sym (c .before .measurable-words .ensures) ∙ c .if3 .left))
 
 pub good-plan-spec : {M : Type 1} → statement M
