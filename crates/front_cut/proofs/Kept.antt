@@ -19,8 +19,8 @@ use Rattle.list_laws.proofs.First.{firstBelow-le, firstBelow-nowhere, firstBelo
 use Rattle.front_laws.specs.Strict.{Strict}
 use Rattle.front_laws.proofs.Order.{ended, listing-room, listing-whole}
 use Rattle.front_laws.specs.Post.{Sorted}
-use Rattle.front_laws.proofs.Places.{frontCount-le, frontCount-empty, sorted-end, sorted-fronts}
-use Rattle.front_laws.proofs.Listings.{listing-none, listing-more, listing-grows}
+use Rattle.front_laws.proofs.Places.{frontCount-empty, sorted-few, sorted-end, sorted-fronts}
+use Rattle.front_laws.proofs.Listings.{listing-none, listing-more, listing-grows, listing-fits}
 use Rattle.front_cut.specs.declared.Cut.{Cut}
 use Rattle.front_cut.specs.Fitting.{fitting, startOf, cutOf}
 use Rattle.front_cut.proofs.Fitting.{fitting-le, cut-split, cut-filled, cut-none}
@@ -59,7 +59,7 @@ module _ (r : Request) (strict : Strict (dominance r) (r .count)) (o₀ o k₀ k
   -- ---- the ends
 
   few : x ≤ n
-  few = omega (arith, s .result, frontCount-le d n)
+  few = sorted-few d n o₀ o k₀ k e₀ e x s
 
   last-empty : front d n x ≡ []
   last-empty = ap (front d n) (s .result) ∙ frontCount-empty d n strict
@@ -91,11 +91,7 @@ module _ (r : Request) (strict : Strict (dominance r) (r .count)) (o₀ o k₀ k
   w-before t l = firstBelow-before over-size x t (omega (arith, fitting-first))
 
   start-fits : startOf e w ≤ size
-  start-fits = go w w-le w-before
-    where
-      go : (t : ℕ) → t ≤ x → ((j : ℕ) → j < t → over-size j ≡ false) → startOf e t ≤ size
-      go zero l h = omega arith
-      go (suc t) l h = omega (arith, end-at t l, ltb-false size (length (listing d n (suc t))) (h t (omega arith)))
+  start-fits = omega (arith, start-at w w-le, listing-fits d n size w w-before)
 
   whole-some : w < x → wholeFronts r ≡ w
   unfolding wholeFronts

@@ -1,11 +1,13 @@
 -- The listing of the first k fronts, one front more.
-use Prim.Native.Nat.{ℕ, zero, suc, _+_, _≤_}
+use Prim.Native.Nat.{ℕ, zero, suc, _+_, _≤_, _<_}
 use mathlib.Core.Path.{_≡_, refl, ap, sym, subst, _∙_}
 use mathlib.Core.Logic.{⊎-elim}
-use mathlib.Core.Bool.{Bool}
+use mathlib.Core.Bool.{Bool, false}
 use mathlib.Core.List.{List, [], _++_, append-assoc, append-nil}
 use native.Mathlib.Nat.{eq-or-lt-of-le}
 use native.Mathlib.Omega.{arith}
+use borrow.Author.Tests.{ltb-false}
+use lib.Dec.{ltb}
 use lib.ListN.{length, take, length-append}
 use lib.Seq.{take-at}
 use Rattle.model.specs.Front.{front, listing}
@@ -26,6 +28,11 @@ module _ (d : ℕ → ℕ → Bool) (n : ℕ) where
 
   pub listing-grows : (k : ℕ) → length (listing d n (suc k)) ≡ length (listing d n k) + length (front d n k)
   listing-grows k = ap length (listing-more k) ∙ length-append (listing d n k) (front d n k)
+
+  -- k fronts fit into a size where with each of them they do
+  pub listing-fits : (size k : ℕ) → ((j : ℕ) → j < k → ltb size (length (listing d n (suc j))) ≡ false) → length (listing d n k) ≤ size
+  listing-fits size zero h = omega (arith, listing-none)
+  listing-fits size (suc j) h = ltb-false size (length (listing d n (suc j))) (h j (omega arith))
 
   -- a listing begins with every shorter one
   listing-begins : (k j : ℕ) → k ≤ j → (rest : List ℕ) × (listing d n j ≡ listing d n k ++ rest)

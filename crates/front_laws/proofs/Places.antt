@@ -10,8 +10,8 @@ use borrow.Author.Tests.{eqb-true}
 use lib.Dec.{eqb}
 use lib.ListN.{length, getD, take}
 use lib.Seq.{take-take}
-use Rattle.model.specs.Front.{front, listing, frontList}
-use Rattle.list_laws.proofs.Built.{listBelow-length, over-take, over-below}
+use Rattle.model.specs.Front.{front, listing}
+use Rattle.list_laws.proofs.Built.{over-take, over-below}
 use Rattle.list_laws.proofs.First.{firstBelow-le, firstBelow-passes}
 use Rattle.list_laws.proofs.Members.{empty-of}
 use Rattle.front_laws.specs.Post.{frontCount, frontEnd, Sorted}
@@ -35,6 +35,9 @@ module _ (d : ℕ → ℕ → Bool) (n : ℕ) where
 
 -- what a sort leaves in the lent slices
 module _ (d : ℕ → ℕ → Bool) (n : ℕ) (o₀ o r₀ r e₀ e : List ℕ) (x : ℕ) (h : Sorted d n o₀ o r₀ r e₀ e x) where
+  pub sorted-few : x ≤ n
+  sorted-few = omega (arith, h .result, frontCount-le d n)
+
   -- the end of front k
   pub sorted-end : (k : ℕ) → k < x → getD e k 0 ≡ frontEnd d n k
   sorted-end k l = over-below (frontEnd d n) (frontCount d n) e e₀ k 0 (h .ends) (omega (arith, h .result))
@@ -48,8 +51,3 @@ module _ (d : ℕ → ℕ → Bool) (n : ℕ) (o₀ o r₀ r e₀ e : List ℕ) 
       let size = listing-length-n d n s in
       let room = listing-room d n k in
       sym (take-take (length (listing d n k)) n o room) ∙ ap (take (length (listing d n k))) (sorted-order s) ∙ listing-take d n k n l
-
-  -- each plan's front
-  pub sorted-ranks : take n r ≡ frontList d n
-  unfolding frontList
-  sorted-ranks = ap (take n) (h .ranks) ∙ over-take (frontList d n) r₀ n (listBelow-length _ n)

@@ -1,7 +1,7 @@
 -- Laws of feasibility and of the violation sum, place by place.
 use Prim.Native.Nat.{ℕ, _+_}
 use mathlib.Core.Path.{_≡_, refl, ap, _∙_}
-use mathlib.Core.Bool.{true, false, cond}
+use mathlib.Core.Bool.{Bool, true, cond}
 use mathlib.Core.List.{List, []}
 use native.Mathlib.Numerals.{add-one}
 use lib.Ieee.{Float, nan, lt, le}
@@ -28,16 +28,10 @@ pub violation-none : (cs : List Float) → violationTo cs 0 ≡ minusNought
 unfolding sumTo
 violation-none cs = refl
 
-pub violation-more : (cs : List Float) (i : ℕ) → violationTo cs (i + 1) ≡ violationTo cs i ⊕ excess (getD cs i nan)
+-- one more: above 0 it adds itself, else 0
+pub violation-more : (cs : List Float) (i : ℕ) (b : Bool) → lt nought (getD cs i nan) ≡ b → violationTo cs (i + 1) ≡ violationTo cs i ⊕ cond b (getD cs i nan) nought
 unfolding sumTo
-violation-more cs i = ap (violationTo cs) (add-one i)
-
--- a constraint above 0 adds itself, any other 0
-pub violation-yes : (cs : List Float) (i : ℕ) → lt nought (getD cs i nan) ≡ true → violationTo cs (i + 1) ≡ violationTo cs i ⊕ getD cs i nan
-violation-yes cs i e = violation-more cs i ∙ ap (λ b. violationTo cs i ⊕ cond b (getD cs i nan) nought) e
-
-pub violation-no : (cs : List Float) (i : ℕ) → lt nought (getD cs i nan) ≡ false → violationTo cs (i + 1) ≡ violationTo cs i ⊕ nought
-violation-no cs i e = violation-more cs i ∙ ap (λ b. violationTo cs i ⊕ cond b (getD cs i nan) nought) e
+violation-more cs i b e = ap (violationTo cs) (add-one i) ∙ ap (λ b. violationTo cs i ⊕ cond b (getD cs i nan) nought) e
 
 pub violation-all : (cs : List Float) → violation cs ≡ violationTo cs (length cs)
 unfolding violation

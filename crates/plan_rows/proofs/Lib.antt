@@ -1,4 +1,2 @@
 pub mod Rows
-pub mod Constraints
 pub mod Pool
-pub mod Sorted

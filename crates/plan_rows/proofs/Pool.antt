@@ -4,38 +4,23 @@ use mathlib.Core.Path.{_≡_, ap, _∙_}
 use mathlib.Core.Bool.{Bool, true, false}
 use mathlib.Core.List.{List}
 use native.Mathlib.Omega.{arith}
-use borrow.Author.Tests.{eqb-true, leb-true}
-use lib.Dec.{eqb, leb}
 use lib.Ieee.{Float, nan, isNan}
 use lib.ListN.{length}
 use Rattle.model.specs.Lists.{allBelow}
 use Rattle.model.specs.Plan.{Plan, planAt, maxValues, maxConstraints}
 use Rattle.model.specs.Row.{rowOf, feasible, violation, beats}
 use Rattle.model.specs.Refusal.{goodPlan}
-use Rattle.list_laws.proofs.Bools.{and-left, and-right}
 use Rattle.list_laws.proofs.Built.{over-below}
+use Rattle.list_laws.proofs.Checks.{good-length, good-constraints}
 use Rattle.list_laws.proofs.Tests.{allBelow-each}
 use Rattle.front_laws.specs.Strict.{Known}
-use Rattle.front_laws.specs.Flat.{flatBeats, KnownRows, FlatOf}
+use Rattle.front_laws.specs.Flat.{flatBeats, KnownRows, RowsOf, FlatOf}
 use Rattle.front_laws.specs.Post.{Sorted}
 use Rattle.front_laws.proofs.Plans.{words-accepted, accepted-known}
 use Rattle.front_laws.proofs.Meaning.{sorted-beats}
-use Rattle.plan_rows.specs.Filled.{RowsOf, ConstraintsOf}
+use Rattle.plan_rows.specs.Filled.{ConstraintsOf}
 
--- ---- a plan that passes refusal 8
-
-module _ (m : ℕ) (plan : Plan) (good : goodPlan m plan ≡ true) where
-  pub good-row-length : plan .rowLength ≡ m
-  unfolding goodPlan
-  good-row-length = eqb-true (plan .rowLength) m (and-left (eqb (plan .rowLength) m) _ good)
-
-  pub good-constraint-count : plan .constraintCount ≤ maxConstraints
-  unfolding goodPlan
-  good-constraint-count =
-      leb-true (plan .constraintCount) maxConstraints
-      (and-left (leb (plan .constraintCount) maxConstraints) _ (and-right (eqb (plan .rowLength) m) _ good))
-
--- ---- a pool of words whose first n plans pass it
+-- ---- a pool of words whose first n plans pass refusal 8
 
 module _ (pool marks : List ℕ) (n : ℕ) (good : allBelow (λ p. goodPlan (length marks) (planAt pool p)) n ≡ true) where
   good-at : (p : ℕ) → p < n → goodPlan (length marks) (planAt pool p) ≡ true
@@ -43,10 +28,10 @@ module _ (pool marks : List ℕ) (n : ℕ) (good : allBelow (λ p. goodPlan (len
 
   -- what `fill_rows` and `fill_constraints` ask
   pub pool-row-lengths : (p : ℕ) → p < n → length marks ≤ planAt pool p .rowLength
-  pool-row-lengths p l = omega (arith, good-row-length (length marks) (planAt pool p) (good-at p l))
+  pool-row-lengths p l = omega (arith, good-length (length marks) (planAt pool p) (good-at p l))
 
   pub pool-constraint-counts : (p : ℕ) → p < n → planAt pool p .constraintCount ≤ maxConstraints
-  pool-constraint-counts p l = good-constraint-count (length marks) (planAt pool p) (good-at p l)
+  pool-constraint-counts p l = good-constraints (length marks) (planAt pool p) (good-at p l)
 
   -- no value is a NaN
   pub pool-known : length marks ≤ maxValues → (p : ℕ) → p < n → Known (length marks) (rowOf marks (planAt pool p))
@@ -56,15 +41,15 @@ module _ (pool marks : List ℕ) (n : ℕ) (good : allBelow (λ p. goodPlan (len
 
 -- ---- flat lists of n plans
 
-module _ (marks : List ℕ) (plans : ℕ → Plan) (n : ℕ) (rows₀ rows : List Float) (filled : RowsOf marks plans n rows₀ rows) where
+module _ (marks : List ℕ) (plans : ℕ → Plan) (n : ℕ) (rows : List Float) (laid : RowsOf marks plans n rows) where
   -- where no plan's value is a NaN, no entry is
   pub rows-known : ((p : ℕ) → p < n → Known (length marks) (rowOf marks (plans p))) → KnownRows rows (length marks) n
-  rows-known known p l j u = ap isNan (filled .values p j l u) ∙ known p l j u
+  rows-known known p l j u = ap isNan (laid p j l u) ∙ known p l j u
 
   module _ (flags₀ flags : List Bool) (sums₀ sums : List Float) (constraints : ConstraintsOf plans n flags₀ flags sums₀ sums) where
     pub flat-of : FlatOf marks plans n rows flags sums
     flat-of = record {
-      rowsOf = filled .values;
+      rowsOf = laid;
       flagsOf = λ p l. over-below (λ q. feasible (plans q .constraints)) n flags flags₀ p false (constraints .feasibility) l;
       sumsOf = λ p l. over-below (λ q. violation (plans q .constraints)) n sums sums₀ p nan (constraints .violations) l;
     }

@@ -1,19 +1,20 @@
 -- A sorted pool, in the words of its request.
-use Prim.Native.Nat.{ℕ, _+_, _*_, _≤_, _<_}
+use Prim.Native.Nat.{ℕ, _*_, _≤_}
 use mathlib.Core.Path.{_≡_}
 use mathlib.Core.List.{List}
-use lib.Ieee.{Float, nan}
-use lib.ListN.{length, getD, take}
+use lib.Ieee.{Float}
+use lib.ListN.{length, take}
 use Rattle.model.specs.Lists.{over}
 use Rattle.model.specs.Front.{listing, frontList}
-use Rattle.model.specs.Association.{Request, objectives, valueOf, dominance}
+use Rattle.model.specs.Association.{Request, objectives, dominance}
+use Rattle.front_laws.specs.Flat.{RowsOf}
 use Rattle.front_cut.specs.declared.Cut.{Cut}
 use Rattle.front_cut.proofs.Kept.{CutsAt}
 
 -- the pool's rows in minimise-space, one after the other
 pub record RowsIn (r : Request) (rows : List Float) : Type 0 where
   pub table : r .count * objectives r ≤ length rows
-  pub values : (p j : ℕ) → p < r .count → j < objectives r → getD rows (p * objectives r + j) nan ≡ valueOf r p j
+  pub values : RowsOf (r .marks) (r .plans) (r .count) rows
 
 -- the plans listed front by front, and where the whole fronts and the split one end
 pub record OrderIn (r : Request) (order : List ℕ) (c : Cut) : Type 0 where

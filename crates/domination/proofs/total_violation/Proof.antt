@@ -1,12 +1,13 @@
 -- the sum is that of the constraints before place i
 use Prim.Native.Nat.{_-_, _≤_}
 use mathlib.Core.Path.{_≡_, ap, sym, _∙_}
+use mathlib.Core.Bool.{true, false}
 use mathlib.Core.Logic.{⊎-elim}
 use native.Mathlib.Omega.{arith}
 use lib.Ieee.{nan, neg, ofBits}
 use lib.ListN.{length, getD}
 use Rattle.model.specs.Real.{_⊕_, nought}
-use Rattle.front_laws.proofs.Violation.{violationTo, violation-none, violation-yes, violation-no, violation-all}
+use Rattle.front_laws.proofs.Violation.{violationTo, violation-none, violation-more, violation-all}
 use Rattle.domination.proofs.total_violation.Statement.{statement}
 use Rattle.domination.proofs.total_violation.Tie as tie
 
@@ -38,8 +39,8 @@ loop-again c =
     let cs = c .before .before .before .before .args .constraints .now in (
       omega arith,
       ⊎-elim
-          (λ w. w .1 ∙ ap (λ v. v ⊕ getD cs (l .i) nan) (l .inv .1) ∙ sym (violation-yes cs (l .i) (w .0 .taken)))
-          (λ w. w .1 ∙ ap (λ v. v ⊕ nought) (l .inv .1) ∙ sym (violation-no cs (l .i) (w .0 .left))) (c .if1 .came),
+          (λ w. w .1 ∙ ap (λ v. v ⊕ getD cs (l .i) nan) (l .inv .1) ∙ sym (violation-more cs (l .i) true (w .0 .taken)))
+          (λ w. w .1 ∙ ap (λ v. v ⊕ nought) (l .inv .1) ∙ sym (violation-more cs (l .i) false (w .0 .left))) (c .if1 .came),
     )
 
 returns : tie.Need-returns Inv-loop μ-loop

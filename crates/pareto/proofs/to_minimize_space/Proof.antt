@@ -3,9 +3,9 @@ use Prim.Native.Nat.{_-_, _≤_}
 use mathlib.Core.Path.{_≡_, ap, sym, _∙_}
 use native.Mathlib.Omega.{arith}
 use borrow.Author.Needs.{needs}
-use lib.ListN.{length, set}
+use lib.ListN.{length}
 use Rattle.model.specs.Lists.{listBelow, over}
-use Rattle.list_laws.proofs.Built.{over-none, over-more, over-size}
+use Rattle.list_laws.proofs.Built.{over-none, over-set, over-size}
 use Rattle.front_laws.specs.Flat.{minimised}
 use Rattle.pareto.proofs.to_minimize_space.Statement.{statement}
 use Rattle.pareto.proofs.to_minimize_space.Tie as tie
@@ -53,11 +53,7 @@ loop-again c =
     let l = c .before .before .before .before .loop in
     let a = c .before .before .before .before .before .before .before .before in
     let f = minimised (a .args .directions .now) (a .args .values .now) in
-    let row = over (listBelow f (l .j)) (a .args .row .now) in (
-      omega arith,
-      ap (λ t. set t (l .j) (c .to-minimize .result)) (l .inv .1) ∙ ap (set row (l .j)) (c .to-minimize .ensures)
-          ∙ over-more f (l .j) (a .args .row .now) (omega arith),
-    )
+    (omega arith, over-set f _ _ (l .j) _ (omega arith) (l .inv .1) (c .to-minimize .ensures))
 
 same-length : tie.Need-same-length Inv-loop μ-loop
 same-length c = size (c .before)

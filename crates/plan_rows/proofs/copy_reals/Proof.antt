@@ -4,10 +4,10 @@ use mathlib.Core.Path.{_≡_, ap, sym, _∙_}
 use native.Mathlib.Omega.{arith}
 use borrow.Author.Needs.{needs}
 use lib.Ieee.{Float}
-use lib.ListN.{length, getD, set, take}
+use lib.ListN.{length, getD, take}
 use Rattle.model.specs.Lists.{listBelow, over}
 use Rattle.model.specs.Real.{real}
-use Rattle.list_laws.proofs.Built.{listBelow-length, over-none, over-more, over-size, over-take}
+use Rattle.list_laws.proofs.Built.{listBelow-length, over-none, over-set, over-size, over-take}
 use Rattle.plan_rows.proofs.copy_reals.Statement.{statement}
 use Rattle.plan_rows.proofs.copy_reals.Tie as tie
 
@@ -53,11 +53,7 @@ loop-again c =
     let l = c .before .before .before .loop in
     let a = c .before .before .before .before .before .before in
     let f : ℕ → Float = λ i. real (getD (a .args .words .now) (a .args .at + i) 0) in
-    let out = over (listBelow f (l .j)) (a .args .out .now) in (
-      omega arith,
-      ap (λ t. set t (l .j) (c .real-of-word .result)) (l .inv .1) ∙ ap (set out (l .j)) (c .real-of-word .ensures)
-          ∙ over-more f (l .j) (a .args .out .now) (omega arith),
-    )
+    (omega arith, over-set f _ _ (l .j) _ (omega arith) (l .inv .1) (c .real-of-word .ensures))
 
 same-length : tie.Need-same-length Inv-loop μ-loop
 same-length c = size (c .before)

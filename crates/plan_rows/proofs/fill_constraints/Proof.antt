@@ -1,12 +1,12 @@
 -- `fill_constraints`: feasibility and violation sums of the plans before plan p stand at the front
 use Prim.Native.Nat.{_-_, _≤_}
-use mathlib.Core.Path.{_≡_, ap, sym, _∙_}
+use mathlib.Core.Path.{_≡_, refl, ap, sym, _∙_}
 use native.Mathlib.Omega.{arith}
-use lib.ListN.{length, set}
+use lib.ListN.{length}
 use Rattle.model.specs.Lists.{listBelow, over}
 use Rattle.model.specs.Plan.{planAt}
 use Rattle.model.specs.Row as row
-use Rattle.list_laws.proofs.Built.{over-none, over-more, over-size}
+use Rattle.list_laws.proofs.Built.{over-none, over-set, over-size}
 use Rattle.plan_rows.proofs.fill_constraints.Statement.{statement}
 use Rattle.plan_rows.proofs.fill_constraints.Tie as tie
 
@@ -49,11 +49,10 @@ loop-again : tie.Need-loop-again Inv-loop μ-loop
 loop-again c =
     let a = c .before .before .before .before .before .before .before .before .before .before .before .before in
     let l = c .before .before .before .before .before .before .before .before .loop in
-    let f = c .before .before .before .before .fill-plan .ensures in
-    let q = planAt (a .args .pool .now) (l .p) in (
+    let f = c .before .before .before .before .fill-plan .ensures in (
       omega arith,
-      f .feasibility ∙ ap (λ t. set t (l .p) (row.feasible (q .constraints))) (l .inv .1) ∙ over-more _ (l .p) _ (omega (arith, a .pre .0 .1)),
-      f .violations ∙ ap (λ t. set t (l .p) (row.violation (q .constraints))) (l .inv .2) ∙ over-more _ (l .p) _ (omega (arith, a .pre .0 .2)),
+      f .feasibility ∙ over-set _ _ _ (l .p) _ (omega (arith, a .pre .0 .1)) (l .inv .1) refl,
+      f .violations ∙ over-set _ _ _ (l .p) _ (omega (arith, a .pre .0 .2)) (l .inv .2) refl,
     )
 
 same-length : tie.Need-same-length Inv-loop μ-loop

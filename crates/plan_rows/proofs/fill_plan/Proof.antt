@@ -7,7 +7,7 @@ use lib.ListN.{set}
 use lib.Seq.{length-take-le}
 use Rattle.model.specs.Plan.{planOf, planWords}
 use Rattle.model.specs.Row.{feasible, violation}
-use Rattle.plan_rows.proofs.Constraints.{constraints-words}
+use Rattle.plans.proofs.Refused.{words-constraints}
 use Rattle.plan_rows.proofs.fill_plan.Statement.{statement}
 use Rattle.plan_rows.proofs.fill_plan.Tie as tie
 
@@ -81,7 +81,7 @@ unfolding planOf
 returns c =
     let f = c .before .before .before .before .before .copy-reals in
     let a = c .before .before .before .before .before .before .before .before .before .before .before in
-    let e = f .ensures ∙ sym (constraints-words (a .args .pool .now) (a .args .p * planWords) (a .pre .1)) in
+    let e = f .ensures ∙ sym (words-constraints (a .args .pool .now) (a .args .p * planWords) (a .pre .1)) in
     record {
       feasibility = ap (set (a .args .feasible .now) (a .args .p)) (c .before .before .is-feasible .ensures ∙ ap feasible e);
       violations = ap (set (a .args .violations .now) (a .args .p)) (c .total-violation .ensures ∙ ap violation e);

@@ -1,25 +1,32 @@
 -- `fill_row`: the first j values stand from the row's place on
 use Prim.Native.Nat.{_*_, _-_, _≤_}
-use mathlib.Core.Path.{_≡_, refl}
+use mathlib.Core.Path.{_≡_, ap, _∙_}
 use native.Mathlib.Omega.{arith}
-use lib.ListN.{length, length-set}
+use lib.ListN.{length}
+use lib.Seq.{sets, length-sets}
+use Rattle.model.specs.Lists.{listBelow}
 use Rattle.model.specs.Plan.{planAt}
-use Rattle.plan_rows.proofs.Rows.{RowTo, row-none, row-more, row-done}
+use Rattle.model.specs.Row.{rowOf}
+use Rattle.list_laws.proofs.Runs.{run-none, run-more}
 use Rattle.plan_rows.proofs.fill_row.Statement.{statement}
 use Rattle.plan_rows.proofs.fill_row.Tie as tie
 
 abbrev Inv-loop : tie.InvT-loop
 Inv-loop pool directions p rows₀ m at j₀ rows j =
-    (j ≤ length directions) × (length rows ≡ length rows₀) × RowTo directions (planAt pool p) (p * length directions) j rows₀ rows
+    (j ≤ length directions) × (rows ≡ sets rows₀ (p * length directions) (listBelow (rowOf directions (planAt pool p)) j))
 
 abbrev μ-loop : tie.MeasureT-loop
 μ-loop pool directions p rows₀ m at j₀ rows j = length directions - j
+
+-- the table keeps its length
+size : (c : tie.At-loop Inv-loop μ-loop) → length (c .loop .rows) ≡ length (c .before .before .before .before .args .rows .now)
+size c = ap length (c .loop .inv .1) ∙ simp length-sets
 
 mul-at : tie.Need-mul-at Inv-loop μ-loop
 mul-at c = omega arith
 
 loop-holds : tie.Need-loop-holds Inv-loop μ-loop
-loop-holds c = (omega arith, refl, row-none _ _ _ _)
+loop-holds c = (omega arith, run-none _ _ _)
 
 row-value-requires : tie.Need-row-value-requires Inv-loop μ-loop
 row-value-requires c κs = let a = c .before .before .before .before .before in (a .pre .0, omega arith, omega arith, omega (arith, a .pre .2))
@@ -31,7 +38,7 @@ mul-rows : tie.Need-mul-rows Inv-loop μ-loop
 mul-rows c = omega arith
 
 slice-write-rows : tie.Need-slice-write-rows Inv-loop μ-loop
-slice-write-rows c = omega arith
+slice-write-rows c = omega (arith, size (c .before .before))
 
 add-j : tie.Need-add-j Inv-loop μ-loop
 add-j c = omega arith
@@ -42,16 +49,16 @@ loop-less c = omega arith
 loop-again : tie.Need-loop-again Inv-loop μ-loop
 loop-again c =
     let l = c .before .before .loop in
-    (omega arith, simp length-set (l .inv .1), row-more _ _ _ _ _ _ _ (omega arith) (c .row-value .ensures) (l .inv .2))
+    (omega arith, run-more _ _ _ _ _ _ (l .inv .1) (c .row-value .ensures))
 
 same-length : tie.Need-same-length Inv-loop μ-loop
-same-length c = c .before .loop .inv .1
+same-length c = size (c .before)
 
 returns : tie.Need-returns Inv-loop μ-loop
 returns c =
     let l = c .before .loop in
     let e : l .j ≡ length (c .before .before .before .before .before .args .directions .now) = omega arith in
-    row-done _ _ _ _ _ (rw e at (l .inv .2))
+    rw e at (l .inv .1)
 
 pub fill-row-spec : {M : Type 1} → statement M
 fill-row-spec =

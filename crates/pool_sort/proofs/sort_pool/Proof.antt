@@ -10,9 +10,9 @@ use Rattle.model.specs.declared.Rng.{Rng}
 use Rattle.model.specs.Calls.{wordRequest}
 use Rattle.model.specs.Plan.{planCount}
 use Rattle.model.specs.Association.{Request}
-use Rattle.plan_rows.proofs.Pool.{pool-constraint-counts}
-use Rattle.plan_rows.proofs.Sorted.{KnownPool, words-known}
-use Rattle.pool_sort.proofs.Sorting.{fronts-few, known-rows, sorts}
+use Rattle.front_laws.proofs.Places.{sorted-few}
+use Rattle.plan_rows.proofs.Pool.{pool-constraint-counts, pool-known}
+use Rattle.pool_sort.proofs.Sorting.{KnownPool, known-rows, sorts}
 use Rattle.pool_sort.proofs.sort_pool.Statement.{statement}
 use Rattle.pool_sort.proofs.sort_pool.Tie as tie
 
@@ -24,7 +24,7 @@ abbrev some-rng : Rng
 some-rng = record { s = 0 }
 
 known : (s : tie.Start) (h : ℕ) (g : Rng) (i : List Float) → KnownPool (request s h g i)
-known s h g i = words-known (s .args .pool .now) (s .args .directions .now) (planCount (s .args .pool .now)) (s .pre .0 .1) (s .pre .0 .4)
+known s h g i = pool-known (s .args .pool .now) (s .args .directions .now) (planCount (s .args .pool .now)) (s .pre .0 .4) (s .pre .0 .1)
 
 plan-count-requires : tie.Need-plan-count-requires
 plan-count-requires c κs = search needs
@@ -80,7 +80,7 @@ split-at-requires c κs =
     let f = c .before .before .before .before .before .before .fast-non-dominated-sort-constrained in
     let e = c .before .before .before .before .before .before .before .before .before .before .before .before .before .before .before .before .before .plan-count .ensures in
     let ends : length (f .last .1 .1 .1 .1 .1 .1 .1 .0) ≡ 1024 = f .kept .1 .1 .1 .1 .1 .1 .1 .0 in
-    omega (arith, s .pre .0 .0, fronts-few _ _ _ (f .ensures .result))
+    omega (arith, s .pre .0 .0, sorted-few _ _ _ _ _ _ _ _ _ (f .ensures))
 
 same-length : tie.Need-same-length
 same-length c = c .before .before .before .before .before .before .before .fast-non-dominated-sort-constrained .kept .1 .1 .1 .1 .1 .0

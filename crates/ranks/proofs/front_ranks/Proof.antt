@@ -10,7 +10,8 @@ use Rattle.model.specs.Row.{rowBeats}
 use Rattle.model.specs.Front.{frontList}
 use Rattle.plan_rows.proofs.Pool.{pool-row-lengths, pool-known, rows-known}
 use Rattle.list_laws.proofs.Rows.{few-values}
-use Rattle.ranks.proofs.Ranks.{rows-fronts}
+use Rattle.plan_rows.proofs.Rows.{rows-values}
+use Rattle.front_laws.proofs.Meaning.{sorted-rowBeats}
 use Rattle.ranks.proofs.front_ranks.Statement.{statement}
 use Rattle.ranks.proofs.front_ranks.Tie as tie
 
@@ -44,7 +45,7 @@ fast-non-dominated-sort-requires c κs =
     let f = c .before .before .before .before .before .fill-rows in
     let size : length (f .last .1 .1 .1 .0) ≡ 8192 = f .kept .1 .1 .1 .0 in (
       subst (λ k. c .before .before .before .before .before .before .before .plan-count .result * length (s .args .directions .now) ≤ k) (sym size) (few-values _ _ (omega (arith, e, s .pre .0)) (s .pre .1)),
-      rows-known (s .args .directions .now) (planAt (s .args .pool .now)) _ _ _ (f .ensures)
+      rows-known (s .args .directions .now) (planAt (s .args .pool .now)) _ (f .last .1 .1 .1 .0) (rows-values _ _ _ _ _ (f .ensures))
           (λ p l. pool-known (s .args .pool .now) (s .args .directions .now) (planCount (s .args .pool .now)) (s .pre .3) (s .pre .1) p (omega (arith, e))),
       omega (arith, e, s .pre .0),
       omega (arith, e, s .pre .0),
@@ -62,7 +63,7 @@ returns c =
     let e = c .before .before .before .before .before .before .before .before .before .before .before .before .plan-count .ensures in
     let d = c .before .before .before .before .fast-non-dominated-sort in
     subst (λ k. d .last .1 .1 .1 .1 .0 ≡ over (frontList (rowBeats (s .args .directions .now) (planAt (s .args .pool .now))) k) (s .args .fronts .now)) e
-    (rows-fronts (s .args .directions .now) (planAt (s .args .pool .now)) _ _ _ _ _ _ _ _ _ _ (f .ensures) (d .ensures))
+    (sorted-rowBeats (s .args .directions .now) (planAt (s .args .pool .now)) _ (f .last .1 .1 .1 .0) _ _ _ _ _ _ _ (rows-values _ _ _ _ _ (f .ensures)) (d .ensures) .ranks)
 
 pub front-ranks-spec : {M : Type 1} → statement M
 front-ranks-spec =

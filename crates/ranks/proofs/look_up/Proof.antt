@@ -3,21 +3,25 @@ use Prim.Native.Nat.{_-_, _≤_}
 use mathlib.Core.Path.{_≡_, refl, ap, sym, _∙_}
 use native.Mathlib.Omega.{arith}
 use borrow.Author.Needs.{needs}
-use lib.ListN.{length, getD, length-set}
+use lib.ListN.{length, getD}
 use Rattle.model.specs.Lists.{listBelow, over}
-use Rattle.list_laws.proofs.Built.{over-none, over-more}
+use Rattle.list_laws.proofs.Built.{over-none, over-set, over-size}
 use Rattle.ranks.proofs.look_up.Statement.{statement}
 use Rattle.ranks.proofs.look_up.Tie as tie
 
 abbrev Inv-loop : tie.InvT-loop
 Inv-loop from places count to₀ i₀ to i =
-    (i ≤ count) × (length to ≡ length to₀) × (to ≡ over (listBelow (λ t. getD from (getD places t 0) 0) i) to₀)
+    (i ≤ count) × (to ≡ over (listBelow (λ t. getD from (getD places t 0) 0) i) to₀)
 
 abbrev μ-loop : tie.MeasureT-loop
 μ-loop from places count to₀ i₀ to i = count - i
 
+-- the list keeps its length
+size : (c : tie.At-loop Inv-loop μ-loop) → length (c .loop .to) ≡ length (c .before .args .to .now)
+size c = ap length (c .loop .inv .1) ∙ over-size _ _ _ (omega arith)
+
 loop-holds : tie.Need-loop-holds Inv-loop μ-loop
-loop-holds c = (omega arith, refl, sym (over-none _ _))
+loop-holds c = (omega arith, sym (over-none _ _))
 
 mul-p : tie.Need-mul-p Inv-loop μ-loop
 mul-p c = search needs
@@ -35,7 +39,7 @@ mul-to-2 : tie.Need-mul-to-2 Inv-loop μ-loop
 mul-to-2 c = search needs
 
 slice-write-to : tie.Need-slice-write-to Inv-loop μ-loop
-slice-write-to c = search needs
+slice-write-to c = omega (arith, size (c .before .before .before))
 
 add-i : tie.Need-add-i Inv-loop μ-loop
 add-i c = search needs
@@ -46,22 +50,17 @@ loop-less c = search needs
 loop-again : tie.Need-loop-again Inv-loop μ-loop
 loop-again c =
     let l = c .before .before .before .loop in
-    let a = c .before .before .before .before in (
-      omega arith,
-      simp length-set (l .inv .1),
-      ap (λ t. lib.ListN.set t (l .i) (getD (a .args .from .now) (getD (a .args .places .now) (l .i) 0) 0)) (l .inv .2)
-          ∙ over-more (λ t. getD (a .args .from .now) (getD (a .args .places .now) t 0) 0) (l .i) (a .args .to .now) (omega (arith, c .before .before .loop-test .taken, a .pre .1)),
-    )
+    let a = c .before .before .before .before in
+    (omega arith, over-set _ _ _ (l .i) _ (omega (arith, c .before .before .loop-test .taken, a .pre .1)) (l .inv .1) refl)
 
 same-length : tie.Need-same-length Inv-loop μ-loop
-same-length c = c .before .loop .inv .1
+same-length c = size (c .before)
 
 returns : tie.Need-returns Inv-loop μ-loop
 returns c =
     let l = c .before .loop in
-    let a = c .before .before in
-    let e : l .i ≡ a .args .count = omega arith in
-    l .inv .2 ∙ ap (λ k. over (listBelow (λ t. getD (a .args .from .now) (getD (a .args .places .now) t 0) 0) k) (a .args .to .now)) e
+    let e : l .i ≡ c .before .before .args .count = omega arith in
+    rw e at (l .inv .1)
 
 pub look-up-spec : {M : Type 1} → statement M
 look-up-spec =
