@@ -1,13 +1,12 @@
 -- The cut for a size, from the fronts' ends: what the code's steps give.
 use Prim.Native.Nat.{ℕ, zero, suc, _-_, _≤_, _<_}
 use mathlib.Core.Path.{_≡_, refl, ap, sym, _∙_}
-use mathlib.Core.Bool.{true, false}
+use mathlib.Core.Bool.{Bool, _&&_, cond}
 use mathlib.Core.List.{List}
 use native.Mathlib.Omega.{arith}
 use borrow.Author.Tests.{lt-ltb, le-ltb}
 use lib.Dec.{ltb}
 use lib.ListN.{getD}
-use Rattle.list_laws.proofs.Bools.{and-no}
 use Rattle.list_laws.proofs.First.{firstBelow-le, firstBelow-nowhere, firstBelow-at}
 use Rattle.front_cut.specs.Fitting.{fitting, startOf, cutAfter, cutOf}
 
@@ -30,17 +29,8 @@ pub start-some : (ends : List ℕ) (k : ℕ) → (k ≡ 0 → ⊥) → getD ends
 start-some ends zero h = absurd (h refl)
 start-some ends (suc k) h = let e : suc k - 1 ≡ k = omega arith in ap (λ t. getD ends t 0) e
 
-module _ (ends : List ℕ) (x size k whole : ℕ) (at : k ≡ fitting ends x size) (w : whole ≡ startOf ends k) where
-  pub cut-split : k < x → whole < size → record { whole = whole; end = getD ends k 0; split = true } ≡ cutOf ends x size
-  unfolding cutOf
-  cut-split l h =
-      sym (ap (cutAfter ends x size) (sym at) ∙ rw (lt-ltb k x l, ← w, lt-ltb whole size h))
-
-  pub cut-filled : size ≤ whole → record { whole = whole; end = whole; split = false } ≡ cutOf ends x size
-  unfolding cutOf
-  cut-filled h =
-      sym (ap (cutAfter ends x size) (sym at) ∙ rw (← w, and-no (ltb k x) (ltb whole size) (le-ltb whole size h)))
-
-  pub cut-none : x ≤ k → record { whole = whole; end = whole; split = false } ≡ cutOf ends x size
-  unfolding cutOf
-  cut-none h = sym (ap (cutAfter ends x size) (sym at) ∙ rw (le-ltb k x h, ← w))
+-- the cut after the fronts that fit, by whether the next one is split
+pub cut-by : (ends : List ℕ) (x size k whole : ℕ) → k ≡ fitting ends x size → whole ≡ startOf ends k → (b : Bool) → (ltb k x && ltb whole size) ≡ b
+    → record { whole = whole; end = cond b (getD ends k 0) whole; split = b } ≡ cutOf ends x size
+unfolding cutOf
+cut-by ends x size k whole at w b e = sym (ap (cutAfter ends x size) (sym at) ∙ rw (← w, e))

@@ -1,7 +1,7 @@
 -- The cut of a sorted pool is the model's: the order up to it is the whole fronts, and what follows up to its end the split front.
 use Prim.Native.Nat.{ℕ, zero, suc, _+_, _-_, _≤_, _<_}
 use mathlib.Core.Path.{_≡_, refl, ap, sym, subst, _∙_}
-use mathlib.Core.Bool.{Bool, true, false, true≢false}
+use mathlib.Core.Bool.{Bool, true, false, cond, _&&_, true≢false}
 use mathlib.Core.Logic.{⊎-elim}
 use mathlib.Core.List.{List, [], _++_, append-assoc}
 use native.Mathlib.Nat.{eq-or-lt-of-le}
@@ -14,7 +14,7 @@ use Rattle.model.specs.Lists.{firstBelow}
 use Rattle.model.specs.Front.{front, listing}
 use Rattle.model.specs.Association.{Request, dominance}
 use Rattle.model.specs.Kept.{wholeFronts, before, isSplit, splitFront}
-use Rattle.list_laws.proofs.Bools.{by-bool, and-no}
+use Rattle.list_laws.proofs.Bools.{by-bool, and-left, and-right, and-fails, and-no}
 use Rattle.list_laws.proofs.First.{firstBelow-le, firstBelow-nowhere, firstBelow-at, firstBelow-passes, firstBelow-before, firstBelow-same}
 use Rattle.front_laws.specs.Strict.{Strict}
 use Rattle.front_laws.proofs.Order.{ended, listing-room, listing-whole}
@@ -23,7 +23,7 @@ use Rattle.front_laws.proofs.Places.{frontCount-empty, sorted-few, sorted-end, 
 use Rattle.front_laws.proofs.Listings.{listing-none, listing-more, listing-grows, listing-fits}
 use Rattle.front_cut.specs.declared.Cut.{Cut}
 use Rattle.front_cut.specs.Fitting.{fitting, startOf, cutOf}
-use Rattle.front_cut.proofs.Fitting.{fitting-le, cut-split, cut-filled, cut-none}
+use Rattle.front_cut.proofs.Fitting.{fitting-le, cut-by}
 
 -- ---- the cut
 
@@ -206,10 +206,13 @@ module _ (r : Request) (strict : Strict (dominance r) (r .count)) (o₀ o k₀ k
 
   -- THE LAW: the cut that `split_at` gives from the ends of the sorted fronts
   pub cut-request : CutsAt r o (cutOf e x (r .size))
-  cut-request = ⊎-elim
-      (λ a. subst (CutsAt r o) (cut-none e x size w (startOf e w) refl refl (omega arith)) (not-split (all-not-split a)))
-      (λ l. by-bool (ltb (startOf e w) size)
-      (λ v. let h = ltb-true (startOf e w) size v in subst (CutsAt r o) (cut-split e x size w (startOf e w) refl refl l h) (cuts-split l h))
-      (λ v. let h = ltb-false (startOf e w) size v in
-      subst (CutsAt r o) (cut-filled e x size w (startOf e w) refl refl h) (not-split (filled-not-split h))))
-      (eq-or-lt-of-le w-le)
+  cut-request = by-bool (ltb w x && ltb (startOf e w) size)
+      (λ v. subst (CutsAt r o) (told true v)
+      (cuts-split (ltb-true w x (and-left _ _ v)) (ltb-true (startOf e w) size (and-right (ltb w x) _ v))))
+      (λ v. subst (CutsAt r o) (told false v) (not-split (⊎-elim
+      all-not-split
+      (λ l. filled-not-split (ltb-false (startOf e w) size (and-fails _ _ v (lt-ltb w x l))))
+      (eq-or-lt-of-le w-le))))
+    where
+      told : (b : Bool) → (ltb w x && ltb (startOf e w) size) ≡ b → record { whole = startOf e w; end = cond b (getD e w 0) (startOf e w); split = b } ≡ cutOf e x size
+      told = cut-by e x size w (startOf e w) refl refl

@@ -9,6 +9,7 @@ use lib.ListN.{length, getD, set, take, drop, length-append, take-append-drop}
 use lib.Seq.{sets, length-sets, slice, slice-empty, slice-cons, length-take-le, take-suc, drop-append-le, take-take}
 use Rattle.model.specs.Front.{lower, freed, lowerAll, freedAll}
 use Rattle.model.specs.Lists.{one, tally}
+use Rattle.list_laws.proofs.Built.{over-below}
 use Rattle.list_laws.proofs.Members.{tally-cons, tally-append}
 use Rattle.front_laws.specs.Ranks.{mark}
 use Rattle.front_laws.proofs.Lowering.{lowerAll-count, lowerAll-append, freedAll-append, freed-same}
@@ -104,7 +105,7 @@ module _ (d : ℕ → ℕ → Bool) (n k start end : ℕ) (cs₀ o₀ r₀ : Lis
       let all = ap (λ q. freedAll d n q (of cs₀)) e ∙ fr in
       let now = ap (λ q. freedAt d n q cs) m ∙ freed-now in
       record {
-        counts = λ t v. f .counts .under t v ∙ ap (λ q. getD cs t 0 - one (d q t)) m ∙ ap (λ c. c - one (d p t)) (h .counts t v)
+        counts = λ t v. over-below (lower d (getD o i 0) (of cs)) n cs′ cs t 0 (f .counts) v ∙ ap (λ q. getD cs t 0 - one (d q t)) m ∙ ap (λ c. c - one (d p t)) (h .counts t v)
             ∙ sym (ap (λ q. lowerAll d q (of cs₀) t) e ∙ ap (λ g. g t) (lowerAll-append d xs (p ∷ []) (of cs₀)));
         order = f .order .order ∙ ap (sets o len) now ∙ ap (λ q. sets q len (freed d n p w)) (h .order)
             ∙ ap (λ q. sets (sets o₀ end (freedAll d n xs (of cs₀))) q (freed d n p w)) (h .result)

@@ -8,7 +8,7 @@ use lib.ListN.{length, getD, set}
 use lib.Seq.{sets, slice}
 use Rattle.model.specs.Lists.{one, countBelow, tally, firstBelow, listBelow, over}
 use Rattle.model.specs.Front.{lower, freed, lowerAll, freedAll, front, listing, frontList}
-use Rattle.list_laws.proofs.Stores.{Picked, Partly}
+use Rattle.list_laws.proofs.Stores.{Picked}
 use Rattle.front_laws.specs.Ranks.{mark}
 
 -- the counts that a list holds
@@ -27,7 +27,7 @@ pub record Countable (n q : ℕ) (cs : List ℕ) : Type 0 where
 
 -- plan q has been compared with those before p: the counts of those that it dominates are raised, and r counts those that dominate q
 pub record Raising (d : ℕ → ℕ → Bool) (q : ℕ) (cs₀ : List ℕ) (p : ℕ) (cs : List ℕ) (r : ℕ) : Type 0 where
-  pub counts : Partly (λ t. getD cs₀ t 0 + one (d q t)) cs₀ p cs
+  pub counts : cs ≡ over (listBelow (λ t. getD cs₀ t 0 + one (d q t)) p) cs₀
   pub result : r ≡ countBelow (λ s. d s q) p
 
 -- and with all before it
@@ -53,7 +53,7 @@ frees d p cs q = d p q && eqb (lower d p (of cs) q) 0
 
 -- the counts below q lowered by p, and whom it frees below q listed from `at` on
 pub record Releasing (d : ℕ → ℕ → Bool) (p : ℕ) (cs₀ o₀ : List ℕ) (at q : ℕ) (cs o : List ℕ) (r : ℕ) : Type 0 where
-  pub counts : Partly (lower d p (of cs₀)) cs₀ q cs
+  pub counts : cs ≡ over (listBelow (lower d p (of cs₀)) q) cs₀
   pub order : Picked (frees d p cs₀) o₀ at q o r
 
 -- and all n counts

@@ -5,9 +5,9 @@ use mathlib.Core.List.{List, [], _∷_, _++_}
 use native.Mathlib.Omega.{arith}
 use native.Mathlib.Nat.{suc-add, add-suc, add-zero}
 use lib.ListN.{length, getD, set, drop, length-set, length-append}
-use lib.Seq.{sets, sets-eq, getD-set-other, getD-set-same, drop-drop}
+use lib.Seq.{sets, sets-eq, getD-set-other, getD-set-same, set-getD, getD-append-add, getD-drop, drop-drop}
 use Rattle.model.specs.Lists.{listBelow, over}
-use Rattle.list_laws.proofs.Built.{listBelow-none, listBelow-more, listBelow-length, over-length, over-take, over-drop}
+use Rattle.list_laws.proofs.Built.{listBelow-none, listBelow-more, listBelow-length, over-length, over-take, over-drop, over-set}
 
 pub sets-append : {A : Type 0} (l : List A) (i : ℕ) (s t : List A) → sets l i (s ++ t) ≡ sets (sets l i s) (i + length s) t
 sets-append l i [] t = ap (λ (k : ℕ). sets l k t) (sym (add-zero i))
@@ -62,3 +62,18 @@ module _ {A : Type 0} where
       sets-eq s (over v old) i (omega (arith, over-length v old (omega arith)))
       ∙ ap₂ (λ a b. a ++ s ++ b) (over-take v old i e)
       (drop-later i (i + length s) (over v old) old (omega arith) (over-drop v old i e) ∙ ap (λ t. drop t old) n)
+
+  -- what lies past the entries at a slice's front is as it was
+  pub over-past : (new old : List A) (i : ℕ) (d : A) → length new ≤ i → getD (over new old) i d ≡ getD old i d
+  over-past new old i d h =
+      let s : i ≡ length new + (i - length new) = omega arith in
+      ap (λ t. getD (over new old) t d) s ∙ getD-append-add new (drop (length new) old) (i - length new) d
+      ∙ getD-drop (length new) old (i - length new) d ∙ ap (λ t. getD old t d) (sym s)
+
+  -- so is the next place, where it stands among values up to it
+  pub over-next : (f : ℕ → A) (l l₀ : List A) (i : ℕ) (d : A) → l ≡ over (listBelow f i) l₀ → getD l i d ≡ getD l₀ i d
+  over-next f l l₀ i d e = ap (λ t. getD t i d) e ∙ over-past (listBelow f i) l₀ i d (omega (arith, listBelow-length f i))
+
+  -- the step of a loop whose value is to stay as it was
+  pub over-keep : (f : ℕ → A) (l l₀ : List A) (i : ℕ) (d : A) → i < length l₀ → l ≡ over (listBelow f i) l₀ → f i ≡ getD l₀ i d → l ≡ over (listBelow f (i + 1)) l₀
+  over-keep f l l₀ i d h e v = sym (set-getD l i d) ∙ over-set f l l₀ i (getD l i d) h e (over-next f l l₀ i d e ∙ sym v)

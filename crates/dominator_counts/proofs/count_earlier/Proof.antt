@@ -9,7 +9,7 @@ use Rattle.dominator_counts.specs.Compared.{Decides}
 use Rattle.dominator_counts.specs.declared.Winner.{Winner}
 use Rattle.front_laws.specs.Flat.{flatBeats}
 use Rattle.front_laws.specs.Post.{Raising}
-use Rattle.front_laws.proofs.Counting.{raising-first, raising-dominated, raising-dominates, raising-neither, raising-small}
+use Rattle.front_laws.proofs.Counting.{raising-first, raising-dominated, raising-dominates, raising-neither, raising-size, raising-small}
 use Rattle.front_laws.proofs.Flat.{pool-pair}
 use Rattle.dominator_counts.proofs.count_earlier.Statement.{statement}
 use Rattle.dominator_counts.proofs.count_earlier.Tie as tie
@@ -30,8 +30,11 @@ small : (c : tie.In-loop Inv-loop μ-loop)
 small c = let a = c .before .before .before .before .before .before in
     raising-small _ _ _ _ _ _ (c .before .loop .inv .1) (a .args .n) (a .pre .1) (c .loop-test .taken)
 
+within : (c : tie.In-loop Inv-loop μ-loop) → c .before .loop .p < length (c .before .before .before .before .before .before .args .counts .now)
+within c = let a = c .before .before .before .before .before .before in omega (arith, c .loop-test .taken, a .pre .1 .plan, a .pre .1 .counted)
+
 room : (c : tie.In-loop Inv-loop μ-loop) → c .before .loop .p < length (c .before .loop .counts)
-room c = omega (arith, c .before .before .before .before .before .before .pre .1 .plan, c .before .before .before .before .before .before .pre .1 .counted, c .before .loop .inv .1 .counts .size)
+room c = omega (arith, within c, raising-size _ _ _ _ _ _ (c .before .loop .inv .1) (omega (arith, within c)))
 
 compare-requires : tie.Need-compare-requires Inv-loop μ-loop
 compare-requires c κs =
@@ -77,19 +80,21 @@ loop-again c =
     let g = flatBeats (a .rows .now) (a .m) (a .feasible .now) (a .violations .now) in
     let told : (v : Winner) → c .before .compare .result ≡ v → Decides v (g (l .p) (a .q)) (g (a .q) (l .p)) =
     λ v e. subst (λ v. Decides v (g (l .p) (a .q)) (g (a .q) (l .p))) e (c .before .compare .ensures) in
-    let r : l .p < length (a .counts .now) = omega (arith, room h, l .inv .1 .counts .size) in (
+    let r = within h in (
       omega arith,
       ⊎-elim
-          (λ w. let f = told _ (w .1 .given .1) in rw (w .2, w .3) (raising-dominated _ _ _ _ _ _ (l .inv .1) (f .0) (f .1)))
+          (λ w. let f = told _ (w .1 .given .1) in rw (w .2, w .3) (raising-dominated _ _ _ _ _ _ (l .inv .1) r (f .0) (f .1)))
           (⊎-elim
           (λ w. let f = told _ (w .1 .given .1) in
-          rw (w .3, w .4) (raising-dominates _ _ _ _ _ _ (l .inv .1) (f .0) (f .1) r))
-          (λ w. let f = told _ (w .1 .given .1) in rw (w .2, w .3) (raising-neither _ _ _ _ _ _ (l .inv .1) (f .0) (f .1))))
+          rw (w .3, w .4) (raising-dominates _ _ _ _ _ _ (l .inv .1) r (f .0) (f .1)))
+          (λ w. let f = told _ (w .1 .given .1) in rw (w .2, w .3) (raising-neither _ _ _ _ _ _ (l .inv .1) r (f .0) (f .1))))
           (c .match .came),
     )
 
 same-length : tie.Need-same-length Inv-loop μ-loop
-same-length c = c .before .loop .inv .1 .counts .size
+same-length c =
+    let a = c .before .before .before .before .before .before in
+    raising-size _ _ _ _ _ _ (c .before .loop .inv .1) (omega (arith, c .before .loop .inv .0, a .pre .1 .plan, a .pre .1 .counted))
 
 returns : tie.Need-returns Inv-loop μ-loop
 returns c =

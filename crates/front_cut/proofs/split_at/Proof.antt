@@ -1,7 +1,11 @@
 -- `split_at`: the fronts that fit, and whether there is one more and they fall short
+use mathlib.Core.Bool.{true, false}
 use native.Mathlib.Omega.{arith}
 use borrow.Author.Needs.{needs}
-use Rattle.front_cut.proofs.Fitting.{fitting-le, cut-split, cut-filled, cut-none}
+use borrow.Author.Tests.{lt-ltb, le-ltb}
+use lib.Dec.{ltb}
+use Rattle.list_laws.proofs.Bools.{and-both, and-no, and-not}
+use Rattle.front_cut.proofs.Fitting.{fitting-le, cut-by}
 use Rattle.front_cut.proofs.split_at.Statement.{statement}
 use Rattle.front_cut.proofs.split_at.Tie as tie
 
@@ -22,17 +26,19 @@ shared-slice-read-end c = search needs
 returns : tie.Need-returns
 returns c =
     let s = c .before .before .before in
-    cut-split _ _ _ _ _ (s .before .fronts-that-fit .ensures) (s .front-start .ensures) (c .before .before .if1 .taken) (c .before .if2 .taken)
+    cut-by _ _ _ _ _ (s .before .fronts-that-fit .ensures) (s .front-start .ensures) true
+    (and-both _ _ (lt-ltb _ _ (c .before .before .if1 .taken)) (lt-ltb _ _ (c .before .if2 .taken)))
 
 returns-2 : tie.Need-returns-2
 returns-2 c =
     let s = c .before .before in
-    cut-filled _ _ _ _ _ (s .before .fronts-that-fit .ensures) (s .front-start .ensures) (c .if2 .left)
+    cut-by _ _ _ _ _ (s .before .fronts-that-fit .ensures) (s .front-start .ensures) false
+    (and-no (ltb (s .before .fronts-that-fit .result) (s .before .before .before .args .fronts)) _ (le-ltb _ _ (c .if2 .left)))
 
 returns-3 : tie.Need-returns-3
 returns-3 c =
     let s = c .before in
-    cut-none _ _ _ _ _ (s .before .fronts-that-fit .ensures) (s .front-start .ensures) (c .if1 .left)
+    cut-by _ _ _ _ _ (s .before .fronts-that-fit .ensures) (s .front-start .ensures) false (and-not _ _ (le-ltb _ _ (c .if1 .left)))
 
 pub split-at-spec : {M : Type 1} → statement M
 split-at-spec =

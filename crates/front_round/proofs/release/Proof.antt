@@ -6,7 +6,7 @@ use native.Mathlib.Omega.{arith}
 use lib.ListN.{length}
 use Rattle.front_laws.specs.Flat.{flatBeats}
 use Rattle.front_laws.specs.Post.{Releasing}
-use Rattle.front_laws.proofs.Steps.{releasing-first, releasing-size, releasing-asks, releasing-yes, releasing-no}
+use Rattle.front_laws.proofs.Steps.{releasing-first, count-still, counts-size, releasing-size, releasing-asks, releasing-yes, releasing-no}
 use Rattle.front_laws.proofs.Flat.{pool-pair}
 use Rattle.front_round.proofs.release.Statement.{statement}
 use Rattle.front_round.proofs.release.Tie as tie
@@ -21,11 +21,15 @@ abbrev μ-loop : tie.MeasureT-loop
 loop-holds : tie.Need-loop-holds Inv-loop μ-loop
 loop-holds c = (omega arith, releasing-first _ _ _ _ _)
 
+-- the counts keep their length
+size : (c : tie.At-loop Inv-loop μ-loop) → length (c .loop .counts) ≡ length (c .before .before .before .before .before .before .args .counts .now)
+size c = counts-size _ _ _ _ _ _ _ _ _ (c .loop .inv .1) (omega arith)
+
 mul-count : tie.Need-mul-count Inv-loop μ-loop
 mul-count c = omega arith
 
 slice-read-count : tie.Need-slice-read-count Inv-loop μ-loop
-slice-read-count c = omega arith
+slice-read-count c = omega (arith, size (c .before .before))
 
 dominates-counted-requires : tie.Need-dominates-counted-requires Inv-loop μ-loop
 dominates-counted-requires c κs =
@@ -34,7 +38,7 @@ dominates-counted-requires c κs =
     let q = h .before .loop .q in
     let u = h .loop-test .taken in (
       pool-pair _ _ _ _ (a .args .n) (a .args .p) q (a .pre .0) (a .pre .1 .plan) u,
-      omega (arith, a .pre .1 .fair q u, h .before .loop .inv .1 .counts .over q (omega arith)),
+      omega (arith, a .pre .1 .fair q u, count-still _ _ _ _ _ _ _ _ _ (h .before .loop .inv .1)),
     )
 
 lower-requires : tie.Need-lower-requires Inv-loop μ-loop
@@ -60,12 +64,12 @@ loop-again c =
       omega arith,
       ⊎-elim
           (λ w. rw (w .8, w .9, w .10) (releasing-yes _ _ _ _ _ _ _ _ _ (l .inv .1) _ _ _ room (d ∙ w .0 .taken) (w .3 .ensures)))
-          (λ w. rw (w .1, w .2, w .3) (releasing-no _ _ _ _ _ _ _ _ _ (l .inv .1) (d ∙ w .0 .left)))
+          (λ w. rw (w .1, w .2, w .3) (releasing-no _ _ _ _ _ _ _ _ _ (l .inv .1) room (d ∙ w .0 .left)))
           (c .if1 .came),
     )
 
 same-length : tie.Need-same-length Inv-loop μ-loop
-same-length c = c .before .loop .inv .1 .counts .size
+same-length c = size (c .before)
 
 same-length-2 : tie.Need-same-length-2 Inv-loop μ-loop
 same-length-2 c = releasing-size _ _ _ _ _ _ _ _ _ (c .before .loop .inv .1)
