@@ -94,25 +94,26 @@ kth-is f n k r h = ap (λ t. getD (keepBelow f n) t 0) (sym (h .rank)) ∙ kth-a
 
 -- ---- the search for it, place by place: `left` more that pass are to be passed over before place i
 
-abbrev pub Seeks : (ℕ → Bool) → ℕ → ℕ → ℕ → Type 0
-Seeks f k left i = left + countBelow f i ≡ k
+pub record Seeks (f : ℕ → Bool) (k left i : ℕ) : Type 0 where
+  pub passed : left + countBelow f i ≡ k
 
 pub seeks-first : (f : ℕ → Bool) (k : ℕ) → Seeks f k k 0
-seeks-first f k = omega (arith, countBelow-none f)
+seeks-first f k = record { passed = omega (arith, countBelow-none f) }
 
-module _ (f : ℕ → Bool) (k left i : ℕ) (h : Seeks f k left i) where
-  pub seeks-found : (n : ℕ) → i < n → f i ≡ true → left ≡ 0 → Kth f n k i
-  seeks-found n u e z = record { below = u; passes = e; rank = omega arith }
+-- where b is the answer of the test at i
+module _ {f : ℕ → Bool} {k left i : ℕ} (h : Seeks f k left i) where
+  pub seeks-found : {b : Bool} (n : ℕ) → i < n → b ≡ f i → b ≡ true → left ≡ 0 → Kth f n k i
+  seeks-found n u e v z = record { below = u; passes = sym e ∙ v; rank = omega (arith, h .passed) }
 
-  pub seeks-yes : f i ≡ true → (left ≡ 0 → ⊥) → Seeks f k (left - 1) (i + 1)
-  seeks-yes e z = omega (arith, z, countBelow-yes f i e)
+  pub seeks-yes : {b : Bool} → b ≡ f i → b ≡ true → (left ≡ 0 → ⊥) → Seeks f k (left - 1) (i + 1)
+  seeks-yes e v z = record { passed = omega (arith, h .passed, z, countBelow-yes f i (sym e ∙ v)) }
 
-  pub seeks-no : f i ≡ false → Seeks f k left (i + 1)
-  seeks-no e = omega (arith, countBelow-no f i e)
+  pub seeks-no : {b : Bool} → b ≡ f i → b ≡ false → Seeks f k left (i + 1)
+  seeks-no e v = record { passed = omega (arith, h .passed, countBelow-no f i (sym e ∙ v)) }
 
   -- it ends before place n
   pub seeks-ends : (n : ℕ) → k < countBelow f n → n ≤ i → ⊥
-  seeks-ends n u v = omega (arith, countBelow-up f n i v)
+  seeks-ends n u v = omega (arith, h .passed, countBelow-up f n i v)
 
 -- the first that passes is the only one up to it
 pub first-only : (f : ℕ → Bool) (n r : ℕ) → Kth f n 0 r → keepBelow f (r + 1) ≡ r ∷ []
