@@ -1,9 +1,9 @@
 -- DEMAND 3 as the public calls promise it: a call that is not refused hands out a kept list that meets it.
 use Prim.Native.Nat.{ℕ, _≤_, min}
-use mathlib.Core.Path.{_≡_, refl, sym, ap, _∙_, subst}
-use mathlib.Core.Bool.{Bool, true, false, cond}
-use mathlib.Core.List.{List, [], _∷_, List·Memᴰ, List·Memᴰ·head, List·Memᴰ·tail}
-use mathlib.Core.Option.{none, some}
+use mathlib.Core.Path.{_≡_, refl, sym, subst}
+use mathlib.Core.Bool.{true, false}
+use mathlib.Core.List.{List, List·Memᴰ·head, List·Memᴰ·tail}
+use mathlib.Core.Option.{none}
 use native.Mathlib.Omega.{arith}
 use lib.ListN.{length, take, drop, length-take}
 use lib.Seq.{take-at}
@@ -16,7 +16,7 @@ use Rattle.model.specs.Kept.{selected}
 use Rattle.model.specs.Setting.{Operators, generation, generationOf, WordsWithin}
 use Rattle.model.specs.Session.{State, bredFrom, breeds, requestOf, operatorsOf}
 use Rattle.model.specs.Property.{SessionOk}
-use Rattle.model.specs.Refusal.{Check, firstOf, Room, badDirections, badDivisions, badPool, selectRefusal, stepRefusal, sampleRefusal}
+use Rattle.model.specs.Refusal.{Room, badDirections, badDivisions, badPool, selectRefusal, stepRefusal, sampleRefusal}
 use Rattle.model.specs.Demand3.{Demand3}
 use Rattle.model.specs.Calls.{Lent, roomOf, handedOut, selectAccepted, selectOf, Selects, stepAccepted, stepOf, Steps}
 use Rattle.list_laws.proofs.Built.{listBelow-length}

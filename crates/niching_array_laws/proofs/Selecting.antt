@@ -1,13 +1,13 @@
 -- The loop over the open places: the first j are filled as `picks` fills them.
-use Prim.Native.Nat.{ℕ, suc, _+_, _-_, _<_}
+use Prim.Native.Nat.{ℕ, _+_, _-_, _<_}
 use mathlib.Core.Path.{_≡_, refl, ap, sym, _∙_}
 use mathlib.Core.Bool.{Bool, false}
-use mathlib.Core.List.{List, [], _∷_, _++_, append-assoc}
+use mathlib.Core.List.{List, [], _∷_, _++_}
 use native.Mathlib.Numerals.{add-one}
 use native.Mathlib.Omega.{arith}
 use lib.Ieee.{Float}
-use lib.ListN.{length, getD, set, take, drop, replicate, length-append, length-drop}
-use lib.Seq.{set-at, drop-cons, getD-take, getD-drop, length-take-le}
+use lib.ListN.{length, set, take, drop, replicate, length-drop}
+use lib.Seq.{getD-take, getD-drop, length-take-le}
 use Rattle.model.specs.Lists.{over}
 use Rattle.model.specs.Draw.{Drawn, drawn}
 use Rattle.model.specs.Kept.{nicheCount, pickOne, picks}

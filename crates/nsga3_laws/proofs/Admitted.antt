@@ -1,7 +1,6 @@
 -- Where no refusal is given, each limit is kept.
-use Prim.Native.Nat.{ℕ}
 use mathlib.Core.Path.{_≡_}
-use mathlib.Core.Bool.{Bool, true}
+use mathlib.Core.Bool.{true}
 use mathlib.Core.Option.{none}
 use borrow.Author.Tests.{eqb-true}
 use lib.Dec.{eqb}

@@ -1,16 +1,15 @@
 -- The picks look at the lines and distances of the pool's plans alone: two lists of them that agree below n give the same picks.
 use Prim.Native.Nat.{ℕ, zero, suc, _<_}
-use mathlib.Core.Path.{_≡_, refl, ap, ap₂, sym, _∙_, fun-ext}
+use mathlib.Core.Path.{_≡_, refl, ap, ap₂, _∙_, fun-ext}
 use mathlib.Core.Logic.{⊎-elim}
 use mathlib.Core.Bool.{Bool, true, false, cond, not}
 use mathlib.Core.List.{List, [], _∷_, _++_, map, List·Memᴰ·head, List·Memᴰ·tail, List·Memᴰ·not-nil}
-use native.Mathlib.Omega.{arith}
 use borrow.Author.Tests.{ltb-true, ltb-false}
 use lib.Dec.{eqb, ltb}
 use lib.Ieee.{Float, lt}
 use lib.ListN.{length, getD, List·getD-eq-default}
-use Rattle.model.specs.Lists.{In, has, keep, keepBelow}
-use Rattle.model.specs.Draw.{Drawn, drawn, drawUsize}
+use Rattle.model.specs.Lists.{has, keep, keepBelow}
+use Rattle.model.specs.Draw.{Drawn, drawn}
 use Rattle.model.specs.Kept.{nicheCount, waiting, openLines, leastLines, drawFrom, nearestFrom, nearest, drawMember, pickOne, picks}
 pub use Rattle.list_laws.specs.Occ.{Below}
 use Rattle.list_laws.proofs.Bools.{by-bool}
