@@ -5,11 +5,9 @@ use mathlib.Core.Bool.{true, false}
 use mathlib.Core.List.{List, List·Memᴰ·head, List·Memᴰ·tail}
 use mathlib.Core.Option.{none}
 use native.Mathlib.Omega.{arith}
-use lib.ListN.{length, take, drop, length-take}
-use lib.Seq.{take-at}
+use lib.ListN.{length, length-take}
 use borrow.Author.Tests.{le-ltb}
 use Rattle.model.specs.declared.Distribution.{Distribution}
-use Rattle.model.specs.Lists.{over}
 use Rattle.model.specs.Plan.{planOf, planAt, maxValues}
 use Rattle.model.specs.Association.{Request, objectives}
 use Rattle.model.specs.Kept.{selected}
@@ -19,7 +17,7 @@ use Rattle.model.specs.Property.{SessionOk}
 use Rattle.model.specs.Refusal.{Room, badDirections, badDivisions, badPool, selectRefusal, stepRefusal, sampleRefusal}
 use Rattle.model.specs.Demand3.{Demand3}
 use Rattle.model.specs.Calls.{Lent, roomOf, handedOut, selectAccepted, selectOf, Selects, stepAccepted, stepOf, Steps}
-use Rattle.list_laws.proofs.Built.{listBelow-length}
+use Rattle.list_laws.proofs.Built.{listBelow-length, over-take}
 use Rattle.list_laws.proofs.Checks.{applies-not, good-length}
 use Rattle.demand3_laws.specs.Facts.{Accepted}
 use Rattle.demand3_laws.proofs.Passed.{some-objectives, pool-plan, select-passed, passed}
@@ -47,10 +45,6 @@ word-accepted r words directions divisions pool =
           omega (arith, words p, good-length (objectives r) (r .plans p) (pool-plan r pool p h));
     }
 
--- what is handed out of a slice whose front holds the kept list
-handed-out : (kept old : List ℕ) (n : ℕ) → length kept ≡ n → kept ≡ take n (over kept old)
-handed-out kept old n e = sym (take-at kept (drop (length kept) old) n e)
-
 -- ---- `nsga3_select`
 
 module _ (r : Request) (words : InWords r) where
@@ -63,7 +57,7 @@ module _ (r : Request) (words : InWords r) where
     where
       go : selectRefusal r (roomOf entry) ≡ none → Demand3 r (selected r .kept)
           → Demand3 r (handedOut (selectOf r entry .answer .outcome) (selectOf r entry .slices .kept))
-      go e d = rw e (subst (Demand3 r) (handed-out (selected r .kept) (entry .kept) (r .size) (d .exactly)) d)
+      go e d = rw e (subst (Demand3 r) (sym (over-take (selected r .kept) (entry .kept) (r .size) (d .exactly))) d)
 
   -- ---- `nsga3_generate_offspring`
 
@@ -89,7 +83,7 @@ module _ (r : Request) (words : InWords r) where
     where
       go : stepRefusal o r (roomOf entry) (length offspring) ≡ none → Demand3 r (generation o r .kept)
           → Demand3 r (handedOut (stepOf o r entry offspring .answer .outcome) (stepOf o r entry offspring .slices .kept))
-      go e d = rw e (subst (Demand3 r) (handed-out (generation o r .kept) (entry .kept) (length (generation o r .kept)) refl) d)
+      go e d = rw e (subst (Demand3 r) (sym (over-take (generation o r .kept) (entry .kept) (length (generation o r .kept)) refl)) d)
 
 -- ---- `sample`
 

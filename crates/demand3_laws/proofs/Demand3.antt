@@ -1,10 +1,9 @@
 -- DEMAND 3 of every selection from a pool of at least the size wanted, where a front is split and where none is.
 use Prim.Native.Nat.{ℕ, suc, _+_, _-_, _≤_, _<_}
 use mathlib.Core.Path.{_≡_, sym, ap, _∙_, subst, fun-ext}
-use mathlib.Core.Logic.{_⊎_, inl, inr, ⊎-elim, ∥∥₁-elim}
-use mathlib.Core.HLevel.{⊥-prop}
+use mathlib.Core.Logic.{_⊎_, inl, inr, ⊎-elim}
 use mathlib.Core.Bool.{true, false, true≢false}
-use mathlib.Core.List.{List, _++_, Memᴰ·append-left, Memᴰ·append-right, List·Memᴰ·append-cases, nodup-append}
+use mathlib.Core.List.{List, _++_, Memᴰ·append-left, Memᴰ·append-right, List·Memᴰ·append-cases}
 use native.Mathlib.Omega.{arith}
 use lib.Dec.{eqb}
 use lib.ListN.{length, length-append}
@@ -15,7 +14,7 @@ use Rattle.model.specs.Kept.{nicheCount, wholeFronts, before, isSplit, splitFro
 use Rattle.model.specs.Demand3.{Split, Filling, finalCount, fillingCount, sumOfSquares, Served, Waits, Demand3}
 use Rattle.niching_laws.specs.Niching as Niching
 use Rattle.niching_laws.specs.Niching.{ByProcedure}
-use Rattle.list_laws.proofs.Members.{tally-append, tally-below}
+use Rattle.list_laws.proofs.Members.{tally-append, tally-below, distinct-append}
 use Rattle.niching_laws.proofs.Picks.{picks-niched}
 use Rattle.niching_laws.proofs.Procedure.{picks-procedure, procedure-other}
 use Rattle.niching_laws.proofs.Association.{lineOf-inside, kept-distance}
@@ -93,12 +92,7 @@ module _ (r : Request) (facts : FrontFacts (dominance r) (r .count)) where
         (λ i. inFront-first (dominance r) (r .count) (wholeFronts r) p (split-exactly .passes p i)) (kept-cases p m)
 
     list-distinct : Distinct list
-    list-distinct =
-        nodup-append .1 (
-          before-exactly .distinct,
-          niched .fills .distinct,
-          λ p m i. ∥∥₁-elim m ⊥-prop (λ m′. ∥∥₁-elim i ⊥-prop (λ i′. niched .apart p i′ m′)),
-        )
+    list-distinct = distinct-append (before r) (filled r .value) (before-exactly .distinct) (niched .fills .distinct) (λ p m i. niched .apart p i m)
 
     -- another filling, and the counts that it gives
     other-filling : (filling : List ℕ) → Filling r (wholeFronts r) filling → Niching.Filling (splitFront r) (r .size - length (before r)) filling

@@ -1,16 +1,16 @@
 -- The loop over the open places: the first j are filled as `picks` fills them.
 use Prim.Native.Nat.{ℕ, _+_, _-_, _<_}
-use mathlib.Core.Path.{_≡_, refl, ap, sym, _∙_}
+use mathlib.Core.Path.{_≡_, refl, ap, _∙_}
 use mathlib.Core.Bool.{Bool, false}
 use mathlib.Core.List.{List, [], _∷_, _++_}
-use native.Mathlib.Numerals.{add-one}
 use native.Mathlib.Omega.{arith}
 use lib.Ieee.{Float}
 use lib.ListN.{length, set, take, drop, replicate, length-drop}
 use lib.Seq.{getD-take, getD-drop, length-take-le}
 use Rattle.model.specs.Lists.{over}
-use Rattle.model.specs.Draw.{Drawn, drawn}
+use Rattle.model.specs.Draw.{drawn}
 use Rattle.model.specs.Kept.{nicheCount, pickOne, picks}
+use Rattle.list_laws.proofs.Built.{drawn-more}
 use Rattle.niching_laws.proofs.KeptLength.{picks-length}
 use Rattle.niching_laws.proofs.Written.{Written, written-more}
 use Rattle.niching_array_laws.specs.Niche.{lineIn, distanceIn, planAt, countOf, Zeros, OnLines, Ready, Took, Splits, picksOf, NichingSelects}
@@ -20,11 +20,10 @@ use Rattle.niching_array_laws.proofs.Filling.{Given, Holds, holds-first
 -- one pick more
 picks-next : (line : ℕ → ℕ) (distance : ℕ → Float) (n : ℕ) (before front : List ℕ) (j s r u : ℕ)
     → drawn r u ≡ pickOne line distance n before front (picks line distance n before front j s .value) (picks line distance n before front j s .state)
-    → picks line distance n before front (j + 1) s ≡ drawn (picks line distance n before front j s .value ++ (r ∷ [])) u
+    → drawn (picks line distance n before front j s .value ++ (r ∷ [])) u ≡ picks line distance n before front (j + 1) s
 unfolding picks
-picks-next line distance n before front j s r u e =
-    ap (λ m. picks line distance n before front m s) (add-one j)
-    ∙ sym (ap (λ (d : Drawn ℕ). drawn (picks line distance n before front j s .value ++ (d .value ∷ [])) (d .state)) e)
+picks-next line distance n before front j s r u =
+    drawn-more (λ k. picks line distance n before front k s) (λ d. pickOne line distance n before front (d .value) (d .state)) j refl _ _ r u refl
 
 -- the state of the loop
 pub record Selecting (before front lines : List ℕ) (distances : List Float) (n s : ℕ) (old : List ℕ) (j : ℕ) (counts waits : List ℕ) (taken : List Bool)
@@ -51,12 +50,12 @@ module _ {before front lines : List ℕ} {distances : List Float} {n s : ℕ} {o
       → Took front lines distances n t counts counts′ waits waits′ taken taken′ r u
       → Selecting before front lines distances n s old (j + 1) counts′ waits′ taken′ (set out j r) u
   selecting-more {counts′} {waits′} {taken′} {r} {u} v k = record {
-    holds = rw whole (holds-more (h .holds) g k);
+    holds = rw (← whole) (holds-more (h .holds) g k);
     picked = written-more (h .picked) (picks-length (lineIn lines) (distanceIn distances) n before front j s) v r u whole;
   }
     where
-      whole : picks (lineIn lines) (distanceIn distances) n before front (j + 1) s
-          ≡ drawn (picks (lineIn lines) (distanceIn distances) n before front j s .value ++ (r ∷ [])) u
+      whole : drawn (picks (lineIn lines) (distanceIn distances) n before front j s .value ++ (r ∷ [])) u
+          ≡ picks (lineIn lines) (distanceIn distances) n before front (j + 1) s
       whole = picks-next (lineIn lines) (distanceIn distances) n before front j s r u
           (k .chosen ∙ holds-pick (h .holds) distances n t ∙ ap (pickOne (lineIn lines) (distanceIn distances) n before front _) (h .picked .state))
 
