@@ -19,7 +19,7 @@ use Rattle.niching_laws.proofs.Picks.{picks-niched}
 use Rattle.niching_laws.proofs.Procedure.{picks-procedure, procedure-other}
 use Rattle.niching_laws.proofs.Association.{lineOf-inside, kept-distance}
 use Rattle.demand3_laws.specs.Facts.{Exactly, FrontFacts}
-use Rattle.list_laws.proofs.Bools.{by-bool}
+use Rattle.list_laws.proofs.Bools.{by-bool, no-pass}
 use Rattle.front_laws.proofs.Rounds.{inFirst-more}
 use Rattle.front_laws.proofs.Order.{inFront-new, inFront-first, listing-below, listing-exact}
 use Rattle.demand3_laws.proofs.Fronts.{dominators-first}
@@ -35,6 +35,10 @@ module _ (r : Request) (facts : FrontFacts (dominance r) (r .count)) where
   unfolding splitFront
   split-exactly = facts .fronts (wholeFronts r)
 
+  -- no plan of the split front is in a whole one
+  split-apart : (p : ℕ) → inFront (dominance r) (r .count) (wholeFronts r) p ≡ true → In p (before r) → ⊥
+  split-apart p e i = true≢false (sym (before-exactly .passes p i) ∙ inFront-new (dominance r) (r .count) (wholeFronts r) p e)
+
   -- a plan that dominates one of the whole fronts, or of the front after them, is in a whole front
   better-before : (p q : ℕ) → inFirst (dominance r) (r .count) (suc (wholeFronts r)) p ≡ true → q < r .count → dominance r q p ≡ true → In q (before r)
   better-before p q e h dom = before-exactly .every q h (dominators-first (dominance r) (r .count) (wholeFronts r) p q e h dom)
@@ -49,9 +53,8 @@ module _ (r : Request) (facts : FrontFacts (dominance r) (r .count)) where
           inPool = before-exactly .below;
           distinct = before-exactly .distinct;
           exactly = whole-fill r facts enough whole;
-          noneBetter = λ p q m h away. by-bool (dominance r q p)
-              (λ dom. absurd (away (better-before p q (inFirst-more (dominance r) (r .count) (wholeFronts r) p (before-exactly .passes p m)) h dom)))
-              (λ e. e);
+          noneBetter = λ p q m h away. no-pass (dominance r q p)
+              (λ dom. away (better-before p q (inFirst-more (dominance r) (r .count) (wholeFronts r) p (before-exactly .passes p m)) h dom));
           whole = λ k s. absurd (whole-none r facts enough whole k s);
           least = λ k s. absurd (whole-none r facts enough whole k s);
           balanced = λ k s. absurd (whole-none r facts enough whole k s);
@@ -64,7 +67,7 @@ module _ (r : Request) (facts : FrontFacts (dominance r) (r .count)) where
     setting =
         record {
           distinct = split-exactly .distinct;
-          apart = λ p m i. true≢false (sym (before-exactly .passes p i) ∙ inFront-new (dominance r) (r .count) (wholeFronts r) p (split-exactly .passes p m));
+          apart = λ p m. split-apart p (split-exactly .passes p m);
           inside = λ p _. lineOf-inside r p some;
         }
 
@@ -122,9 +125,7 @@ module _ (r : Request) (facts : FrontFacts (dominance r) (r .count)) where
     served l s =
         record {
           plan = s .plan;
-          listed = ⊎-elim
-              (λ i. absurd (true≢false (sym (before-exactly .passes (s .plan) i) ∙ inFront-new (dominance r) (r .count) (wholeFronts r) (s .plan) (s .fromFront))))
-              (λ i. i) (List·Memᴰ·append-cases (before r) (s .kept));
+          listed = ⊎-elim (λ i. absurd (split-apart (s .plan) (s .fromFront) i)) (λ i. i) (List·Memᴰ·append-cases (before r) (s .kept));
           onLine = s .onLine;
         }
 
@@ -149,9 +150,7 @@ module _ (r : Request) (facts : FrontFacts (dominance r) (r .count)) where
           inPool = λ p m. ⊎-elim (before-exactly .below p) (split-exactly .below p) (kept-cases p m);
           distinct = list-distinct;
           exactly = omega (arith, length-append (before r) (filled r .value), niched .fills .size, split-short r split);
-          noneBetter = λ p q m h away. by-bool (dominance r q p)
-              (λ dom. absurd (away (Memᴰ·append-left (filled r .value) (better-before p q (kept-first p m) h dom))))
-              (λ e. e);
+          noneBetter = λ p q m h away. no-pass (dominance r q p) (λ dom. away (Memᴰ·append-left (filled r .value) (better-before p q (kept-first p m) h dom)));
           whole = λ k s p h e. Memᴰ·append-left (filled r .value)
               (before-exactly .every p h (subst (λ (j : ℕ). inFirst (dominance r) (r .count) j p ≡ true) (split-only r split k s) e));
           least = λ k s filling f. subst (λ (j : ℕ). sumOfSquares r (finalCount r list) ≤ sumOfSquares r (fillingCount r j filling)) (sym (split-only r split k s))
