@@ -3,12 +3,14 @@ use Prim.Native.Nat.{ℕ, _+_, _*_, _-_, _≤_}
 use mathlib.Core.Path.{_≡_, refl, ap, ap₂, sym, subst, _∙_}
 use mathlib.Core.Bool.{Bool, true, false}
 use mathlib.Core.List.{List, _++_}
-use mathlib.Core.Option.{none, some}
 use native.Mathlib.Omega.{arith}
 use lib.Ieee.{Float}
 use lib.ListN.{length, take, replicate}
 use Rattle.model.specs.declared.Outcome.the-variants as outcome
 use Rattle.model.specs.declared.Rng.{Rng}
+use Rattle.refusals.specs.declared.Check.{Check}
+use Rattle.refusals.specs.declared.Check.the-variants as check
+use Rattle.refusals.specs.Checked.{checked}
 use Rattle.model.specs.Lists.{over}
 use Rattle.model.specs.Front.{frontList}
 use Rattle.model.specs.Association.{Request, objectives, dominance}
@@ -19,6 +21,8 @@ use Rattle.demand3_laws.proofs.Calls.{planAt-row, selects}
 use Rattle.front_cut.specs.declared.Cut.{Cut}
 use Rattle.plan_rows.specs.Filled.{RowsOf}
 use Rattle.pool_sort.specs.Laid.{RowsIn, OrderIn, Sorts}
+use Rattle.nsga3_laws.specs.Admitted.{Admitted}
+use Rattle.nsga3_laws.proofs.Admitted.{admitted}
 use Rattle.nsga3.specs.Handed.{Hands, exit}
 
 module _ (r : Request) (i : List Float) (k₀ k l₀ l : List ℕ) (s : ℕ) where
@@ -75,11 +79,15 @@ module _ (pool directions : List ℕ) (divisions size : ℕ) (g : Rng) (ideal : 
   promise : (x : SelectExit) → x ≡ selectOf r entry → Selects r entry x
   promise x e = subst (Selects r entry) (sym e) (selects r (planAt-row pool) entry)
 
-  pub refused : (n : ℕ) → some n ≡ selectRefusal r (roomOf entry)
-      → Selects r entry (record { answer = record { outcome = outcome.Refused n; rng = g }; ideal = ideal; slices = entry })
-  unfolding selectOf
-  refused n e = promise _ (ap (λ o. selectBy o r entry) e)
+  -- by what the check answers
+  module _ {k : Check} (e : checked k ≡ selectRefusal r (roomOf entry)) where
+    pub refused : (n : ℕ) → k ≡ check.Refused n → Selects r entry (record { answer = record { outcome = outcome.Refused n; rng = g }; ideal = ideal; slices = entry })
+    unfolding selectOf
+    refused n v = promise _ (ap (λ o. selectBy o r entry) (sym (ap checked v) ∙ e))
 
-  pub selected-so : none ≡ selectRefusal r (roomOf entry) → (x : SelectExit) → x ≡ selectAccepted r entry → Selects r entry x
-  unfolding selectOf
-  selected-so e x h = promise x (h ∙ ap (λ o. selectBy o r entry) e)
+    pub limits-kept : k ≡ check.Good → Admitted r (roomOf entry)
+    limits-kept v = admitted r (roomOf entry) (sym e ∙ ap checked v)
+
+    pub selected-so : k ≡ check.Good → (x : SelectExit) → x ≡ selectAccepted r entry → Selects r entry x
+    unfolding selectOf
+    selected-so v x h = promise x (h ∙ ap (λ o. selectBy o r entry) (sym (ap checked v) ∙ e))
