@@ -32,7 +32,7 @@ returns c =
     hands-by (request s) _ _ _ _ _ _ true (sym (s .pre .listed .cut .split) ∙ c .before .before .before .before .before .before .before .before .before .before .if1 .taken) (c .before .before .before .before .before .before .select-split .ensures)
 
 plan-count-requires : tie.Need-plan-count-requires
-plan-count-requires c κs = search needs
+plan-count-requires c κs = tt
 
 select-whole-requires : tie.Need-select-whole-requires
 select-whole-requires c κs =

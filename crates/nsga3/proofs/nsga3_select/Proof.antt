@@ -6,7 +6,7 @@ use Rattle.nsga3.proofs.nsga3_select.Statement.{statement}
 use Rattle.nsga3.proofs.nsga3_select.Tie as tie
 
 refusal-requires : tie.Need-refusal-requires
-refusal-requires c κs = search needs
+refusal-requires c κs = tt
 
 enum-known-check : tie.Need-enum-known-check
 enum-known-check c = search needs

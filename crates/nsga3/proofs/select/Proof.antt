@@ -33,7 +33,7 @@ laid c h g i =
     (subst (λ k. planCount (s .args .pool .now) * length (s .args .directions .now) ≤ k) (sym size) (few-values _ _ (ok .fewPlans) (ok .narrow))) (f .ensures)
 
 plan-count-requires : tie.Need-plan-count-requires
-plan-count-requires c κs = search needs
+plan-count-requires c κs = tt
 
 slice-aggregate-fill-rows : tie.Need-slice-aggregate-fill-rows
 slice-aggregate-fill-rows c = search needs

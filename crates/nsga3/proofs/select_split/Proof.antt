@@ -30,7 +30,7 @@ associated c =
     (pool-rows (s .pre .0) _ e) (λ j h. refl) (table-lines (s .pre .0) _ _ (d .ensures .1) _ (d .ensures .0)) (d .ensures .0)
 
 plan-count-requires : tie.Need-plan-count-requires
-plan-count-requires c κs = search needs
+plan-count-requires c κs = tt
 
 slice-aggregate-das-dennis : tie.Need-slice-aggregate-das-dennis
 slice-aggregate-das-dennis c = search needs
