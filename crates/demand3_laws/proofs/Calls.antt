@@ -1,29 +1,27 @@
 -- DEMAND 3 as the public calls promise it: a call that is not refused hands out a kept list that meets it.
 use Prim.Native.Nat.{ℕ, _≤_, min}
-use mathlib.Core.Path.{_≡_, refl, sym, ap, _∙_, subst}
-use mathlib.Core.Bool.{Bool, true, false, cond}
-use mathlib.Core.List.{List, [], _∷_, List·Memᴰ, List·Memᴰ·head, List·Memᴰ·tail}
-use mathlib.Core.Option.{none, some}
+use mathlib.Core.Path.{_≡_, refl, sym, subst}
+use mathlib.Core.Bool.{true, false}
+use mathlib.Core.List.{List, List·Memᴰ·head, List·Memᴰ·tail}
+use mathlib.Core.Option.{none}
 use native.Mathlib.Omega.{arith}
-use lib.ListN.{length, take, drop, length-take}
-use lib.Seq.{take-at}
-use borrow.Author.Tests.{eqb-true, le-ltb}
+use lib.ListN.{length, length-take}
+use borrow.Author.Tests.{le-ltb}
 use Rattle.model.specs.declared.Distribution.{Distribution}
-use Rattle.model.specs.Lists.{over}
 use Rattle.model.specs.Plan.{planOf, planAt, maxValues}
 use Rattle.model.specs.Association.{Request, objectives}
 use Rattle.model.specs.Kept.{selected}
 use Rattle.model.specs.Setting.{Operators, generation, generationOf, WordsWithin}
 use Rattle.model.specs.Session.{State, bredFrom, breeds, requestOf, operatorsOf}
 use Rattle.model.specs.Property.{SessionOk}
-use Rattle.model.specs.Refusal.{Check, firstOf, Room, badDirections, badDivisions, goodPlan, badPool, selectRefusal, stepRefusal, sampleRefusal}
+use Rattle.model.specs.Refusal.{Room, badDirections, badDivisions, badPool, selectRefusal, stepRefusal, sampleRefusal}
 use Rattle.model.specs.Demand3.{Demand3}
 use Rattle.model.specs.Calls.{Lent, roomOf, handedOut, selectAccepted, selectOf, Selects, stepAccepted, stepOf, Steps}
-use Rattle.list_laws.proofs.Bools.{and-left}
-use Rattle.list_laws.proofs.Built.{listBelow-length}
-use Rattle.list_laws.proofs.Checks.{applies-not}
+use Rattle.list_laws.proofs.Built.{listBelow-length, over-take}
+use Rattle.list_laws.proofs.Checks.{applies-not, good-length}
 use Rattle.demand3_laws.specs.Facts.{Accepted}
-use Rattle.demand3_laws.proofs.Accepted.{some-objectives, pool-plan, demand3}
+use Rattle.demand3_laws.proofs.Passed.{some-objectives, pool-plan, select-passed, passed}
+use Rattle.demand3_laws.proofs.Accepted.{demand3}
 
 -- ---- plans that lie in a slice of words have as many values as they claim, up to 8
 
@@ -37,7 +35,6 @@ planAt-row words p = listBelow-length _ (min (planAt words p .rowLength) maxValu
 
 word-accepted : (r : Request) → InWords r → badDirections (r .marks) ≡ false → badDivisions (objectives r) (r .divisions) ≡ false → badPool r ≡ false
     → Accepted r
-unfolding goodPlan
 word-accepted r words directions divisions pool =
     record {
       directions = directions;
@@ -45,22 +42,14 @@ word-accepted r words directions divisions pool =
       pool = pool;
       rows = λ p h.
           let m = some-objectives (r .marks) directions .1 in
-          let same = eqb-true (r .plans p .rowLength) (objectives r) (and-left _ _ (pool-plan r pool p h)) in
-          omega (arith, words p);
+          omega (arith, words p, good-length (objectives r) (r .plans p) (pool-plan r pool p h));
     }
-
--- what is handed out of a slice whose front holds the kept list
-handed-out : (kept old : List ℕ) (n : ℕ) → length kept ≡ n → kept ≡ take n (over kept old)
-handed-out kept old n e = sym (take-at kept (drop (length kept) old) n e)
 
 -- ---- `nsga3_select`
 
 module _ (r : Request) (words : InWords r) where
   select-accepted : (room : Room) → selectRefusal r room ≡ none → Accepted r
-  unfolding selectRefusal
-  select-accepted room e =
-      word-accepted r words (applies-not (List·Memᴰ·head refl) e) (applies-not (List·Memᴰ·tail (List·Memᴰ·tail (List·Memᴰ·head refl))) e)
-      (applies-not (List·Memᴰ·tail (List·Memᴰ·tail (List·Memᴰ·tail (List·Memᴰ·tail (List·Memᴰ·head refl))))) e)
+  select-accepted room e = let p = select-passed r room e in word-accepted r words (p .directions) (p .divisions) (p .pool)
 
   pub selects : (entry : Lent) → Selects r entry (selectOf r entry)
   unfolding selectOf selectAccepted
@@ -68,15 +57,12 @@ module _ (r : Request) (words : InWords r) where
     where
       go : selectRefusal r (roomOf entry) ≡ none → Demand3 r (selected r .kept)
           → Demand3 r (handedOut (selectOf r entry .answer .outcome) (selectOf r entry .slices .kept))
-      go e d = rw e (subst (Demand3 r) (handed-out (selected r .kept) (entry .kept) (r .size) (d .exactly)) d)
+      go e d = rw e (subst (Demand3 r) (sym (over-take (selected r .kept) (entry .kept) (r .size) (d .exactly))) d)
 
   -- ---- `nsga3_generate_offspring`
 
   step-accepted : (o : Operators) (room : Room) (offspring : ℕ) → stepRefusal o r room offspring ≡ none → Accepted r
-  unfolding stepRefusal
-  step-accepted o room offspring e =
-      word-accepted r words (applies-not (List·Memᴰ·head refl) e) (applies-not (List·Memᴰ·tail (List·Memᴰ·tail (List·Memᴰ·head refl))) e)
-      (applies-not (List·Memᴰ·tail (List·Memᴰ·tail (List·Memᴰ·tail (List·Memᴰ·tail (List·Memᴰ·tail (List·Memᴰ·tail (List·Memᴰ·head refl))))))) e)
+  step-accepted o room offspring e = let p = passed o r room offspring e in word-accepted r words (p .directions) (p .divisions) (p .pool)
 
   -- a step from two plans on keeps what a selection keeps
   generation-kept : (o : Operators) → 2 ≤ r .count → generation o r .kept ≡ selected r .kept
@@ -97,7 +83,7 @@ module _ (r : Request) (words : InWords r) where
     where
       go : stepRefusal o r (roomOf entry) (length offspring) ≡ none → Demand3 r (generation o r .kept)
           → Demand3 r (handedOut (stepOf o r entry offspring .answer .outcome) (stepOf o r entry offspring .slices .kept))
-      go e d = rw e (subst (Demand3 r) (handed-out (generation o r .kept) (entry .kept) (length (generation o r .kept)) refl) d)
+      go e d = rw e (subst (Demand3 r) (sym (over-take (generation o r .kept) (entry .kept) (length (generation o r .kept)) refl)) d)
 
 -- ---- `sample`
 

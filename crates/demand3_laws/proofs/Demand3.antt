@@ -1,10 +1,9 @@
 -- DEMAND 3 of every selection from a pool of at least the size wanted, where a front is split and where none is.
 use Prim.Native.Nat.{ℕ, suc, _+_, _-_, _≤_, _<_}
 use mathlib.Core.Path.{_≡_, sym, ap, _∙_, subst, fun-ext}
-use mathlib.Core.Logic.{_⊎_, inl, inr, ⊎-elim, ∥∥₁-elim}
-use mathlib.Core.HLevel.{⊥-prop}
+use mathlib.Core.Logic.{_⊎_, inl, inr, ⊎-elim}
 use mathlib.Core.Bool.{true, false, true≢false}
-use mathlib.Core.List.{List, _++_, Memᴰ·append-left, Memᴰ·append-right, List·Memᴰ·append-cases, nodup-append}
+use mathlib.Core.List.{List, _++_, Memᴰ·append-left, Memᴰ·append-right, List·Memᴰ·append-cases}
 use native.Mathlib.Omega.{arith}
 use lib.Dec.{eqb}
 use lib.ListN.{length, length-append}
@@ -15,27 +14,30 @@ use Rattle.model.specs.Kept.{nicheCount, wholeFronts, before, isSplit, splitFro
 use Rattle.model.specs.Demand3.{Split, Filling, finalCount, fillingCount, sumOfSquares, Served, Waits, Demand3}
 use Rattle.niching_laws.specs.Niching as Niching
 use Rattle.niching_laws.specs.Niching.{ByProcedure}
-use Rattle.list_laws.proofs.Members.{tally-append}
+use Rattle.list_laws.proofs.Members.{tally-append, tally-below, distinct-append}
 use Rattle.niching_laws.proofs.Picks.{picks-niched}
 use Rattle.niching_laws.proofs.Procedure.{picks-procedure, procedure-other}
 use Rattle.niching_laws.proofs.Association.{lineOf-inside, kept-distance}
-use Rattle.demand3_laws.specs.Facts.{FrontFacts}
-use Rattle.list_laws.proofs.Bools.{by-bool}
-use Rattle.demand3_laws.proofs.Counts.{Exactly, tally-exactly}
+use Rattle.demand3_laws.specs.Facts.{Exactly, FrontFacts}
+use Rattle.list_laws.proofs.Bools.{by-bool, no-pass}
 use Rattle.front_laws.proofs.Rounds.{inFirst-more}
-use Rattle.front_laws.proofs.Order.{inFront-new, inFront-first}
-use Rattle.demand3_laws.proofs.Fronts.{dominators-first, listing-exactly, front-exactly}
+use Rattle.front_laws.proofs.Order.{inFront-new, inFront-first, listing-below, listing-exact}
+use Rattle.demand3_laws.proofs.Fronts.{dominators-first}
 use Rattle.demand3_laws.proofs.Sizes.{sizeOf-len, split-room, split-short, split-kept, split-only, whole-fill, whole-kept, whole-none}
 
 module _ (r : Request) (facts : FrontFacts (dominance r) (r .count)) where
   -- the whole fronts and the split front, as lists of the paper's members
   before-exactly : Exactly (inFirst (dominance r) (r .count) (wholeFronts r)) (r .count) (before r)
   unfolding before
-  before-exactly = listing-exactly facts (wholeFronts r)
+  before-exactly = facts .listed (wholeFronts r)
 
   split-exactly : Exactly (inFront (dominance r) (r .count) (wholeFronts r)) (r .count) (splitFront r)
   unfolding splitFront
-  split-exactly = front-exactly facts (wholeFronts r)
+  split-exactly = facts .fronts (wholeFronts r)
+
+  -- no plan of the split front is in a whole one
+  split-apart : (p : ℕ) → inFront (dominance r) (r .count) (wholeFronts r) p ≡ true → In p (before r) → ⊥
+  split-apart p e i = true≢false (sym (before-exactly .passes p i) ∙ inFront-new (dominance r) (r .count) (wholeFronts r) p e)
 
   -- a plan that dominates one of the whole fronts, or of the front after them, is in a whole front
   better-before : (p q : ℕ) → inFirst (dominance r) (r .count) (suc (wholeFronts r)) p ≡ true → q < r .count → dominance r q p ≡ true → In q (before r)
@@ -51,9 +53,8 @@ module _ (r : Request) (facts : FrontFacts (dominance r) (r .count)) where
           inPool = before-exactly .below;
           distinct = before-exactly .distinct;
           exactly = whole-fill r facts enough whole;
-          noneBetter = λ p q m h away. by-bool (dominance r q p)
-              (λ dom. absurd (away (better-before p q (inFirst-more (dominance r) (r .count) (wholeFronts r) p (before-exactly .passes p m)) h dom)))
-              (λ e. e);
+          noneBetter = λ p q m h away. no-pass (dominance r q p)
+              (λ dom. away (better-before p q (inFirst-more (dominance r) (r .count) (wholeFronts r) p (before-exactly .passes p m)) h dom));
           whole = λ k s. absurd (whole-none r facts enough whole k s);
           least = λ k s. absurd (whole-none r facts enough whole k s);
           balanced = λ k s. absurd (whole-none r facts enough whole k s);
@@ -66,20 +67,20 @@ module _ (r : Request) (facts : FrontFacts (dominance r) (r .count)) where
     setting =
         record {
           distinct = split-exactly .distinct;
-          apart = λ p m i. true≢false (sym (before-exactly .passes p i) ∙ inFront-new (dominance r) (r .count) (wholeFronts r) p (split-exactly .passes p m));
+          apart = λ p m. split-apart p (split-exactly .passes p m);
           inside = λ p _. lineOf-inside r p some;
         }
 
     niched : Niching.Niched (before r) (splitFront r) (lineOf r) (lineCount r) (r .size - length (before r)) (filled r .value)
     unfolding filled
-    niched = picks-niched (λ p. association r p .distance) setting (r .size - length (before r)) (r .state) (split-room r facts split)
+    niched = picks-niched (λ p. association r p .distance) setting (r .size - length (before r)) (r .state) (split-room r split)
 
     -- the picks are those of the paper's procedure, by each plan's distance from its line
     pub filled-procedure : ByProcedure (before r) (splitFront r) (lineOf r) (λ p. distanceTo r p (lineOf r p)) (lineCount r) (filled r .value)
     unfolding filled
     filled-procedure =
         procedure-other (λ p. distanceTo r p (lineOf r p)) (λ p q. kept-distance r p q some)
-        (picks-procedure (λ p. association r p .distance) setting (r .size - length (before r)) (r .state) (split-room r facts split))
+        (picks-procedure (λ p. association r p .distance) setting (r .size - length (before r)) (r .state) (split-room r split))
 
     abbrev list : List ℕ
     list = before r ++ filled r .value
@@ -94,29 +95,26 @@ module _ (r : Request) (facts : FrontFacts (dominance r) (r .count)) where
         (λ i. inFront-first (dominance r) (r .count) (wholeFronts r) p (split-exactly .passes p i)) (kept-cases p m)
 
     list-distinct : Distinct list
-    list-distinct =
-        nodup-append .1 (
-          before-exactly .distinct,
-          niched .fills .distinct,
-          λ p m i. ∥∥₁-elim m ⊥-prop (λ m′. ∥∥₁-elim i ⊥-prop (λ i′. niched .apart p i′ m′)),
-        )
+    list-distinct = distinct-append (before r) (filled r .value) (before-exactly .distinct) (niched .fills .distinct) (λ p m i. niched .apart p i m)
 
     -- another filling, and the counts that it gives
     other-filling : (filling : List ℕ) → Filling r (wholeFronts r) filling → Niching.Filling (splitFront r) (r .size - length (before r)) filling
     unfolding before
     other-filling filling f =
         record {
-          size = f .places ∙ ap (λ (k : ℕ). r .size - k) (sizeOf-len r facts (wholeFronts r));
+          size = f .places ∙ ap (λ (k : ℕ). r .size - k) (sizeOf-len r (wholeFronts r));
           distinct = f .different;
           members = λ p m. split-exactly .every p (f .inPool p m) (f .fromFront p m);
         }
 
     other-counts : (filling : List ℕ) → nicheCount (lineOf r) (before r ++ filling) ≡ fillingCount r (wholeFronts r) filling
+    unfolding before
     other-counts filling =
         fun-ext (λ l.
         tally-append (λ p. eqb (lineOf r p) l) (before r) filling
         ∙ ap (λ (k : ℕ). k + finalCount r filling l)
-        (tally-exactly (λ p. eqb (lineOf r p) l) (inFirst (dominance r) (r .count) (wholeFronts r)) (r .count) (before r) before-exactly))
+        (tally-below (λ p. eqb (lineOf r p) l) (inFirst (dominance r) (r .count) (wholeFronts r)) (r .count) (before r)
+        (listing-below (dominance r) (r .count) (wholeFronts r)) (listing-exact (dominance r) (r .count) (wholeFronts r))))
 
     least-here : (filling : List ℕ) → Filling r (wholeFronts r) filling → sumOfSquares r (finalCount r list) ≤ sumOfSquares r (fillingCount r (wholeFronts r) filling)
     least-here filling f =
@@ -127,9 +125,7 @@ module _ (r : Request) (facts : FrontFacts (dominance r) (r .count)) where
     served l s =
         record {
           plan = s .plan;
-          listed = ⊎-elim
-              (λ i. absurd (true≢false (sym (before-exactly .passes (s .plan) i) ∙ inFront-new (dominance r) (r .count) (wholeFronts r) (s .plan) (s .fromFront))))
-              (λ i. i) (List·Memᴰ·append-cases (before r) (s .kept));
+          listed = ⊎-elim (λ i. absurd (split-apart (s .plan) (s .fromFront) i)) (λ i. i) (List·Memᴰ·append-cases (before r) (s .kept));
           onLine = s .onLine;
         }
 
@@ -150,24 +146,22 @@ module _ (r : Request) (facts : FrontFacts (dominance r) (r .count)) where
     split-demand : Demand3 r list
     split-demand =
         record {
-          listed = sym (split-kept r facts split);
+          listed = sym (split-kept r split);
           inPool = λ p m. ⊎-elim (before-exactly .below p) (split-exactly .below p) (kept-cases p m);
           distinct = list-distinct;
-          exactly = omega (arith, length-append (before r) (filled r .value), niched .fills .size, split-short r facts split);
-          noneBetter = λ p q m h away. by-bool (dominance r q p)
-              (λ dom. absurd (away (Memᴰ·append-left (filled r .value) (better-before p q (kept-first p m) h dom))))
-              (λ e. e);
+          exactly = omega (arith, length-append (before r) (filled r .value), niched .fills .size, split-short r split);
+          noneBetter = λ p q m h away. no-pass (dominance r q p) (λ dom. away (Memᴰ·append-left (filled r .value) (better-before p q (kept-first p m) h dom)));
           whole = λ k s p h e. Memᴰ·append-left (filled r .value)
-              (before-exactly .every p h (subst (λ (j : ℕ). inFirst (dominance r) (r .count) j p ≡ true) (split-only r facts split k s) e));
-          least = λ k s filling f. subst (λ (j : ℕ). sumOfSquares r (finalCount r list) ≤ sumOfSquares r (fillingCount r j filling)) (sym (split-only r facts split k s))
-              (least-here filling (subst (λ (j : ℕ). Filling r j filling) (split-only r facts split k s) f));
+              (before-exactly .every p h (subst (λ (j : ℕ). inFirst (dominance r) (r .count) j p ≡ true) (split-only r split k s) e));
+          least = λ k s filling f. subst (λ (j : ℕ). sumOfSquares r (finalCount r list) ≤ sumOfSquares r (fillingCount r j filling)) (sym (split-only r split k s))
+              (least-here filling (subst (λ (j : ℕ). Filling r j filling) (split-only r split k s) f));
           balanced = λ k s l w a b. balanced-here l w
-              (subst (λ (j : ℕ). Served r j list l) (split-only r facts split k s) a) (subst (λ (j : ℕ). Waits r j list w) (split-only r facts split k s) b);
+              (subst (λ (j : ℕ). Served r j list l) (split-only r split k s) a) (subst (λ (j : ℕ). Waits r j list w) (split-only r split k s) b);
         }
 
   -- ---- both
 
   pub demand3-facts : r .size ≤ r .count → 0 < lineCount r → Demand3 r (selected r .kept)
   demand3-facts enough some = by-bool (isSplit r)
-      (λ e. subst (Demand3 r) (sym (split-kept r facts e)) (split-demand some e))
+      (λ e. subst (Demand3 r) (sym (split-kept r e)) (split-demand some e))
       (λ e. subst (Demand3 r) (sym (whole-kept r facts enough e)) (whole-demand enough e))

@@ -1,6 +1,5 @@
-pub mod Counts
+pub mod Passed
 pub mod Fronts
-pub mod Covered
 pub mod Sizes
 pub mod Demand3
 pub mod Accepted

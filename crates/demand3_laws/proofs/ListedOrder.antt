@@ -2,15 +2,13 @@
 -- not hold of the list that does so, by its sum of squares alone.
 use Prim.Native.Nat.{ℕ, _≤_}
 use mathlib.Core.Path.{_≡_, refl}
-use mathlib.Core.Logic.{∥∥₁-elim}
-use mathlib.Core.HLevel.{⊥-prop}
 use mathlib.Core.Bool.{true}
-use mathlib.Core.List.{List, [], _∷_, List·Memᴰ·not-nil, List·Memᴰ·eq-of-singleton, nodup-cons, nodup-nil}
+use mathlib.Core.List.{List, [], _∷_, List·Memᴰ·not-nil, List·Memᴰ·eq-of-singleton, nodup-nil}
 use native.Mathlib.Omega.{arith}
 use lib.Ieee.{add, sub, mul, div, lt, le, eq, ofBits, ofInt, neg}
+use Rattle.list_laws.proofs.Members.{distinct-snoc}
 use Rattle.model.specs.Papers.Deb2002 as Deb
 use Rattle.model.specs.Lists as Lists
-use Rattle.model.specs.Lists.{Distinct}
 use Rattle.model.specs.Real as Real
 use Rattle.model.specs.Numbers as Numbers
 use Rattle.model.specs.Row as Row
@@ -42,14 +40,11 @@ computed = record { wanted = refl; pool = refl; first = refl; second = refl; mem
 split : Split example 1
 split = record { fallShort = omega (arith, computed .wanted, computed .first); exceed = omega (arith, computed .wanted, computed .second) }
 
-distinct-one : (p : ℕ) → Distinct (p ∷ [])
-distinct-one p = nodup-cons .1 (λ m. ∥∥₁-elim m ⊥-prop List·Memᴰ·not-nil, nodup-nil)
-
 filling : Filling example 1 (2 ∷ [])
 filling =
     record {
       places = omega (arith, computed .wanted, computed .first);
-      different = distinct-one 2;
+      different = distinct-snoc [] 2 nodup-nil List·Memᴰ·not-nil;
       inPool = λ p m. let same : p ≡ 2 = List·Memᴰ·eq-of-singleton m in omega (arith, computed .pool);
       fromFront = λ p m. rw (List·Memᴰ·eq-of-singleton m) (computed .member);
     }

@@ -1,7 +1,7 @@
 -- How many plans the whole fronts have beside the size wanted, where a front is split and where none is.
-use Prim.Native.Nat.{ℕ, zero, suc, _+_, _-_, _≤_, _<_}
-use mathlib.Core.Path.{_≡_, refl, sym, ap, _∙_}
-use mathlib.Core.Bool.{Bool, true, false, _&&_, false≢true}
+use Prim.Native.Nat.{ℕ, suc, _+_, _-_, _≤_, _<_}
+use mathlib.Core.Path.{_≡_, sym, ap, _∙_}
+use mathlib.Core.Bool.{true, false}
 use mathlib.Core.List.{_++_, append-nil}
 use native.Mathlib.Omega.{arith}
 use lib.Dec.{ltb}
@@ -15,32 +15,29 @@ use Rattle.model.specs.Demand3.{sizeOfFirst, Split}
 use Rattle.demand3_laws.specs.Facts.{FrontFacts}
 use Rattle.list_laws.proofs.Bools.{by-bool, and-left, and-right}
 use Rattle.list_laws.proofs.Counts.{countBelow-all}
-use Rattle.list_laws.proofs.First.{firstBelow-le, firstBelow-passes, firstBelow-before}
+use Rattle.list_laws.proofs.First.{firstBelow-le, firstBelow-passes}
 use Rattle.front_laws.proofs.Listings.{listing-grows, listing-up}
-use Rattle.demand3_laws.proofs.Fronts.{listing-size}
+use Rattle.front_laws.proofs.Order.{listing-length}
+use Rattle.niching_laws.proofs.KeptLength.{before-le}
 
-module _ (r : Request) (facts : FrontFacts (dominance r) (r .count)) where
+module _ (r : Request) where
   -- the size of the first k fronts
   abbrev len : ℕ → ℕ
   len k = length (listing (dominance r) (r .count) k)
 
   pub sizeOf-len : (k : ℕ) → sizeOfFirst r k ≡ len k
-  sizeOf-len k = sym (listing-size facts k)
-
-  -- the whole fronts fit
-  pub whole-fit : length (before r) ≤ r .size
-  unfolding before wholeFronts listing
-  whole-fit = go (wholeFronts r) (λ j h. firstBelow-before (λ k. ltb (r .size) (len (suc k))) (r .count) j h)
-    where
-      go : (k : ℕ) → ((j : ℕ) → j < k → ltb (r .size) (len (suc j)) ≡ false) → len k ≤ r .size
-      go zero h = omega arith
-      go (suc j) h = ltb-false (r .size) (len (suc j)) (h j (omega arith))
+  sizeOf-len k = sym (listing-length (dominance r) (r .count) k)
 
   -- with the front after them, if there is one, they exceed the size
   pub next-exceeds : wholeFronts r < r .count → r .size < length (before r) + length (splitFront r)
   unfolding before splitFront wholeFronts
   next-exceeds h =
       omega (arith, listing-grows (dominance r) (r .count) (wholeFronts r), ltb-true (r .size) (len (suc (wholeFronts r))) (firstBelow-passes (λ k. ltb (r .size) (len (suc k))) (r .count) h))
+
+  -- none of the whole fronts is split
+  whole-not : (k : ℕ) → Split r k → k < wholeFronts r → ⊥
+  unfolding before
+  whole-not k s h = omega (arith, before-le r, sizeOf-len (suc k), s .exceed, listing-up (dominance r) (r .count) (suc k) (wholeFronts r) h)
 
   -- where a front is split
   module _ (split : isSplit r ≡ true) where
@@ -63,25 +60,29 @@ module _ (r : Request) (facts : FrontFacts (dominance r) (r .count)) where
     -- and no other front is
     pub split-only : (k : ℕ) → Split r k → k ≡ wholeFronts r
     unfolding before splitFront
-    split-only k s =
-        let short : len k < r .size = omega (arith, sizeOf-len k, s .fallShort) in
-        let over : r .size < len (suc k) = omega (arith, sizeOf-len (suc k), s .exceed) in
-        by-bool (ltb k (wholeFronts r))
-        (λ e. absurd (omega (arith, split-short, listing-up (dominance r) (r .count) (suc k) (wholeFronts r) (ltb-true k (wholeFronts r) e))))
+    split-only k s = by-bool (ltb k (wholeFronts r))
+        (λ e. absurd (whole-not k s (ltb-true k (wholeFronts r) e)))
         (λ e. by-bool (ltb (wholeFronts r) k)
-        (λ v. absurd (omega (arith, next-exceeds split-inside, listing-grows (dominance r) (r .count) (wholeFronts r), listing-up (dominance r) (r .count) (suc (wholeFronts r)) k (ltb-true (wholeFronts r) k v))))
+        (λ v. absurd (omega (
+          arith,
+          next-exceeds split-inside,
+          listing-grows (dominance r) (r .count) (wholeFronts r),
+          listing-up (dominance r) (r .count) (suc (wholeFronts r)) k (ltb-true (wholeFronts r) k v),
+          sizeOf-len k,
+          s .fallShort,
+        )))
         (λ v. omega (arith, ltb-false k (wholeFronts r) e, ltb-false (wholeFronts r) k v)))
 
   -- where none is, from a pool of at least the size
-  module _ (enough : r .size ≤ r .count) (whole : isSplit r ≡ false) where
+  module _ (facts : FrontFacts (dominance r) (r .count)) (enough : r .size ≤ r .count) (whole : isSplit r ≡ false) where
     -- the whole fronts fill the size
     pub whole-fill : length (before r) ≡ r .size
     unfolding isSplit before wholeFronts
     whole-fill = by-bool (ltb (wholeFronts r) (r .count))
-        (λ e. omega (arith, whole-fit, ltb-false (len (wholeFronts r)) (r .size) (rw e at whole)))
+        (λ e. omega (arith, before-le r, ltb-false (len (wholeFronts r)) (r .size) (rw e at whole)))
         (λ e. let last : wholeFronts r ≡ r .count = last-one (ltb-false (wholeFronts r) (r .count) e) in
-        let all : len (r .count) ≡ r .count = listing-size facts (r .count) ∙ countBelow-all (inFirst (dominance r) (r .count) (r .count)) (r .count) (facts .covered) in
-        omega (arith, whole-fit, ap len last))
+        let all : len (r .count) ≡ r .count = listing-length (dominance r) (r .count) (r .count) ∙ countBelow-all (inFirst (dominance r) (r .count) (r .count)) (r .count) (facts .covered) in
+        omega (arith, before-le r, ap len last))
       where
         last-one : r .count ≤ wholeFronts r → wholeFronts r ≡ r .count
         last-one h = omega (arith, firstBelow-le (λ k. ltb (r .size) (len (suc k))) (r .count))
@@ -95,9 +96,6 @@ module _ (r : Request) (facts : FrontFacts (dominance r) (r .count)) where
 
     pub whole-none : (k : ℕ) → Split r k → ⊥
     unfolding before
-    whole-none k s =
-        let short : len k < r .size = omega (arith, sizeOf-len k, s .fallShort) in
-        let over : r .size < len (suc k) = omega (arith, sizeOf-len (suc k), s .exceed) in
-        by-bool (ltb k (wholeFronts r))
-        (λ e. omega (arith, whole-fill, listing-up (dominance r) (r .count) (suc k) (wholeFronts r) (ltb-true k (wholeFronts r) e)))
-        (λ e. omega (arith, whole-fill, listing-up (dominance r) (r .count) (wholeFronts r) k (ltb-false k (wholeFronts r) e)))
+    whole-none k s = by-bool (ltb k (wholeFronts r))
+        (λ e. whole-not k s (ltb-true k (wholeFronts r) e))
+        (λ e. omega (arith, whole-fill, sizeOf-len k, s .fallShort, listing-up (dominance r) (r .count) (wholeFronts r) k (ltb-false k (wholeFronts r) e)))

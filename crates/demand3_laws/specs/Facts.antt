@@ -2,20 +2,28 @@
 use Prim.Native.Nat.{ℕ, _≤_, _<_}
 use mathlib.Core.Path.{_≡_}
 use mathlib.Core.Bool.{Bool, true, false}
-use lib.Dec.{eqb}
+use mathlib.Core.List.{List}
 use lib.ListN.{length}
-use Rattle.model.specs.Lists.{In, one, tally}
-use Rattle.model.specs.Front.{listing}
-use Rattle.model.specs.Papers.Deb2002.{inFirst}
+use Rattle.model.specs.Lists.{In, Distinct}
+use Rattle.model.specs.Front.{front, listing}
+use Rattle.model.specs.Papers.Deb2002.{inFirst, inFront}
 use Rattle.model.specs.Association.{Request, objectives}
 use Rattle.model.specs.Refusal.{badDirections, badDivisions, badPool}
+use Rattle.list_laws.specs.Occ.{Below}
 pub use Rattle.front_laws.specs.Strict.{Strict}
 
--- the listing of the first k fronts has plans of the pool alone, each once if the paper's first k fronts have it, and else not; and every plan is in one
--- of the paper's first n fronts
+-- a list of each number below n that passes a test, once, and no other
+pub record Exactly (g : ℕ → Bool) (n : ℕ) (l : List ℕ) : Type 0 where
+  pub distinct : Distinct l
+  pub below : Below n l
+  pub passes : (p : ℕ) → In p l → g p ≡ true
+  pub every : (p : ℕ) → p < n → g p ≡ true → In p l
+
+-- the listing of the first k fronts has the plans of the paper's first k fronts, and front k those of the paper's front k, each once and no other; and every
+-- plan is in one of the paper's first n fronts
 pub record FrontFacts (d : ℕ → ℕ → Bool) (n : ℕ) : Type 0 where
-  pub below : (k p : ℕ) → In p (listing d n k) → p < n
-  pub once : (k p : ℕ) → p < n → tally (λ q. eqb q p) (listing d n k) ≡ one (inFirst d n k p)
+  pub listed : (k : ℕ) → Exactly (inFirst d n k) n (listing d n k)
+  pub fronts : (k : ℕ) → Exactly (inFront d n k) n (front d n k)
   pub covered : (p : ℕ) → p < n → inFirst d n n p ≡ true
 
 -- a request to which refusals 2, 4 and 8 do not apply, with plans that have as many values as there are objectives

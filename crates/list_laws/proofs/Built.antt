@@ -9,6 +9,7 @@ use native.Mathlib.Omega.{arith}
 use lib.ListN.{length, getD, set, take, drop, drop-of-length-le, length-append, length-drop, take-append-drop, List·getD-append}
 use lib.Seq.{drop-cons, append-snoc, take-length, set-at, getD-at, ext-getD, length-take-le, getD-take, take-at, drop-at}
 use Rattle.model.specs.Lists.{listBelow, joinBelow, over}
+use Rattle.model.specs.Draw.{Drawn, drawn}
 
 module _ {A : Type 0} where
   pub listBelow-none : (f : ℕ → A) → listBelow f 0 ≡ []
@@ -137,3 +138,11 @@ pub map-at : {A B : Type 0} (f : A → B) (l : List A) (i : ℕ) (z : B) (y : A)
 map-at f [] i z y h = absurd (omega arith)
 map-at f (a ∷ l) zero z y h = refl
 map-at f (a ∷ l) (suc i) z y h = map-at f l i z y (omega arith)
+
+-- a list that is drawn entry by entry, one more at its end: `pick` draws that from what is drawn so far
+pub drawn-more : {A : Type 0} (draws : ℕ → Drawn (List A)) (pick : Drawn (List A) → Drawn A) (n : ℕ)
+    → draws (suc n) ≡ drawn (draws n .value ++ (pick (draws n) .value ∷ [])) (pick (draws n) .state)
+    → (l : List A) (t : ℕ) (v : A) (u : ℕ) → drawn l t ≡ draws n → drawn v u ≡ pick (drawn l t) → drawn (l ++ (v ∷ [])) u ≡ draws (n + 1)
+drawn-more {A} draws pick n step l t v u e f =
+    ap (λ (d : Drawn A). drawn (l ++ (d .value ∷ [])) (d .state)) f
+    ∙ ap (λ (c : Drawn (List A)). drawn (c .value ++ (pick c .value ∷ [])) (pick c .state)) e ∙ sym step ∙ ap draws (sym (add-one n))

@@ -2,7 +2,7 @@
 use Prim.Native.Nat.{ℕ, zero, suc, _+_, _≤_, _<_}
 use mathlib.Core.Path.{_≡_, refl, ap, sym, _∙_}
 use mathlib.Core.Bool.{Bool, true, false, cond, _&&_, _||_, and-true, true≢false}
-use mathlib.Core.List.{List, [], _∷_, _++_, List·Memᴰ, List·Memᴰ·head, List·Memᴰ·tail, List·Memᴰ·not-nil, List·Memᴰ·cases-cons, List·Memᴰ·append-cases, List·Memᴰ·eq-of-singleton, Memᴰ·cast, Pairwise·nil, Pairwise·cons, nodup-cons, nodup-nil, nodup-append}
+use mathlib.Core.List.{List, [], _∷_, _++_, List·Memᴰ, List·Memᴰ·head, List·Memᴰ·tail, List·Memᴰ·not-nil, List·Memᴰ·cases-cons, List·Memᴰ·append-cases, List·Memᴰ·eq-of-singleton, Memᴰ·cast, Pairwise·nil, Pairwise·cons, List·Nodup, nodup-cons, nodup-nil, nodup-append}
 use mathlib.Core.Logic.{_⊎_, inl, inr, ⊎-elim, ∥∥₁-elim}
 use mathlib.Core.HLevel.{⊥-prop}
 use native.Mathlib.Nat.{not-suc-le-zero}
@@ -349,3 +349,7 @@ module _ (g : ℕ → Bool) (n : ℕ) (l : List ℕ) (a : AllUnder n l) (h : (q 
 
   pub exact-in : (q : ℕ) → q < n → g q ≡ true → In q l
   exact-in q u e = occ-in q l (omega (arith, h q u, ap one e))
+
+-- two lists of different entries that share none
+pub distinct-append : {A : Type 0} (s t : List A) → List·Nodup s → List·Nodup t → ((a : A) → List·Memᴰ a s → List·Memᴰ a t → ⊥) → List·Nodup (s ++ t)
+distinct-append s t d e h = nodup-append .1 (d, e, λ a m k. ∥∥₁-elim m ⊥-prop (λ m′. ∥∥₁-elim k ⊥-prop (h a m′)))

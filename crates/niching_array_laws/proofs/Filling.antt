@@ -1,18 +1,18 @@
 -- The arrays while the open places are filled: they hold what document 01 says of the plans kept before and those picked so far.
-use Prim.Native.Nat.{ℕ, suc, _+_, _-_, _≤_, _<_}
+use Prim.Native.Nat.{ℕ, _+_, _-_, _≤_, _<_}
 use mathlib.Core.Path.{_≡_, ap, ap₂, sym, _∙_, fun-ext}
 use mathlib.Core.Bool.{Bool, true, false, not, _&&_, _||_, or-true, or-false}
-use mathlib.Core.List.{List, [], _∷_, _++_, map, append-nil, append-assoc, List·Memᴰ·head, List·Memᴰ·tail}
+use mathlib.Core.List.{List, [], _∷_, _++_, map, append-nil, append-assoc}
 use native.Mathlib.Omega.{arith}
 use borrow.Author.Tests.{eq-eqb, ne-eqb, eqb-true, eqb-false}
 use lib.Dec.{eqb, ltb}
 use lib.Ieee.{Float}
 use lib.ListN.{length, getD, set, replicate, length-append, length-set, length-map, length-replicate}
 use lib.Seq.{getD-set-same, getD-set-other}
-use Rattle.model.specs.Lists.{countBelow, keepBelow, keep, has, In, Distinct}
+use Rattle.model.specs.Lists.{countBelow, keepBelow, keep, has, Distinct}
 use Rattle.model.specs.Draw.{Drawn}
 use Rattle.model.specs.Kept.{nicheCount, waiting, openLines, leastLines, drawFrom, drawMember, pickOne}
-use Rattle.list_laws.proofs.Bools.{by-bool}
+use Rattle.list_laws.proofs.Bools.{by-bool, no-pass}
 use Rattle.list_laws.proofs.Counts.{countBelow-same}
 use Rattle.list_laws.proofs.Members.{tally-le, keep-length, has-nil, has-cons, has-occ, has-append, has-in, different-places, place-of}
 use Rattle.list_laws.proofs.Kept.{keepBelow-same, keepBelow-length}
@@ -99,8 +99,7 @@ module _ {before front lines picked counts waits : List ℕ} {taken : List Bool}
       let i = place-of (w .1 .member) in (
         i .0,
         i .1,
-        h .marks (i .0) (i .1) ∙ by-bool (has picked (planAt front (i .0)))
-            (λ e. absurd (w .1 .unpicked (has-in picked (w .0) (ap (has picked) (sym (i .2)) ∙ e)))) (λ e. e),
+        h .marks (i .0) (i .1) ∙ no-pass (has picked (planAt front (i .0))) (λ e. w .1 .unpicked (has-in picked (w .0) (ap (has picked) (sym (i .2)) ∙ e))),
       )
 
   pub holds-ready : (distances : List Float) (n : ℕ) → Given before front lines distances n → length picked < length front

@@ -13,7 +13,7 @@ use lib.ListN.{length, getD}
 use Rattle.model.specs.Lists.{countBelow, keepBelow, allIn}
 use Rattle.model.specs.Kept.{leastLines}
 use Rattle.list_laws.proofs.Bools.{by-bool, and-left}
-use Rattle.list_laws.proofs.Counts.{countBelow-yes, countBelow-up}
+use Rattle.list_laws.proofs.Counts.{countBelow-at}
 use Rattle.list_laws.proofs.Tests.{allIn-every, allIn-member}
 use Rattle.list_laws.proofs.Kept.{keepBelow-same, keepBelow-in, in-keepBelow}
 use Rattle.list_laws.proofs.Members.{getD-in}
@@ -134,4 +134,4 @@ module _ (counts waits : List ℕ) (n m : ℕ) (h : IsLeastOf counts waits n m) 
   least-some =
       let k = h .line in
       let e : isLeast counts waits m k ≡ true = rw (lt-ltb 0 (getD waits k 0) (h .isOpen .some)) (eq-eqb (getD counts k 0) m (h .met)) in
-      omega (arith, countBelow-yes (isLeast counts waits m) k e, countBelow-up (isLeast counts waits m) (k + 1) n (omega (arith, h .isOpen .below)))
+      countBelow-at (isLeast counts waits m) n k (h .isOpen .below) e

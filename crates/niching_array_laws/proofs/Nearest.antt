@@ -13,18 +13,18 @@ use Rattle.list_laws.proofs.Kept.{keepBelow-yes, keepBelow-no}
 use Rattle.niching_array_laws.specs.Niche.{waitsOn, placeDistance, nearerOf, Kth}
 use Rattle.niching_array_laws.proofs.Places.{first-only, nearest-snoc, nearest-one}
 
--- the three ways out of a turn
+-- the three ways out of a turn, where `waits` is the answer of the test
 module _ (front lines : List ℕ) (distances : List Float) (taken : List Bool) (l best i : ℕ) where
-  pub nearer-yes : waitsOn front lines taken l i ≡ true → lt (placeDistance front distances i) (placeDistance front distances best) ≡ true
-      → i ≡ nearerOf front lines distances taken l best i
-  nearer-yes e v = ap (λ a. cond a i best) (sym (ap₂ (λ a b. a && b) e v))
+  pub nearer-yes : {waits : Bool} → waits ≡ waitsOn front lines taken l i → waits ≡ true
+      → lt (placeDistance front distances i) (placeDistance front distances best) ≡ true → i ≡ nearerOf front lines distances taken l best i
+  nearer-yes e v w = ap (λ a. cond a i best) (sym (ap₂ (λ a b. a && b) (sym e ∙ v) w))
 
   pub nearer-far : lt (placeDistance front distances i) (placeDistance front distances best) ≡ false
       → best ≡ nearerOf front lines distances taken l best i
   nearer-far v = ap (λ a. cond a i best) (sym (and-no (waitsOn front lines taken l i) (lt (placeDistance front distances i) (placeDistance front distances best)) v))
 
-  pub nearer-no : waitsOn front lines taken l i ≡ false → best ≡ nearerOf front lines distances taken l best i
-  nearer-no e = ap (λ a. cond (a && lt (placeDistance front distances i) (placeDistance front distances best)) i best) (sym e)
+  pub nearer-no : {waits : Bool} → waits ≡ waitsOn front lines taken l i → waits ≡ false → best ≡ nearerOf front lines distances taken l best i
+  nearer-no e v = ap (λ a. cond (a && lt (placeDistance front distances i) (placeDistance front distances best)) i best) (sym v ∙ e)
 
 -- `best` is the nearest of the places below i that pass, of which there are some
 pub record NearestSo (d : ℕ → Float) (f : ℕ → Bool) (n i best : ℕ) : Type 0 where

@@ -1,5 +1,5 @@
 -- One open place: a line and a member that the arrays give.
-use Prim.Native.Nat.{ℕ, _+_, _-_}
+use Prim.Native.Nat.{ℕ, _-_}
 use mathlib.Core.Path.{_≡_, refl, ap, ap₂, _∙_}
 use mathlib.Core.Bool.{Bool, true, false, not, _&&_}
 use mathlib.Core.List.{List}
@@ -12,7 +12,7 @@ use Rattle.model.specs.Lists.{keepBelow}
 use Rattle.model.specs.Draw.{Drawn, drawn}
 use Rattle.model.specs.Kept.{leastLines, drawFrom, drawMember}
 use Rattle.list_laws.proofs.Bools.{and-not-left, and-not-right}
-use Rattle.list_laws.proofs.Counts.{countBelow-yes, countBelow-up}
+use Rattle.list_laws.proofs.Counts.{countBelow-at}
 use Rattle.list_laws.proofs.Kept.{keepBelow-length}
 use Rattle.niching_array_laws.specs.Niche.{lineIn, distanceIn, planAt, countOf, hasWaiting, waitsOn, members, Open, MemberOf, Ready, pickAt}
 
@@ -28,7 +28,7 @@ module _ {front lines : List ℕ} {distances : List Float} {n : ℕ} {counts wai
         l,
         record {
           below = h .onLines i (h .some .1) .1;
-          some = omega (arith, h .waiting l, keepBelow-length f (length front), countBelow-yes f i e, countBelow-up f (i + 1) (length front) (omega (arith, h .some .1)));
+          some = omega (arith, h .waiting l, keepBelow-length f (length front), countBelow-at f (length front) i (h .some .1) e);
         },
       )
 

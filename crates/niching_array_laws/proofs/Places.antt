@@ -7,17 +7,17 @@ use mathlib.Core.Logic.{⊎-elim}
 use native.Mathlib.Nat.{not-suc-le-zero, eq-or-lt-of-le}
 use native.Mathlib.Numerals.{add-one}
 use native.Mathlib.Omega.{arith}
-use borrow.Author.Tests.{eq-eqb, ltb-true, ltb-false}
+use borrow.Author.Tests.{eq-eqb, ne-eqb, eqb-true, eqb-false, ltb-true, ltb-false}
 use lib.Dec.{eqb, ltb}
 use lib.Ieee.{Float, lt}
 use lib.ListN.{length, getD, take, replicate, length-replicate, getD-replicate, List·getD-append, List·getD-eq-default}
 use lib.Seq.{take-suc, take-length, getD-at}
-use Rattle.model.specs.Lists.{one, countBelow, keepBelow, keep, tally, In, Distinct}
+use Rattle.model.specs.Lists.{one, countBelow, sumBelow, keepBelow, keep, tally}
 use Rattle.model.specs.Kept.{nearestFrom, nearest}
 use Rattle.list_laws.specs.Occ.{occ}
 use Rattle.list_laws.proofs.Bools.{by-bool}
-use Rattle.list_laws.proofs.Counts.{countBelow-yes, countBelow-no, countBelow-same}
-use Rattle.list_laws.proofs.Members.{keep-append, keep-yes, keep-no, keep-nil, occ-in, occ-cons, empty-of}
+use Rattle.list_laws.proofs.Counts.{countBelow-none, countBelow-yes, countBelow-no, countBelow-up, countBelow-sum, sumBelow-same, sumBelow-add, sumBelow-point}
+use Rattle.list_laws.proofs.Members.{keep-append, keep-yes, keep-no, keep-nil, empty-of}
 use Rattle.list_laws.proofs.Kept.{keepBelow-none, keepBelow-yes, keepBelow-no, keepBelow-length, keepBelow-room}
 use Rattle.niching_array_laws.specs.Niche.{Kth}
 
@@ -92,6 +92,29 @@ kth-at f (suc n) r h e =
 pub kth-is : (f : ℕ → Bool) (n k r : ℕ) → Kth f n k r → getD (keepBelow f n) k 0 ≡ r
 kth-is f n k r h = ap (λ t. getD (keepBelow f n) t 0) (sym (h .rank)) ∙ kth-at f n r (h .below) (h .passes)
 
+-- ---- the search for it, place by place: `left` more that pass are to be passed over before place i
+
+pub record Seeks (f : ℕ → Bool) (k left i : ℕ) : Type 0 where
+  pub passed : left + countBelow f i ≡ k
+
+pub seeks-first : (f : ℕ → Bool) (k : ℕ) → Seeks f k k 0
+seeks-first f k = record { passed = omega (arith, countBelow-none f) }
+
+-- where b is the answer of the test at i
+module _ {f : ℕ → Bool} {k left i : ℕ} (h : Seeks f k left i) where
+  pub seeks-found : {b : Bool} (n : ℕ) → i < n → b ≡ f i → b ≡ true → left ≡ 0 → Kth f n k i
+  seeks-found n u e v z = record { below = u; passes = sym e ∙ v; rank = omega (arith, h .passed) }
+
+  pub seeks-yes : {b : Bool} → b ≡ f i → b ≡ true → (left ≡ 0 → ⊥) → Seeks f k (left - 1) (i + 1)
+  seeks-yes e v z = record { passed = omega (arith, h .passed, z, countBelow-yes f i (sym e ∙ v)) }
+
+  pub seeks-no : {b : Bool} → b ≡ f i → b ≡ false → Seeks f k left (i + 1)
+  seeks-no e v = record { passed = omega (arith, h .passed, countBelow-no f i (sym e ∙ v)) }
+
+  -- it ends before place n
+  pub seeks-ends : (n : ℕ) → k < countBelow f n → n ≤ i → ⊥
+  seeks-ends n u v = omega (arith, h .passed, countBelow-up f n i v)
+
 -- the first that passes is the only one up to it
 pub first-only : (f : ℕ → Bool) (n r : ℕ) → Kth f n 0 r → keepBelow f (r + 1) ≡ r ∷ []
 first-only f n r h = keepBelow-yes f r (h .passes) ∙ ap (λ t. t ++ (r ∷ [])) (empty-of (keepBelow f r) (keepBelow-length f r ∙ h .rank))
@@ -137,17 +160,14 @@ module _ (d : ℕ → Float) (h : ℕ → ℕ) where
 -- a test that no longer passes at i alone passes once less
 pub countBelow-drop : (f g : ℕ → Bool) (n i : ℕ) → i < n → f i ≡ true → g i ≡ false → ((t : ℕ) → (t ≡ i → ⊥) → g t ≡ f t)
     → countBelow f n ≡ countBelow g n + 1
-countBelow-drop f g zero i h a b s = absurd (not-suc-le-zero h)
-countBelow-drop f g (suc n) i h a b s =
-    let u : i ≤ n = omega arith in
-    ap (countBelow f) (sym (add-one n)) ∙ ⊎-elim
-    (λ v. let x : f n ≡ true = ap f (sym v) ∙ a in
-    let y : g n ≡ false = ap g (sym v) ∙ b in
-    let z = countBelow-same g f n (λ t w. s t (λ q. omega arith)) in
-    countBelow-yes f n x ∙ omega (arith, ap (countBelow g) (add-one n), countBelow-no g n y))
-    (λ m. let r = countBelow-drop f g n i m a b s in
-    let w : g n ≡ f n = s n (λ q. omega arith) in
-    by-bool (f n)
-    (λ x. countBelow-yes f n x ∙ omega (arith, ap (countBelow g) (add-one n), countBelow-yes g n (w ∙ x)))
-    (λ x. countBelow-no f n x ∙ omega (arith, ap (countBelow g) (add-one n), countBelow-no g n (w ∙ x))))
-    (eq-or-lt-of-le u)
+countBelow-drop f g n i h a b s =
+    countBelow-sum f n ∙ sumBelow-same _ _ n (λ t u. split t) ∙ sumBelow-add (λ t. one (g t)) (λ t. one (eqb t i)) n
+    ∙ omega (arith, countBelow-sum g n, point)
+  where
+    split : (t : ℕ) → one (f t) ≡ one (g t) + one (eqb t i)
+    split t = by-bool (eqb t i)
+        (λ e. let v : t ≡ i = eqb-true t i e in omega (arith, ap (λ k. one (f k)) v, ap one a, ap (λ k. one (g k)) v, ap one b, ap one e))
+        (λ e. omega (arith, ap one (s t (eqb-false t i e)), ap one e))
+
+    point : sumBelow (λ t. one (eqb t i)) n ≡ 1
+    point = sumBelow-point _ n i h (λ t u v. ap one (ne-eqb t i v)) ∙ ap one (eq-eqb i i refl)

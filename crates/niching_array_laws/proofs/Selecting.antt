@@ -1,17 +1,18 @@
 -- The loop over the open places: the first j are filled as `picks` fills them.
-use Prim.Native.Nat.{ℕ, suc, _+_, _-_, _<_}
-use mathlib.Core.Path.{_≡_, refl, ap, sym, _∙_}
+use Prim.Native.Nat.{ℕ, _+_, _-_, _<_}
+use mathlib.Core.Path.{_≡_, refl, ap, _∙_}
 use mathlib.Core.Bool.{Bool, false}
-use mathlib.Core.List.{List, [], _∷_, _++_, append-assoc}
-use native.Mathlib.Numerals.{add-one}
+use mathlib.Core.List.{List, [], _∷_, _++_}
 use native.Mathlib.Omega.{arith}
 use lib.Ieee.{Float}
-use lib.ListN.{length, getD, set, take, drop, replicate, length-append, length-drop}
-use lib.Seq.{set-at, drop-cons, getD-take, getD-drop, length-take-le}
+use lib.ListN.{length, set, take, drop, replicate, length-drop}
+use lib.Seq.{getD-take, getD-drop, length-take-le}
 use Rattle.model.specs.Lists.{over}
-use Rattle.model.specs.Draw.{Drawn, drawn}
+use Rattle.model.specs.Draw.{drawn}
 use Rattle.model.specs.Kept.{nicheCount, pickOne, picks}
-use Rattle.list_laws.proofs.Built.{over-snoc}
+use Rattle.list_laws.proofs.Built.{drawn-more}
+use Rattle.niching_laws.proofs.KeptLength.{picks-length}
+use Rattle.niching_laws.proofs.Written.{Written, written-more}
 use Rattle.niching_array_laws.specs.Niche.{lineIn, distanceIn, planAt, countOf, Zeros, OnLines, Ready, Took, Splits, picksOf, NichingSelects}
 use Rattle.niching_array_laws.proofs.Places.{replicate-at}
 use Rattle.niching_array_laws.proofs.Filling.{Given, Holds, holds-first, holds-pick, holds-ready, holds-more}
@@ -19,19 +20,16 @@ use Rattle.niching_array_laws.proofs.Filling.{Given, Holds, holds-first
 -- one pick more
 picks-next : (line : ℕ → ℕ) (distance : ℕ → Float) (n : ℕ) (before front : List ℕ) (j s r u : ℕ)
     → drawn r u ≡ pickOne line distance n before front (picks line distance n before front j s .value) (picks line distance n before front j s .state)
-    → picks line distance n before front (j + 1) s ≡ drawn (picks line distance n before front j s .value ++ (r ∷ [])) u
+    → drawn (picks line distance n before front j s .value ++ (r ∷ [])) u ≡ picks line distance n before front (j + 1) s
 unfolding picks
-picks-next line distance n before front j s r u e =
-    ap (λ m. picks line distance n before front m s) (add-one j)
-    ∙ sym (ap (λ (d : Drawn ℕ). drawn (picks line distance n before front j s .value ++ (d .value ∷ [])) (d .state)) e)
+picks-next line distance n before front j s r u =
+    drawn-more (λ k. picks line distance n before front k s) (λ d. pickOne line distance n before front (d .value) (d .state)) j refl _ _ r u refl
 
 -- the state of the loop
 pub record Selecting (before front lines : List ℕ) (distances : List Float) (n s : ℕ) (old : List ℕ) (j : ℕ) (counts waits : List ℕ) (taken : List Bool)
     (out : List ℕ) (t : ℕ) : Type 0 where
   pub holds : Holds before front lines (picks (lineIn lines) (distanceIn distances) n before front j s .value) counts waits taken
-  pub size : length (picks (lineIn lines) (distanceIn distances) n before front j s .value) ≡ j
-  pub written : out ≡ over (picks (lineIn lines) (distanceIn distances) n before front j s .value) old
-  pub state : t ≡ picks (lineIn lines) (distanceIn distances) n before front j s .state
+  pub picked : Written (λ k. picks (lineIn lines) (distanceIn distances) n before front k s) old j out t
 
 pub selecting-first : (before front lines : List ℕ) (distances : List Float) (n s : ℕ) (old counts waits : List ℕ)
     → ((l : ℕ) → countOf counts l ≡ nicheCount (lineIn lines) before l) → ((l : ℕ) → countOf waits l ≡ nicheCount (lineIn lines) front l)
@@ -40,34 +38,26 @@ pub selecting-first : (before front lines : List ℕ) (distances : List Float) (
 unfolding picks
 selecting-first before front lines distances n s old counts waits a b c d = record {
   holds = holds-first before front lines counts waits a b c d;
-  size = refl;
-  written = refl;
-  state = refl;
+  picked = record { same = refl; written = refl; state = refl };
 }
 
 module _ {before front lines : List ℕ} {distances : List Float} {n s : ℕ} {old : List ℕ} {j : ℕ} {counts waits : List ℕ} {taken : List Bool} {out : List ℕ} {t : ℕ}
     (h : Selecting before front lines distances n s old j counts waits taken out t) (g : Given before front lines distances n) where
   pub selecting-ready : j < length front → Ready front lines distances n counts waits taken
-  selecting-ready u = holds-ready (h .holds) distances n g (omega (arith, h .size))
+  selecting-ready u = holds-ready (h .holds) distances n g (omega (arith, picks-length (lineIn lines) (distanceIn distances) n before front j s))
 
   pub selecting-more : {counts′ waits′ : List ℕ} {taken′ : List Bool} {r u : ℕ} → j < length old
       → Took front lines distances n t counts counts′ waits waits′ taken taken′ r u
       → Selecting before front lines distances n s old (j + 1) counts′ waits′ taken′ (set out j r) u
   selecting-more {counts′} {waits′} {taken′} {r} {u} v k = record {
-    holds = rw value (holds-more (h .holds) g k);
-    size = rw (value, length-append) (omega (arith, h .size));
-    written = ap (λ o. set o j r) (h .written) ∙ over-snoc (picks (lineIn lines) (distanceIn distances) n before front j s .value) old j r (h .size) v ∙ ap (λ l. over l old) (sym value);
-    state = sym (ap (λ (d : Drawn (List ℕ)). d .state) whole);
+    holds = rw (← whole) (holds-more (h .holds) g k);
+    picked = written-more (h .picked) (picks-length (lineIn lines) (distanceIn distances) n before front j s) v r u whole;
   }
     where
-      whole : picks (lineIn lines) (distanceIn distances) n before front (j + 1) s
-          ≡ drawn (picks (lineIn lines) (distanceIn distances) n before front j s .value ++ (r ∷ [])) u
+      whole : drawn (picks (lineIn lines) (distanceIn distances) n before front j s .value ++ (r ∷ [])) u
+          ≡ picks (lineIn lines) (distanceIn distances) n before front (j + 1) s
       whole = picks-next (lineIn lines) (distanceIn distances) n before front j s r u
-          (k .chosen ∙ holds-pick (h .holds) distances n t ∙ ap (pickOne (lineIn lines) (distanceIn distances) n before front _) (h .state))
-
-      value : picks (lineIn lines) (distanceIn distances) n before front (j + 1) s .value
-          ≡ picks (lineIn lines) (distanceIn distances) n before front j s .value ++ (r ∷ [])
-      value = ap (λ (d : Drawn (List ℕ)). d .value) whole
+          (k .chosen ∙ holds-pick (h .holds) distances n t ∙ ap (pickOne (lineIn lines) (distanceIn distances) n before front _) (h .picked .state))
 
 -- ---- what the caller knows of the order
 
@@ -122,8 +112,8 @@ pub selecting-done : {order : List ℕ} {start end : ℕ} {lines : List ℕ} {di
     → Selecting (take start order) (take (end - start) (drop start order)) lines distances n s old j counts waits taken out t
     → NichingSelects order start end lines distances n places s old out t
 selecting-done {order} {start} {end} {lines} {distances} {n} {s} {old} places e h = record {
-  written = h .written ∙ ap (λ m. over (picksOf order start end lines distances n m s .value) old) e;
-  state = h .state ∙ ap (λ m. picksOf order start end lines distances n m s .state) e;
+  written = h .picked .written ∙ ap (λ m. over (picksOf order start end lines distances n m s .value) old) e;
+  state = h .picked .state ∙ ap (λ m. picksOf order start end lines distances n m s .state) e;
 }
 
 -- an array of zeros

@@ -7,7 +7,7 @@ use native.Mathlib.Nat.{eq-or-lt-of-le}
 use native.Mathlib.Omega.{arith}
 use lib.Ieee.{Float, nan, inf, fin, lt, isNan}
 use Rattle.model.specs.Real.{infinity}
-use Rattle.model.specs.Association.{Request, lineCount, distanceTo, near, nearestOf, association, lineOf}
+use Rattle.model.specs.Association.{Request, lineCount, distanceTo, Near, near, nearestOf, association, lineOf}
 use Rattle.model.specs.Papers.DebJain2014.{Associated}
 use Rattle.niching_laws.specs.Nearest.{NearestLine}
 use Rattle.float_laws.proofs.Compared.{lt-self, lt-down, lt-past, nan-below, below-nan}
@@ -58,14 +58,15 @@ module _ (d : ℕ → Float) where
       go false e (inr less) ih = ih less
 
   -- what is found: nothing below infinity, so line 0; or a line with its distance
-  nearestOf-met : (n : ℕ) → ((nearestOf d n .line ≡ 0) × (nearestOf d n .distance ≡ infinity)) ⊎ (nearestOf d n .distance ≡ d (nearestOf d n .line))
+  abbrev Met : Near → Type 0
+  Met a = ((a .line ≡ 0) × (a .distance ≡ infinity)) ⊎ (a .distance ≡ d (a .line))
+
+  nearestOf-met : (n : ℕ) → Met (nearestOf d n)
   unfolding nearestOf
   nearestOf-met zero = inl (refl, refl)
   nearestOf-met (suc n) = go (lt (d n) (nearestOf d n .distance)) (nearestOf-met n)
     where
-      go : (b : Bool) → ((nearestOf d n .line ≡ 0) × (nearestOf d n .distance ≡ infinity)) ⊎ (nearestOf d n .distance ≡ d (nearestOf d n .line))
-          → ((cond b (near n (d n)) (nearestOf d n) .line ≡ 0) × (cond b (near n (d n)) (nearestOf d n) .distance ≡ infinity))
-          ⊎ (cond b (near n (d n)) (nearestOf d n) .distance ≡ d (cond b (near n (d n)) (nearestOf d n) .line))
+      go : (b : Bool) → Met (nearestOf d n) → Met (cond b (near n (d n)) (nearestOf d n))
       go true t = inr refl
       go false t = t
 
@@ -73,7 +74,7 @@ module _ (d : ℕ → Float) where
   nearestOf-distance : (n : ℕ) → 0 < n → isNan (d (nearestOf d n .line)) ≡ false → nearestOf d n .distance ≡ d (nearestOf d n .line)
   nearestOf-distance n h v = go (nearestOf-met n)
     where
-      go : ((nearestOf d n .line ≡ 0) × (nearestOf d n .distance ≡ infinity)) ⊎ (nearestOf d n .distance ≡ d (nearestOf d n .line)) → nearestOf d n .distance ≡ d (nearestOf d n .line)
+      go : Met (nearestOf d n) → nearestOf d n .distance ≡ d (nearestOf d n .line)
       go (inl t) =
           let none : lt (d 0) infinity ≡ false = ap (lt (d 0)) (sym (t .1)) ∙ nearestOf-least n 0 h in
           let real : isNan (d 0) ≡ false = ap (λ l. isNan (d l)) (sym (t .0)) ∙ v in
@@ -84,7 +85,7 @@ module _ (d : ℕ → Float) where
   nearestOf-nearest : (n : ℕ) (j : ℕ) → j < n → lt (d j) (d (nearestOf d n .line)) ≡ false
   nearestOf-nearest n j h = go (nearestOf-met n)
     where
-      go : ((nearestOf d n .line ≡ 0) × (nearestOf d n .distance ≡ infinity)) ⊎ (nearestOf d n .distance ≡ d (nearestOf d n .line)) → lt (d j) (d (nearestOf d n .line)) ≡ false
+      go : Met (nearestOf d n) → lt (d j) (d (nearestOf d n .line)) ≡ false
       go (inl t) =
           let at : (i : ℕ) → i < n → lt (d i) infinity ≡ false = λ i k. ap (lt (d i)) (sym (t .1)) ∙ nearestOf-least n i k in
           ap (λ l. lt (d j) (d l)) (t .0) ∙ not-below-top (d 0) (d j) (at 0 (omega arith)) (at j h)

@@ -3,35 +3,32 @@ use Prim.Native.Nat.{ℕ, zero, suc, _%_, _≤_, _<_}
 use mathlib.Core.Path.{_≡_, refl, sym, ap, _∙_}
 use mathlib.Core.Logic.{⊎-elim}
 use mathlib.Core.Bool.{Bool, true, false, cond}
-use mathlib.Core.List.{List, [], _∷_, map, List·Memᴰ·head, List·Memᴰ·tail, List·Memᴰ·not-nil, List·Memᴰ·cases-cons, Memᴰ·map, Memᴰ·of-map}
+use mathlib.Core.List.{List, [], _∷_, map, List·Memᴰ·head, List·Memᴰ·tail, List·Memᴰ·not-nil, List·Memᴰ·cases-cons, List·Memᴰ·eq-of-singleton, Memᴰ·map, Memᴰ·of-map}
 use native.Mathlib.Nat.{mod-lt}
 use native.Mathlib.Omega.{arith}
 use lib.Dec.{eqb, leb}
 use lib.Ieee.{Float, lt}
-use lib.ListN.{length, getD}
+use lib.ListN.{length}
 use borrow.Author.Tests.{eqb-true, eq-eqb, leb-true, leb-false, le-leb}
 use Rattle.model.specs.Lists.{In, has, keep, allIn}
 use Rattle.model.specs.Draw.{drawWord, drawUsize}
 use Rattle.model.specs.Kept.{openLines, leastLines, drawFrom, nearestFrom, nearest, drawMember}
-use Rattle.list_laws.proofs.Members.{in-has, has-in, keep-in, in-keep, getD-in}
+use Rattle.list_laws.proofs.Members.{in-has, has-in, keep-in, in-keep, getD-in, place-of}
 use Rattle.list_laws.proofs.Kept.{keepBelow-in, in-keepBelow}
 use Rattle.list_laws.proofs.Tests.{allIn-every, allIn-member}
 use Rattle.float_laws.proofs.Compared.{lt-self, lt-down}
 
 -- ---- what is drawn of a list that is not empty is in it
 
-in-length : {p : ℕ} {ps : List ℕ} → In p ps → 0 < length ps
-in-length (List·Memᴰ·head e) = omega arith
-in-length (List·Memᴰ·tail m) = omega arith
-
 pub drawFrom-in : (s : ℕ) {p : ℕ} {ps : List ℕ} → In p ps → In (drawFrom ps s .value) ps
 unfolding drawFrom drawUsize
-drawFrom-in s {p} {ps} m = getD-in ps (drawWord s .value % length ps) (mod-lt (drawWord s .value) (in-length m))
+drawFrom-in s {p} {ps} m =
+    let i = place-of m in getD-in ps (drawWord s .value % length ps) (mod-lt (drawWord s .value) (omega (arith, i .1)))
 
 -- ---- the nearest of a list
 
 module _ (distance : ℕ → Float) where
-  nearestFrom-in : (best : ℕ) (ps : List ℕ) → In (nearestFrom distance best ps) (best ∷ ps)
+  pub nearestFrom-in : (best : ℕ) (ps : List ℕ) → In (nearestFrom distance best ps) (best ∷ ps)
   unfolding nearestFrom
   nearestFrom-in best [] = List·Memᴰ·head refl
   nearestFrom-in best (p ∷ ps) = go (lt (distance p) (distance best)) (λ q. nearestFrom-in q ps)
@@ -55,6 +52,9 @@ module _ (distance : ℕ → Float) where
       go true e ih = ih p (lt-down x (distance best) (distance p) h e)
       go false e ih = ih best h
 
+  nearestFrom-start : (p : ℕ) (ps : List ℕ) (q : ℕ) → q ≡ p → lt (distance q) (distance (nearestFrom distance p ps)) ≡ false
+  nearestFrom-start p ps q same = nearestFrom-down (distance q) p ps (ap (λ r. lt (distance r) (distance p)) same ∙ lt-self (distance p))
+
   nearestFrom-least : (best : ℕ) (ps : List ℕ) (q : ℕ) → In q ps → lt (distance q) (distance (nearestFrom distance best ps)) ≡ false
   unfolding nearestFrom
   nearestFrom-least best [] q m = absurd (List·Memᴰ·not-nil m)
@@ -62,7 +62,7 @@ module _ (distance : ℕ → Float) where
       ⊎-elim (λ same. go same (lt (distance p) (distance best)) refl) (λ k. nearestFrom-least (cond (lt (distance p) (distance best)) p best) ps q k) (List·Memᴰ·cases-cons m)
     where
       go : q ≡ p → (b : Bool) → lt (distance p) (distance best) ≡ b → lt (distance q) (distance (nearestFrom distance (cond b p best) ps)) ≡ false
-      go same true e = nearestFrom-down (distance q) p ps (ap (λ r. lt (distance r) (distance p)) same ∙ lt-self (distance p))
+      go same true e = nearestFrom-start p ps q same
       go same false e = nearestFrom-down (distance q) best ps (ap (λ r. lt (distance r) (distance best)) same ∙ e)
 
   pub nearest-in : {p : ℕ} (ps : List ℕ) → In p ps → In (nearest distance ps) ps
@@ -74,9 +74,7 @@ module _ (distance : ℕ → Float) where
   pub nearest-least : (ps : List ℕ) (q : ℕ) → In q ps → lt (distance q) (distance (nearest distance ps)) ≡ false
   unfolding nearest
   nearest-least [] q m = absurd (List·Memᴰ·not-nil m)
-  nearest-least (p ∷ ps) q m =
-      ⊎-elim (λ same. nearestFrom-down (distance q) p ps (ap (λ r. lt (distance r) (distance p)) same ∙ lt-self (distance p)))
-      (λ k. nearestFrom-least p ps q k) (List·Memᴰ·cases-cons m)
+  nearest-least (p ∷ ps) q m = ⊎-elim (nearestFrom-start p ps q) (nearestFrom-least p ps q) (List·Memᴰ·cases-cons m)
 
   drawMember-in : (s count : ℕ) {p : ℕ} (ps : List ℕ) → In p ps → In (drawMember distance count ps s .value) ps
   unfolding drawMember
@@ -91,11 +89,7 @@ module _ (distance : ℕ → Float) where
 -- ---- a list that is not empty has a member with the least count
 
 least-met : (f : ℕ → ℕ) (q : ℕ) (ps : List ℕ) → (r : ℕ) × In r (q ∷ ps) × ((t : ℕ) → In t (q ∷ ps) → f r ≤ f t)
-least-met f q [] = (q, List·Memᴰ·head refl, λ t m. let same : f t ≡ f q = ap f (one-of m) in omega arith)
-  where
-    one-of : {t : ℕ} → In t (q ∷ []) → t ≡ q
-    one-of (List·Memᴰ·head e) = e
-    one-of (List·Memᴰ·tail m) = absurd (List·Memᴰ·not-nil m)
+least-met f q [] = (q, List·Memᴰ·head refl, λ t m. let same : f t ≡ f q = ap f (List·Memᴰ·eq-of-singleton m) in omega arith)
 least-met f q (p ∷ ps) = go (least-met f p ps)
   where
     go : (r : ℕ) × In r (p ∷ ps) × ((t : ℕ) → In t (p ∷ ps) → f r ≤ f t) → (r : ℕ) × In r (q ∷ p ∷ ps) × ((t : ℕ) → In t (q ∷ p ∷ ps) → f r ≤ f t)

@@ -1,14 +1,14 @@
 -- The kept list of any request has the size wanted.
-use Prim.Native.Nat.{ℕ, zero, suc, _+_, _-_, _<_, _≤_}
+use Prim.Native.Nat.{ℕ, zero, suc, _-_, _<_, _≤_}
 use mathlib.Core.Path.{_≡_, refl}
 use mathlib.Core.Bool.{Bool, false}
-use mathlib.Core.List.{List, [], _∷_, _++_}
+use mathlib.Core.List.{List}
 use native.Mathlib.Omega.{arith}
 use borrow.Author.Tests.{ltb-false}
 use lib.Dec.{ltb}
 use lib.Ieee.{Float}
 use lib.ListN.{length, length-append}
-use Rattle.model.specs.Front.{front, listing}
+use Rattle.model.specs.Front.{listing}
 use Rattle.model.specs.Association.{Request, lineCount, dominance, association, lineOf}
 use Rattle.model.specs.Kept.{picks, wholeFronts, before, isSplit, splitFront, filled, padding, selectedSplit, selectedWhole, selected}
 use Rattle.list_laws.proofs.Bools.{by-bool}

@@ -3,7 +3,8 @@ pub mod Run
 pub mod Least
 pub mod Niched
 pub mod Choice
+pub mod KeptLength
+pub mod Written
 pub mod Picks
 pub mod Procedure
 pub mod Association
-pub mod KeptLength

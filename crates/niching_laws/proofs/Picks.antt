@@ -10,10 +10,9 @@ use borrow.Author.Tests.{not-true}
 use Rattle.model.specs.Lists.{In, Distinct, has}
 use Rattle.model.specs.Kept.{nicheCount, waiting, pickOne, picks}
 use Rattle.niching_laws.specs.Niching.{Split, Waiting, Pick, Run, start, next, Niched}
-use Rattle.list_laws.proofs.Members.{in-has, has-in, keep-in, in-keep}
-use Rattle.list_laws.proofs.Members.{tally-all}
+use Rattle.list_laws.proofs.Members.{in-has, has-in, keep-in, in-keep, tally-all}
 use Rattle.niching_laws.proofs.Tally.{pigeonhole}
-use Rattle.niching_laws.proofs.Run.{run-fills}
+use Rattle.niching_laws.proofs.KeptLength.{picks-length}
 use Rattle.niching_laws.proofs.Niched.{run-niched}
 use Rattle.niching_laws.proofs.Choice.{Chosen, chosen}
 
@@ -61,7 +60,7 @@ module _ (distance : ℕ → Float) {before front : List ℕ} {line : ℕ → �
   picks-run (suc n) s h =
       let r = picks-run n s (omega arith) in
       let so-far = picks line distance lines before front n s in
-      next r (pick-of (so-far .value) _ (pickOne-chosen (so-far .state) (so-far .value) (omega (arith, run-fills r .size))))
+      next r (pick-of (so-far .value) _ (pickOne-chosen (so-far .state) (so-far .value) (omega (arith, picks-length line distance lines before front n s))))
 
   -- so it meets demand 3
   pub picks-niched : (n s : ℕ) → n ≤ length front → Niched before front line lines n (picks line distance lines before front n s .value)

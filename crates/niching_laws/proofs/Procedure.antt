@@ -16,9 +16,9 @@ use Rattle.model.specs.Kept.{nicheCount, waiting, picks}
 use Rattle.model.specs.Papers.DebJain2014.{Candidate, Least, Reached, start, exclude, pickNearest, pickAny}
 use Rattle.niching_laws.specs.Niching.{Split, ByProcedure}
 use Rattle.list_laws.proofs.Members.{has-in, in-has}
-use Rattle.niching_laws.proofs.Run.{run-fills}
+use Rattle.niching_laws.proofs.KeptLength.{picks-length}
 use Rattle.niching_laws.proofs.Choice.{Chosen}
-use Rattle.niching_laws.proofs.Picks.{waiting-in, in-waiting, pickOne-chosen, picks-run}
+use Rattle.niching_laws.proofs.Picks.{waiting-in, in-waiting, pickOne-chosen}
 
 module _ (before front : List ℕ) (line : ℕ → ℕ) (distance : ℕ → Float) (lines : ℕ) where
   -- no line that is set aside has a candidate
@@ -33,6 +33,18 @@ module _ (before front : List ℕ) (line : ℕ → ℕ) (distance : ℕ → Floa
     level : (i : ℕ) → i < m → nicheCount line (before ++ picked) i ≡ c → In i (here .excluded)
 
   module _ (picked : List ℕ) where
+    -- where the lines of a count below c are set aside, a line of count c that is not set aside is a least one
+    level-least : {c m : ℕ} (t : Cleared picked c m) (j : ℕ) → j < lines → nicheCount line (before ++ picked) j ≡ c → (In j (t .here .excluded) → ⊥)
+        → Least before front line distance lines (t .here .excluded) picked j
+    level-least {c} t j inside e fresh = record { inside = inside; considered = fresh; least = λ i h k. go i h k (ltb (count i) c) refl }
+      where
+        count : ℕ → ℕ
+        count = nicheCount line (before ++ picked)
+
+        go : (i : ℕ) → i < lines → (In i (t .here .excluded) → ⊥) → (b : Bool) → ltb (count i) c ≡ b → count j ≤ count i
+        go i h k true u = absurd (k (t .lower i h (ltb-true (count i) c u)))
+        go i h k false u = omega (arith, ltb-false (count i) c u)
+
     -- one more line of count c, where no line of count c has a candidate
     clear-line : (c m : ℕ) → m < lines → ((j p : ℕ) → Candidate before front line distance lines picked j p → nicheCount line (before ++ picked) j ≢ c)
         → Cleared picked c m → Cleared picked c (suc m)
@@ -51,23 +63,10 @@ module _ (before front : List ℕ) (line : ℕ → ℕ) (distance : ℕ → Floa
               level = λ i h e. ⊎-elim (λ same. Memᴰ·cast same (there (ap count (sym same) ∙ e))) (λ less. t .level i less e) (eq-or-lt-of-le {n = i} {m = m} (omega arith));
             }
 
-        -- all that are considered still count at least c
-        least : count m ≡ c → (In m (t .here .excluded) → ⊥) → Least before front line distance lines (t .here .excluded) picked m
-        least e fresh =
-            record {
-              inside = inside;
-              considered = fresh;
-              least = λ i h k. go-on i h k (ltb (count i) c) refl;
-            }
-          where
-            go-on : (i : ℕ) → i < lines → (In i (t .here .excluded) → ⊥) → (b : Bool) → ltb (count i) c ≡ b → count m ≤ count i
-            go-on i h k true u = absurd (k (t .lower i h (ltb-true (count i) c u)))
-            go-on i h k false u = omega (arith, ltb-false (count i) c u)
-
         add : count m ≡ c → (In m (t .here .excluded) → ⊥) → Cleared picked c (suc m)
         add e fresh =
             record {
-              here = record { excluded = m ∷ t .here .excluded; reached = exclude (t .here .reached) (least e fresh) (λ p k. none m p k e) };
+              here = record { excluded = m ∷ t .here .excluded; reached = exclude (t .here .reached) (level-least t m inside e fresh) (λ p k. none m p k e) };
               barren = λ j i p k. ⊎-elim (λ same. none j p k (ap count same ∙ e)) (λ (h : In j (t .here .excluded)). t .barren j h p k) (List·Memᴰ·cases-cons i);
               lower = λ i h k. List·Memᴰ·tail (t .lower i h k);
               level = λ i h k. ⊎-elim (λ same. List·Memᴰ·head same) (λ less. List·Memᴰ·tail (t .level i less k)) (eq-or-lt-of-le {n = i} {m = m} (omega arith));
@@ -112,14 +111,7 @@ module _ (before front : List ℕ) (line : ℕ → ℕ) (distance : ℕ → Floa
 
     -- once the lines of a lower count are set aside, p's line is a least one
     chosen-least : line p < lines → (t : Cleared picked (nicheCount line (before ++ picked) (line p)) 0) → Least before front line distance lines (t .here .excluded) picked (line p)
-    chosen-least h t = record { inside = h; considered = λ i. t .barren (line p) i p candidate; least = λ i l k. go i l k (ltb (count i) (count (line p))) refl }
-      where
-        count : ℕ → ℕ
-        count = nicheCount line (before ++ picked)
-
-        go : (i : ℕ) → i < lines → (In i (t .here .excluded) → ⊥) → (b : Bool) → ltb (count i) (count (line p)) ≡ b → count (line p) ≤ count i
-        go i l k true e = absurd (k (t .lower i l (ltb-true (count i) (count (line p)) e)))
-        go i l k false e = ltb-false (count i) (count (line p)) e
+    chosen-least h t = level-least picked t (line p) h refl (λ i. t .barren (line p) i p candidate)
 
     picked-once : line p < lines → Cleared picked 0 0 → Cleared (picked ++ (p ∷ [])) 0 0
     picked-once h begin =
@@ -153,7 +145,7 @@ module _ (distance : ℕ → Float) {before front : List ℕ} {line : ℕ → �
       }
   picks-cleared (suc n) s h =
       let so-far = picks line distance lines before front n s in
-      let c = pickOne-chosen distance split (so-far .state) (so-far .value) (omega (arith, run-fills (picks-run distance split n s (omega arith)) .size)) in
+      let c = pickOne-chosen distance split (so-far .state) (so-far .value) (omega (arith, picks-length line distance lines before front n s)) in
       picked-once before front line distance lines (so-far .value) _ c (split .inside _ (in-waiting front (so-far .value) _ (c .listed) .member)) (picks-cleared n s (omega arith))
 
   -- with no more open places than the front has plans, the procedure of Deb and Jain can pick what `picks` picks
@@ -162,23 +154,22 @@ module _ (distance : ℕ → Float) {before front : List ℕ} {line : ℕ → �
 
 -- ---- other distances
 
--- distances by which no candidate is nearer that was not nearer before serve as well
-module _ {before front : List ℕ} {line : ℕ → ℕ} {distance : ℕ → Float} {lines : ℕ} (other : ℕ → Float)
-    (weaker : (p q : ℕ) → lt (distance q) (distance p) ≡ false → lt (other q) (other p) ≡ false) where
+-- who is a candidate and which line is a least one does not depend on them
+module _ {before front : List ℕ} {line : ℕ → ℕ} {distance other : ℕ → Float} {lines : ℕ} where
   candidate-other : {picked : List ℕ} {j p : ℕ} → Candidate before front line distance lines picked j p → Candidate before front line other lines picked j p
   candidate-other k = record { member = k .member; unpicked = k .unpicked; onLine = k .onLine }
-
-  other-candidate : {picked : List ℕ} {j p : ℕ} → Candidate before front line other lines picked j p → Candidate before front line distance lines picked j p
-  other-candidate k = record { member = k .member; unpicked = k .unpicked; onLine = k .onLine }
 
   least-other : {excluded picked : List ℕ} {j : ℕ} → Least before front line distance lines excluded picked j → Least before front line other lines excluded picked j
   least-other l = record { inside = l .inside; considered = l .considered; least = l .least }
 
+-- so distances by which no candidate is nearer that was not nearer before serve as well
+module _ {before front : List ℕ} {line : ℕ → ℕ} {distance : ℕ → Float} {lines : ℕ} (other : ℕ → Float)
+    (weaker : (p q : ℕ) → lt (distance q) (distance p) ≡ false → lt (other q) (other p) ≡ false) where
   pub reached-other : {excluded picked : List ℕ} → Reached before front line distance lines excluded picked → Reached before front line other lines excluded picked
   reached-other start = start
-  reached-other (exclude r l none) = exclude (reached-other r) (least-other l) (λ p k. none p (other-candidate k))
+  reached-other (exclude r l none) = exclude (reached-other r) (least-other l) (λ p k. none p (candidate-other k))
   reached-other (pickNearest {p = p} r l z c nearest) =
-      pickNearest (reached-other r) (least-other l) z (candidate-other c) (λ q k. weaker p q (nearest q (other-candidate k)))
+      pickNearest (reached-other r) (least-other l) z (candidate-other c) (λ q k. weaker p q (nearest q (candidate-other k)))
   reached-other (pickAny r l z c) = pickAny (reached-other r) (least-other l) z (candidate-other c)
 
   pub procedure-other : {picked : List ℕ} → ByProcedure before front line distance lines picked → ByProcedure before front line other lines picked

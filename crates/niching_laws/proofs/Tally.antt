@@ -3,11 +3,11 @@ use Prim.Native.Nat.{ℕ, _+_, _<_}
 use mathlib.Core.Path.{_≡_, refl, sym, _∙_}
 use mathlib.Core.Logic.{_⊎_, inl, inr}
 use mathlib.Core.Bool.{Bool, true, false, cond, true≢false}
-use mathlib.Core.List.{List, [], _∷_, _++_, List·Memᴰ·head, List·Memᴰ·tail, List·Memᴰ·cases-cons, List·Nodup, nodup-cons, Memᴰ·cast}
+use mathlib.Core.List.{List, [], _∷_, List·Memᴰ·head, List·Memᴰ·tail, List·Memᴰ·cases-cons, List·Nodup, nodup-cons, Memᴰ·cast}
 use native.Mathlib.Omega.{arith}
-use lib.ListN.{length}
-use Rattle.model.specs.Lists.{In, has, tally}
-use Rattle.list_laws.proofs.Members.{in-has, has-in, first-apart}
+use lib.ListN.{getD}
+use Rattle.model.specs.Lists.{In, has, keep, tally}
+use Rattle.list_laws.proofs.Members.{in-has, has-in, in-keep, keep-length, getD-in, first-apart}
 
 -- the list ps less one x: no plan but x is lost, and the tally falls by x alone
 record Less (f : ℕ → Bool) (x : ℕ) (ps : List ℕ) : Type 0 where
@@ -23,18 +23,10 @@ pub record Extra (f : ℕ → Bool) (xs ys : List ℕ) : Type 0 where
   pub absent : In plan ys → ⊥
 
 module _ (f : ℕ → Bool) where
-  -- where the tally is not 0, some plan passes
+  -- where the tally is not 0, some plan passes: the first that is kept
   pub tally-found : (ps : List ℕ) → 0 < tally f ps → (p : ℕ) × In p ps × (f p ≡ true)
-  unfolding tally
-  tally-found [] h = absurd (omega arith)
-  tally-found (q ∷ qs) h = go (f q) refl h (λ k. tally-found qs k)
-    where
-      further : (p : ℕ) × In p qs × (f p ≡ true) → (p : ℕ) × In p (q ∷ qs) × (f p ≡ true)
-      further r = (r .0, List·Memᴰ·tail (r .1), r .2)
-
-      go : (b : Bool) → f q ≡ b → 0 < cond b 1 0 + tally f qs → (0 < tally f qs → (p : ℕ) × In p qs × (f p ≡ true)) → (p : ℕ) × In p (q ∷ qs) × (f p ≡ true)
-      go true e k ih = (q, List·Memᴰ·head refl, e)
-      go false e k ih = further (ih (omega arith))
+  tally-found ps h =
+      let r = in-keep f ps _ (getD-in (keep f ps) 0 (omega (arith, keep-length f ps))) in (getD (keep f ps) 0 0, r .0, r .1)
 
   less : (x : ℕ) (ps : List ℕ) → In x ps → Less f x ps
   unfolding tally

@@ -1,14 +1,16 @@
 -- The answer of a selection, from what its steps leave.
-use Prim.Native.Nat.{ℕ, _+_, _*_, _-_, _≤_, _<_}
+use Prim.Native.Nat.{ℕ, _+_, _*_, _-_, _≤_}
 use mathlib.Core.Path.{_≡_, refl, ap, ap₂, sym, subst, _∙_}
 use mathlib.Core.Bool.{Bool, true, false}
 use mathlib.Core.List.{List, _++_}
-use mathlib.Core.Option.{Option, none, some}
 use native.Mathlib.Omega.{arith}
-use lib.Ieee.{Float, nan}
-use lib.ListN.{length, getD, take, replicate}
+use lib.Ieee.{Float}
+use lib.ListN.{length, take, replicate}
 use Rattle.model.specs.declared.Outcome.the-variants as outcome
 use Rattle.model.specs.declared.Rng.{Rng}
+use Rattle.refusals.specs.declared.Check.{Check}
+use Rattle.refusals.specs.declared.Check.the-variants as check
+use Rattle.refusals.specs.Checked.{checked}
 use Rattle.model.specs.Lists.{over}
 use Rattle.model.specs.Front.{frontList}
 use Rattle.model.specs.Association.{Request, objectives, dominance}
@@ -18,20 +20,17 @@ use Rattle.model.specs.Calls.{Lent, lent, roomOf, SelectExit, wordRequest, answ
 use Rattle.demand3_laws.proofs.Calls.{planAt-row, selects}
 use Rattle.front_cut.specs.declared.Cut.{Cut}
 use Rattle.plan_rows.specs.Filled.{RowsOf}
-use Rattle.nsga3_laws.specs.Admitted.{Admitted}
 use Rattle.pool_sort.specs.Laid.{RowsIn, OrderIn, Sorts}
+use Rattle.nsga3_laws.specs.Admitted.{Admitted}
+use Rattle.nsga3_laws.proofs.Admitted.{admitted}
 use Rattle.nsga3.specs.Handed.{Hands, exit}
 
 module _ (r : Request) (i : List Float) (k₀ k l₀ l : List ℕ) (s : ℕ) where
   -- ---- by whether a front is split
 
-  pub hands-split : isSplit r ≡ true → Hands (selectedSplit r) i k₀ k l₀ l s → Hands (selected r) i k₀ k l₀ l s
+  pub hands-by : (b : Bool) → isSplit r ≡ b → Hands (bySplit b r) i k₀ k l₀ l s → Hands (selected r) i k₀ k l₀ l s
   unfolding selected
-  hands-split e h = subst (λ b. Hands (bySplit b r) i k₀ k l₀ l s) (sym e) h
-
-  pub hands-whole : isSplit r ≡ false → Hands (selectedWhole r) i k₀ k l₀ l s → Hands (selected r) i k₀ k l₀ l s
-  unfolding selected
-  hands-whole e h = subst (λ b. Hands (bySplit b r) i k₀ k l₀ l s) (sym e) h
+  hands-by b e h = subst (λ b. Hands (bySplit b r) i k₀ k l₀ l s) (sym e) h
 
   pub whole-hands : (order : List ℕ) (c : Cut) → OrderIn r order c → (n : ℕ) → n ≡ r .count → i ≡ r .ideal
       → k ≡ over (take (c .whole) order ++ padding n (r .size - c .whole) (r .state) .value) k₀ → l ≡ over (replicate n noLine) l₀
@@ -52,27 +51,6 @@ module _ (r : Request) (i : List Float) (k₀ k l₀ l : List ℕ) (s : ℕ) whe
 pub rows-in : (r : Request) (n : ℕ) → n ≡ r .count → (old rows : List Float) → r .count * objectives r ≤ length rows
     → RowsOf (r .marks) (r .plans) n old rows → RowsIn r rows
 rows-in r n e old rows h f = record { table = h; values = λ p j a b. f .values p j (omega (arith, e)) b }
-
--- ---- the limits, where the slice for the fronts is no longer asked for
-
-pub fill-room : (r : Request) (k f l : ℕ) → Admitted r (record { kept = k; fronts = f; lines = l })
-    → Admitted r (record { kept = k; fronts = r .count; lines = l })
-fill-room r k f l h = record {
-  wide = h .wide;
-  narrow = h .narrow;
-  divided = h .divided;
-  coarse = h .coarse;
-  someLines = h .someLines;
-  fewLines = h .fewLines;
-  somePlans = h .somePlans;
-  fewPlans = h .fewPlans;
-  few = h .few;
-  good = h .good;
-  ideal = h .ideal;
-  kept = h .kept;
-  fronts = omega arith;
-  lines = h .lines;
-}
 
 -- ---- the answer
 
@@ -101,11 +79,15 @@ module _ (pool directions : List ℕ) (divisions size : ℕ) (g : Rng) (ideal : 
   promise : (x : SelectExit) → x ≡ selectOf r entry → Selects r entry x
   promise x e = subst (Selects r entry) (sym e) (selects r (planAt-row pool) entry)
 
-  pub refused : (n : ℕ) → some n ≡ selectRefusal r (roomOf entry)
-      → Selects r entry (record { answer = record { outcome = outcome.Refused n; rng = g }; ideal = ideal; slices = entry })
-  unfolding selectOf
-  refused n e = promise _ (ap (λ o. selectBy o r entry) e)
+  -- by what the check answers
+  module _ {k : Check} (e : checked k ≡ selectRefusal r (roomOf entry)) where
+    pub refused : (n : ℕ) → k ≡ check.Refused n → Selects r entry (record { answer = record { outcome = outcome.Refused n; rng = g }; ideal = ideal; slices = entry })
+    unfolding selectOf
+    refused n v = promise _ (ap (λ o. selectBy o r entry) (sym (ap checked v) ∙ e))
 
-  pub selected-so : none ≡ selectRefusal r (roomOf entry) → (x : SelectExit) → x ≡ selectAccepted r entry → Selects r entry x
-  unfolding selectOf
-  selected-so e x h = promise x (h ∙ ap (λ o. selectBy o r entry) e)
+    pub limits-kept : k ≡ check.Good → Admitted r (roomOf entry)
+    limits-kept v = admitted r (roomOf entry) (sym e ∙ ap checked v)
+
+    pub selected-so : k ≡ check.Good → (x : SelectExit) → x ≡ selectAccepted r entry → Selects r entry x
+    unfolding selectOf
+    selected-so v x h = promise x (h ∙ ap (λ o. selectBy o r entry) (sym (ap checked v) ∙ e))

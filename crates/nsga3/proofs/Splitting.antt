@@ -1,31 +1,30 @@
 -- A selection that splits a front, step by step: what each call asks, and that what they leave is the model's selection.
-use Prim.Native.Nat.{ℕ, _+_, _*_, _-_, _≤_, _<_}
+use Prim.Native.Nat.{ℕ, _+_, _-_, _≤_, _<_}
 use mathlib.Core.Path.{_≡_, refl, ap, ap₂, sym, subst, _∙_}
-use mathlib.Core.Bool.{Bool, true}
+use mathlib.Core.Bool.{true}
 use mathlib.Core.List.{List, _++_, flatten}
-use native.Mathlib.Nat.{mul-le-mul-right, mul-le-mul-left, mul-comm}
 use native.Mathlib.Omega.{arith}
 use borrow.Rule.Slice.PartMut.{midOf, putMid}
 use lib.Ieee.{Float, nan}
-use lib.ListN.{length, getD, take, drop}
+use lib.ListN.{length, getD, take}
 use lib.Seq.{getD-take, length-take-le}
-use Rattle.model.specs.Lists.{In, Distinct, listBelow, over}
-use Rattle.model.specs.Reference.{dasDennis, pointCount}
-use Rattle.model.specs.Front.{front, listing}
+use Rattle.model.specs.Lists.{Distinct, listBelow, over}
+use Rattle.model.specs.Reference.{dasDennis}
+use Rattle.model.specs.Front.{listing}
 use Rattle.model.specs.Association.{Request, objectives, lineCount, dominance, idealOf, association, lineOf}
 use Rattle.model.specs.Kept.{wholeFronts, before, isSplit, splitFront, filled, selectedSplit, picks}
-use Rattle.list_laws.specs.Occ.{AllUnder}
+use Rattle.list_laws.specs.Occ.{Below}
 use Rattle.list_laws.proofs.Built.{listBelow-length, over-all, over-below}
-use Rattle.list_laws.proofs.Members.{under-in, under-at, in-occ}
+use Rattle.list_laws.proofs.Members.{under-at, under-below}
 use Rattle.front_laws.proofs.Order.{listing-below}
 use Rattle.front_laws.proofs.Rounds.{found}
 use Rattle.front_laws.proofs.Theorems.{front-distinct}
 use Rattle.niching_laws.proofs.Association.{lineOf-inside}
-use Rattle.association_laws.specs.Request.{Pool, StartIn, LinesIn, Associates}
+use Rattle.association_laws.specs.Request.{Pool, LinesIn, Associates}
 use Rattle.association_laws.proofs.Request.{lines-at}
 use Rattle.front_cut.specs.declared.Cut.{Cut}
 use Rattle.niching_array_laws.specs.Niche.{Splits, NichingSelects, picksOf}
-use Rattle.nsga3_laws.proofs.Agree.{Below, picks-agree}
+use Rattle.nsga3_laws.proofs.Agree.{picks-agree}
 use Rattle.nsga3_parts.proofs.Lists.{written-behind}
 use Rattle.nsga3.specs.Handed.{SortedPool, Hands}
 
@@ -50,11 +49,11 @@ module _ {r : Request} {keptRoom linesRoom : ℕ} {rows : List Float} {order : L
 
   before-below : Below (r .count) (before r)
   unfolding before
-  before-below q m = under-in (r .count) q _ (listing-below (dominance r) (r .count) (wholeFronts r)) (in-occ q _ m)
+  before-below = under-below (r .count) _ (listing-below (dominance r) (r .count) (wholeFronts r))
 
   split-below : Below (r .count) (splitFront r)
   unfolding splitFront
-  split-below q m = under-in (r .count) q _ (found (dominance r) (r .count) (wholeFronts r) .below) (in-occ q _ m)
+  split-below = under-below (r .count) _ (found (dominance r) (r .count) (wholeFronts r) .below)
 
   split-distinct : Distinct (splitFront r)
   unfolding splitFront

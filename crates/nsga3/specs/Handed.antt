@@ -12,9 +12,10 @@ use Rattle.front_cut.specs.declared.Cut.{Cut}
 use Rattle.nsga3_laws.specs.Admitted.{Admitted}
 use Rattle.pool_sort.specs.Laid.{RowsIn, OrderIn}
 
--- a pool within its limits, with slices of these lengths for the kept list and the lines: its rows, and its plans listed front by front
+-- a pool within its limits, with slices of these lengths for the kept list and the lines, and one for the fronts: its rows, and its plans listed front by front
 pub record SortedPool (r : Request) (kept lines : ℕ) (rows : List Float) (order : List ℕ) (c : Cut) : Type 0 where
-  pub limits : Admitted r (record { kept = kept; fronts = r .count; lines = lines })
+  pub fronts : ℕ
+  pub limits : Admitted r (record { kept = kept; fronts = fronts; lines = lines })
   pub laid : RowsIn r rows
   pub listed : OrderIn r order c
 

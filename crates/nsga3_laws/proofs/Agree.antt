@@ -1,51 +1,36 @@
 -- The picks look at the lines and distances of the pool's plans alone: two lists of them that agree below n give the same picks.
 use Prim.Native.Nat.{ℕ, zero, suc, _<_}
-use mathlib.Core.Path.{_≡_, refl, ap, ap₂, sym, _∙_, fun-ext}
-use mathlib.Core.Logic.{_⊎_, ⊎-elim}
+use mathlib.Core.Path.{_≡_, refl, ap, ap₂, _∙_, fun-ext}
+use mathlib.Core.Logic.{⊎-elim}
 use mathlib.Core.Bool.{Bool, true, false, cond, not}
-use mathlib.Core.List.{List, [], _∷_, _++_, map, List·Memᴰ·head, List·Memᴰ·tail, List·Memᴰ·append-cases, List·Memᴰ·not-nil}
-use native.Mathlib.Omega.{arith}
-use lib.Dec.{eqb}
+use mathlib.Core.List.{List, [], _∷_, _++_, map, List·Memᴰ·head, List·Memᴰ·tail, List·Memᴰ·not-nil}
+use borrow.Author.Tests.{ltb-true, ltb-false}
+use lib.Dec.{eqb, ltb}
 use lib.Ieee.{Float, lt}
-use lib.ListN.{getD}
-use Rattle.model.specs.Lists.{In, has, keep, keepBelow}
-use Rattle.model.specs.Draw.{Drawn, drawn, drawUsize}
+use lib.ListN.{length, getD, List·getD-eq-default}
+use Rattle.model.specs.Lists.{has, keep, keepBelow}
+use Rattle.model.specs.Draw.{Drawn, drawn}
 use Rattle.model.specs.Kept.{nicheCount, waiting, openLines, leastLines, drawFrom, nearestFrom, nearest, drawMember, pickOne, picks}
-use Rattle.list_laws.proofs.Members.{tally-same, keep-same, in-keep, in-snoc}
-
--- every entry is below n
-abbrev pub Below : ℕ → List ℕ → Type 0
-Below n l = (q : ℕ) → In q l → q < n
+pub use Rattle.list_laws.specs.Occ.{Below}
+use Rattle.list_laws.proofs.Bools.{by-bool}
+use Rattle.list_laws.proofs.Members.{tally-same, keep-same, in-keep, in-snoc, getD-in, below-append}
+use Rattle.niching_laws.proofs.Choice.{nearestFrom-in}
 
 module _ (n : ℕ) (some : 0 < n) where
   -- ---- what is picked is below n
-
-  both-below : (a b : List ℕ) → Below n a → Below n b → Below n (a ++ b)
-  both-below a b h k q m = ⊎-elim (h q) (k q) (List·Memᴰ·append-cases a m)
 
   keep-below : (f : ℕ → Bool) (l : List ℕ) → Below n l → Below n (keep f l)
   keep-below f l h q m = h q (in-keep f l q m .0)
 
   at-below : (l : List ℕ) (i : ℕ) → Below n l → getD l i 0 < n
-  at-below [] i h = some
-  at-below (x ∷ l) zero h = h x (List·Memᴰ·head refl)
-  at-below (x ∷ l) (suc i) h = at-below l i (λ q m. h q (List·Memᴰ·tail m))
-
-  one-below : (b : Bool) (p q : ℕ) → p < n → q < n → cond b p q < n
-  one-below true p q h k = h
-  one-below false p q h k = k
-
-  from-below : (far : ℕ → Float) (best : ℕ) (l : List ℕ) → best < n → Below n l → nearestFrom far best l < n
-  unfolding nearestFrom
-  from-below far best [] b h = b
-  from-below far best (x ∷ l) b h =
-      from-below far (cond (lt (far x) (far best)) x best) l (one-below (lt (far x) (far best)) x best (h x (List·Memᴰ·head refl)) b)
-      (λ q m. h q (List·Memᴰ·tail m))
+  at-below l i h = by-bool (ltb i (length l))
+      (λ e. h (getD l i 0) (getD-in l i (ltb-true i (length l) e)))
+      (λ e. rw (List·getD-eq-default l 0 (ltb-false i (length l) e)) some)
 
   nearest-below : (far : ℕ → Float) (l : List ℕ) → Below n l → nearest far l < n
   unfolding nearest
   nearest-below far [] h = some
-  nearest-below far (x ∷ l) h = from-below far x l (h x (List·Memᴰ·head refl)) (λ q m. h q (List·Memᴰ·tail m))
+  nearest-below far (x ∷ l) h = h (nearestFrom far x l) (nearestFrom-in far x l)
 
   member-below : (far : ℕ → Float) (count : ℕ) (l : List ℕ) (s : ℕ) → Below n l → drawMember far count l s .value < n
   unfolding drawMember drawFrom
@@ -77,6 +62,10 @@ module _ (n : ℕ) (some : 0 < n) where
     members-agree : (l : List ℕ) → Below n l → _≡_ {A = ℕ → List ℕ} (λ v. keep (λ p. eqb (line p) v) l) (λ v. keep (λ p. eqb (line′ p) v) l)
     members-agree l h = fun-ext (λ v. keep-same _ _ l (λ q m. ap (λ t. eqb t v) (lines-agree q (h q m))))
 
+    one-below : (b : Bool) (p q : ℕ) → p < n → q < n → cond b p q < n
+    one-below true p q h k = h
+    one-below false p q h k = k
+
     from-agree : (best : ℕ) (l : List ℕ) → best < n → Below n l → nearestFrom far best l ≡ nearestFrom far′ best l
     unfolding nearestFrom
     from-agree best [] b h = refl
@@ -106,7 +95,7 @@ module _ (n : ℕ) (some : 0 < n) where
       pick-agree picked s h =
           let w = waiting split picked in
           let k = keep-below (λ p. not (has picked p)) split within in
-          ap (λ c. chosen far s c (openLines line lines w) (λ v. keep (λ p. eqb (line p) v) w)) (counts-agree (before ++ picked) (both-below before picked listed h))
+          ap (λ c. chosen far s c (openLines line lines w) (λ v. keep (λ p. eqb (line p) v) w)) (counts-agree (before ++ picked) (below-append n before picked listed h))
           ∙ ap (λ o. chosen far s (nicheCount line′ (before ++ picked)) (keepBelow (has o) lines) (λ v. keep (λ p. eqb (line p) v) w)) (map-agree w k)
           ∙ ap (λ m. chosen far s (nicheCount line′ (before ++ picked)) (openLines line′ lines w) m) (members-agree w k)
           ∙ member-agree _ _ _ (keep-below _ w k)

@@ -38,6 +38,15 @@ fn put_plan(pool: &mut [u64], i: usize, a: u64, b: u64)
     pool[at + 3] = b;
 }
 
+// The plans with rows (0,0), (1,3) and (4,1).
+fn put_plans(pool: &mut [u64])
+    requires { ⌜ 372 ≤ length (now pool) ⌝ }
+{
+    put_plan(pool, 0, 0, 0);
+    put_plan(pool, 1, 4607182418800017408, 4613937818241073152);
+    put_plan(pool, 2, 4616189618054758400, 4607182418800017408);
+}
+
 // What a call answers.
 fn answered(outcome: Outcome) {
     match outcome {
@@ -61,14 +70,31 @@ fn mark(x: f64) -> u64 {
     2
 }
 
-// One selection from three plans with rows (0,0), (1,3) and (4,1), seed 5 and an ideal at infinity.
+// All that a call leaves, on a line.
+fn tell(
+    outcome: Outcome,
+    kept: &[usize],
+    fronts: &[usize],
+    lines: &[usize],
+    ideal: &[f64; 2],
+    state: u64,
+) {
+    answered(outcome);
+    list(b": list", kept);
+    list(b", fronts", fronts);
+    list(b", lines", lines);
+    number(b", ideal ", mark(ideal[0]));
+    number(b" ", mark(ideal[1]));
+    number(b", state ", state);
+    text(b"\n");
+}
+
+// One selection from the three plans, with seed 5 and an ideal at infinity.
 fn call(m: usize, divisions: usize, size: usize, plans: usize)
     requires { ⌜ (m ≤ 2) × (plans ≤ 3) ⌝ }
 {
     let mut pool: [u64; 372] = [0; 372];
-    put_plan(&mut pool, 0, 0, 0);
-    put_plan(&mut pool, 1, 4607182418800017408, 4613937818241073152);
-    put_plan(&mut pool, 2, 4616189618054758400, 4607182418800017408);
+    put_plans(&mut pool);
     let directions: [u8; 2] = [0; 2];
     let mut ideal = [1.0 / 0.0; 2];
     let mut kept: [usize; 8] = [9; 8];
@@ -88,14 +114,7 @@ fn call(m: usize, divisions: usize, size: usize, plans: usize)
     );
     let outcome = s.outcome;
     let rng = s.rng;
-    answered(outcome);
-    list(b": list", &kept);
-    list(b", fronts", &fronts);
-    list(b", lines", &lines);
-    number(b", ideal ", mark(ideal[0]));
-    number(b" ", mark(ideal[1]));
-    number(b", state ", rng.s);
-    text(b"\n");
+    tell(outcome, &kept, &fronts, &lines, &ideal, rng.s);
 }
 
 fn main() {

@@ -1,7 +1,7 @@
 -- the first `at` open places are filled, and the arrays hold what that leaves
 use Prim.Native.Nat.{_-_, _≤_}
-use mathlib.Core.Path.{_≡_, refl, sym}
-use lib.ListN.{length, take, length-set}
+use mathlib.Core.Path.{_≡_, sym}
+use lib.ListN.{take}
 use Rattle.niching_array_laws.proofs.Selecting.{Selecting, selecting-first, selecting-ready, selecting-more, before-lines, front-counts, given, enough-members, no-counts, before-length, selecting-done}
 use native.Mathlib.Omega.{arith}
 use Rattle.niching.proofs.niching_select.Statement.{statement}
@@ -9,7 +9,7 @@ use Rattle.niching.proofs.niching_select.Tie as tie
 
 abbrev Inv-loop : tie.InvT-loop
 Inv-loop order start end lines distances n-lines «open» picked₀ front counts₀ waits₀ taken₀ rng₀ at₀ picked counts waits taken rng at =
-    (at ≤ «open») × (length picked ≡ length picked₀)
+    (at ≤ «open»)
     × Selecting (take start order) front lines distances n-lines (rng₀ .s) picked₀ at counts waits taken picked (rng .s)
 
 abbrev μ-loop : tie.MeasureT-loop
@@ -46,7 +46,7 @@ loop-holds : tie.Need-loop-holds Inv-loop μ-loop
 loop-holds c =
     let b = c .before .before .before .before .count-lines in
     let f = c .before .count-lines2 in
-    (omega arith, refl, selecting-first _ _ _ _ _ _ _ _ _ (b .ensures) (f .ensures) (b .kept .1 .1 .0) (f .kept .1 .1 .0))
+    (omega arith, selecting-first _ _ _ _ _ _ _ _ _ (b .ensures) (f .ensures) (b .kept .1 .1 .0) (f .kept .1 .1 .0))
 
 slice-aggregate-pick : tie.Need-slice-aggregate-pick Inv-loop μ-loop
 slice-aggregate-pick c = omega arith
@@ -60,13 +60,13 @@ slice-aggregate-pick-3 c = omega arith
 pick-requires : tie.Need-pick-requires Inv-loop μ-loop
 pick-requires c κs =
     let h = c .before .before .before .before .before .before .before .before .before .before .before .before .before .before .before .before .before .pre in
-    selecting-ready (c .before .before .before .before .loop .inv .2) (given h) (enough-members h (c .before .before .before .before .loop .at) (c .before .before .before .loop-test .taken))
+    selecting-ready (c .before .before .before .before .loop .inv .1) (given h) (enough-members h (c .before .before .before .before .loop .at) (c .before .before .before .loop-test .taken))
 
 mul-picked : tie.Need-mul-picked Inv-loop μ-loop
 mul-picked c = omega arith
 
 slice-write-picked : tie.Need-slice-write-picked Inv-loop μ-loop
-slice-write-picked c = omega arith
+slice-write-picked c = omega (arith, c .before .before .before .before .before .before .before .before .loop .inv .1 .picked .same)
 
 add-at : tie.Need-add-at Inv-loop μ-loop
 add-at c = omega arith
@@ -79,16 +79,16 @@ loop-again c =
     let l = c .before .before .before .before .before .before .before .before .before .loop in
     let h = c .before .before .before .before .before .before .before .before .before .before .before .before .before .before .before .before .before .before .before .before .before .before .pre in
     let u = c .before .before .before .before .before .before .before .before .loop-test .taken in
-    (omega arith, simp length-set (l .inv .1), selecting-more (l .inv .2) (given h) (omega (arith, u, h .room)) (c .before .before .before .before .pick .ensures))
+    (omega arith, selecting-more (l .inv .1) (given h) (omega (arith, u, h .room)) (c .before .before .before .before .pick .ensures))
 
 same-length : tie.Need-same-length Inv-loop μ-loop
-same-length c = c .before .loop .inv .1
+same-length c = c .before .loop .inv .1 .picked .same
 
 returns : tie.Need-returns Inv-loop μ-loop
 returns c =
     let l = c .before .loop in
     let e : l .at ≡ c .before .before .before .before .before .before .before .before .before .before .before .before .before .before .args .«open» = omega arith in
-    selecting-done _ e (l .inv .2)
+    selecting-done _ e (l .inv .1)
 
 pub niching-select-spec : {M : Type 1} → statement M
 niching-select-spec =

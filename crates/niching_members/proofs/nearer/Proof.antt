@@ -1,5 +1,4 @@
 -- the three ways out
-use mathlib.Core.Path.{sym, _∙_}
 use Rattle.niching_array_laws.proofs.Nearest.{nearer-yes, nearer-far, nearer-no}
 use borrow.Author.Needs.{needs}
 use native.Mathlib.Omega.{arith}
@@ -39,7 +38,7 @@ returns : tie.Need-returns
 returns c =
     let a = c .before .before .before .before .before .before .before .before .before .before .before .args in
     let w = c .before .before .before .before .before in
-    nearer-yes (a .front .now) (a .lines .now) (a .distances .now) (a .taken .now) (a .l) (a .best) (a .other) (sym (w .before .waits-on .ensures) ∙ w .if1 .taken) (c .if2 .taken)
+    nearer-yes (a .front .now) (a .lines .now) (a .distances .now) (a .taken .now) (a .l) (a .best) (a .other) (w .before .waits-on .ensures) (w .if1 .taken) (c .if2 .taken)
 
 returns-2 : tie.Need-returns-2
 returns-2 c =
@@ -49,7 +48,7 @@ returns-2 c =
 returns-3 : tie.Need-returns-3
 returns-3 c =
     let a = c .before .before .before .before .before .before .args in
-    nearer-no (a .front .now) (a .lines .now) (a .distances .now) (a .taken .now) (a .l) (a .best) (a .other) (sym (c .before .waits-on .ensures) ∙ c .if1 .left)
+    nearer-no (a .front .now) (a .lines .now) (a .distances .now) (a .taken .now) (a .l) (a .best) (a .other) (c .before .waits-on .ensures) (c .if1 .left)
 
 pub nearer-spec : {M : Type 1} → statement M
 nearer-spec =

@@ -1,10 +1,11 @@
 -- `fill_kept`: by whether a front is split
 use mathlib.Core.Path.{refl, sym, _∙_}
+use mathlib.Core.Bool.{true, false}
 use native.Mathlib.Omega.{arith}
 use borrow.Author.Needs.{needs}
 use Rattle.model.specs.Calls.{wordRequest}
 use Rattle.model.specs.Association.{Request}
-use Rattle.nsga3.proofs.Answer.{hands-split, hands-whole, whole-hands}
+use Rattle.nsga3.proofs.Answer.{hands-by, whole-hands}
 use Rattle.nsga3.proofs.fill_kept.Statement.{statement}
 use Rattle.nsga3.proofs.fill_kept.Tie as tie
 
@@ -28,10 +29,10 @@ same-length-3 c = c .before .before .before .before .before .before .select-spli
 returns : tie.Need-returns
 returns c =
     let s = c .before .before .before .before .before .before .before .before .before .before .before .before .before .before .before .before .before .before in
-    hands-split (request s) _ _ _ _ _ _ (sym (s .pre .listed .cut .split) ∙ c .before .before .before .before .before .before .before .before .before .before .if1 .taken) (c .before .before .before .before .before .before .select-split .ensures)
+    hands-by (request s) _ _ _ _ _ _ true (sym (s .pre .listed .cut .split) ∙ c .before .before .before .before .before .before .before .before .before .before .if1 .taken) (c .before .before .before .before .before .before .select-split .ensures)
 
 plan-count-requires : tie.Need-plan-count-requires
-plan-count-requires c κs = search needs
+plan-count-requires c κs = tt
 
 select-whole-requires : tie.Need-select-whole-requires
 select-whole-requires c κs =
@@ -51,7 +52,7 @@ returns-2 : tie.Need-returns-2
 returns-2 c =
     let s = c .before .before .before .before .before .before .before .before .before .before .before .before .before .before .before .before in
     let w = c .before .before .before .before .select-whole .ensures in
-    hands-whole (request s) _ _ _ _ _ _ (sym (s .pre .listed .cut .split) ∙ c .before .before .before .before .before .before .before .before .if1 .left)
+    hands-by (request s) _ _ _ _ _ _ false (sym (s .pre .listed .cut .split) ∙ c .before .before .before .before .before .before .before .before .if1 .left)
     (whole-hands (request s) _ _ _ _ _ _ (s .args .order .now) (s .args .cut) (s .pre .listed) _ (c .before .before .before .before .before .before .before .plan-count .ensures) refl (w .0) (w .1) (w .2))
 
 pub fill-kept-spec : {M : Type 1} → statement M

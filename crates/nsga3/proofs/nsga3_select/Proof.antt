@@ -1,15 +1,12 @@
 -- `nsga3_select`: the refusal's number, or the selection
-use mathlib.Core.Path.{ap, sym, _∙_}
-use Rattle.model.specs.Calls.{wordRequest, lent}
-use Rattle.nsga3_laws.proofs.Admitted.{admitted}
-use Rattle.refusals.specs.Checked.{checked}
-use Rattle.nsga3.proofs.Answer.{refused, selected-so}
+use Rattle.model.specs.Calls.{lent}
+use Rattle.nsga3.proofs.Answer.{refused, limits-kept, selected-so}
 use borrow.Author.Needs.{needs}
 use Rattle.nsga3.proofs.nsga3_select.Statement.{statement}
 use Rattle.nsga3.proofs.nsga3_select.Tie as tie
 
 refusal-requires : tie.Need-refusal-requires
-refusal-requires c κs = search needs
+refusal-requires c κs = tt
 
 enum-known-check : tie.Need-enum-known-check
 enum-known-check c = search needs
@@ -20,7 +17,8 @@ enum-told c = search needs
 select-requires : tie.Need-select-requires
 select-requires c κs =
     let a = c .before .before .before .before .before .before .before .before .before .before .before .before .before .before .args in
-    admitted (wordRequest (a .pool .now) (a .directions .now) (a .divisions) (a .size) (a .rng) (a .ideal .now)) _ (sym (sym (ap checked (c .before .before .before .before .enum-told .given .1)) ∙ c .before .before .before .before .before .before .refusal .ensures))
+    limits-kept (a .pool .now) (a .directions .now) (a .divisions) (a .size) (a .rng) (a .ideal .now) (lent (a .kept .now) (a .fronts .now) (a .lines .now))
+    (c .before .before .before .before .before .before .refusal .ensures) (c .before .before .before .before .enum-told .given .1)
 
 same-length : tie.Need-same-length
 same-length c = search needs
@@ -28,8 +26,8 @@ same-length c = search needs
 returns : tie.Need-returns
 returns c =
     let a = c .before .before .before .before .before .before .before .before .before .before .before .args in
-    refused (a .pool .now) (a .directions .now) (a .divisions) (a .size) (a .rng) (a .ideal .now) (lent (a .kept .now) (a .fronts .now) (a .lines .now)) _
-    (sym (ap checked (c .before .check .given .1)) ∙ c .before .before .before .refusal .ensures)
+    refused (a .pool .now) (a .directions .now) (a .divisions) (a .size) (a .rng) (a .ideal .now) (lent (a .kept .now) (a .fronts .now) (a .lines .now))
+    (c .before .before .before .refusal .ensures) _ (c .before .check .given .1)
 
 same-length-2 : tie.Need-same-length-2
 same-length-2 c = search needs
@@ -47,7 +45,8 @@ returns-2 : tie.Need-returns-2
 returns-2 c =
     let a = c .before .before .before .before .before .before .before .before .before .before .before .before .before .before .before .before .before .before .before .before .before .before .before .args in
     selected-so (a .pool .now) (a .directions .now) (a .divisions) (a .size) (a .rng) (a .ideal .now) (lent (a .kept .now) (a .fronts .now) (a .lines .now))
-    (sym (ap checked (c .before .before .before .before .before .before .before .before .before .before .before .before .before .enum-told .given .1)) ∙ c .before .before .before .before .before .before .before .before .before .before .before .before .before .before .before .refusal .ensures) _ (c .before .before .before .before .before .before .before .before .select .ensures)
+    (c .before .before .before .before .before .before .before .before .before .before .before .before .before .before .before .refusal .ensures)
+    (c .before .before .before .before .before .before .before .before .before .before .before .before .before .enum-told .given .1) _ (c .before .before .before .before .before .before .before .before .select .ensures)
 
 pub nsga3-select-spec : {M : Type 1} → statement M
 nsga3-select-spec =

@@ -13,7 +13,7 @@ use Rattle.model.specs.Association.{Request}
 use Rattle.plan_rows.proofs.Pool.{pool-row-lengths}
 use Rattle.pool_sort.specs.Laid.{RowsIn}
 use Rattle.list_laws.proofs.Rows.{few-values}
-use Rattle.nsga3.proofs.Answer.{rows-in, accepted-exit, fill-room}
+use Rattle.nsga3.proofs.Answer.{rows-in, accepted-exit}
 use Rattle.nsga3.proofs.select.Statement.{statement}
 use Rattle.nsga3.proofs.select.Tie as tie
 
@@ -33,7 +33,7 @@ laid c h g i =
     (subst (λ k. planCount (s .args .pool .now) * length (s .args .directions .now) ≤ k) (sym size) (few-values _ _ (ok .fewPlans) (ok .narrow))) (f .ensures)
 
 plan-count-requires : tie.Need-plan-count-requires
-plan-count-requires c κs = search needs
+plan-count-requires c κs = tt
 
 slice-aggregate-fill-rows : tie.Need-slice-aggregate-fill-rows
 slice-aggregate-fill-rows c = search needs
@@ -69,7 +69,8 @@ fill-kept-requires c κs =
     let s = c .before .before .before .before .before .before .before .before .before .before .before .before .before .before .before .before .before .before .before .before .before .before in
     let a = s .args in
     record {
-      limits = fill-room (request s) _ _ _ (s .pre);
+      fronts = length (a .fronts .now);
+      limits = s .pre;
       laid = laid (c .before .before .before .before .before .before .before .before .before .before .before .before .before) (a .divisions) (a .rng) (a .ideal .now);
       listed = c .before .before .before .before .before .before .before .before .sort-pool .ensures (a .divisions) (a .rng) (a .ideal .now) .order;
     }

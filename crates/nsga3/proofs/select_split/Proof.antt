@@ -1,11 +1,10 @@
 -- `select_split`: the table, the association, and niching behind the whole fronts
-use Prim.Native.Nat.{ℕ, _*_, _-_, _≤_}
+use Prim.Native.Nat.{_*_, _-_, _≤_}
 use mathlib.Core.Path.{_≡_, refl, sym, subst, _∙_}
-use mathlib.Core.List.{List}
 use native.Mathlib.Omega.{arith}
 use borrow.Author.Needs.{needs}
 use borrow.Rule.Slice.PartMut.{mid-len, same-len-mid}
-use lib.Ieee.{Float, binary64, ofBits}
+use lib.Ieee.{binary64, ofBits}
 use lib.ListN.{length, replicate}
 use Rattle.model.specs.Calls.{wordRequest}
 use Rattle.model.specs.Association.{Request, objectives}
@@ -31,7 +30,7 @@ associated c =
     (pool-rows (s .pre .0) _ e) (λ j h. refl) (table-lines (s .pre .0) _ _ (d .ensures .1) _ (d .ensures .0)) (d .ensures .0)
 
 plan-count-requires : tie.Need-plan-count-requires
-plan-count-requires c κs = search needs
+plan-count-requires c κs = tt
 
 slice-aggregate-das-dennis : tie.Need-slice-aggregate-das-dennis
 slice-aggregate-das-dennis c = search needs

@@ -1,7 +1,7 @@
 -- `pad`: the first `at` places are drawn
 use borrow.Author.Needs.{needs}
 use Prim.Native.Nat.{_-_, _≤_}
-use mathlib.Core.Path.{_≡_, refl, ap, sym, subst, _∙_}
+use mathlib.Core.Path.{_≡_, subst}
 use native.Mathlib.Omega.{arith}
 use Rattle.nsga3_parts.proofs.Padding.{Padded, padded-none, padded-more}
 use Rattle.nsga3_parts.proofs.pad.Statement.{statement}
