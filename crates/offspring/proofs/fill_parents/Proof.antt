@@ -9,9 +9,9 @@ use Rattle.model.specs.Plan.{planAt}
 use Rattle.model.specs.Setting.{wordsOf}
 use Rattle.settings.specs.Candidate.{dimensionsOf}
 use Rattle.settings.proofs.Valid.{few}
-use Rattle.candidates.proofs.Laid.{words-length}
+use Rattle.candidates.proofs.Laid.{LaidOut, words-length}
 use Rattle.list_laws.proofs.Rows.{row-within}
-use Rattle.offspring.proofs.Laying.{LaidOut, parentsTo, parents-none, parents-more}
+use Rattle.offspring.proofs.Laying.{parentsTo, parents-none, parents-more}
 use Rattle.offspring.proofs.fill_parents.Statement.{statement}
 use Rattle.offspring.proofs.fill_parents.Tie as tie
 
