@@ -1,12 +1,11 @@
 -- A generation step that meets no refusal: each limit that it keeps, and that its selection meets none either.
-use Prim.Native.Nat.{ℕ, zero, suc, _*_, _≤_, _<_}
+use Prim.Native.Nat.{ℕ, _*_, _≤_, _<_}
 use mathlib.Core.Path.{_≡_, refl, sym, ap, _∙_}
-use mathlib.Core.Bool.{Bool, true, false, _&&_, _||_, true≢false}
+use mathlib.Core.Bool.{true, false, _&&_, _||_}
 use mathlib.Core.List.{List·Memᴰ·head, List·Memᴰ·tail}
 use mathlib.Core.Option.{none}
-use native.Mathlib.Omega.{arith}
 use borrow.Author.Tests.{not-false, ltb-false, le-leb}
-use lib.Dec.{eqb, leb, ltb}
+use lib.Dec.{leb, ltb}
 use Rattle.list_laws.proofs.Bools.{and-left, or-left, or-right}
 use Rattle.model.specs.Lists.{allBelow}
 use Rattle.model.specs.Association.{Request, objectives}

@@ -8,7 +8,7 @@ use native.Mathlib.Omega.{arith}
 use borrow.Author.Tests.{lt-ltb, le-ltb}
 use lib.Ieee.{Float}
 use lib.ListN.{length, getD, take}
-use Rattle.list_laws.proofs.Built.{over-take}
+use Rattle.list_laws.proofs.Built.{over-take, over-at}
 use Rattle.model.specs.declared.Distribution.{Distribution}
 use Rattle.model.specs.declared.ParamValue.{ParamValue}
 use Rattle.model.specs.declared.Outcome.the-variants as outcome
@@ -29,7 +29,7 @@ use Rattle.candidate_laws.proofs.KeptPlans.{kept-length, kept-below}
 use Rattle.candidate_laws.proofs.Generations.{generation-words}
 use Rattle.generation_laws.specs.Bred.{rankAt, bredFrom, exit}
 use Rattle.generation_laws.proofs.Accepted.{passed, sized, selects}
-use Rattle.generation_laws.proofs.Breeding.{offspring-same, front-place}
+use Rattle.generation_laws.proofs.Breeding.{offspring-same}
 
 parents-length : (dims : ℕ → Distribution) (n : ℕ) (plans : ℕ → Plan) (ps : List ℕ) (s : ℕ) → length (parentsOf dims n plans ps s .value) ≡ length ps
 unfolding parentsOf
@@ -76,7 +76,7 @@ module _ (o : Operators) (pool directions : List ℕ) (divisions size : ℕ) (g 
       state-is = ap (λ (y : SelectExit). y .answer .rng .s) e
 
       place-is : (i : ℕ) → i < size → getD (x .slices .kept) i 0 ≡ getD (selected r .kept) i 0
-      place-is i h = ap (λ l. getD l i 0) kept-is ∙ front-place (selected r .kept) (at .kept) i size (kept-length r) h
+      place-is i h = ap (λ l. getD l i 0) kept-is ∙ over-at (selected r .kept) (at .kept) i 0 (omega (arith, kept-length r))
 
       -- its plans are in the pool
       pub kept-in-pool : (i : ℕ) → i < size → getD (x .slices .kept) i 0 < planCount pool

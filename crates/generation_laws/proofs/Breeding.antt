@@ -5,9 +5,9 @@ use mathlib.Core.Bool.{true, false, cond}
 use mathlib.Core.List.{List, [], _∷_, _++_}
 use native.Mathlib.Omega.{arith}
 use lib.Dec.{leb}
-use lib.ListN.{length, getD, take, drop, List·getD-append}
+use lib.ListN.{length, getD, take, drop}
 use lib.Seq.{length-take-le, getD-take}
-use Rattle.list_laws.proofs.Built.{listBelow-length, listBelow-at}
+use Rattle.list_laws.proofs.Built.{over-below}
 use Rattle.list_laws.proofs.Tests.{allBelow-each}
 use Rattle.rng_util.proofs.Draws.{drawUsize-below}
 use Rattle.model.specs.declared.ParamValue.{ParamValue}
@@ -61,9 +61,6 @@ module _ (o : Operators) (ps : List (List ParamValue)) (f g : ℕ → ℕ) (some
 
 -- ---- the parents of a kept list
 
-pub front-place : (new old : List ℕ) (i n : ℕ) → length new ≡ n → i < n → getD (over new old) i 0 ≡ getD new i 0
-front-place new old i n e h = List·getD-append new (drop (length new) old) 0 i (omega arith)
-
 module _ (o : Operators) (held : AllHeld (o .dims) (o .dimCount)) (good : badDimensions (o .dims) (o .dimCount) ≡ false) (pool directions kept : List ℕ) (size s : ℕ)
     (able : allBelow (λ p. breedable (o .dims) (o .dimCount) (planAt pool p)) (planCount pool) ≡ true) (enough : size ≤ length kept)
     (inPool : (i : ℕ) → i < size → getD kept i 0 < planCount pool) where
@@ -92,6 +89,5 @@ module _ (o : Operators) (held : AllHeld (o .dims) (o .dimCount)) (good : badDim
       ap₂ (λ (w : List (List ParamValue)) (u : ℕ). offspringOf o w (λ i. getD ranks i 0) size u)
       (ap (λ w. parentsIn (o .dims) (o .dimCount) w size) e ∙ read-back old) f
       ∙ offspring-same o (parents .value) (λ i. getD ranks i 0) (rankAt pool directions kept) (omega arith)
-      (λ i h. let l : i < size = omega arith in ap (λ r. getD r i 0) q ∙ front-place (listBelow (rankAt pool directions kept) size) ranks₀ i size (listBelow-length _ size) l
-      ∙ listBelow-at (rankAt pool directions kept) size 0 i l)
+      (λ i h. over-below (rankAt pool directions kept) size ranks ranks₀ i 0 q (omega arith))
       size (parents .state)

@@ -1,7 +1,7 @@
 -- The first refusal of a generation step, test by test.
 use Prim.Native.Nat.{ℕ, _*_, _≤_, _<_}
-use mathlib.Core.Path.{_≡_, refl, sym, _∙_}
-use mathlib.Core.Bool.{Bool, true, false, _&&_, _||_}
+use mathlib.Core.Path.{_≡_, sym, _∙_}
+use mathlib.Core.Bool.{Bool, true, false, _&&_, _||_, or-true, or-false}
 use mathlib.Core.Option.{none, some}
 use borrow.Author.Tests.{lt-ltb, le-ltb, lt-leb, le-leb}
 use lib.Dec.{leb, ltb}
@@ -59,14 +59,6 @@ module _ (o : Operators) (r : Request) (room : Room) (offspring : ℕ) where
                   not-refused i = sym (rw (a, b, c, d, e, f, g, h, i))
 
 -- ---- a slice is too short: for the offspring, or for what a selection hands out from n plans and a size
-
-or-true : (a : Bool) → (a || true) ≡ true
-or-true true = refl
-or-true false = refl
-
-or-false : (a : Bool) → (a || false) ≡ a
-or-false true = refl
-or-false false = refl
 
 module _ (size n dims kept fronts lines offspring : ℕ) where
   abbrev short : Bool

@@ -1,28 +1,19 @@
--- Blocks of words laid into a slice, block after block from a place on.
-use Prim.Native.Nat.{ℕ, _+_, _*_, _≤_}
-use mathlib.Core.Path.{_≡_, refl, sym, ap, ap₂, _∙_}
+-- The words of a session and of a dimension, from their parts.
+use Prim.Native.Nat.{ℕ, _+_}
+use mathlib.Core.Path.{_≡_, refl, ap, ap₂, _∙_}
 use mathlib.Core.List.{List, [], _∷_, _++_}
 use lib.ListN.{length, getD}
-use Rattle.list_laws.proofs.Built.{joinBelow-more}
-use Rattle.candidates.proofs.Laid.{over-next, at-next}
-use Rattle.list_laws.proofs.Rows.{joinBelow-length}
+use Rattle.candidates.proofs.Laid.{over-next}
 use Rattle.model.specs.declared.Config.{Config}
 use Rattle.model.specs.declared.Distribution.{Distribution}
 use Rattle.model.specs.declared.Distribution.the-variants as dist
 use Rattle.model.specs.declared.IntDistribution.{IntDistribution}
 use Rattle.model.specs.declared.Session.{Session}
-use Rattle.model.specs.Lists.{one, listBelow, joinBelow, over}
+use Rattle.model.specs.Lists.{one, joinBelow, over}
 use Rattle.model.specs.Real.{bits}
 use Rattle.model.specs.Setting.{wordOfInt}
 use Rattle.model.specs.Session.{overAt, dimensionOf}
 use Rattle.session_words.specs.Coding.{hasStepI64, stepWordI64, dimensionWords, eight, configWords, stateWords, idealWords, sessionWords}
-
-module _ (f : ℕ → List ℕ) (k : ℕ) (each : (d : ℕ) → length (f d) ≡ k) where
-  pub join-next : (at n : ℕ) (l : List ℕ) → at ≤ length l → overAt (at + n * k) (f n) (overAt at (joinBelow f n) l) ≡ overAt at (joinBelow f (n + 1)) l
-  join-next at n l h =
-      at-next at (n * k) (joinBelow f n) (f n) l h (joinBelow-length f k n (λ i u. each i)) ∙ ap (λ t. overAt at t l) (sym (joinBelow-more f n))
-
--- ---- the words of a session
 
 pub dimension-length : (x : Distribution) → length (dimensionWords x) ≡ 6
 dimension-length (dist.Float d) = refl

@@ -9,8 +9,8 @@ use lib.Dec.{T}
 use lib.Ieee.{Float, nan, binary64, fits}
 use lib.Ieee.Bits.{ofBits-toBits}
 use lib.ListN.{length, getD, drop}
-use lib.Seq.{getD-append-add, ext-getD, take-all}
-use Rattle.list_laws.proofs.Built.{listBelow-length, listBelow-at, listBelow-take}
+use lib.Seq.{getD-append-add}
+use Rattle.list_laws.proofs.Built.{listBelow-whole}
 use Rattle.real_laws.proofs.Ints.{int-of-word-of}
 use Rattle.model.specs.declared.Config.{Config}
 use Rattle.model.specs.declared.Distribution.{Distribution}
@@ -28,7 +28,7 @@ use Rattle.model.specs.declared.Session.{Session}
 use Rattle.model.specs.Lists.{one, listBelow, joinBelow, over}
 use Rattle.model.specs.Real.{real, bits}
 use Rattle.model.specs.Session.{dimensionOf, noDimension}
-use Rattle.session_words.specs.Coding.{marked, hasStepF64, stepWordF64, hasStepI64, stepWordI64, dimensionWords, stepF64, stepI64, dimensionAt, infoAt, dimensionsAt, phaseWord, phaseOf, hasFirst, firstWord, firstOf, eight, configWords, stateWords, idealWords, sessionWords, marksAt, idealAt, configAt, sessionOf}
+use Rattle.session_words.specs.Coding.{marked, hasStepF64, stepWordF64, hasStepI64, stepWordI64, dimensionWords, stepF64, stepI64, dimensionAt, infoAt, dimensionsAt, phaseWord, phaseOf, hasFirst, firstWord, firstOf, configWords, stateWords, idealWords, sessionWords, marksAt, idealAt, configAt, sessionOf}
 use Rattle.session_words.proofs.Marks.{float-is, int-is}
 use Rattle.session_encoding.proofs.Laid.{dimension-length}
 use Rattle.list_laws.proofs.Rows.{joinBelow-front}
@@ -89,12 +89,6 @@ same-six v w at h =
     rw (z, h 1 (omega arith), h 2 (omega arith), h 3 (omega arith), h 4 (omega arith), h 5 (omega arith))
 
 -- ---- the parts of a session
-
--- eight places that are an array's are the array
-eight-back : {A : Type 0} (f : ℕ → A) (l : List A) (z : A) → length l ≡ 8 → f 0 ≡ getD l 0 z → f 1 ≡ getD l 1 z → f 2 ≡ getD l 2 z → f 3 ≡ getD l 3 z
-    → f 4 ≡ getD l 4 z → f 5 ≡ getD l 5 z → f 6 ≡ getD l 6 z → f 7 ≡ getD l 7 z → eight f ≡ l
-unfolding listBelow
-eight-back f l z p a b c d e k m n = rw (a, b, c, d, e, k, m, n) (sym (listBelow-take (λ i. getD l i z) 8 z l (omega arith) (λ t h. refl)) ∙ take-all 8 l (omega arith))
 
 phase-back : (p : Phase) → phaseOf (phaseWord p) ≡ p
 phase-back Discovery = refl
@@ -158,28 +152,16 @@ module _ (s : Session) (old : List ℕ) (ok : Stored s) where
 
   dimensions-back : dimensionsAt words 30 ≡ s .dimensions
   unfolding dimensionsAt
-  dimensions-back =
-      let n = listBelow-length (infoAt words 30) 32 in
-      ext-getD noDimension (listBelow (infoAt words 30) 32) (s .dimensions) (n ∙ sym (ok .dimensions))
-      (λ i h. listBelow-at (infoAt words 30) 32 noDimension i (omega arith) ∙ info-back i (omega arith))
-
-  byte : (i : ℕ) → i < 8 → getD (s .config .directions) i 0 % 256 ≡ getD (s .config .directions) i 0
-  byte i h = mod-eq-of-lt (ok .config .bytes i h)
+  dimensions-back = listBelow-whole (infoAt words 30) 32 noDimension (s .dimensions) (ok .dimensions) info-back
 
   marks-back : marksAt words ≡ s .config .directions
-  unfolding marksAt sessionWords configWords
-  marks-back =
-      eight-back (λ i. getD words (1 + i) 0 % 256) (s .config .directions) 0 (ok .config .marks) (byte 0 (omega arith)) (byte 1 (omega arith)) (byte 2 (omega arith)) (byte 3 (omega arith))
-      (byte 4 (omega arith)) (byte 5 (omega arith)) (byte 6 (omega arith)) (byte 7 (omega arith))
-
-  double : (i : ℕ) → i < 8 → real (bits (getD (s .«ideal_point») i nan)) ≡ getD (s .«ideal_point») i nan
-  double i h = ofBits-toBits binary64 (getD (s .«ideal_point») i nan) (ok .reals i h)
+  unfolding marksAt sessionWords configWords listBelow
+  marks-back = listBelow-whole (λ i. getD (s .config .directions) i 0 % 256) 8 0 (s .config .directions) (ok .config .marks) (λ i h. mod-eq-of-lt (ok .config .bytes i h))
 
   ideal-back : idealAt words ≡ s .«ideal_point»
-  unfolding idealAt sessionWords configWords stateWords idealWords
+  unfolding idealAt sessionWords configWords stateWords idealWords listBelow
   ideal-back =
-      eight-back (λ i. real (getD words (22 + i) 0)) (s .«ideal_point») nan (ok .ideal) (double 0 (omega arith)) (double 1 (omega arith)) (double 2 (omega arith)) (double 3 (omega arith))
-      (double 4 (omega arith)) (double 5 (omega arith)) (double 6 (omega arith)) (double 7 (omega arith))
+      listBelow-whole (λ i. real (bits (getD (s .«ideal_point») i nan))) 8 nan (s .«ideal_point») (ok .ideal) (λ i h. ofBits-toBits binary64 (getD (s .«ideal_point») i nan) (ok .reals i h))
 
   config-back : configAt words ≡ s .config
   unfolding sessionWords configWords

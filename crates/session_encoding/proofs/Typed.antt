@@ -1,5 +1,5 @@
 -- A session that code holds can be stored: its type promises what is asked of its reals, directions and arrays.
-use Prim.Native.Nat.{zero, suc, _<_}
+use Prim.Native.Nat.{_<_}
 use mathlib.Core.List.{List}
 use native.Mathlib.Omega.{arith}
 use lib.Dec.{T}

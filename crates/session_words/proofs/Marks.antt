@@ -1,12 +1,9 @@
 -- Words are read as the coding says: a mark that is not 0 is yes, and a dimension is put together from its parts.
-use Prim.Native.Nat.{ℕ, zero, suc, _≤_}
+use Prim.Native.Nat.{ℕ, zero, suc}
 use mathlib.Core.Path.{_≡_, refl}
 use mathlib.Core.Bool.{Bool}
-use mathlib.Core.List.{List, [], _∷_}
-use native.Mathlib.Nat.{not-suc-le-zero, le-of-suc-le-suc}
 use lib.IntN.{ℤ}
 use lib.Ieee.{Float}
-use lib.ListN.{length, getD}
 use Rattle.model.specs.declared.Distribution.the-variants as dist
 use Rattle.model.specs.declared.OptionF64.{OptionF64}
 use Rattle.model.specs.declared.OptionI64.{OptionI64}
@@ -23,11 +20,6 @@ pub by-two : {A : Type 0} (f : ℕ → A) (a : A) → ((k : ℕ) → f (suc (suc
 by-two f a h zero n m = absurd (n refl)
 by-two f a h (suc zero) n m = absurd (m refl)
 by-two f a h (suc (suc k)) n m = h k
-
-pub past-end : (l : List ℕ) (i : ℕ) → length l ≤ i → 0 ≡ getD l i 0
-past-end [] i h = refl
-past-end (x ∷ l) zero h = absurd (not-suc-le-zero h)
-past-end (x ∷ l) (suc i) h = past-end l i (le-of-suc-le-suc h)
 
 module _ (kind low high log has step : ℕ) where
   pub float-is : (a b : Float) (g : Bool) (o : OptionF64) → kind ≡ 0 → a ≡ real low → b ≡ real high → g ≡ marked log → o ≡ stepF64 has step
