@@ -7,22 +7,20 @@ use Rattle.candidates.proofs.Laid.{over-next}
 use Rattle.model.specs.declared.Config.{Config}
 use Rattle.model.specs.declared.Distribution.{Distribution}
 use Rattle.model.specs.declared.Distribution.the-variants as dist
-use Rattle.model.specs.declared.IntDistribution.{IntDistribution}
 use Rattle.model.specs.declared.Session.{Session}
-use Rattle.model.specs.Lists.{one, joinBelow, over}
+use Rattle.model.specs.Lists.{joinBelow, over}
 use Rattle.model.specs.Real.{bits}
-use Rattle.model.specs.Setting.{wordOfInt}
 use Rattle.model.specs.Session.{overAt, dimensionOf}
-use Rattle.session_words.specs.Coding.{hasStepI64, stepWordI64, dimensionWords, eight, configWords, stateWords, idealWords, sessionWords}
+use Rattle.session_words.specs.Coding.{dimensionWords, eight, configWords, stateWords, idealWords, sessionWords}
 
 pub dimension-length : (x : Distribution) → length (dimensionWords x) ≡ 6
 dimension-length (dist.Float d) = refl
 dimension-length (dist.Int d) = refl
 dimension-length (dist.Categorical d) = refl
 
-pub int-laid : (d : IntDistribution) (low high log has step : ℕ) → low ≡ wordOfInt (d .low) → high ≡ wordOfInt (d .high) → log ≡ one (d .«log_scale»)
-    → has ≡ hasStepI64 (d .step) → step ≡ stepWordI64 (d .step) → (1 ∷ low ∷ high ∷ log ∷ has ∷ step ∷ []) ≡ dimensionWords (dist.Int d)
-int-laid d low high log has step p q r t u = rw (p, q, r, t, u)
+pub six-laid : (kind : ℕ) {low high log has step low′ high′ log′ has′ step′ : ℕ} → low ≡ low′ → high ≡ high′ → log ≡ log′ → has ≡ has′ → step ≡ step′
+    → (kind ∷ low ∷ high ∷ log ∷ has ∷ step ∷ []) ≡ (kind ∷ low′ ∷ high′ ∷ log′ ∷ has′ ∷ step′ ∷ [])
+six-laid kind p q r t u = rw (p, q, r, t, u)
 
 pub config-laid : (c : Config) (m : List ℕ) (p e u : ℕ) → m ≡ eight (λ i. getD (c .directions) i 0) → p ≡ bits (c .«crossover_prob»)
     → e ≡ bits (c .«crossover_eta») → u ≡ bits (c .«mutation_eta»)

@@ -15,7 +15,6 @@ use Rattle.real_laws.proofs.Ints.{int-of-word-of}
 use Rattle.model.specs.declared.Config.{Config}
 use Rattle.model.specs.declared.Distribution.{Distribution}
 use Rattle.model.specs.declared.Distribution.the-variants as dist
-use Rattle.model.specs.declared.DimensionInfo.{DimensionInfo}
 use Rattle.model.specs.declared.OptionF64.{OptionF64}
 use Rattle.model.specs.declared.OptionF64.the-variants as optF64
 use Rattle.model.specs.declared.OptionI64.{OptionI64}
@@ -29,7 +28,7 @@ use Rattle.model.specs.Lists.{one, listBelow, joinBelow, over}
 use Rattle.model.specs.Real.{real, bits}
 use Rattle.model.specs.Session.{dimensionOf, noDimension}
 use Rattle.session_words.specs.Coding.{marked, hasStepF64, stepWordF64, hasStepI64, stepWordI64, dimensionWords, stepF64, stepI64, dimensionAt, infoAt, dimensionsAt, phaseWord, phaseOf, hasFirst, firstWord, firstOf, configWords, stateWords, idealWords, sessionWords, marksAt, idealAt, configAt, sessionOf}
-use Rattle.session_words.proofs.Marks.{float-is, int-is}
+use Rattle.session_words.proofs.Marks.{float-is, int-is, dimension-same, config-same, session-same}
 use Rattle.session_encoding.proofs.Laid.{dimension-length}
 use Rattle.list_laws.proofs.Rows.{joinBelow-front}
 
@@ -86,7 +85,7 @@ same-six : (v w : List ℕ) (at : ℕ) → ((j : ℕ) → j < 6 → getD v (at +
 same-six v w at h =
     let n : at + 0 ≡ at = omega arith in
     let z : getD v at 0 ≡ getD w 0 0 = ap (λ k. getD v k 0) (sym n) ∙ h 0 (omega arith) in
-    rw (z, h 1 (omega arith), h 2 (omega arith), h 3 (omega arith), h 4 (omega arith), h 5 (omega arith))
+    sym (dimension-same v at _ _ _ _ _ _ (sym z) (sym (h 1 (omega arith))) (sym (h 2 (omega arith))) (sym (h 3 (omega arith))) (sym (h 4 (omega arith))) (sym (h 5 (omega arith))))
 
 -- ---- the parts of a session
 
@@ -97,23 +96,6 @@ phase-back Active = refl
 first-back : (o : OptionU64) → firstOf (hasFirst o) (firstWord o) ≡ o
 first-back optU64.None = refl
 first-back (optU64.Some n) = refl
-
-config-parts : (c : Config) (m : List ℕ) (p e u : Float) → m ≡ c .directions → p ≡ c .«crossover_prob» → e ≡ c .«crossover_eta» → u ≡ c .«mutation_eta»
-    → record {
-      «n_obj» = c .«n_obj»;
-      directions = m;
-      divisions = c .divisions;
-      «population_size» = c .«population_size»;
-      «crossover_prob» = p;
-      «crossover_eta» = e;
-      «mutation_eta» = u;
-    } ≡ c
-config-parts c m p e u h i j k = rw (h, i, j, k)
-
-session-parts : (s : Session) (c : Config) (p : Phase) (o : OptionU64) (ds : List DimensionInfo) (z : List Float) → c ≡ s .config → p ≡ s .phase
-    → o ≡ s .«discovery_trial_id» → ds ≡ s .dimensions → z ≡ s .«ideal_point»
-    → record { config = c; phase = p; «discovery_trial_id» = o; rng = s .rng; dimensions = ds; «ideal_point» = z; progress = s .progress } ≡ s
-session-parts s c p o ds z h i j k l = rw (h, i, j, k, l)
 
 -- ---- a session
 
@@ -166,11 +148,11 @@ module _ (s : Session) (old : List ℕ) (ok : Stored s) where
   config-back : configAt words ≡ s .config
   unfolding sessionWords configWords
   config-back =
-      config-parts (s .config) (marksAt words) _ _ _ marks-back (ofBits-toBits binary64 (s .config .«crossover_prob») (ok .config .probability))
+      config-same (s .config) _ (marksAt words) _ _ _ _ _ refl marks-back refl refl (ofBits-toBits binary64 (s .config .«crossover_prob») (ok .config .probability))
       (ofBits-toBits binary64 (s .config .«crossover_eta») (ok .config .crossoverEta)) (ofBits-toBits binary64 (s .config .«mutation_eta») (ok .config .mutationEta))
 
   pub session-back : sessionOf words ≡ s
   unfolding sessionOf sessionWords configWords stateWords idealWords
   session-back =
-      session-parts s (configAt words) _ _ (dimensionsAt words 30) (idealAt words) config-back (phase-back (s .phase)) (first-back (s .«discovery_trial_id»))
-      dimensions-back ideal-back
+      session-same s (configAt words) _ _ _ (dimensionsAt words 30) (idealAt words) _ config-back (phase-back (s .phase)) (first-back (s .«discovery_trial_id»)) refl
+      dimensions-back ideal-back refl

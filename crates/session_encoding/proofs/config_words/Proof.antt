@@ -1,6 +1,6 @@
 -- Field by field.
 use Rattle.session_encoding.proofs.Laid.{config-laid}
-use borrow.Author.Needs.{needs}
+use native.Mathlib.Omega.{arith}
 use Rattle.session_encoding.proofs.config_words.Statement.{statement}
 use Rattle.session_encoding.proofs.config_words.Tie as tie
 
@@ -17,28 +17,28 @@ word-of-real-requires-3 : tie.Need-word-of-real-requires-3
 word-of-real-requires-3 c κs = tt
 
 array-read-t13 : tie.Need-array-read-t13
-array-read-t13 c = search needs
+array-read-t13 c = omega arith
 
 array-read-t16 : tie.Need-array-read-t16
-array-read-t16 c = search needs
+array-read-t16 c = omega arith
 
 array-read-t19 : tie.Need-array-read-t19
-array-read-t19 c = search needs
+array-read-t19 c = omega arith
 
 array-read-t22 : tie.Need-array-read-t22
-array-read-t22 c = search needs
+array-read-t22 c = omega arith
 
 array-read-t25 : tie.Need-array-read-t25
-array-read-t25 c = search needs
+array-read-t25 c = omega arith
 
 array-read-t28 : tie.Need-array-read-t28
-array-read-t28 c = search needs
+array-read-t28 c = omega arith
 
 array-read-t31 : tie.Need-array-read-t31
-array-read-t31 c = search needs
+array-read-t31 c = omega arith
 
 array-read-t34 : tie.Need-array-read-t34
-array-read-t34 c = search needs
+array-read-t34 c = omega arith
 
 returns : tie.Need-returns
 returns c =
