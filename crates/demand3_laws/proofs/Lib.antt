@@ -1,3 +1,4 @@
+pub mod Passed
 pub mod Counts
 pub mod Fronts
 pub mod Covered

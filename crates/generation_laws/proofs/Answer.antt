@@ -23,12 +23,13 @@ use Rattle.model.specs.Kept.{selected}
 use Rattle.model.specs.Setting.{Operators, Generation, wordsOf, WordsWithin, sampleCandidates, parentsOf, offspringOf, rankOf, generationOf, generationOfOne, byPool, generation}
 use Rattle.model.specs.Refusal.{badDimensions, stepRefusal}
 use Rattle.model.specs.Calls.{wordRequest, Lent, roomOf, SelectExit, answered, selectAccepted, selectBy, selectOf, Selects, StepExit, stepAccepted, stepBy, stepOf, Steps}
+use Rattle.demand3_laws.proofs.Passed.{passed, one-to-1024}
 use Rattle.demand3_laws.proofs.Calls.{planAt-row, steps}
 use Rattle.candidate_laws.proofs.Sound.{AllHeld}
 use Rattle.candidate_laws.proofs.KeptPlans.{kept-length, kept-below}
 use Rattle.candidate_laws.proofs.Generations.{generation-words}
 use Rattle.generation_laws.specs.Bred.{rankAt, bredFrom, exit}
-use Rattle.generation_laws.proofs.Accepted.{passed, sized, selects}
+use Rattle.generation_laws.proofs.Accepted.{selects}
 use Rattle.generation_laws.proofs.Breeding.{offspring-same}
 
 parents-length : (dims : ℕ → Distribution) (n : ℕ) (plans : ℕ → Plan) (ps : List ℕ) (s : ℕ) → length (parentsOf dims n plans ps s .value) ≡ length ps
@@ -91,7 +92,7 @@ module _ (o : Operators) (pool directions : List ℕ) (divisions size : ℕ) (g 
           let taken : take size (x .slices .kept) ≡ selected r .kept = ap (take size) kept-is ∙ over-take (selected r .kept) (at .kept) size (kept-length r) in
           let ps = parentsOf (o .dims) (o .dimCount) (planAt pool) (selected r .kept) (selected r .state) in
           let z : length (ps .value) ≡ size = parents-length (o .dims) (o .dimCount) (planAt pool) (selected r .kept) (selected r .state) ∙ kept-length r in
-          let some : 0 < size = sized (passed o r (roomOf at) (length old) refused) .0 in
+          let some : 0 < size = one-to-1024 size (passed o r (roomOf at) (length old) refused .size) .0 in
           ap₂ (λ k s. let p = parentsOf (o .dims) (o .dimCount) (planAt pool) k s in offspringOf o (p .value) (rankAt pool directions (x .slices .kept)) size (p .state)) taken state-is
           ∙ offspring-same o (ps .value) (rankAt pool directions (x .slices .kept)) (rankAt pool directions (selected r .kept)) (omega arith)
           (λ i h. ap (frontOf (rowBeats directions (planAt pool)) (planCount pool)) (place-is i (omega arith)))

@@ -31,3 +31,8 @@ passed-over c cs e = rw e
 pub last-one : (a b c : Check) → c .applies ≡ false → firstOf (a ∷ b ∷ c ∷ []) ≡ firstOf (a ∷ b ∷ [])
 unfolding firstOf
 last-one a b c e = rw e
+
+-- one that applies is the first
+pub applies-first : (c : Check) (cs : List Check) → c .applies ≡ true → firstOf (c ∷ cs) ≡ some (c .number)
+unfolding firstOf
+applies-first c cs e = rw e

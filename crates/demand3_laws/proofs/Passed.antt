@@ -1,0 +1,102 @@
+-- A call that meets no refusal passes each test, and what each test rules out.
+use Prim.Native.Nat.{ℕ, _≤_, _<_}
+use mathlib.Core.Path.{_≡_, refl}
+use mathlib.Core.Bool.{true, false}
+use mathlib.Core.List.{List, List·Memᴰ·head, List·Memᴰ·tail}
+use mathlib.Core.Option.{none}
+use native.Mathlib.Omega.{arith}
+use lib.Dec.{eqb, leb, ltb}
+use lib.ListN.{length}
+use borrow.Author.Tests.{eqb-false, leb-true, ltb-false, not-false}
+use Rattle.model.specs.Lists.{allBelow}
+use Rattle.model.specs.Association.{Request, objectives}
+use Rattle.model.specs.Setting.{Operators}
+use Rattle.model.specs.Refusal.{Room, badDirections, badSize, badDivisions, badOperators, badDimensions, badCount, badPool, badParents, noRoom, noStepRoom, goodPlan, goodIdeal, selectRefusal, stepRefusal}
+use Rattle.list_laws.proofs.Bools.{or-left, or-right, and-left, and-right}
+use Rattle.list_laws.proofs.Checks.{applies-not}
+use Rattle.list_laws.proofs.Tests.{allBelow-each}
+
+-- ---- what each test rules out
+
+pub some-objectives : (marks : List ℕ) → badDirections marks ≡ false → (1 ≤ length marks) × (length marks ≤ 8)
+unfolding badDirections
+some-objectives marks h =
+    let e = not-false _ (or-left _ _ h) in
+    (leb-true 1 (length marks) (and-left _ _ e), leb-true (length marks) 8 (and-right (leb 1 (length marks)) _ e))
+
+-- a size or a count is 1 to 1,024
+pub one-to-1024 : (n : ℕ) → badCount n ≡ false → (0 < n) × (n ≤ 1024)
+one-to-1024 n e =
+    let h = eqb-false n 0 (or-left (eqb n 0) (ltb 1024 n) e) in
+    (omega arith, ltb-false 1024 n (or-right (eqb n 0) (ltb 1024 n) e))
+
+-- each plan and the ideal are good
+module _ (r : Request) (e : badPool r ≡ false) where
+  pub pool-plans : allBelow (λ p. goodPlan (objectives r) (r .plans p)) (r .count) ≡ true
+  unfolding badPool
+  pool-plans = and-left (allBelow (λ p. goodPlan (objectives r) (r .plans p)) (r .count)) _ (not-false _ e)
+
+  pub pool-ideal : goodIdeal (objectives r) (r .ideal) ≡ true
+  unfolding badPool
+  pool-ideal = and-right (allBelow (λ p. goodPlan (objectives r) (r .plans p)) (r .count)) _ (not-false _ e)
+
+  pub pool-plan : (p : ℕ) → p < r .count → goodPlan (objectives r) (r .plans p) ≡ true
+  pool-plan = allBelow-each (λ p. goodPlan (objectives r) (r .plans p)) (r .count) pool-plans
+
+-- each lent slice has room
+pub room-each : (r : Request) (room : Room) → noRoom r room ≡ false → (r .size ≤ room .kept) × (r .count ≤ room .fronts) × (r .count ≤ room .lines)
+unfolding noRoom
+room-each r room e =
+    let rest = or-right (ltb (room .kept) (r .size)) _ e in (
+      ltb-false (room .kept) (r .size) (or-left _ _ e),
+      ltb-false (room .fronts) (r .count) (or-left _ _ rest),
+      ltb-false (room .lines) (r .count) (or-right (ltb (room .fronts) (r .count)) _ rest),
+    )
+
+-- ---- a selection
+
+pub record SelectPassed (r : Request) (room : Room) : Type 0 where
+  pub directions : badDirections (r .marks) ≡ false
+  pub size : badSize (r .size) ≡ false
+  pub divisions : badDivisions (objectives r) (r .divisions) ≡ false
+  pub count : badCount (r .count) ≡ false
+  pub pool : badPool r ≡ false
+  pub slices : noRoom r room ≡ false
+
+pub select-passed : (r : Request) (room : Room) → selectRefusal r room ≡ none → SelectPassed r room
+unfolding selectRefusal
+select-passed r room e = record {
+  directions = applies-not (List·Memᴰ·head refl) e;
+  size = applies-not (List·Memᴰ·tail (List·Memᴰ·head refl)) e;
+  divisions = applies-not (List·Memᴰ·tail (List·Memᴰ·tail (List·Memᴰ·head refl))) e;
+  count = applies-not (List·Memᴰ·tail (List·Memᴰ·tail (List·Memᴰ·tail (List·Memᴰ·head refl)))) e;
+  pool = applies-not (List·Memᴰ·tail (List·Memᴰ·tail (List·Memᴰ·tail (List·Memᴰ·tail (List·Memᴰ·head refl))))) e;
+  slices = applies-not (List·Memᴰ·tail (List·Memᴰ·tail (List·Memᴰ·tail (List·Memᴰ·tail (List·Memᴰ·tail (List·Memᴰ·head refl)))))) e;
+}
+
+-- ---- a generation step
+
+pub record Passed (o : Operators) (r : Request) (room : Room) (offspring : ℕ) : Type 0 where
+  pub directions : badDirections (r .marks) ≡ false
+  pub size : badSize (r .size) ≡ false
+  pub divisions : badDivisions (objectives r) (r .divisions) ≡ false
+  pub operators : badOperators (o .probability) (o .crossoverEta) (o .mutationEta) ≡ false
+  pub dimensions : badDimensions (o .dims) (o .dimCount) ≡ false
+  pub count : badCount (r .count) ≡ false
+  pub pool : badPool r ≡ false
+  pub parents : badParents o r ≡ false
+  pub slices : noStepRoom o r room offspring ≡ false
+
+pub passed : (o : Operators) (r : Request) (room : Room) (offspring : ℕ) → stepRefusal o r room offspring ≡ none → Passed o r room offspring
+unfolding stepRefusal
+passed o r room offspring e = record {
+  directions = applies-not (List·Memᴰ·head refl) e;
+  size = applies-not (List·Memᴰ·tail (List·Memᴰ·head refl)) e;
+  divisions = applies-not (List·Memᴰ·tail (List·Memᴰ·tail (List·Memᴰ·head refl))) e;
+  operators = applies-not (List·Memᴰ·tail (List·Memᴰ·tail (List·Memᴰ·tail (List·Memᴰ·head refl)))) e;
+  dimensions = applies-not (List·Memᴰ·tail (List·Memᴰ·tail (List·Memᴰ·tail (List·Memᴰ·tail (List·Memᴰ·head refl))))) e;
+  count = applies-not (List·Memᴰ·tail (List·Memᴰ·tail (List·Memᴰ·tail (List·Memᴰ·tail (List·Memᴰ·tail (List·Memᴰ·head refl)))))) e;
+  pool = applies-not (List·Memᴰ·tail (List·Memᴰ·tail (List·Memᴰ·tail (List·Memᴰ·tail (List·Memᴰ·tail (List·Memᴰ·tail (List·Memᴰ·head refl))))))) e;
+  parents = applies-not (List·Memᴰ·tail (List·Memᴰ·tail (List·Memᴰ·tail (List·Memᴰ·tail (List·Memᴰ·tail (List·Memᴰ·tail (List·Memᴰ·tail (List·Memᴰ·head refl)))))))) e;
+  slices = applies-not (List·Memᴰ·tail (List·Memᴰ·tail (List·Memᴰ·tail (List·Memᴰ·tail (List·Memᴰ·tail (List·Memᴰ·tail (List·Memᴰ·tail (List·Memᴰ·tail (List·Memᴰ·head refl))))))))) e;
+}
