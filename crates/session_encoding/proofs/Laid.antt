@@ -11,7 +11,7 @@ use Rattle.model.specs.declared.Session.{Session}
 use Rattle.model.specs.Lists.{joinBelow, over}
 use Rattle.model.specs.Real.{bits}
 use Rattle.model.specs.Session.{overAt, dimensionOf}
-use Rattle.session_words.specs.Coding.{dimensionWords, eight, configWords, stateWords, idealWords, sessionWords}
+use Rattle.session_words.specs.Coding.{phaseWord, hasFirst, firstWord, dimensionWords, eight, configWords, stateWords, idealWords, sessionWords}
 
 pub dimension-length : (x : Distribution) → length (dimensionWords x) ≡ 6
 dimension-length (dist.Float d) = refl
@@ -28,6 +28,11 @@ pub config-laid : (c : Config) (m : List ℕ) (p e u : ℕ) → m ≡ eight (λ 
     ∷ c .divisions ∷ c .«population_size» ∷ p ∷ e ∷ u ∷ []) ≡ configWords c
 unfolding configWords
 config-laid c m p e u hm hp he hu = rw (hm, hp, he, hu)
+
+pub state-laid : (s : Session) (p has plan : ℕ) → p ≡ phaseWord (s .phase) → has ≡ hasFirst (s .«discovery_trial_id») → plan ≡ firstWord (s .«discovery_trial_id»)
+    → (p ∷ has ∷ plan ∷ s .rng .s ∷ s .progress .«n_dims» ∷ s .progress .«n_candidates» ∷ s .progress .«n_plans» ∷ s .progress .generation ∷ []) ≡ stateWords s
+unfolding stateWords
+state-laid s p has plan a b c = rw (a, b, c)
 
 pub session-laid : (s : Session) (w w1 w2 w3 w4 cs ss zs : List ℕ) → cs ≡ configWords (s .config) → w1 ≡ overAt 0 cs w → ss ≡ stateWords s → w2 ≡ overAt 14 ss w1
     → zs ≡ idealWords (s .«ideal_point») → w3 ≡ overAt 22 zs w2 → w4 ≡ overAt 30 (joinBelow (λ d. dimensionWords (dimensionOf s d)) 32) w3

@@ -27,6 +27,7 @@ use Rattle.model.specs.declared.Session.{Session}
 use Rattle.model.specs.Lists.{one, listBelow, joinBelow, over}
 use Rattle.model.specs.Real.{real, bits}
 use Rattle.model.specs.Session.{dimensionOf, noDimension}
+use Rattle.settings.proofs.InBounds.{Held}
 use Rattle.session_words.specs.Coding.{marked, hasStepF64, stepWordF64, hasStepI64, stepWordI64, dimensionWords, stepF64, stepI64, dimensionAt, infoAt, dimensionsAt, phaseWord, phaseOf, hasFirst, firstWord, firstOf, configWords, stateWords, idealWords, sessionWords, marksAt, idealAt, configAt, sessionOf}
 use Rattle.session_words.proofs.Marks.{float-is, int-is, dimension-same, config-same, session-same}
 use Rattle.session_encoding.proofs.Laid.{dimension-length}
@@ -38,10 +39,10 @@ abbrev pub DoubleStep : OptionF64 → Type 0
 DoubleStep optF64.None = Unit
 DoubleStep (optF64.Some x) = T (fits binary64 x)
 
-abbrev pub Doubles : Distribution → Type 0
-Doubles (dist.Float d) = T (fits binary64 (d .low)) × T (fits binary64 (d .high)) × DoubleStep (d .step)
-Doubles (dist.Int d) = Unit
-Doubles (dist.Categorical d) = Unit
+abbrev pub DoubleSteps : Distribution → Type 0
+DoubleSteps (dist.Float d) = DoubleStep (d .step)
+DoubleSteps (dist.Int d) = Unit
+DoubleSteps (dist.Categorical d) = Unit
 
 pub record ConfigStored (c : Config) : Type 0 where
   pub marks : length (c .directions) ≡ 8
@@ -53,7 +54,8 @@ pub record ConfigStored (c : Config) : Type 0 where
 pub record Stored (s : Session) : Type 0 where
   pub config : ConfigStored (s .config)
   pub dimensions : length (s .dimensions) ≡ 32
-  pub doubles : (d : ℕ) → d < 32 → Doubles (dimensionOf s d)
+  pub held : (d : ℕ) → d < 32 → Held (dimensionOf s d)
+  pub steps : (d : ℕ) → d < 32 → DoubleSteps (dimensionOf s d)
   pub ideal : length (s .«ideal_point») ≡ 8
   pub reals : (i : ℕ) → i < 8 → T (fits binary64 (getD (s .«ideal_point») i nan))
 
@@ -71,14 +73,14 @@ stepI64-back : (o : OptionI64) → o ≡ stepI64 (hasStepI64 o) (stepWordI64 o)
 stepI64-back optI64.None = refl
 stepI64-back (optI64.Some n) = ap optI64.Some (sym (int-of-word-of n))
 
-dimension-back : (x : Distribution) → Doubles x → x ≡ dimensionAt (dimensionWords x) 0
-dimension-back (dist.Float d) h =
+dimension-back : (x : Distribution) → Held x → DoubleSteps x → x ≡ dimensionAt (dimensionWords x) 0
+dimension-back (dist.Float d) h t =
     float-is 0 _ _ (one (d .«log_scale»)) (hasStepF64 (d .step)) (stepWordF64 (d .step)) (d .low) (d .high) (d .«log_scale») (d .step) refl (sym (ofBits-toBits binary64 (d .low) (h .0))) (sym (ofBits-toBits binary64 (d .high) (h .1)))
-    (marked-back (d .«log_scale»)) (stepF64-back (d .step) (h .2))
-dimension-back (dist.Int d) h =
+    (marked-back (d .«log_scale»)) (stepF64-back (d .step) t)
+dimension-back (dist.Int d) h t =
     int-is 1 _ _ (one (d .«log_scale»)) (hasStepI64 (d .step)) (stepWordI64 (d .step)) (d .low) (d .high) (d .«log_scale») (d .step) refl (sym (int-of-word-of (d .low))) (sym (int-of-word-of (d .high))) (marked-back (d .«log_scale»))
     (stepI64-back (d .step))
-dimension-back (dist.Categorical d) h = refl
+dimension-back (dist.Categorical d) h t = refl
 
 -- words that agree in six places stand for one dimension
 same-six : (v w : List ℕ) (at : ℕ) → ((j : ℕ) → j < 6 → getD v (at + j) 0 ≡ getD w j 0) → dimensionAt v at ≡ dimensionAt w 0
@@ -130,7 +132,7 @@ module _ (s : Session) (old : List ℕ) (ok : Stored s) where
   info-back : (d : ℕ) → d < 32 → infoAt words 30 d ≡ getD (s .dimensions) d noDimension
   info-back d h =
       ap (λ x. record { distribution = x })
-      (same-six words (block d) (30 + d * 6) (λ j i. word-of d j h i) ∙ sym (dimension-back (dimensionOf s d) (ok .doubles d h)))
+      (same-six words (block d) (30 + d * 6) (λ j i. word-of d j h i) ∙ sym (dimension-back (dimensionOf s d) (ok .held d h) (ok .steps d h)))
 
   dimensions-back : dimensionsAt words 30 ≡ s .dimensions
   unfolding dimensionsAt
