@@ -16,7 +16,7 @@ use Rattle.model.specs.Setting.{Children, children, exponentOf, crossover, muta
 use Rattle.model.specs.Refusal.{wholeEta, badOperators}
 use borrow.Author.Tests.{not-false}
 use Rattle.settings.specs.Candidate.{parentAt, parentsIn}
-use Rattle.settings.proofs.Candidates.{winner-below}
+use Rattle.settings.proofs.Candidates.{drawn-more, winner-below}
 use Rattle.genetic.specs.Parents.{operators}
 
 module _ (T : ℕ → Drawn ℕ) (X : List ParamValue → List ParamValue → ℕ → Drawn Children) (M : List ParamValue → ℕ → Drawn (List ParamValue)) (get : ℕ → List ParamValue) where
@@ -27,8 +27,7 @@ module _ (T : ℕ → Drawn ℕ) (X : List ParamValue → List ParamValue → �
   chain : (s i t j u v w z : ℕ) (A B C D : List ParamValue) → drawn i t ≡ T s → drawn j u ≡ T t → drawn (children A B) v ≡ X (get i) (get j) u → drawn C w ≡ M A v → drawn D z ≡ M B w
       → drawn (children C D) z ≡ mutated (X (get (T s .value)) (get (T (T s .state) .value)) (T (T s .state) .state))
   chain s i t j u v w z A B C D e1 e2 e3 e4 e5 =
-      ap (λ (b : Drawn (List ParamValue)). drawn (children C (b .value)) (b .state)) e5
-      ∙ ap (λ (a : Drawn (List ParamValue)). drawn (children (a .value) (M B (a .state) .value)) (M B (a .state) .state)) e4
+      drawn-more (λ (a b : List ParamValue). children a b) (M B) e4 e5
       ∙ ap mutated e3
       ∙ ap (λ (q : Drawn ℕ). mutated (X (get i) (get (q .value)) (q .state))) e2
       ∙ ap (λ (p : Drawn ℕ). mutated (X (get (p .value)) (get (T (p .state) .value)) (T (p .state) .state))) e1
