@@ -22,12 +22,12 @@ pub six-laid : (kind : ℕ) {low high log has step low′ high′ log′ has′ 
     → (kind ∷ low ∷ high ∷ log ∷ has ∷ step ∷ []) ≡ (kind ∷ low′ ∷ high′ ∷ log′ ∷ has′ ∷ step′ ∷ [])
 six-laid kind p q r t u = rw (p, q, r, t, u)
 
-pub config-laid : (c : Config) (m : List ℕ) (p e u : ℕ) → m ≡ eight (λ i. getD (c .directions) i 0) → p ≡ bits (c .«crossover_prob»)
-    → e ≡ bits (c .«crossover_eta») → u ≡ bits (c .«mutation_eta»)
-    → (c .«n_obj» ∷ getD m 0 0 ∷ getD m 1 0 ∷ getD m 2 0 ∷ getD m 3 0 ∷ getD m 4 0 ∷ getD m 5 0 ∷ getD m 6 0 ∷ getD m 7 0
-    ∷ c .divisions ∷ c .«population_size» ∷ p ∷ e ∷ u ∷ []) ≡ configWords c
+pub config-laid : (x : Config) {a b c d e f g h p q r : ℕ} → (a ∷ b ∷ c ∷ d ∷ e ∷ f ∷ g ∷ h ∷ []) ≡ eight (λ i. getD (x .directions) i 0) → p ≡ bits (x .«crossover_prob»)
+    → q ≡ bits (x .«crossover_eta») → r ≡ bits (x .«mutation_eta»)
+    → (x .«n_obj» ∷ a ∷ b ∷ c ∷ d ∷ e ∷ f ∷ g ∷ h ∷ x .divisions ∷ x .«population_size» ∷ p ∷ q ∷ r ∷ []) ≡ configWords x
 unfolding configWords
-config-laid c m p e u hm hp he hu = rw (hm, hp, he, hu)
+config-laid x {p = p} {q = q} {r = r} m hp hq hr =
+    ap (λ l. x .«n_obj» ∷ l ++ (x .divisions ∷ x .«population_size» ∷ p ∷ q ∷ r ∷ [])) m ∙ rw (hp, hq, hr)
 
 pub state-laid : (s : Session) (p has plan : ℕ) → p ≡ phaseWord (s .phase) → has ≡ hasFirst (s .«discovery_trial_id») → plan ≡ firstWord (s .«discovery_trial_id»)
     → (p ∷ has ∷ plan ∷ s .rng .s ∷ s .progress .«n_dims» ∷ s .progress .«n_candidates» ∷ s .progress .«n_plans» ∷ s .progress .generation ∷ []) ≡ stateWords s
