@@ -14,7 +14,7 @@ use Rattle.model.specs.declared.ParamValue.{ParamValue}
 use Rattle.model.specs.Lists.{allBelow, listBelow, over}
 use Rattle.model.specs.Draw.{Drawn, drawn, drawUsize}
 use Rattle.model.specs.Plan.{planAt, planCount}
-use Rattle.model.specs.Setting.{wordsOf, exponentOf, crossover, mutate, Children, children, Operators, tournament, brood, broods, offspringOf, parentsOf}
+use Rattle.model.specs.Setting.{wordsOf, Children, Operators, tournament, brood, broods, offspringOf, parentsOf}
 use Rattle.model.specs.Refusal.{badDimensions, breedable}
 use Rattle.settings.specs.Candidate.{parentAt, parentsIn}
 use Rattle.candidate_laws.proofs.Sound.{AllHeld, AllSound}
@@ -33,19 +33,11 @@ module _ (f g : ℕ → ℕ) (n : ℕ) (some : 0 < n) (same : (i : ℕ) → i < 
       ap₂ (λ (x y : ℕ). drawn (cond (leb x y) (a .value) (b .value)) (b .state)) (same (a .value) (drawUsize-below n s some)) (same (b .value) (drawUsize-below n (a .state) some))
 
 module _ (o : Operators) (ps : List (List ParamValue)) (f g : ℕ → ℕ) (some : 0 < length ps) (same : (i : ℕ) → i < length ps → f i ≡ g i) where
-  -- the children of two winners
-  abbrev of-winners : Drawn ℕ → Drawn ℕ → Drawn Children
-  of-winners p q =
-      let c = crossover (o .dims) (o .dimCount) (o .probability) (exponentOf (o .crossoverEta)) (getD ps (p .value) []) (getD ps (q .value) []) (q .state) in
-      let a = mutate (o .dims) (o .dimCount) (c .value .first) (exponentOf (o .mutationEta)) (c .state) in
-      let b = mutate (o .dims) (o .dimCount) (c .value .second) (exponentOf (o .mutationEta)) (a .state) in
-      drawn (children (a .value) (b .value)) (b .state)
-
   brood-same : (s : ℕ) → brood o ps f s ≡ brood o ps g s
   unfolding brood
   brood-same s =
       let e = tournament-same f g (length ps) some same in
-      ap₂ of-winners (e s) (e (tournament f (length ps) s .state) ∙ ap (λ (d : Drawn ℕ). tournament g (length ps) (d .state)) (e s))
+      rw (e s, e (tournament g (length ps) s .state))
 
   broods-same : (k s : ℕ) → broods o ps f k s ≡ broods o ps g k s
   unfolding broods

@@ -1,5 +1,5 @@
 -- the first i candidates are laid
-use Prim.Native.Nat.{_-_, _*_, _≤_}
+use Prim.Native.Nat.{ℕ, _+_, _-_, _*_, _≤_, _<_}
 use mathlib.Core.Path.{_≡_, ap, _∙_}
 use native.Mathlib.Omega.{arith}
 use borrow.Author.Needs.{needs}
@@ -20,6 +20,10 @@ Inv-loop dims n count out₀ rng₀ i₀ out rng i =
 abbrev μ-loop : tie.MeasureT-loop
 μ-loop dims n count out₀ rng₀ i₀ out rng i = count - i
 
+-- candidate i fits
+row : (s : tie.Start Inv-loop μ-loop) (i : ℕ) → i < s .args .count → i * s .args .n + s .args .n ≤ length (s .args .out .now)
+row s i h = row-within i (s .args .count) (s .args .n) (length (s .args .out .now)) h (s .pre .1)
+
 loop-holds : tie.Need-loop-holds Inv-loop μ-loop
 loop-holds c =
     let a = c .before .args in
@@ -32,14 +36,14 @@ mul-put-candidate : tie.Need-mul-put-candidate Inv-loop μ-loop
 mul-put-candidate c =
     let s = c .before .before .before .before .before in
     let l = c .before .before .before .loop in
-    let f = row-within (l .i) (s .args .count) (s .args .n) (length (s .args .out .now)) (c .before .before .loop-test .taken) (s .pre .1) in
+    let f = row s (l .i) (c .before .before .loop-test .taken) in
     record { fits = omega arith }
 
 put-candidate-requires : tie.Need-put-candidate-requires Inv-loop μ-loop
 put-candidate-requires c κs =
     let s = c .before .before .before .before .before .before in
     let l = c .before .before .before .before .loop in
-    let f = row-within (l .i) (s .args .count) (s .args .n) (length (s .args .out .now)) (c .before .before .before .loop-test .taken) (s .pre .1) in
+    let f = row s (l .i) (c .before .before .before .loop-test .taken) in
     (few _ _ (s .pre .0), omega (arith, l .inv .1 .same))
 
 add-i : tie.Need-add-i Inv-loop μ-loop
@@ -57,7 +61,7 @@ loop-again c =
     let v = c .before .before .before .before .before .before .sample-all in (
       omega arith,
       samples-more (dimensionsOf (a .dims)) (a .n) (a .rng .s) (a .out .now) (l .i) (l .out) _ (l .inv .1) _ _ _ (v .ensures) (words-length (v .result .params) (a .n))
-          (row-within (l .i) (a .count) (a .n) (length (a .out .now)) t (s .pre .1)) (c .before .before .before .put-candidate .ensures),
+          (row s (l .i) t) (c .before .before .before .put-candidate .ensures),
     )
 
 same-length : tie.Need-same-length Inv-loop μ-loop
