@@ -2,7 +2,7 @@
 use Prim.Native.Nat.{ℕ, zero, suc, _+_, _/_, _≤_, _<_}
 use mathlib.Core.Path.{_≡_, refl, ap, ap₂, sym, subst, _∙_}
 use mathlib.Core.Bool.{true, false, cond}
-use mathlib.Core.List.{List, [], _∷_, _++_}
+use mathlib.Core.List.{List}
 use native.Mathlib.Omega.{arith}
 use lib.Dec.{leb}
 use lib.ListN.{length, getD, take, drop}
@@ -14,7 +14,7 @@ use Rattle.model.specs.declared.ParamValue.{ParamValue}
 use Rattle.model.specs.Lists.{allBelow, listBelow, over}
 use Rattle.model.specs.Draw.{Drawn, drawn, drawUsize}
 use Rattle.model.specs.Plan.{planAt, planCount}
-use Rattle.model.specs.Setting.{wordsOf, Children, Operators, tournament, brood, broods, offspringOf, parentsOf}
+use Rattle.model.specs.Setting.{wordsOf, Operators, tournament, brood, broods, offspringOf, parentsOf}
 use Rattle.model.specs.Refusal.{badDimensions, breedable}
 use Rattle.settings.specs.Candidate.{parentAt, parentsIn}
 use Rattle.candidate_laws.proofs.Sound.{AllHeld, AllSound}
@@ -42,14 +42,11 @@ module _ (o : Operators) (ps : List (List ParamValue)) (f g : ℕ → ℕ) (some
   broods-same : (k s : ℕ) → broods o ps f k s ≡ broods o ps g k s
   unfolding broods
   broods-same zero s = refl
-  broods-same (suc k) s =
-      let b = broods o ps f k s in
-      ap (λ (c : Drawn Children). drawn (b .value ++ (c .value .first ∷ c .value .second ∷ [])) (c .state)) (brood-same (b .state))
-      ∙ ap (λ (d : Drawn (List (List ParamValue))). let c = brood o ps g (d .state) in drawn (d .value ++ (c .value .first ∷ c .value .second ∷ [])) (c .state)) (broods-same k s)
+  broods-same (suc k) s = rw (broods-same k s, brood-same (broods o ps g k s .state))
 
   pub offspring-same : (size s : ℕ) → offspringOf o ps f size s ≡ offspringOf o ps g size s
   unfolding offspringOf
-  offspring-same size s = ap (λ (d : Drawn (List (List ParamValue))). drawn (take size (d .value)) (d .state)) (broods-same ((size + 1) / 2) s)
+  offspring-same size s = rw (broods-same ((size + 1) / 2) s)
 
 -- ---- the parents of a kept list
 
