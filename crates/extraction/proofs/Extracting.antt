@@ -1,47 +1,43 @@
 -- A plan's settings, and a candidate made of them place by place.
 use mathlib.Core.Path.{_≡_, refl, sym, ap, _∙_}
-use mathlib.Core.Bool.{Bool, true, false, cond, _&&_, _||_}
+use mathlib.Core.Bool.{true, false, _&&_}
 use mathlib.Core.List.{List, [], _∷_, _++_}
-use Prim.Native.Nat.{ℕ, suc, _+_, _*_, _<_, _≤_, min}
+use Prim.Native.Nat.{ℕ, _+_, _*_, _<_, _≤_, min}
 use native.Mathlib.Nat.{min-eq-left}
 use native.Mathlib.Numerals.{add-one}
 use borrow.Author.Tests.{lt-ltb, le-ltb, le-leb, lt-leb}
-use lib.Dec.{leb}
-use lib.ListN.{length, getD}
+use lib.ListN.{getD}
+use Rattle.list_laws.proofs.Built.{listBelow-length, listBelow-at}
 use Rattle.model.specs.declared.Distribution.{Distribution}
 use Rattle.model.specs.declared.ParamValue.{ParamValue}
 use Rattle.model.specs.Lists.{allBelow, listBelow}
-use Rattle.model.specs.Draw.{Drawn, drawn}
+use Rattle.model.specs.Draw.{drawn}
 use Rattle.model.specs.Plan.{Setting, planOf, planAt}
 use Rattle.model.specs.Setting.{ofWord, sampleRandom, noSetting, sortByParam, extractOne, extract}
 use Rattle.model.specs.Refusal.{namedOnce, fitsDimension, breedable}
+use Rattle.settings.proofs.Candidates.{drawn-more}
 use Rattle.extraction.specs.declared.Entry.{Entry}
-use Rattle.extraction.specs.Entries.{settingAt, asSetting, entryAt, entriesOf, fitsAt}
-use Rattle.extraction.proofs.Entries.{entries-length, entries-at}
+use Rattle.extraction.specs.Entries.{settingAt, entryAt, entriesOf, fitsAt}
 
 pub plan-settings : (words : List ℕ) (i : ℕ) → planAt words i .settings ≡ listBelow (settingAt words (i * 124)) (min (getD words (i * 124 + 27) 0) 32)
 unfolding planOf
 plan-settings words i = refl
 
-pub plan-count : (words : List ℕ) (i : ℕ) → planAt words i .settingCount ≡ getD words (i * 124 + 27) 0
-unfolding planOf
-plan-count words i = refl
-
 pub fits-past : (dims : ℕ → Distribution) (a : List Entry) (count i : ℕ) → count ≤ i → fitsAt dims (entriesOf a count) i ≡ true
-unfolding fitsAt
-fits-past dims a count i h = rw (entries-length a count, le-leb count i h)
+unfolding fitsAt entriesOf
+fits-past dims a count i h = rw (listBelow-length (entryAt a) count, le-leb count i h)
 
 pub fits-here : (dims : ℕ → Distribution) (a : List Entry) (count i : ℕ) → i < count → fitsAt dims (entriesOf a count) i ≡ fitsDimension (dims i) (entryAt a i)
-unfolding fitsAt
-fits-here dims a count i h = rw (entries-length a count, lt-leb count i h, entries-at a count i h)
+unfolding fitsAt entriesOf
+fits-here dims a count i h = rw (listBelow-length (entryAt a) count, lt-leb count i h, listBelow-at (entryAt a) count noSetting i h)
 
 pub one-there : (d : Distribution) (a : List Entry) (count i s : ℕ) → i < count → extractOne d (entriesOf a count) i s ≡ drawn (ofWord (entryAt a i .kind) (entryAt a i .value)) s
-unfolding extractOne
-one-there d a count i s h = rw (entries-length a count, lt-ltb i count h, entries-at a count i h)
+unfolding extractOne entriesOf
+one-there d a count i s h = rw (listBelow-length (entryAt a) count, lt-ltb i count h, listBelow-at (entryAt a) count noSetting i h)
 
 pub one-missing : (d : Distribution) (a : List Entry) (count i s : ℕ) → count ≤ i → extractOne d (entriesOf a count) i s ≡ sampleRandom d s
-unfolding extractOne
-one-missing d a count i s h = rw (entries-length a count, le-ltb i count h)
+unfolding extractOne entriesOf
+one-missing d a count i s h = rw (listBelow-length (entryAt a) count, le-ltb i count h)
 
 pub extract-none : (dims : ℕ → Distribution) (sorted : List Setting) (s : ℕ) → extract dims 0 sorted s ≡ drawn [] s
 unfolding extract
@@ -50,10 +46,7 @@ extract-none dims sorted s = refl
 pub extract-more : (dims : ℕ → Distribution) (n : ℕ) (sorted : List Setting) (s : ℕ) (l : List ParamValue) (t : ℕ) (v : ParamValue) (u : ℕ) → drawn l t ≡ extract dims n sorted s
     → drawn v u ≡ extractOne (dims n) sorted n t → drawn (l ++ (v ∷ [])) u ≡ extract dims (n + 1) sorted s
 unfolding extract
-extract-more dims n sorted s l t v u e f =
-    ap (λ (d : Drawn ParamValue). drawn (l ++ (d .value ∷ [])) (d .state)) f
-    ∙ ap (λ (c : Drawn (List ParamValue)). drawn (c .value ++ (extractOne (dims n) sorted n (c .state) .value ∷ [])) (extractOne (dims n) sorted n (c .state) .state)) e
-    ∙ ap (λ (k : ℕ). extract dims k sorted s) (sym (add-one n))
+extract-more dims n sorted s l t v u e f = drawn-more (λ a b. a ++ (b ∷ [])) (extractOne (dims n) sorted n) e f ∙ ap (λ (k : ℕ). extract dims k sorted s) (sym (add-one n))
 
 -- ---- refusal 9
 

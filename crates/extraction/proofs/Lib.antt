@@ -1,3 +1,2 @@
-pub mod Entries
 pub mod Sorting
 pub mod Extracting

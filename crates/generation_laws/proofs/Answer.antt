@@ -8,7 +8,7 @@ use native.Mathlib.Omega.{arith}
 use borrow.Author.Tests.{lt-ltb, le-ltb}
 use lib.Ieee.{Float}
 use lib.ListN.{length, getD, take}
-use Rattle.list_laws.proofs.Built.{over-take}
+use Rattle.list_laws.proofs.Built.{over-take, over-at}
 use Rattle.model.specs.declared.Distribution.{Distribution}
 use Rattle.model.specs.declared.ParamValue.{ParamValue}
 use Rattle.model.specs.declared.Outcome.the-variants as outcome
@@ -23,13 +23,14 @@ use Rattle.model.specs.Kept.{selected}
 use Rattle.model.specs.Setting.{Operators, Generation, wordsOf, WordsWithin, sampleCandidates, parentsOf, offspringOf, rankOf, generationOf, generationOfOne, byPool, generation}
 use Rattle.model.specs.Refusal.{badDimensions, stepRefusal}
 use Rattle.model.specs.Calls.{wordRequest, Lent, roomOf, SelectExit, answered, selectAccepted, selectBy, selectOf, Selects, StepExit, stepAccepted, stepBy, stepOf, Steps}
+use Rattle.demand3_laws.proofs.Passed.{passed, one-to-1024}
 use Rattle.demand3_laws.proofs.Calls.{planAt-row, steps}
 use Rattle.candidate_laws.proofs.Sound.{AllHeld}
 use Rattle.candidate_laws.proofs.KeptPlans.{kept-length, kept-below}
 use Rattle.candidate_laws.proofs.Generations.{generation-words}
 use Rattle.generation_laws.specs.Bred.{rankAt, bredFrom, exit}
-use Rattle.generation_laws.proofs.Accepted.{passed, sized, selects}
-use Rattle.generation_laws.proofs.Breeding.{offspring-same, front-place}
+use Rattle.generation_laws.proofs.Accepted.{selects}
+use Rattle.generation_laws.proofs.Breeding.{offspring-same}
 
 parents-length : (dims : ℕ → Distribution) (n : ℕ) (plans : ℕ → Plan) (ps : List ℕ) (s : ℕ) → length (parentsOf dims n plans ps s .value) ≡ length ps
 unfolding parentsOf
@@ -76,7 +77,7 @@ module _ (o : Operators) (pool directions : List ℕ) (divisions size : ℕ) (g 
       state-is = ap (λ (y : SelectExit). y .answer .rng .s) e
 
       place-is : (i : ℕ) → i < size → getD (x .slices .kept) i 0 ≡ getD (selected r .kept) i 0
-      place-is i h = ap (λ l. getD l i 0) kept-is ∙ front-place (selected r .kept) (at .kept) i size (kept-length r) h
+      place-is i h = ap (λ l. getD l i 0) kept-is ∙ over-at (selected r .kept) (at .kept) i 0 (omega (arith, kept-length r))
 
       -- its plans are in the pool
       pub kept-in-pool : (i : ℕ) → i < size → getD (x .slices .kept) i 0 < planCount pool
@@ -91,7 +92,7 @@ module _ (o : Operators) (pool directions : List ℕ) (divisions size : ℕ) (g 
           let taken : take size (x .slices .kept) ≡ selected r .kept = ap (take size) kept-is ∙ over-take (selected r .kept) (at .kept) size (kept-length r) in
           let ps = parentsOf (o .dims) (o .dimCount) (planAt pool) (selected r .kept) (selected r .state) in
           let z : length (ps .value) ≡ size = parents-length (o .dims) (o .dimCount) (planAt pool) (selected r .kept) (selected r .state) ∙ kept-length r in
-          let some : 0 < size = sized (passed o r (roomOf at) (length old) refused) .0 in
+          let some : 0 < size = one-to-1024 size (passed o r (roomOf at) (length old) refused .size) .0 in
           ap₂ (λ k s. let p = parentsOf (o .dims) (o .dimCount) (planAt pool) k s in offspringOf o (p .value) (rankAt pool directions (x .slices .kept)) size (p .state)) taken state-is
           ∙ offspring-same o (ps .value) (rankAt pool directions (x .slices .kept)) (rankAt pool directions (selected r .kept)) (omega arith)
           (λ i h. ap (frontOf (rowBeats directions (planAt pool)) (planCount pool)) (place-is i (omega arith)))

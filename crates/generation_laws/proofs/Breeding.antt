@@ -2,19 +2,19 @@
 use Prim.Native.Nat.{ℕ, zero, suc, _+_, _/_, _≤_, _<_}
 use mathlib.Core.Path.{_≡_, refl, ap, ap₂, sym, subst, _∙_}
 use mathlib.Core.Bool.{true, false, cond}
-use mathlib.Core.List.{List, [], _∷_, _++_}
+use mathlib.Core.List.{List}
 use native.Mathlib.Omega.{arith}
 use lib.Dec.{leb}
-use lib.ListN.{length, getD, take, drop, List·getD-append}
+use lib.ListN.{length, getD, take, drop}
 use lib.Seq.{length-take-le, getD-take}
-use Rattle.list_laws.proofs.Built.{listBelow-length, listBelow-at}
+use Rattle.list_laws.proofs.Built.{over-below}
 use Rattle.list_laws.proofs.Tests.{allBelow-each}
 use Rattle.rng_util.proofs.Draws.{drawUsize-below}
 use Rattle.model.specs.declared.ParamValue.{ParamValue}
 use Rattle.model.specs.Lists.{allBelow, listBelow, over}
 use Rattle.model.specs.Draw.{Drawn, drawn, drawUsize}
 use Rattle.model.specs.Plan.{planAt, planCount}
-use Rattle.model.specs.Setting.{wordsOf, exponentOf, crossover, mutate, Children, children, Operators, tournament, brood, broods, offspringOf, parentsOf}
+use Rattle.model.specs.Setting.{wordsOf, Operators, tournament, brood, broods, offspringOf, parentsOf}
 use Rattle.model.specs.Refusal.{badDimensions, breedable}
 use Rattle.settings.specs.Candidate.{parentAt, parentsIn}
 use Rattle.candidate_laws.proofs.Sound.{AllHeld, AllSound}
@@ -33,36 +33,22 @@ module _ (f g : ℕ → ℕ) (n : ℕ) (some : 0 < n) (same : (i : ℕ) → i < 
       ap₂ (λ (x y : ℕ). drawn (cond (leb x y) (a .value) (b .value)) (b .state)) (same (a .value) (drawUsize-below n s some)) (same (b .value) (drawUsize-below n (a .state) some))
 
 module _ (o : Operators) (ps : List (List ParamValue)) (f g : ℕ → ℕ) (some : 0 < length ps) (same : (i : ℕ) → i < length ps → f i ≡ g i) where
-  -- the children of two winners
-  abbrev of-winners : Drawn ℕ → Drawn ℕ → Drawn Children
-  of-winners p q =
-      let c = crossover (o .dims) (o .dimCount) (o .probability) (exponentOf (o .crossoverEta)) (getD ps (p .value) []) (getD ps (q .value) []) (q .state) in
-      let a = mutate (o .dims) (o .dimCount) (c .value .first) (exponentOf (o .mutationEta)) (c .state) in
-      let b = mutate (o .dims) (o .dimCount) (c .value .second) (exponentOf (o .mutationEta)) (a .state) in
-      drawn (children (a .value) (b .value)) (b .state)
-
   brood-same : (s : ℕ) → brood o ps f s ≡ brood o ps g s
   unfolding brood
   brood-same s =
       let e = tournament-same f g (length ps) some same in
-      ap₂ of-winners (e s) (e (tournament f (length ps) s .state) ∙ ap (λ (d : Drawn ℕ). tournament g (length ps) (d .state)) (e s))
+      rw (e s, e (tournament g (length ps) s .state))
 
   broods-same : (k s : ℕ) → broods o ps f k s ≡ broods o ps g k s
   unfolding broods
   broods-same zero s = refl
-  broods-same (suc k) s =
-      let b = broods o ps f k s in
-      ap (λ (c : Drawn Children). drawn (b .value ++ (c .value .first ∷ c .value .second ∷ [])) (c .state)) (brood-same (b .state))
-      ∙ ap (λ (d : Drawn (List (List ParamValue))). let c = brood o ps g (d .state) in drawn (d .value ++ (c .value .first ∷ c .value .second ∷ [])) (c .state)) (broods-same k s)
+  broods-same (suc k) s = rw (broods-same k s, brood-same (broods o ps g k s .state))
 
   pub offspring-same : (size s : ℕ) → offspringOf o ps f size s ≡ offspringOf o ps g size s
   unfolding offspringOf
-  offspring-same size s = ap (λ (d : Drawn (List (List ParamValue))). drawn (take size (d .value)) (d .state)) (broods-same ((size + 1) / 2) s)
+  offspring-same size s = rw (broods-same ((size + 1) / 2) s)
 
 -- ---- the parents of a kept list
-
-pub front-place : (new old : List ℕ) (i n : ℕ) → length new ≡ n → i < n → getD (over new old) i 0 ≡ getD new i 0
-front-place new old i n e h = List·getD-append new (drop (length new) old) 0 i (omega arith)
 
 module _ (o : Operators) (held : AllHeld (o .dims) (o .dimCount)) (good : badDimensions (o .dims) (o .dimCount) ≡ false) (pool directions kept : List ℕ) (size s : ℕ)
     (able : allBelow (λ p. breedable (o .dims) (o .dimCount) (planAt pool p)) (planCount pool) ≡ true) (enough : size ≤ length kept)
@@ -92,6 +78,5 @@ module _ (o : Operators) (held : AllHeld (o .dims) (o .dimCount)) (good : badDim
       ap₂ (λ (w : List (List ParamValue)) (u : ℕ). offspringOf o w (λ i. getD ranks i 0) size u)
       (ap (λ w. parentsIn (o .dims) (o .dimCount) w size) e ∙ read-back old) f
       ∙ offspring-same o (parents .value) (λ i. getD ranks i 0) (rankAt pool directions kept) (omega arith)
-      (λ i h. let l : i < size = omega arith in ap (λ r. getD r i 0) q ∙ front-place (listBelow (rankAt pool directions kept) size) ranks₀ i size (listBelow-length _ size) l
-      ∙ listBelow-at (rankAt pool directions kept) size 0 i l)
+      (λ i h. over-below (rankAt pool directions kept) size ranks ranks₀ i 0 q (omega arith))
       size (parents .state)

@@ -1,72 +1,39 @@
 -- The first refusal of a generation step, test by test.
 use Prim.Native.Nat.{ℕ, _*_, _≤_, _<_}
 use mathlib.Core.Path.{_≡_, refl, sym, _∙_}
-use mathlib.Core.Bool.{Bool, true, false, _&&_, _||_}
-use mathlib.Core.Option.{none, some}
+use mathlib.Core.Bool.{Bool, true, false, _&&_, _||_, or-true, or-false}
+use mathlib.Core.List.{List, [], _∷_}
+use mathlib.Core.Option.{Option}
 use borrow.Author.Tests.{lt-ltb, le-ltb, lt-leb, le-leb}
 use lib.Dec.{leb, ltb}
+use lib.ListN.{drop}
 use Rattle.model.specs.Association.{Request, objectives}
 use Rattle.model.specs.Setting.{Operators}
-use Rattle.model.specs.Refusal.{Room, firstOf, badDirections, badSize, badDivisions, badOperators, badDimensions, badCount, badPool, badParents, noStepRoom, stepRefusal}
+use Rattle.model.specs.Refusal.{Room, Check, check, firstOf, badDirections, badSize, badDivisions, badOperators, badDimensions, badCount, badPool, badParents, noStepRoom, stepRefusal}
 
 module _ (o : Operators) (r : Request) (room : Room) (offspring : ℕ) where
-  pub refused-2 : badDirections (r .marks) ≡ true → some 2 ≡ stepRefusal o r room offspring
-  unfolding stepRefusal firstOf
-  refused-2 a = sym (rw a)
+  -- its tests, and the first that applies of those from the k-th on
+  abbrev checks : List Check
+  checks =
+      check 2 (badDirections (r .marks))
+      ∷ check 3 (badSize (r .size))
+      ∷ check 4 (badDivisions (objectives r) (r .divisions))
+      ∷ check 5 (badOperators (o .probability) (o .crossoverEta) (o .mutationEta))
+      ∷ check 6 (badDimensions (o .dims) (o .dimCount))
+      ∷ check 7 (badCount (r .count))
+      ∷ check 8 (badPool r)
+      ∷ check 9 (badParents o r)
+      ∷ check 10 (noStepRoom o r room offspring)
+      ∷ []
 
-  module _ (a : badDirections (r .marks) ≡ false) where
-    pub refused-3 : badSize (r .size) ≡ true → some 3 ≡ stepRefusal o r room offspring
-    unfolding stepRefusal firstOf
-    refused-3 b = sym (rw (a, b))
+  abbrev pub from : ℕ → Option ℕ
+  from k = firstOf (drop k checks)
 
-    module _ (b : badSize (r .size) ≡ false) where
-      pub refused-4 : badDivisions (objectives r) (r .divisions) ≡ true → some 4 ≡ stepRefusal o r room offspring
-      unfolding stepRefusal firstOf
-      refused-4 c = sym (rw (a, b, c))
-
-      module _ (c : badDivisions (objectives r) (r .divisions) ≡ false) where
-        pub refused-5 : badOperators (o .probability) (o .crossoverEta) (o .mutationEta) ≡ true → some 5 ≡ stepRefusal o r room offspring
-        unfolding stepRefusal firstOf
-        refused-5 d = sym (rw (a, b, c, d))
-
-        module _ (d : badOperators (o .probability) (o .crossoverEta) (o .mutationEta) ≡ false) where
-          pub refused-6 : badDimensions (o .dims) (o .dimCount) ≡ true → some 6 ≡ stepRefusal o r room offspring
-          unfolding stepRefusal firstOf
-          refused-6 e = sym (rw (a, b, c, d, e))
-
-          module _ (e : badDimensions (o .dims) (o .dimCount) ≡ false) where
-            pub refused-7 : badCount (r .count) ≡ true → some 7 ≡ stepRefusal o r room offspring
-            unfolding stepRefusal firstOf
-            refused-7 f = sym (rw (a, b, c, d, e, f))
-
-            module _ (f : badCount (r .count) ≡ false) where
-              pub refused-8 : badPool r ≡ true → some 8 ≡ stepRefusal o r room offspring
-              unfolding stepRefusal firstOf
-              refused-8 g = sym (rw (a, b, c, d, e, f, g))
-
-              module _ (g : badPool r ≡ false) where
-                pub refused-9 : badParents o r ≡ true → some 9 ≡ stepRefusal o r room offspring
-                unfolding stepRefusal firstOf
-                refused-9 h = sym (rw (a, b, c, d, e, f, g, h))
-
-                module _ (h : badParents o r ≡ false) where
-                  pub refused-10 : noStepRoom o r room offspring ≡ true → some 10 ≡ stepRefusal o r room offspring
-                  unfolding stepRefusal firstOf
-                  refused-10 i = sym (rw (a, b, c, d, e, f, g, h, i))
-
-                  pub not-refused : noStepRoom o r room offspring ≡ false → none ≡ stepRefusal o r room offspring
-                  unfolding stepRefusal firstOf
-                  not-refused i = sym (rw (a, b, c, d, e, f, g, h, i))
+  pub from-all : stepRefusal o r room offspring ≡ from 0
+  unfolding stepRefusal
+  from-all = refl
 
 -- ---- a slice is too short: for the offspring, or for what a selection hands out from n plans and a size
-
-or-true : (a : Bool) → (a || true) ≡ true
-or-true true = refl
-or-true false = refl
-
-or-false : (a : Bool) → (a || false) ≡ a
-or-false true = refl
-or-false false = refl
 
 module _ (size n dims kept fronts lines offspring : ℕ) where
   abbrev short : Bool

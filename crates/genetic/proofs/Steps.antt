@@ -2,13 +2,13 @@
 use mathlib.Core.Path.{_≡_, sym, ap, _∙_}
 use mathlib.Core.Bool.{Bool, true, false, cond, not}
 use mathlib.Core.List.{List}
-use Prim.Native.Nat.{ℕ, _<_}
-use native.Mathlib.Omega.{arith}
+use Prim.Native.Nat.{ℕ}
 use lib.Dec.{leb}
 use lib.Ieee.{Float, lt}
 use Rattle.model.specs.declared.Distribution.{Distribution}
 use Rattle.model.specs.declared.ParamValue.{ParamValue}
 use Rattle.model.specs.Draw.{Drawn, drawn, drawUsize}
+use Rattle.settings.proofs.Candidates.{drawn-more}
 use Rattle.model.specs.Setting.{Children, children, drawUnit, crossAll, crossover, tournament}
 
 -- ---- crossover
@@ -31,6 +31,4 @@ module _ (dims : ℕ → Distribution) (n : ℕ) (probability : Float) (k : ℕ)
 pub tournament-is : (ranks : ℕ → ℕ) (n s i t j u : ℕ) (b : Bool) → drawn i t ≡ drawUsize n s → drawn j u ≡ drawUsize n t → leb (ranks i) (ranks j) ≡ b → drawn (cond b i j) u ≡ tournament ranks n s
 unfolding tournament
 tournament-is ranks n s i t j u b e f h =
-    ap (λ (c : Bool). drawn (cond c i j) u) (sym h)
-    ∙ ap (λ (d : Drawn ℕ). drawn (cond (leb (ranks i) (ranks (d .value))) i (d .value)) (d .state)) f
-    ∙ ap (λ (d : Drawn ℕ). drawn (cond (leb (ranks (d .value)) (ranks (drawUsize n (d .state) .value))) (d .value) (drawUsize n (d .state) .value)) (drawUsize n (d .state) .state)) e
+    ap (λ (c : Bool). drawn (cond c i j) u) (sym h) ∙ drawn-more (λ (x y : ℕ). cond (leb (ranks x) (ranks y)) x y) (drawUsize n) e f

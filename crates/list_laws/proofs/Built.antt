@@ -7,7 +7,7 @@ use native.Mathlib.Nat.{not-suc-le-zero, eq-or-lt-of-le}
 use native.Mathlib.Numerals.{add-one}
 use native.Mathlib.Omega.{arith}
 use lib.ListN.{length, getD, set, take, drop, drop-of-length-le, length-append, length-drop, take-append-drop, List·getD-append}
-use lib.Seq.{drop-cons, append-snoc, take-length, set-at, getD-at, ext-getD, length-take-le, getD-take, take-at, drop-at}
+use lib.Seq.{drop-cons, append-snoc, take-length, set-at, getD-at, ext-getD, length-take-le, getD-take, take-at, take-all, drop-at}
 use Rattle.model.specs.Lists.{listBelow, joinBelow, over}
 use Rattle.model.specs.Draw.{Drawn, drawn}
 
@@ -146,3 +146,19 @@ pub drawn-more : {A : Type 0} (draws : ℕ → Drawn (List A)) (pick : Drawn (Li
 drawn-more {A} draws pick n step l t v u e f =
     ap (λ (d : Drawn A). drawn (l ++ (d .value ∷ [])) (d .state)) f
     ∙ ap (λ (c : Drawn (List A)). drawn (c .value ++ (pick c .value ∷ [])) (pick c .state)) e ∙ sym step ∙ ap draws (sym (add-one n))
+
+-- what is left of it past a place, and what lies before one
+module _ {A : Type 0} (f : ℕ → A) where
+  pub listBelow-end : (n : ℕ) → drop n (listBelow f n) ≡ []
+  listBelow-end n = drop-of-length-le (listBelow f n) {i = n} (omega (arith, listBelow-length f n))
+
+  pub listBelow-cut : (n j : ℕ) → j < n → drop j (listBelow f n) ≡ f j ∷ drop (j + 1) (listBelow f n)
+  listBelow-cut n j h =
+      drop-cons (listBelow f n) j (f j) (omega (arith, listBelow-length f n)) ∙ ap₂ (λ v k. v ∷ drop k (listBelow f n)) (listBelow-at f n (f j) j h) (sym (add-one j))
+
+  pub listBelow-front : (k n : ℕ) → k ≤ n → take k (listBelow f n) ≡ listBelow f k
+  listBelow-front k n h = listBelow-take f k (f 0) (listBelow f n) (omega (arith, listBelow-length f n)) (λ t l. listBelow-at f n (f 0) t (omega arith))
+
+  -- a list of n entries that are f 0 .. f (n - 1)
+  pub listBelow-whole : (n : ℕ) (d : A) (l : List A) → length l ≡ n → ((t : ℕ) → t < n → f t ≡ getD l t d) → listBelow f n ≡ l
+  listBelow-whole n d l e g = sym (listBelow-take f n d l (omega arith) (λ t h. sym (g t h))) ∙ take-all n l (omega arith)

@@ -53,3 +53,8 @@ module _ (m : ℕ) (p : Plan) (good : goodPlan m p ≡ true) where
 
   pub good-values : allIn measurable (p .row) ≡ true
   good-values = and-left (allIn measurable (p .row)) _ (and-right (leb (p .constraintCount) maxConstraints) _ after-length)
+
+-- one that applies is the first
+pub applies-first : (c : Check) (cs : List Check) → c .applies ≡ true → firstOf (c ∷ cs) ≡ some (c .number)
+unfolding firstOf
+applies-first c cs e = rw e

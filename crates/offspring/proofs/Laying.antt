@@ -1,36 +1,23 @@
 -- Candidates laid at a slice's front, some after the others, with the generator after them.
-use mathlib.Core.Path.{_≡_, refl, sym, ap, ap₂, subst, _∙_}
-use mathlib.Core.List.{List, [], _∷_, _++_, map, append-assoc, append-nil}
+use mathlib.Core.Path.{_≡_, refl, sym, ap, subst, _∙_}
+use mathlib.Core.List.{List, [], _∷_, _++_, map}
 use Prim.Native.Nat.{ℕ, zero, suc, _+_, _-_, _*_, _/_, _≤_, _<_, min}
 use native.Mathlib.Nat.{add-mul, one-mul, mul-le-mul-right}
 use native.Mathlib.Numerals.{add-one}
 use native.Mathlib.Omega.{arith}
-use lib.ListN.{length, getD, take, drop, length-append}
-use lib.Seq.{length-take-le, take-all, take-suc, take-append-add, drop-append-add}
-use Rattle.list_laws.proofs.Built.{over-length}
+use lib.ListN.{length, getD, take, length-append}
+use lib.Seq.{take-all, take-suc, take-append-add}
 use Rattle.model.specs.declared.Distribution.{Distribution}
 use Rattle.model.specs.declared.ParamValue.{ParamValue}
-use Rattle.model.specs.Lists.{over}
 use Rattle.model.specs.Draw.{Drawn, drawn}
 use Rattle.model.specs.Plan.{Plan}
 use Rattle.model.specs.Setting.{toWord, wordsOf, extract, sortByParam, parentsOf, Operators, Children, children, brood, broods, offspringOf}
 use Rattle.model.specs.Session.{overAt}
-use Rattle.candidates.proofs.Laid.{over-next, at-next}
-
--- ---- words
-
-words-append : (a b : List (List ParamValue)) → wordsOf (a ++ b) ≡ wordsOf a ++ wordsOf b
-unfolding wordsOf
-words-append [] b = refl
-words-append (c ∷ a) b = ap (λ t. map toWord c ++ t) (words-append a b) ∙ sym (append-assoc (map toWord c) (wordsOf a) (wordsOf b))
-
-words-one : (a : List ParamValue) → wordsOf (a ∷ []) ≡ map toWord a
-unfolding wordsOf
-words-one a = append-nil (map toWord a)
+use Rattle.candidates.proofs.Laid.{at-next, words-one, LaidOut, laid-none, laid-more, laid-next}
 
 words-two : (a b : List ParamValue) → wordsOf (a ∷ b ∷ []) ≡ map toWord a ++ map toWord b
 unfolding wordsOf
-words-two a b = ap (λ t. map toWord a ++ t) (append-nil (map toWord b))
+words-two a b = ap (λ t. map toWord a ++ t) (words-one b)
 
 -- ---- two children, or the first where there is room for it only
 
@@ -45,39 +32,13 @@ module _ (a b : List ParamValue) (n at size : ℕ) (l l′ l″ : List ℕ) (fir
   pub both : length (map toWord a) ≡ n → at * n ≤ length l → at + 1 < size → l″ ≡ overAt (at * n + n) (map toWord b) l′
       → l″ ≡ overAt (at * n) (wordsOf (take (size - at) (a ∷ b ∷ []))) l
   both z h room second =
-      second ∙ ap (overAt (at * n + n) (map toWord b)) first ∙ at-next (at * n) n (map toWord a) (map toWord b) l h z
+      second ∙ ap (overAt (at * n + n) (map toWord b)) first ∙ at-next (at * n) (at * n + n) (map toWord a) (map toWord b) l h (ap (λ k. at * n + k) z)
       ∙ ap (λ t. overAt (at * n) t l) (sym (words-two a b) ∙ ap wordsOf (sym (take-all (size - at) (a ∷ b ∷ []) (omega arith))))
 
   pub one : at < size → size ≤ at + 1 → l′ ≡ overAt (at * n) (wordsOf (take (size - at) (a ∷ b ∷ []))) l
   one h room =
       let e : size - at ≡ 1 = omega arith in
       first ∙ ap (λ t. overAt (at * n) t l) (sym (words-one a)) ∙ ap (λ k. overAt (at * n) (wordsOf (take k (a ∷ b ∷ []))) l) (sym e)
-
--- ---- the loops' state
-
-pub record LaidOut (old : List ℕ) (k : ℕ) (d : Drawn (List (List ParamValue))) (out : List ℕ) (t : ℕ) : Type 0 where
-  pub same : length out ≡ length old
-  pub words : length (wordsOf (d .value)) ≡ k
-  pub written : out ≡ over (wordsOf (d .value)) old
-  pub state : t ≡ d .state
-
-laid-none : (old : List ℕ) (s : ℕ) → LaidOut old 0 (drawn [] s) old s
-unfolding wordsOf
-laid-none old s = record { same = refl; words = refl; written = refl; state = refl }
-
-laid-more : (old : List ℕ) (k : ℕ) (d : Drawn (List (List ParamValue))) (out : List ℕ) (t : ℕ) → LaidOut old k d out t
-    → (cs : List (List ParamValue)) (w : ℕ) (out′ : List ℕ) (u : ℕ) → length (wordsOf cs) ≡ w → k + w ≤ length old → out′ ≡ overAt k (wordsOf cs) out
-    → LaidOut old (k + w) (drawn (d .value ++ cs) u) out′ u
-laid-more old k d out t h cs w out′ u z room e =
-    let count : length (wordsOf (d .value ++ cs)) ≡ k + w = ap length (words-append (d .value) cs) ∙ length-append (wordsOf (d .value)) (wordsOf cs) ∙ omega (arith, h .words) in
-    let put : out′ ≡ over (wordsOf (d .value ++ cs)) old = e ∙ ap (overAt k (wordsOf cs)) (h .written) ∙ over-next (wordsOf (d .value)) (wordsOf cs) old k (h .words)
-    ∙ ap (λ x. over x old) (sym (words-append (d .value) cs)) in
-    record {
-      same = ap length put ∙ over-length (wordsOf (d .value ++ cs)) old (omega (arith, count));
-      words = count;
-      written = put;
-      state = refl;
-    }
 
 -- ---- parents
 
@@ -103,18 +64,13 @@ module _ (dims : ℕ → Distribution) (n : ℕ) (plans : ℕ → Plan) where
 
     pub parents-none : (old : List ℕ) → LaidOut old (0 * n) (parentsTo 0) old s
     unfolding parentsOf
-    parents-none old = subst (λ k. LaidOut old k (drawn [] s) old s) (omega arith) (laid-none old s)
+    parents-none old = laid-none old n s
 
     pub parents-more : (old : List ℕ) (i : ℕ) (out : List ℕ) (t : ℕ) → LaidOut old (i * n) (parentsTo i) out t → i < length kept
         → (v : List ParamValue) (u : ℕ) (out′ : List ℕ) → drawn v u ≡ settings-of (getD kept i 0) t → length (map toWord v) ≡ n → i * n + n ≤ length old
         → out′ ≡ overAt (i * n) (map toWord v) out → LaidOut old ((i + 1) * n) (parentsTo (i + 1)) out′ u
     parents-more old i out t h l v u out′ e z room put =
-        let g : drawn v u ≡ settings-of (getD kept i 0) (parentsTo i .state) = e ∙ ap (settings-of (getD kept i 0)) (h .state) in
-        let k : i * n + n ≡ (i + 1) * n = sym (add-mul i 1 n ∙ ap (λ t. i * n + t) (one-mul n)) in
-        let m = laid-more old (i * n) (parentsTo i) out t h (v ∷ []) n out′ u (ap length (words-one v) ∙ z) room (put ∙ ap (λ w. overAt (i * n) w out) (sym (words-one v))) in
-        subst (λ d. LaidOut old ((i + 1) * n) d out′ u)
-        (ap (λ (d : Drawn (List ParamValue)). drawn (parentsTo i .value ++ (d .value ∷ [])) (d .state)) g ∙ sym (parents-next i l))
-        (subst (λ j. LaidOut old j (drawn (parentsTo i .value ++ (v ∷ [])) u) out′ u) k m)
+        subst (λ d. LaidOut old ((i + 1) * n) d out′ u) (sym (parents-next i l)) (laid-next (settings-of (getD kept i 0)) old n i (parentsTo i) out t h v u out′ e z room put)
 
 -- ---- offspring
 
@@ -154,9 +110,8 @@ module _ (o : Operators) (parents : List (List ParamValue)) (ranks : ℕ → ℕ
     pub bred-none : (old : List ℕ) (n : ℕ) → LaidOut old (min (2 * 0) size * n) (bredBy 0) old s
     unfolding broods
     bred-none old n =
-        let m : min (2 * 0) size ≡ 0 = omega arith in
-        let e : min (2 * 0) size * n ≡ 0 = ap (λ j. j * n) m ∙ omega arith in
-        subst (λ l. LaidOut old (min (2 * 0) size * n) (drawn l s) old s) (sym (take-all size [] (omega arith))) (subst (λ k. LaidOut old k (drawn [] s) old s) (sym e) (laid-none old s))
+        let m : 0 ≡ min (2 * 0) size = omega arith in
+        subst (λ l. LaidOut old (min (2 * 0) size * n) (drawn l s) old s) (sym (take-all size [] (omega arith))) (subst (λ k. LaidOut old (k * n) (drawn [] s) old s) m (laid-none old n s))
 
     module _ (n : ℕ) (a b : List ParamValue) (za : length (map toWord a) ≡ n) (zb : length (map toWord b) ≡ n) where
       -- their words

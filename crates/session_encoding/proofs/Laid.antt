@@ -1,44 +1,38 @@
--- Blocks of words laid into a slice, block after block from a place on.
-use Prim.Native.Nat.{ℕ, _+_, _*_, _≤_}
-use mathlib.Core.Path.{_≡_, refl, sym, ap, ap₂, _∙_}
+-- The words of a session and of a dimension, from their parts.
+use Prim.Native.Nat.{ℕ, _+_}
+use mathlib.Core.Path.{_≡_, refl, ap, ap₂, _∙_}
 use mathlib.Core.List.{List, [], _∷_, _++_}
 use lib.ListN.{length, getD}
-use Rattle.list_laws.proofs.Built.{joinBelow-more}
-use Rattle.candidates.proofs.Laid.{over-next, at-next}
-use Rattle.list_laws.proofs.Rows.{joinBelow-length}
+use Rattle.candidates.proofs.Laid.{over-next}
 use Rattle.model.specs.declared.Config.{Config}
 use Rattle.model.specs.declared.Distribution.{Distribution}
 use Rattle.model.specs.declared.Distribution.the-variants as dist
-use Rattle.model.specs.declared.IntDistribution.{IntDistribution}
 use Rattle.model.specs.declared.Session.{Session}
-use Rattle.model.specs.Lists.{one, listBelow, joinBelow, over}
+use Rattle.model.specs.Lists.{joinBelow, over}
 use Rattle.model.specs.Real.{bits}
-use Rattle.model.specs.Setting.{wordOfInt}
 use Rattle.model.specs.Session.{overAt, dimensionOf}
-use Rattle.session_words.specs.Coding.{hasStepI64, stepWordI64, dimensionWords, eight, configWords, stateWords, idealWords, sessionWords}
-
-module _ (f : ℕ → List ℕ) (k : ℕ) (each : (d : ℕ) → length (f d) ≡ k) where
-  pub join-next : (at n : ℕ) (l : List ℕ) → at ≤ length l → overAt (at + n * k) (f n) (overAt at (joinBelow f n) l) ≡ overAt at (joinBelow f (n + 1)) l
-  join-next at n l h =
-      at-next at (n * k) (joinBelow f n) (f n) l h (joinBelow-length f k n (λ i u. each i)) ∙ ap (λ t. overAt at t l) (sym (joinBelow-more f n))
-
--- ---- the words of a session
+use Rattle.session_words.specs.Coding.{phaseWord, hasFirst, firstWord, dimensionWords, eight, configWords, stateWords, idealWords, sessionWords}
 
 pub dimension-length : (x : Distribution) → length (dimensionWords x) ≡ 6
 dimension-length (dist.Float d) = refl
 dimension-length (dist.Int d) = refl
 dimension-length (dist.Categorical d) = refl
 
-pub int-laid : (d : IntDistribution) (low high log has step : ℕ) → low ≡ wordOfInt (d .low) → high ≡ wordOfInt (d .high) → log ≡ one (d .«log_scale»)
-    → has ≡ hasStepI64 (d .step) → step ≡ stepWordI64 (d .step) → (1 ∷ low ∷ high ∷ log ∷ has ∷ step ∷ []) ≡ dimensionWords (dist.Int d)
-int-laid d low high log has step p q r t u = rw (p, q, r, t, u)
+pub six-laid : (kind : ℕ) {low high log has step low′ high′ log′ has′ step′ : ℕ} → low ≡ low′ → high ≡ high′ → log ≡ log′ → has ≡ has′ → step ≡ step′
+    → (kind ∷ low ∷ high ∷ log ∷ has ∷ step ∷ []) ≡ (kind ∷ low′ ∷ high′ ∷ log′ ∷ has′ ∷ step′ ∷ [])
+six-laid kind p q r t u = rw (p, q, r, t, u)
 
-pub config-laid : (c : Config) (m : List ℕ) (p e u : ℕ) → m ≡ eight (λ i. getD (c .directions) i 0) → p ≡ bits (c .«crossover_prob»)
-    → e ≡ bits (c .«crossover_eta») → u ≡ bits (c .«mutation_eta»)
-    → (c .«n_obj» ∷ getD m 0 0 ∷ getD m 1 0 ∷ getD m 2 0 ∷ getD m 3 0 ∷ getD m 4 0 ∷ getD m 5 0 ∷ getD m 6 0 ∷ getD m 7 0
-    ∷ c .divisions ∷ c .«population_size» ∷ p ∷ e ∷ u ∷ []) ≡ configWords c
+pub config-laid : (x : Config) {a b c d e f g h p q r : ℕ} → (a ∷ b ∷ c ∷ d ∷ e ∷ f ∷ g ∷ h ∷ []) ≡ eight (λ i. getD (x .directions) i 0) → p ≡ bits (x .«crossover_prob»)
+    → q ≡ bits (x .«crossover_eta») → r ≡ bits (x .«mutation_eta»)
+    → (x .«n_obj» ∷ a ∷ b ∷ c ∷ d ∷ e ∷ f ∷ g ∷ h ∷ x .divisions ∷ x .«population_size» ∷ p ∷ q ∷ r ∷ []) ≡ configWords x
 unfolding configWords
-config-laid c m p e u hm hp he hu = rw (hm, hp, he, hu)
+config-laid x {p = p} {q = q} {r = r} m hp hq hr =
+    ap (λ l. x .«n_obj» ∷ l ++ (x .divisions ∷ x .«population_size» ∷ p ∷ q ∷ r ∷ [])) m ∙ rw (hp, hq, hr)
+
+pub state-laid : (s : Session) (p has plan : ℕ) → p ≡ phaseWord (s .phase) → has ≡ hasFirst (s .«discovery_trial_id») → plan ≡ firstWord (s .«discovery_trial_id»)
+    → (p ∷ has ∷ plan ∷ s .rng .s ∷ s .progress .«n_dims» ∷ s .progress .«n_candidates» ∷ s .progress .«n_plans» ∷ s .progress .generation ∷ []) ≡ stateWords s
+unfolding stateWords
+state-laid s p has plan a b c = rw (a, b, c)
 
 pub session-laid : (s : Session) (w w1 w2 w3 w4 cs ss zs : List ℕ) → cs ≡ configWords (s .config) → w1 ≡ overAt 0 cs w → ss ≡ stateWords s → w2 ≡ overAt 14 ss w1
     → zs ≡ idealWords (s .«ideal_point») → w3 ≡ overAt 22 zs w2 → w4 ≡ overAt 30 (joinBelow (λ d. dimensionWords (dimensionOf s d)) 32) w3

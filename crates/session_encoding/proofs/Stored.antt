@@ -9,13 +9,12 @@ use lib.Dec.{T}
 use lib.Ieee.{Float, nan, binary64, fits}
 use lib.Ieee.Bits.{ofBits-toBits}
 use lib.ListN.{length, getD, drop}
-use lib.Seq.{getD-append-add, ext-getD, take-all}
-use Rattle.list_laws.proofs.Built.{listBelow-length, listBelow-at, listBelow-take}
+use lib.Seq.{getD-append-add}
+use Rattle.list_laws.proofs.Built.{listBelow-whole}
 use Rattle.real_laws.proofs.Ints.{int-of-word-of}
 use Rattle.model.specs.declared.Config.{Config}
 use Rattle.model.specs.declared.Distribution.{Distribution}
 use Rattle.model.specs.declared.Distribution.the-variants as dist
-use Rattle.model.specs.declared.DimensionInfo.{DimensionInfo}
 use Rattle.model.specs.declared.OptionF64.{OptionF64}
 use Rattle.model.specs.declared.OptionF64.the-variants as optF64
 use Rattle.model.specs.declared.OptionI64.{OptionI64}
@@ -28,8 +27,9 @@ use Rattle.model.specs.declared.Session.{Session}
 use Rattle.model.specs.Lists.{one, listBelow, joinBelow, over}
 use Rattle.model.specs.Real.{real, bits}
 use Rattle.model.specs.Session.{dimensionOf, noDimension}
-use Rattle.session_words.specs.Coding.{marked, hasStepF64, stepWordF64, hasStepI64, stepWordI64, dimensionWords, stepF64, stepI64, dimensionAt, infoAt, dimensionsAt, phaseWord, phaseOf, hasFirst, firstWord, firstOf, eight, configWords, stateWords, idealWords, sessionWords, marksAt, idealAt, configAt, sessionOf}
-use Rattle.session_words.proofs.Marks.{float-is, int-is}
+use Rattle.settings.proofs.InBounds.{Held}
+use Rattle.session_words.specs.Coding.{marked, hasStepF64, stepWordF64, hasStepI64, stepWordI64, dimensionWords, stepF64, stepI64, dimensionAt, infoAt, dimensionsAt, phaseWord, phaseOf, hasFirst, firstWord, firstOf, configWords, stateWords, idealWords, sessionWords, marksAt, idealAt, configAt, sessionOf}
+use Rattle.session_words.proofs.Marks.{float-is, int-is, dimension-same, config-same, session-same}
 use Rattle.session_encoding.proofs.Laid.{dimension-length}
 use Rattle.list_laws.proofs.Rows.{joinBelow-front}
 
@@ -39,10 +39,10 @@ abbrev pub DoubleStep : OptionF64 → Type 0
 DoubleStep optF64.None = Unit
 DoubleStep (optF64.Some x) = T (fits binary64 x)
 
-abbrev pub Doubles : Distribution → Type 0
-Doubles (dist.Float d) = T (fits binary64 (d .low)) × T (fits binary64 (d .high)) × DoubleStep (d .step)
-Doubles (dist.Int d) = Unit
-Doubles (dist.Categorical d) = Unit
+abbrev pub DoubleSteps : Distribution → Type 0
+DoubleSteps (dist.Float d) = DoubleStep (d .step)
+DoubleSteps (dist.Int d) = Unit
+DoubleSteps (dist.Categorical d) = Unit
 
 pub record ConfigStored (c : Config) : Type 0 where
   pub marks : length (c .directions) ≡ 8
@@ -54,7 +54,8 @@ pub record ConfigStored (c : Config) : Type 0 where
 pub record Stored (s : Session) : Type 0 where
   pub config : ConfigStored (s .config)
   pub dimensions : length (s .dimensions) ≡ 32
-  pub doubles : (d : ℕ) → d < 32 → Doubles (dimensionOf s d)
+  pub held : (d : ℕ) → d < 32 → Held (dimensionOf s d)
+  pub steps : (d : ℕ) → d < 32 → DoubleSteps (dimensionOf s d)
   pub ideal : length (s .«ideal_point») ≡ 8
   pub reals : (i : ℕ) → i < 8 → T (fits binary64 (getD (s .«ideal_point») i nan))
 
@@ -72,29 +73,23 @@ stepI64-back : (o : OptionI64) → o ≡ stepI64 (hasStepI64 o) (stepWordI64 o)
 stepI64-back optI64.None = refl
 stepI64-back (optI64.Some n) = ap optI64.Some (sym (int-of-word-of n))
 
-dimension-back : (x : Distribution) → Doubles x → x ≡ dimensionAt (dimensionWords x) 0
-dimension-back (dist.Float d) h =
+dimension-back : (x : Distribution) → Held x → DoubleSteps x → x ≡ dimensionAt (dimensionWords x) 0
+dimension-back (dist.Float d) h t =
     float-is 0 _ _ (one (d .«log_scale»)) (hasStepF64 (d .step)) (stepWordF64 (d .step)) (d .low) (d .high) (d .«log_scale») (d .step) refl (sym (ofBits-toBits binary64 (d .low) (h .0))) (sym (ofBits-toBits binary64 (d .high) (h .1)))
-    (marked-back (d .«log_scale»)) (stepF64-back (d .step) (h .2))
-dimension-back (dist.Int d) h =
+    (marked-back (d .«log_scale»)) (stepF64-back (d .step) t)
+dimension-back (dist.Int d) h t =
     int-is 1 _ _ (one (d .«log_scale»)) (hasStepI64 (d .step)) (stepWordI64 (d .step)) (d .low) (d .high) (d .«log_scale») (d .step) refl (sym (int-of-word-of (d .low))) (sym (int-of-word-of (d .high))) (marked-back (d .«log_scale»))
     (stepI64-back (d .step))
-dimension-back (dist.Categorical d) h = refl
+dimension-back (dist.Categorical d) h t = refl
 
 -- words that agree in six places stand for one dimension
 same-six : (v w : List ℕ) (at : ℕ) → ((j : ℕ) → j < 6 → getD v (at + j) 0 ≡ getD w j 0) → dimensionAt v at ≡ dimensionAt w 0
 same-six v w at h =
     let n : at + 0 ≡ at = omega arith in
     let z : getD v at 0 ≡ getD w 0 0 = ap (λ k. getD v k 0) (sym n) ∙ h 0 (omega arith) in
-    rw (z, h 1 (omega arith), h 2 (omega arith), h 3 (omega arith), h 4 (omega arith), h 5 (omega arith))
+    sym (dimension-same v at _ _ _ _ _ _ (sym z) (sym (h 1 (omega arith))) (sym (h 2 (omega arith))) (sym (h 3 (omega arith))) (sym (h 4 (omega arith))) (sym (h 5 (omega arith))))
 
 -- ---- the parts of a session
-
--- eight places that are an array's are the array
-eight-back : {A : Type 0} (f : ℕ → A) (l : List A) (z : A) → length l ≡ 8 → f 0 ≡ getD l 0 z → f 1 ≡ getD l 1 z → f 2 ≡ getD l 2 z → f 3 ≡ getD l 3 z
-    → f 4 ≡ getD l 4 z → f 5 ≡ getD l 5 z → f 6 ≡ getD l 6 z → f 7 ≡ getD l 7 z → eight f ≡ l
-unfolding listBelow
-eight-back f l z p a b c d e k m n = rw (a, b, c, d, e, k, m, n) (sym (listBelow-take (λ i. getD l i z) 8 z l (omega arith) (λ t h. refl)) ∙ take-all 8 l (omega arith))
 
 phase-back : (p : Phase) → phaseOf (phaseWord p) ≡ p
 phase-back Discovery = refl
@@ -103,23 +98,6 @@ phase-back Active = refl
 first-back : (o : OptionU64) → firstOf (hasFirst o) (firstWord o) ≡ o
 first-back optU64.None = refl
 first-back (optU64.Some n) = refl
-
-config-parts : (c : Config) (m : List ℕ) (p e u : Float) → m ≡ c .directions → p ≡ c .«crossover_prob» → e ≡ c .«crossover_eta» → u ≡ c .«mutation_eta»
-    → record {
-      «n_obj» = c .«n_obj»;
-      directions = m;
-      divisions = c .divisions;
-      «population_size» = c .«population_size»;
-      «crossover_prob» = p;
-      «crossover_eta» = e;
-      «mutation_eta» = u;
-    } ≡ c
-config-parts c m p e u h i j k = rw (h, i, j, k)
-
-session-parts : (s : Session) (c : Config) (p : Phase) (o : OptionU64) (ds : List DimensionInfo) (z : List Float) → c ≡ s .config → p ≡ s .phase
-    → o ≡ s .«discovery_trial_id» → ds ≡ s .dimensions → z ≡ s .«ideal_point»
-    → record { config = c; phase = p; «discovery_trial_id» = o; rng = s .rng; dimensions = ds; «ideal_point» = z; progress = s .progress } ≡ s
-session-parts s c p o ds z h i j k l = rw (h, i, j, k, l)
 
 -- ---- a session
 
@@ -154,41 +132,29 @@ module _ (s : Session) (old : List ℕ) (ok : Stored s) where
   info-back : (d : ℕ) → d < 32 → infoAt words 30 d ≡ getD (s .dimensions) d noDimension
   info-back d h =
       ap (λ x. record { distribution = x })
-      (same-six words (block d) (30 + d * 6) (λ j i. word-of d j h i) ∙ sym (dimension-back (dimensionOf s d) (ok .doubles d h)))
+      (same-six words (block d) (30 + d * 6) (λ j i. word-of d j h i) ∙ sym (dimension-back (dimensionOf s d) (ok .held d h) (ok .steps d h)))
 
   dimensions-back : dimensionsAt words 30 ≡ s .dimensions
   unfolding dimensionsAt
-  dimensions-back =
-      let n = listBelow-length (infoAt words 30) 32 in
-      ext-getD noDimension (listBelow (infoAt words 30) 32) (s .dimensions) (n ∙ sym (ok .dimensions))
-      (λ i h. listBelow-at (infoAt words 30) 32 noDimension i (omega arith) ∙ info-back i (omega arith))
-
-  byte : (i : ℕ) → i < 8 → getD (s .config .directions) i 0 % 256 ≡ getD (s .config .directions) i 0
-  byte i h = mod-eq-of-lt (ok .config .bytes i h)
+  dimensions-back = listBelow-whole (infoAt words 30) 32 noDimension (s .dimensions) (ok .dimensions) info-back
 
   marks-back : marksAt words ≡ s .config .directions
-  unfolding marksAt sessionWords configWords
-  marks-back =
-      eight-back (λ i. getD words (1 + i) 0 % 256) (s .config .directions) 0 (ok .config .marks) (byte 0 (omega arith)) (byte 1 (omega arith)) (byte 2 (omega arith)) (byte 3 (omega arith))
-      (byte 4 (omega arith)) (byte 5 (omega arith)) (byte 6 (omega arith)) (byte 7 (omega arith))
-
-  double : (i : ℕ) → i < 8 → real (bits (getD (s .«ideal_point») i nan)) ≡ getD (s .«ideal_point») i nan
-  double i h = ofBits-toBits binary64 (getD (s .«ideal_point») i nan) (ok .reals i h)
+  unfolding marksAt sessionWords configWords listBelow
+  marks-back = listBelow-whole (λ i. getD (s .config .directions) i 0 % 256) 8 0 (s .config .directions) (ok .config .marks) (λ i h. mod-eq-of-lt (ok .config .bytes i h))
 
   ideal-back : idealAt words ≡ s .«ideal_point»
-  unfolding idealAt sessionWords configWords stateWords idealWords
+  unfolding idealAt sessionWords configWords stateWords idealWords listBelow
   ideal-back =
-      eight-back (λ i. real (getD words (22 + i) 0)) (s .«ideal_point») nan (ok .ideal) (double 0 (omega arith)) (double 1 (omega arith)) (double 2 (omega arith)) (double 3 (omega arith))
-      (double 4 (omega arith)) (double 5 (omega arith)) (double 6 (omega arith)) (double 7 (omega arith))
+      listBelow-whole (λ i. real (bits (getD (s .«ideal_point») i nan))) 8 nan (s .«ideal_point») (ok .ideal) (λ i h. ofBits-toBits binary64 (getD (s .«ideal_point») i nan) (ok .reals i h))
 
   config-back : configAt words ≡ s .config
   unfolding sessionWords configWords
   config-back =
-      config-parts (s .config) (marksAt words) _ _ _ marks-back (ofBits-toBits binary64 (s .config .«crossover_prob») (ok .config .probability))
+      config-same (s .config) _ (marksAt words) _ _ _ _ _ refl marks-back refl refl (ofBits-toBits binary64 (s .config .«crossover_prob») (ok .config .probability))
       (ofBits-toBits binary64 (s .config .«crossover_eta») (ok .config .crossoverEta)) (ofBits-toBits binary64 (s .config .«mutation_eta») (ok .config .mutationEta))
 
   pub session-back : sessionOf words ≡ s
   unfolding sessionOf sessionWords configWords stateWords idealWords
   session-back =
-      session-parts s (configAt words) _ _ (dimensionsAt words 30) (idealAt words) config-back (phase-back (s .phase)) (first-back (s .«discovery_trial_id»))
-      dimensions-back ideal-back
+      session-same s (configAt words) _ _ _ (dimensionsAt words 30) (idealAt words) _ config-back (phase-back (s .phase)) (first-back (s .«discovery_trial_id»)) refl
+      dimensions-back ideal-back refl

@@ -1,5 +1,5 @@
 -- A session that code holds can be stored: its type promises what is asked of its reals, directions and arrays.
-use Prim.Native.Nat.{zero, suc, _<_}
+use Prim.Native.Nat.{_<_}
 use mathlib.Core.List.{List}
 use native.Mathlib.Omega.{arith}
 use lib.Dec.{T}
@@ -18,19 +18,17 @@ use Rattle.model.specs.declared.Distribution.{Distribution}
 use Rattle.model.specs.declared.Distribution.the-variants as dist
 use Rattle.model.specs.declared.Session.{Session}
 use Rattle.model.specs.Session.{noDimension}
-use Rattle.typed_laws.proofs.Held.{each-field, session-dimensions, session-ideal, session-directions}
-use Rattle.session_encoding.proofs.Stored.{Doubles, DoubleStep, ConfigStored, Stored}
+use Rattle.typed_laws.proofs.Held.{each-field, session-dimensions, session-held, session-ideal, session-directions}
+use Rattle.session_encoding.proofs.Stored.{DoubleSteps, DoubleStep, ConfigStored, Stored}
 
 step-doubles : (o : OptionF64) (vs : List Val) → Is (enum.row step.the-type) o vs → DoubleStep o
 step-doubles optF64.None vs p = tt
 step-doubles (optF64.Some x) vs p = true-T _ (p .1 .1 .1 .1 .0 .1)
 
-doubles : (d : Distribution) (vs : List Val) → Is (enum.row distribution.the-type) d vs → Doubles d
-doubles (dist.Float d) vs p =
-    let q = p .1 .1 .1 .1 .0 .1 .1 in
-    (true-T _ (q .0 .1), true-T _ (q .1 .0 .1), step-doubles (d .step) _ (q .1 .1 .1 .0))
-doubles (dist.Int d) vs p = tt
-doubles (dist.Categorical d) vs p = tt
+step-of : (d : Distribution) (vs : List Val) → Is (enum.row distribution.the-type) d vs → DoubleSteps d
+step-of (dist.Float d) vs p = step-doubles (d .step) _ (p .1 .1 .1 .1 .0 .1 .1 .1 .1 .1 .0)
+step-of (dist.Int d) vs p = tt
+step-of (dist.Categorical d) vs p = tt
 
 module _ (s : Session) (vs : List Val) (p : Is (struct.row session.the-type) s vs) where
   config-stored : ConfigStored (s .config)
@@ -54,7 +52,8 @@ module _ (s : Session) (vs : List Val) (p : Is (struct.row session.the-type) s v
       record {
         config = config-stored;
         dimensions = session-dimensions s vs p;
-        doubles = λ d h. each-field _ _ (λ x. Doubles (x .distribution)) (λ x us r. doubles (x .distribution) _ (r .1 .1 .0)) noDimension (s .dimensions) (ds .0) (ds .1 .1) d (omega arith);
+        held = session-held s vs p;
+        steps = λ d h. each-field _ _ (λ x. DoubleSteps (x .distribution)) (λ x us r. step-of (x .distribution) _ (r .1 .1 .0)) noDimension (s .dimensions) (ds .0) (ds .1 .1) d (omega arith);
         ideal = session-ideal s vs p;
         reals = λ i h. each-field _ _ (λ x. T (fits binary64 x)) (λ x us r. true-T _ (r .1)) nan (s .«ideal_point») (zs .0) (zs .1 .1) i (omega arith);
       }

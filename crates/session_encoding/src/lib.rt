@@ -5,7 +5,7 @@ ghost use lib.ListN.{length, getD};
 ghost use Rattle.model.specs.declared.Distribution.the-variants as dist;
 ghost use Rattle.model.specs.Lists.{one, joinBelow, over};
 ghost use Rattle.model.specs.Session.{noDimension, overAt};
-ghost use Rattle.session_words.specs.Coding.{hasStepF64, stepWordF64, hasStepI64, stepWordI64, dimensionWords, phaseWord, hasFirst, firstWord, eight, configWords, stateWords, idealWords, sessionWords, sessionOf};
+ghost use Rattle.session_words.specs.Coding.{hasStepF64, stepWordF64, hasStepI64, stepWordI64, dimensionWords, phaseWord, hasFirst, firstWord, configWords, stateWords, idealWords, sessionWords, sessionOf};
 use model::Config;
 use model::DimensionInfo;
 use model::Distribution;
@@ -130,20 +130,6 @@ fn first_word(first: OptionU64) -> u64
     }
 }
 
-fn mark_words(marks: [u8; 8]) -> [u64; 8]
-    ensures { λ r. ⌜ r ≡ eight (λ i. getD marks i 0) ⌝ }
-{
-    let a = session_words::wide(marks[0]);
-    let b = session_words::wide(marks[1]);
-    let c = session_words::wide(marks[2]);
-    let d = session_words::wide(marks[3]);
-    let e = session_words::wide(marks[4]);
-    let f = session_words::wide(marks[5]);
-    let g = session_words::wide(marks[6]);
-    let h = session_words::wide(marks[7]);
-    [a, b, c, d, e, f, g, h]
-}
-
 fn ideal_words(ideal: [f64; 8]) -> [u64; 8]
     ensures { λ r. ⌜ r ≡ idealWords ideal ⌝ }
 {
@@ -162,29 +148,21 @@ fn config_words(config: Config) -> [u64; 14]
     ensures { λ r. ⌜ r ≡ configWords config ⌝ }
 {
     let marks = config.directions;
-    let m = mark_words(marks);
+    let a = session_words::wide(marks[0]);
+    let b = session_words::wide(marks[1]);
+    let c = session_words::wide(marks[2]);
+    let d = session_words::wide(marks[3]);
+    let e = session_words::wide(marks[4]);
+    let f = session_words::wide(marks[5]);
+    let g = session_words::wide(marks[6]);
+    let h = session_words::wide(marks[7]);
     let p = real::word_of_real(config.crossover_prob);
-    let c = real::word_of_real(config.crossover_eta);
-    let e = real::word_of_real(config.mutation_eta);
+    let q = real::word_of_real(config.crossover_eta);
+    let r = real::word_of_real(config.mutation_eta);
     let n = config.n_obj as u64;
-    let h = config.divisions as u64;
+    let divisions = config.divisions as u64;
     let size = config.population_size as u64;
-    [
-        n,
-        m[0],
-        m[1],
-        m[2],
-        m[3],
-        m[4],
-        m[5],
-        m[6],
-        m[7],
-        h,
-        size,
-        p,
-        c,
-        e,
-    ]
+    [n, a, b, c, d, e, f, g, h, divisions, size, p, q, r]
 }
 
 fn state_words(session: Session) -> [u64; 8]

@@ -7,18 +7,12 @@ use lib.ListN.{length}
 use Rattle.model.specs.Lists.{over}
 use Rattle.model.specs.Setting.{Operators, wordsOf}
 use Rattle.model.specs.Calls.{operators}
-use Rattle.settings.specs.Candidate.{dimensionsOf}
 use Rattle.settings.proofs.Valid.{few}
-use Rattle.candidate_laws.proofs.Sound.{AllHeld}
-use Rattle.typed_laws.proofs.Held.{array-held}
 use Rattle.list_laws.proofs.Rows.{product}
+use Rattle.generation_laws.proofs.Dimensions.{dimensions-held}
 use Rattle.generation_laws.proofs.Breeding.{bred-is}
 use Rattle.breeding.proofs.breed.Statement.{statement}
 use Rattle.breeding.proofs.breed.Tie as tie
-
--- the dimensions' numbers are such as the machine holds
-held : (s : tie.Start) → AllHeld (dimensionsOf (s .args .dims)) (s .args .n-dims)
-held s d h = let f = few _ _ (s .pre .0 .4) in array-held (s .args .dims) _ (s .good .1 .1 .1 .1 .0) d (omega arith)
 
 -- the parents' words fit
 fit : (s : tie.Start) → s .args .size * s .args .n-dims ≤ 32768
@@ -67,7 +61,7 @@ returns c =
     let a = s .args in
     let p = c .before .before .before .before .before .before .before .before .before .before .fill-parents in
     let w = c .before .before .write-offspring in
-    let e = bred-is (ops s) (held s) (s .pre .0 .4) (a .pool .now) (a .directions .now) (a .kept .now) (a .size) (a .rng .s) (s .pre .0 .3) (s .pre .1 .2) (s .pre .1 .3)
+    let e = bred-is (ops s) (dimensions-held (a .dims) _ (s .good .1 .1 .1 .1 .0) (a .n-dims) (s .pre .0 .4)) (s .pre .0 .4) (a .pool .now) (a .directions .now) (a .kept .now) (a .size) (a .rng .s) (s .pre .0 .3) (s .pre .1 .2) (s .pre .1 .3)
     (s .pre .1 .0) _ _ _ _ _ (p .ensures .0) (p .ensures .1) (c .before .before .before .before .before .before .before .fill-ranks .ensures) in
     (w .ensures .0 ∙ ap (λ d. over (wordsOf (d .value)) (a .offspring .now)) e, w .ensures .1 ∙ ap (λ d. d .state) e)
 

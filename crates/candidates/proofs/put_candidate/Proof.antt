@@ -1,14 +1,13 @@
 -- the first j words are stored
 use Prim.Native.Nat.{ℕ, _+_, _-_, _≤_, _<_}
 use mathlib.Core.Path.{_≡_, refl, sym, ap, ap₂, _∙_}
-use mathlib.Core.List.{List, map}
 use native.Mathlib.Omega.{arith}
 use borrow.Author.Needs.{needs}
 use lib.ListN.{length, set, length-set}
 use Rattle.model.specs.Lists.{listBelow}
 use Rattle.model.specs.Setting.{toWord}
 use Rattle.model.specs.Session.{overAt}
-use Rattle.settings.specs.Candidate.{slotOf, settingsOf}
+use Rattle.settings.specs.Candidate.{slotOf}
 use Rattle.candidates.proofs.Laid.{at-none, at-more, words-below}
 use Rattle.candidates.proofs.put_candidate.Statement.{statement}
 use Rattle.candidates.proofs.put_candidate.Tie as tie

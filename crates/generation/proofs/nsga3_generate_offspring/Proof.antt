@@ -1,16 +1,14 @@
 -- `nsga3_generate_offspring`: the refusal's number, or the step
 use mathlib.Core.Path.{_≡_, ap, sym, _∙_}
 use mathlib.Core.Bool.{false}
-use native.Mathlib.Omega.{arith}
 use borrow.Author.Needs.{needs}
 use Rattle.model.specs.Setting.{Operators}
 use Rattle.model.specs.Refusal.{badDimensions}
 use Rattle.model.specs.Calls.{operators, Lent, lent}
 use Rattle.settings.specs.Candidate.{dimensionsOf}
-use Rattle.settings.proofs.Valid.{few}
 use Rattle.refusals.specs.Checked.{checked}
 use Rattle.candidate_laws.proofs.Sound.{AllHeld}
-use Rattle.typed_laws.proofs.Held.{array-held}
+use Rattle.generation_laws.proofs.Dimensions.{dimensions-held}
 use Rattle.generation_laws.proofs.Answer.{refused-so, stepped-so}
 use Rattle.generation.proofs.nsga3_generate_offspring.Statement.{statement}
 use Rattle.generation.proofs.nsga3_generate_offspring.Tie as tie
@@ -23,7 +21,7 @@ at s = lent (s .args .kept .now) (s .args .fronts .now) (s .args .lines .now)
 
 -- the dimensions' numbers are such as the machine holds
 held : (s : tie.Start) → badDimensions (dimensionsOf (s .args .dimensions)) (s .args .n-dims) ≡ false → AllHeld (dimensionsOf (s .args .dimensions)) (s .args .n-dims)
-held s good d h = let f = few _ _ good in array-held (s .args .dimensions) _ (s .good .1 .1 .1 .1 .1 .0) d (omega arith)
+held s = dimensions-held (s .args .dimensions) _ (s .good .1 .1 .1 .1 .1 .0) (s .args .n-dims)
 
 refusal-requires : tie.Need-refusal-requires
 refusal-requires c κs = search needs

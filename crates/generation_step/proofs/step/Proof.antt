@@ -8,7 +8,8 @@ use Rattle.model.specs.Association.{Request}
 use Rattle.model.specs.Setting.{Operators}
 use Rattle.model.specs.Plan.{planCount}
 use Rattle.model.specs.Calls.{wordRequest, operators, Lent, lent, roomOf}
-use Rattle.generation_laws.proofs.Accepted.{Passed, passed, narrow, sized, few-plans, good-plans, all-breedable, offspring-room, kept-room}
+use Rattle.demand3_laws.proofs.Passed.{Passed, passed, some-objectives, one-to-1024, pool-plans}
+use Rattle.generation_laws.proofs.Accepted.{all-breedable, offspring-room, kept-room}
 use Rattle.generation_laws.proofs.Answer.{one-exit, select-exit, kept-in-pool, bred-exit}
 use Rattle.generation_step.proofs.step.Statement.{statement}
 use Rattle.generation_step.proofs.step.Tie as tie
@@ -66,10 +67,10 @@ breed-requires c κs =
     let e = select-exit (ops s) (a .pool .now) (a .directions .now) (a .divisions) (a .size) (a .rng) (a .ideal .now) (at s) (a .offspring .now) (s .pre) h _ (n .ensures) in
     let ok = given s in
     let kept : length (n .last .1 .1 .1 .1 .1 .1 .0) ≡ length (a .kept .now) = n .kept .1 .1 .1 .1 .1 .1 .0 in (
-      (few-plans ok, narrow ok, good-plans ok, all-breedable ok, ok .dimensions, ok .operators),
+      (one-to-1024 _ (ok .count) .1, some-objectives _ (ok .directions) .1, pool-plans (request s) (ok .pool), all-breedable ok, ok .dimensions, ok .operators),
       (
-        sized ok .0,
-        sized ok .1,
+        one-to-1024 _ (ok .size) .0,
+        one-to-1024 _ (ok .size) .1,
         omega (arith, kept, kept-room ok h),
         kept-in-pool (ops s) (a .pool .now) (a .directions .now) (a .divisions) (a .size) (a .rng) (a .ideal .now) (at s) (a .offspring .now) (s .pre) h _ e,
         offspring-room ok,

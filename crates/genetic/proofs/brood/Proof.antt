@@ -1,10 +1,10 @@
 -- The steps of the definition, one after the other.
 use Prim.Native.Nat.{ℕ}
-use lib.ListN.{length, getD}
+use lib.ListN.{getD}
 use Rattle.settings.specs.Candidate.{dimensionsOf}
 use Rattle.settings.proofs.Valid.{few}
 use Rattle.list_laws.proofs.Rows.{row-within}
-use Rattle.genetic.proofs.Broods.{winner-below, crossover-eta, mutation-eta, brood-is}
+use Rattle.genetic.proofs.Broods.{won-below, crossover-eta, mutation-eta, brood-is}
 use borrow.Author.Needs.{needs}
 use Rattle.genetic.proofs.brood.Statement.{statement}
 use Rattle.genetic.proofs.brood.Tie as tie
@@ -18,13 +18,13 @@ tournament-select-rank-requires-2 c κs = search needs
 read-parent-requires : tie.Need-read-parent-requires
 read-parent-requires c κs =
     let s = c .before .before .before .before .before .before in
-    let w = winner-below _ _ _ _ _ (s .pre .0) (c .before .before .before .tournament-select-rank .ensures) in
+    let w = won-below _ _ _ _ _ (s .pre .0) (c .before .before .before .tournament-select-rank .ensures) in
     (row-within _ _ _ _ w (s .pre .1), few _ _ (s .pre .3))
 
 read-parent-requires-2 : tie.Need-read-parent-requires-2
 read-parent-requires-2 c κs =
     let s = c .before .before .before .before .before .before .before in
-    let w = winner-below _ _ _ _ _ (s .pre .0) (c .before .before .tournament-select-rank2 .ensures) in
+    let w = won-below _ _ _ _ _ (s .pre .0) (c .before .before .tournament-select-rank2 .ensures) in
     (row-within _ _ _ _ w (s .pre .1), few _ _ (s .pre .3))
 
 exponent-of-requires : tie.Need-exponent-of-requires

@@ -1,15 +1,14 @@
 -- the dimensions before place i are mutated
 use mathlib.Core.Path.{subst}
-use Prim.Native.Nat.{ℕ, _+_, _-_, _≤_, _<_}
-use mathlib.Core.Path.{_≡_, refl, sym, ap, _∙_}
-use lib.IntN.{pos}
-use lib.Ieee.{Float, binary64, div, ofBits}
+use Prim.Native.Nat.{ℕ, _-_, _≤_, _<_}
+use mathlib.Core.Path.{_≡_, sym, ap, _∙_}
+use lib.Ieee.{Float}
 use lib.ListN.{length, length-set}
 use native.Mathlib.Omega.{arith}
 use borrow.Author.Needs.{needs}
 use Rattle.model.specs.Real.{_⊘_, unit}
 use Rattle.model.specs.Draw.{drawn}
-use Rattle.model.specs.Setting.{ofWhole, mutateFirst}
+use Rattle.model.specs.Setting.{mutateFirst}
 use Rattle.settings.specs.Candidate.{dimensionsOf, settingsOf}
 use Rattle.settings.proofs.Valid.{few, each}
 use Rattle.settings.proofs.Candidates.{settings-none, settings-more}

@@ -1,5 +1,5 @@
 -- the parents of the first i kept plans are laid
-use Prim.Native.Nat.{_-_, _*_, _≤_}
+use Prim.Native.Nat.{ℕ, _+_, _-_, _*_, _≤_, _<_}
 use mathlib.Core.Path.{_≡_, ap, _∙_}
 use native.Mathlib.Omega.{arith}
 use borrow.Author.Needs.{needs}
@@ -9,9 +9,9 @@ use Rattle.model.specs.Plan.{planAt}
 use Rattle.model.specs.Setting.{wordsOf}
 use Rattle.settings.specs.Candidate.{dimensionsOf}
 use Rattle.settings.proofs.Valid.{few}
-use Rattle.candidates.proofs.Laid.{words-length}
+use Rattle.candidates.proofs.Laid.{LaidOut, words-length}
 use Rattle.list_laws.proofs.Rows.{row-within}
-use Rattle.offspring.proofs.Laying.{LaidOut, parentsTo, parents-none, parents-more}
+use Rattle.offspring.proofs.Laying.{parentsTo, parents-none, parents-more}
 use Rattle.offspring.proofs.fill_parents.Statement.{statement}
 use Rattle.offspring.proofs.fill_parents.Tie as tie
 
@@ -21,6 +21,10 @@ Inv-loop pool kept count dims n parents₀ rng₀ i₀ parents rng i =
 
 abbrev μ-loop : tie.MeasureT-loop
 μ-loop pool kept count dims n parents₀ rng₀ i₀ parents rng i = count - i
+
+-- candidate i fits
+row : (s : tie.Start Inv-loop μ-loop) (i : ℕ) → i < s .args .count → i * s .args .n + s .args .n ≤ length (s .args .parents .now)
+row s i h = row-within i (s .args .count) (s .args .n) (length (s .args .parents .now)) h (s .pre .3)
 
 loop-holds : tie.Need-loop-holds Inv-loop μ-loop
 loop-holds c =
@@ -41,14 +45,14 @@ extract-requires c κs =
 mul-put-candidate : tie.Need-mul-put-candidate Inv-loop μ-loop
 mul-put-candidate c =
     let s = c .before .before .before .before .before .before .before .before in
-    let f = row-within (c .before .before .before .before .loop .i) (s .args .count) (s .args .n) (length (s .args .parents .now)) (c .before .before .before .loop-test .taken) (s .pre .3) in
+    let f = row s (c .before .before .before .before .loop .i) (c .before .before .before .loop-test .taken) in
     record { fits = omega arith }
 
 put-candidate-requires : tie.Need-put-candidate-requires Inv-loop μ-loop
 put-candidate-requires c κs =
     let s = c .before .before .before .before .before .before .before .before .before in
     let l = c .before .before .before .before .before .loop in
-    let f = row-within (l .i) (s .args .count) (s .args .n) (length (s .args .parents .now)) (c .before .before .before .before .loop-test .taken) (s .pre .3) in
+    let f = row s (l .i) (c .before .before .before .before .loop-test .taken) in
     (few _ _ (s .pre .2), omega (arith, l .inv .1 .same))
 
 add-i : tie.Need-add-i Inv-loop μ-loop
@@ -67,7 +71,7 @@ loop-again c =
       omega arith,
       parents-more (dimensionsOf (a .dims)) (a .n) (planAt (a .pool .now)) (a .kept .now) (a .rng .s) (a .parents .now) (l .i) (l .parents) _ (l .inv .1)
           (omega (arith, s .pre .0)) _ _ _ (v .ensures) (words-length (v .result .params) (a .n))
-          (row-within (l .i) (a .count) (a .n) (length (a .parents .now)) t (s .pre .3)) (c .before .before .before .put-candidate .ensures),
+          (row s (l .i) t) (c .before .before .before .put-candidate .ensures),
     )
 
 same-length : tie.Need-same-length Inv-loop μ-loop

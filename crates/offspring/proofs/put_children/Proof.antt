@@ -1,4 +1,5 @@
 -- both children, or the first
+use Prim.Native.Nat.{_+_, _*_, _≤_}
 use mathlib.Core.Path.{_≡_}
 use native.Mathlib.Omega.{arith}
 use borrow.Author.Needs.{needs}
@@ -10,30 +11,31 @@ use Rattle.offspring.proofs.Laying.{both, one, second-fits}
 use Rattle.offspring.proofs.put_children.Statement.{statement}
 use Rattle.offspring.proofs.put_children.Tie as tie
 
+-- the first child fits
+first-fits : (s : tie.Start) → s .args .at * s .args .n + s .args .n ≤ length (s .args .out .now)
+first-fits s = row-within (s .args .at) (s .args .size) (s .args .n) (length (s .args .out .now)) (s .pre .1) (s .pre .2)
+
 mul-put-candidate : tie.Need-mul-put-candidate
 mul-put-candidate c =
-    let s = c .before in
-    let f = row-within (s .args .at) (s .args .size) (s .args .n) (length (s .args .out .now)) (s .pre .1) (s .pre .2) in
+    let f = first-fits (c .before) in
     record { fits = omega arith }
 
 put-candidate-requires : tie.Need-put-candidate-requires
 put-candidate-requires c κs =
     let s = c .before .before in
-    (s .pre .0, row-within (s .args .at) (s .args .size) (s .args .n) (length (s .args .out .now)) (s .pre .1) (s .pre .2))
+    (s .pre .0, first-fits s)
 
 add-if1 : tie.Need-add-if1
 add-if1 c = search needs
 
 mul-put-candidate-2 : tie.Need-mul-put-candidate-2
 mul-put-candidate-2 c =
-    let s = c .before .before .before .before .before .before in
-    let f = row-within (s .args .at) (s .args .size) (s .args .n) (length (s .args .out .now)) (s .pre .1) (s .pre .2) in
+    let f = first-fits (c .before .before .before .before .before .before) in
     record { fits = omega arith }
 
 add-put-candidate : tie.Need-add-put-candidate
 add-put-candidate c =
-    let s = c .before .before .before .before .before .before in
-    let f = row-within (s .args .at) (s .args .size) (s .args .n) (length (s .args .out .now)) (s .pre .1) (s .pre .2) in
+    let f = first-fits (c .before .before .before .before .before .before) in
     record { fits = omega arith }
 
 put-candidate-requires-2 : tie.Need-put-candidate-requires-2
@@ -49,7 +51,7 @@ returns : tie.Need-returns
 returns c =
     let s = c .before .before .before .before .before .before .before .before .before .before in
     let a = s .args in
-    let f = row-within (a .at) (a .size) (a .n) (length (a .out .now)) (s .pre .1) (s .pre .2) in
+    let f = first-fits s in
     both (settingsOf (a .first) (a .n)) (settingsOf (a .second) (a .n)) (a .n) (a .at) (a .size) (a .out .now) _ _ (c .before .before .before .before .before .before .before .put-candidate .ensures)
     (words-length (a .first) (a .n)) (omega arith) (c .before .before .before .before .if1 .taken) (c .before .before .put-candidate2 .ensures)
 

@@ -10,8 +10,8 @@ use Rattle.model.specs.Setting.{Operators, wordsOf}
 use Rattle.settings.specs.Candidate.{dimensionsOf, settingsOf, parentsIn}
 use Rattle.settings.proofs.Valid.{few}
 use Rattle.genetic.specs.Parents.{operators}
-use Rattle.candidates.proofs.Laid.{words-length}
-use Rattle.offspring.proofs.Laying.{LaidOut, bredBy, bred-none, bred-more, bred-done}
+use Rattle.candidates.proofs.Laid.{LaidOut, words-length}
+use Rattle.offspring.proofs.Laying.{bredBy, bred-none, bred-more, bred-done}
 use Rattle.offspring.proofs.write_offspring.Statement.{statement}
 use Rattle.offspring.proofs.write_offspring.Tie as tie
 

@@ -1,4 +1,5 @@
 -- Field by field.
+use Rattle.session_encoding.proofs.Laid.{six-laid}
 use Rattle.session_encoding.proofs.float_words.Statement.{statement}
 use Rattle.session_encoding.proofs.float_words.Tie as tie
 
@@ -18,7 +19,8 @@ step-word-f64-requires : tie.Need-step-word-f64-requires
 step-word-f64-requires c κs = tt
 
 returns : tie.Need-returns
-returns c = cc
+returns c =
+    six-laid 0 (c .before .before .before .before .word-of-real .ensures) (c .before .before .before .word-of-real2 .ensures) (c .before .before .mark .ensures) (c .before .has-step-f64 .ensures) (c .step-word-f64 .ensures)
 
 pub float-words-spec : {M : Type 1} → statement M
 float-words-spec =

@@ -1,60 +1,65 @@
 -- Place by place.
 use Rattle.session_words.specs.Coding.{idealWords}
-use borrow.Author.Needs.{needs}
+use native.Mathlib.Omega.{arith}
+use lib.Ieee.{nan}
+use lib.ListN.{getD}
+use Rattle.model.specs.Real.{bits}
+use Rattle.session_words.proofs.Marks.{eight-same}
 use Rattle.session_encoding.proofs.ideal_words.Statement.{statement}
 use Rattle.session_encoding.proofs.ideal_words.Tie as tie
 
 array-read-word-of-real : tie.Need-array-read-word-of-real
-array-read-word-of-real c = search needs
+array-read-word-of-real c = omega arith
 
 word-of-real-requires : tie.Need-word-of-real-requires
 word-of-real-requires c κs = tt
 
 array-read-word-of-real-2 : tie.Need-array-read-word-of-real-2
-array-read-word-of-real-2 c = search needs
+array-read-word-of-real-2 c = omega arith
 
 word-of-real-requires-2 : tie.Need-word-of-real-requires-2
 word-of-real-requires-2 c κs = tt
 
 array-read-word-of-real-3 : tie.Need-array-read-word-of-real-3
-array-read-word-of-real-3 c = search needs
+array-read-word-of-real-3 c = omega arith
 
 word-of-real-requires-3 : tie.Need-word-of-real-requires-3
 word-of-real-requires-3 c κs = tt
 
 array-read-word-of-real-4 : tie.Need-array-read-word-of-real-4
-array-read-word-of-real-4 c = search needs
+array-read-word-of-real-4 c = omega arith
 
 word-of-real-requires-4 : tie.Need-word-of-real-requires-4
 word-of-real-requires-4 c κs = tt
 
 array-read-word-of-real-5 : tie.Need-array-read-word-of-real-5
-array-read-word-of-real-5 c = search needs
+array-read-word-of-real-5 c = omega arith
 
 word-of-real-requires-5 : tie.Need-word-of-real-requires-5
 word-of-real-requires-5 c κs = tt
 
 array-read-word-of-real-6 : tie.Need-array-read-word-of-real-6
-array-read-word-of-real-6 c = search needs
+array-read-word-of-real-6 c = omega arith
 
 word-of-real-requires-6 : tie.Need-word-of-real-requires-6
 word-of-real-requires-6 c κs = tt
 
 array-read-word-of-real-7 : tie.Need-array-read-word-of-real-7
-array-read-word-of-real-7 c = search needs
+array-read-word-of-real-7 c = omega arith
 
 word-of-real-requires-7 : tie.Need-word-of-real-requires-7
 word-of-real-requires-7 c κs = tt
 
 array-read-word-of-real-8 : tie.Need-array-read-word-of-real-8
-array-read-word-of-real-8 c = search needs
+array-read-word-of-real-8 c = omega arith
 
 word-of-real-requires-8 : tie.Need-word-of-real-requires-8
 word-of-real-requires-8 c κs = tt
 
 returns : tie.Need-returns
 unfolding idealWords
-returns c = cc
+returns c =
+    eight-same (λ i. bits (getD (c .before .before .before .before .before .before .before .before .args .t1) i nan)) (c .before .before .before .before .before .before .before .word-of-real .ensures) (c .before .before .before .before .before .before .word-of-real2 .ensures) (c .before .before .before .before .before .word-of-real3 .ensures) (c .before .before .before .before .word-of-real4 .ensures) (c .before .before .before .word-of-real5 .ensures) (c .before .before .word-of-real6 .ensures) (c .before .word-of-real7 .ensures) (c .word-of-real8 .ensures)
 
 pub ideal-words-spec : {M : Type 1} → statement M
 ideal-words-spec =

@@ -1,5 +1,5 @@
 -- Field by field.
-use Rattle.session_encoding.proofs.Laid.{int-laid}
+use Rattle.session_encoding.proofs.Laid.{six-laid}
 use Rattle.settings.proofs.Signed.{back}
 use Rattle.session_encoding.proofs.int_words.Statement.{statement}
 use Rattle.session_encoding.proofs.int_words.Tie as tie
@@ -23,7 +23,7 @@ returns : tie.Need-returns
 returns c =
     let s = c .before .before .before .before .before .before .before in
     let d = s .args .d in
-    int-laid d _ _ _ _ _
+    six-laid 1
     (rw (back (d .low) (c .before .before .before .before .before .before .struct-told .given .0 .1)) at (c .before .before .before .before .before .word-of-int .ensures))
     (rw (back (d .high) (c .before .before .before .before .struct-told2 .given .1 .0 .1)) at (c .before .before .before .word-of-int2 .ensures))
     (c .before .before .mark .ensures) (c .before .has-step-i64 .ensures) (c .step-word-i64 .ensures)

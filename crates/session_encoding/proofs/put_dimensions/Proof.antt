@@ -8,10 +8,10 @@ use mathlib.Core.List.{List}
 use Rattle.model.specs.Lists.{joinBelow}
 use Rattle.model.specs.Session.{overAt, noDimension}
 use Rattle.list_laws.proofs.Built.{joinBelow-none}
-use Rattle.candidates.proofs.Laid.{at-length}
+use Rattle.candidates.proofs.Laid.{at-length, join-next}
 use Rattle.list_laws.proofs.Rows.{joinBelow-length}
 use Rattle.session_words.specs.Coding.{dimensionWords}
-use Rattle.session_encoding.proofs.Laid.{dimension-length, join-next}
+use Rattle.session_encoding.proofs.Laid.{dimension-length}
 use Rattle.session_encoding.proofs.put_dimensions.Statement.{statement}
 use Rattle.session_encoding.proofs.put_dimensions.Tie as tie
 
@@ -64,7 +64,7 @@ loop-again c =
     let f : ℕ → List ℕ = λ i. dimensionWords (getD (a .t1) i noDimension .distribution) in
     let each : (d : ℕ) → length (f d) ≡ 6 = λ d. dimension-length (getD (a .t1) d noDimension .distribution) in
     let w = c .before .before .put .ensures ∙ ap₂ (λ x y. overAt (30 + l .d * 6) x y) (c .before .before .before .before .before .dimension-words .ensures) (l .inv .2)
-    ∙ join-next f 6 each 30 (l .d) (a .words .now) (omega arith) in (
+    ∙ join-next f 6 each 30 (30 + l .d * 6) (l .d) (a .words .now) (omega arith) refl in (
       omega arith,
       ap length w ∙ at-length 30 (joinBelow f (l .d + 1)) (a .words .now) (omega (arith, joinBelow-length f 6 (l .d + 1) (λ i u. each i))),
       w,

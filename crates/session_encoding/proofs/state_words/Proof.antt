@@ -1,5 +1,5 @@
 -- Field by field.
-use Rattle.session_words.specs.Coding.{stateWords}
+use Rattle.session_encoding.proofs.Laid.{state-laid}
 use Rattle.session_encoding.proofs.state_words.Statement.{statement}
 use Rattle.session_encoding.proofs.state_words.Tie as tie
 
@@ -13,8 +13,7 @@ first-word-requires : tie.Need-first-word-requires
 first-word-requires c κs = tt
 
 returns : tie.Need-returns
-unfolding stateWords
-returns c = cc
+returns c = state-laid (c .before .before .before .before .before .args .session) _ _ _ (c .before .before .phase-word .ensures) (c .before .has-first .ensures) (c .first-word .ensures)
 
 pub state-words-spec : {M : Type 1} → statement M
 state-words-spec =

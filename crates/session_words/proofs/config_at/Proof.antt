@@ -1,4 +1,6 @@
 -- Field by field.
+use Rattle.session_words.specs.Coding.{configAt}
+use Rattle.session_words.proofs.Marks.{config-same}
 use Rattle.session_words.proofs.config_at.Statement.{statement}
 use Rattle.session_words.proofs.config_at.Tie as tie
 
@@ -24,7 +26,8 @@ real-at-requires-3 : tie.Need-real-at-requires-3
 real-at-requires-3 c κs = tt
 
 returns : tie.Need-returns
-returns c = cc
+returns c =
+    config-same (configAt (c .before .before .before .before .before .before .before .before .args .words .now)) _ _ _ _ _ _ _ (c .before .before .before .before .before .before .word-at .ensures) (c .before .before .before .before .before .marks-at .ensures) (c .before .before .before .before .word-at2 .ensures) (c .before .before .before .word-at3 .ensures) (c .before .before .real-at .ensures) (c .before .real-at2 .ensures) (c .real-at3 .ensures)
 
 pub config-at-spec : {M : Type 1} → statement M
 config-at-spec =

@@ -1,5 +1,7 @@
 -- Word by word.
-use borrow.Author.Needs.{needs}
+use native.Mathlib.Omega.{arith}
+use mathlib.Core.Path.{_∙_}
+use Rattle.session_words.proofs.Marks.{dimension-same}
 use Rattle.session_words.proofs.dimension_of_words.Statement.{statement}
 use Rattle.session_words.proofs.dimension_of_words.Tie as tie
 
@@ -7,31 +9,31 @@ word-at-requires : tie.Need-word-at-requires
 word-at-requires c κs = tt
 
 add-word-at : tie.Need-add-word-at
-add-word-at c = search needs
+add-word-at c = omega arith
 
 word-at-requires-2 : tie.Need-word-at-requires-2
 word-at-requires-2 c κs = tt
 
 add-word-at-2 : tie.Need-add-word-at-2
-add-word-at-2 c = search needs
+add-word-at-2 c = omega arith
 
 word-at-requires-3 : tie.Need-word-at-requires-3
 word-at-requires-3 c κs = tt
 
 add-word-at-3 : tie.Need-add-word-at-3
-add-word-at-3 c = search needs
+add-word-at-3 c = omega arith
 
 word-at-requires-4 : tie.Need-word-at-requires-4
 word-at-requires-4 c κs = tt
 
 add-word-at-4 : tie.Need-add-word-at-4
-add-word-at-4 c = search needs
+add-word-at-4 c = omega arith
 
 word-at-requires-5 : tie.Need-word-at-requires-5
 word-at-requires-5 c κs = tt
 
 add-word-at-5 : tie.Need-add-word-at-5
-add-word-at-5 c = search needs
+add-word-at-5 c = omega arith
 
 word-at-requires-6 : tie.Need-word-at-requires-6
 word-at-requires-6 c κs = tt
@@ -40,7 +42,9 @@ distribution-of-requires : tie.Need-distribution-of-requires
 distribution-of-requires c κs = tt
 
 returns : tie.Need-returns
-returns c = cc
+returns c =
+    c .distribution-of .ensures
+    ∙ dimension-same (c .before .before .before .before .before .before .before .before .args .words .now) (c .before .before .before .before .before .before .before .before .args .at) _ _ _ _ _ _ (c .before .before .before .before .before .before .word-at .ensures) (c .before .before .before .before .before .word-at2 .ensures) (c .before .before .before .before .word-at3 .ensures) (c .before .before .before .word-at4 .ensures) (c .before .before .word-at5 .ensures) (c .before .word-at6 .ensures)
 
 pub dimension-of-words-spec : {M : Type 1} → statement M
 dimension-of-words-spec =

@@ -1,5 +1,9 @@
 -- Place by place.
 use Rattle.session_words.specs.Coding.{idealAt}
+use Rattle.session_words.proofs.Marks.{eight-same}
+use Prim.Native.Nat.{_+_}
+use lib.ListN.{getD}
+use Rattle.model.specs.Real.{real}
 use Rattle.session_words.proofs.ideal_at.Statement.{statement}
 use Rattle.session_words.proofs.ideal_at.Tie as tie
 
@@ -29,7 +33,8 @@ real-at-requires-8 c κs = tt
 
 returns : tie.Need-returns
 unfolding idealAt
-returns c = cc
+returns c =
+    eight-same (λ i. real (getD (c .before .before .before .before .before .before .before .before .before .args .words .now) (22 + i) 0)) (c .before .before .before .before .before .before .before .real-at .ensures) (c .before .before .before .before .before .before .real-at2 .ensures) (c .before .before .before .before .before .real-at3 .ensures) (c .before .before .before .before .real-at4 .ensures) (c .before .before .before .real-at5 .ensures) (c .before .before .real-at6 .ensures) (c .before .real-at7 .ensures) (c .real-at8 .ensures)
 
 pub ideal-at-spec : {M : Type 1} → statement M
 ideal-at-spec =

@@ -1,5 +1,8 @@
 -- Place by place.
 use Rattle.session_words.specs.Coding.{marksAt}
+use Rattle.session_words.proofs.Marks.{eight-same}
+use Prim.Native.Nat.{_+_, _%_}
+use lib.ListN.{getD}
 use Rattle.session_words.proofs.marks_at.Statement.{statement}
 use Rattle.session_words.proofs.marks_at.Tie as tie
 
@@ -29,7 +32,8 @@ mark-at-requires-8 c κs = tt
 
 returns : tie.Need-returns
 unfolding marksAt
-returns c = cc
+returns c =
+    eight-same (λ i. getD (c .before .before .before .before .before .before .before .before .before .args .words .now) (1 + i) 0 % 256) (c .before .before .before .before .before .before .before .mark-at .ensures) (c .before .before .before .before .before .before .mark-at2 .ensures) (c .before .before .before .before .before .mark-at3 .ensures) (c .before .before .before .before .mark-at4 .ensures) (c .before .before .before .mark-at5 .ensures) (c .before .before .mark-at6 .ensures) (c .before .mark-at7 .ensures) (c .mark-at8 .ensures)
 
 pub marks-at-spec : {M : Type 1} → statement M
 marks-at-spec =

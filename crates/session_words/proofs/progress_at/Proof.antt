@@ -1,4 +1,6 @@
 -- Field by field.
+use Rattle.session_words.specs.Coding.{progressAt}
+use Rattle.session_words.proofs.Marks.{progress-same}
 use Rattle.session_words.proofs.progress_at.Statement.{statement}
 use Rattle.session_words.proofs.progress_at.Tie as tie
 
@@ -15,7 +17,8 @@ word-at-requires-4 : tie.Need-word-at-requires-4
 word-at-requires-4 c κs = tt
 
 returns : tie.Need-returns
-returns c = cc
+returns c =
+    progress-same (progressAt (c .before .before .before .before .before .args .words .now)) _ _ _ _ (c .before .before .before .word-at .ensures) (c .before .before .word-at2 .ensures) (c .before .word-at3 .ensures) (c .word-at4 .ensures)
 
 pub progress-at-spec : {M : Type 1} → statement M
 progress-at-spec =

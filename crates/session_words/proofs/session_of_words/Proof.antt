@@ -1,6 +1,8 @@
 -- Field by field.
-use Rattle.session_words.specs.Coding.{sessionOf}
+use mathlib.Core.Path.{ap, ap₂, _∙_}
+use Rattle.session_words.specs.Coding.{phaseOf, firstOf, sessionOf}
 use borrow.Author.Needs.{needs}
+use Rattle.session_words.proofs.Marks.{session-same}
 use Rattle.session_words.proofs.session_of_words.Statement.{statement}
 use Rattle.session_words.proofs.session_of_words.Tie as tie
 
@@ -36,7 +38,10 @@ progress-at-requires c κs = tt
 
 returns : tie.Need-returns
 unfolding sessionOf
-returns c = cc
+returns c =
+    session-same (sessionOf (c .before .before .before .before .before .before .before .before .before .before .before .args .words .now)) _ _ _ _ _ _ _ (c .before .before .before .before .before .before .before .before .before .config-at .ensures)
+    (c .before .before .before .before .before .before .before .phase-of .ensures ∙ ap phaseOf (c .before .before .before .before .before .before .before .before .word-at .ensures)) (c .before .before .before .before .first-of .ensures ∙ ap₂ firstOf (c .before .before .before .before .before .before .word-at2 .ensures) (c .before .before .before .before .before .word-at3 .ensures))
+    (c .before .before .before .word-at4 .ensures) (c .before .before .dimensions-of-words .ensures) (c .before .ideal-at .ensures) (c .progress-at .ensures)
 
 pub session-of-words-spec : {M : Type 1} → statement M
 session-of-words-spec =

@@ -1,5 +1,6 @@
 -- Past the end the definition reads 0 too.
-use Rattle.session_words.proofs.Marks.{past-end}
+use mathlib.Core.Path.{sym}
+use lib.ListN.{List·getD-eq-default}
 use borrow.Author.Needs.{needs}
 use Rattle.session_words.proofs.word_at.Statement.{statement}
 use Rattle.session_words.proofs.word_at.Tie as tie
@@ -14,7 +15,7 @@ returns : tie.Need-returns
 returns c = search needs
 
 returns-2 : tie.Need-returns-2
-returns-2 c = past-end (c .before .args .words .now) (c .before .args .i) (c .if1 .left)
+returns-2 c = sym (List·getD-eq-default (c .before .args .words .now) 0 (c .if1 .left))
 
 pub word-at-spec : {M : Type 1} → statement M
 word-at-spec = tie.close (tie.spec mul-result shared-slice-read-result returns returns-2)
