@@ -16,7 +16,7 @@ abbrev μ-loop : tie.MeasureT-loop
 μ-loop file at m n pool₀ p₀ i₀ pool p i = n - i
 
 loop-holds : tie.Need-loop-holds Inv-loop μ-loop
-loop-holds c = (omega arith, refl, plans-none _ _ _ _)
+loop-holds c = (omega arith, refl, plans-none _ _ _ (c .before .before .args .pool .now))
 
 block-of-requires : tie.Need-block-of-requires Inv-loop μ-loop
 block-of-requires c κs = search needs

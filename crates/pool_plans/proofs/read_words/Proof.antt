@@ -19,7 +19,7 @@ abbrev μ-loop : tie.MeasureT-loop
 μ-loop file at n keep pool₀ base p₀ i₀ pool p i = n - i
 
 loop-holds : tie.Need-loop-holds Inv-loop μ-loop
-loop-holds c = (omega arith, refl, words-none _ _ _ _ _ _)
+loop-holds c = let a = c .before .before .args in (omega arith, refl, words-none (λ v. v) _ _ (a .keep) (a .base) _)
 
 read-number-requires : tie.Need-read-number-requires Inv-loop μ-loop
 read-number-requires c κs = search needs
