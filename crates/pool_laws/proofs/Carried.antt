@@ -1,23 +1,21 @@
 -- THE SELECTION THAT THE WORDS ASK FOR IS THE FILE'S. The parser's words and marks, as a request of `nsga3_select`, and the request that the file is: the
 -- refusals 2, 3, 4, 7 and 8 are the same, and where neither 2 nor 8 applies the two are one request.
-use Prim.Native.Nat.{ℕ, zero, suc, _+_, _*_, _/_, _≤_, _<_}
+use Prim.Native.Nat.{ℕ, _+_, _*_, _≤_, _<_}
 use mathlib.Core.Path.{_≡_, refl, ap, sym, _∙_, subst, fun-ext}
-use mathlib.Core.Bool.{Bool, true, false, cond, not, _&&_, _||_, and-false, true≢false, false≢true}
+use mathlib.Core.Bool.{Bool, true, false, not, _&&_, _||_, true≢false}
 use mathlib.Core.List.{List, [], _∷_, map}
-use mathlib.Core.Option.{Option, none, some}
-use native.Mathlib.Nat.{not-suc-le-zero, mul-le-mul-right, le-trans}
+use native.Mathlib.Nat.{mul-le-mul-right, le-trans}
 use native.Mathlib.Omega.{arith}
-use borrow.Author.Tests.{lt-ltb, le-ltb, ltb-true, ltb-false, le-leb, lt-leb, leb-true, leb-false}
+use borrow.Author.Tests.{lt-ltb, le-ltb, ltb-true, ltb-false, lt-leb, leb-true}
 use lib.Dec.{eqb, leb, ltb}
 use lib.Ieee.{Float}
 use lib.ListN.{length, getD, take, replicate, length-map, List·getD-eq-default}
 use lib.Seq.{length-take-le, getD-take, take-all}
-use Rattle.model.specs.declared.Rng.{Rng}
 use Rattle.model.specs.Lists.{listBelow, allBelow, allIn}
 use Rattle.model.specs.Real.{infinity}
 use Rattle.model.specs.Plan.{Plan, planOf, planAt, planCount, planWords, maxValues, maxConstraints}
 use Rattle.model.specs.Association.{Request, objectives}
-use Rattle.model.specs.PoolFile.{PoolFile, parse, noPlan, fileRequest}
+use Rattle.model.specs.PoolFile.{PoolFile, noPlan, fileRequest}
 use Rattle.model.specs.Refusal.{Room, maxSize, badDirections, badDivisions, badPool, goodPlan, goodIdeal, noRoom, selectRefusal}
 use Rattle.model.specs.Calls.{wordRequest}
 use Rattle.list_laws.proofs.Bools.{by-bool, and-left, and-right}

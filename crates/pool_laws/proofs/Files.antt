@@ -22,9 +22,9 @@ use Rattle.pool_file.specs.declared.Parsed.{Parsed as Answer}
 use Rattle.pool_file.specs.declared.Parsed.the-variants as answer
 use Rattle.pool_file.specs.Parsing.{PoolIs, Pool, capped}
 use Rattle.pool_number.proofs.Options.{by-option}
-use Rattle.pool_laws.specs.Choice.{exit, textRefusal, requestText, roomy, orElse, listExit, Crowded}
+use Rattle.pool_laws.specs.Choice.{exit, roomy, listExit, Crowded}
 use Rattle.pool_laws.proofs.Carried.{Carried, select-same, carried, stored, directions-same}
-use Rattle.pool_laws.proofs.Refusals.{file-refusal}
+use Rattle.pool_laws.proofs.Refusals.{file-refusal, list-refused}
 use Rattle.pool_laws.proofs.Crowded.{directions-first}
 use Rattle.pool_laws.proofs.Demand3.{choose-demand3}
 
@@ -47,10 +47,7 @@ unfolding selectRefusal
 alike-exit w r c out = by-option (selectRefusal r roomy)
     (λ o. ap (λ (t : Request). listExit t out)
     (c .same (applies-not (List·Memᴰ·head refl) o) (applies-not (List·Memᴰ·tail (List·Memᴰ·tail (List·Memᴰ·tail (List·Memᴰ·tail (List·Memᴰ·head refl))))) o)))
-    (λ n o. by-number w n (select-same w r c roomy ∙ o) ∙ sym (by-number r n o))
-  where
-    by-number : (q : Request) (n : ℕ) → selectRefusal q roomy ≡ some n → listExit q out ≡ exit (chosen.Refused n) out
-    by-number q n o = ap (λ (t : Option ℕ). chooseBy (orElse t (textRefusal (requestText q) (length out))) (requestText q) out) o
+    (λ n o. list-refused w out n (select-same w r c roomy ∙ o) ∙ sym (list-refused r out n o))
 
 -- ---- a file in good form
 

@@ -14,6 +14,13 @@ module _ {A : Type 0} where
   by-option none f g = f refl
   by-option (some a) f g = g a refl
 
+-- a reader after another: where the two read, the first did, and the second what it left
+module _ {A B : Type 0} where
+  pub both-read : (o : Option (Parsed A)) (f : A → Reader B) (p : Parsed B) → onward o f ≡ some p
+      → (q : Parsed A) × (o ≡ some q) × (f (q .value) (q .rest) ≡ some p)
+  both-read none f p e = absurd (Option·none-ne-some p e)
+  both-read (some q) f p e = (q, refl, e)
+
 -- ---- so many of the same
 
 module _ {A : Type 0} (r : Reader A) where
@@ -32,12 +39,11 @@ module _ {A : Type 0} (r : Reader A) where
 
   pub many-parts : (i : ℕ) (bytes : List ℕ) (l : List A) (rest : List ℕ) → many (suc i) r bytes ≡ read l rest → Parts i bytes l rest
   unfolding many
-  many-parts i bytes l rest e = by-option (r bytes)
-      (λ n. absurd (Option·none-ne-some _ (rw n at e)))
-      (λ h f. by-option (many i r (h .rest))
-      (λ n. absurd (Option·none-ne-some _ (rw (f, n) at e)))
-      (λ t g. let s = sym (Option·some-injective _ _ (rw (f, g) at e)) in
-      record { head = h; tail = t; first = f; later = g; values = ap (λ (p : Parsed (List A)). p .value) s; ends = ap (λ (p : Parsed (List A)). p .rest) s }))
+  many-parts i bytes l rest e =
+      let a = both-read (r bytes) _ _ e in
+      let b = both-read (many i r (a .0 .rest)) _ _ (a .2) in
+      let s = Option·some-injective _ _ (sym (b .2)) in
+      record { head = a .0; tail = b .0; first = a .1; later = b .1; values = ap (λ (p : Parsed (List A)). p .value) s; ends = ap (λ (p : Parsed (List A)). p .rest) s }
 
   pub many-length : (i : ℕ) (bytes : List ℕ) (l : List A) (rest : List ℕ) → many i r bytes ≡ read l rest → length l ≡ i
   many-length zero bytes l rest e = ap (λ (p : Parsed (List A)). length (p .value)) (Option·some-injective _ _ (sym e ∙ many-zero bytes))
