@@ -6,7 +6,7 @@ use mathlib.Core.Option.{Option, none, some}
 use native.Mathlib.Omega.{arith}
 use Rattle.model.specs.Kept.{Selected, selected}
 use Rattle.model.specs.PoolFile.{PoolFile, parse, fileRequest, listingText, fileText}
-use Rattle.model.specs.Refusal.{fileRefusal, refusalOfParsed, chooseRefusal}
+use Rattle.model.specs.Refusal.{selectRefusal, fileRefusal, refusalOfParsed, chooseRefusal}
 use Rattle.model.specs.Demand3.{Demand3}
 use Rattle.demand3_laws.specs.Facts.{Accepted}
 use Rattle.demand3_laws.proofs.Accepted.{demand3}
@@ -19,9 +19,9 @@ use Rattle.pool_laws.proofs.Printed.{selected-small}
 use Rattle.pool_laws.proofs.Refusals.{file-selects}
 use Rattle.pool_laws.proofs.FromText.{text-tells, same-list}
 
-file-accepted : (f : PoolFile) (out : ℕ) → Whole f → fileRefusal f out ≡ none → Accepted (fileRequest f)
-unfolding fileRefusal
-file-accepted f out whole e =
+pub file-accepted : (f : PoolFile) → Whole f → selectRefusal (fileRequest f) roomy ≡ none → Accepted (fileRequest f)
+unfolding selectRefusal
+file-accepted f whole e =
     record {
       directions = applies-not (List·Memᴰ·head refl) e;
       divisions = applies-not (List·Memᴰ·tail (List·Memᴰ·tail (List·Memᴰ·head refl))) e;
@@ -37,7 +37,7 @@ file-passes bytes out e f read = subst (λ (o : Option PoolFile). refusalOfParse
 pub choose-demand3 : (bytes : List ℕ) (out : ℕ) → chooseRefusal bytes out ≡ none → (f : PoolFile) → parse bytes ≡ some f → f .size ≤ f .count
     → Demand3 (fileRequest f) (selected (fileRequest f) .kept)
 choose-demand3 bytes out e f read enough =
-    demand3 (fileRequest f) (file-accepted f out (parse-whole bytes f read) (file-passes bytes out e f read)) enough
+    demand3 (fileRequest f) (file-accepted f (parse-whole bytes f read) (file-selects f out (file-passes bytes out e f read))) enough
 
 -- ---- the list that is printed
 
@@ -51,7 +51,7 @@ file-small f out e =
 pub text-kept : (f : PoolFile) (out : ℕ) → Whole f → fileRefusal f out ≡ none → f .size ≤ f .count
     → (n : ℕ) (s : Selected) → Small n s → listingText n s ≡ fileText f → s .kept ≡ selected (fileRequest f) .kept
 text-kept f out whole e enough n s small t =
-    let d = demand3 (fileRequest f) (file-accepted f out whole e) enough in
+    let d = demand3 (fileRequest f) (file-accepted f whole (file-selects f out e)) enough in
     let told = text-tells (f .count) n (selected (fileRequest f)) s (file-small f out e) small (sym t) in
     sym (same-list (f .count) (selected (fileRequest f) .kept) (s .kept) (d .distinct) (d .inPool) (told .size) (told .places))
 

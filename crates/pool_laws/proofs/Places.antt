@@ -2,11 +2,13 @@
 use Prim.Native.Nat.{ℕ, suc, _+_, _≤_, _<_}
 use mathlib.Core.Path.{_≡_, refl, ap, sym, _∙_}
 use mathlib.Core.Bool.{Bool, cond}
+use mathlib.Core.Logic.{_⊎_, ⊎-elim}
 use mathlib.Core.List.{List, [], _∷_, _++_}
+use native.Mathlib.Nat.{eq-or-lt-of-le}
 use native.Mathlib.Numerals.{add-one}
 use native.Mathlib.Omega.{arith}
-use borrow.Author.Tests.{lt-ltb, le-ltb, ltb-true, ltb-false, eq-eqb, ne-eqb, eqb-true, eqb-false}
-use lib.Dec.{eqb, ltb}
+use borrow.Author.Tests.{lt-ltb, le-ltb, eq-eqb, ne-eqb, eqb-true, eqb-false}
+use lib.Dec.{eqb}
 use lib.ListN.{length, getD, take, length-append, List·getD-append}
 use lib.Seq.{length-take-le, getD-append-seam}
 use Rattle.model.specs.Lists.{firstBelow, Distinct}
@@ -33,21 +35,20 @@ module _ (l : List ℕ) (p : ℕ) where
   unfolding placeOf
   not-found h = rw (le-ltb first (length l) (omega arith))
 
-  module _ {C : Type 0} where
-    either : (first < length l → C) → (first ≡ length l → C) → C
-    either f g = by-bool (ltb first (length l))
-        (λ e. f (ltb-true first (length l) e))
-        (λ e. let h = ltb-false first (length l) e in let b = firstBelow-le test (length l) in g (omega arith))
+  -- found, or not
+  where-first : (first ≡ length l) ⊎ (first < length l)
+  where-first = eq-or-lt-of-le (firstBelow-le test (length l))
 
   pub place-le : placeOf l p ≤ length l
-  place-le = either (λ h. omega (arith, found h)) (λ h. omega (arith, not-found h))
+  place-le = ⊎-elim (λ h. omega (arith, not-found h)) (λ h. omega (arith, found h)) where-first
 
   -- a plan is kept at its place
   pub kept-there : (i : ℕ) → placeOf l p ≡ suc i → getD l i 0 ≡ p
-  kept-there i e = either
+  kept-there i e = ⊎-elim
+      (λ h. absurd (omega (arith, not-found h)))
       (λ h. let w : first ≡ i = omega (arith, found h) in
       ap (λ (j : ℕ). getD l j 0) (sym w) ∙ eqb-true (getD l first 0) p (firstBelow-passes test (length l) h))
-      (λ h. absurd (omega (arith, not-found h)))
+      where-first
 
 -- a plan's place is where it is kept, if it is kept once
 pub place-once : (l : List ℕ) → Distinct l → (i : ℕ) → i < length l → placeOf l (getD l i 0) ≡ suc i
@@ -81,22 +82,24 @@ module _ (l : List ℕ) (x p : ℕ) where
 
   -- it is another plan
   place-other : (x ≡ p → ⊥) → placeOf longer p ≡ placeOf l p
-  place-other z = either l p stays
+  place-other z = ⊎-elim
       (λ h. not-found longer p (ap (firstBelow (test longer p)) size ∙ firstBelow-no (test longer p) (length l) (old ∙ h) (last ∙ ne-eqb x p z) ∙ sym size)
       ∙ sym (not-found l p h))
+      stays
+      (where-first l p)
 
   -- it is this plan: its place is the last unless it has one
   place-here : x ≡ p → placeOf longer p ≡ cond (eqb (placeOf l p) 0) (length l + 1) (placeOf l p)
-  place-here z = either l p
-      (λ h. stays h ∙ rw (found l p h, ne-eqb (suc (first l p)) 0 (λ v. omega arith)))
+  place-here z = ⊎-elim
       (λ h. let e : first longer p ≡ length l = ap (firstBelow (test longer p)) size ∙ firstBelow-yes (test longer p) (length l) (old ∙ h) (last ∙ eq-eqb x p z) in
       found longer p (omega (arith, size)) ∙ ap suc e ∙ rw (not-found l p h) (sym (add-one (length l))))
+      (λ h. stays h ∙ rw (found l p h, ne-eqb (suc (first l p)) 0 (λ v. omega arith)))
+      (where-first l p)
 
 -- entry i marked: the place of every plan among the first i + 1 is right
 pub marked-more : (kept before after : List ℕ) (i p n : ℕ) → n ≡ length before → i < length kept → p ≡ getD kept i 0 → Marked before p i after
     → ((q : ℕ) → q < n → getD before q 0 ≡ placeOf (take i kept) q) → (q : ℕ) → q < n → getD after q 0 ≡ placeOf (take (i + 1) kept) q
 marked-more kept before after i p n s l e m f q h =
-    let k : length (take i kept) ≡ i = length-take-le i kept (omega arith) in
     marked ∙ sym (ap (λ (t : List ℕ). placeOf t q) (take-more kept i 0 l))
   where
     marked : getD after q 0 ≡ placeOf (take i kept ++ (getD kept i 0 ∷ [])) q
