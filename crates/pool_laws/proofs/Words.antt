@@ -4,7 +4,7 @@ use mathlib.Core.Path.{_≡_, ap, sym, _∙_}
 use mathlib.Core.List.{List}
 use mathlib.Core.Option.{Option, none, some}
 use native.Mathlib.Omega.{arith}
-use lib.Ieee.{binary64, div, ofBits}
+use lib.Ieee.{Float, binary64, div, ofBits}
 use lib.ListN.{length, take, replicate, length-replicate, replicate-append-replicate}
 use lib.Seq.{take-at}
 use Rattle.model.specs.declared.Chosen.the-variants as chosen
@@ -27,7 +27,10 @@ use Rattle.pool_laws.proofs.Refusals.{list-refused, list-written}
 
 -- ---- the ideal starts at infinity
 
-pub ideal-start : (m : ℕ) → m ≤ 8 → take m (replicate 8 (div binary64 (ofBits binary64 4607182418800017408) (ofBits binary64 0))) ≡ replicate m infinity
+abbrev pub start : ℕ → List Float
+start m = take m (replicate 8 (div binary64 (ofBits binary64 4607182418800017408) (ofBits binary64 0)))
+
+pub ideal-start : (m : ℕ) → m ≤ 8 → start m ≡ replicate m infinity
 unfolding div ofBits
 ideal-start m h =
     let e : 8 ≡ m + (8 - m) = omega arith in
