@@ -139,8 +139,10 @@ returns-2 c =
     let l = c .before .before in
     let p = l .before .before .before .before .before in
     let o = p .before .before in
-    let a = o .before .before .before .before .before .before .before .before .before .before .before .before .before .before .args in
-    l .put-listing .ensures ∙ went o .exits (a .out .now) (p .plan-count .result) (p .plan-count .ensures)
+    let s = o .before .before .before .before .before .before in
+    let out = s .before .before .before .before .before .before .before .before .args .out .now in
+    let text = listingText (p .plan-count .result) (listed (take (o .outcome2 .given .0 .0) (left s .slices .kept)) (left s .slices .fronts) (left s .slices .lines)) in
+    _∙_ {b = textExit text out} (l .put-listing .ensures) (went o .exits out (p .plan-count .result) (p .plan-count .ensures))
 
 pub choose-words-spec : {M : Type 1} → statement M
 choose-words-spec =
