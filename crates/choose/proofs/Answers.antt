@@ -5,7 +5,6 @@ use mathlib.Core.List.{List}
 use mathlib.Core.Option.{Option, none, some}
 use native.Mathlib.Omega.{arith}
 use lib.ListN.{length, length-append}
-use Rattle.model.specs.declared.Chosen.{Chosen}
 use Rattle.model.specs.declared.Chosen.the-variants as chosen
 use Rattle.model.specs.Lists.{over}
 use Rattle.model.specs.PoolFile.{parse, refusedText}
@@ -23,15 +22,6 @@ prints file out after r c a =
       within = omega (arith, simp length-append at (ap length a));
     }
 
-written-not : {C : Type 0} (a b : ℕ) → _≡_ {A = Chosen} (chosen.Written a) (chosen.Refused b) → C
-written-not a b h = let z : _≡_ {A = ℕ} 0 1 = cc in absurd (omega arith)
-
-written-same : (a b : ℕ) → _≡_ {A = Chosen} (chosen.Written a) (chosen.Written b) → a ≡ b
-written-same a b h = cc
-
-refused-same : (a b : ℕ) → _≡_ {A = Chosen} (chosen.Refused a) (chosen.Refused b) → a ≡ b
-refused-same a b h = cc
-
 module _ (file out : List ℕ) (x : ChooseExit) (p : Chooses file out x) (full : length out ≡ maxText) where
   by : (o : Option ℕ) → chooseRefusal file maxText ≡ o → x ≡ chooseBy o (textOf (parse file)) out
   unfolding chooseOf
@@ -39,24 +29,29 @@ module _ (file out : List ℕ) (x : ChooseExit) (p : Chooses file out x) (full :
       p .whole ∙ ap (λ (n : ℕ). chooseBy (chooseRefusal file n) (textOf (parse file)) out) full
       ∙ ap (λ (t : Option ℕ). chooseBy t (textOf (parse file)) out) h
 
+  answer-by : (o : Option ℕ) → chooseRefusal file maxText ≡ o → x .answer ≡ chooseBy o (textOf (parse file)) out .answer
+  answer-by o h = ap (λ (t : ChooseExit). t .answer) (by o h)
+
   print-by : (o : Option ℕ) → chooseRefusal file maxText ≡ o → printed file ≡ printedBy o (textOf (parse file))
   unfolding printed
   print-by o h = ap (λ (t : Option ℕ). printedBy t (textOf (parse file))) h
 
   pub written : (n : ℕ) → x .answer ≡ chosen.Written n → Prints file out (x .out) n
   written n h = by-option (chooseRefusal file maxText)
-      (λ o.
-      let l = written-same n (length (textOf (parse file))) (sym h ∙ ap (λ (t : ChooseExit). t .answer) (by none o)) in
+      (λ o. let q : chosen.Written n ≡ chosen.Written (length (textOf (parse file))) = sym h ∙ answer-by none o in
+      let l : n ≡ length (textOf (parse file)) = cc in
       prints file out (x .out) n (l ∙ ap length (sym (print-by none o)))
       (ap (λ (t : ChooseExit). t .out) (by none o) ∙ ap (λ (t : List ℕ). over t out) (sym (print-by none o))))
-      (λ k o. written-not n k (sym h ∙ ap (λ (t : ChooseExit). t .answer) (by (some k) o)))
+      (λ k o. let q : chosen.Written n ≡ chosen.Refused k = sym h ∙ answer-by (some k) o in
+      let z : _≡_ {A = ℕ} 0 1 = cc in absurd (omega arith))
 
   pub refused : (n : ℕ) → x .answer ≡ chosen.Refused n → (after : List ℕ) (r : ℕ) → r ≡ length (refusedText n) → after ≡ over (refusedText n) (x .out)
       → Prints file out after r
   refused n h after r c a = by-option (chooseRefusal file maxText)
-      (λ o. written-not _ n (sym (ap (λ (t : ChooseExit). t .answer) (by none o)) ∙ h))
-      (λ k o.
-      let e = refused-same k n (sym (ap (λ (t : ChooseExit). t .answer) (by (some k) o)) ∙ h) in
+      (λ o. let q : chosen.Written (length (textOf (parse file))) ≡ chosen.Refused n = sym (answer-by none o) ∙ h in
+      let z : _≡_ {A = ℕ} 0 1 = cc in absurd (omega arith))
+      (λ k o. let q : chosen.Refused k ≡ chosen.Refused n = sym (answer-by (some k) o) ∙ h in
+      let e : k ≡ n = cc in
       let t : printed file ≡ refusedText n = print-by (some k) o ∙ ap refusedText e in
       prints file out after r (c ∙ ap length (sym t))
       (a ∙ ap (over (refusedText n)) (ap (λ (t : ChooseExit). t .out) (by (some k) o)) ∙ ap (λ (s : List ℕ). over s out) (sym t)))

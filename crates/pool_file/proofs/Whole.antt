@@ -1,17 +1,14 @@
 -- The whole file: its header, its marks and its plans, by how far the reader gets.
-use Prim.Native.Nat.{ℕ, _+_, _*_, _≤_, _<_}
+use Prim.Native.Nat.{ℕ, _+_, _≤_, _<_}
 use mathlib.Core.Path.{_≡_, refl, ap, sym, _∙_, subst}
-use mathlib.Core.Bool.{true, false}
-use mathlib.Core.List.{List, [], _∷_, _++_, append-nil, map}
-use mathlib.Core.Option.{Option, none, some}
-use native.Mathlib.Nat.{zero-add}
+use mathlib.Core.List.{List, _++_, append-nil, map}
+use mathlib.Core.Option.{Option, none}
 use native.Mathlib.Omega.{arith}
 use borrow.Author.Tests.{le-leb, lt-leb}
-use lib.Dec.{leb}
-use lib.ListN.{length, getD, take, drop, length-map, drop-of-length-le}
+use lib.ListN.{length, take, drop, length-map, drop-of-length-le}
 use lib.Seq.{sets, sets-eq, drop-cons, take-all, take-at}
-use Rattle.model.specs.Plan.{Plan, planAt, maxValues}
-use Rattle.model.specs.PoolFile.{Parsed, PoolFile, onward, number, many, plan, poolFile, parse, wholly, ifNoneLeft, maxFile, noPlan}
+use Rattle.model.specs.Plan.{Plan, maxValues}
+use Rattle.model.specs.PoolFile.{Parsed, onward, number, many, plan, poolFile, parse, wholly, ifNoneLeft, maxFile}
 use Rattle.pool_plans.specs.declared.End.{End}
 use Rattle.pool_plans.specs.declared.End.the-variants as end
 use Rattle.pool_file.specs.declared.Header.{Header}
@@ -19,15 +16,14 @@ use Rattle.pool_file.specs.declared.Heading.{Heading}
 use Rattle.pool_file.specs.declared.Heading.the-variants as heading
 use Rattle.pool_number.specs.Reading.{read}
 use Rattle.pool_plans.specs.Blocks.{Words, WordsIs, Plans, PlansIs}
-use Rattle.pool_file.specs.Parsing.{HeadingIs, Pool, capped, afterHeader}
+use Rattle.pool_file.specs.Parsing.{headerOf, fileOf, afterHeader, HeadingIs, Pool, capped}
 use Rattle.pool_number.proofs.Options.{by-option, many-length}
 use Rattle.pool_plans.proofs.Storing.{stored-plain}
 
 -- ---- the header
 
 -- its five numbers are read as many of the same, and what follows by them
-pub header-first : (bytes : List ℕ)
-    → poolFile bytes ≡ onward (many 5 number bytes) (λ l. afterHeader (getD l 0 0) (getD l 1 0) (getD l 2 0) (getD l 3 0) (getD l 4 0))
+pub header-first : (bytes : List ℕ) → poolFile bytes ≡ onward (many 5 number bytes) (λ l. afterHeader (headerOf l))
 unfolding poolFile afterHeader many
 header-first bytes = by-option (number bytes)
     (λ n. rw n)
@@ -44,7 +40,7 @@ header-first bytes = by-option (number bytes)
 module _ (file l o : List ℕ) (r : End) (w : WordsIs (λ v. v) file 0 5 5 0 l o r) where
   pub header-none : r ≡ end.Broken → poolFile file ≡ none
   header-none e =
-      header-first file ∙ ap (λ (t : Option (Parsed (List ℕ))). onward t (λ k. afterHeader (getD k 0 0) (getD k 1 0) (getD k 2 0) (getD k 3 0) (getD k 4 0)))
+      header-first file ∙ ap (λ (t : Option (Parsed (List ℕ))). onward t (λ k. afterHeader (headerOf k)))
       (subst (λ (x : End). WordsIs (λ v. v) file 0 5 5 0 l o x) e w)
 
   module _ (next : ℕ) (e : r ≡ end.At next) (room : length l ≡ 5) where
@@ -52,44 +48,32 @@ module _ (file l o : List ℕ) (r : End) (w : WordsIs (λ v. v) file 0 5 5 0 l o
     five = subst (λ (x : End). WordsIs (λ v. v) file 0 5 5 0 l o x) e w
 
     -- the words hold what was read
-    in-words : o ≡ five .values
+    in-words : o ≡ five .value
     in-words =
-        let c = many-length number 5 (drop 0 file) (five .values) (drop next file) (five .reads) in
-        stored-plain file 0 5 5 0 l o next five ∙ ap (sets l 0) (take-all 5 (five .values) (omega arith)) ∙ sets-eq (five .values) l 0 (omega arith)
-        ∙ ap (λ (t : List ℕ). five .values ++ t) (drop-of-length-le l {i = 0 + length (five .values)} (omega arith)) ∙ append-nil (five .values)
+        let c = many-length number 5 (drop 0 file) (five .value) (drop next file) (five .reads) in
+        stored-plain 5 0 l o (five .value) (five .stored) ∙ ap (sets l 0) (take-all 5 (five .value) (omega arith)) ∙ sets-eq (five .value) l 0 (omega arith)
+        ∙ ap (λ (t : List ℕ). five .value ++ t) (drop-of-length-le l {i = 0 + length (five .value)} (omega arith)) ∙ append-nil (five .value)
 
-    pub header-good : poolFile file ≡ afterHeader (getD o 0 0) (getD o 1 0) (getD o 2 0) (getD o 3 0) (getD o 4 0) (drop next file)
+    pub header-good : poolFile file ≡ afterHeader (headerOf o) (drop next file)
     header-good =
-        header-first file ∙ ap (λ (t : Option (Parsed (List ℕ))). onward t (λ k. afterHeader (getD k 0 0) (getD k 1 0) (getD k 2 0) (getD k 3 0) (getD k 4 0))) (five .reads)
-        ∙ ap (λ (k : List ℕ). afterHeader (getD k 0 0) (getD k 1 0) (getD k 2 0) (getD k 3 0) (getD k 4 0) (drop next file)) (sym in-words)
+        header-first file ∙ ap (λ (t : Option (Parsed (List ℕ))). onward t (λ k. afterHeader (headerOf k))) (five .reads)
+        ∙ ap (λ (k : List ℕ). afterHeader (headerOf k) (drop next file)) (sym in-words)
 
 -- ---- marks, plans and end
 
-module _ (m h s n d : ℕ) (b₀ : List ℕ) where
-  after-no-marks : many m number b₀ ≡ none → afterHeader m h s n d b₀ ≡ none
+module _ (h : Header) (b₀ : List ℕ) where
+  after-no-marks : many (h .m) number b₀ ≡ none → afterHeader h b₀ ≡ none
   unfolding afterHeader
   after-no-marks e = rw e
 
-  after-no-plans : (marks b₁ : List ℕ) → many m number b₀ ≡ read marks b₁ → many n (plan m) b₁ ≡ none → afterHeader m h s n d b₀ ≡ none
-  unfolding afterHeader
-  after-no-plans marks b₁ e f = rw (e, f)
+  module _ (marks b₁ : List ℕ) (e : many (h .m) number b₀ ≡ read marks b₁) where
+    after-no-plans : many (h .count) (plan (h .m)) b₁ ≡ none → afterHeader h b₀ ≡ none
+    unfolding afterHeader
+    after-no-plans f = rw (e, f)
 
--- the file that was read
-abbrev formed : Header → List ℕ → List Plan → PoolFile
-formed h marks plans = record {
-  objectives = h .m;
-  divisions = h .divisions;
-  size = h .size;
-  count = h .count;
-  seed = h .seed;
-  marks = marks;
-  plans = plans;
-}
-
-after-good : (h : Header) (b₀ marks b₁ : List ℕ) (plans : List Plan) (b₂ : List ℕ) → many (h .m) number b₀ ≡ read marks b₁
-    → many (h .count) (plan (h .m)) b₁ ≡ read plans b₂ → afterHeader (h .m) (h .divisions) (h .size) (h .count) (h .seed) b₀ ≡ read (formed h marks plans) b₂
-unfolding afterHeader
-after-good h b₀ marks b₁ plans b₂ e f = rw (e, f)
+    after-good : (plans : List Plan) (b₂ : List ℕ) → many (h .count) (plan (h .m)) b₁ ≡ read plans b₂ → afterHeader h b₀ ≡ read (fileOf h marks plans) b₂
+    unfolding afterHeader
+    after-good plans b₂ f = rw (e, f)
 
 pub parse-long : (file : List ℕ) → maxFile < length file → parse file ≡ none
 unfolding parse
@@ -101,7 +85,7 @@ parse-short file h = rw (le-leb (length file) maxFile h)
 
 -- the header is read, up to `at`
 abbrev pub Begun : List ℕ → Header → ℕ → Type 0
-Begun file h at = parse file ≡ wholly (afterHeader (h .m) (h .divisions) (h .size) (h .count) (h .seed) (drop at file))
+Begun file h at = parse file ≡ wholly (afterHeader h (drop at file))
 
 module _ (file : List ℕ) (fits : length file ≤ maxFile) (r : Heading) (k : HeadingIs file r) where
   pub parse-no-header : r ≡ heading.Broken → parse file ≡ none
@@ -119,7 +103,7 @@ pub record Marked (file : List ℕ) (h : Header) (l o : List ℕ) (next : ℕ) :
 module _ (file : List ℕ) (h : Header) (at : ℕ) (b : Begun file h at) (l o : List ℕ) (q : End) (w : WordsIs capped file at (h .m) maxValues 0 l o q) where
   pub parse-no-marks : q ≡ end.Broken → parse file ≡ none
   parse-no-marks g =
-      b ∙ ap wholly (after-no-marks (h .m) (h .divisions) (h .size) (h .count) (h .seed) (drop at file)
+      b ∙ ap wholly (after-no-marks h (drop at file)
       (subst (λ (x : End). WordsIs capped file at (h .m) maxValues 0 l o x) g w))
 
   pub parse-marked : (next : ℕ) → q ≡ end.At next → Marked file h l o next
@@ -128,22 +112,22 @@ module _ (file : List ℕ) (h : Header) (at : ℕ) (b : Begun file h at) (l o : 
 module _ (file : List ℕ) (h : Header) (l o : List ℕ) (next : ℕ) (m : Marked file h l o next) (pool : List ℕ) (y : End)
     (v : PlansIs file next (h .m) (h .count) pool y) where
   abbrev values : List ℕ
-  values = m .marks .values
+  values = m .marks .value
 
   pub parse-no-plans : y ≡ end.Broken → parse file ≡ none
   parse-no-plans z =
-      m .begun ∙ ap wholly (after-no-plans (h .m) (h .divisions) (h .size) (h .count) (h .seed) (drop (m .at) file) values (drop next file) (m .marks .reads)
+      m .begun ∙ ap wholly (after-no-plans h (drop (m .at) file) values (drop next file) (m .marks .reads)
       (subst (λ (x : End). PlansIs file next (h .m) (h .count) pool x) z v))
 
   module _ (stop : ℕ) (z : y ≡ end.At stop) where
     plans : Plans file next (h .m) (h .count) pool stop
     plans = subst (λ (x : End). PlansIs file next (h .m) (h .count) pool x) z v
 
-    whole : parse file ≡ ifNoneLeft (drop stop file) (formed h values (plans .plans))
-    whole = m .begun ∙ ap wholly (after-good h (drop (m .at) file) values (drop next file) (plans .plans) (drop stop file) (m .marks .reads) (plans .reads))
+    whole : parse file ≡ ifNoneLeft (drop stop file) (fileOf h values (plans .value))
+    whole = m .begun ∙ ap wholly (after-good h (drop (m .at) file) values (drop next file) (m .marks .reads) (plans .value) (drop stop file) (plans .reads))
 
     pub parse-runs-on : stop < length file → parse file ≡ none
-    parse-runs-on u = whole ∙ ap (λ (t : List ℕ). ifNoneLeft t (formed h values (plans .plans))) (drop-cons file stop 0 u)
+    parse-runs-on u = whole ∙ ap (λ (t : List ℕ). ifNoneLeft t (fileOf h values (plans .value))) (drop-cons file stop 0 u)
 
     counted : length values ≡ h .m
     counted = many-length number (h .m) (drop (m .at) file) values (drop next file) (m .marks .reads)
@@ -157,15 +141,15 @@ module _ (file : List ℕ) (h : Header) (l o : List ℕ) (next : ℕ) (m : Marke
 
     pub parse-good : 8 ≤ length l → length file ≤ stop → Pool file h o pool
     parse-good room u = record {
-      form = formed h values (plans .plans);
-      parsed = whole ∙ ap (λ (t : List ℕ). ifNoneLeft t (formed h values (plans .plans))) (drop-of-length-le file u);
+      form = fileOf h values (plans .value);
+      parsed = whole ∙ ap (λ (t : List ℕ). ifNoneLeft t (fileOf h values (plans .value))) (drop-of-length-le file u);
       objectives = refl;
       divisions = refl;
       size = refl;
       count = refl;
       seed = refl;
       markCount = counted;
-      planCount = many-length (plan (h .m)) (h .count) (drop next file) (plans .plans) (drop stop file) (plans .reads);
+      planCount = many-length (plan (h .m)) (h .count) (drop next file) (plans .value) (drop stop file) (plans .reads);
       marks = shown room;
       plans = plans .stored;
     }

@@ -6,7 +6,7 @@ use mathlib.Core.List.{List, map}
 use mathlib.Core.Option.{none, some}
 use lib.Dec.{ltb}
 use lib.ListN.{length, getD, take, drop}
-use Rattle.model.specs.Plan.{planAt, maxValues}
+use Rattle.model.specs.Plan.{Plan, planAt, maxValues}
 use Rattle.model.specs.PoolFile.{Reader, PoolFile, pure, _>>=_, number, many, plan, poolFile, parse, noPlan}
 use Rattle.model.specs.Refusal.{maxSize}
 use Rattle.pool_plans.specs.Blocks.{roomed}
@@ -20,15 +20,30 @@ use Rattle.pool_file.specs.declared.Parsed.the-variants as answer
 abbrev pub capped : ℕ → ℕ
 capped k = cond (ltb k 2) k 2
 
--- what follows the five numbers of the header
-unfoldable pub afterHeader : ℕ → ℕ → ℕ → ℕ → ℕ → Reader PoolFile
-afterHeader m h size count seed = do
-  marks ← many m number
-  plans ← many count (plan m)
-  pure (record { objectives = m; divisions = h; size = size; count = count; seed = seed; marks = marks; plans = plans })
+-- the header that five numbers form, and the file that it forms with its marks and its plans
+abbrev pub headerOf : List ℕ → Header
+headerOf l = record { m = getD l 0 0; divisions = getD l 1 0; size = getD l 2 0; count = getD l 3 0; seed = getD l 4 0 }
+
+abbrev pub fileOf : Header → List ℕ → List Plan → PoolFile
+fileOf h marks plans = record {
+  objectives = h .m;
+  divisions = h .divisions;
+  size = h .size;
+  count = h .count;
+  seed = h .seed;
+  marks = marks;
+  plans = plans;
+}
+
+-- what follows the header
+unfoldable pub afterHeader : Header → Reader PoolFile
+afterHeader h = do
+  marks ← many (h .m) number
+  plans ← many (h .count) (plan (h .m))
+  pure (fileOf h marks plans)
 
 abbrev pub HeadingIs : List ℕ → Heading → Type 0
-HeadingIs file (heading.Good h at) = poolFile file ≡ afterHeader (h .m) (h .divisions) (h .size) (h .count) (h .seed) (drop at file)
+HeadingIs file (heading.Good h at) = poolFile file ≡ afterHeader h (drop at file)
 HeadingIs file heading.Broken = poolFile file ≡ none
 
 -- a file in good form: the header's numbers, the marks and the plans as they are stored

@@ -1,26 +1,24 @@
 -- THE SELECTION THAT THE WORDS ASK FOR IS THE FILE'S. The parser's words and marks, as a request of `nsga3_select`, and the request that the file is: the
 -- refusals 2, 3, 4, 7 and 8 are the same, and where neither 2 nor 8 applies the two are one request.
-use Prim.Native.Nat.{ℕ, zero, suc, _+_, _*_, _/_, _≤_, _<_}
+use Prim.Native.Nat.{ℕ, _+_, _*_, _≤_, _<_}
 use mathlib.Core.Path.{_≡_, refl, ap, sym, _∙_, subst, fun-ext}
-use mathlib.Core.Bool.{Bool, true, false, cond, not, _&&_, _||_, and-false, true≢false, false≢true}
+use mathlib.Core.Bool.{Bool, true, false, not, _&&_}
 use mathlib.Core.List.{List, [], _∷_, map}
-use mathlib.Core.Option.{Option, none, some}
-use native.Mathlib.Nat.{not-suc-le-zero, mul-le-mul-right, le-trans}
+use native.Mathlib.Nat.{mul-le-mul-right, le-trans}
 use native.Mathlib.Omega.{arith}
-use borrow.Author.Tests.{lt-ltb, le-ltb, ltb-true, ltb-false, le-leb, lt-leb, leb-true, leb-false}
+use borrow.Author.Tests.{not-false, lt-ltb, le-ltb, ltb-true, ltb-false, lt-leb, leb-true}
 use lib.Dec.{eqb, leb, ltb}
 use lib.Ieee.{Float}
 use lib.ListN.{length, getD, take, replicate, length-map, List·getD-eq-default}
 use lib.Seq.{length-take-le, getD-take, take-all}
-use Rattle.model.specs.declared.Rng.{Rng}
 use Rattle.model.specs.Lists.{listBelow, allBelow, allIn}
 use Rattle.model.specs.Real.{infinity}
 use Rattle.model.specs.Plan.{Plan, planOf, planAt, planCount, planWords, maxValues, maxConstraints}
 use Rattle.model.specs.Association.{Request, objectives}
-use Rattle.model.specs.PoolFile.{PoolFile, parse, noPlan, fileRequest}
+use Rattle.model.specs.PoolFile.{PoolFile, noPlan, fileRequest}
 use Rattle.model.specs.Refusal.{Room, maxSize, badDirections, badDivisions, badPool, goodPlan, goodIdeal, noRoom, selectRefusal}
 use Rattle.model.specs.Calls.{wordRequest}
-use Rattle.list_laws.proofs.Bools.{by-bool, and-left, and-right}
+use Rattle.list_laws.proofs.Bools.{by-bool, and-left, and-right, or-right}
 use Rattle.list_laws.proofs.Tests.{allBelow-same}
 use Rattle.demand3_laws.proofs.Accepted.{pool-plan}
 use Rattle.pool_file.specs.declared.Header.{Header}
@@ -60,11 +58,7 @@ directions-same l = rw (length-map, marks-good l)
 
 directions-good : (l : List ℕ) → badDirections l ≡ false → allIn (λ k. leb k 1) l ≡ true
 unfolding badDirections
-directions-good l h = by-bool (allIn (λ k. leb k 1) l) (λ e. e) (λ e. absurd (never (not (leb 1 (length l) && leb (length l) 8)) (rw e at h)))
-  where
-    never : (b : Bool) → (b || true) ≡ false → ⊥
-    never true e = true≢false e
-    never false e = true≢false e
+directions-good l h = not-false _ (or-right (not (leb 1 (length l) && leb (length l) 8)) _ h)
 
 -- ---- plans
 
@@ -108,16 +102,9 @@ abbrev asked : List ℕ → ℕ → ℕ → ℕ → (ℕ → Plan) → List Floa
 asked marks divisions size count plans ideal state =
     record { marks = marks; divisions = divisions; size = size; count = count; plans = plans; ideal = ideal; state = state }
 
-request-same : (w r : Request) → w .marks ≡ r .marks → w .divisions ≡ r .divisions → w .size ≡ r .size → w .count ≡ r .count → w .plans ≡ r .plans
-    → w .ideal ≡ r .ideal → w .state ≡ r .state → w ≡ r
-request-same w r a b c d e f g =
-    ap (λ (x : List ℕ). asked x (w .divisions) (w .size) (w .count) (w .plans) (w .ideal) (w .state)) a
-    ∙ ap (λ (x : ℕ). asked (r .marks) x (w .size) (w .count) (w .plans) (w .ideal) (w .state)) b
-    ∙ ap (λ (x : ℕ). asked (r .marks) (r .divisions) x (w .count) (w .plans) (w .ideal) (w .state)) c
-    ∙ ap (λ (x : ℕ). asked (r .marks) (r .divisions) (r .size) x (w .plans) (w .ideal) (w .state)) d
-    ∙ ap (λ (x : ℕ → Plan). asked (r .marks) (r .divisions) (r .size) (r .count) x (w .ideal) (w .state)) e
-    ∙ ap (λ (x : List Float). asked (r .marks) (r .divisions) (r .size) (r .count) (r .plans) x (w .state)) f
-    ∙ ap (λ (x : ℕ). asked (r .marks) (r .divisions) (r .size) (r .count) (r .plans) (r .ideal) x) g
+request-same : {m m′ : List ℕ} {h h′ s s′ n n′ g g′ : ℕ} {p p′ : ℕ → Plan} {i i′ : List Float} → m ≡ m′ → h ≡ h′ → s ≡ s′ → n ≡ n′ → p ≡ p′ → i ≡ i′ → g ≡ g′
+    → asked m h s n p i g ≡ asked m′ h′ s′ n′ p′ i′ g′
+request-same a b c d e f k = rw (a, b, c, d, e, f, k)
 
 pool-same : (w r : Request) → objectives w ≡ objectives r → w .count ≡ r .count
     → ((p : ℕ) → goodPlan (objectives w) (w .plans p) ≡ goodPlan (objectives r) (r .plans p)) → w .ideal ≡ r .ideal → badPool w ≡ badPool r
@@ -217,7 +204,7 @@ module _ (file : List ℕ) (h : Header) (directions pool : List ℕ) (w : Pool f
         four = ap (λ (k : ℕ). badDivisions k (h .divisions)) o ∙ ap (badDivisions (length (f .marks))) (sym (w .divisions));
         count = n;
         eight = pool-same (stored h directions pool) (fileRequest f) o n g i;
-        same = λ a b. request-same (stored h directions pool) (fileRequest f)
+        same = λ a b. request-same
             (marks ∙ marks-same (f .marks) (directions-good (f .marks) a)) (sym (w .divisions)) (sym (w .size)) n
             (fun-ext (λ p. either p
             (λ l. plan-same p l (pool-good (fileRequest f) b p (subst (λ (k : ℕ). p < k) (sym (w .count)) l)))

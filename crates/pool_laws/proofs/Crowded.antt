@@ -1,22 +1,17 @@
 -- The number that answers a pool of more than 1,024 plans, test by test.
 use Prim.Native.Nat.{ℕ, _<_}
-use mathlib.Core.Path.{_≡_, refl, ap, _∙_}
-use mathlib.Core.Bool.{Bool, true, false, _||_}
+use mathlib.Core.Path.{_≡_, _∙_}
+use mathlib.Core.Bool.{true, false, or-true}
 use mathlib.Core.List.{List}
 use mathlib.Core.Option.{some}
 use borrow.Author.Tests.{lt-ltb}
-use lib.Dec.{eqb}
 use lib.ListN.{length}
-use Rattle.model.specs.PoolFile.{PoolFile, fileRequest}
+use Rattle.model.specs.PoolFile.{PoolFile}
 use Rattle.model.specs.Refusal.{maxSize, firstOf, badDirections, badSize, badDivisions, badCount, fileRefusal}
 use Rattle.pool_laws.specs.Choice.{Crowded}
 
 many-plans : (n : ℕ) → maxSize < n → badCount n ≡ true
-many-plans n h = or-true (eqb n 0) (lt-ltb maxSize n h)
-  where
-    or-true : (a : Bool) {b : Bool} → b ≡ true → (a || b) ≡ true
-    or-true true e = refl
-    or-true false e = e
+many-plans n h = rw (lt-ltb maxSize n h, or-true)
 
 pub directions-first : (f : PoolFile) (out : ℕ) → badDirections (f .marks) ≡ true → fileRefusal f out ≡ some 2
 unfolding fileRefusal firstOf

@@ -1,6 +1,6 @@
 -- DEMAND 3 as `choose` promises it: the plans of a pool file in good form have as many values as there are objectives.
 use Prim.Native.Nat.{ℕ, _≤_}
-use mathlib.Core.Path.{_≡_, refl, sym, _∙_, subst}
+use mathlib.Core.Path.{_≡_, refl, sym, subst}
 use mathlib.Core.List.{List, List·Memᴰ·head, List·Memᴰ·tail}
 use mathlib.Core.Option.{Option, none, some}
 use native.Mathlib.Omega.{arith}
@@ -12,16 +12,16 @@ use Rattle.demand3_laws.specs.Facts.{Accepted}
 use Rattle.demand3_laws.proofs.Accepted.{demand3}
 use Rattle.list_laws.proofs.Checks.{applies-not}
 use Rattle.nsga3_laws.proofs.Admitted.{admitted}
-use Rattle.pool_laws.specs.Choice.{roomy, orElse}
+use Rattle.pool_laws.specs.Choice.{roomy}
 use Rattle.pool_laws.proofs.Shapes.{Whole, parse-whole}
 use Rattle.pool_laws.proofs.Lengths.{Small}
 use Rattle.pool_laws.proofs.Printed.{selected-small}
-use Rattle.pool_laws.proofs.Refusals.{file-refusal}
+use Rattle.pool_laws.proofs.Refusals.{file-selects}
 use Rattle.pool_laws.proofs.FromText.{text-tells, same-list}
 
-file-accepted : (f : PoolFile) (out : ℕ) → Whole f → fileRefusal f out ≡ none → Accepted (fileRequest f)
-unfolding fileRefusal
-file-accepted f out whole e =
+pub file-accepted : (f : PoolFile) → Whole f → selectRefusal (fileRequest f) roomy ≡ none → Accepted (fileRequest f)
+unfolding selectRefusal
+file-accepted f whole e =
     record {
       directions = applies-not (List·Memᴰ·head refl) e;
       divisions = applies-not (List·Memᴰ·tail (List·Memᴰ·tail (List·Memᴰ·head refl))) e;
@@ -29,29 +29,29 @@ file-accepted f out whole e =
       rows = λ p l. omega (arith, whole .marks, whole .plans p l .row);
     }
 
+-- a file in good form is refused as its bytes are
+file-passes : (bytes : List ℕ) (out : ℕ) → chooseRefusal bytes out ≡ none → (f : PoolFile) → parse bytes ≡ some f → fileRefusal f out ≡ none
+unfolding chooseRefusal
+file-passes bytes out e f read = subst (λ (o : Option PoolFile). refusalOfParsed o out ≡ none) read e
+
 pub choose-demand3 : (bytes : List ℕ) (out : ℕ) → chooseRefusal bytes out ≡ none → (f : PoolFile) → parse bytes ≡ some f → f .size ≤ f .count
     → Demand3 (fileRequest f) (selected (fileRequest f) .kept)
-unfolding chooseRefusal
 choose-demand3 bytes out e f read enough =
-    demand3 (fileRequest f) (file-accepted f out (parse-whole bytes f read) (subst (λ (o : Option PoolFile). refusalOfParsed o out ≡ none) read e)) enough
+    demand3 (fileRequest f) (file-accepted f (parse-whole bytes f read) (file-selects f out (file-passes bytes out e f read))) enough
 
 -- ---- the list that is printed
 
 -- the numbers of what a file selects are small
 file-small : (f : PoolFile) (out : ℕ) → fileRefusal f out ≡ none → Small (f .count) (selected (fileRequest f))
 file-small f out e =
-    let a = admitted (fileRequest f) roomy (first-none (selectRefusal (fileRequest f) roomy) _ (sym (file-refusal f out) ∙ e)) in
-    selected-small (fileRequest f) (a .few) (a .fewPlans) (a .fewLines)
-  where
-    first-none : (a b : Option ℕ) → orElse a b ≡ none → a ≡ none
-    first-none none b h = refl
-    first-none (some n) b h = h
+    let a = admitted (fileRequest f) roomy (file-selects f out e) in
+    selected-small (fileRequest f) (a .few) (a .fewPlans) (a .someLines) (a .fewLines)
 
 -- THE TEXT DETERMINES THE LIST: whatever selection has the listing that is printed for a file has the file's kept list
 pub text-kept : (f : PoolFile) (out : ℕ) → Whole f → fileRefusal f out ≡ none → f .size ≤ f .count
     → (n : ℕ) (s : Selected) → Small n s → listingText n s ≡ fileText f → s .kept ≡ selected (fileRequest f) .kept
 text-kept f out whole e enough n s small t =
-    let d = demand3 (fileRequest f) (file-accepted f out whole e) enough in
+    let d = demand3 (fileRequest f) (file-accepted f whole (file-selects f out e)) enough in
     let told = text-tells (f .count) n (selected (fileRequest f)) s (file-small f out e) small (sym t) in
     sym (same-list (f .count) (selected (fileRequest f) .kept) (s .kept) (d .distinct) (d .inPool) (told .size) (told .places))
 
@@ -63,8 +63,7 @@ one-list f g out room whole e h enough t = text-kept f out whole e enough (g .co
 -- and demand 3 holds of the list that is printed
 pub printed-demand3 : (bytes : List ℕ) (out : ℕ) → chooseRefusal bytes out ≡ none → (f : PoolFile) → parse bytes ≡ some f → f .size ≤ f .count
     → (n : ℕ) (s : Selected) → Small n s → listingText n s ≡ fileText f → Demand3 (fileRequest f) (s .kept)
-unfolding chooseRefusal
 printed-demand3 bytes out e f read enough n s small t =
     subst (λ (l : List ℕ). Demand3 (fileRequest f) l)
-    (sym (text-kept f out (parse-whole bytes f read) (subst (λ (o : Option PoolFile). refusalOfParsed o out ≡ none) read e) enough n s small t))
+    (sym (text-kept f out (parse-whole bytes f read) (file-passes bytes out e f read) enough n s small t))
     (choose-demand3 bytes out e f read enough)

@@ -1,8 +1,8 @@
 -- From the parser's answer to the promise of `choose`.
 use Prim.Native.Nat.{ℕ, _*_, _≤_, _<_}
-use mathlib.Core.Path.{_≡_, refl, ap, sym, _∙_, subst}
+use mathlib.Core.Path.{_≡_, ap, sym, _∙_, subst}
 use mathlib.Core.Bool.{true, and-false}
-use mathlib.Core.List.{List, map, List·Memᴰ·head, List·Memᴰ·tail}
+use mathlib.Core.List.{List, map}
 use mathlib.Core.Option.{Option, none, some}
 use native.Mathlib.Omega.{arith}
 use borrow.Author.Tests.{lt-leb}
@@ -16,17 +16,17 @@ use Rattle.model.specs.Association.{Request}
 use Rattle.model.specs.PoolFile.{PoolFile, parse, fileRequest, fileText}
 use Rattle.model.specs.Refusal.{maxSize, badDirections, selectRefusal, refusalOfParsed, fileRefusal, chooseRefusal}
 use Rattle.model.specs.Calls.{ChooseExit, chooseBy, textOf, chooseOf, Chooses, wordRequest}
-use Rattle.list_laws.proofs.Checks.{applies-not}
 use Rattle.pool_file.specs.declared.Header.{Header}
 use Rattle.pool_file.specs.declared.Parsed.{Parsed as Answer}
 use Rattle.pool_file.specs.declared.Parsed.the-variants as answer
 use Rattle.pool_file.specs.Parsing.{PoolIs, Pool, capped}
 use Rattle.pool_number.proofs.Options.{by-option}
-use Rattle.pool_laws.specs.Choice.{exit, textRefusal, requestText, roomy, orElse, listExit, Crowded}
+use Rattle.pool_laws.specs.Choice.{exit, roomy, listExit, Crowded}
+use Rattle.pool_laws.proofs.Shapes.{Whole, parse-whole}
 use Rattle.pool_laws.proofs.Carried.{Carried, select-same, carried, stored, directions-same}
-use Rattle.pool_laws.proofs.Refusals.{file-refusal}
+use Rattle.pool_laws.proofs.Refusals.{file-refusal, list-refused}
 use Rattle.pool_laws.proofs.Crowded.{directions-first}
-use Rattle.pool_laws.proofs.Demand3.{choose-demand3}
+use Rattle.pool_laws.proofs.Demand3.{file-accepted, choose-demand3}
 
 promise : (file out : List ℕ) (x : ChooseExit) → x ≡ chooseOf file out → Chooses file out x
 promise file out x e = record { whole = e; demand3 = choose-demand3 file (length out) }
@@ -42,15 +42,10 @@ broken file directions pool a p e out =
 
 -- ---- the words' request and the file's
 
-alike-exit : (w r : Request) → Carried w r → (out : List ℕ) → listExit w out ≡ listExit r out
-unfolding selectRefusal
-alike-exit w r c out = by-option (selectRefusal r roomy)
-    (λ o. ap (λ (t : Request). listExit t out)
-    (c .same (applies-not (List·Memᴰ·head refl) o) (applies-not (List·Memᴰ·tail (List·Memᴰ·tail (List·Memᴰ·tail (List·Memᴰ·tail (List·Memᴰ·head refl))))) o)))
-    (λ n o. by-number w n (select-same w r c roomy ∙ o) ∙ sym (by-number r n o))
-  where
-    by-number : (q : Request) (n : ℕ) → selectRefusal q roomy ≡ some n → listExit q out ≡ exit (chosen.Refused n) out
-    by-number q n o = ap (λ (t : Option ℕ). chooseBy (orElse t (textRefusal (requestText q) (length out))) (requestText q) out) o
+alike-exit : (f : PoolFile) → Whole f → (w : Request) → Carried w (fileRequest f) → (out : List ℕ) → listExit w out ≡ listExit (fileRequest f) out
+alike-exit f whole w c out = by-option (selectRefusal (fileRequest f) roomy)
+    (λ o. let a = file-accepted f whole o in ap (λ (t : Request). listExit t out) (c .same (a .directions) (a .pool)))
+    (λ n o. list-refused w out n (select-same w (fileRequest f) c roomy ∙ o) ∙ sym (list-refused (fileRequest f) out n o))
 
 -- ---- a file in good form
 
@@ -91,5 +86,5 @@ module _ (file directions pool : List ℕ) (a : Answer) (p : PoolIs file directi
         file-exit x (g
         ∙ ap (λ (k : ℕ). listExit (wordRequest (take (h .count * planWords) pool) (take (h .m) directions) (h .divisions) (h .size) (record { s = h .seed }) (replicate k infinity)) out)
         (length-take-le (h .m) directions within)
-        ∙ alike-exit (stored h directions pool) (fileRequest (held .form)) (carried file h directions pool held few small room) out
+        ∙ alike-exit (held .form) (parse-whole file (held .form) (held .parsed)) (stored h directions pool) (carried file h directions pool held few small room) out
         ∙ sym (ap (λ (o : Option ℕ). chooseBy o (fileText (held .form)) out) (file-refusal (held .form) (length out))))

@@ -1,26 +1,27 @@
 -- WHAT THE PRINTED TEXT TELLS: the plan count, the kept list's length, and each plan's front, line and place of first keeping. So where no plan is kept
 -- twice it tells the kept list, and `Demand3` of `choose` speaks of the list that is printed. What a padded list repeats it does not tell.
-use Prim.Native.Nat.{ℕ, zero, suc, _+_, _*_, _-_, _/_, _%_, _≤_, _<_}
-use mathlib.Core.Path.{_≡_, refl, ap, sym, _∙_, subst}
-use mathlib.Core.Bool.{true, false}
+use Prim.Native.Nat.{ℕ, zero, suc, _+_, _*_, _-_, _%_, _≤_, _<_}
+use mathlib.Core.Path.{_≡_, refl, ap, sym, _∙_}
+use mathlib.Core.Bool.{false}
 use mathlib.Core.Logic.{_⊎_, ⊎-elim}
-use mathlib.Core.List.{List, [], _∷_, _++_, append-assoc, append-nil}
+use mathlib.Core.List.{List, [], _∷_, _++_, append-assoc, append-nil, append-cancel-left}
 use native.Mathlib.Nat.{not-suc-le-zero}
 use native.Mathlib.Omega.{arith}
-use borrow.Author.Tests.{lt-ltb, ltb-true, eq-eqb, ne-eqb, eqb-true, eqb-false}
-use lib.Dec.{eqb, ltb}
+use borrow.Author.Tests.{eqb-true, eqb-false}
+use lib.Dec.{eqb}
 use lib.ListN.{length, getD}
 use lib.Seq.{ext-getD}
 use Rattle.model.specs.Lists.{listBelow, joinBelow, firstBelow, In, Distinct}
 use Rattle.model.specs.Kept.{Selected, noLine}
-use Rattle.model.specs.PoolFile.{ascii, digitsOf, decimal, lineText, placeOf, headerText, planText, listingText}
+use Rattle.model.specs.PoolFile.{ascii, digitsOf, decimal, lineText, placeOf, planText, listingText}
 use Rattle.model.specs.Refusal.{maxSize}
 use Rattle.list_laws.proofs.Bools.{by-bool}
-use Rattle.list_laws.proofs.First.{firstBelow-at, firstBelow-passes}
-use Rattle.list_laws.proofs.Members.{getD-in, different-places}
-use Rattle.pool_laws.specs.Text.{listed}
-use Rattle.pool_laws.proofs.Lengths.{Small, place-le}
-use Rattle.pool_laws.proofs.Listing.{header-text}
+use Rattle.list_laws.proofs.Members.{getD-in}
+use Rattle.pool_laws.specs.Text.{listed, fieldsText, plansWord, keptWord}
+use Rattle.pool_laws.proofs.Decimals.{digits-by, limit, line-by}
+use Rattle.pool_laws.proofs.Places.{place-le, kept-there, place-once}
+use Rattle.pool_laws.proofs.Lengths.{Small}
+use Rattle.pool_laws.proofs.Listing.{header-text, plan-text}
 
 -- ---- words, each ended by a space or a newline
 
@@ -58,24 +59,17 @@ value-snoc : (l : List ℕ) (n b : ℕ) → valueFrom n (l ++ (b ∷ [])) ≡ va
 value-snoc [] n b = refl
 value-snoc (c ∷ l) n b = value-snoc l (n * 10 + (c - 48)) b
 
--- the numbers of so many digits
-abbrev limit : ℕ → ℕ
-limit zero = 1
-limit (suc d) = limit d * 10
-
 digits-value : (d n : ℕ) → n < limit d → valueFrom 0 (digitsOf d n) ≡ n
-unfolding digitsOf
-digits-value zero n h = omega arith
-digits-value (suc d) n h = by-bool (ltb n 10)
-    (λ e. rw e (omega arith))
-    (λ e. rw e (value-snoc (digitsOf d (n / 10)) 0 (48 + n % 10) ∙ omega (arith, digits-value d (n / 10) (omega arith))))
+digits-value = digits-by (λ d n l. n < limit d → valueFrom 0 l ≡ n)
+    (λ n h. omega arith)
+    (λ d n u h. omega arith)
+    (λ d n l u f h. value-snoc l 0 (48 + n % 10) ∙ omega (arith, f (omega arith)))
 
 digits-visible : (d n : ℕ) → Visible (digitsOf d n)
-unfolding digitsOf
-digits-visible zero n = tt
-digits-visible (suc d) n = by-bool (ltb n 10)
-    (λ e. rw e (omega arith, tt))
-    (λ e. rw e (visible-append (digitsOf d (n / 10)) ((48 + n % 10) ∷ []) (digits-visible d (n / 10)) (omega arith, tt)))
+digits-visible = digits-by (λ d n l. Visible l)
+    (λ n. tt)
+    (λ d n u. (omega arith, tt))
+    (λ d n l u v. visible-append l ((48 + n % 10) ∷ []) v (omega arith, tt))
 
 decimal-same : (n m : ℕ) → n < 10000 → m < 10000 → decimal n ≡ decimal m → n ≡ m
 decimal-same n m h g e = sym (digits-value 20 n (omega arith)) ∙ ap (valueFrom 0) e ∙ digits-value 20 m (omega arith)
@@ -86,8 +80,7 @@ numbers n m e s t h q = cut (decimal n) (decimal m) e s t h (digits-visible 20 n
 -- ---- a line's number or `-`
 
 line-visible : (l : ℕ) → Visible (lineText l)
-unfolding lineText ascii listBelow
-line-visible l = by-bool (eqb l noLine) (λ e. rw e (omega arith, tt)) (λ e. rw e (digits-visible 20 l))
+line-visible l = line-by Visible l (omega arith, tt) (λ z. digits-visible 20 l)
 
 -- no number is written as the dash: it would be read back as 0, which is written otherwise
 dash-not : (n : ℕ) → n < 10000 → ascii "-" ≡ decimal n → ⊥
@@ -122,8 +115,8 @@ record Line (a b : Selected) (p : ℕ) : Type 0 where
 -- a line as its words, before what follows it
 plan-words : (a : Selected) (p : ℕ) (s : List ℕ) → planText a p ++ s
     ≡ decimal p ++ (32 ∷ (decimal (getD (a .fronts) p 0) ++ (32 ∷ (lineText (getD (a .lines) p 0) ++ (32 ∷ (decimal (placeOf (a .kept) p) ++ (10 ∷ s)))))))
-unfolding planText ascii listBelow
-plan-words a p s = simp append-assoc
+unfolding fieldsText
+plan-words a p s = rw plan-text (simp append-assoc)
 
 line-told : (n m : ℕ) (a b : Selected) → Small n a → Small m b → (p : ℕ) → p < n → p < m → (s t : List ℕ) → planText a p ++ s ≡ planText b p ++ t → Line a b p × (s ≡ t)
 line-told n m a b x y p h g s t e =
@@ -168,14 +161,14 @@ pub record Told (n m : ℕ) (a b : Selected) : Type 0 where
 
 -- a listing as the header's words and the lines after them
 listing-words : (n : ℕ) (a : Selected) → listingText n a
-    ≡ (112 ∷ 108 ∷ 97 ∷ 110 ∷ 115 ∷ 32 ∷ []) ++ (decimal n ++ (32 ∷ ((107 ∷ 101 ∷ 112 ∷ 116 ∷ 32 ∷ []) ++ (decimal (length (a .kept)) ++ (10 ∷ joinBelow (planText a) n)))))
+    ≡ plansWord ++ (decimal n ++ (32 ∷ (keptWord ++ (decimal (length (a .kept)) ++ (10 ∷ joinBelow (planText a) n)))))
 unfolding listingText
 listing-words n a = rw header-text (simp append-assoc)
 
 pub text-tells : (n m : ℕ) (a b : Selected) → Small n a → Small m b → listingText n a ≡ listingText m b → Told n m a b
 text-tells n m a b x y e =
-    let c = numbers n m 32 _ _ (omega arith) (plans (sym (listing-words n a) ∙ e ∙ listing-words m b)) in
-    let k = numbers (length (a .kept)) (length (b .kept)) 10 _ _ (omega arith) (kept (c .rest)) in
+    let c = numbers n m 32 _ _ (omega arith) (append-cancel-left plansWord _ _ (sym (listing-words n a) ∙ e ∙ listing-words m b)) in
+    let k = numbers (length (a .kept)) (length (b .kept)) 10 _ _ (omega arith) (append-cancel-left keptWord _ _ (c .rest)) in
     let o : n ≡ m = decimal-same n m (omega (arith, x .plans)) (omega (arith, y .plans)) (c .word) in
     let l = each n (planText a) (planText b) (Line a b) (λ p h s t v. line-told n m a b x y p h (omega arith) s t v) (k .rest ∙ ap (joinBelow (planText b)) (sym o)) in
     record {
@@ -185,32 +178,8 @@ text-tells n m a b x y e =
       lines = λ p h. l p h .line;
       places = λ p h. l p h .place;
     }
-  where
-    plans : {s t : List ℕ} → (112 ∷ 108 ∷ 97 ∷ 110 ∷ 115 ∷ 32 ∷ []) ++ s ≡ (112 ∷ 108 ∷ 97 ∷ 110 ∷ 115 ∷ 32 ∷ []) ++ t → s ≡ t
-    plans e = cc
-
-    kept : {s t : List ℕ} → (107 ∷ 101 ∷ 112 ∷ 116 ∷ 32 ∷ []) ++ s ≡ (107 ∷ 101 ∷ 112 ∷ 116 ∷ 32 ∷ []) ++ t → s ≡ t
-    kept e = cc
 
 -- ---- the kept list
-
--- a plan's place is where it is kept, if it is kept once; and a plan is kept at its place
-place-once : (l : List ℕ) → Distinct l → (i : ℕ) → i < length l → placeOf l (getD l i 0) ≡ suc i
-unfolding placeOf
-place-once l d i h =
-    let k = firstBelow-at (λ j. eqb (getD l j 0) (getD l i 0)) (length l) i h (eq-eqb (getD l i 0) (getD l i 0) refl)
-    (λ t u. ne-eqb (getD l t 0) (getD l i 0) (λ e. let z = different-places l d t i (omega arith) h e in omega arith)) in
-    rw (k, lt-ltb i (length l) h)
-
-kept-there : (l : List ℕ) (p i : ℕ) → placeOf l p ≡ suc i → getD l i 0 ≡ p
-unfolding placeOf
-kept-there l p i e =
-    let k = firstBelow (λ j. eqb (getD l j 0) p) (length l) in
-    by-bool (ltb k (length l))
-    (λ u. let z : suc k ≡ suc i = rw u at e in
-    let w : k ≡ i = omega arith in
-    eqb-true (getD l i 0) p (subst (λ (j : ℕ). eqb (getD l j 0) p ≡ true) w (firstBelow-passes (λ j. eqb (getD l j 0) p) (length l) (ltb-true k (length l) u))))
-    (λ u. let z : 0 ≡ suc i = rw u at e in absurd (omega arith))
 
 -- a list of different plans of the pool is told by their places
 pub same-list : (n : ℕ) (l k : List ℕ) → Distinct l → ((p : ℕ) → In p l → p < n) → length l ≡ length k

@@ -1,36 +1,33 @@
 -- A selection hands out as many fronts and lines as there are plans; the listing of slices that begin with its lists.
 use Prim.Native.Nat.{ℕ, _<_}
 use mathlib.Core.Path.{_≡_, ap, ap₂, sym, _∙_}
-use mathlib.Core.Bool.{Bool, true, false}
 use mathlib.Core.List.{List, _++_}
 use native.Mathlib.Omega.{arith}
-use lib.ListN.{length, getD, take, length-replicate, List·getD-append}
+use lib.ListN.{length, getD, take, length-replicate}
 use Rattle.model.specs.Lists.{over}
 use Rattle.model.specs.Front.{frontList}
 use Rattle.model.specs.Association.{Request, lineOf}
-use Rattle.model.specs.Kept.{Selected, selected, selectedSplit, selectedWhole, bySplit, isSplit, noLine}
+use Rattle.model.specs.Kept.{Selected, selected, selectedSplit, selectedWhole, isSplit, noLine}
 use Rattle.model.specs.PoolFile.{headerText, planText, listingText}
-use Rattle.list_laws.proofs.Built.{listBelow-length, joinBelow-same, over-take}
+use Rattle.list_laws.proofs.Bools.{by-bool}
+use Rattle.list_laws.proofs.Built.{listBelow-length, joinBelow-same, over-take, over-at}
 use Rattle.niching_laws.proofs.KeptLength.{kept-length}
 use Rattle.pool_laws.specs.Text.{listed}
 
 -- ---- fronts and lines are as many as the plans
 
-pub fronts-count : (r : Request) → length (selected r .fronts) ≡ r .count
-unfolding selected selectedSplit selectedWhole frontList
-fronts-count r = go (isSplit r)
-  where
-    go : (b : Bool) → length (bySplit b r .fronts) ≡ r .count
-    go true = listBelow-length _ (r .count)
-    go false = listBelow-length _ (r .count)
+-- what holds whether or not a front is split holds of what is selected
+pub by-split : (r : Request) (P : Selected → Type 0) → P (selectedSplit r) → P (selectedWhole r) → P (selected r)
+unfolding selected
+by-split r P a b = by-bool (isSplit r) (λ e. rw e a) (λ e. rw e b)
 
-pub lines-count : (r : Request) → length (selected r .lines) ≡ r .count
-unfolding selected selectedSplit selectedWhole
-lines-count r = go (isSplit r)
-  where
-    go : (b : Bool) → length (bySplit b r .lines) ≡ r .count
-    go true = listBelow-length (lineOf r) (r .count)
-    go false = length-replicate (r .count) noLine
+fronts-count : (r : Request) → length (selected r .fronts) ≡ r .count
+unfolding selectedSplit selectedWhole frontList
+fronts-count r = by-split r (λ s. length (s .fronts) ≡ r .count) (listBelow-length _ (r .count)) (listBelow-length _ (r .count))
+
+lines-count : (r : Request) → length (selected r .lines) ≡ r .count
+unfolding selectedSplit selectedWhole
+lines-count r = by-split r (λ s. length (s .lines) ≡ r .count) (listBelow-length (lineOf r) (r .count)) (length-replicate (r .count) noLine)
 
 -- ---- the listing
 
@@ -49,5 +46,5 @@ listing-over r n e kept fronts lines k f l a b c =
     let o = lines-count r in
     listing-same (r .count) (listed (take n kept) fronts lines) (selected r)
     (ap (take n) a ∙ over-take (selected r .kept) k n (kept-length r ∙ sym e))
-    (λ p h. ap (λ t. getD t p 0) b ∙ List·getD-append (selected r .fronts) _ 0 p (omega arith))
-    (λ p h. ap (λ t. getD t p 0) c ∙ List·getD-append (selected r .lines) _ 0 p (omega arith))
+    (λ p h. ap (λ t. getD t p 0) b ∙ over-at (selected r .fronts) f p 0 (omega arith))
+    (λ p h. ap (λ t. getD t p 0) c ∙ over-at (selected r .lines) l p 0 (omega arith))

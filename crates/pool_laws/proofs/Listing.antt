@@ -2,23 +2,28 @@
 use Prim.Native.Nat.{ℕ, zero, suc, _+_, _≤_, _<_}
 use mathlib.Core.Path.{_≡_, refl, ap, sym, _∙_}
 use mathlib.Core.Logic.{⊎-elim}
-use mathlib.Core.List.{List, [], _∷_, _++_, append-assoc}
+use mathlib.Core.List.{List, _++_, append-assoc}
 use native.Mathlib.Nat.{not-suc-le-zero, eq-or-lt-of-le}
 use native.Mathlib.Omega.{arith}
 use lib.ListN.{length, getD, length-append}
 use Rattle.model.specs.Lists.{listBelow, joinBelow}
-use Rattle.model.specs.PoolFile.{ascii, decimal, lineText, headerText, planText, placeOf, listingText, refusedText}
+use Rattle.model.specs.Kept.{Selected}
+use Rattle.model.specs.PoolFile.{ascii, decimal, headerText, planText, placeOf, listingText, refusedText}
 use Rattle.list_laws.proofs.Built.{joinBelow-same}
-use Rattle.pool_laws.specs.Text.{Put, joined, ended, headings, listed, fieldsText, fieldsOf}
+use Rattle.pool_laws.specs.Text.{Put, joined, ended, refusedWord, headings, listed, fieldsText, fieldsOf}
 use Rattle.pool_laws.proofs.Puts.{room-first, room-rest, put-as, put-then}
 
--- ---- the texts of the header and of a refusal
+-- ---- the texts of the header, of a plan's line and of a refusal
 
 pub header-text : (count kept : ℕ) → headerText count kept ≡ joined (headings count kept)
 unfolding headerText ascii listBelow
 header-text count kept = sym (simp append-assoc)
 
-pub refused-text : (n : ℕ) → refusedText n ≡ (114 ∷ 101 ∷ 102 ∷ 117 ∷ 115 ∷ 101 ∷ 100 ∷ 32 ∷ []) ++ ended (decimal n) 10
+pub plan-text : (sel : Selected) (p : ℕ) → planText sel p ≡ fieldsText p (getD (sel .fronts) p 0) (getD (sel .lines) p 0) (placeOf (sel .kept) p)
+unfolding planText fieldsText ascii listBelow
+plan-text sel p = sym (simp append-assoc)
+
+pub refused-text : (n : ℕ) → refusedText n ≡ refusedWord ++ ended (decimal n) 10
 unfolding refusedText ascii listBelow
 refused-text n = refl
 
@@ -37,18 +42,13 @@ join-room f p (suc n) h =
     (λ m. omega (arith, join-room f p n m))
     (eq-or-lt-of-le g)
 
-fields-plan : (kept fronts lines : List ℕ) (p place : ℕ) → place ≡ placeOf kept p
-    → planText (listed kept fronts lines) p ≡ fieldsText p (getD fronts p 0) (getD lines p 0) place
-unfolding planText fieldsText ascii listBelow
-fields-plan kept fronts lines p place e = rw e (sym (simp append-assoc))
-
 pub listing-text : (count : ℕ) (kept fronts lines places : List ℕ) → ((p : ℕ) → p < count → getD places p 0 ≡ placeOf kept p)
     → listingText count (listed kept fronts lines) ≡ headerText count (length kept) ++ joinBelow (fieldsOf fronts lines places) count
 unfolding listingText
 listing-text count kept fronts lines places h =
     ap (λ (l : List ℕ). headerText count (length kept) ++ l)
     (joinBelow-same (planText (listed kept fronts lines)) (fieldsOf fronts lines places) count
-    (λ p l. fields-plan kept fronts lines p (getD places p 0) (h p l)))
+    (λ p l. plan-text (listed kept fronts lines) p ∙ ap (fieldsText p (getD fronts p 0) (getD lines p 0)) (sym (h p l))))
 
 -- ---- the header and then the lines
 

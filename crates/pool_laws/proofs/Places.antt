@@ -1,70 +1,114 @@
--- The place of first keeping, entry by entry of the kept list.
+-- The place of first keeping: where it is, and with one more entry kept.
 use Prim.Native.Nat.{ℕ, suc, _+_, _≤_, _<_}
 use mathlib.Core.Path.{_≡_, refl, ap, sym, _∙_}
-use mathlib.Core.Bool.{Bool, true, false, cond}
-use mathlib.Core.List.{List}
+use mathlib.Core.Bool.{Bool, cond}
+use mathlib.Core.Logic.{_⊎_, ⊎-elim}
+use mathlib.Core.List.{List, [], _∷_, _++_}
+use native.Mathlib.Nat.{eq-or-lt-of-le}
 use native.Mathlib.Numerals.{add-one}
 use native.Mathlib.Omega.{arith}
-use borrow.Author.Tests.{lt-ltb, le-ltb, ltb-true, ltb-false, eq-eqb, ne-eqb, eqb-true, eqb-false}
-use lib.Dec.{eqb, ltb}
-use lib.ListN.{length, getD}
-use Rattle.model.specs.Lists.{firstBelow}
+use borrow.Author.Tests.{lt-ltb, le-ltb, eq-eqb, ne-eqb, eqb-true, eqb-false}
+use lib.Dec.{eqb}
+use lib.ListN.{length, getD, take, length-append, List·getD-append}
+use lib.Seq.{length-take-le, getD-append-seam}
+use Rattle.model.specs.Lists.{firstBelow, Distinct}
 use Rattle.model.specs.PoolFile.{placeOf}
 use Rattle.list_laws.proofs.Bools.{by-bool}
-use Rattle.list_laws.proofs.First.{firstBelow-none, firstBelow-le, firstBelow-still, firstBelow-yes, firstBelow-no}
-use Rattle.pool_laws.specs.Text.{placeIn, Marked}
+use Rattle.list_laws.proofs.First.{firstBelow-none, firstBelow-le, firstBelow-still, firstBelow-yes, firstBelow-no, firstBelow-at, firstBelow-passes, firstBelow-same}
+use Rattle.list_laws.proofs.Members.{different-places}
+use Rattle.pool_laws.specs.Text.{Marked}
+use Rattle.pool_laws.proofs.Puts.{take-more}
 
-pub placeOf-in : (kept : List ℕ) (p : ℕ) → placeOf kept p ≡ placeIn kept (length kept) p
-unfolding placeOf placeIn
-placeOf-in kept p = refl
-
-module _ (kept : List ℕ) (p : ℕ) where
+module _ (l : List ℕ) (p : ℕ) where
   abbrev test : ℕ → Bool
-  test i = eqb (getD kept i 0) p
+  test i = eqb (getD l i 0) p
 
-  in-found : (n : ℕ) → firstBelow test n < n → placeIn kept n p ≡ suc (firstBelow test n)
-  unfolding placeIn
-  in-found n h = rw (lt-ltb (firstBelow test n) n h)
+  -- the first entry that is plan p
+  abbrev first : ℕ
+  first = firstBelow test (length l)
 
-  in-none : (n : ℕ) → firstBelow test n ≡ n → placeIn kept n p ≡ 0
-  unfolding placeIn
-  in-none n h = rw (le-ltb (firstBelow test n) n (omega arith))
+  found : first < length l → placeOf l p ≡ suc first
+  unfolding placeOf
+  found h = rw (lt-ltb first (length l) h)
 
-  pub placeIn-none : placeIn kept 0 p ≡ 0
-  placeIn-none = in-none 0 (firstBelow-none test)
+  not-found : first ≡ length l → placeOf l p ≡ 0
+  unfolding placeOf
+  not-found h = rw (le-ltb first (length l) (omega arith))
 
-  -- found before, or not
-  module _ (i : ℕ) {C : Type 0} where
-    either : (firstBelow test i < i → C) → (firstBelow test i ≡ i → C) → C
-    either f g = by-bool (ltb (firstBelow test i) i)
-        (λ e. f (ltb-true (firstBelow test i) i e))
-        (λ e. let h = ltb-false (firstBelow test i) i e in let l = firstBelow-le test i in g (omega arith))
+  -- found, or not
+  where-first : (first ≡ length l) ⊎ (first < length l)
+  where-first = eq-or-lt-of-le (firstBelow-le test (length l))
 
-  stays : (i : ℕ) → firstBelow test i < i → placeIn kept (i + 1) p ≡ placeIn kept i p
-  stays i h =
-      let e = firstBelow-still test i h in
-      in-found (i + 1) (omega arith) ∙ ap suc e ∙ sym (in-found i h)
+  pub place-le : placeOf l p ≤ length l
+  place-le = ⊎-elim (λ h. omega (arith, not-found h)) (λ h. omega (arith, found h)) where-first
 
-  -- entry i is another plan
-  pub placeIn-other : (i : ℕ) → (getD kept i 0 ≡ p → ⊥) → placeIn kept (i + 1) p ≡ placeIn kept i p
-  placeIn-other i z = either i (stays i)
-      (λ h. in-none (i + 1) (firstBelow-no test i h (ne-eqb (getD kept i 0) p z)) ∙ sym (in-none i h))
+  -- a plan is kept at its place
+  pub kept-there : (i : ℕ) → placeOf l p ≡ suc i → getD l i 0 ≡ p
+  kept-there i e = ⊎-elim
+      (λ h. absurd (omega (arith, not-found h)))
+      (λ h. let w : first ≡ i = omega (arith, found h) in
+      ap (λ (j : ℕ). getD l j 0) (sym w) ∙ eqb-true (getD l first 0) p (firstBelow-passes test (length l) h))
+      where-first
 
-  -- entry i is this plan: its place is i + 1 unless it has one
-  pub placeIn-here : (i : ℕ) → getD kept i 0 ≡ p → placeIn kept (i + 1) p ≡ cond (eqb (placeIn kept i p) 0) (i + 1) (placeIn kept i p)
-  placeIn-here i z = either i
-      (λ h. stays i h ∙ rw (in-found i h, ne-eqb (suc (firstBelow test i)) 0 (λ v. omega arith)))
-      (λ h. let e = firstBelow-yes test i h (eq-eqb (getD kept i 0) p z) in
-      in-found (i + 1) (omega arith) ∙ rw (in-none i h, e) (sym (add-one i)))
+-- a plan's place is where it is kept, if it is kept once
+pub place-once : (l : List ℕ) → Distinct l → (i : ℕ) → i < length l → placeOf l (getD l i 0) ≡ suc i
+place-once l d i h =
+    let k = firstBelow-at (test l (getD l i 0)) (length l) i h (eq-eqb (getD l i 0) (getD l i 0) refl)
+    (λ t u. ne-eqb (getD l t 0) (getD l i 0) (λ e. let z = different-places l d t i (omega arith) h e in omega arith)) in
+    found l (getD l i 0) (omega arith) ∙ ap suc k
 
--- one more entry marked: every plan's place is right again
-pub marked-more : (kept before after : List ℕ) (i p n : ℕ) → n ≡ length before → p ≡ getD kept i 0 → Marked before p i after
-    → ((q : ℕ) → q < n → getD before q 0 ≡ placeIn kept i q) → (q : ℕ) → q < n → getD after q 0 ≡ placeIn kept (i + 1) q
-marked-more kept before after i p n s e m f q h = by-bool (eqb p q)
-    (λ v. let w : p ≡ q = eqb-true p q v in
-    let g = f q h in
-    ap (λ (k : ℕ). getD after k 0) (sym w) ∙ m .here (omega arith)
-    ∙ ap (λ (k : ℕ). cond (eqb (getD before k 0) 0) (i + 1) (getD before k 0)) w
-    ∙ ap (λ (k : ℕ). cond (eqb k 0) (i + 1) k) g ∙ sym (placeIn-here kept q i (sym e ∙ w)))
-    (λ v. let w : p ≡ q → ⊥ = eqb-false p q v in
-    m .others q (λ z. w (sym z)) ∙ f q h ∙ sym (placeIn-other kept q i (λ z. w (e ∙ z))))
+pub place-nil : (p : ℕ) → placeOf [] p ≡ 0
+place-nil p = not-found [] p (firstBelow-none (test [] p))
+
+-- ---- one more entry
+
+module _ (l : List ℕ) (x p : ℕ) where
+  abbrev longer : List ℕ
+  longer = l ++ (x ∷ [])
+
+  size : length longer ≡ length l + 1
+  size = length-append l (x ∷ [])
+
+  old : firstBelow (test longer p) (length l) ≡ first l p
+  old = firstBelow-same (test longer p) (test l p) (length l) (λ t h. ap (λ (y : ℕ). eqb y p) (List·getD-append l (x ∷ []) 0 t h))
+
+  last : test longer p (length l) ≡ eqb x p
+  last = ap (λ (y : ℕ). eqb y p) (getD-append-seam l x [] 0)
+
+  stays : first l p < length l → placeOf longer p ≡ placeOf l p
+  stays h =
+      let e : first longer p ≡ first l p = ap (firstBelow (test longer p)) size ∙ firstBelow-still (test longer p) (length l) (omega (arith, old)) ∙ old in
+      found longer p (omega (arith, size)) ∙ ap suc e ∙ sym (found l p h)
+
+  -- it is another plan
+  place-other : (x ≡ p → ⊥) → placeOf longer p ≡ placeOf l p
+  place-other z = ⊎-elim
+      (λ h. not-found longer p (ap (firstBelow (test longer p)) size ∙ firstBelow-no (test longer p) (length l) (old ∙ h) (last ∙ ne-eqb x p z) ∙ sym size)
+      ∙ sym (not-found l p h))
+      stays
+      (where-first l p)
+
+  -- it is this plan: its place is the last unless it has one
+  place-here : x ≡ p → placeOf longer p ≡ cond (eqb (placeOf l p) 0) (length l + 1) (placeOf l p)
+  place-here z = ⊎-elim
+      (λ h. let e : first longer p ≡ length l = ap (firstBelow (test longer p)) size ∙ firstBelow-yes (test longer p) (length l) (old ∙ h) (last ∙ eq-eqb x p z) in
+      found longer p (omega (arith, size)) ∙ ap suc e ∙ rw (not-found l p h) (sym (add-one (length l))))
+      (λ h. stays h ∙ rw (found l p h, ne-eqb (suc (first l p)) 0 (λ v. omega arith)))
+      (where-first l p)
+
+-- entry i marked: the place of every plan among the first i + 1 is right
+pub marked-more : (kept before after : List ℕ) (i p n : ℕ) → n ≡ length before → i < length kept → p ≡ getD kept i 0 → Marked before p i after
+    → ((q : ℕ) → q < n → getD before q 0 ≡ placeOf (take i kept) q) → (q : ℕ) → q < n → getD after q 0 ≡ placeOf (take (i + 1) kept) q
+marked-more kept before after i p n s l e m f q h =
+    marked ∙ sym (ap (λ (t : List ℕ). placeOf t q) (take-more kept i 0 l))
+  where
+    marked : getD after q 0 ≡ placeOf (take i kept ++ (getD kept i 0 ∷ [])) q
+    marked = by-bool (eqb p q)
+        (λ v. let w : p ≡ q = eqb-true p q v in
+        ap (λ (k : ℕ). getD after k 0) (sym w) ∙ m .here (omega arith)
+        ∙ ap (λ (k : ℕ). cond (eqb (getD before k 0) 0) (i + 1) (getD before k 0)) w
+        ∙ ap (λ (k : ℕ). cond (eqb k 0) (i + 1) k) (f q h)
+        ∙ ap (λ (k : ℕ). cond (eqb (placeOf (take i kept) q) 0) (k + 1) (placeOf (take i kept) q)) (sym (length-take-le i kept (omega arith)))
+        ∙ sym (place-here (take i kept) (getD kept i 0) q (sym e ∙ w)))
+        (λ v. let w : p ≡ q → ⊥ = eqb-false p q v in
+        m .others q (λ z. w (sym z)) ∙ f q h ∙ sym (place-other (take i kept) (getD kept i 0) q (λ z. w (e ∙ z))))

@@ -2,13 +2,13 @@
 use Prim.Native.Nat.{ℕ, _+_, _≤_, _<_}
 use mathlib.Core.Path.{_≡_, refl, ap, sym, _∙_}
 use mathlib.Core.List.{List, [], _∷_, _++_}
-use native.Mathlib.Nat.{add-zero, zero-add}
+use native.Mathlib.Nat.{zero-add}
 use native.Mathlib.Numerals.{add-one}
 use native.Mathlib.Omega.{arith}
 use lib.ListN.{length, getD, take, drop, set, length-append}
-use lib.Seq.{sets, sets-eq, length-sets, take-suc, take-length, length-take-le}
+use lib.Seq.{sets, sets-eq, length-sets, take-suc}
 use Rattle.model.specs.Lists.{over}
-use Rattle.list_laws.proofs.Runs.{sets-append, sets-snoc}
+use Rattle.list_laws.proofs.Runs.{sets-append}
 use Rattle.pool_laws.specs.Text.{Put, Four, joined}
 
 pub put-nothing : (o : List ℕ) (at : ℕ) → Put o at [] o at
@@ -36,18 +36,15 @@ room-rest o₀ o₁ at r a b h p = omega (arith, length-append a b, p .ends, put
 pub put-as : (o₀ o₁ : List ℕ) (at r : ℕ) (a b : List ℕ) → a ≡ b → Put o₀ at a o₁ r → Put o₀ at b o₁ r
 put-as o₀ o₁ at r a b e p = record { stored = p .stored ∙ ap (λ (l : List ℕ). sets o₀ at l) e; ends = p .ends ∙ ap (λ (l : List ℕ). at + length l) e }
 
--- a text put byte by byte: one more, and all
+-- a text put byte by byte: one more
+pub take-more : {A : Type 0} (l : List A) (i : ℕ) (d : A) → i < length l → take (i + 1) l ≡ take i l ++ (getD l i d ∷ [])
+take-more l i d h = rw add-one (take-suc l i d h)
+
 pub put-more : (o₀ o₁ text : List ℕ) (at i : ℕ) → i < length text → Put o₀ at (take i text) o₁ (at + i)
     → Put o₀ at (take (i + 1) text) (set o₁ (at + i) (getD text i 0)) (at + (i + 1))
 put-more o₀ o₁ text at i h p =
-    let t : take (i + 1) text ≡ take i text ++ (getD text i 0 ∷ []) = rw add-one (take-suc text i 0 h) in
-    let n = length-take-le i text (omega arith) in
-    record {
-      stored =
-          ap (λ (l : List ℕ). set l (at + i) (getD text i 0)) (p .stored) ∙ sets-snoc o₀ at (at + i) (take i text) (getD text i 0) (p .ends)
-          ∙ ap (λ (l : List ℕ). sets o₀ at l) (sym t);
-      ends = omega (arith, length-take-le (i + 1) text (omega arith));
-    }
+    put-as o₀ _ at (at + (i + 1)) _ _ (sym (take-more text i 0 h))
+    (put-then o₀ o₁ _ at (at + i) (at + (i + 1)) (take i text) (getD text i 0 ∷ []) p (record { stored = refl; ends = omega arith }))
 
 -- at the front: what lies past the text is as it was
 pub put-over : (o₀ o₁ : List ℕ) (r : ℕ) (a : List ℕ) → length a ≤ length o₀ → Put o₀ 0 a o₁ r → o₁ ≡ over a o₀

@@ -1,21 +1,21 @@
 -- What holds of every file in good form: as many marks and plans as it says, and the shape of each plan.
-use Prim.Native.Nat.{ℕ, zero, suc, _≤_, _<_}
-use mathlib.Core.Path.{_≡_, refl, ap, sym, _∙_, subst}
-use mathlib.Core.Bool.{true, false}
-use mathlib.Core.List.{List, [], _∷_, map}
-use mathlib.Core.Option.{Option, none, some}
+use Prim.Native.Nat.{ℕ, zero, suc, _<_}
+use mathlib.Core.Path.{_≡_, refl, sym, _∙_, subst}
+use mathlib.Core.List.{List, [], _∷_}
+use mathlib.Core.Option.{some, Option·none-ne-some, Option·some-injective}
 use native.Mathlib.Nat.{not-suc-le-zero}
 use native.Mathlib.Omega.{arith}
 use lib.Dec.{leb}
 use lib.ListN.{length, getD, length-map}
 use Rattle.model.specs.Real.{real}
-use Rattle.model.specs.Plan.{Plan, Setting}
-use Rattle.model.specs.PoolFile.{Parsed, Reader, PoolFile, number, many, plan, poolFile, parse, wholly, ifNoneLeft, maxFile, noPlan}
+use Rattle.model.specs.Plan.{Plan}
+use Rattle.model.specs.PoolFile.{Parsed, Reader, PoolFile, number, many, plan, poolFile, parse, ifNoneLeft, maxFile, noPlan}
 use Rattle.list_laws.proofs.Bools.{by-bool}
 use Rattle.pool_number.specs.Reading.{read}
-use Rattle.pool_file.specs.Parsing.{afterHeader}
+use Rattle.pool_file.specs.declared.Header.{Header}
+use Rattle.pool_file.specs.Parsing.{headerOf, afterHeader}
 use Rattle.pool_file.proofs.Whole.{header-first}
-use Rattle.pool_number.proofs.Options.{by-option, none-some, some-same, Parts, many-parts, many-length}
+use Rattle.pool_number.proofs.Options.{by-option, both-read, many-parts, many-length}
 
 -- ---- each of many
 
@@ -40,25 +40,20 @@ pub record Shape (m : ℕ) (p : Plan) : Type 0 where
   pub settingCount : p .settingCount ≡ 0
   pub settings : p .settings ≡ []
 
-shape-as : (m : ℕ) (p q : Plan) → p ≡ q → Shape m p → Shape m q
-shape-as m p q e s = subst (λ (t : Plan). Shape m t) e s
-
 plan-shape : (m : ℕ) (bytes : List ℕ) (p : Parsed Plan) → plan m bytes ≡ some p → Shape m (p .value)
 unfolding plan
-plan-shape m bytes p e = by-option (many m number bytes)
-    (λ n. none-some (rw n at e))
-    (λ v u. by-option (number (v .rest))
-    (λ n. none-some (rw (u, n) at e))
-    (λ c w. by-option (many (c .value) number (c .rest))
-    (λ n. none-some (rw (u, w, n) at e))
-    (λ k x. shape-as m _ (p .value) (ap (λ (t : Parsed Plan). t .value) (some-same (rw (u, w, x) at e))) (record {
+plan-shape m bytes p e =
+    let v = both-read (many m number bytes) _ _ e in
+    let c = both-read (number (v .0 .rest)) _ _ (v .2) in
+    let k = both-read (many (c .0 .value) number (c .0 .rest)) _ _ (c .2) in
+    subst (λ (t : Parsed Plan). Shape m (t .value)) (Option·some-injective _ _ (k .2)) (record {
       number = refl;
       rowLength = refl;
-      row = length-map (v .value) real ∙ many-length number m bytes (v .value) (v .rest) u;
-      constraints = length-map (k .value) real ∙ many-length number (c .value) (c .rest) (k .value) (k .rest) x;
+      row = length-map (v .0 .value) real ∙ many-length number m bytes (v .0 .value) (v .0 .rest) (v .1);
+      constraints = length-map (k .0 .value) real ∙ many-length number (c .0 .value) (c .0 .rest) (k .0 .value) (k .0 .rest) (k .1);
       settingCount = refl;
       settings = refl;
-    }))))
+    })
 
 -- ---- the file
 
@@ -67,35 +62,30 @@ pub record Whole (f : PoolFile) : Type 0 where
   pub count : length (f .plans) ≡ f .count
   pub plans : (p : ℕ) → p < f .count → Shape (f .objectives) (getD (f .plans) p noPlan)
 
-whole-as : (f g : PoolFile) → f ≡ g → Whole f → Whole g
-whole-as f g e w = subst (λ (t : PoolFile). Whole t) e w
-
-after-whole : (m h size n seed : ℕ) (bytes : List ℕ) (p : Parsed PoolFile) → afterHeader m h size n seed bytes ≡ some p → Whole (p .value)
+after-whole : (h : Header) (bytes : List ℕ) (p : Parsed PoolFile) → afterHeader h bytes ≡ some p → Whole (p .value)
 unfolding afterHeader
-after-whole m h size n seed bytes p e = by-option (many m number bytes)
-    (λ z. none-some (rw z at e))
-    (λ k u. by-option (many n (plan m) (k .rest))
-    (λ z. none-some (rw (u, z) at e))
-    (λ l v. whole-as _ (p .value) (ap (λ (t : Parsed PoolFile). t .value) (some-same (rw (u, v) at e))) (record {
-      marks = many-length number m bytes (k .value) (k .rest) u;
-      count = many-length (plan m) n (k .rest) (l .value) (l .rest) v;
-      plans = many-each (plan m) (Shape m) (plan-shape m) noPlan n (k .rest) (l .value) (l .rest) v;
-    })))
+after-whole h bytes p e =
+    let k = both-read (many (h .m) number bytes) _ _ e in
+    let l = both-read (many (h .count) (plan (h .m)) (k .0 .rest)) _ _ (k .2) in
+    subst (λ (t : Parsed PoolFile). Whole (t .value)) (Option·some-injective _ _ (l .2)) (record {
+      marks = many-length number (h .m) bytes (k .0 .value) (k .0 .rest) (k .1);
+      count = many-length (plan (h .m)) (h .count) (k .0 .rest) (l .0 .value) (l .0 .rest) (l .1);
+      plans = many-each (plan (h .m)) (Shape (h .m)) (plan-shape (h .m)) noPlan (h .count) (k .0 .rest) (l .0 .value) (l .0 .rest) (l .1);
+    })
 
 file-whole : (bytes : List ℕ) (p : Parsed PoolFile) → poolFile bytes ≡ some p → Whole (p .value)
-file-whole bytes p e = by-option (many 5 number bytes)
-    (λ z. none-some (rw z at (sym (header-first bytes) ∙ e)))
-    (λ l u. after-whole (getD (l .value) 0 0) (getD (l .value) 1 0) (getD (l .value) 2 0) (getD (l .value) 3 0) (getD (l .value) 4 0) (l .rest) p
-    (rw u at (sym (header-first bytes) ∙ e)))
+file-whole bytes p e =
+    let l = both-read (many 5 number bytes) (λ l. afterHeader (headerOf l)) _ (sym (header-first bytes) ∙ e) in
+    after-whole (headerOf (l .0 .value)) (l .0 .rest) p (l .2)
 
 none-left : (l : List ℕ) (f g : PoolFile) → ifNoneLeft l f ≡ some g → f ≡ g
-none-left [] f g e = some-same e
-none-left (b ∷ l) f g e = none-some e
+none-left [] f g e = Option·some-injective _ _ e
+none-left (b ∷ l) f g e = absurd (Option·none-ne-some _ e)
 
 pub parse-whole : (bytes : List ℕ) (f : PoolFile) → parse bytes ≡ some f → Whole f
 unfolding parse
 parse-whole bytes f e = by-bool (leb (length bytes) maxFile)
     (λ v. by-option (poolFile bytes)
-    (λ n. none-some (rw (v, n) at e))
-    (λ p u. whole-as (p .value) f (none-left (p .rest) (p .value) f (rw (v, u) at e)) (file-whole bytes p u)))
-    (λ v. none-some (rw v at e))
+    (λ n. absurd (Option·none-ne-some _ (rw (v, n) at e)))
+    (λ p u. subst (λ (t : PoolFile). Whole t) (none-left (p .rest) (p .value) f (rw (v, u) at e)) (file-whole bytes p u)))
+    (λ v. absurd (Option·none-ne-some _ (rw v at e)))

@@ -1,20 +1,20 @@
 -- THE SHORTEST FORMS. Every number below 2^64 is read back from the one form that is written for it, and nothing else is read.
 use Prim.Native.Nat.{ℕ, zero, suc, _+_, _*_, _/_, _%_, _^_, _≤_, _<_}
 use mathlib.Core.Path.{_≡_, refl, ap, sym, _∙_, subst}
-use mathlib.Core.Bool.{Bool, true, false, cond, _&&_, _||_, or-true}
+use mathlib.Core.Bool.{true, _||_}
 use mathlib.Core.Logic.{_⊎_, inl, inr, ⊎-elim}
 use mathlib.Core.List.{List, [], _∷_, _++_}
-use mathlib.Core.Option.{Option, none, some}
-use native.Mathlib.Nat.{add-mul, mul-assoc, mul-comm, mul-one, zero-add}
+use mathlib.Core.Option.{some}
+use native.Mathlib.Nat.{add-mul, mul-assoc, mul-comm}
 use native.Mathlib.Omega.{arith}
-use borrow.Author.Tests.{eq-eqb, lt-ltb, le-ltb, le-leb, lt-leb, leb-true, leb-false, ltb-true, ltb-false, eqb-true}
+use borrow.Author.Tests.{lt-ltb, le-ltb, leb-true, ltb-true, ltb-false, eqb-true}
 use lib.Dec.{eqb, leb, ltb}
 use lib.Pow.{shr-lt, pow-add}
 use lib.ListN.{length, getD}
 use Rattle.model.specs.PoolFile.{Parsed, numberFrom, number, groupsOf, written}
 use Rattle.list_laws.proofs.Bools.{by-bool, and-left, and-right}
 use Rattle.pool_number.specs.Reading.{read}
-use Rattle.pool_number.proofs.Options.{none-some, some-same}
+use Rattle.pool_number.proofs.Groups.{good-last, from-last, from-more, number-by}
 
 -- how many bits g + 1 groups hold
 width : ℕ → ℕ
@@ -41,22 +41,12 @@ groups-more : (g n : ℕ) → 128 ≤ n → groupsOf (suc g) n ≡ (n % 128 + 12
 unfolding groupsOf
 groups-more g n h = rw (le-ltb n 128 h)
 
--- the last group, and one before it
-from-last : (k acc b : ℕ) (rest : List ℕ) → b < 128 → acc + b * 2 ^ k < 2 ^ 64 → (1 ≤ b) ⊎ (k ≡ 0) → numberFrom k acc (b ∷ rest) ≡ read (acc + b * 2 ^ k) rest
-unfolding numberFrom
-from-last k acc b rest h f s =
-    let e : b % 128 ≡ b = omega arith in
-    let t : (leb 1 b || eqb k 0) ≡ true = ⊎-elim (λ l. rw (le-leb 1 b l)) (λ z. rw (eq-eqb k 0 z, or-true)) s in
-    rw (lt-leb 128 b h, e, lt-ltb (acc + b * 2 ^ k) (2 ^ 64) f, t)
-
-from-more : (k acc b : ℕ) (rest : List ℕ) → 128 ≤ b → numberFrom k acc (b ∷ rest) ≡ numberFrom (k + 7) (acc + b % 128 * 2 ^ k) rest
-unfolding numberFrom
-from-more k acc b rest h = rw (le-leb 128 b h)
-
 -- one group, as many as there may be
 back-one : (g k acc n : ℕ) (rest : List ℕ) → n < 128 → acc + n * 2 ^ k < 2 ^ 64 → (1 ≤ n) ⊎ (k ≡ 0)
     → numberFrom k acc (groupsOf (suc g) n ++ rest) ≡ read (acc + n * 2 ^ k) rest
-back-one g k acc n rest l f s = ap (λ (t : List ℕ). numberFrom k acc (t ++ rest)) (groups-one g n l) ∙ from-last k acc n rest l f s
+back-one g k acc n rest l f s =
+    let e : n % 128 ≡ n = omega arith in
+    ap (λ (t : List ℕ). numberFrom k acc (t ++ rest)) (groups-one g n l) ∙ rw e at (from-last k acc n rest l (rw e f) s)
 
 back : (g k acc n : ℕ) (rest : List ℕ) → n < 2 ^ width g → acc + n * 2 ^ k < 2 ^ 64 → (1 ≤ n) ⊎ (k ≡ 0)
     → numberFrom k acc (groupsOf (suc g) n ++ rest) ≡ read (acc + n * 2 ^ k) rest
@@ -96,19 +86,16 @@ abbrev pub Bytes : List ℕ → Type 0
 Bytes bytes = (i : ℕ) → i < length bytes → getD bytes i 0 < 256
 
 -- the last byte of a number
-last-form : (k acc b : ℕ) (rest : List ℕ) (p : Parsed ℕ) → b < 128 → (ltb (acc + b % 128 * 2 ^ k) (2 ^ 64) && (leb 1 b || eqb k 0)) ≡ true
-    → record { value = acc + b % 128 * 2 ^ k; rest = rest } ≡ p → Form k acc (b ∷ rest) p
-last-form k acc b rest p l t e =
+last-form : (k acc b : ℕ) (rest : List ℕ) → b < 128 → good-last k acc b ≡ true → Form k acc (b ∷ rest) (record { value = acc + b % 128 * 2 ^ k; rest = rest })
+last-form k acc b rest l t =
     let u : b % 128 ≡ b = omega arith in
-    let v : acc + b % 128 * 2 ^ k ≡ p .value = ap (λ (q : Parsed ℕ). q .value) e in
-    let w = ltb-true (acc + b % 128 * 2 ^ k) (2 ^ 64) (and-left _ (leb 1 b || eqb k 0) t) in
     let c : (leb 1 b || eqb k 0) ≡ true = and-right (ltb (acc + b % 128 * 2 ^ k) (2 ^ 64)) _ t in
     record {
       part = b;
-      word = omega arith;
-      adds = sym v ∙ ap (λ (x : ℕ). acc + x * 2 ^ k) u;
+      word = ltb-true (acc + b % 128 * 2 ^ k) (2 ^ 64) (and-left _ (leb 1 b || eqb k 0) t);
+      adds = ap (λ (x : ℕ). acc + x * 2 ^ k) u;
       some-part = by-bool (leb 1 b) (λ y. inl (leb-true 1 b y)) (λ y. inr (eqb-true k 0 (rw y at c)));
-      form = λ g h. ap (λ (r : List ℕ). b ∷ r) (ap (λ (q : Parsed ℕ). q .rest) e) ∙ ap (λ (t : List ℕ). t ++ p .rest) (sym (groups-one g b l));
+      form = λ g h. ap (λ (t : List ℕ). t ++ rest) (sym (groups-one g b l));
     }
 
 -- a byte before others
@@ -138,15 +125,10 @@ more-form k acc b rest p l h f =
         ∙ ap (λ (x : ℕ). (n % 128 + 128) ∷ (groupsOf (suc g) x ++ p .rest)) (sym d)
         ∙ ap (λ (r : List ℕ). r ++ p .rest) (sym (groups-more (suc g) n t))
 
-formed : (bytes : List ℕ) (k acc : ℕ) (p : Parsed ℕ) → Bytes bytes → numberFrom k acc bytes ≡ some p → Form k acc bytes p
-unfolding numberFrom
-formed [] k acc p y e = none-some e
-formed (b ∷ bytes) k acc p y e = by-bool (leb 128 b)
-    (λ v. more-form k acc b bytes p (leb-true 128 b v) (y 0 (omega arith))
-    (formed bytes (k + 7) (acc + b % 128 * 2 ^ k) p (λ i h. y (suc i) (omega arith)) (rw v at e)))
-    (λ v. by-bool (ltb (acc + b % 128 * 2 ^ k) (2 ^ 64) && (leb 1 b || eqb k 0))
-    (λ w. last-form k acc b bytes p (leb-false 128 b v) w (some-same (rw (v, w) at e)))
-    (λ w. none-some (rw (v, w) at e)))
+formed : (bytes : List ℕ) (k acc : ℕ) (p : Parsed ℕ) → numberFrom k acc bytes ≡ some p → Bytes bytes → Form k acc bytes p
+formed = number-by (λ k acc bytes p. Bytes bytes → Form k acc bytes p)
+    (λ k acc b rest l w y. last-form k acc b rest l w)
+    (λ k acc b rest p l f y. more-form k acc b rest p l (y 0 (omega arith)) (f (λ i h. y (suc i) (omega arith))))
 
 pub record Written (bytes : List ℕ) (v : ℕ) (rest : List ℕ) : Type 0 where
   pub word : v < 2 ^ 64
@@ -156,7 +138,7 @@ pub read-written : (bytes : List ℕ) (v : ℕ) (rest : List ℕ) → Bytes byte
 unfolding width
 read-written bytes v rest y e =
     let p : Parsed ℕ = record { value = v; rest = rest } in
-    let f = formed bytes 0 0 p y e in
+    let f = formed bytes 0 0 p e y in
     let w = f .word in
     let u : f .part ≡ v = omega (arith, f .adds) in
     record { word = w; form = f .form 9 (omega arith) ∙ ap (λ (x : ℕ). groupsOf 10 x ++ rest) u }

@@ -1,40 +1,41 @@
 -- From a selection's answer to the listing's: 1,024 entries are room for every list that is handed out.
-use Prim.Native.Nat.{ℕ, zero, suc, _≤_}
-use mathlib.Core.Path.{_≡_, refl, ap, sym, _∙_}
-use mathlib.Core.List.{List, _∷_}
+use Prim.Native.Nat.{ℕ, _+_, _-_, _≤_}
+use mathlib.Core.Path.{_≡_, ap, sym, _∙_}
+use mathlib.Core.List.{List}
 use mathlib.Core.Option.{Option, none, some}
-use native.Mathlib.Nat.{not-suc-le-zero}
 use native.Mathlib.Omega.{arith}
 use lib.Ieee.{Float, binary64, div, ofBits}
-use lib.ListN.{length, take, replicate}
+use lib.ListN.{length, take, replicate, length-replicate, replicate-append-replicate}
+use lib.Seq.{take-at}
 use Rattle.model.specs.declared.Chosen.the-variants as chosen
-use Rattle.model.specs.declared.Outcome.{Outcome}
 use Rattle.model.specs.declared.Outcome.the-variants as outcome
 use Rattle.model.specs.Lists.{over}
 use Rattle.model.specs.Real.{infinity}
 use Rattle.model.specs.Association.{Request}
 use Rattle.model.specs.Kept.{selected}
 use Rattle.model.specs.Refusal.{selectRefusal}
-use Rattle.model.specs.Calls.{Lent, lent, roomOf, SelectExit, selectAccepted, selectBy, selectOf, chooseBy, maxText}
+use Rattle.model.specs.Calls.{Lent, roomOf, SelectExit, selectAccepted, selectBy, selectOf, maxText}
 use Rattle.pool_number.proofs.Options.{by-option}
 use Rattle.nsga3_laws.specs.Admitted.{Admitted}
 use Rattle.nsga3_laws.proofs.Admitted.{admitted}
 use Rattle.pool_laws.proofs.Printed.{selected-short}
 use Rattle.pool_laws.specs.Text.{listed}
 use Rattle.model.specs.PoolFile.{listingText}
-use Rattle.pool_laws.specs.Choice.{exit, textRefusal, textExit, requestText, roomy, orElse, listExit}
+use Rattle.pool_laws.specs.Choice.{exit, textExit, requestText, roomy, listExit}
 use Rattle.pool_laws.proofs.Listed.{listing-over}
+use Rattle.pool_laws.proofs.Refusals.{list-refused, list-written}
 
 -- ---- the ideal starts at infinity
 
-take-replicate : (x : Float) (n m : ℕ) → m ≤ n → take m (replicate n x) ≡ replicate m x
-take-replicate x n zero h = refl
-take-replicate x zero (suc m) h = absurd (not-suc-le-zero h)
-take-replicate x (suc n) (suc m) h = ap (λ (l : List Float). x ∷ l) (take-replicate x n m (omega arith))
+abbrev pub start : ℕ → List Float
+start m = take m (replicate 8 (div binary64 (ofBits binary64 4607182418800017408) (ofBits binary64 0)))
 
-pub ideal-start : (m : ℕ) → m ≤ 8 → take m (replicate 8 (div binary64 (ofBits binary64 4607182418800017408) (ofBits binary64 0))) ≡ replicate m infinity
+pub ideal-start : (m : ℕ) → m ≤ 8 → start m ≡ replicate m infinity
 unfolding div ofBits
-ideal-start m h = take-replicate infinity 8 m h
+ideal-start m h =
+    let e : 8 ≡ m + (8 - m) = omega arith in
+    ap (λ (n : ℕ). take m (replicate n infinity)) e ∙ ap (take m) (sym (replicate-append-replicate m (8 - m) infinity))
+    ∙ take-at (replicate m infinity) (replicate (8 - m) infinity) m (length-replicate m infinity)
 
 -- ---- a selection's answer, by cases
 
@@ -46,17 +47,13 @@ module _ (r : Request) (entry : Lent) (x : SelectExit) (e : x ≡ selectOf r ent
   outcome-by : (o : Option ℕ) → selectRefusal r (roomOf entry) ≡ o → x .answer .outcome ≡ selectBy o r entry .answer .outcome
   outcome-by o h = ap (λ (t : SelectExit). t .answer .outcome) (by o h)
 
-  kept-not : {C : Type 0} (a b : ℕ) → _≡_ {A = Outcome} (outcome.Kept a) (outcome.Refused b) → C
-  kept-not a b h = let z : _≡_ {A = ℕ} 0 1 = cc in absurd (omega arith)
-
   number : (n : ℕ) → x .answer .outcome ≡ outcome.Refused n → selectRefusal r (roomOf entry) ≡ some n
   unfolding selectAccepted
   number n h = by-option (selectRefusal r (roomOf entry))
-      (λ o. kept-not (r .size) n (sym (outcome-by none o) ∙ h))
-      (λ k o. o ∙ ap some (same k n (sym (outcome-by (some k) o) ∙ h)))
-    where
-      same : (a b : ℕ) → _≡_ {A = Outcome} (outcome.Refused a) (outcome.Refused b) → a ≡ b
-      same a b h = cc
+      (λ o. let k : outcome.Kept (r .size) ≡ outcome.Refused n = sym (outcome-by none o) ∙ h in
+      let z : _≡_ {A = ℕ} 0 1 = cc in absurd (omega arith))
+      (λ k o. let q : outcome.Refused k ≡ outcome.Refused n = sym (outcome-by (some k) o) ∙ h in
+      let z : k ≡ n = cc in o ∙ ap some z)
 
   -- a selection that went through
   pub record Through (n : ℕ) : Type 0 where
@@ -69,17 +66,16 @@ module _ (r : Request) (entry : Lent) (x : SelectExit) (e : x ≡ selectOf r ent
   pub through : (n : ℕ) → x .answer .outcome ≡ outcome.Kept n → Through n
   unfolding selectAccepted
   through n h = by-option (selectRefusal r (roomOf entry))
-      (λ o. record {
+      (λ o. let q : outcome.Kept n ≡ outcome.Kept (r .size) = sym h ∙ outcome-by none o in
+      record {
         none = o;
-        size = same n (r .size) (sym h ∙ outcome-by none o);
+        size = cc;
         kept = ap (λ (t : SelectExit). t .slices .kept) (by none o);
         fronts = ap (λ (t : SelectExit). t .slices .fronts) (by none o);
         lines = ap (λ (t : SelectExit). t .slices .lines) (by none o);
       })
-      (λ k o. kept-not n k (sym h ∙ outcome-by (some k) o))
-    where
-      same : (a b : ℕ) → _≡_ {A = Outcome} (outcome.Kept a) (outcome.Kept b) → a ≡ b
-      same a b h = cc
+      (λ k o. let q : outcome.Kept n ≡ outcome.Refused k = sym h ∙ outcome-by (some k) o in
+      let z : _≡_ {A = ℕ} 0 1 = cc in absurd (omega arith))
 
   -- ---- the listing's answer
 
@@ -88,7 +84,7 @@ module _ (r : Request) (entry : Lent) (x : SelectExit) (e : x ≡ selectOf r ent
   with-room k o h = ap (selectRefusal r) (sym k) ∙ h
 
   pub refused-exit : roomOf entry ≡ roomy → (n : ℕ) (out : List ℕ) → x .answer .outcome ≡ outcome.Refused n → exit (chosen.Refused n) out ≡ listExit r out
-  refused-exit k n out h = sym (ap (λ (o : Option ℕ). chooseBy (orElse o (textRefusal (requestText r) (length out))) (requestText r) out) (with-room k (some n) (number n h)))
+  refused-exit k n out h = sym (list-refused r out n (with-room k (some n) (number n h)))
 
   module _ (n : ℕ) (h : x .answer .outcome ≡ outcome.Kept n) where
     pub limits : Admitted r (roomOf entry)
@@ -102,11 +98,11 @@ module _ (r : Request) (entry : Lent) (x : SelectExit) (e : x ≡ selectOf r ent
     pub text-short : length (listingText (r .count) (listed (take n (x .slices .kept)) (x .slices .fronts) (x .slices .lines))) ≤ maxText
     text-short =
         let a = limits in
-        rw text-same (selected-short r (a .few) (a .fewPlans) (a .fewLines))
+        rw text-same (selected-short r (a .few) (a .fewPlans) (a .someLines) (a .fewLines))
 
     pub listed-exit : roomOf entry ≡ roomy → (out : List ℕ) (count : ℕ) → count ≡ r .count
         → textExit (listingText count (listed (take n (x .slices .kept)) (x .slices .fronts) (x .slices .lines))) out ≡ listExit r out
     listed-exit k out count e =
         ap (λ (c : ℕ). textExit (listingText c (listed (take n (x .slices .kept)) (x .slices .fronts) (x .slices .lines))) out) e
         ∙ ap (λ (t : List ℕ). textExit t out) text-same
-        ∙ sym (ap (λ (o : Option ℕ). chooseBy (orElse o (textRefusal (requestText r) (length out))) (requestText r) out) (with-room k none (through n h .none)))
+        ∙ sym (list-written r out (with-room k none (through n h .none)))

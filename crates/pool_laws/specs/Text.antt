@@ -1,12 +1,11 @@
 -- A text put into a lent slice, and the listing's parts in model's words.
-use Prim.Native.Nat.{ℕ, suc, _+_, _≤_, _<_}
+use Prim.Native.Nat.{ℕ, _+_, _<_}
 use mathlib.Core.Path.{_≡_}
 use mathlib.Core.Bool.{cond}
 use mathlib.Core.List.{List, [], _∷_, _++_}
-use lib.Dec.{eqb, ltb}
+use lib.Dec.{eqb}
 use lib.ListN.{length, getD}
 use lib.Seq.{sets}
-use Rattle.model.specs.Lists.{firstBelow, joinBelow}
 use Rattle.model.specs.Kept.{Selected}
 use Rattle.model.specs.PoolFile.{decimal, lineText}
 
@@ -33,14 +32,19 @@ joined t = t .first ++ (t .second ++ (t .third ++ t .fourth))
 abbrev pub ended : List ℕ → ℕ → List ℕ
 ended word end = word ++ (end ∷ [])
 
--- the header: the words `plans` and `kept`, each with its number
+-- the words `plans`, `kept` and `refused`, each with its space
+abbrev pub plansWord : List ℕ
+plansWord = 112 ∷ 108 ∷ 97 ∷ 110 ∷ 115 ∷ 32 ∷ []
+
+abbrev pub keptWord : List ℕ
+keptWord = 107 ∷ 101 ∷ 112 ∷ 116 ∷ 32 ∷ []
+
+abbrev pub refusedWord : List ℕ
+refusedWord = 114 ∷ 101 ∷ 102 ∷ 117 ∷ 115 ∷ 101 ∷ 100 ∷ 32 ∷ []
+
+-- the header: two of the words, each with its number
 abbrev pub headings : ℕ → ℕ → Four
-headings count kept = record {
-  first = 112 ∷ 108 ∷ 97 ∷ 110 ∷ 115 ∷ 32 ∷ [];
-  second = ended (decimal count) 32;
-  third = 107 ∷ 101 ∷ 112 ∷ 116 ∷ 32 ∷ [];
-  fourth = ended (decimal kept) 10;
-}
+headings count kept = record { first = plansWord; second = ended (decimal count) 32; third = keptWord; fourth = ended (decimal kept) 10 }
 
 -- a plan's line: its index, its front, its reference line and its place
 abbrev pub fields : ℕ → ℕ → ℕ → ℕ → Four
@@ -56,10 +60,6 @@ fieldsText p front line place = joined (fields p front line place)
 
 abbrev pub fieldsOf : List ℕ → List ℕ → List ℕ → ℕ → List ℕ
 fieldsOf fronts lines places p = fieldsText p (getD fronts p 0) (getD lines p 0) (getD places p 0)
-
--- where plan p is first kept among the first n entries of the kept list, from 1; 0 if it is not
-unfoldable pub placeIn : List ℕ → ℕ → ℕ → ℕ
-placeIn kept n p = let i = firstBelow (λ i. eqb (getD kept i 0) p) n in cond (ltb i n) (suc i) 0
 
 -- plan p is marked as kept at place i + 1, unless it is marked already or there is no room for it
 pub record Marked (before : List ℕ) (p i : ℕ) (after : List ℕ) : Type 0 where

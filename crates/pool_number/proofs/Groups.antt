@@ -1,10 +1,10 @@
 -- Laws of model's `numberFrom`, one for each way through a turn of the reader.
-use Prim.Native.Nat.{ℕ, zero, suc, _+_, _*_, _-_, _%_, _^_, _<_, _≤_}
+use Prim.Native.Nat.{ℕ, _+_, _*_, _%_, _^_, _<_, _≤_}
 use mathlib.Core.Path.{_≡_, refl, sym, ap, _∙_, subst}
-use mathlib.Core.Bool.{Bool, true, false, cond, _&&_, _||_, and-false}
+use mathlib.Core.Bool.{Bool, true, false, cond, _&&_, _||_, and-false, or-true}
 use mathlib.Core.Logic.{_⊎_, ⊎-elim}
 use mathlib.Core.List.{List, [], _∷_}
-use mathlib.Core.Option.{Option, none, some}
+use mathlib.Core.Option.{none, some, Option·none-ne-some, Option·some-injective}
 use native.Mathlib.Nat.{lt-of-lt-of-le, add-comm, mul-le-mul-right}
 use native.Mathlib.Numerals.{add-one}
 use native.Mathlib.Omega.{arith}
@@ -14,37 +14,83 @@ use lib.Arith.{digits-lt}
 use lib.Pow.{shl-exact, pow-mono, pow-add}
 use lib.ListN.{length, drop, getD, length-drop, drop-of-length-le}
 use lib.Seq.{drop-cons}
-use Rattle.model.specs.PoolFile.{Parsed, numberFrom, number}
+use Rattle.model.specs.PoolFile.{Parsed, numberFrom}
 use Rattle.list_laws.proofs.Bools.{by-bool}
-use Rattle.pool_number.specs.declared.Read.{Read}
-use Rattle.pool_number.specs.declared.Read.the-variants.{Number, Broken}
-use Rattle.pool_number.specs.Reading.{read, asRead, numberAt, Ends, ReadIs}
+use Rattle.pool_number.specs.declared.Read.the-variants.{Number}
+use Rattle.pool_number.specs.Reading.{read, asRead}
 
--- ---- groups past 64 bits: model's definition reads on and refuses at the end
+-- a last byte ends a number below 2^64 in its shortest form
+abbrev pub good-last : ℕ → ℕ → ℕ → Bool
+good-last k n b = ltb (n + b % 128 * 2 ^ k) (2 ^ 64) && (leb 1 b || eqb k 0)
 
--- a last byte before which there are 64 bits or more is a group of zeros, or makes the number too large
-abbrev past-byte : ℕ → ℕ → ℕ → Bool
-past-byte k n b = ltb (n + b % 128 * 2 ^ k) (2 ^ 64) && (leb 1 b || eqb k 0)
+-- ---- the byte that comes next, by what it is
 
-past-zero : (k n b : ℕ) → 64 ≤ k → b < 1 → past-byte k n b ≡ false
-past-zero k n b h l = rw (lt-leb 1 b l, ne-eqb k 0 (λ e. omega arith), and-false)
+module _ (k n b : ℕ) (rest : List ℕ) where
+  pub from-more : 128 ≤ b → numberFrom k n (b ∷ rest) ≡ numberFrom (k + 7) (n + b % 128 * 2 ^ k) rest
+  unfolding numberFrom
+  from-more l = rw (le-leb 128 b l)
 
-past-large : (k n b : ℕ) → 64 ≤ k → 1 ≤ b → b < 128 → past-byte k n b ≡ false
-past-large k n b h l m =
-    let e : b % 128 ≡ b = omega arith in
-    let p : 2 ^ 64 ≤ 2 ^ k = pow-mono h in
-    let q : 1 * 2 ^ k ≤ b * 2 ^ k = mul-le-mul-right (2 ^ k) l in
-    rw (e, le-ltb (n + b * 2 ^ k) (2 ^ 64) (omega arith))
+  -- the last
+  from-ended : b < 128 → (t : Bool) → good-last k n b ≡ t → numberFrom k n (b ∷ rest) ≡ cond t (read (n + b % 128 * 2 ^ k) rest) none
+  unfolding numberFrom
+  from-ended l t e = rw (lt-leb 128 b l, e)
 
+  pub from-last : b < 128 → n + b % 128 * 2 ^ k < 2 ^ 64 → (1 ≤ b) ⊎ (k ≡ 0) → numberFrom k n (b ∷ rest) ≡ read (n + b % 128 * 2 ^ k) rest
+  from-last l f s =
+      let t : (leb 1 b || eqb k 0) ≡ true = ⊎-elim (λ g. rw (le-leb 1 b g)) (λ z. rw (eq-eqb k 0 z, or-true)) s in
+      from-ended l true (rw (lt-ltb (n + b % 128 * 2 ^ k) (2 ^ 64) f, t))
+
+  -- a group of zeros after others
+  pub from-padded : b ≡ 0 → 0 < k → numberFrom k n (b ∷ rest) ≡ none
+  from-padded z l = from-ended (omega arith) false (rw (lt-leb 1 b (omega arith), ne-eqb k 0 (λ y. omega arith), and-false))
+
+  -- one that makes the number too large
+  from-large : b < 128 → 2 ^ 64 ≤ b * 2 ^ k → numberFrom k n (b ∷ rest) ≡ none
+  from-large l h =
+      let e : b % 128 ≡ b = omega arith in
+      from-ended l false (rw (e, le-ltb (n + b * 2 ^ k) (2 ^ 64) (omega arith)))
+
+-- past 64 bits model's definition reads on and refuses at the end
 past : (bytes : List ℕ) (k n : ℕ) → 64 ≤ k → numberFrom k n bytes ≡ none
 unfolding numberFrom
 past [] k n h = refl
 past (b ∷ bytes) k n h = by-bool (leb 128 b)
-    (λ e. rw e (past bytes (k + 7) (n + b % 128 * 2 ^ k) (omega arith)))
+    (λ e. from-more k n b bytes (leb-true 128 b e) ∙ past bytes (k + 7) (n + b % 128 * 2 ^ k) (omega arith))
     (λ e. let m : b < 128 = leb-false 128 b e in
     by-bool (leb 1 b)
-    (λ v. let l : 1 ≤ b = leb-true 1 b v in rw (e, past-large k n b h l m))
-    (λ v. let l : b < 1 = leb-false 1 b v in rw (e, past-zero k n b h l)))
+    (λ v. let p : 2 ^ 64 ≤ 2 ^ k = pow-mono h in
+    let q : 1 * 2 ^ k ≤ b * 2 ^ k = mul-le-mul-right (2 ^ k) (leb-true 1 b v) in
+    from-large k n b bytes m (omega arith))
+    (λ v. let l : b < 1 = leb-false 1 b v in from-padded k n b bytes (omega arith) (omega arith)))
+
+-- the tenth group has one bit
+pub from-over : (k n b : ℕ) (rest : List ℕ) → k ≡ 63 → 1 < b → numberFrom k n (b ∷ rest) ≡ none
+from-over k n b rest z l = by-bool (leb 128 b)
+    (λ v. from-more k n b rest (leb-true 128 b v) ∙ past rest (k + 7) (n + b % 128 * 2 ^ k) (omega arith))
+    (λ v. from-large k n b rest (leb-false 128 b v) (rw z (omega arith)))
+
+pub from-end : (s : List ℕ) (k n p : ℕ) → length s ≤ p → numberFrom k n (drop p s) ≡ none
+unfolding numberFrom
+from-end s k n p h = rw (drop-of-length-le s h)
+
+-- the bytes from a place on, the first before the others
+pub opened : (s : List ℕ) (p b : ℕ) → b ≡ getD s p 0 → p < length s → drop p s ≡ b ∷ drop (p + 1) s
+opened s p b e h = rw (e, add-one, drop-cons s p 0)
+
+-- ---- all bytes of a number
+
+-- what holds of a last byte that is good, and of a byte before bytes of which it holds, holds of all bytes that a number is read from
+pub number-by : (P : ℕ → ℕ → List ℕ → Parsed ℕ → Type 0)
+    → ((k n b : ℕ) (rest : List ℕ) → b < 128 → good-last k n b ≡ true → P k n (b ∷ rest) (record { value = n + b % 128 * 2 ^ k; rest = rest }))
+    → ((k n b : ℕ) (rest : List ℕ) (p : Parsed ℕ) → 128 ≤ b → P (k + 7) (n + b % 128 * 2 ^ k) rest p → P k n (b ∷ rest) p)
+    → (bytes : List ℕ) (k n : ℕ) (p : Parsed ℕ) → numberFrom k n bytes ≡ some p → P k n bytes p
+unfolding numberFrom
+number-by P last more [] k n p e = absurd (Option·none-ne-some _ e)
+number-by P last more (b ∷ bytes) k n p e = by-bool (leb 128 b)
+    (λ v. more k n b bytes p (leb-true 128 b v) (number-by P last more bytes (k + 7) (n + b % 128 * 2 ^ k) p (rw v at e)))
+    (λ v. by-bool (good-last k n b)
+    (λ w. subst (λ (q : Parsed ℕ). P k n (b ∷ bytes) q) (Option·some-injective _ _ (rw (v, w) at e)) (last k n b bytes (leb-false 128 b v) w))
+    (λ w. absurd (Option·none-ne-some _ (rw (v, w) at e))))
 
 -- ---- one more group
 
@@ -71,43 +117,6 @@ taken n k b h l d w = ⊎-elim
     (λ p. subst (λ (j : ℕ). n < 2 ^ j → Taken n j b) (sym (p .0)) (λ g. at63 n b g (p .1)) h)
     (λ f. below63 n k b h (omega arith))
     w
-
-module _ (s : List ℕ) (k n p b : ℕ) (e : b ≡ getD s p 0) (h : p < length s) where
-  open-from : numberFrom k n (drop p s) ≡
-      cond (leb 128 b) (numberFrom (k + 7) (n + b % 128 * 2 ^ k) (drop (p + 1) s))
-      (cond (past-byte k n b) (read (n + b % 128 * 2 ^ k) (drop (p + 1) s)) none)
-  unfolding numberFrom
-  open-from = rw (e, drop-cons s p 0, add-one)
-
-  pub from-more : 128 ≤ b → numberFrom k n (drop p s) ≡ numberFrom (k + 7) (n + b % 128 * 2 ^ k) (drop (p + 1) s)
-  from-more l = open-from ∙ rw (le-leb 128 b l)
-
-  -- the tenth group has one bit
-  pub from-over : k ≡ 63 → 1 < b → numberFrom k n (drop p s) ≡ none
-  from-over z l = by-bool (leb 128 b)
-      (λ v. let g : 128 ≤ b = leb-true 128 b v in from-more g ∙ past (drop (p + 1) s) (k + 7) (n + b % 128 * 2 ^ k) (omega arith))
-      (λ v. let g : b < 128 = leb-false 128 b v in
-      let u : b % 128 ≡ b = omega arith in
-      let w : past-byte k n b ≡ false = rw (u, z, le-ltb (n + b * 2 ^ 63) (2 ^ 64) (omega arith)) in
-      open-from ∙ rw (v, w))
-
-  pub from-padded : b ≡ 0 → 0 < k → numberFrom k n (drop p s) ≡ none
-  from-padded z l =
-      let w : past-byte k n b ≡ false = rw (lt-leb 1 b (omega arith), ne-eqb k 0 (λ y. omega arith), and-false) in
-      open-from ∙ rw (lt-leb 128 b (omega arith), w)
-
-  from-good : b < 128 → past-byte k n b ≡ true → numberFrom k n (drop p s) ≡ read (n + b % 128 * 2 ^ k) (drop (p + 1) s)
-  from-good l w = open-from ∙ rw (lt-leb 128 b l, w)
-
-  pub from-zero : Taken n k b → b ≡ 0 → k ≤ 0 → numberFrom k n (drop p s) ≡ read (n + b % 128 * 2 ^ k) (drop (p + 1) s)
-  from-zero t z l = from-good (omega arith) (rw (lt-ltb (n + b % 128 * 2 ^ k) (2 ^ 64) (t .fits), lt-leb 1 b (omega arith), eq-eqb k 0 (omega arith)))
-
-  pub from-last : Taken n k b → b < 128 → ((b ≡ 0) → ⊥) → numberFrom k n (drop p s) ≡ read (n + b % 128 * 2 ^ k) (drop (p + 1) s)
-  from-last t l z = from-good l (rw (lt-ltb (n + b % 128 * 2 ^ k) (2 ^ 64) (t .fits), le-leb 1 b (omega arith)))
-
-pub from-end : (s : List ℕ) (k n p : ℕ) → length s ≤ p → numberFrom k n (drop p s) ≡ none
-unfolding numberFrom
-from-end s k n p h = rw (drop-of-length-le s h)
 
 -- ---- the answer as the code's enum
 

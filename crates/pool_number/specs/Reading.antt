@@ -1,5 +1,5 @@
 -- What the reader of numbers answers, in model's words.
-use Prim.Native.Nat.{ℕ, _-_, _≤_, _<_}
+use Prim.Native.Nat.{ℕ, _-_}
 use mathlib.Core.Path.{_≡_}
 use mathlib.Core.List.{List}
 use mathlib.Core.Option.{Option, none, some}
@@ -22,12 +22,7 @@ asRead n (some p) = Number (p .value) (n - length (p .rest))
 abbrev pub numberAt : List ℕ → ℕ → Read
 numberAt bytes at = asRead (length bytes) (number (drop at bytes))
 
--- the same by cases: the bytes left are those from the place answered on, which lies past the start and not past the end
-pub record Ends (bytes : List ℕ) (at v next : ℕ) : Type 0 where
-  pub reads : number (drop at bytes) ≡ read v (drop next bytes)
-  pub past : at < next
-  pub inside : next ≤ length bytes
-
+-- the same by cases: the bytes left are those from the place answered on
 abbrev pub ReadIs : List ℕ → ℕ → Read → Type 0
-ReadIs bytes at (Number v next) = Ends bytes at v next
+ReadIs bytes at (Number v next) = number (drop at bytes) ≡ read v (drop next bytes)
 ReadIs bytes at Broken = number (drop at bytes) ≡ none

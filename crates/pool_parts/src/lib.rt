@@ -1,8 +1,7 @@
 // The parts of `choose`: a listing handed out where there is room for it, and the number that answers too many plans.
 ghost use mathlib.Core.Path.{_≡_};
 ghost use Prim.Native.Nat.{_≤_};
-ghost use lib.ListN.{length, take};
-ghost use Rattle.model.specs.Lists.{over};
+ghost use lib.ListN.{length};
 ghost use Rattle.model.specs.PoolFile.{listingText};
 ghost use Rattle.model.specs.Refusal.{maxSize};
 ghost use Rattle.model.specs.Calls.{maxText};
@@ -10,18 +9,6 @@ ghost use Rattle.pool_laws.specs.Text.{listed};
 ghost use Rattle.pool_laws.specs.Choice.{exit, textExit, Crowded};
 use model::Chosen;
 use model::MAX_TEXT;
-
-// The first n bytes of a text, at the front of another slice.
-fn copy_text(text: &[u8], n: usize, out: &mut [u8])
-    requires { ⌜ (n ≤ length (now text)) × (n ≤ length (now out)) ⌝ }
-    ensures { λ _. ⌜ now (out .exit) ≡ over (take n (now (text .entry))) (now (out .entry)) ⌝ }
-{
-    let mut i = 0;
-    while i < n {
-        out[i] = text[i];
-        i += 1;
-    }
-}
 
 // The listing of a selection, if the slice lent has room for it: nothing is written before its length is known.
 pub fn put_listing(
@@ -41,7 +28,7 @@ pub fn put_listing(
     if out.len() < n {
         return Chosen::Refused(10);
     }
-    copy_text(&text, n, out);
+    pool_decimal::put_bytes(&text[..n], out, 0);
     Chosen::Written(n)
 }
 

@@ -1,27 +1,22 @@
 -- A plan in its block of words.
 use Prim.Native.Nat.{ℕ, suc, _+_, _*_, _≤_, _<_, min}
-use mathlib.Core.Path.{_≡_, refl, ap, sym, _∙_, subst}
+use mathlib.Core.Path.{_≡_, ap, sym, _∙_, subst}
 use mathlib.Core.Logic.{_⊎_, ⊎-elim}
-use mathlib.Core.Bool.{true, false}
-use mathlib.Core.List.{List, [], _∷_, _++_, map}
-use mathlib.Core.Option.{Option, none, some}
-use native.Mathlib.Nat.{add-zero, min-eq-left, min-eq-right, min-le-left, min-le-right, le-min}
+use mathlib.Core.List.{List, [], map}
+use mathlib.Core.Option.{none}
+use native.Mathlib.Nat.{add-zero, min-comm, min-le-left, min-le-right, le-min}
 use native.Mathlib.Omega.{arith}
-use borrow.Author.Tests.{leb-true, leb-false}
-use lib.Dec.{leb}
-use lib.Ieee.{Float}
 use lib.ListN.{length, getD, take, drop, set, length-take, length-map, length-set, List·getD-map}
 use lib.Seq.{sets, length-sets, take-all, getD-take, getD-set-same, getD-set-other}
 use Rattle.model.specs.Lists.{listBelow}
 use Rattle.model.specs.Real.{real}
 use Rattle.model.specs.Plan.{Plan, Setting, planOf, planWords}
-use Rattle.model.specs.PoolFile.{Parsed, number, many, plan}
-use Rattle.list_laws.proofs.Bools.{by-bool}
+use Rattle.model.specs.PoolFile.{number, many, plan}
 use Rattle.list_laws.proofs.Built.{listBelow-same, listBelow-take}
-use Rattle.pool_number.specs.Reading.{read, Ends}
+use Rattle.pool_number.specs.Reading.{read}
 use Rattle.pool_plans.specs.declared.End.{End}
 use Rattle.pool_plans.specs.declared.End.the-variants as end
-use Rattle.pool_plans.specs.Blocks.{Words, WordsIs, Block, roomed}
+use Rattle.pool_plans.specs.Blocks.{Reads, Words, WordsIs, Block, roomed}
 use Rattle.pool_number.proofs.Options.{many-length}
 use Rattle.pool_plans.proofs.Storing.{stored-plain}
 use Rattle.list_laws.proofs.Runs.{before-run, sets-past, in-run}
@@ -32,15 +27,13 @@ use Rattle.list_laws.proofs.Runs.{before-run, sets-past, in-run}
 values-of : (word : ℕ → ℕ) (vs : List ℕ) (n room : ℕ) → length vs ≡ n → ((j : ℕ) → j < n → j < room → word j ≡ getD vs j 0)
     → listBelow (λ j. real (word j)) (min n room) ≡ take room (map real vs)
 values-of word vs n room e h =
-    let s : length (map real vs) ≡ n = length-map vs real ∙ e in
+    let l = take room (map real vs) in
+    let s : length l ≡ min n room = length-take room (map real vs) ∙ ap (min room) (length-map vs real ∙ e) ∙ min-comm room n in
     let a = min-le-left n room in
     let b = min-le-right n room in
-    sym (listBelow-take (λ j. real (word j)) (min n room) (real 0) (map real vs) (omega arith)
-    (λ t l. List·getD-map real vs t 0 ∙ ap real (sym (h t (omega arith) (omega arith)))))
-    ∙ by-bool (leb n room)
-    (λ w. let l : n ≤ room = leb-true n room w in
-    ap (λ (k : ℕ). take k (map real vs)) (min-eq-left l) ∙ take-all n (map real vs) (omega arith) ∙ sym (take-all room (map real vs) (omega arith)))
-    (λ w. let l : room ≤ n = omega (arith, leb-false n room w) in ap (λ (k : ℕ). take k (map real vs)) (min-eq-right l))
+    sym (listBelow-take (λ j. real (word j)) (min n room) (real 0) l (omega arith)
+    (λ t u. getD-take room (map real vs) t (real 0) (omega arith) ∙ List·getD-map real vs t 0 ∙ ap real (sym (h t (omega arith) (omega arith)))))
+    ∙ take-all (min n room) l (omega arith)
 
 -- a plan of m values and c constraints
 abbrev pub made : ℕ → List ℕ → ℕ → List ℕ → Plan
@@ -85,48 +78,37 @@ planOf-same f g h =
 -- ---- what is stored
 
 -- the counts stand at their four places, and the other words stay
-abbrev one-count : List ℕ → ℕ → List ℕ
-one-count l base = set l base 0
-
-abbrev two-counts : List ℕ → ℕ → ℕ → List ℕ
-two-counts l base m = set (one-count l base) (base + 1) m
-
-abbrev three-counts : List ℕ → ℕ → ℕ → ℕ → List ℕ
-three-counts l base m c = set (two-counts l base m) (base + 10) c
-
 counted : List ℕ → ℕ → ℕ → ℕ → List ℕ
-counted l base m c = set (three-counts l base m c) (base + 27) 0
+counted l base m c = set (set (set (set l base 0) (base + 1) m) (base + 10) c) (base + 27) 0
 
 module _ (l : List ℕ) (base m c : ℕ) (room : base + 124 ≤ length l) where
-  counted-0 : getD (counted l base m c) (base + 0) 0 ≡ 0
+  abbrev first-two : List ℕ
+  first-two = set (set l base 0) (base + 1) m
+
+  past-two : (i : ℕ) → (i ≡ base + 10 → ⊥) → (i ≡ base + 27 → ⊥) → getD (counted l base m c) i 0 ≡ getD first-two i 0
   unfolding counted
+  past-two i e10 e27 = getD-set-other (set first-two (base + 10) c) (base + 27) i 0 0 e27 ∙ getD-set-other first-two (base + 10) i c 0 e10
+
+  counted-0 : getD (counted l base m c) (base + 0) 0 ≡ 0
   counted-0 = rw add-zero
-      (getD-set-other (three-counts l base m c) (base + 27) base 0 0 (λ e. omega arith)
-      ∙ getD-set-other (two-counts l base m) (base + 10) base c 0 (λ e. omega arith)
-      ∙ getD-set-other (one-count l base) (base + 1) base m 0 (λ e. omega arith) ∙ getD-set-same l base 0 0 (omega arith))
+      (past-two base (λ e. omega arith) (λ e. omega arith)
+      ∙ getD-set-other (set l base 0) (base + 1) base m 0 (λ e. omega arith) ∙ getD-set-same l base 0 0 (omega arith))
 
   counted-1 : getD (counted l base m c) (base + 1) 0 ≡ m
-  unfolding counted
-  counted-1 =
-      getD-set-other (three-counts l base m c) (base + 27) (base + 1) 0 0 (λ e. omega arith)
-      ∙ getD-set-other (two-counts l base m) (base + 10) (base + 1) c 0 (λ e. omega arith)
-      ∙ getD-set-same (one-count l base) (base + 1) m 0 (simp length-set (omega arith))
+  counted-1 = past-two (base + 1) (λ e. omega arith) (λ e. omega arith) ∙ getD-set-same (set l base 0) (base + 1) m 0 (simp length-set (omega arith))
 
   counted-10 : getD (counted l base m c) (base + 10) 0 ≡ c
   unfolding counted
   counted-10 =
-      getD-set-other (three-counts l base m c) (base + 27) (base + 10) 0 0 (λ e. omega arith)
-      ∙ getD-set-same (two-counts l base m) (base + 10) c 0 (simp length-set (omega arith))
+      getD-set-other (set first-two (base + 10) c) (base + 27) (base + 10) 0 0 (λ e. omega arith)
+      ∙ getD-set-same first-two (base + 10) c 0 (simp length-set (omega arith))
 
   counted-27 : getD (counted l base m c) (base + 27) 0 ≡ 0
   unfolding counted
-  counted-27 = getD-set-same (three-counts l base m c) (base + 27) 0 0 (simp length-set (omega arith))
+  counted-27 = getD-set-same (set first-two (base + 10) c) (base + 27) 0 0 (simp length-set (omega arith))
 
   counted-other : (i : ℕ) → (i ≡ base → ⊥) → (i ≡ base + 1 → ⊥) → (i ≡ base + 10 → ⊥) → (i ≡ base + 27 → ⊥) → getD (counted l base m c) i 0 ≡ getD l i 0
-  unfolding counted
-  counted-other i e0 e1 e10 e27 =
-      getD-set-other (three-counts l base m c) (base + 27) i 0 0 e27 ∙ getD-set-other (two-counts l base m) (base + 10) i c 0 e10
-      ∙ getD-set-other (one-count l base) (base + 1) i m 0 e1 ∙ getD-set-other l base i 0 0 e0
+  counted-other i e0 e1 e10 e27 = past-two i e10 e27 ∙ getD-set-other (set l base 0) (base + 1) i m 0 e1 ∙ getD-set-other l base i 0 0 e0
 
 -- as many as there is room for, of those that there are
 taken-le : (room : ℕ) (vs : List ℕ) → length (take room vs) ≤ room
@@ -224,29 +206,31 @@ module _ (file : List ℕ) (at m base : ℕ) (l : List ℕ) where
     first = subst (λ (x : End). WordsIs (λ v. v) file at m 8 (base + 2) l o₁ x) e w
 
     pub block-no-count : number (drop p file) ≡ none → plan m (drop at file) ≡ none
-    block-no-count f = plan-no-count m (drop at file) (first .values) (drop p file) (first .reads) f
+    block-no-count f = plan-no-count m (drop at file) (first .value) (drop p file) (first .reads) f
 
-    module _ (c q : ℕ) (f : Ends file p c q) (o₂ : List ℕ) (r′ : End) where
+    module _ (c q : ℕ) (f : number (drop p file) ≡ read c (drop q file)) (o₂ : List ℕ) (r′ : End) where
       -- wherever the constraints were to stand
       pub block-short : (place : ℕ) → WordsIs (λ v. v) file q c 16 place o₁ o₂ r′ → r′ ≡ end.Broken → plan m (drop at file) ≡ none
-      block-short place w′ g = plan-short m (drop at file) (first .values) (drop p file) c (drop q file) (first .reads) (f .reads)
+      block-short place w′ g = plan-short m (drop at file) (first .value) (drop p file) c (drop q file) (first .reads) f
           (subst (λ (x : End). WordsIs (λ v. v) file q c 16 place o₁ o₂ x) g w′)
 
       pub block-good : WordsIs (λ v. v) file q c 16 (base + 11) o₁ o₂ r′ → (next : ℕ) (o : List ℕ) → r′ ≡ end.At next → base + planWords ≤ length l
-          → o ≡ set (set (set (set o₂ base 0) (base + 1) m) (base + 10) c) (base + 27) 0 → Block file at m base l o next
+          → o ≡ set (set (set (set o₂ base 0) (base + 1) m) (base + 10) c) (base + 27) 0 → Reads (plan m) (Block base l o) file at next
       unfolding block filled rows counted
       block-good w′ next o g room k =
           let second = subst (λ (x : End). WordsIs (λ v. v) file q c 16 (base + 11) o₁ o₂ x) g w′ in
-          let vs = first .values in
-          let cs = second .values in
+          let vs = first .value in
+          let cs = second .value in
           let a = many-length number m (drop at file) vs (drop p file) (first .reads) in
           let b = many-length number c (drop q file) cs (drop next file) (second .reads) in
           let z : o ≡ block l base m c vs cs a b room =
-          k ∙ ap (λ (t : List ℕ). counted t base m c) (stored-plain file q c 16 (base + 11) o₁ o₂ next second
-          ∙ ap (λ (t : List ℕ). sets t (base + 11) (take 16 cs)) (stored-plain file at m 8 (base + 2) l o₁ p first)) in
+          k ∙ ap (λ (t : List ℕ). counted t base m c) (stored-plain 16 (base + 11) o₁ o₂ cs (second .stored)
+          ∙ ap (λ (t : List ℕ). sets t (base + 11) (take 16 cs)) (stored-plain 8 (base + 2) l o₁ vs (first .stored))) in
           record {
-            held = made m vs c cs;
-            reads = plan-good m (drop at file) vs (drop p file) c (drop q file) cs (drop next file) (first .reads) (f .reads) (second .reads);
-            stored = ap (λ (t : List ℕ). planOf (λ j. getD t (base + j) 0)) z ∙ block-plan l base m c vs cs a b room;
-            others = λ i h. ap (λ (t : List ℕ). getD t i 0) z ∙ block-others l base m c vs cs a b room i h;
+            value = made m vs c cs;
+            reads = plan-good m (drop at file) vs (drop p file) c (drop q file) cs (drop next file) (first .reads) f (second .reads);
+            stored = record {
+              stored = ap (λ (t : List ℕ). planOf (λ j. getD t (base + j) 0)) z ∙ block-plan l base m c vs cs a b room;
+              others = λ i h. ap (λ (t : List ℕ). getD t i 0) z ∙ block-others l base m c vs cs a b room i h;
+            };
           }

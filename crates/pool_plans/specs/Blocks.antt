@@ -7,21 +7,32 @@ use mathlib.Core.Option.{none}
 use lib.ListN.{getD, take, drop}
 use lib.Seq.{sets}
 use Rattle.model.specs.Plan.{Plan, planOf, planAt, maxValues, maxConstraints, planWords}
-use Rattle.model.specs.PoolFile.{number, many, plan, noPlan}
+use Rattle.model.specs.PoolFile.{Reader, number, many, plan, noPlan}
 use Rattle.model.specs.Refusal.{maxSize}
 use Rattle.pool_number.specs.Reading.{read}
 use Rattle.pool_plans.specs.declared.End.{End}
 use Rattle.pool_plans.specs.declared.End.the-variants as end
 
--- n numbers from `at` on end at `next`; the first `keep` of them stand in a list from `base` on, each as `h` has it
-pub record Words (h : ℕ → ℕ) (file : List ℕ) (at n keep base : ℕ) (before after : List ℕ) (next : ℕ) : Type 0 where
-  pub values : List ℕ
-  pub reads : many n number (drop at file) ≡ read values (drop next file)
-  pub stored : after ≡ sets before base (map h (take keep values))
+-- what a reader reads from `at` on ends at `next`, and Q holds of it
+pub record Reads {A : Type 0} (r : Reader A) (Q : A → Type 0) (file : List ℕ) (at next : ℕ) : Type 0 where
+  pub value : A
+  pub reads : r (drop at file) ≡ read value (drop next file)
+  pub stored : Q value
+
+module _ {A : Type 0} where
+  abbrev pub ReadsIs : Reader A → (A → Type 0) → List ℕ → ℕ → End → Type 0
+  ReadsIs r Q file at (end.At next) = Reads r Q file at next
+  ReadsIs r Q file at end.Broken = r (drop at file) ≡ none
+
+-- the first `keep` of n numbers stand in a list from `base` on, each as `h` has it
+abbrev pub Held : (ℕ → ℕ) → ℕ → ℕ → List ℕ → List ℕ → List ℕ → Type 0
+Held h keep base before after values = after ≡ sets before base (map h (take keep values))
+
+abbrev pub Words : (ℕ → ℕ) → List ℕ → ℕ → ℕ → ℕ → ℕ → List ℕ → List ℕ → ℕ → Type 0
+Words h file at n keep base before after next = Reads (many n number) (Held h keep base before after) file at next
 
 abbrev pub WordsIs : (ℕ → ℕ) → List ℕ → ℕ → ℕ → ℕ → ℕ → List ℕ → List ℕ → End → Type 0
-WordsIs h file at n keep base before after (end.At next) = Words h file at n keep base before after next
-WordsIs h file at n keep base before after end.Broken = many n number (drop at file) ≡ none
+WordsIs h file at n keep base before after = ReadsIs (many n number) (Held h keep base before after) file at
 
 -- a plan as its words hold it: there is room for 8 values and 16 constraints; a file has no settings
 abbrev pub roomed : Plan → Plan
@@ -35,23 +46,20 @@ roomed p = record {
   settings = [];
 }
 
--- the plan at `at` ends at `next` and stands in the block of words at `base`; the other words are as they were
-pub record Block (file : List ℕ) (at m base : ℕ) (before after : List ℕ) (next : ℕ) : Type 0 where
-  pub held : Plan
-  pub reads : plan m (drop at file) ≡ read held (drop next file)
+-- a plan stands in the block of words at `base`; the other words are as they were
+pub record Block (base : ℕ) (before after : List ℕ) (held : Plan) : Type 0 where
   pub stored : planOf (λ j. getD after (base + j) 0) ≡ roomed held
   pub others : (i : ℕ) → (i < base) ⊎ (base + planWords ≤ i) → getD after i 0 ≡ getD before i 0
 
 abbrev pub BlockIs : List ℕ → ℕ → ℕ → ℕ → List ℕ → List ℕ → End → Type 0
-BlockIs file at m base before after (end.At next) = Block file at m base before after next
-BlockIs file at m base before after end.Broken = plan m (drop at file) ≡ none
+BlockIs file at m base before after = ReadsIs (plan m) (Block base before after) file at
 
--- n plans from `at` on end at `next`; if there are no more than a pool holds, each stands in its block
-pub record Plans (file : List ℕ) (at m n : ℕ) (after : List ℕ) (next : ℕ) : Type 0 where
-  pub plans : List Plan
-  pub reads : many n (plan m) (drop at file) ≡ read plans (drop next file)
-  pub stored : n ≤ maxSize → (p : ℕ) → p < n → planAt after p ≡ roomed (getD plans p noPlan)
+-- if n plans are no more than a pool holds, each stands in its block
+abbrev pub Blocks : ℕ → List ℕ → List Plan → Type 0
+Blocks n after plans = n ≤ maxSize → (p : ℕ) → p < n → planAt after p ≡ roomed (getD plans p noPlan)
+
+abbrev pub Plans : List ℕ → ℕ → ℕ → ℕ → List ℕ → ℕ → Type 0
+Plans file at m n after next = Reads (many n (plan m)) (Blocks n after) file at next
 
 abbrev pub PlansIs : List ℕ → ℕ → ℕ → ℕ → List ℕ → End → Type 0
-PlansIs file at m n after (end.At next) = Plans file at m n after next
-PlansIs file at m n after end.Broken = many n (plan m) (drop at file) ≡ none
+PlansIs file at m n after = ReadsIs (many n (plan m)) (Blocks n after) file at

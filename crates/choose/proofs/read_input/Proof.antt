@@ -1,7 +1,6 @@
 -- `read_input`: each turn reads at least one byte of what is left of the buffer
 use Prim.Native.Nat.{_-_, _≤_}
 use mathlib.Core.Path.{_≡_}
-use native.Mathlib.Omega.{arith}
 use borrow.Author.Needs.{needs}
 use lib.ListN.{length}
 use Rattle.choose.proofs.read_input.Statement.{statement}

@@ -1,21 +1,42 @@
 -- `choose`: the parser's answer by cases, and what the words ask for
-use Prim.Native.Nat.{_*_}
-use mathlib.Core.Path.{sym}
+use Prim.Native.Nat.{ℕ, _*_, _≤_}
+use mathlib.Core.Path.{_≡_, refl, sym, _∙_}
+use mathlib.Core.List.{List}
+use native.Mathlib.Nat.{le-of-eq}
 use native.Mathlib.Omega.{arith}
+use lib.ListN.{length, take, length-replicate}
 use lib.Seq.{length-take-le}
 use Rattle.pool_laws.proofs.Files.{broken, many-objectives, crowded-pool, chosen-words}
 use borrow.Author.Needs.{needs}
 use Rattle.pool_choice.proofs.choose.Statement.{statement}
 use Rattle.pool_choice.proofs.choose.Tie as tie
 
+-- ---- lengths, over plain numbers
+
+few-marks : (m n : ℕ) → m ≤ 8 → n ≡ 8 → m ≤ n
+few-marks m n h e = omega arith
+
+few-words : (k n : ℕ) → k ≤ 1024 → n ≡ 126976 → k * 124 ≤ n
+few-words k n h e = omega arith
+
+taken-marks : (m : ℕ) (l : List ℕ) → m ≤ 8 → length l ≡ 8 → length (take m l) ≤ 8
+taken-marks m l h e = omega (arith, length-take-le m l (omega arith))
+
+-- the two arrays after the parser
+marks-length : (s : tie.After-parse-pool) → length (s .parse-pool .last .1 .0) ≡ 8
+marks-length s = s .parse-pool .kept .1 .0
+
+words-length : (s : tie.After-parse-pool) → length (s .parse-pool .last .1 .1 .0) ≡ 126976
+words-length s = s .parse-pool .kept .1 .1 .0 ∙ length-replicate {A = ℕ} 126976 0
+
 slice-aggregate-parse-pool : tie.Need-slice-aggregate-parse-pool
-slice-aggregate-parse-pool c = search needs
+slice-aggregate-parse-pool c = refl
 
 slice-aggregate-parse-pool-2 : tie.Need-slice-aggregate-parse-pool-2
-slice-aggregate-parse-pool-2 c = search needs
+slice-aggregate-parse-pool-2 c = sym (length-replicate {A = ℕ} 126976 0)
 
 parse-pool-requires : tie.Need-parse-pool-requires
-parse-pool-requires c κs = search needs
+parse-pool-requires c κs = (le-of-eq refl, le-of-eq (sym (length-replicate {A = ℕ} 126976 0)))
 
 enum-known-parsed : tie.Need-enum-known-parsed
 enum-known-parsed c = search needs
@@ -38,17 +59,20 @@ returns-2 c =
     (g .parsed .given .1) (a .out .now) (c .if1 .taken)
 
 array-share-prefix-directions : tie.Need-array-share-prefix-directions
-array-share-prefix-directions c = search needs
+array-share-prefix-directions c =
+    let i = c .before .before in
+    let g = i .before .before .before in
+    few-marks (g .parsed .given .0 .0 .m) _ (i .if1 .left) (marks-length (g .before .before .before .before))
 
 slice-aggregate-crowded : tie.Need-slice-aggregate-crowded
 slice-aggregate-crowded c =
     let i = c .before .before .before in
     let g = i .before .before .before in
     let s = g .before .before .before .before in
-    sym (length-take-le (g .parsed .given .0 .0 .m) (s .parse-pool .last .1 .0) (omega (arith, i .if1 .left, s .parse-pool .kept .1 .0)))
+    sym (length-take-le (g .parsed .given .0 .0 .m) (s .parse-pool .last .1 .0) (few-marks (g .parsed .given .0 .0 .m) _ (i .if1 .left) (marks-length s)))
 
 crowded-requires : tie.Need-crowded-requires
-crowded-requires c κs = search needs
+crowded-requires c κs = tt
 
 returns-3 : tie.Need-returns-3
 returns-3 c =
@@ -64,7 +88,9 @@ mul-words : tie.Need-mul-words
 mul-words c = search needs
 
 array-share-prefix-pool : tie.Need-array-share-prefix-pool
-array-share-prefix-pool c = search needs
+array-share-prefix-pool c =
+    let g = c .before .before .before .before .before in
+    few-words (g .parsed .given .0 .0 .count) _ (c .if2 .left) (words-length (g .before .before .before .before))
 
 slice-aggregate-choose-words : tie.Need-slice-aggregate-choose-words
 slice-aggregate-choose-words c =
@@ -72,24 +98,27 @@ slice-aggregate-choose-words c =
     let i = t .before .before in
     let g = i .before .before .before in
     let s = g .before .before .before .before in
-    sym (length-take-le (g .parsed .given .0 .0 .count * 124) (s .parse-pool .last .1 .1 .0) (omega (arith, t .if2 .left, s .parse-pool .kept .1 .1 .0)))
+    sym (length-take-le (g .parsed .given .0 .0 .count * 124) (s .parse-pool .last .1 .1 .0) (few-words (g .parsed .given .0 .0 .count) _ (t .if2 .left) (words-length s)))
 
 array-share-prefix-directions-2 : tie.Need-array-share-prefix-directions-2
-array-share-prefix-directions-2 c = search needs
+array-share-prefix-directions-2 c =
+    let i = c .before .before .before in
+    let g = i .before .before .before in
+    few-marks (g .parsed .given .0 .0 .m) _ (i .if1 .left) (marks-length (g .before .before .before .before))
 
 slice-aggregate-choose-words-2 : tie.Need-slice-aggregate-choose-words-2
 slice-aggregate-choose-words-2 c =
     let i = c .before .before .before .before in
     let g = i .before .before .before in
     let s = g .before .before .before .before in
-    sym (length-take-le (g .parsed .given .0 .0 .m) (s .parse-pool .last .1 .0) (omega (arith, i .if1 .left, s .parse-pool .kept .1 .0)))
+    sym (length-take-le (g .parsed .given .0 .0 .m) (s .parse-pool .last .1 .0) (few-marks (g .parsed .given .0 .0 .m) _ (i .if1 .left) (marks-length s)))
 
 choose-words-requires : tie.Need-choose-words-requires
 choose-words-requires c κs =
     let i = c .before .before .before .before .before in
     let g = i .before .before .before in
     let s = g .before .before .before .before in
-    omega (arith, i .if1 .left, s .parse-pool .kept .1 .0, length-take-le (g .parsed .given .0 .0 .m) (s .parse-pool .last .1 .0) (omega (arith, i .if1 .left, s .parse-pool .kept .1 .0)))
+    taken-marks (g .parsed .given .0 .0 .m) (s .parse-pool .last .1 .0) (i .if1 .left) (marks-length s)
 
 same-length : tie.Need-same-length
 same-length c = search needs
@@ -103,7 +132,7 @@ returns-4 c =
     let s = g .before .before .before .before in
     let a = s .before .before .before .before .before .args in
     chosen-words (a .file .now) (s .parse-pool .last .1 .0) (s .parse-pool .last .1 .1 .0) (s .parse-pool .result) (s .parse-pool .ensures) (g .parsed .given .0 .0)
-    (g .parsed .given .1) (a .out .now) (i .if1 .left) (t .if2 .left) (omega (arith, s .parse-pool .kept .1 .1 .0)) (omega (arith, i .if1 .left, s .parse-pool .kept .1 .0))
+    (g .parsed .given .1) (a .out .now) (i .if1 .left) (t .if2 .left) (le-of-eq (sym (words-length s))) (few-marks (g .parsed .given .0 .0 .m) _ (i .if1 .left) (marks-length s))
     _ (z .choose-words .ensures)
 
 pub choose-spec : {M : Type 1} → statement M

@@ -15,12 +15,15 @@ use Rattle.model.specs.Refusal.{maxSize}
 use Rattle.model.specs.Calls.{Lent, lent, roomOf, SelectExit, selectOf, wordRequest, maxText}
 use Rattle.pool_laws.specs.Text.{listed}
 use Rattle.pool_laws.specs.Choice.{roomy, textExit, listExit}
-use Rattle.pool_laws.proofs.Words.{ideal-start, refused-exit, through, limits, text-short, listed-exit}
+use Rattle.pool_laws.proofs.Words.{start, ideal-start, refused-exit, through, limits, text-short, listed-exit}
 use Rattle.pool_choice.proofs.choose_words.Statement.{statement}
 use Rattle.pool_choice.proofs.choose_words.Tie as tie
 
 -- each list that is lent has 1,024 entries
-roomed : roomOf (lent (replicate 1024 0) (replicate 1024 0) (replicate 1024 0)) ≡ roomy
+abbrev zeros : Lent
+zeros = lent (replicate 1024 0) (replicate 1024 0) (replicate 1024 0)
+
+roomed : roomOf zeros ≡ roomy
 roomed = rw (length-replicate {A = ℕ} 1024 0)
 
 -- a selection that went through: what its listing is made of
@@ -42,18 +45,27 @@ went-of r entry x e room n h =
       exits = listed-exit r entry x e n h room;
     }
 
-went : (o : tie.After-outcome2) → let s = o .before .before .before .before .before .before in
+-- the request with an ideal, and what the selection leaves
+abbrev asked : tie.After-nsga3-select → List Float → Request
+asked s ideal =
     let a = s .before .before .before .before .before .before .before .before .args in
-    Went (wordRequest (a .pool .now) (a .directions .now) (a .divisions) (a .size) (a .rng) (replicate (length (a .directions .now)) infinity)) (o .outcome2 .given .0 .0)
-    (s .nsga3-select .last .1 .1 .1 .1 .1 .1 .0) (s .nsga3-select .last .1 .1 .1 .1 .1 .1 .1 .0) (s .nsga3-select .last .1 .1 .1 .1 .1 .1 .1 .1 .0)
+    wordRequest (a .pool .now) (a .directions .now) (a .divisions) (a .size) (a .rng) ideal
+
+abbrev objectives : tie.After-nsga3-select → ℕ
+objectives s = length (s .before .before .before .before .before .before .before .before .args .directions .now)
+
+abbrev left : tie.After-nsga3-select → SelectExit
+left s =
+    let l = s .nsga3-select .last .1 .1 .1 .1 .1 in
+    record { answer = s .nsga3-select .result; ideal = l .0; slices = lent (l .1 .0) (l .1 .1 .0) (l .1 .1 .1 .0) }
+
+went : (o : tie.After-outcome2) → let s = o .before .before .before .before .before .before in
+    Went (asked s (replicate (objectives s) infinity)) (o .outcome2 .given .0 .0) (left s .slices .kept) (left s .slices .fronts) (left s .slices .lines)
 went o =
     let s = o .before .before .before .before .before .before in
-    let t = s .before .before .before .before .before .before .before .before in
-    let a = t .args in
-    subst (λ (i : List Float). Went (wordRequest (a .pool .now) (a .directions .now) (a .divisions) (a .size) (a .rng) i) (o .outcome2 .given .0 .0)
-    (s .nsga3-select .last .1 .1 .1 .1 .1 .1 .0) (s .nsga3-select .last .1 .1 .1 .1 .1 .1 .1 .0) (s .nsga3-select .last .1 .1 .1 .1 .1 .1 .1 .1 .0))
-    (ideal-start (length (a .directions .now)) (t .pre))
-    (went-of _ _ _ (s .nsga3-select .ensures .whole) roomed _ (o .outcome2 .given .1))
+    subst (λ (i : List Float). Went (asked s i) (o .outcome2 .given .0 .0) (left s .slices .kept) (left s .slices .fronts) (left s .slices .lines))
+    (ideal-start (objectives s) (s .before .before .before .before .before .before .before .before .pre))
+    (went-of (asked s (start (objectives s))) zeros (left s) (s .nsga3-select .ensures .whole) roomed (o .outcome2 .given .0 .0) (o .outcome2 .given .1))
 
 array-borrow-prefix-ideal : tie.Need-array-borrow-prefix-ideal
 array-borrow-prefix-ideal c = search needs
@@ -116,9 +128,8 @@ returns c =
     let o = c .before in
     let s = o .before .before .before .before .before .before in
     let a = s .before .before .before .before .before .before .before .before .args in
-    refused-exit _ _ _ (s .nsga3-select .ensures .whole) roomed _ (a .out .now) (o .outcome .given .1)
-    ∙ ap (λ (i : List Float). listExit (wordRequest (a .pool .now) (a .directions .now) (a .divisions) (a .size) (a .rng) i) (a .out .now))
-    (ideal-start (length (a .directions .now)) (s .before .before .before .before .before .before .before .before .pre))
+    refused-exit (asked s (start (objectives s))) zeros (left s) (s .nsga3-select .ensures .whole) roomed (o .outcome .given .0 .0) (a .out .now) (o .outcome .given .1)
+    ∙ ap (λ (i : List Float). listExit (asked s i) (a .out .now)) (ideal-start (objectives s) (s .before .before .before .before .before .before .before .before .pre))
 
 same-length : tie.Need-same-length
 same-length c = search needs
@@ -128,8 +139,10 @@ returns-2 c =
     let l = c .before .before in
     let p = l .before .before .before .before .before in
     let o = p .before .before in
-    let a = o .before .before .before .before .before .before .before .before .before .before .before .before .before .before .args in
-    l .put-listing .ensures ∙ went o .exits (a .out .now) (p .plan-count .result) (p .plan-count .ensures)
+    let s = o .before .before .before .before .before .before in
+    let out = s .before .before .before .before .before .before .before .before .args .out .now in
+    let text = listingText (p .plan-count .result) (listed (take (o .outcome2 .given .0 .0) (left s .slices .kept)) (left s .slices .fronts) (left s .slices .lines)) in
+    _∙_ {b = textExit text out} (l .put-listing .ensures) (went o .exits out (p .plan-count .result) (p .plan-count .ensures))
 
 pub choose-words-spec : {M : Type 1} → statement M
 choose-words-spec =

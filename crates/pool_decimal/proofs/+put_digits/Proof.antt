@@ -1,7 +1,7 @@
 -- `put_digits`: the measure is how many digits there may be.
 use Prim.Native.Nat.{ℕ, _+_, _-_, _/_, _%_, _<_}
-use mathlib.Core.Path.{_≡_, refl, ap, sym, _∙_}
-use mathlib.Core.List.{List, [], _∷_, _++_}
+use mathlib.Core.Path.{ap, sym, _∙_}
+use mathlib.Core.List.{[], _∷_, _++_}
 use native.Mathlib.Omega.{arith}
 use lib.ListN.{length}
 use Rattle.model.specs.PoolFile.{digitsOf}

@@ -1,6 +1,5 @@
 -- `put_number`: the digits, then the byte.
 use mathlib.Core.List.{[], _∷_}
-use native.Mathlib.Omega.{arith}
 use borrow.Author.Needs.{needs}
 use Rattle.model.specs.PoolFile.{decimal}
 use Rattle.pool_laws.proofs.Puts.{put-then, room-first, room-rest}

@@ -70,7 +70,7 @@ same-length-3 c = search needs
 returns-4 : tie.Need-returns-4
 returns-4 c =
     let y = c .before .before .before .before in
-    parse-no-plans _ _ _ _ _ (marked (y .before .before .before)) _ _ (y .read-plans .ensures) (c .enum-told3 .given .1)
+    parse-no-plans _ _ _ _ _ (marked (y .before .before .before)) (y .read-plans .last .1 .1 .1 .1 .0) _ (y .read-plans .ensures) (c .enum-told3 .given .1)
 
 same-length-4 : tie.Need-same-length-4
 same-length-4 c = search needs
@@ -82,7 +82,7 @@ returns-5 : tie.Need-returns-5
 returns-5 c =
     let z = c .before .before in
     let y = z .before .before .before .before in
-    parse-runs-on _ _ _ _ _ (marked (y .before .before .before)) _ _ (y .read-plans .ensures) _ (z .end .given .1) (c .if2 .taken)
+    parse-runs-on _ _ _ _ _ (marked (y .before .before .before)) (y .read-plans .last .1 .1 .1 .1 .0) _ (y .read-plans .ensures) _ (z .end .given .1) (c .if2 .taken)
 
 same-length-6 : tie.Need-same-length-6
 same-length-6 c = search needs

@@ -1,14 +1,15 @@
 -- `read_marks`: i marks are read so far, up to p, and stored.
-use Prim.Native.Nat.{ℕ, _-_, _≤_}
+use Prim.Native.Nat.{_-_, _≤_}
 use mathlib.Core.Path.{_≡_, refl, _∙_}
 use mathlib.Core.Logic.{⊎-elim}
 use native.Mathlib.Omega.{arith}
 use borrow.Author.Needs.{needs}
-use lib.ListN.{length, length-set, set}
+use lib.ListN.{length, length-set}
 use Rattle.pool_plans.specs.Blocks.{Words}
 use Rattle.pool_file.specs.Parsing.{capped}
-use Rattle.pool_number.proofs.Numbers.{ends-of, broken-of}
-use Rattle.pool_plans.proofs.Storing.{words-none, words-kept, words-past, words-stop}
+use Rattle.model.specs.PoolFile.{number}
+use Rattle.pool_number.proofs.Numbers.{told}
+use Rattle.pool_plans.proofs.Storing.{words-none, words-kept, words-past, reads-stop}
 use Rattle.pool_file.proofs.read_marks.Statement.{statement}
 use Rattle.pool_file.proofs.read_marks.Tie as tie
 
@@ -19,7 +20,7 @@ abbrev μ-loop : tie.MeasureT-loop
 μ-loop file at n directions₀ p₀ i₀ directions p i = n - i
 
 loop-holds : tie.Need-loop-holds Inv-loop μ-loop
-loop-holds c = (omega arith, refl, words-none _ _ _ _ _ _)
+loop-holds c = (omega arith, refl, words-none capped _ _ 8 0 _)
 
 read-number-requires : tie.Need-read-number-requires Inv-loop μ-loop
 read-number-requires c κs = search needs
@@ -37,7 +38,7 @@ returns : tie.Need-returns Inv-loop μ-loop
 returns c =
     let r = c .before .before in
     let l = r .before .before .loop in
-    words-stop _ _ _ _ _ _ (l .i) _ (l .p) (l .directions) (r .before .loop-test .taken) (broken-of _ (l .p) _ (r .read-number .ensures) (c .enum-told .given .1)) (l .inv .2)
+    reads-stop number _ _ _ (l .i) (l .p) (l .inv .2) _ (r .before .loop-test .taken) (told _ (l .p) _ _ (r .read-number .ensures) (c .enum-told .given .1))
 
 capped-requires : tie.Need-capped-requires Inv-loop μ-loop
 capped-requires c κs = search needs
@@ -56,7 +57,7 @@ loop-again c =
     let v = c .before .before in
     let r = v .before .before in
     let l = r .before .before .loop in
-    let e = ends-of _ (l .p) _ (v .v .given .0 .0) (v .v .given .0 .1 .0) (r .read-number .ensures) (v .v .given .1) in
+    let e = told _ (l .p) _ _ (r .read-number .ensures) (v .v .given .1) in
     ⊎-elim
     (λ w. rw (w .2, w .1 .ensures) (omega arith, length-set (l .directions) (l .i) _ ∙ l .inv .1, words-kept _ _ _ _ _ _ (l .i) (l .p) _ _ (l .directions) e (l .inv .2) (w .0 .taken) _ (omega arith)))
     (λ w. rw (w .1) (omega arith, l .inv .1, words-past _ _ _ _ _ _ (l .i) (l .p) _ _ (l .directions) e (l .inv .2) (w .0 .left)))

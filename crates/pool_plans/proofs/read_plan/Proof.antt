@@ -1,6 +1,6 @@
 -- `read_plan`: the values, the constraint count and the constraints, each where its reader leaves off.
 use borrow.Author.Needs.{needs}
-use Rattle.pool_number.proofs.Numbers.{ends-of, broken-of}
+use Rattle.pool_number.proofs.Numbers.{told}
 use Rattle.pool_plans.proofs.Blocks.{block-none, block-no-count, block-short, block-good}
 use Rattle.pool_plans.proofs.read_plan.Statement.{statement}
 use Rattle.pool_plans.proofs.read_plan.Tie as tie
@@ -45,7 +45,7 @@ returns-2 c =
     let w = p .before .before .before .before in
     let s = w .before .before .before .before in
     block-no-count (s .args .file .now) (s .args .at) (s .args .m) (s .args .base) (s .args .pool .now) _ _ (p .p .given .0 .0) (w .read-words .ensures) (p .p .given .1)
-    (broken-of _ (p .p .given .0 .0) _ (n .read-number .ensures) (c .enum-told2 .given .1))
+    (told _ (p .p .given .0 .0) _ _ (n .read-number .ensures) (c .enum-told2 .given .1))
 
 add-read-words-2 : tie.Need-add-read-words-2
 add-read-words-2 c = search needs
@@ -72,7 +72,7 @@ returns-3 c =
     let s = w .before .before .before .before in
     block-short (s .args .file .now) (s .args .at) (s .args .m) (s .args .base) (s .args .pool .now) _ _ (p .p .given .0 .0) (w .read-words .ensures) (p .p .given .1)
     (k .c .given .0 .0) (k .c .given .0 .1 .0)
-    (ends-of _ (p .p .given .0 .0) _ _ _ (n .read-number .ensures) (k .c .given .1)) _ _ _ (v .read-words2 .ensures) (c .enum-told3 .given .1)
+    (told _ (p .p .given .0 .0) _ _ (n .read-number .ensures) (k .c .given .1)) _ _ _ (v .read-words2 .ensures) (c .enum-told3 .given .1)
 
 put-counts-requires : tie.Need-put-counts-requires
 put-counts-requires c κs = search needs
@@ -92,7 +92,7 @@ returns-4 c =
     let s = w .before .before .before .before in
     block-good (s .args .file .now) (s .args .at) (s .args .m) (s .args .base) (s .args .pool .now) _ _ (p .p .given .0 .0) (w .read-words .ensures) (p .p .given .1)
     (k .c .given .0 .0) (k .c .given .0 .1 .0)
-    (ends-of _ (p .p .given .0 .0) _ _ _ (n .read-number .ensures) (k .c .given .1)) _ _ (v .read-words2 .ensures) _ _ (x .next .given .1) (s .pre) (o .put-counts .ensures)
+    (told _ (p .p .given .0 .0) _ _ (n .read-number .ensures) (k .c .given .1)) _ _ (v .read-words2 .ensures) _ _ (x .next .given .1) (s .pre) (o .put-counts .ensures)
 
 pub read-plan-spec : {M : Type 1} → statement M
 read-plan-spec =

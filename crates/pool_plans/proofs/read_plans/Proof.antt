@@ -1,5 +1,5 @@
 -- `read_plans`: i plans are read so far, up to p, each in its block.
-use Prim.Native.Nat.{ℕ, _-_, _≤_}
+use Prim.Native.Nat.{_-_, _≤_}
 use mathlib.Core.Path.{_≡_, refl, _∙_}
 use native.Mathlib.Omega.{arith}
 use borrow.Author.Needs.{needs}
@@ -16,7 +16,7 @@ abbrev μ-loop : tie.MeasureT-loop
 μ-loop file at m n pool₀ p₀ i₀ pool p i = n - i
 
 loop-holds : tie.Need-loop-holds Inv-loop μ-loop
-loop-holds c = (omega arith, refl, plans-none _ _ _ _)
+loop-holds c = (omega arith, refl, plans-none _ _ _ (c .before .before .args .pool .now))
 
 block-of-requires : tie.Need-block-of-requires Inv-loop μ-loop
 block-of-requires c κs = search needs

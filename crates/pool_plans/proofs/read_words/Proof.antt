@@ -1,13 +1,14 @@
 -- `read_words`: i numbers are read so far, up to p, and stored.
-use Prim.Native.Nat.{ℕ, _-_, _≤_}
+use Prim.Native.Nat.{_-_, _≤_}
 use mathlib.Core.Path.{_≡_, refl}
 use mathlib.Core.Logic.{⊎-elim}
 use native.Mathlib.Omega.{arith}
 use borrow.Author.Needs.{needs}
 use lib.ListN.{length, length-set}
 use Rattle.pool_plans.specs.Blocks.{Words}
-use Rattle.pool_number.proofs.Numbers.{ends-of, broken-of}
-use Rattle.pool_plans.proofs.Storing.{words-none, words-kept, words-past, words-stop}
+use Rattle.model.specs.PoolFile.{number}
+use Rattle.pool_number.proofs.Numbers.{told}
+use Rattle.pool_plans.proofs.Storing.{words-none, words-kept, words-past, reads-stop}
 use Rattle.pool_plans.proofs.read_words.Statement.{statement}
 use Rattle.pool_plans.proofs.read_words.Tie as tie
 
@@ -18,7 +19,7 @@ abbrev μ-loop : tie.MeasureT-loop
 μ-loop file at n keep pool₀ base p₀ i₀ pool p i = n - i
 
 loop-holds : tie.Need-loop-holds Inv-loop μ-loop
-loop-holds c = (omega arith, refl, words-none _ _ _ _ _ _)
+loop-holds c = let a = c .before .before .args in (omega arith, refl, words-none (λ v. v) _ _ (a .keep) (a .base) _)
 
 read-number-requires : tie.Need-read-number-requires Inv-loop μ-loop
 read-number-requires c κs = search needs
@@ -36,7 +37,7 @@ returns : tie.Need-returns Inv-loop μ-loop
 returns c =
     let r = c .before .before in
     let l = r .before .before .loop in
-    words-stop _ _ _ _ _ _ (l .i) _ (l .p) (l .pool) (r .before .loop-test .taken) (broken-of _ (l .p) _ (r .read-number .ensures) (c .enum-told .given .1)) (l .inv .2)
+    reads-stop number _ _ _ (l .i) (l .p) (l .inv .2) _ (r .before .loop-test .taken) (told _ (l .p) _ _ (r .read-number .ensures) (c .enum-told .given .1))
 
 add-pool : tie.Need-add-pool Inv-loop μ-loop
 add-pool c = omega (arith, c .before .before .before .before .before .before .before .before .before .pre)
@@ -58,7 +59,7 @@ loop-again c =
     let v = c .before .before in
     let r = v .before .before in
     let l = r .before .before .loop in
-    let e = ends-of _ (l .p) _ (v .v .given .0 .0) (v .v .given .0 .1 .0) (r .read-number .ensures) (v .v .given .1) in
+    let e = told _ (l .p) _ _ (r .read-number .ensures) (v .v .given .1) in
     ⊎-elim
     (λ w. rw (w .1) (omega arith, simp length-set (l .inv .1), words-kept _ _ _ _ _ _ (l .i) (l .p) _ _ (l .pool) e (l .inv .2) (w .0 .taken) _ refl))
     (λ w. rw (w .1) (omega arith, l .inv .1, words-past _ _ _ _ _ _ (l .i) (l .p) _ _ (l .pool) e (l .inv .2) (w .0 .left)))

@@ -1,9 +1,7 @@
 -- `put_line`: the dash for "no line", else the number.
 use mathlib.Core.Path.{ap, sym}
 use mathlib.Core.List.{List}
-use native.Mathlib.Omega.{arith}
 use borrow.Author.Needs.{needs}
-use lib.ListN.{length}
 use Rattle.pool_laws.specs.Text.{ended}
 use Rattle.pool_laws.proofs.Puts.{put-as}
 use Rattle.pool_laws.proofs.Decimals.{line-none, line-some}

@@ -4,7 +4,7 @@ use mathlib.Core.Path.{_≡_, _∙_}
 use native.Mathlib.Nat.{zero-add}
 use native.Mathlib.Omega.{arith}
 use borrow.Author.Needs.{needs}
-use lib.ListN.{length, getD, replicate, length-replicate, getD-replicate}
+use lib.ListN.{getD, length-replicate, getD-replicate}
 use Rattle.model.specs.PoolFile.{placeOf}
 use Rattle.pool_laws.proofs.Puts.{put-over}
 use Rattle.pool_laws.proofs.Listing.{header-room, rows-room, listing-put}
