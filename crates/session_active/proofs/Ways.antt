@@ -13,12 +13,13 @@ use Rattle.model.specs.declared.Distribution.{Distribution}
 use Rattle.model.specs.declared.Outcome.{Outcome}
 use Rattle.model.specs.declared.Outcome.the-variants as outcome
 use Rattle.model.specs.declared.Phase.the-variants.{Active}
+use Rattle.model.specs.declared.Sampled.{Sampled}
 use Rattle.model.specs.declared.Session.{Session}
 use Rattle.model.specs.Lists.{allBelow}
 use Rattle.model.specs.Plan.{planCount}
 use Rattle.model.specs.Session.{State, Answered, state, discovers, discover, activate, breed, bredFrom, breeds, isActive, pastDiscovery, discoversFor, longEnough, evaluated, accepted, sampleFromCandidate, maxPlans, maxWords, blankDimension}
 use Rattle.model.specs.Refusal.{sampleRefusal, maxHistory}
-use Rattle.model.specs.Calls.{refusedBy, sampleBy, sampleOf}
+use Rattle.model.specs.Calls.{SampleExit, refusedBy, sampleBy, sampleOf}
 use Rattle.model.specs.Property.{SessionOk, DimensionsOk}
 use Rattle.session_laws.specs.Refused.{shortRefusal}
 use Rattle.session_laws.proofs.Request.{dimensions-good, breeds-active, active-discovers, short-refusal}
@@ -36,13 +37,22 @@ module _ (s : Session) (cs ps ns : List ℕ) (d : Distribution) (plan : ℕ) (hi
   abbrev refusal : Option ℕ
   refusal = sampleRefusal st d plan history
 
-  pub leaves-refused : (n : ℕ) → refusal ≡ some n → exit (refusedWith n s) cs ps ns ≡ sampleOf st d plan history
+  -- refused, with all as it was
+  pub leaves-refused : (n : ℕ) (u : Session) (after : List ℕ) (r : Sampled) → r ≡ refusedWith n u → state u after ps ns ≡ st → refusal ≡ some n
+      → exit r after ps ns ≡ sampleOf st d plan history
   unfolding sampleOf
-  leaves-refused n e = ap (λ (o : Option ℕ). sampleBy o st (accepted st d plan history)) (sym e)
+  leaves-refused n u after r h f e =
+      ap (λ (x : Sampled). exit x after ps ns) h ∙ ap (λ (x : State). record { answer = refusedWith n u .outcome; after = x }) f
+      ∙ ap (λ (o : Option ℕ). sampleBy o st (accepted st d plan history)) (sym e)
 
-  pub leaves-accepted : (a : Answered) → refusal ≡ none → a ≡ accepted st d plan history → settled a ≡ sampleOf st d plan history
+  pub leaves-accepted : (x : SampleExit) (a : Answered) → x ≡ settled a → refusal ≡ none → a ≡ accepted st d plan history → x ≡ sampleOf st d plan history
   unfolding sampleOf
-  leaves-accepted a e f = ap settled f ∙ ap (λ (o : Option ℕ). sampleBy o st (accepted st d plan history)) (sym e)
+  leaves-accepted x a h e f = h ∙ ap settled f ∙ ap (λ (o : Option ℕ). sampleBy o st (accepted st d plan history)) (sym e)
+
+  -- answered by a candidate of the state that the call goes on from
+  pub leaves-taken : (x : SampleExit) (y z : State) → x ≡ settled (sampleFromCandidate y plan) → y ≡ z → refusal ≡ none
+      → sampleFromCandidate z plan ≡ accepted st d plan history → x ≡ sampleOf st d plan history
+  leaves-taken x y z h k e f = leaves-accepted x (sampleFromCandidate z plan) (h ∙ ap (λ (w : State). settled (sampleFromCandidate w plan)) k) e f
 
   -- ---- what an accepted call does
 
@@ -161,9 +171,6 @@ module _ (s : Session) (cs ps ns : List ℕ) (d : Distribution) (plan : ℕ) (hi
   refused-tells none c n x e f = absurd (not-some n (sym (ap (λ (y : Outcome). refusedBy y) f) ∙ ap (λ (b : BredExit). b .refusal) e))
   refused-tells (some q) c n x e f =
       (sym (ap (λ (b : BredExit). b .refusal) e) ∙ ap (λ (y : Outcome). refusedBy y) f, ap (λ (b : BredExit). b .after) e)
-
-  pub leaves-same : (n : ℕ) (u : Session) (after : List ℕ) → refusal ≡ some n → state u after ps ns ≡ st → exit (refusedWith n u) after ps ns ≡ sampleOf st d plan history
-  leaves-same n u after e f = ap (λ (x : State). record { answer = refusedWith n s .outcome; after = x }) f ∙ leaves-refused n e
 
   -- ---- the tests of the code
 

@@ -1,6 +1,6 @@
 -- THE SESSION PROPERTY: every call keeps it, refused or not.
 use Prim.Native.Nat.{ℕ}
-use mathlib.Core.Path.{_≡_, refl, ap}
+use mathlib.Core.Path.{_≡_, refl, sym, ap, subst}
 use mathlib.Core.Bool.{true, false, not, _&&_, _||_, true≢false, false≢true}
 use mathlib.Core.List.{List, List·Memᴰ·head, List·Memᴰ·tail}
 use mathlib.Core.Option.{Option, none, some}
@@ -22,7 +22,7 @@ use Rattle.model.specs.Setting.{validDimension}
 use Rattle.model.specs.Session.{State, Answered, dimensionOf, longEnough, isActive, pastDiscovery, discovers, isNew, breeds, breed, activate, discover, sampleFromCandidate, accepted, requestOf, operatorsOf, maxPlans}
 use Rattle.model.specs.Refusal.{sampleRefusal, badParents}
 use Rattle.model.specs.Property.{SessionOk}
-use Rattle.model.specs.Calls.{sampleBy, sampleOf, Samples}
+use Rattle.model.specs.Calls.{SampleExit, sampleBy, sampleOf, Samples}
 use Rattle.model.proofs.Session as session
 use Rattle.candidate_laws.proofs.Sound.{AllHeld}
 use Rattle.typed_laws.proofs.Held.{session-dimensions, session-held}
@@ -114,10 +114,10 @@ module _ (st : State) (d : Distribution) (plan : ℕ) (history : List ℕ) (ok :
   given-held : AllHeld (dimensionOf (st .session)) (st .session .progress .«n_dims»)
   given-held k l = session-held (st .session) vs good k (omega (arith, ok .dimensions .few))
 
-  -- the whole promise of `sample`, of its definition
-  pub samples : Samples st d plan history (sampleOf st d plan history)
-  samples = record {
-    whole = refl;
-    keeps = sample-ok st d plan history ok given-held (session-dimensions (st .session) vs good);
+  -- the whole promise of `sample`, of an exit that is its definition's
+  pub samples : (x : SampleExit) → x ≡ sampleOf st d plan history → Samples st d plan history x
+  samples x e = record {
+    whole = e;
+    keeps = subst (λ (y : SampleExit). SessionOk (y .after)) (sym e) (sample-ok st d plan history ok given-held (session-dimensions (st .session) vs good));
     demand3 = sample-demand3 st d plan history ok;
   }

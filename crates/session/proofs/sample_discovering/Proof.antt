@@ -1,10 +1,8 @@
 -- test by test
 use mathlib.Core.Bool.{true}
-use mathlib.Core.Path.{sym, ap, _∙_}
+use mathlib.Core.Path.{refl, sym, _∙_}
 use Prim.Native.Nat.{_≤_, _<_}
-use Rattle.model.specs.declared.Sampled.{Sampled}
 use Rattle.model.specs.Plan.{planCount}
-use Rattle.session_parts.specs.Exits.{exit}
 use Rattle.list_laws.proofs.Bools.{and-no}
 use Rattle.model.specs.Session.{state, discovers}
 use Rattle.session_laws.proofs.Request.{fit-dimension, refused-6, refused-7, refused-10, not-refused}
@@ -24,8 +22,8 @@ returns c cs ps ns l =
     let s = c .before .before .before .before .before in
     let a = s .args in
     let st = state (a .session) cs ps ns in
-    ap (λ (r : Sampled). exit r cs ps ns) (c .refused .ensures)
-    ∙ leaves-refused _ cs ps ns _ _ _ 6 (refused-6 st _ _ _ (adds-by _ cs ps ns (a .distribution) _ (a .history .now) true (s .pre .0)) (sym (c .before .before .bad-dimension .ensures) ∙ c .before .if1 .taken))
+    leaves-refused _ cs ps ns _ _ _ 6 (a .session) cs _ (c .refused .ensures) refl
+    (refused-6 st _ _ _ (adds-by _ cs ps ns (a .distribution) _ (a .history .now) true (s .pre .0)) (sym (c .before .before .bad-dimension .ensures) ∙ c .before .if1 .taken))
 
 plan-count-requires : tie.Need-plan-count-requires
 plan-count-requires c κs = tt
@@ -39,8 +37,8 @@ returns-2 c cs ps ns l =
     let a = s .args in
     let st = state (a .session) cs ps ns in
     let many : 4096 < planCount (a .history .now) = omega (arith, c .before .if2 .taken, c .before .before .plan-count .ensures) in
-    ap (λ (r : Sampled). exit r cs ps ns) (c .refused2 .ensures)
-    ∙ leaves-refused _ cs ps ns _ _ _ 7 (refused-7 st _ _ _ (and-no (discovers st (a .plan)) _ (sym (c .before .before .before .before .bad-dimension .ensures) ∙ c .before .before .before .if1 .left)) many)
+    leaves-refused _ cs ps ns _ _ _ 7 (a .session) cs _ (c .refused2 .ensures) refl
+    (refused-7 st _ _ _ (and-no (discovers st (a .plan)) _ (sym (c .before .before .before .before .bad-dimension .ensures) ∙ c .before .before .before .if1 .left)) many)
 
 discover-requires : tie.Need-discover-requires
 discover-requires c κs =
@@ -52,8 +50,7 @@ returns-3 c cs ps ns l =
     let a = s .args in
     let st = state (a .session) cs ps ns in
     let few : planCount (a .history .now) ≤ 4096 = omega (arith, c .before .before .if2 .left, c .before .before .before .plan-count .ensures) in
-    c .discover .ensures cs ps ns
-    ∙ leaves-accepted _ cs ps ns _ _ _ _
+    leaves-accepted _ cs ps ns _ _ _ _ _ (c .discover .ensures cs ps ns)
     (not-refused st _ _ _ (and-no (discovers st (a .plan)) _ (sym (c .before .before .before .before .before .bad-dimension .ensures) ∙ c .before .before .before .before .if1 .left)) few (adds-unbred _ cs ps ns (a .distribution) _ _ (s .pre .0))
     (l ∙ c .before .if3 .taken) (λ new. omega (arith, s .pre .1)))
     (adds-accepted _ cs ps ns _ _ _ (adds-by _ cs ps ns (a .distribution) _ (a .history .now) true (s .pre .0)))
@@ -67,8 +64,7 @@ returns-4 c cs ps ns l =
     let a = s .args in
     let st = state (a .session) cs ps ns in
     let few : planCount (a .history .now) ≤ 4096 = omega (arith, c .before .before .if2 .left, c .before .before .before .plan-count .ensures) in
-    ap (λ (r : Sampled). exit r cs ps ns) (c .refused3 .ensures)
-    ∙ leaves-refused _ cs ps ns _ _ _ 10
+    leaves-refused _ cs ps ns _ _ _ 10 (a .session) cs _ (c .refused3 .ensures) refl
     (refused-10 st _ _ _ (and-no (discovers st (a .plan)) _ (sym (c .before .before .before .before .before .bad-dimension .ensures) ∙ c .before .before .before .before .if1 .left)) few (adds-unbred _ cs ps ns (a .distribution) _ _ (s .pre .0))
     (l ∙ c .before .if3 .left))
 

@@ -1,9 +1,7 @@
 -- breeding comes first, then refusal 11
 use mathlib.Core.Path.{refl, sym, ap, _∙_}
 use mathlib.Core.Bool.{true, false}
-use Rattle.model.specs.declared.Sampled.{Sampled}
 use Rattle.model.specs.Session.{state, pastDiscovery}
-use Rattle.session_parts.specs.Exits.{exit}
 use mathlib.Core.List.{[]}
 use Rattle.list_laws.proofs.Bools.{and-not}
 use Rattle.session_laws.proofs.Request.{active-discovers, room-left, refused-11, not-refused}
@@ -54,8 +52,7 @@ returns-2 c d =
     let i = ap pastDiscovery (s .pre .1) in
     let b = breeds-by (a .session) (a .candidates .now) (a .plans .now) (a .next-dims .now) d (a .plan) (a .history .now) _ false i (c .before .before .before .before .before .evaluated .ensures) (c .before .before .before .before .if1 .left) in
     let st = state (a .session) (a .candidates .now) (a .plans .now) (a .next-dims .now) in
-    ap (λ (r : Sampled). exit r (a .candidates .now) (a .plans .now) (a .next-dims .now)) (c .refused .ensures)
-    ∙ leaves-refused (a .session) (a .candidates .now) (a .plans .now) (a .next-dims .now) d (a .plan) (a .history .now) 11
+    leaves-refused (a .session) (a .candidates .now) (a .plans .now) (a .next-dims .now) d (a .plan) (a .history .now) 11 (a .session) (a .candidates .now) _ (c .refused .ensures) refl
     (refused-11 st d (a .plan) (a .history .now) (and-not _ _ (active-discovers st (a .plan) i)) (s .pre .0 .few) b (s .pre .0 .room) (sym (c .before .before .full .ensures) ∙ c .before .if2 .taken))
 
 sample-from-candidate-requires : tie.Need-sample-from-candidate-requires
@@ -88,8 +85,7 @@ returns-3 c d =
     let b = breeds-by (a .session) (a .candidates .now) (a .plans .now) (a .next-dims .now) d (a .plan) (a .history .now) _ false i (c .before .before .before .before .before .before .before .before .before .before .before .before .before .before .evaluated .ensures) (c .before .before .before .before .before .before .before .before .before .before .before .before .before .if1 .left) in
     let st = state (a .session) (a .candidates .now) (a .plans .now) (a .next-dims .now) in
     let o = active-discovers st (a .plan) i in
-    c .before .before .before .before .before .before .sample-from-candidate .ensures
-    ∙ leaves-accepted (a .session) (a .candidates .now) (a .plans .now) (a .next-dims .now) d (a .plan) (a .history .now) _
+    leaves-accepted (a .session) (a .candidates .now) (a .plans .now) (a .next-dims .now) d (a .plan) (a .history .now) _ _ (c .before .before .before .before .before .before .sample-from-candidate .ensures)
     (not-refused st d (a .plan) (a .history .now) (and-not _ _ o) (s .pre .0 .few) b (s .pre .0 .room)
     (room-left (a .session .progress .«n_plans») _ (sym (c .before .before .before .before .before .before .before .before .before .before .before .full .ensures) ∙ c .before .before .before .before .before .before .before .before .before .before .if2 .left)))
     (active-accepted (a .session) (a .candidates .now) (a .plans .now) (a .next-dims .now) d (a .plan) (a .history .now) o i b)

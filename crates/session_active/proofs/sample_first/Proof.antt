@@ -3,13 +3,12 @@ use Prim.Native.Nat.{_<_}
 use mathlib.Core.Path.{_≡_, ap, _∙_}
 use mathlib.Core.Bool.{false, not}
 use lib.ListN.{length}
-use Rattle.model.specs.Session.{State, state, sampleFromCandidate, pastDiscovery}
-use Rattle.session_parts.specs.Exits.{settled}
+use Rattle.model.specs.Session.{state, pastDiscovery}
 use mathlib.Core.List.{[]}
 use Rattle.list_laws.proofs.Bools.{and-not, and-no}
 use Rattle.session_laws.proofs.Request.{dimensions-good, offspring-fit, not-refused}
 use Rattle.session_laws.proofs.Steps.{long, discovery-ok, some-dimension}
-use Rattle.session_active.proofs.Ways.{unused, ready-first, adds-by, first-unbred, first-accepted, leaves-accepted}
+use Rattle.session_active.proofs.Ways.{unused, ready-first, adds-by, first-unbred, first-accepted, leaves-taken}
 use native.Mathlib.Omega.{arith}
 use Rattle.session_active.proofs.sample_first.Statement.{statement}
 use Rattle.session_active.proofs.sample_first.Tie as tie
@@ -50,9 +49,7 @@ returns c d =
     let o = adds-by (a .session) (a .candidates .now) (a .plans .now) (a .next-dims .now) d (a .plan) (a .history .now) false (and-no (not (pastDiscovery (a .session .phase))) _ (s .pre .2)) in
     let i = ap pastDiscovery (s .pre .1) in
     let full : a .session .progress .«n_plans» < 2048 = omega (arith, discovery-ok st (s .pre .0 .ok) (s .pre .1) .noPlans) in
-    c .before .before .before .before .before .before .sample-from-candidate .ensures
-    ∙ ap (λ (x : State). settled (sampleFromCandidate x (a .plan))) (e .ensures (a .plans .now) (a .next-dims .now))
-    ∙ leaves-accepted (a .session) (a .candidates .now) (a .plans .now) (a .next-dims .now) d (a .plan) (a .history .now) _
+    leaves-taken (a .session) (a .candidates .now) (a .plans .now) (a .next-dims .now) d (a .plan) (a .history .now) _ _ _ (c .before .before .before .before .before .before .sample-from-candidate .ensures) (e .ensures (a .plans .now) (a .next-dims .now))
     (not-refused st d (a .plan) (a .history .now) (and-not _ _ o) (s .pre .0 .few) (first-unbred (a .session) (a .candidates .now) (a .plans .now) (a .next-dims .now) d (a .plan) (a .history .now) i) (s .pre .0 .room) (λ new. full))
     (first-accepted (a .session) (a .candidates .now) (a .plans .now) (a .next-dims .now) d (a .plan) (a .history .now) o i)
 
