@@ -1,36 +1,34 @@
--- The ways of a call that adds no dimension: what it meets, and what it leaves.
-use Prim.Native.Nat.{ℕ, _≤_, _<_}
+-- The ways of a call: what it meets, and what it leaves.
+use Prim.Native.Nat.{ℕ, _≤_}
 use mathlib.Core.Path.{_≡_, refl, sym, ap, _∙_, subst}
-use mathlib.Core.Bool.{Bool, true, false, not, _&&_, _||_, and-false, false≢true}
+use mathlib.Core.Bool.{Bool, true, false, not, _&&_}
 use mathlib.Core.List.{List, []}
 use mathlib.Core.Option.{Option, none, some}
 use native.Mathlib.Omega.{arith}
-use borrow.Author.Tests.{lt-ltb, le-ltb, lt-leb, leb-false}
-use lib.Dec.{leb, ltb}
-use lib.ListN.{length, getD}
-use Rattle.list_laws.proofs.Bools.{by-bool, and-left, and-right, and-not-left, and-both, and-fails-first, and-not}
+use lib.Dec.{leb}
+use lib.ListN.{length}
+use Rattle.list_laws.proofs.Bools.{and-right, and-not-left, and-not, and-no}
 use Rattle.list_laws.proofs.Checks.{not-some}
 use Rattle.model.specs.declared.Distribution.{Distribution}
 use Rattle.model.specs.declared.Outcome.{Outcome}
 use Rattle.model.specs.declared.Outcome.the-variants as outcome
-use Rattle.model.specs.declared.Phase.{Phase}
-use Rattle.model.specs.declared.Phase.the-variants.{Discovery, Active}
+use Rattle.model.specs.declared.Phase.the-variants.{Active}
+use Rattle.model.specs.declared.Sampled.{Sampled}
 use Rattle.model.specs.declared.Session.{Session}
 use Rattle.model.specs.Lists.{allBelow}
-use Rattle.model.specs.Plan.{planCount, maxSettings}
-use Rattle.model.specs.Setting.{validDimension}
-use Rattle.model.specs.Session.{State, state, discovers, activate, breed, bredFrom, breeds, isActive, pastDiscovery, discoversFor, longEnough, evaluated, recordOf, isNew, accepted, sampleFromCandidate, maxPlans, maxWords, blankDimension}
+use Rattle.model.specs.Plan.{planCount}
+use Rattle.model.specs.Session.{State, Answered, state, discovers, discover, activate, breed, bredFrom, breeds, isActive, pastDiscovery, discoversFor, longEnough, evaluated, accepted, sampleFromCandidate, maxPlans, maxWords, blankDimension}
 use Rattle.model.specs.Refusal.{sampleRefusal, maxHistory}
-use Rattle.model.specs.Calls.{refusedBy, roomOf, sampleOf}
+use Rattle.model.specs.Calls.{SampleExit, refusedBy, sampleBy, sampleOf}
 use Rattle.model.specs.Property.{SessionOk, DimensionsOk}
-use Rattle.session_laws.proofs.Request.{dimensions-good, step-refusal, breed-refusal, short-refusal}
-use Rattle.session_laws.proofs.Steps.{discovery-ok, active-ok, known}
+use Rattle.session_laws.specs.Refused.{shortRefusal}
+use Rattle.session_laws.proofs.Request.{dimensions-good, breeds-active, active-discovers, short-refusal}
+use Rattle.session_laws.proofs.Steps.{short-ok, discovery-ok, active-ok}
 use Rattle.session_laws.proofs.Sample.{discovery-phase}
-use Rattle.session_parts.specs.Exits.{exit, Ready}
-use Rattle.session_breeding.specs.Breeding.{blankLent, breedRefusal, shortRefusal, BredExit, bredExit, breedBy}
-use Rattle.session_breeding.proofs.Breeding.{rooms}
+use Rattle.session_records.proofs.Records.{stands}
+use Rattle.session_parts.specs.Exits.{exit, settled, Ready}
+use Rattle.session_breeding.specs.Breeding.{BredExit, bredExit, breedBy}
 use Rattle.session_active.specs.Exits.{refusedWith}
-use Rattle.session_active.proofs.Refusals.{at-7, at-10, at-11, at-none, leaves-refused}
 
 module _ (s : Session) (cs ps ns : List ℕ) (d : Distribution) (plan : ℕ) (history : List ℕ) where
   abbrev st : State
@@ -39,38 +37,30 @@ module _ (s : Session) (cs ps ns : List ℕ) (d : Distribution) (plan : ℕ) (hi
   abbrev refusal : Option ℕ
   refusal = sampleRefusal st d plan history
 
+  -- refused, with all as it was
+  pub leaves-refused : (n : ℕ) (u : Session) (after : List ℕ) (r : Sampled) → r ≡ refusedWith n u → state u after ps ns ≡ st → refusal ≡ some n
+      → exit r after ps ns ≡ sampleOf st d plan history
+  unfolding sampleOf
+  leaves-refused n u after r h f e =
+      ap (λ (x : Sampled). exit x after ps ns) h ∙ ap (λ (x : State). record { answer = refusedWith n u .outcome; after = x }) f
+      ∙ ap (λ (o : Option ℕ). sampleBy o st (accepted st d plan history)) (sym e)
+
+  pub leaves-accepted : (x : SampleExit) (a : Answered) → x ≡ settled a → refusal ≡ none → a ≡ accepted st d plan history → x ≡ sampleOf st d plan history
+  unfolding sampleOf
+  leaves-accepted x a h e f = h ∙ ap settled f ∙ ap (λ (o : Option ℕ). sampleBy o st (accepted st d plan history)) (sym e)
+
+  -- answered by a candidate of the state that the call goes on from
+  pub leaves-taken : (x : SampleExit) (y z : State) → x ≡ settled (sampleFromCandidate y plan) → y ≡ z → refusal ≡ none
+      → sampleFromCandidate z plan ≡ accepted st d plan history → x ≡ sampleOf st d plan history
+  leaves-taken x y z h k e f = leaves-accepted x (sampleFromCandidate z plan) (h ∙ ap (λ (w : State). settled (sampleFromCandidate w plan)) k) e f
+
+  -- ---- what an accepted call does
+
+  pub adds-accepted : discovers st plan ≡ true → discover st d plan ≡ accepted st d plan history
+  unfolding accepted
+  adds-accepted adds = rw adds
+
   module _ (other : discovers st plan ≡ false) where
-    adds-none : (discovers st plan && (leb maxSettings (s .progress .«n_dims») || not (validDimension d))) ≡ false
-    adds-none = and-not _ _ other
-
-    pub other-7 : maxHistory < planCount history → refusal ≡ some 7
-    unfolding sampleRefusal
-    other-7 h = at-7 _ _ _ _ _ _ adds-none (lt-ltb maxHistory (planCount history) h)
-
-    -- a slice is too short, and the call breeds nothing
-    pub other-10 : planCount history ≤ maxHistory → longEnough st ≡ false → breeds st history ≡ false → refusal ≡ some 10
-    unfolding sampleRefusal
-    other-10 h l b = at-10 _ _ _ _ _ _ adds-none (le-ltb maxHistory (planCount history) h) (and-not _ _ b) (and-not _ _ b) (ap not l)
-
-    -- neither a dimension added nor a generation bred
-    module _ (few : planCount history ≤ maxHistory) (room : longEnough st ≡ true) (unbred : breeds st history ≡ false) where
-      no-11 : (isNew st plan ≡ true → s .progress .«n_plans» < maxPlans) → (leb maxPlans (s .progress .«n_plans») && (isNew st plan && not (breeds st history))) ≡ false
-      no-11 h = by-bool (isNew st plan)
-          (λ e. and-not _ _ (lt-leb maxPlans (s .progress .«n_plans») (h e)))
-          (λ e. ap (λ (b : Bool). leb maxPlans (s .progress .«n_plans») && (b && not (breeds st history))) e ∙ and-false (leb maxPlans (s .progress .«n_plans»)))
-
-      pub unbred-none : (isNew st plan ≡ true → s .progress .«n_plans» < maxPlans) → refusal ≡ none
-      unfolding sampleRefusal
-      unbred-none h =
-          at-none _ _ _ _ _ _ adds-none (le-ltb maxHistory (planCount history) few) (and-not _ _ unbred) (and-not _ _ unbred) (ap not room) (no-11 h)
-
-      pub unbred-11 : (leb maxPlans (s .progress .«n_plans») && isNew st plan) ≡ true → refusal ≡ some 11
-      unfolding sampleRefusal
-      unbred-11 h =
-          at-11 _ _ _ _ _ _ adds-none (le-ltb maxHistory (planCount history) few) (and-not _ _ unbred) (and-not _ _ unbred) (ap not room)
-          (and-both _ _ (and-left (leb maxPlans (s .progress .«n_plans»)) (isNew st plan) h)
-          (and-both _ _ (and-right (leb maxPlans (s .progress .«n_plans»)) (isNew st plan) h) (ap not unbred)))
-
     pub first-accepted : isActive s ≡ false → sampleFromCandidate (activate st) plan ≡ accepted st d plan history
     unfolding accepted
     first-accepted a = rw (other, a)
@@ -85,27 +75,27 @@ module _ (s : Session) (cs ps ns : List ℕ) (d : Distribution) (plan : ℕ) (hi
 
   -- ---- tests of the state
 
-  pub others : (not (pastDiscovery (s .phase)) && discoversFor (s .«discovery_trial_id») plan) ≡ false → discovers st plan ≡ false
+  -- the call adds a dimension, as code tests it
+  pub adds-by : (b : Bool) → (not (pastDiscovery (s .phase)) && discoversFor (s .«discovery_trial_id») plan) ≡ b → discovers st plan ≡ b
   unfolding discovers
-  others e = e
-
-  pub first-others : discoversFor (s .«discovery_trial_id») plan ≡ false → discovers st plan ≡ false
-  unfolding discovers
-  first-others a = ap (λ (b : Bool). not (isActive s) && b) a ∙ and-false (not (isActive s))
+  adds-by b e = e
 
   pub first-unbred : isActive s ≡ false → breeds st history ≡ false
   unfolding breeds
   first-unbred a = and-not (isActive s) _ a
 
+  pub adds-unbred : (not (pastDiscovery (s .phase)) && discoversFor (s .«discovery_trial_id») plan) ≡ true → breeds st history ≡ false
+  adds-unbred e = first-unbred (and-not-left (isActive s) _ e)
+
   -- the generation's test, as code makes it
   abbrev test : Bool
   test =
       leb (s .config .«population_size») (s .progress .«n_plans»)
-      && (leb (s .config .«population_size») (length ps) && allBelow (λ i. ltb (recordOf history (getD ps i 0)) (planCount history)) (s .config .«population_size»))
+      && (leb (s .config .«population_size») (length ps) && allBelow (stands history ps) (s .config .«population_size»))
 
-  pub breeds-by : (b : Bool) → isActive s ≡ true → test ≡ b → breeds st history ≡ b
+  pub breeds-by : (r b : Bool) → isActive s ≡ true → r ≡ test → r ≡ b → breeds st history ≡ b
   unfolding breeds evaluated
-  breeds-by b a e = ap (λ (x : Bool). x && test) a ∙ e
+  breeds-by r b a e f = ap (λ (x : Bool). x && test) a ∙ sym e ∙ f
 
   pub evaluated-without : breeds st history ≡ true → evaluated (state s cs ps []) history ≡ true
   unfolding breeds evaluated
@@ -113,9 +103,9 @@ module _ (s : Session) (cs ps ns : List ℕ) (d : Distribution) (plan : ℕ) (hi
 
   -- ---- a slice is too short
 
-  pub evaluated-short : test ≡ true → evaluated (state s [] ps []) history ≡ true
+  pub evaluated-short : (r : Bool) → r ≡ test → r ≡ true → evaluated (state s [] ps []) history ≡ true
   unfolding evaluated
-  evaluated-short e = e
+  evaluated-short r e f = sym e ∙ f
 
   same-short : shortRefusal st history ≡ shortRefusal (state s [] ps []) history
   unfolding bredFrom
@@ -123,35 +113,32 @@ module _ (s : Session) (cs ps ns : List ℕ) (d : Distribution) (plan : ℕ) (hi
 
   pub short-bred : (n : ℕ) → breeds st history ≡ true → longEnough st ≡ false → planCount history ≤ maxHistory → shortRefusal (state s [] ps []) history ≡ some n
       → refusal ≡ some n
-  short-bred n b l few e = short-refusal st history d plan b l few ∙ same-short ∙ e
+  short-bred n b l few e = short-refusal st d plan history (and-not _ _ (active-discovers st plan (breeds-active st history b))) few b l ∙ same-short ∙ e
 
   -- ---- the property
 
-  no-next : (xs : List ℕ) → longEnough (state s xs ps []) ≡ true → ⊥
+  no-next : (xs : List ℕ) → longEnough (state s xs ps []) ≡ false
   unfolding longEnough
-  no-next xs e = false≢true (and-right (leb maxPlans (length ps)) (leb maxPlans 0) (and-right (leb maxWords (length xs)) (leb maxPlans (length ps) && leb maxPlans 0) e))
+  no-next xs = and-no (leb maxWords (length xs)) _ (and-no (leb maxPlans (length ps)) _ refl)
 
   -- where no next dimensions are lent, the property asks nothing of the slices
   pub without-next : (xs : List ℕ) → SessionOk st → SessionOk (state s xs ps [])
-  without-next xs ok = record { config = ok .config; dimensions = ok .dimensions; phase = ok .phase; ideal = ok .ideal; lent = λ e. absurd (no-next xs e) }
+  without-next xs ok = short-ok s cs ps ns xs ps [] ok (no-next xs)
 
   pub ready-active : SessionOk st → s .phase ≡ Active → Ready s
   ready-active ok e =
       let a = active-ok st ok e in
-      record { dims = dimensions-good s (ok .dimensions); few = ok .dimensions .few; some = a .someDimension; room = a .room }
+      record { dims = dimensions-good s (ok .dimensions); some = a .someDimension; room = a .room }
 
   -- ---- discovery ends
 
   activated-ready : DimensionsOk s → 1 ≤ s .progress .«n_dims» → Ready (activate st .session)
   unfolding activate
-  activated-ready ok h = record { dims = dimensions-good s ok; few = ok .few; some = h; room = omega arith }
+  activated-ready ok h = record { dims = dimensions-good s ok; some = h; room = omega arith }
 
   activated-none : activate st .session .progress .«n_plans» ≡ 0
   unfolding activate
   activated-none = refl
-
-  pub some-dimension : SessionOk st → s .phase ≡ Discovery → discoversFor (s .«discovery_trial_id») plan ≡ false → 1 ≤ s .progress .«n_dims»
-  some-dimension ok e f = known (s .«discovery_trial_id») plan (s .progress .«n_dims») f (discovery-ok st ok e .first)
 
   -- a session is ready, and no plan has come, where so it is after a step
   ready-as : (x : State) (u : Session) (after : List ℕ) → Ready (x .session) → x .session .progress .«n_plans» ≡ 0 → state u after ps ns ≡ x
@@ -166,7 +153,7 @@ module _ (s : Session) (cs ps ns : List ℕ) (d : Distribution) (plan : ℕ) (hi
 
   bred-ready : Ready s → Ready (breed st history .session)
   unfolding breed
-  bred-ready r = record { dims = r .dims; few = r .few; some = r .some; room = omega arith }
+  bred-ready r = record { dims = r .dims; some = r .some; room = omega arith }
 
   bred-none : breed st history .session .progress .«n_plans» ≡ 0
   unfolding breed
@@ -185,15 +172,6 @@ module _ (s : Session) (cs ps ns : List ℕ) (d : Distribution) (plan : ℕ) (hi
   refused-tells (some q) c n x e f =
       (sym (ap (λ (b : BredExit). b .refusal) e) ∙ ap (λ (y : Outcome). refusedBy y) f, ap (λ (b : BredExit). b .after) e)
 
-  -- the call's refusal is breeding's
-  pub call-refusal : SessionOk st → breeds st history ≡ true → longEnough st ≡ true → planCount history ≤ maxHistory → maxWords ≤ length cs → refusal ≡ breedRefusal st history
-  call-refusal ok b room few l =
-      breed-refusal st history ok (roomOf blankLent) (length cs) rooms rooms rooms l d plan b room few
-      ∙ step-refusal st history ok (roomOf blankLent) (length cs) rooms rooms rooms l
-
-  pub leaves-same : (n : ℕ) (u : Session) (after : List ℕ) → refusal ≡ some n → state u after ps ns ≡ st → exit (refusedWith n u) after ps ns ≡ sampleOf st d plan history
-  leaves-same n u after e f = ap (λ (x : State). record { answer = refusedWith n s .outcome; after = x }) f ∙ leaves-refused s cs ps ns d plan history n e
-
   -- ---- the tests of the code
 
   pub long-by : (b : Bool) → b ≡ (leb maxWords (length cs) && (leb maxPlans (length ps) && leb maxPlans (length ns))) → longEnough st ≡ b
@@ -202,13 +180,6 @@ module _ (s : Session) (cs ps ns : List ℕ) (d : Distribution) (plan : ℕ) (hi
 
   pub discovery-plans : SessionOk st → (not (pastDiscovery (s .phase)) && discoversFor (s .«discovery_trial_id») plan) ≡ true → s .progress .«n_plans» ≡ 0
   discovery-plans ok e = discovery-ok st ok (discovery-phase (s .phase) (and-not-left (pastDiscovery (s .phase)) _ e)) .noPlans
-
-  pub first-of : s .phase ≡ Discovery → (not (pastDiscovery (s .phase)) && discoversFor (s .«discovery_trial_id») plan) ≡ false
-      → discoversFor (s .«discovery_trial_id») plan ≡ false
-  first-of p e = sym (ap (λ (x : Phase). not (pastDiscovery x) && discoversFor (s .«discovery_trial_id») plan) p) ∙ e
-
-  pub not-full : (leb maxPlans (s .progress .«n_plans») && isNew st plan) ≡ false → isNew st plan ≡ true → s .progress .«n_plans» < maxPlans
-  not-full e new = leb-false maxPlans (s .progress .«n_plans») (and-fails-first _ _ e new)
 
 -- a distribution, where a law asks for one that is not looked at
 abbrev pub unused : Distribution

@@ -1,13 +1,13 @@
 -- Breeding from its parts: the pool is the plans bred from, and what the step answers is what the session becomes.
-use Prim.Native.Nat.{ℕ, _+_, _*_, _≤_}
+use Prim.Native.Nat.{ℕ, _*_, _≤_}
 use mathlib.Core.Path.{_≡_, refl, sym, ap, ap₂, _∙_}
-use mathlib.Core.Bool.{Bool, true, false}
-use mathlib.Core.List.{List, [], _∷_, _++_}
+use mathlib.Core.Bool.{true}
+use mathlib.Core.List.{List, [], _++_}
 use mathlib.Core.Option.{Option, none, some}
 use native.Mathlib.Omega.{arith}
 use native.Mathlib.Nat.{le-refl}
 use borrow.Author.Tests.{eqb-true, leb-true}
-use lib.Dec.{leb, ltb}
+use lib.Dec.{leb}
 use lib.Ieee.{Float}
 use lib.ListN.{length, getD, take, drop, length-take, length-replicate}
 use Rattle.list_laws.proofs.Bools.{and-left, and-right}
@@ -18,17 +18,19 @@ use Rattle.model.specs.declared.Outcome.the-variants as outcome
 use Rattle.model.specs.declared.Selection.{Selection}
 use Rattle.model.specs.declared.Session.{Session}
 use Rattle.model.specs.Lists.{allBelow, joinBelow, over}
-use Rattle.model.specs.Plan.{planCount, planWords}
+use Rattle.model.specs.Plan.{planWords}
+use Rattle.model.specs.Reference.{orElse}
 use Rattle.model.specs.Association.{Request}
 use Rattle.model.specs.Session.{State, state, evaluated, recordOf, blockOf, bredFrom, requestOf, operatorsOf, breed, maxWords}
-use Rattle.model.specs.Refusal.{Room, goodIdeal, stepRefusal, check, firstOf, badPool, badParents, maxSize}
+use Rattle.model.specs.Refusal.{Room, goodIdeal, stepRefusal, maxSize}
 use Rattle.model.specs.Calls.{refusedBy, roomOf, wordRequest, stepAccepted, stepBy, stepOf}
 use Rattle.model.specs.Property.{SessionOk}
 use Rattle.refusals.specs.declared.Check.{Check}
-use Rattle.refusals.specs.declared.Check.the-variants as check
 use Rattle.refusals.specs.Checked.{checked}
-use Rattle.session_laws.proofs.Request.{bred-length, bred-request, step-refusal}
-use Rattle.session_breeding.specs.Breeding.{bredSession, Stepped, stepped, takenOf, blankLent, stepOn, breedRefusal, shortRefusal, bredExit, breedBy, breedOf}
+use Rattle.session_laws.specs.Refused.{breedRefusal, shortRefusal}
+use Rattle.session_laws.proofs.Request.{bred-length, bred-request, step-refusal, then-last}
+use Rattle.session_records.proofs.Records.{stands}
+use Rattle.session_breeding.specs.Breeding.{bredSession, Stepped, stepped, takenOf, blankLent, stepOn, bredExit, breedBy, breedOf}
 
 -- an ideal that is good has its m entries
 pub ideal-room : (m : ℕ) (ideal : List Float) → goodIdeal m (take m ideal) ≡ true → m ≤ length ideal
@@ -37,7 +39,7 @@ ideal-room m ideal e = omega (arith, eqb-true (length (take m ideal)) m (and-lef
 
 -- what comes before the others in a test that the generation is evaluated
 pub evaluated-stand : (st : State) (history : List ℕ) → evaluated st history ≡ true
-    → allBelow (λ i. ltb (recordOf history (getD (st .plans) i 0)) (planCount history)) (st .session .config .«population_size») ≡ true
+    → allBelow (stands history (st .plans)) (st .session .config .«population_size») ≡ true
 unfolding evaluated
 evaluated-stand st history e =
     and-right (leb (st .session .config .«population_size») (length (st .plans))) _
@@ -53,20 +55,6 @@ evaluated-plans st history e =
 -- each list lent for the selection has room
 pub rooms : maxSize ≤ length (blankLent .kept)
 rooms = omega (arith, length-replicate {A = ℕ} maxSize 0)
-
--- ---- 10 after 8 and 9
-
-then-same : (a b : Bool) (n : ℕ) → some n ≡ firstOf (check 8 a ∷ check 9 b ∷ []) → firstOf (check 8 a ∷ check 9 b ∷ check 10 true ∷ []) ≡ some n
-unfolding firstOf
-then-same true b n e = sym e
-then-same false true n e = sym e
-then-same false false n e = absurd (not-some n e)
-
-then-10 : (a b : Bool) → none ≡ firstOf (check 8 a ∷ check 9 b ∷ []) → firstOf (check 8 a ∷ check 9 b ∷ check 10 true ∷ []) ≡ some 10
-unfolding firstOf
-then-10 true b e = absurd (not-some 8 (sym e))
-then-10 false true e = absurd (not-some 9 (sym e))
-then-10 false false e = refl
 
 module _ (s : Session) (cs ps : List ℕ) (history : List ℕ) where
   abbrev size : ℕ
@@ -87,9 +75,10 @@ module _ (s : Session) (cs ps : List ℕ) (history : List ℕ) where
   unfolding bredFrom
   pool-part pool after e = ap (take (size * planWords)) e ∙ over-take _ pool (size * planWords) (bred-length (at []) history)
 
-  same-request : (ns : List ℕ) → requestOf (at []) history ≡ requestOf (at ns) history
+  -- no next dimensions matter to its refusals
+  same-left : (ns : List ℕ) → breedRefusal (at []) history ≡ breedRefusal (at ns) history
   unfolding bredFrom
-  same-request ns = refl
+  same-left ns = refl
 
   module _ (ok : SessionOk (at [])) (long : maxWords ≤ length cs) where
     step-is-refused : stepRefusal (operatorsOf s) (requestOf (at []) history) (roomOf blankLent) (length cs) ≡ breedRefusal (at []) history
@@ -120,11 +109,9 @@ module _ (s : Session) (cs ps : List ℕ) (history : List ℕ) where
         ∙ ap (λ (r : Request). stepRefusal (operatorsOf s) r room maxWords) (bred-request (at []) history)
         ∙ step-refusal (at []) history ok room maxWords (le-refl maxSize) (le-refl maxSize) (le-refl maxSize) (le-refl maxWords)
 
-    pub short-refused : (n : ℕ) → c ≡ check.Refused n → shortRefusal (at []) history ≡ some n
-    short-refused n f = then-same _ _ n (sym (ap checked f) ∙ check-is)
-
-    pub short-good : c ≡ check.Good → shortRefusal (at []) history ≡ some 10
-    short-good f = then-10 _ _ (sym (ap checked f) ∙ check-is)
+    -- 10 comes after 8 and 9
+    pub short-is : (k : Check) → c ≡ k → shortRefusal (at []) history ≡ some (orElse (checked k) 10)
+    short-is k f = then-last _ _ _ refl ∙ ap (λ (o : Option ℕ). some (orElse o 10)) (sym check-is ∙ ap (λ (x : Check). checked x) f)
 
   -- ---- by the answer
 
@@ -134,8 +121,7 @@ module _ (s : Session) (cs ps : List ℕ) (history : List ℕ) where
         → r .outcome ≡ outcome.Refused n → bredExit (refusedBy (r .outcome)) (state s words ps ns) ≡ breedBy o (at ns) history
     unfolding stepAccepted
     refused-by none n e f =
-        let k = ap (λ (x : Stepped). x .answer .outcome) e in
-        absurd (let z : _≡_ {A = ℕ} 0 1 = cc in omega arith)
+        absurd (not-some n (sym (ap (λ (x : Outcome). refusedBy x) f) ∙ ap (λ (x : Stepped). refusedBy (x .answer .outcome)) e))
     refused-by (some q) n e f =
         ap₂ (λ (x : Outcome) (y : List ℕ). bredExit (refusedBy x) (state s y ps ns)) (ap (λ (x : Stepped). x .answer .outcome) e) (ap (λ (x : Stepped). x .offspring) e)
 
@@ -145,8 +131,7 @@ module _ (s : Session) (cs ps : List ℕ) (history : List ℕ) where
         → bredExit (refusedBy (r .outcome)) (state u words ps ns) ≡ breedBy o (at ns) history
     unfolding stepAccepted breed bredFrom
     bred-by (some q) n u e f h k =
-        let z = ap (λ (x : Stepped). x .answer .outcome) e in
-        absurd (let z : _≡_ {A = ℕ} 0 1 = cc in omega arith)
+        absurd (not-some q (sym (ap (λ (x : Stepped). refusedBy (x .answer .outcome)) e) ∙ ap (λ (x : Outcome). refusedBy x) f))
     bred-by none n u e f h k =
         ap₂ (λ (x : Option ℕ) (y : Session). bredExit x (state y words ps ns)) (ap (λ (x : Outcome). refusedBy x) f)
         (k ∙ ap (λ (x : ℕ). bredSession s (r .rng .s) (after ++ drop x (s .«ideal_point»))) (sym h))
@@ -156,7 +141,7 @@ module _ (s : Session) (cs ps : List ℕ) (history : List ℕ) where
 
   same-refusal : (ns : List ℕ) → breedBy (breedRefusal (at []) history) (at ns) history ≡ breedOf (at ns) history
   same-refusal ns =
-      ap (λ (q : Request). breedBy (firstOf (check 8 (badPool q) ∷ check 9 (badParents (operatorsOf s) q) ∷ [])) (at ns) history) (same-request ns)
+      ap (λ (o : Option ℕ). breedBy o (at ns) history) (same-left ns)
 
   module _ (ok : SessionOk (at [])) (long : maxWords ≤ length cs) (pool gathered : List ℕ)
       (g : gathered ≡ over (joinBelow (λ i. blockOf history (recordOf history (getD ps i 0))) size) pool)

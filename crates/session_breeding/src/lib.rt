@@ -8,13 +8,12 @@ ghost use lib.ListN.{length};
 ghost use Rattle.model.specs.Session.{state, evaluated};
 ghost use Rattle.model.specs.Calls.{refusedBy};
 ghost use Rattle.model.specs.Property.{SessionOk};
-ghost use Rattle.session_breeding.specs.Breeding.{bredSession, stepped, stepOn, shortRefusal, bredExit, breedOf};
+ghost use Rattle.session_laws.specs.Refused.{shortRefusal};
+ghost use Rattle.session_breeding.specs.Breeding.{bredSession, stepped, stepOn, bredExit, breedOf};
 use model::MAX_PLANS;
 use model::Outcome;
 use model::PLAN_WORDS;
 use model::POOL_WORDS;
-use model::Phase;
-use model::Progress;
 use model::Rng;
 use model::Selection;
 use model::Session;
@@ -57,26 +56,9 @@ fn step(session: Session, pool: &[u64], ideal: &mut [f64], candidates: &mut [u64
 fn bred_session(session: Session, rng: Rng, ideal_point: [f64; 8]) -> Session
     ensures { λ r. ⌜ r ≡ bredSession session (rng .s) «ideal_point» ⌝ }
 {
-    let config = session.config;
-    let phase = Phase::Active;
-    let discovery_trial_id = session.discovery_trial_id;
-    let dimensions = session.dimensions;
     let before = session.progress;
-    let progress = Progress {
-        n_dims: before.n_dims,
-        n_candidates: config.population_size,
-        n_plans: 0,
-        generation: std::num::wrapping_add_u64(before.generation, 1),
-    };
-    Session {
-        config,
-        phase,
-        discovery_trial_id,
-        rng,
-        dimensions,
-        ideal_point,
-        progress,
-    }
+    let number = std::num::wrapping_add_u64(before.generation, 1);
+    session_parts::renewed(session, rng, ideal_point, number)
 }
 
 // What breeding answers: the refusal that it meets, with the session as it was, or the session after it.

@@ -1,15 +1,14 @@
--- The session property, of slices that are too short and of an opening. Assumes nothing.
+-- A slice that is too short, and the session property of an opening. Assumes nothing.
 use Prim.Native.Nat.{ℕ, _<_}
-use mathlib.Core.Path.{_≡_, refl, sym, ap, subst, _∙_}
-use mathlib.Core.Bool.{Bool, false, true≢false, _&&_}
+use mathlib.Core.Path.{_≡_, refl, sym, subst}
+use mathlib.Core.Bool.{false}
 use mathlib.Core.List.{List}
 use mathlib.Core.Option.{Option, none, some}
 use borrow.Author.Tests.{lt-leb}
-use lib.Dec.{leb}
+use Rattle.list_laws.proofs.Bools.{and-not}
 use lib.ListN.{length}
 use lib.Ieee.{Float}
 use Rattle.model.specs.declared.Opened.{Opened}
-use Rattle.model.specs.declared.Opening.the-variants.{Ready, Refused}
 use Rattle.model.specs.declared.OptionUsize.{OptionUsize}
 use Rattle.model.specs.declared.Session.{Session}
 use Rattle.model.specs.Session.{state, longEnough, given, opened}
@@ -18,21 +17,10 @@ use Rattle.model.specs.Refusal.{openRefusal}
 use Rattle.model.specs.Calls.{Opens, openBy, openOf}
 use Rattle.session_calls.specs.Usable.{usableBy}
 
--- slices that are too short say nothing
-pub short-ok : (s : Session) (cs ps ns cs' ps' ns' : List ℕ) → SessionOk (state s cs ps ns) → longEnough (state s cs' ps' ns') ≡ false
-    → SessionOk (state s cs' ps' ns')
-short-ok s cs ps ns cs' ps' ns' ok short = record {
-  config = ok .config;
-  dimensions = ok .dimensions;
-  phase = ok .phase;
-  ideal = ok .ideal;
-  lent = λ long. absurd (true≢false (sym long ∙ short));
-}
-
 -- one slice that is too short is enough
 pub too-short : (s : Session) (cs ps ns : List ℕ) → length cs < 65536 → longEnough (state s cs ps ns) ≡ false
 unfolding longEnough
-too-short s cs ps ns h = ap (λ (x : Bool). x && (leb 2048 (length ps) && leb 2048 (length ns))) (lt-leb 65536 (length cs) h)
+too-short s cs ps ns h = and-not _ _ (lt-leb 65536 (length cs) h)
 
 usable-by : (o : Option ℕ) (s : Session) (r : Opened) → r ≡ openBy o s → (o ≡ none → (cs ps ns : List ℕ) → SessionOk (state (r .session) cs ps ns))
     → usableBy (r .outcome) (r .session)

@@ -72,33 +72,6 @@ pub fn sampled(
     )
 }
 
-// Of whole arrays.
-fn called(
-    session: Session,
-    distribution: Distribution,
-    plan: u64,
-    history: &History,
-    n: usize,
-    candidates: &mut Candidates,
-    plans: &mut Numbers,
-    next_dims: &mut NextDims,
-) -> Sampled
-    requires { ⌜ SessionOk (state session (now candidates) (now plans) (now «next_dims»)) ⌝ }
-    requires { ⌜ n ≤ 4097 ⌝ }
-    ensures { λ r. ⌜ SessionOk (state (r .session) (now (candidates .exit)) (now (plans .exit)) (now («next_dims» .exit))) ⌝ }
-{
-    sampled(
-        session,
-        distribution,
-        plan,
-        history,
-        n,
-        candidates,
-        plans,
-        next_dims,
-    )
-}
-
 // The call made so many times, the plan's number rising by one; the last answer.
 pub fn repeated(
     session: Session,
@@ -123,7 +96,7 @@ pub fn repeated(
     let mut i: u64 = 0;
     while i < times {
         let s = last.session;
-        last = called(
+        last = sampled(
             s,
             distribution,
             number,

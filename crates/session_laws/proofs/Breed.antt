@@ -3,7 +3,7 @@ use Prim.Native.Nat.{ℕ, suc, _≤_}
 use mathlib.Core.Path.{_≡_, refl, ap, _∙_}
 use mathlib.Core.Bool.{Bool, false, _&&_}
 use mathlib.Core.List.{List, _++_}
-use native.Mathlib.Nat.{le-trans, not-suc-le-zero}
+use native.Mathlib.Nat.{not-suc-le-zero}
 use native.Mathlib.Omega.{arith}
 use lib.Dec.{ltb}
 use lib.Ieee.{Float}
@@ -24,7 +24,7 @@ use Rattle.candidate_laws.proofs.Sound.{AllHeld}
 use Rattle.candidate_laws.proofs.Generations.{generation-words}
 use Rattle.session_laws.proofs.Request.{dimensions-good}
 use Rattle.list_laws.proofs.Built.{over-long}
-use Rattle.session_laws.proofs.Steps.{Long}
+use Rattle.session_laws.proofs.Steps.{Long, put-long}
 
 -- ---- a selection of the whole pool
 
@@ -82,9 +82,4 @@ module _ (st : State) (history : List ℕ) (ok : SessionOk st) where
 
 pub breed-long : (st : State) (history : List ℕ) → Long st → Long (breed st history)
 unfolding breed
-breed-long st history l =
-    record {
-      words = le-trans (l .words) (over-long (wordsOf (generation (operatorsOf (st .session)) (requestOf st history) .offspring)) (st .candidates));
-      plans = l .plans;
-      next = l .next;
-    }
+breed-long st history l = put-long st _ _ (over-long (wordsOf _) (st .candidates)) l

@@ -1,17 +1,17 @@
 -- What `open` gives: a session that is opened has the session property.
-use Prim.Native.Nat.{ℕ, suc, _≤_, _<_}
+use Prim.Native.Nat.{ℕ, _≤_}
 use mathlib.Core.Path.{_≡_, refl, ap, _∙_}
-use mathlib.Core.Bool.{true, false, cond, not, _||_}
+use mathlib.Core.Bool.{true, false, _||_}
 use mathlib.Core.List.{List, [], _∷_, List·Memᴰ·head, List·Memᴰ·tail}
 use mathlib.Core.Option.{Option, none, some}
 use native.Mathlib.Nat.{not-suc-le-zero}
 use native.Mathlib.Omega.{arith}
-use lib.Dec.{leb, ltb}
+use lib.Dec.{ltb}
 use lib.Ieee.{Float, binary64, eq, le, lt, ofBits, ofInt, toUnsigned}
 use lib.ListN.{length, take, drop, replicate, length-append, length-take, length-replicate, getD-replicate}
 use lib.Seq.{getD-take}
-use borrow.Author.Tests.{ltb-true, ltb-false, le-leb, eq-eqb}
-use Rattle.list_laws.proofs.Bools.{by-bool, or-left, or-right, or-both, and-both}
+use borrow.Author.Tests.{ltb-false, eq-eqb}
+use Rattle.list_laws.proofs.Bools.{or-left, or-right, or-both, and-both}
 use Rattle.list_laws.proofs.Tests.{allIn-every}
 use Rattle.list_laws.proofs.Built.{over-take}
 use Rattle.list_laws.proofs.Checks.{applies-not}

@@ -1,28 +1,30 @@
 -- The selection that a session's breeding makes, as code makes it: from the words bred from, and refused just where the session's call is.
-use Prim.Native.Nat.{ℕ, zero, suc, _*_, _≤_}
-use mathlib.Core.Path.{_≡_, sym, ap, _∙_}
-use mathlib.Core.Bool.{Bool, true, false, not, _&&_, _||_, and-false}
+use Prim.Native.Nat.{ℕ, _*_, _≤_, _<_}
+use mathlib.Core.Path.{_≡_, refl, sym, ap, _∙_}
+use mathlib.Core.Bool.{Bool, true, false, not, _&&_, _||_}
 use mathlib.Core.List.{List, [], _∷_}
-use native.Mathlib.Nat.{zero-mul, suc-mul, mul-le-mul}
+use mathlib.Core.Option.{Option, none, some}
+use native.Mathlib.Nat.{le-trans, mul-le-mul}
 use native.Mathlib.Omega.{arith}
-use lib.Dec.{leb, ltb}
-use lib.ListN.{length, getD, take, length-append, length-take}
-use borrow.Author.Tests.{le-ltb, ne-eqb}
-use Rattle.list_laws.proofs.Bools.{and-left, and-right, or-both}
+use lib.Dec.{leb}
+use lib.ListN.{length, getD, take, length-take}
+use borrow.Author.Tests.{lt-ltb, le-ltb, lt-leb, leb-false, ne-eqb, not-false}
+use Rattle.list_laws.proofs.Bools.{by-bool, and-left, and-right, and-both, and-fails-first, and-not, and-no, or-left, or-right, or-both}
 use Rattle.list_laws.proofs.Tests.{allBelow-every}
 use Rattle.list_laws.proofs.Built.{listBelow-length}
-use Rattle.model.specs.declared.Distribution.{Distribution}
-use Rattle.model.specs.declared.Session.{Session}
-use Rattle.model.specs.Lists.{joinBelow}
-use Rattle.model.specs.Plan.{planWords, planCount, maxSettings}
-use Rattle.model.specs.Association.{Request, objectives}
-use Rattle.model.specs.Setting.{validDimension}
-use Rattle.model.specs.Session.{State, isActive, discovers, longEnough, blockOf, recordOf, bredFrom, breeds, requestOf, operatorsOf, dimensionOf, isNew, maxPlans, maxWords}
-use Rattle.model.specs.Refusal.{check, firstOf, Room, noRoom, noStepRoom, badSize, badDivisions, badDimensions, badPool, badParents, stepRefusal, sampleRefusal, maxSize, maxHistory}
-use Rattle.model.specs.Calls.{wordRequest}
-use Rattle.model.specs.Property.{DimensionsOk, SessionOk}
 use Rattle.list_laws.proofs.Checks.{passed-over, last-one}
 use Rattle.list_laws.proofs.Rows.{joinBelow-length}
+use Rattle.model.specs.declared.Distribution.{Distribution}
+use Rattle.model.specs.declared.Session.{Session}
+use Rattle.model.specs.Plan.{planWords, planCount, maxSettings}
+use Rattle.model.specs.Reference.{orElse}
+use Rattle.model.specs.Association.{objectives}
+use Rattle.model.specs.Setting.{validDimension}
+use Rattle.model.specs.Session.{State, isActive, discovers, longEnough, blockOf, recordOf, bredFrom, breeds, requestOf, operatorsOf, dimensionOf, isNew, maxPlans, maxWords}
+use Rattle.model.specs.Refusal.{Check, check, firstOf, Room, noRoom, noStepRoom, badSize, badDivisions, badDimensions, badPool, badParents, stepRefusal, sampleRefusal, maxSize, maxHistory}
+use Rattle.model.specs.Calls.{wordRequest}
+use Rattle.model.specs.Property.{DimensionsOk, SessionOk}
+use Rattle.session_laws.specs.Refused.{bredChecks, breedRefusal, shortRefusal}
 
 -- ---- the plans bred from are as many as the size
 
@@ -58,31 +60,96 @@ dimensions-good s ok =
     or-both _ _ (le-ltb maxSettings (s .progress .«n_dims») (ok .few))
     (ap not (allBelow-every (λ d. validDimension (dimensionOf s d)) (s .progress .«n_dims») (ok .valid)))
 
+-- ---- a session's six checks
+
+-- one that applies is the first, and what comes after two others counts by its own first
+applies-first : (c : Check) (cs : List Check) → c .applies ≡ true → firstOf (c ∷ cs) ≡ some (c .number)
+unfolding firstOf
+applies-first c cs e = rw e
+
+after-two : (a b : Check) (cs ds : List Check) → firstOf cs ≡ firstOf ds → firstOf (a ∷ b ∷ cs) ≡ firstOf (a ∷ b ∷ ds)
+unfolding firstOf
+after-two a b cs ds e = rw e
+
+-- the first of three checks, of which the last applies, by the first of the two before
+pub then-last : (a b c : Check) → c .applies ≡ true → firstOf (a ∷ b ∷ c ∷ []) ≡ some (orElse (firstOf (a ∷ b ∷ [])) (c .number))
+unfolding firstOf
+then-last a b c e = by-bool (a .applies) (λ p. rw p) (λ p. by-bool (b .applies) (λ q. rw (p, q)) (λ q. rw (p, q, e)))
+
+-- a dimension that 6 does not apply to
+pub fit-dimension : (n : ℕ) (d : Distribution) → (leb maxSettings n || not (validDimension d)) ≡ false → (n < maxSettings) × (validDimension d ≡ true)
+fit-dimension n d e = (leb-false maxSettings n (or-left _ _ e), not-false _ (or-right (leb maxSettings n) _ e))
+
+-- fewer plans than there may be have come, where one more is asked for and 11 does not apply
+pub room-left : (n : ℕ) (b : Bool) → (leb maxPlans n && b) ≡ false → b ≡ true → n < maxPlans
+room-left n b e h = leb-false maxPlans n (and-fails-first _ _ e h)
+
+module _ (st : State) (d : Distribution) (plan : ℕ) (history : List ℕ) where
+  abbrev refusal : Option ℕ
+  refusal = sampleRefusal st d plan history
+
+  abbrev bad : Bool
+  bad = leb maxSettings (st .session .progress .«n_dims») || not (validDimension d)
+
+  abbrev many : Bool
+  many = leb maxPlans (st .session .progress .«n_plans»)
+
+  abbrev full : Check
+  full = check 11 (many && (isNew st plan && not (breeds st history)))
+
+  abbrev last : List Check
+  last = check 10 (not (longEnough st)) ∷ full ∷ []
+
+  pub refused-6 : discovers st plan ≡ true → bad ≡ true → refusal ≡ some 6
+  unfolding sampleRefusal
+  refused-6 a e = applies-first _ _ (and-both _ _ a e)
+
+  module _ (good : (discovers st plan && bad) ≡ false) where
+    pub refused-7 : maxHistory < planCount history → refusal ≡ some 7
+    unfolding sampleRefusal
+    refused-7 h = passed-over _ _ good ∙ applies-first _ _ (lt-ltb maxHistory _ h)
+
+    module _ (few : planCount history ≤ maxHistory) where
+      past-7 : refusal ≡ firstOf (check 8 (breeds st history && badPool (requestOf st history))
+          ∷ check 9 (breeds st history && badParents (operatorsOf (st .session)) (requestOf st history)) ∷ last)
+      unfolding sampleRefusal
+      past-7 = passed-over _ _ good ∙ passed-over _ _ (le-ltb maxHistory _ few)
+
+      -- a call that breeds is refused by 8 or 9, and after them by 10 where a slice is too short
+      module _ (b : breeds st history ≡ true) where
+        bred-left : (cs : List Check) → firstOf last ≡ firstOf cs → refusal ≡ firstOf (bredChecks st history cs)
+        bred-left cs e =
+            past-7
+            ∙ ap (λ (x : Bool). firstOf (check 8 (x && badPool (requestOf st history)) ∷ check 9 (x && badParents (operatorsOf (st .session)) (requestOf st history)) ∷ last)) b
+            ∙ after-two _ _ last cs e
+
+        pub breed-refusal : longEnough st ≡ true → refusal ≡ breedRefusal st history
+        breed-refusal l = bred-left [] (passed-over _ _ (ap not l) ∙ passed-over _ _ (and-no many _ (and-no (isNew st plan) _ (ap not b))))
+
+        pub short-refusal : longEnough st ≡ false → refusal ≡ shortRefusal st history
+        short-refusal l = bred-left (check 10 true ∷ []) (applies-first _ _ (ap not l) ∙ sym (applies-first _ _ refl))
+
+      -- one that does not, by 10 or 11
+      module _ (b : breeds st history ≡ false) where
+        unbred-left : refusal ≡ firstOf last
+        unbred-left = past-7 ∙ passed-over _ _ (and-not _ _ b) ∙ passed-over _ _ (and-not _ _ b)
+
+        pub refused-10 : longEnough st ≡ false → refusal ≡ some 10
+        refused-10 l = unbred-left ∙ applies-first _ _ (ap not l)
+
+        full-left : longEnough st ≡ true → refusal ≡ firstOf (full ∷ [])
+        full-left l = unbred-left ∙ passed-over _ _ (ap not l)
+
+        pub refused-11 : longEnough st ≡ true → (many && isNew st plan) ≡ true → refusal ≡ some 11
+        refused-11 l h = full-left l ∙ applies-first full [] (and-both _ _ (and-left many _ h) (and-both _ _ (and-right many _ h) (ap not b)))
+
+        pub not-refused : longEnough st ≡ true → (isNew st plan ≡ true → st .session .progress .«n_plans» < maxPlans) → refusal ≡ none
+        unfolding firstOf
+        not-refused l h =
+            full-left l
+            ∙ passed-over full [] (by-bool (isNew st plan) (λ e. and-not many _ (lt-leb maxPlans _ (h e))) (λ e. and-no many _ (and-not (isNew st plan) _ e)))
+
 -- ---- refusals of the generation step that a session makes
-
--- of a session's six checks a call that breeds leaves two
-breeding-checks : (adds dimension history bred pool parents long full new : Bool) → adds ≡ false → history ≡ false → bred ≡ true → long ≡ true
-    → firstOf (check 6 (adds && dimension) ∷ check 7 history ∷ check 8 (bred && pool) ∷ check 9 (bred && parents) ∷ check 10 (not long)
-    ∷ check 11 (full && (new && not bred)) ∷ []) ≡ firstOf (check 8 pool ∷ check 9 parents ∷ [])
-unfolding firstOf
-breeding-checks adds dimension history bred pool parents long full new a h b l = rw (a, h, b, l, and-false new, and-false full)
-
--- and a third where a slice is too short
-short-checks : (adds dimension history bred pool parents long last : Bool) → adds ≡ false → history ≡ false → bred ≡ true → long ≡ false
-    → firstOf (check 6 (adds && dimension) ∷ check 7 history ∷ check 8 (bred && pool) ∷ check 9 (bred && parents) ∷ check 10 (not long) ∷ check 11 last ∷ [])
-    ≡ firstOf (check 8 pool ∷ check 9 parents ∷ check 10 true ∷ [])
-unfolding firstOf
-short-checks adds dimension history bred pool parents long last a h b l = rw (a, h, b, l)
-
-pub short-refusal : (st : State) (history : List ℕ) (d : Distribution) (plan : ℕ) → breeds st history ≡ true → longEnough st ≡ false → planCount history ≤ maxHistory
-    → sampleRefusal st d plan history
-    ≡ firstOf (check 8 (badPool (requestOf st history)) ∷ check 9 (badParents (operatorsOf (st .session)) (requestOf st history)) ∷ check 10 true ∷ [])
-unfolding sampleRefusal
-short-refusal st history d plan bred short few =
-    short-checks (discovers st plan) (leb maxSettings (st .session .progress .«n_dims») || not (validDimension d)) (ltb maxHistory (planCount history))
-    (breeds st history) (badPool (requestOf st history)) (badParents (operatorsOf (st .session)) (requestOf st history)) (longEnough st)
-    (leb maxPlans (st .session .progress .«n_plans») && (isNew st plan && not (breeds st history))) (active-discovers st plan (breeds-active st history bred))
-    (le-ltb maxHistory (planCount history) few) bred short
 
 module _ (st : State) (history : List ℕ) (ok : SessionOk st) where
   request-objectives : objectives (requestOf st history) ≡ st .session .config .«n_obj»
@@ -101,16 +168,6 @@ module _ (st : State) (history : List ℕ) (ok : SessionOk st) where
   pub offspring-fit : st .session .config .«population_size» * st .session .progress .«n_dims» ≤ maxWords
   offspring-fit = omega (arith, mul-le-mul (ok .config .atMost) (ok .dimensions .few))
 
-  sample-refusal : (d : Distribution) (plan : ℕ) → breeds st history ≡ true → longEnough st ≡ true → planCount history ≤ maxHistory
-      → sampleRefusal st d plan history
-      ≡ firstOf (check 8 (badPool (requestOf st history)) ∷ check 9 (badParents (operatorsOf (st .session)) (requestOf st history)) ∷ [])
-  unfolding sampleRefusal
-  sample-refusal d plan bred long few =
-      breeding-checks (discovers st plan) (leb maxSettings (st .session .progress .«n_dims») || not (validDimension d)) (ltb maxHistory (planCount history))
-      (breeds st history) (badPool (requestOf st history)) (badParents (operatorsOf (st .session)) (requestOf st history)) (longEnough st)
-      (leb maxPlans (st .session .progress .«n_plans»)) (isNew st plan) (active-discovers st plan (breeds-active st history bred))
-      (le-ltb maxHistory (planCount history) few) bred long
-
   -- what the room has to be: 1,024 for each list, and 65,536 words for the offspring
   module _ (room : Room) (offspring : ℕ) (kept : maxSize ≤ room .kept) (fronts : maxSize ≤ room .fronts) (lines : maxSize ≤ room .lines)
       (words : maxWords ≤ offspring) where
@@ -118,33 +175,14 @@ module _ (st : State) (history : List ℕ) (ok : SessionOk st) where
     unfolding noStepRoom noRoom
     request-room =
         or-both _ _
-        (ap (λ (b : Bool). leb 2 (st .session .config .«population_size») && b)
-        (or-both _ _ (le-ltb (room .kept) _ fits-kept) (or-both _ _ (le-ltb (room .fronts) _ fits-fronts) (le-ltb (room .lines) _ fits-lines)))
-        ∙ and-false (leb 2 (st .session .config .«population_size»)))
-        (le-ltb offspring _ fits-words)
-      where
-        fits-kept : st .session .config .«population_size» ≤ room .kept
-        fits-kept = omega (arith, ok .config .atMost)
-
-        fits-fronts : st .session .config .«population_size» ≤ room .fronts
-        fits-fronts = omega (arith, ok .config .atMost)
-
-        fits-lines : st .session .config .«population_size» ≤ room .lines
-        fits-lines = omega (arith, ok .config .atMost)
-
-        fits-words : st .session .config .«population_size» * st .session .progress .«n_dims» ≤ offspring
-        fits-words = omega (arith, offspring-fit)
+        (and-no (leb 2 (st .session .config .«population_size»)) _ (or-both _ _ (le-ltb (room .kept) _ (le-trans (ok .config .atMost) kept))
+        (or-both _ _ (le-ltb (room .fronts) _ (le-trans (ok .config .atMost) fronts)) (le-ltb (room .lines) _ (le-trans (ok .config .atMost) lines)))))
+        (le-ltb offspring _ (le-trans offspring-fit words))
 
     -- the step is refused by 8 or 9, or not at all
-    pub step-refusal : stepRefusal (operatorsOf (st .session)) (requestOf st history) room offspring
-        ≡ firstOf (check 8 (badPool (requestOf st history)) ∷ check 9 (badParents (operatorsOf (st .session)) (requestOf st history)) ∷ [])
+    pub step-refusal : stepRefusal (operatorsOf (st .session)) (requestOf st history) room offspring ≡ breedRefusal st history
     unfolding stepRefusal
     step-refusal =
         passed-over _ _ (ok .config .directions) ∙ passed-over _ _ request-size ∙ passed-over _ _ request-divisions
         ∙ passed-over _ _ (ok .config .operators) ∙ passed-over _ _ (dimensions-good (st .session) (ok .dimensions)) ∙ passed-over _ _ request-size
         ∙ last-one _ _ _ request-room
-
-    -- and so is the session's call, where its slices are long enough
-    pub breed-refusal : (d : Distribution) (plan : ℕ) → breeds st history ≡ true → longEnough st ≡ true → planCount history ≤ maxHistory
-        → sampleRefusal st d plan history ≡ stepRefusal (operatorsOf (st .session)) (requestOf st history) room offspring
-    breed-refusal d plan bred long few = sample-refusal d plan bred long few ∙ sym step-refusal

@@ -1,6 +1,6 @@
 -- THE SESSION PROPERTY: every call keeps it, refused or not.
-use Prim.Native.Nat.{ℕ, _<_}
-use mathlib.Core.Path.{_≡_, refl, sym, ap, _∙_}
+use Prim.Native.Nat.{ℕ}
+use mathlib.Core.Path.{_≡_, refl, sym, ap, subst}
 use mathlib.Core.Bool.{true, false, not, _&&_, _||_, true≢false, false≢true}
 use mathlib.Core.List.{List, List·Memᴰ·head, List·Memᴰ·tail}
 use mathlib.Core.Option.{Option, none, some}
@@ -10,8 +10,8 @@ use lib.ListN.{length}
 use mir.Val.{Val}
 use denote.Laws.{Is}
 use denote.Struct.Declared as struct
-use borrow.Author.Tests.{leb-false, not-true, not-false}
-use Rattle.list_laws.proofs.Bools.{by-bool, and-left, or-left, or-right, and-both, and-fails, and-fails-first}
+use borrow.Author.Tests.{not-true, not-false}
+use Rattle.list_laws.proofs.Bools.{and-left, and-both, and-fails}
 use Rattle.list_laws.proofs.Checks.{applies-not}
 use Rattle.demand3_laws.proofs.Calls.{sample-demand3}
 use Rattle.model.specs.declared.Distribution.{Distribution}
@@ -19,15 +19,16 @@ use Rattle.model.specs.declared.Phase.{Phase}
 use Rattle.model.specs.declared.Phase.the-variants.{Discovery, Active}
 use Rattle.model.specs.Plan.{maxSettings}
 use Rattle.model.specs.Setting.{validDimension}
-use Rattle.model.specs.Session.{State, dimensionOf, longEnough, isActive, pastDiscovery, discovers, isNew, breeds, breed, activate, discover, sampleFromCandidate, accepted, requestOf, operatorsOf, maxPlans}
+use Rattle.model.specs.Session.{State, Answered, dimensionOf, longEnough, isActive, pastDiscovery, discovers, isNew, breeds, breed, activate, discover, sampleFromCandidate, accepted, requestOf, operatorsOf, maxPlans}
 use Rattle.model.specs.Refusal.{sampleRefusal, badParents}
 use Rattle.model.specs.Property.{SessionOk}
-use Rattle.model.specs.Calls.{sampleBy, sampleOf, Samples}
+use Rattle.model.specs.Calls.{SampleExit, sampleBy, sampleOf, Samples}
 use Rattle.model.proofs.Session as session
 use Rattle.candidate_laws.proofs.Sound.{AllHeld}
 use Rattle.typed_laws.proofs.Held.{session-dimensions, session-held}
-use Rattle.session_laws.proofs.Request.{breeds-active}
-use Rattle.session_laws.proofs.Steps.{long, known, discovery-ok, active-ok, by-test, discover-ok, activate-ok, activate-long, sampleFromCandidate-ok}
+use Rattle.session_laws.proofs.Lists.{by-cond}
+use Rattle.session_laws.proofs.Request.{breeds-active, fit-dimension, room-left}
+use Rattle.session_laws.proofs.Steps.{long, some-dimension, active-ok, discover-ok, activate-ok, activate-long, sampleFromCandidate-ok}
 use Rattle.session_laws.proofs.Breed.{breed-ok, breed-long}
 
 -- ---- the two phases
@@ -68,16 +69,14 @@ module _ (st : State) (d : Distribution) (plan : ℕ) (history : List ℕ) (ok :
     adds : discovers st plan ≡ true → SessionOk (discover st d plan .after)
     unfolding discovers
     adds h =
-        let good = and-fails (discovers st plan) _ (not-6 st d plan history e) h in
-        discover-ok st d plan ok (discovery-phase (st .session .phase) (not-true _ (and-left _ _ h)))
-        (leb-false maxSettings _ (or-left _ _ good)) (not-false _ (or-right (leb maxSettings (st .session .progress .«n_dims»)) _ good)) array
+        let good = fit-dimension _ _ (and-fails (discovers st plan) _ (not-6 st d plan history e) h) in
+        discover-ok st d plan ok (discovery-phase (st .session .phase) (not-true _ (and-left _ _ h))) (good .0) (good .1) array
 
     after-discovery : discovers st plan ≡ false → isActive (st .session) ≡ false → SessionOk (sampleFromCandidate (activate st) plan .after)
     unfolding discovers activate
     after-discovery h inactive =
         let first = discovery-phase (st .session .phase) inactive in
-        let some = known (st .session .«discovery_trial_id») plan (st .session .progress .«n_dims») (and-fails (not (isActive (st .session))) _ h (ap not inactive))
-        (discovery-ok st ok first .first) in
+        let some = some-dimension st plan ok first (and-fails (not (isActive (st .session))) _ h (ap not inactive)) in
         sampleFromCandidate-ok (activate st) plan (activate-ok st ok first some held) refl (activate-long st (long st (not-10 st d plan history e)))
         (λ new. omega arith) held
 
@@ -90,17 +89,16 @@ module _ (st : State) (d : Distribution) (plan : ℕ) (history : List ℕ) (ok :
         (breed-long st history (long st (not-10 st d plan history e))) (λ new. omega arith) held
 
     goes-on : isActive (st .session) ≡ true → breeds st history ≡ false → SessionOk (sampleFromCandidate st plan .after)
-    goes-on a h = sampleFromCandidate-ok st plan ok (active-phase (st .session .phase) a) (long st (not-10 st d plan history e)) room held
-      where
-        room : isNew st plan ≡ true → st .session .progress .«n_plans» < maxPlans
-        room new = leb-false maxPlans _ (and-fails-first _ _ (not-11 st d plan history e) (and-both _ _ new (ap not h)))
+    goes-on a h =
+        sampleFromCandidate-ok st plan ok (active-phase (st .session .phase) a) (long st (not-10 st d plan history e))
+        (λ new. room-left _ _ (not-11 st d plan history e) (and-both _ _ new (ap not h))) held
 
     pub accepted-ok : SessionOk (accepted st d plan history .after)
     unfolding accepted
-    accepted-ok = by-test (discovers st plan) _ _ adds
-        (λ h. by-bool (isActive (st .session))
-        (λ a. by-bool (breeds st history) (λ b. rw (a, b) (bred b)) (λ b. rw (a, b) (goes-on a b)))
-        (λ a. rw a (after-discovery h a)))
+    accepted-ok = by-cond (λ (x : Answered). SessionOk (x .after)) (discovers st plan) _ _ adds
+        (λ h. by-cond (λ (x : State). SessionOk (sampleFromCandidate x plan .after)) (isActive (st .session)) _ _
+        (λ a. by-cond (λ (x : State). SessionOk (sampleFromCandidate x plan .after)) (breeds st history) _ _ bred (goes-on a))
+        (after-discovery h))
 
   -- THE THEOREM: refused or not, the field `keeps` of `Samples`
   pub sample-ok : SessionOk (sampleOf st d plan history .after)
@@ -116,10 +114,10 @@ module _ (st : State) (d : Distribution) (plan : ℕ) (history : List ℕ) (ok :
   given-held : AllHeld (dimensionOf (st .session)) (st .session .progress .«n_dims»)
   given-held k l = session-held (st .session) vs good k (omega (arith, ok .dimensions .few))
 
-  -- the whole promise of `sample`, of its definition
-  pub samples : Samples st d plan history (sampleOf st d plan history)
-  samples = record {
-    whole = refl;
-    keeps = sample-ok st d plan history ok given-held (session-dimensions (st .session) vs good);
+  -- the whole promise of `sample`, of an exit that is its definition's
+  pub samples : (x : SampleExit) → x ≡ sampleOf st d plan history → Samples st d plan history x
+  samples x e = record {
+    whole = e;
+    keeps = subst (λ (y : SampleExit). SessionOk (y .after)) (sym e) (sample-ok st d plan history ok given-held (session-dimensions (st .session) vs good));
     demand3 = sample-demand3 st d plan history ok;
   }

@@ -1,33 +1,34 @@
 -- Each step of a call keeps the session property, where its condition holds.
-use Prim.Native.Nat.{ℕ, zero, suc, _+_, _-_, _*_, _≤_, _<_, max}
+use Prim.Native.Nat.{ℕ, _+_, _-_, _*_, _≤_, _<_, max}
 use mathlib.Core.Path.{_≡_, refl, sym, ap, _∙_, subst}
-use mathlib.Core.Bool.{Bool, true, false, cond, true≢false}
-use mathlib.Core.List.{List, [], _∷_, map}
-use mathlib.Core.Logic.{⊎-elim}
-use native.Mathlib.Nat.{eq-or-lt-of-le, le-trans, mul-le-mul, not-suc-le-zero}
+use mathlib.Core.Bool.{true, false, true≢false}
+use mathlib.Core.List.{List, map}
+use native.Mathlib.Nat.{le-trans, mul-le-mul, not-suc-le-zero}
 use native.Mathlib.Omega.{arith}
 use lib.Dec.{eqb, leb, ltb}
-use lib.ListN.{length, getD, set, take, drop, length-append, length-take, length-drop, length-set}
+use lib.ListN.{length, getD, set, take, length-take, length-set}
 use lib.Seq.{getD-set-same, getD-set-other, set-out, getD-take}
 use borrow.Author.Tests.{ltb-true, ltb-false, le-leb, leb-true, eqb-true, eqb-false, not-true}
-use Rattle.list_laws.proofs.Bools.{by-bool, and-left, and-right, or-left, or-right, and-both}
+use Rattle.list_laws.proofs.Bools.{by-bool, and-left, and-right, and-both}
+use Rattle.list_laws.proofs.Members.{in-has, getD-in}
 use Rattle.model.specs.declared.Distribution.{Distribution}
 use Rattle.model.specs.declared.Phase.{Phase}
 use Rattle.model.specs.declared.Phase.the-variants.{Discovery, Active}
+use Rattle.model.specs.declared.Session.{Session}
 use Rattle.model.specs.declared.DimensionInfo.{DimensionInfo}
 use Rattle.model.specs.declared.OptionU64.{OptionU64}
 use Rattle.model.specs.declared.OptionU64.the-variants as optU64
-use Rattle.model.specs.Lists.{over, has}
+use Rattle.model.specs.Lists.{has, In}
 use Rattle.model.specs.Plan.{maxSettings}
-use Rattle.model.specs.Setting.{validDimension, sampleRandom, sampleAll, sampleCandidates, toWord, wordsOf}
-use Rattle.model.specs.Session.{State, state, dimensionOf, noDimension, longEnough, maxPlans, maxWords, overAt, discover, activate, overflow, enter, enlist, answer, plansOf, placeIn, isNew, sampleFromCandidate, discoversFor, withRng, Answered}
+use Rattle.model.specs.Setting.{validDimension, sampleRandom, sampleAll, toWord, wordsOf}
+use Rattle.model.specs.Session.{State, state, dimensionOf, noDimension, longEnough, maxPlans, maxWords, discover, activate, overflow, enter, enlist, answer, plansOf, placeIn, isNew, sampleFromCandidate, discoversFor, withRng, Answered}
 use Rattle.model.specs.Refusal.{goodIdeal}
 use Rattle.model.specs.Property.{KnownBy, ConfigOk, DimensionsOk, DiscoveryOk, ActiveOk, PhaseOk, LentOk, SessionOk}
 use Rattle.candidate_laws.proofs.Sound.{AllHeld}
 use Rattle.candidate_laws.proofs.Sampled.{sampleAll-sound, sampleCandidates-sound}
 use Rattle.candidate_laws.proofs.Words.{words-within, words-put}
 use Rattle.list_laws.proofs.Built.{over-long}
-use Rattle.session_laws.proofs.Lists.{overAt-long}
+use Rattle.session_laws.proofs.Lists.{overAt-long, set-each, by-cond}
 use Rattle.session_laws.proofs.Request.{dimensions-good}
 
 -- ---- the lengths of the lent slices
@@ -51,21 +52,25 @@ pub long-enough : (st : State) → Long st → longEnough st ≡ true
 unfolding longEnough
 long-enough st l = and-both _ _ (le-leb maxWords _ (l .words)) (and-both _ _ (le-leb maxPlans _ (l .plans)) (le-leb maxPlans _ (l .next)))
 
+-- and stay so where words are put into the candidates
+pub put-long : (st : State) (u : Session) (cs : List ℕ) → length (st .candidates) ≤ length cs → Long st → Long (state u cs (st .plans) (st .nextDims))
+put-long st u cs h l = record { words = le-trans (l .words) h; plans = l .plans; next = l .next }
+
+-- slices that are too short say nothing
+pub short-ok : (s : Session) (cs ps ns cs' ps' ns' : List ℕ) → SessionOk (state s cs ps ns) → longEnough (state s cs' ps' ns') ≡ false
+    → SessionOk (state s cs' ps' ns')
+short-ok s cs ps ns cs' ps' ns' ok short = record {
+  config = ok .config;
+  dimensions = ok .dimensions;
+  phase = ok .phase;
+  ideal = ok .ideal;
+  lent = λ long. absurd (true≢false (sym long ∙ short));
+}
+
 -- ---- discovery
 
 pub discovery-ok : (st : State) → SessionOk st → st .session .phase ≡ Discovery → DiscoveryOk (st .session)
 discovery-ok st ok e = subst (λ (p : Phase). PhaseOk p (st .session)) e (ok .phase)
-
-entered-valid : (infos : List DimensionInfo) (n : ℕ) (d : Distribution) → n < length infos
-    → ((k : ℕ) → k < n → validDimension (getD infos k noDimension .distribution) ≡ true) → validDimension d ≡ true
-    → (k : ℕ) → k < n + 1 → validDimension (getD (set infos n (record { distribution = d })) k noDimension .distribution) ≡ true
-entered-valid infos n d room h v k l =
-    let i : k ≤ n = omega arith in
-    ⊎-elim
-    (λ e. ap (λ (x : ℕ). validDimension (getD (set infos n (record { distribution = d })) x noDimension .distribution)) e
-    ∙ ap (λ (x : DimensionInfo). validDimension (x .distribution)) (getD-set-same infos n (record { distribution = d }) noDimension room) ∙ v)
-    (λ m. ap (λ (x : DimensionInfo). validDimension (x .distribution)) (getD-set-other infos n k (record { distribution = d }) noDimension (λ e. omega arith)) ∙ h k m)
-    (eq-or-lt-of-le i)
 
 -- a dimension more, where there are fewer than 32 and it is valid
 module _ (st : State) (d : Distribution) (plan : ℕ) (ok : SessionOk st) (discovery : st .session .phase ≡ Discovery)
@@ -78,7 +83,8 @@ module _ (st : State) (d : Distribution) (plan : ℕ) (ok : SessionOk st) (disco
         config = ok .config;
         dimensions = record {
           few = omega arith;
-          valid = entered-valid (st .session .dimensions) (st .session .progress .«n_dims») d (omega arith) (ok .dimensions .valid) valid;
+          valid = set-each (λ k (x : DimensionInfo). validDimension (x .distribution) ≡ true) noDimension (st .session .dimensions) (st .session .progress .«n_dims»)
+              (record { distribution = d }) (omega arith) valid (ok .dimensions .valid);
         };
         phase = record { first = omega arith; noCandidates = at .noCandidates; noPlans = at .noPlans };
         ideal = ok .ideal;
@@ -92,9 +98,13 @@ module _ (st : State) (d : Distribution) (plan : ℕ) (ok : SessionOk st) (disco
 -- ---- the end of discovery
 
 -- a plan that adds no dimension comes after one that did
-pub known : (first : OptionU64) (plan dims : ℕ) → discoversFor first plan ≡ false → KnownBy first dims → 1 ≤ dims
+known : (first : OptionU64) (plan dims : ℕ) → discoversFor first plan ≡ false → KnownBy first dims → 1 ≤ dims
 known optU64.None plan dims e k = absurd (true≢false e)
 known (optU64.Some p) plan dims e k = k
+
+pub some-dimension : (st : State) (plan : ℕ) → SessionOk st → st .session .phase ≡ Discovery → discoversFor (st .session .«discovery_trial_id») plan ≡ false
+    → 1 ≤ st .session .progress .«n_dims»
+some-dimension st plan ok e f = known (st .session .«discovery_trial_id») plan (st .session .progress .«n_dims») f (discovery-ok st ok e .first)
 
 module _ (st : State) (ok : SessionOk st) (discovery : st .session .phase ≡ Discovery) (some : 1 ≤ st .session .progress .«n_dims»)
     (held : AllHeld (dimensionOf (st .session)) (st .session .progress .«n_dims»)) where
@@ -117,19 +127,12 @@ module _ (st : State) (ok : SessionOk st) (discovery : st .session .phase ≡ Di
 
 pub activate-long : (st : State) → Long st → Long (activate st)
 unfolding activate
-activate-long st l =
-    record {
-      words = le-trans (l .words)
-          (over-long (wordsOf (sampleCandidates (dimensionOf (st .session)) (st .session .progress .«n_dims») (st .session .config .«population_size») (st .session .rng .s) .value))
-          (st .candidates));
-      plans = l .plans;
-      next = l .next;
-    }
+activate-long st l = put-long st _ _ (over-long (wordsOf _) (st .candidates)) l
 
 -- ---- a plan more
 
 -- an active session with a candidate for one plan more
-pub record Ready (st : State) : Type 0 where
+pub record Waiting (st : State) : Type 0 where
   pub config : ConfigOk (st .session .config)
   pub dimensions : DimensionsOk (st .session)
   pub active : st .session .phase ≡ Active
@@ -142,21 +145,15 @@ pub record Ready (st : State) : Type 0 where
 
 overflow-long : (st : State) → Long st → Long (overflow st)
 unfolding overflow
-overflow-long st l =
-    record {
-      words = le-trans (l .words)
-          (overAt-long (st .session .progress .«n_candidates» * st .session .progress .«n_dims»)
-          (map toWord (sampleAll (dimensionOf (st .session)) (st .session .progress .«n_dims») (st .session .rng .s) .value)) (st .candidates));
-      plans = l .plans;
-      next = l .next;
-    }
+overflow-long st l = put-long st _ _ (overAt-long (st .session .progress .«n_candidates» * st .session .progress .«n_dims»)
+    (map toWord (sampleAll (dimensionOf (st .session)) (st .session .progress .«n_dims») (st .session .rng .s) .value)) (st .candidates)) l
 
 pub active-ok : (st : State) → SessionOk st → st .session .phase ≡ Active → ActiveOk (st .session)
 active-ok st ok e = subst (λ (p : Phase). PhaseOk p (st .session)) e (ok .phase)
 
 module _ (st : State) (ok : SessionOk st) (active : st .session .phase ≡ Active) (lengths : Long st) (room : st .session .progress .«n_plans» < maxPlans) where
-  waiting-ready : st .session .progress .«n_plans» < st .session .progress .«n_candidates» → Ready st
-  waiting-ready more =
+  waiting : st .session .progress .«n_plans» < st .session .progress .«n_candidates» → Waiting st
+  waiting more =
       let at = active-ok st ok active in
       record {
         config = ok .config;
@@ -171,10 +168,10 @@ module _ (st : State) (ok : SessionOk st) (active : st .session .phase ≡ Activ
       }
 
   -- where every candidate has its plan, one more is drawn
-  overflow-ready : st .session .progress .«n_candidates» ≤ st .session .progress .«n_plans» → AllHeld (dimensionOf (st .session)) (st .session .progress .«n_dims»)
-      → Ready (overflow st)
+  overflow-waiting : st .session .progress .«n_candidates» ≤ st .session .progress .«n_plans» → AllHeld (dimensionOf (st .session)) (st .session .progress .«n_dims»)
+      → Waiting (overflow st)
   unfolding overflow
-  overflow-ready all held =
+  overflow-waiting all held =
       let at = active-ok st ok active in
       let lent = ok .lent (long-enough st lengths) in
       record {
@@ -198,34 +195,20 @@ module _ (st : State) (ok : SessionOk st) (active : st .session .phase ≡ Activ
       fits : (st .session .progress .«n_candidates» + 1) * st .session .progress .«n_dims» ≤ length (st .candidates)
       fits = le-trans (mul-le-mul {n₂ = maxPlans} (omega arith) (ok .dimensions .few)) (lengths .words)
 
--- a number that is not listed stands at no place
-not-listed : (l : List ℕ) (q i : ℕ) → has l q ≡ false → i < length l → getD l i 0 ≡ q → ⊥
-unfolding has
-not-listed [] q i e h same = not-suc-le-zero h
-not-listed (x ∷ l) q zero e h same = eqb-false x q (or-left _ _ e) same
-not-listed (x ∷ l) q (suc i) e h same = not-listed l q i (or-right (eqb x q) _ e) (omega arith) same
-
+-- the numbers still differ where a new one is stored
 entered-different : (l : List ℕ) (n plan : ℕ) → n < length l → has (take n l) plan ≡ false
     → ((i j : ℕ) → i < j → j < n → getD l i 0 ≡ getD l j 0 → ⊥)
     → (i j : ℕ) → i < j → j < n + 1 → getD (set l n plan) i 0 ≡ getD (set l n plan) j 0 → ⊥
 entered-different l n plan room new h i j below last same =
-    let k : j ≤ n = omega arith in
-    let first : getD (set l n plan) i 0 ≡ getD l i 0 = getD-set-other l n i plan 0 (λ e. omega arith) in
-    ⊎-elim
-    (λ e. not-listed (take n l) plan i new (omega (arith, length-take n l))
-    (getD-take n l i 0 (omega arith) ∙ sym first ∙ same ∙ ap (λ (x : ℕ). getD (set l n plan) x 0) e ∙ getD-set-same l n plan 0 room))
-    (λ m. h i j below m (sym first ∙ same ∙ getD-set-other l n j plan 0 (λ e. omega arith)))
-    (eq-or-lt-of-le k)
+    set-each (λ j (x : ℕ). (i : ℕ) → i < j → getD (set l n plan) i 0 ≡ x → ⊥) 0 l n plan room
+    (λ i k e. true≢false (sym (in-has (take n l) plan (subst (λ (x : ℕ). In x (take n l))
+    (getD-take n l i 0 (omega arith) ∙ sym (before i k) ∙ e) (getD-in (take n l) i (omega (arith, length-take n l))))) ∙ new))
+    (λ j m i k e. h i j k m (sym (before i (omega arith)) ∙ e)) j last i below same
+  where
+    before : (i : ℕ) → i < n → getD (set l n plan) i 0 ≡ getD l i 0
+    before i k = getD-set-other l n i plan 0 (λ e. omega arith)
 
-entered-next : (l : List ℕ) (n dims : ℕ) → n < length l → ((i : ℕ) → i < n → getD l i 0 ≤ dims) → (i : ℕ) → i < n + 1 → getD (set l n 0) i 0 ≤ dims
-entered-next l n dims room h i last =
-    let k : i ≤ n = omega arith in
-    ⊎-elim
-    (λ e. omega (arith, ap (λ (x : ℕ). getD (set l n 0) x 0) e, getD-set-same l n 0 0 room))
-    (λ m. omega (arith, getD-set-other l n i 0 0 (λ e. omega arith), h i m))
-    (eq-or-lt-of-le k)
-
-pub enter-ok : (st : State) (plan : ℕ) → Ready st → isNew st plan ≡ true → SessionOk (enter st plan)
+pub enter-ok : (st : State) (plan : ℕ) → Waiting st → isNew st plan ≡ true → SessionOk (enter st plan)
 unfolding enter
 enter-ok st plan ready new =
     record {
@@ -237,8 +220,8 @@ enter-ok st plan ready new =
       lent = λ e. record {
         different = entered-different (st .plans) (st .session .progress .«n_plans») plan (omega (arith, ready .room, ready .long .plans)) (not-true _ new)
             (ready .lent .different);
-        next = entered-next (st .nextDims) (st .session .progress .«n_plans») (st .session .progress .«n_dims») (omega (arith, ready .room, ready .long .next))
-            (ready .lent .next);
+        next = set-each (λ k (x : ℕ). x ≤ st .session .progress .«n_dims») 0 (st .nextDims) (st .session .progress .«n_plans») 0
+            (omega (arith, ready .room, ready .long .next)) (omega arith) (ready .lent .next);
         settings = ready .lent .settings;
       };
     }
@@ -256,26 +239,22 @@ module _ (st : State) (ok : SessionOk st) (active : st .session .phase ≡ Activ
     (held : AllHeld (dimensionOf (st .session)) (st .session .progress .«n_dims»)) (plan : ℕ) (new : isNew st plan ≡ true) where
   pub enlist-ok : SessionOk (enlist st plan)
   unfolding enlist overflow
-  enlist-ok = by-bool (ltb (st .session .progress .«n_plans») (st .session .progress .«n_candidates»))
-      (λ e. rw e (enter-ok st plan (waiting-ready st ok active lengths room (ltb-true _ _ e)) new))
-      (λ e. rw e (enter-ok (overflow st) plan (overflow-ready st ok active lengths room (ltb-false _ _ e) held) new))
+  enlist-ok = by-cond (λ (x : State). SessionOk (enter x plan)) (ltb (st .session .progress .«n_plans») (st .session .progress .«n_candidates»)) st (overflow st)
+      (λ e. enter-ok st plan (waiting st ok active lengths room (ltb-true _ _ e)) new)
+      (λ e. enter-ok (overflow st) plan (overflow-waiting st ok active lengths room (ltb-false _ _ e) held) new)
 
 pub enlist-long : (st : State) (plan : ℕ) → Long st → Long (enlist st plan)
 unfolding enlist
-enlist-long st plan l = by-bool (ltb (st .session .progress .«n_plans») (st .session .progress .«n_candidates»))
-    (λ e. rw e (enter-long st plan l))
-    (λ e. rw e (enter-long (overflow st) plan (overflow-long st l)))
+enlist-long st plan l = by-cond (λ (x : State). Long (enter x plan)) (ltb (st .session .progress .«n_plans») (st .session .progress .«n_candidates»)) st (overflow st)
+    (λ e. enter-long st plan l)
+    (λ e. enter-long (overflow st) plan (overflow-long st l))
 
 pub enlist-phase : (st : State) (plan : ℕ) → enlist st plan .session .phase ≡ st .session .phase
 unfolding enlist enter overflow
-enlist-phase st plan = by-bool (ltb (st .session .progress .«n_plans») (st .session .progress .«n_candidates»)) (λ e. rw e) (λ e. rw e)
+enlist-phase st plan = by-cond (λ (x : State). x .session .phase ≡ st .session .phase) (ltb (st .session .progress .«n_plans») (st .session .progress .«n_candidates»))
+    st (overflow st) (λ e. refl) (λ e. refl)
 
 -- ---- a setting is answered
-
--- whichever of two answers a test picks
-pub by-test : (b : Bool) (x y : Answered) → (b ≡ true → SessionOk (x .after)) → (b ≡ false → SessionOk (y .after)) → SessionOk (cond b x y .after)
-by-test true x y f g = f refl
-by-test false x y f g = g refl
 
 moved-next : (l : List ℕ) (i at d dims : ℕ) → d < dims → getD l i 0 ≤ dims → getD (set l at (d + 1)) i 0 ≤ dims
 moved-next l i at d dims below h = by-bool (eqb i at)
@@ -294,7 +273,7 @@ module _ (st : State) (i : ℕ) (ok : SessionOk st) (active : st .session .phase
   -- its candidate's, and the plan moves on by a dimension; beyond the last, a new draw
   pub answer-ok : SessionOk (answer st i .after)
   unfolding answer
-  answer-ok = by-test (ltb (getD (st .nextDims) i 0) (st .session .progress .«n_dims»)) _ _
+  answer-ok = by-cond (λ (x : Answered). SessionOk (x .after)) (ltb (getD (st .nextDims) i 0) (st .session .progress .«n_dims»)) _ _
       (λ e. record {
         config = ok .config;
         dimensions = ok .dimensions;
@@ -322,7 +301,7 @@ module _ (st : State) (plan : ℕ) (ok : SessionOk st) (active : st .session .ph
     (room : isNew st plan ≡ true → st .session .progress .«n_plans» < maxPlans) (held : AllHeld (dimensionOf (st .session)) (st .session .progress .«n_dims»)) where
   pub sampleFromCandidate-ok : SessionOk (sampleFromCandidate st plan .after)
   unfolding sampleFromCandidate
-  sampleFromCandidate-ok = by-test (isNew st plan) _ _
+  sampleFromCandidate-ok = by-cond (λ (x : Answered). SessionOk (x .after)) (isNew st plan) _ _
       (λ new. answer-ok (enlist st plan) (st .session .progress .«n_plans») (enlist-ok st ok active lengths (room new) held plan new) (enlist-phase st plan ∙ active)
       (enlist-long st plan lengths))
       (λ old. answer-ok st (placeIn (plansOf st) plan) ok active lengths)

@@ -12,7 +12,6 @@ use model::Outcome;
 use model::PLAN_WORDS;
 use model::Rng;
 use model::Sampling;
-use model::Selection;
 use model::Session;
 use session_calls::Candidates;
 use session_calls::History;
@@ -191,37 +190,7 @@ fn sessions() {
 
 // ---- a constraint's size
 
-// The generation step on a pool of two plans.
-fn stepped(
-    pool: &[u64],
-    directions: &[u8],
-    dims: [DimensionInfo; 32],
-    ideal: &mut [f64],
-    kept: &mut [usize],
-    fronts: &mut [usize],
-    lines: &mut [usize],
-    offspring: &mut [u64],
-) -> Selection {
-    generation::nsga3_generate_offspring(
-        pool,
-        directions,
-        1,
-        2,
-        Rng { s: 5 },
-        dims,
-        1,
-        1.0,
-        30.0,
-        20.0,
-        ideal,
-        kept,
-        fronts,
-        lines,
-        offspring,
-    )
-}
-
-// Two plans with equal rows, the second with one constraint.
+// The generation step on two plans with equal rows, the second with one constraint.
 fn constrained(bits: u64) {
     let mut pool = [0u64; 248];
     pool[1] = 1;
@@ -237,10 +206,17 @@ fn constrained(bits: u64) {
     let mut fronts = [0usize; 2];
     let mut lines = [0usize; 2];
     let mut offspring = [0u64; 2];
-    let s = stepped(
+    let s = generation::nsga3_generate_offspring(
         &pool,
         &directions,
+        1,
+        2,
+        Rng { s: 5 },
         dims,
+        1,
+        1.0,
+        30.0,
+        20.0,
         &mut ideal,
         &mut kept,
         &mut fronts,

@@ -1,26 +1,26 @@
 -- What a call leaves, from the answers of its parts.
 use Prim.Native.Nat.{ℕ, _+_, _-_, _*_, _≤_, _<_}
 use mathlib.Core.Path.{_≡_, refl, sym, ap, ap₂, _∙_, subst}
-use mathlib.Core.Bool.{Bool, true, cond, not}
+use mathlib.Core.Bool.{Bool, true, cond}
 use mathlib.Core.List.{List, map}
 use native.Mathlib.Omega.{arith}
-use borrow.Author.Tests.{lt-ltb, le-ltb, ltb-true, ltb-false}
-use lib.Dec.{ltb}
+use borrow.Author.Tests.{lt-ltb, le-ltb, ltb-true, ltb-false, le-leb, lt-leb}
+use lib.Dec.{leb, ltb}
 use lib.ListN.{length, getD, set}
 use Rattle.list_laws.proofs.Bools.{by-bool}
 use Rattle.list_laws.proofs.Rows.{row-within}
 use Rattle.model.specs.declared.Distribution.{Distribution}
 use Rattle.model.specs.declared.ParamValue.{ParamValue}
 use Rattle.model.specs.declared.OptionU64.the-variants as optU64
-use Rattle.model.specs.declared.Phase.the-variants.{Discovery, Active}
+use Rattle.model.specs.declared.Phase.the-variants.{Discovery}
 use Rattle.model.specs.declared.Session.{Session}
 use Rattle.model.specs.declared.Sampling.the-variants as sampling
-use Rattle.model.specs.Lists.{has, over}
+use Rattle.model.specs.Lists.{over}
 use Rattle.model.specs.Draw.{Drawn, drawn}
 use Rattle.model.specs.Setting.{kindOfDimension, toWord, ofWord, sampleRandom, sampleAll, sampleCandidates, wordsOf}
-use Rattle.model.specs.Session.{State, state, progress, dimensionOf, withRng, withProgress, overAt, discover, activate, overflow, enter, enlist, answer, isNew, placeIn, plansOf, sampleFromCandidate}
-use Rattle.session_parts.specs.Exits.{exit, settled, Ready}
-use Rattle.session_records.proofs.Records.{listed-by}
+use Rattle.model.specs.Session.{State, Answered, state, progress, dimensionOf, withRng, withProgress, overAt, discover, activate, overflow, enter, enlist, answer, isNew, placeIn, plansOf, sampleFromCandidate}
+use Rattle.session_parts.specs.Exits.{exit, settled, renewed, Ready}
+use Rattle.session_records.proofs.Records.{is-new-by}
 
 -- ---- discovery
 
@@ -43,30 +43,20 @@ module _ (s : Session) (d : Distribution) (plan : ℕ) where
   discover-is v g cs ps ns e = ap (λ (x : Drawn ParamValue). exit (record { outcome = sampling.Setting (x .value); session = entered (x .state) }) cs ps ns) e
 
 module _ (s : Session) where
-  abbrev active : ℕ → Session
-  active g = record {
-    config = s .config;
-    phase = Active;
-    «discovery_trial_id» = s .«discovery_trial_id»;
-    rng = record { s = g };
-    dimensions = s .dimensions;
-    «ideal_point» = s .«ideal_point»;
-    progress = progress (s .progress .«n_dims») (s .config .«population_size») 0 (s .progress .generation);
-  }
-
   abbrev first-ones : Drawn (List (List ParamValue))
   first-ones = sampleCandidates (dimensionOf s) (s .progress .«n_dims») (s .config .«population_size») (s .rng .s)
 
-  pub activate-is : (g : ℕ) (cs ps ns after : List ℕ) → after ≡ over (wordsOf (first-ones .value)) cs → g ≡ first-ones .state
-      → state (active g) after ps ns ≡ activate (state s cs ps ns)
+  pub activate-is : (u : Session) (g : ℕ) (cs ps ns after : List ℕ) → u ≡ renewed s g (s .«ideal_point») (s .progress .generation)
+      → after ≡ over (wordsOf (first-ones .value)) cs → g ≡ first-ones .state → state u after ps ns ≡ activate (state s cs ps ns)
   unfolding activate
-  activate-is g cs ps ns after e f = ap₂ (λ (x : ℕ) (y : List ℕ). state (active x) y ps ns) f e
+  activate-is u g cs ps ns after k e f =
+      ap₂ (λ (x : Session) (y : List ℕ). state x y ps ns) (k ∙ ap (λ (x : ℕ). renewed s x (s .«ideal_point») (s .progress .generation)) f) e
 
 -- ---- a plan's calls past discovery
 
 -- a candidate fits where there are fewer than 2,048
-pub fits-more : (k n len : ℕ) → k < 2048 → n ≤ 32 → 65536 ≤ len → k * n + n ≤ len
-fits-more k n len h i l = row-within k 2048 n len h (omega arith)
+pub fits-more : {k n len : ℕ} → k < 2048 → n ≤ 32 → 65536 ≤ len → k * n + n ≤ len
+fits-more {k} {n} {len} h i l = row-within k 2048 n len h (omega arith)
 
 pub overflow-is : (s : Session) (c : List ParamValue) (g : ℕ) (cs ps ns after : List ℕ) (t u : Session)
     → drawn c g ≡ sampleAll (dimensionOf s) (s .progress .«n_dims») (s .rng .s)
@@ -104,11 +94,11 @@ overflowed-plans st u cs ps ns e = ap (λ (x : State). x .session .progress .«n
 -- a plan more leaves a state that can be drawn from
 entered-ready : (st : State) (plan : ℕ) → Ready (st .session) → st .session .progress .«n_plans» < 2048 → Ready (enter st plan .session)
 unfolding enter
-entered-ready st plan r h = record { dims = r .dims; few = r .few; some = r .some; room = omega arith }
+entered-ready st plan r h = record { dims = r .dims; some = r .some; room = omega arith }
 
 overflow-ready : (st : State) → Ready (st .session) → Ready (overflow st .session)
 unfolding overflow
-overflow-ready st r = record { dims = r .dims; few = r .few; some = r .some; room = r .room }
+overflow-ready st r = record { dims = r .dims; some = r .some; room = r .room }
 
 enlist-ready : (st : State) (plan : ℕ) → Ready (st .session) → st .session .progress .«n_plans» < 2048 → Ready (enlist st plan .session)
 enlist-ready st plan r h = by-bool (ltb (st .session .progress .«n_plans») (st .session .progress .«n_candidates»))
@@ -154,16 +144,19 @@ module _ (st : State) (plan i : ℕ) (room : st .session .progress .«n_plans» 
   abbrev count : ℕ
   count = st .session .progress .«n_plans»
 
-  listed : has (plansOf st) plan ≡ ltb i count
-  listed = listed-by (st .plans) count plan i room e
+  abbrev by-new : Bool → Answered
+  by-new b = cond b (answer (enlist st plan) count) (answer st (placeIn (plansOf st) plan))
+
+  test : isNew st plan ≡ leb count i
+  test = is-new-by (st .plans) count plan i room e
 
   pub is-new : count ≤ i → isNew st plan ≡ true
-  is-new h = ap not (listed ∙ le-ltb i count h)
+  is-new h = test ∙ le-leb count i h
 
   pub known-plan : i < count → answer st i ≡ sampleFromCandidate st plan
   unfolding sampleFromCandidate
-  known-plan h = ap (answer st) e ∙ ap (λ (b : Bool). cond b (answer (enlist st plan) count) (answer st (placeIn (plansOf st) plan))) (sym (ap not (listed ∙ lt-ltb i count h)))
+  known-plan h = ap (answer st) e ∙ ap by-new (sym (test ∙ lt-leb count i h))
 
   pub new-plan : count ≤ i → answer (enlist st plan) count ≡ sampleFromCandidate st plan
   unfolding sampleFromCandidate
-  new-plan h = ap (λ (b : Bool). cond b (answer (enlist st plan) count) (answer st (placeIn (plansOf st) plan))) (sym (is-new h))
+  new-plan h = ap by-new (sym (is-new h))

@@ -8,7 +8,7 @@ ghost use lib.ListN.{length};
 ghost use Rattle.model.specs.Setting.{validDimension};
 ghost use Rattle.model.specs.Refusal.{badDimensions};
 ghost use Rattle.model.specs.Session.{dimensionOf, withRng, withProgress, state, discover, activate, overflow, enter, enlist, answer, isNew, sampleFromCandidate};
-ghost use Rattle.session_parts.specs.Exits.{exit, settled, Ready};
+ghost use Rattle.session_parts.specs.Exits.{exit, settled, renewed, Ready};
 use model::DimensionInfo;
 use model::Distribution;
 use model::OptionU64;
@@ -57,6 +57,32 @@ pub fn discover(session: Session, distribution: Distribution, plan: u64) -> Samp
     Sampled { outcome, session }
 }
 
+// The session of a new generation: its candidates are as many as the size, and no plan has come.
+pub fn renewed(session: Session, rng: Rng, ideal_point: [f64; 8], generation: u64) -> Session
+    ensures { λ r. ⌜ r ≡ renewed session (rng .s) «ideal_point» generation ⌝ }
+{
+    let config = session.config;
+    let before = session.progress;
+    let progress = Progress {
+        n_dims: before.n_dims,
+        n_candidates: config.population_size,
+        n_plans: 0,
+        generation,
+    };
+    let phase = Phase::Active;
+    let discovery_trial_id = session.discovery_trial_id;
+    let dimensions = session.dimensions;
+    Session {
+        config,
+        phase,
+        discovery_trial_id,
+        rng,
+        dimensions,
+        ideal_point,
+        progress,
+    }
+}
+
 // Discovery ends: as many candidates as the size are drawn.
 pub fn activate(session: Session, candidates: &mut [u64]) -> Session
     requires { ⌜ (badDimensions (dimensionOf session) (session .progress .«n_dims») ≡ false)
@@ -67,28 +93,11 @@ pub fn activate(session: Session, candidates: &mut [u64]) -> Session
     let size = config.population_size;
     let before = session.progress;
     let n = before.n_dims;
-    let generation = before.generation;
     let rng = session.rng;
     let dimensions = session.dimensions;
     let rng = candidates::sample_candidates(dimensions, n, size, rng, candidates);
-    let phase = Phase::Active;
-    let discovery_trial_id = session.discovery_trial_id;
     let ideal_point = session.ideal_point;
-    let progress = Progress {
-        n_dims: n,
-        n_candidates: size,
-        n_plans: 0,
-        generation,
-    };
-    Session {
-        config,
-        phase,
-        discovery_trial_id,
-        rng,
-        dimensions,
-        ideal_point,
-        progress,
-    }
+    renewed(session, rng, ideal_point, before.generation)
 }
 
 // ---- a plan's calls past discovery

@@ -1,14 +1,14 @@
 -- Plans found by their numbers: the last record of one in a history, its place in a generation, and the records bred from.
-use Prim.Native.Nat.{ℕ, zero, suc, _+_, _-_, _*_, _≤_, _<_}
+use Prim.Native.Nat.{ℕ, suc, _+_, _-_, _*_, _≤_, _<_}
 use mathlib.Core.Path.{_≡_, refl, sym, ap, ap₂, _∙_}
-use mathlib.Core.Bool.{Bool, true, false, not}
+use mathlib.Core.Bool.{Bool, true, false, not, _&&_}
 use mathlib.Core.List.{List, [], _∷_}
 use mathlib.Core.Logic.{⊎-elim}
-use native.Mathlib.Nat.{not-suc-le-zero, eq-or-lt-of-le, add-zero}
+use native.Mathlib.Nat.{eq-or-lt-of-le, add-zero}
 use native.Mathlib.Numerals.{add-one}
 use native.Mathlib.Omega.{arith}
-use borrow.Author.Tests.{eq-eqb, ne-eqb, lt-ltb, le-ltb, ltb-true, ltb-false, leb-true, leb-false}
-use lib.Dec.{eqb, leb, ltb}
+use borrow.Author.Tests.{eq-eqb, ne-eqb, lt-ltb, le-ltb, leb-true, leb-false}
+use lib.Dec.{eqb, leb, ltb, leb·suc-suc}
 use lib.ListN.{length, getD, take, drop, drop-of-length-le}
 use lib.Seq.{drop-cons, length-take-le}
 use Rattle.list_laws.proofs.Bools.{by-bool}
@@ -74,24 +74,19 @@ unfolding has placeIn
 has-place [] plan = refl
 has-place (x ∷ l) plan = by-bool (eqb x plan)
     (λ e. rw e (sym (lt-ltb 0 (suc (length l)) (omega arith))))
-    (λ e. rw e (has-place l plan ∙ shift (placeIn l plan) (length l)))
-  where
-    shift : (a b : ℕ) → ltb a b ≡ ltb (suc a) (suc b)
-    shift a b = by-bool (ltb a b)
-        (λ e. e ∙ sym (lt-ltb (suc a) (suc b) (omega (arith, ltb-true a b e))))
-        (λ e. e ∙ sym (le-ltb (suc a) (suc b) (omega (arith, ltb-false a b e))))
+    (λ e. rw e (has-place l plan ∙ sym (leb·suc-suc (suc (placeIn l plan)) (length l))))
 
--- of the first n where its place is before n
-pub listed-by : (ps : List ℕ) (n plan i : ℕ) → n ≤ length ps → i ≡ placeIn (take n ps) plan → has (take n ps) plan ≡ ltb i n
-listed-by ps n plan i h e = has-place (take n ps) plan ∙ ap₂ (λ (a b : ℕ). ltb a b) (sym e) (length-take-le n ps h)
-
--- a number is new where its place is past the others
+-- so it is new among the first n where its place is past them
 pub is-new-by : (ps : List ℕ) (n plan i : ℕ) → n ≤ length ps → i ≡ placeIn (take n ps) plan → not (has (take n ps) plan) ≡ leb n i
 is-new-by ps n plan i h e =
-    ap not (listed-by ps n plan i h e)
+    ap not (has-place (take n ps) plan ∙ ap₂ (λ (a b : ℕ). ltb a b) (sym e) (length-take-le n ps h))
     ∙ by-bool (leb n i)
     (λ b. ap not (le-ltb i n (leb-true n i b)) ∙ sym b)
     (λ b. ap not (lt-ltb i n (leb-false n i b)) ∙ sym b)
+
+-- a test whose first half passes is its second half
+pub past : {a b d : Bool} → a ≡ true → b ≡ d → (a && b) ≡ d
+past e f = rw e f
 
 -- ---- the records bred from
 

@@ -1,12 +1,14 @@
 -- each way is as the definition has it
 use Prim.Native.Nat.{_≤_, _<_}
 use mathlib.Core.Path.{refl, sym, ap, _∙_}
+use mathlib.Core.Bool.{false, not}
 use mathlib.Core.List.{[]}
-use Rattle.model.specs.declared.Sampled.{Sampled}
-use Rattle.session_parts.specs.Exits.{exit}
 use Rattle.model.specs.Plan.{planCount}
-use Rattle.session_active.proofs.Refusals.{leaves-refused}
-use Rattle.session_active.proofs.Ways.{others, other-7, long-by, without-next, discovery-plans, first-of}
+use Rattle.list_laws.proofs.Bools.{and-not, and-fails}
+use Rattle.model.specs.declared.Phase.{Phase}
+use Rattle.model.specs.Session.{state, pastDiscovery}
+use Rattle.session_laws.proofs.Request.{refused-7}
+use Rattle.session_active.proofs.Ways.{leaves-refused, adds-by, long-by, without-next, discovery-plans}
 use native.Mathlib.Omega.{arith}
 use borrow.Author.Needs.{needs}
 use Rattle.session.proofs.answered.Statement.{statement}
@@ -40,8 +42,8 @@ returns-2 : tie.Need-returns-2
 returns-2 c =
     let a = c .before .before .before .before .before .before .before .before .before .before .args in
     let many : 4096 < planCount (a .history .now) = omega (arith, c .before .if2 .taken, c .before .before .plan-count .ensures) in
-    ap (λ (r : Sampled). exit r (a .candidates .now) (a .plans .now) (a .next-dims .now)) (c .refused .ensures)
-    ∙ leaves-refused (a .session) (a .candidates .now) (a .plans .now) (a .next-dims .now) (a .distribution) (a .plan) (a .history .now) 7 (other-7 (a .session) (a .candidates .now) (a .plans .now) (a .next-dims .now) (a .distribution) (a .plan) (a .history .now) (others (a .session) (a .candidates .now) (a .plans .now) (a .next-dims .now) (a .distribution) (a .plan) (a .history .now) (sym (c .before .before .before .before .discovers .ensures) ∙ c .before .before .before .if1 .left)) many)
+    leaves-refused (a .session) (a .candidates .now) (a .plans .now) (a .next-dims .now) (a .distribution) (a .plan) (a .history .now) 7 (a .session) (a .candidates .now) _ (c .refused .ensures) refl
+    (refused-7 (state (a .session) (a .candidates .now) (a .plans .now) (a .next-dims .now)) (a .distribution) (a .plan) (a .history .now) (and-not _ _ (adds-by (a .session) (a .candidates .now) (a .plans .now) (a .next-dims .now) (a .distribution) (a .plan) (a .history .now) false (sym (c .before .before .before .before .discovers .ensures) ∙ c .before .before .before .if1 .left))) many)
 
 enum-told : tie.Need-enum-told
 enum-told c = search needs
@@ -52,7 +54,7 @@ sample-first-requires c κs =
     let a = s .args in
     let few : planCount (a .history .now) ≤ 4096 = omega (arith, c .before .before .before .before .before .before .if2 .left, c .before .before .before .before .before .before .before .plan-count .ensures) in
     let p = c .before .before .before .enum-told .given .1 in
-    (record { ok = s .pre; room = long-by (a .session) (a .candidates .now) (a .plans .now) (a .next-dims .now) (a .distribution) (a .plan) (a .history .now) _ (c .before .before .before .before .before .before .before .before .before .before .long-enough .ensures) ∙ c .before .before .before .before .before .if3 .taken; few = few }, p, first-of (a .session) (a .candidates .now) (a .plans .now) (a .next-dims .now) (a .distribution) (a .plan) (a .history .now) p (sym (c .before .before .before .before .before .before .before .before .before .discovers .ensures) ∙ c .before .before .before .before .before .before .before .before .if1 .left))
+    (record { ok = s .pre; room = long-by (a .session) (a .candidates .now) (a .plans .now) (a .next-dims .now) (a .distribution) (a .plan) (a .history .now) _ (c .before .before .before .before .before .before .before .before .before .before .long-enough .ensures) ∙ c .before .before .before .before .before .if3 .taken; few = few }, p, and-fails _ _ (sym (c .before .before .before .before .before .before .before .before .before .discovers .ensures) ∙ c .before .before .before .before .before .before .before .before .if1 .left) (ap (λ (x : Phase). not (pastDiscovery x)) p))
 
 enum-told-2 : tie.Need-enum-told-2
 enum-told-2 c = search needs
@@ -104,10 +106,9 @@ same-length-7 c = refl
 returns-5 : tie.Need-returns-5
 returns-5 c =
     let a = c .before .before .before .before .before .before .before .before .before .before .before .before .before .args in
-    ap (λ (r : Sampled). exit r (a .candidates .now) (a .plans .now) (a .next-dims .now)) (c .refused2 .ensures)
-    ∙ leaves-refused (a .session) (a .candidates .now) (a .plans .now) (a .next-dims .now) (a .distribution) (a .plan) (a .history .now) _
+    leaves-refused (a .session) (a .candidates .now) (a .plans .now) (a .next-dims .now) (a .distribution) (a .plan) (a .history .now) _ (a .session) (a .candidates .now) _ (c .refused2 .ensures) refl
     (c .before .short-refusal .ensures (a .candidates .now) (a .next-dims .now) (a .distribution) (a .plan)
-    (others (a .session) (a .candidates .now) (a .plans .now) (a .next-dims .now) (a .distribution) (a .plan) (a .history .now) (sym (c .before .before .before .before .before .before .before .discovers .ensures) ∙ c .before .before .before .before .before .before .if1 .left))
+    (adds-by (a .session) (a .candidates .now) (a .plans .now) (a .next-dims .now) (a .distribution) (a .plan) (a .history .now) false (sym (c .before .before .before .before .before .before .before .discovers .ensures) ∙ c .before .before .before .before .before .before .if1 .left))
     (long-by (a .session) (a .candidates .now) (a .plans .now) (a .next-dims .now) (a .distribution) (a .plan) (a .history .now) _ (c .before .before .before .before .before .before .before .before .long-enough .ensures) ∙ c .before .before .before .if3 .left))
 
 pub answered-spec : {M : Type 1} → statement M

@@ -1,9 +1,11 @@
 -- 10, but for a call that would breed
 use mathlib.Core.Bool.{true, false}
 use mathlib.Core.List.{[]}
-use mathlib.Core.Path.{sym, ap, _∙_}
-use Rattle.model.specs.Session.{pastDiscovery}
-use Rattle.session_active.proofs.Ways.{unused, other-10, first-unbred, breeds-by, evaluated-short, short-bred}
+use mathlib.Core.Path.{ap}
+use Rattle.list_laws.proofs.Bools.{and-not}
+use Rattle.model.specs.Session.{state, pastDiscovery}
+use Rattle.session_laws.proofs.Request.{refused-10}
+use Rattle.session_active.proofs.Ways.{unused, first-unbred, breeds-by, evaluated-short, short-bred}
 use borrow.Author.Needs.{needs}
 use Rattle.session.proofs.short_refusal.Statement.{statement}
 use Rattle.session.proofs.short_refusal.Tie as tie
@@ -18,8 +20,8 @@ returns : tie.Need-returns
 returns c cs ns d plan other short =
     let s = c .before .before .before .before .before .before in
     let a = s .args in
-    other-10 (a .session) cs (a .plans .now) ns d plan (a .history .now) other (s .pre .1) short
-    (first-unbred (a .session) cs (a .plans .now) ns d plan (a .history .now) (ap pastDiscovery (c .enum-told2 .given .1)))
+    refused-10 (state (a .session) cs (a .plans .now) ns) d plan (a .history .now) (and-not _ _ other) (s .pre .1)
+    (first-unbred (a .session) cs (a .plans .now) ns d plan (a .history .now) (ap pastDiscovery (c .enum-told2 .given .1))) short
 
 evaluated-requires : tie.Need-evaluated-requires
 evaluated-requires c κs = tt
@@ -28,24 +30,24 @@ bred-refusal-requires : tie.Need-bred-refusal-requires
 bred-refusal-requires c κs =
     let s = c .before .before .before .before .before .before .before .before in
     let a = s .args in
-    (s .pre .0, evaluated-short (a .session) [] (a .plans .now) [] unused 0 (a .history .now) (sym (c .before .evaluated .ensures) ∙ c .if1 .taken))
+    (s .pre .0, evaluated-short (a .session) [] (a .plans .now) [] unused 0 (a .history .now) _ (c .before .evaluated .ensures) (c .if1 .taken))
 
 returns-2 : tie.Need-returns-2
 returns-2 c cs ns d plan other short =
     let s = c .before .before .before .before .before .before .before .before .before in
     let a = s .args in
     short-bred (a .session) cs (a .plans .now) ns d plan (a .history .now) _
-    (breeds-by (a .session) cs (a .plans .now) ns d plan (a .history .now) true (ap pastDiscovery (c .before .before .before .enum-told .given .1))
-    (sym (c .before .before .evaluated .ensures) ∙ c .before .if1 .taken))
+    (breeds-by (a .session) cs (a .plans .now) ns d plan (a .history .now) _ true (ap pastDiscovery (c .before .before .before .enum-told .given .1))
+    (c .before .before .evaluated .ensures) (c .before .if1 .taken))
     short (s .pre .1) (c .bred-refusal .ensures)
 
 returns-3 : tie.Need-returns-3
 returns-3 c cs ns d plan other short =
     let s = c .before .before .before .before .before .before .before .before in
     let a = s .args in
-    other-10 (a .session) cs (a .plans .now) ns d plan (a .history .now) other (s .pre .1) short
-    (breeds-by (a .session) cs (a .plans .now) ns d plan (a .history .now) false (ap pastDiscovery (c .before .before .enum-told .given .1))
-    (sym (c .before .evaluated .ensures) ∙ c .if1 .left))
+    refused-10 (state (a .session) cs (a .plans .now) ns) d plan (a .history .now) (and-not _ _ other) (s .pre .1)
+    (breeds-by (a .session) cs (a .plans .now) ns d plan (a .history .now) _ false (ap pastDiscovery (c .before .before .enum-told .given .1))
+    (c .before .evaluated .ensures) (c .if1 .left)) short
 
 pub short-refusal-spec : {M : Type 1} → statement M
 short-refusal-spec =

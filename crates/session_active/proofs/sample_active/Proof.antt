@@ -1,14 +1,12 @@
 -- breeding comes first, then refusal 11
 use mathlib.Core.Path.{refl, sym, ap, _∙_}
 use mathlib.Core.Bool.{true, false}
-use Rattle.model.specs.declared.Sampled.{Sampled}
 use Rattle.model.specs.Session.{state, pastDiscovery}
-use Rattle.session_parts.specs.Exits.{exit}
 use mathlib.Core.List.{[]}
-use Rattle.session_laws.proofs.Request.{active-discovers}
+use Rattle.list_laws.proofs.Bools.{and-not}
+use Rattle.session_laws.proofs.Request.{active-discovers, room-left, refused-11, not-refused}
 use Rattle.session_laws.proofs.Steps.{long, active-ok}
-use Rattle.session_active.proofs.Refusals.{leaves-refused, leaves-accepted}
-use Rattle.session_active.proofs.Ways.{unused, ready-active, breeds-by, active-accepted, unbred-none, unbred-11, not-full}
+use Rattle.session_active.proofs.Ways.{unused, ready-active, breeds-by, active-accepted, leaves-refused, leaves-accepted}
 use native.Mathlib.Omega.{arith}
 use Rattle.session_active.proofs.sample_active.Statement.{statement}
 use Rattle.session_active.proofs.sample_active.Tie as tie
@@ -20,7 +18,7 @@ sample-bred-requires : tie.Need-sample-bred-requires
 sample-bred-requires c κs =
     let s = c .before .before .before .before .before .before .before .before .before .before .before .before in
     let a = s .args in
-    (s .pre .0, breeds-by (a .session) (a .candidates .now) (a .plans .now) (a .next-dims .now) unused 0 (a .history .now) true (ap pastDiscovery (s .pre .1)) (sym (c .before .before .before .before .evaluated .ensures) ∙ c .before .before .before .if1 .taken))
+    (s .pre .0, breeds-by (a .session) (a .candidates .now) (a .plans .now) (a .next-dims .now) unused 0 (a .history .now) _ true (ap pastDiscovery (s .pre .1)) (c .before .before .before .before .evaluated .ensures) (c .before .before .before .if1 .taken))
 
 same-length : tie.Need-same-length
 same-length c = c .before .before .before .before .before .before .sample-bred .kept .1 .1 .1 .0
@@ -38,7 +36,8 @@ full-requires : tie.Need-full-requires
 full-requires c κs =
     let s = c .before .before .before .before .before .before .before .before .before .before in
     let a = s .args in
-    omega (arith, active-ok (state (a .session) (a .candidates .now) (a .plans .now) (a .next-dims .now)) (s .pre .0 .ok) (s .pre .1) .room, long (state (a .session) (a .candidates .now) (a .plans .now) (a .next-dims .now)) (s .pre .0 .room) .plans)
+    let st = state (a .session) (a .candidates .now) (a .plans .now) (a .next-dims .now) in
+    omega (arith, active-ok st (s .pre .0 .ok) (s .pre .1) .room, long st (s .pre .0 .room) .plans)
 
 refused-requires : tie.Need-refused-requires
 refused-requires c κs = tt
@@ -51,10 +50,10 @@ returns-2 c d =
     let s = c .before .before .before .before .before .before .before .before .before .before .before .before .before in
     let a = s .args in
     let i = ap pastDiscovery (s .pre .1) in
-    let b = breeds-by (a .session) (a .candidates .now) (a .plans .now) (a .next-dims .now) d (a .plan) (a .history .now) false i (sym (c .before .before .before .before .before .evaluated .ensures) ∙ c .before .before .before .before .if1 .left) in
-    ap (λ (r : Sampled). exit r (a .candidates .now) (a .plans .now) (a .next-dims .now)) (c .refused .ensures)
-    ∙ leaves-refused (a .session) (a .candidates .now) (a .plans .now) (a .next-dims .now) d (a .plan) (a .history .now) 11
-    (unbred-11 (a .session) (a .candidates .now) (a .plans .now) (a .next-dims .now) d (a .plan) (a .history .now) (active-discovers (state (a .session) (a .candidates .now) (a .plans .now) (a .next-dims .now)) (a .plan) i) (s .pre .0 .few) (s .pre .0 .room) b (sym (c .before .before .full .ensures) ∙ c .before .if2 .taken))
+    let b = breeds-by (a .session) (a .candidates .now) (a .plans .now) (a .next-dims .now) d (a .plan) (a .history .now) _ false i (c .before .before .before .before .before .evaluated .ensures) (c .before .before .before .before .if1 .left) in
+    let st = state (a .session) (a .candidates .now) (a .plans .now) (a .next-dims .now) in
+    leaves-refused (a .session) (a .candidates .now) (a .plans .now) (a .next-dims .now) d (a .plan) (a .history .now) 11 (a .session) (a .candidates .now) _ (c .refused .ensures) refl
+    (refused-11 st d (a .plan) (a .history .now) (and-not _ _ (active-discovers st (a .plan) i)) (s .pre .0 .few) b (s .pre .0 .room) (sym (c .before .before .full .ensures) ∙ c .before .if2 .taken))
 
 sample-from-candidate-requires : tie.Need-sample-from-candidate-requires
 sample-from-candidate-requires c κs =
@@ -66,7 +65,7 @@ sample-from-candidate-requires c κs =
       l .words,
       l .plans,
       l .next,
-      not-full (a .session) (a .candidates .now) (a .plans .now) (a .next-dims .now) unused (a .plan) [] (sym (c .before .before .before .before .full .ensures) ∙ c .before .before .before .if2 .left),
+      room-left (a .session .progress .«n_plans») _ (sym (c .before .before .before .before .full .ensures) ∙ c .before .before .before .if2 .left),
     )
 
 same-length-5 : tie.Need-same-length-5
@@ -83,11 +82,12 @@ returns-3 c d =
     let s = c .before .before .before .before .before .before .before .before .before .before .before .before .before .before .before .before .before .before .before .before .before .before in
     let a = s .args in
     let i = ap pastDiscovery (s .pre .1) in
-    let b = breeds-by (a .session) (a .candidates .now) (a .plans .now) (a .next-dims .now) d (a .plan) (a .history .now) false i (sym (c .before .before .before .before .before .before .before .before .before .before .before .before .before .before .evaluated .ensures) ∙ c .before .before .before .before .before .before .before .before .before .before .before .before .before .if1 .left) in
-    let o = active-discovers (state (a .session) (a .candidates .now) (a .plans .now) (a .next-dims .now)) (a .plan) i in
-    c .before .before .before .before .before .before .sample-from-candidate .ensures
-    ∙ leaves-accepted (a .session) (a .candidates .now) (a .plans .now) (a .next-dims .now) d (a .plan) (a .history .now) _
-    (unbred-none (a .session) (a .candidates .now) (a .plans .now) (a .next-dims .now) d (a .plan) (a .history .now) o (s .pre .0 .few) (s .pre .0 .room) b (not-full (a .session) (a .candidates .now) (a .plans .now) (a .next-dims .now) d (a .plan) (a .history .now) (sym (c .before .before .before .before .before .before .before .before .before .before .before .full .ensures) ∙ c .before .before .before .before .before .before .before .before .before .before .if2 .left)))
+    let b = breeds-by (a .session) (a .candidates .now) (a .plans .now) (a .next-dims .now) d (a .plan) (a .history .now) _ false i (c .before .before .before .before .before .before .before .before .before .before .before .before .before .before .evaluated .ensures) (c .before .before .before .before .before .before .before .before .before .before .before .before .before .if1 .left) in
+    let st = state (a .session) (a .candidates .now) (a .plans .now) (a .next-dims .now) in
+    let o = active-discovers st (a .plan) i in
+    leaves-accepted (a .session) (a .candidates .now) (a .plans .now) (a .next-dims .now) d (a .plan) (a .history .now) _ _ (c .before .before .before .before .before .before .sample-from-candidate .ensures)
+    (not-refused st d (a .plan) (a .history .now) (and-not _ _ o) (s .pre .0 .few) b (s .pre .0 .room)
+    (room-left (a .session .progress .«n_plans») _ (sym (c .before .before .before .before .before .before .before .before .before .before .before .full .ensures) ∙ c .before .before .before .before .before .before .before .before .before .before .if2 .left)))
     (active-accepted (a .session) (a .candidates .now) (a .plans .now) (a .next-dims .now) d (a .plan) (a .history .now) o i b)
 
 pub sample-active-spec : {M : Type 1} → statement M

@@ -1,17 +1,15 @@
 -- breeding's answer tells whether the call was refused
-use mathlib.Core.Path.{_≡_, refl, ap, _∙_}
+use mathlib.Core.Path.{_≡_, refl, _∙_}
 use lib.ListN.{length}
-use Rattle.model.specs.declared.Sampled.{Sampled}
-use Rattle.model.specs.Session.{State, state, sampleFromCandidate}
-use Rattle.session_parts.specs.Exits.{exit, settled}
+use Rattle.model.specs.Session.{state}
 use mathlib.Core.List.{[]}
 use native.Mathlib.Nat.{le-refl}
-use Rattle.session_laws.proofs.Request.{breeds-active, active-discovers}
+use Rattle.list_laws.proofs.Bools.{and-not}
+use Rattle.session_laws.proofs.Request.{breeds-active, active-discovers, breed-refusal}
 use Rattle.session_laws.proofs.Steps.{long}
 use Rattle.session_laws.proofs.Sample.{active-phase}
-use Rattle.session_breeding.specs.Breeding.{breedRefusal}
-use Rattle.session_active.proofs.Refusals.{leaves-accepted}
-use Rattle.session_active.proofs.Ways.{unused, without-next, evaluated-without, ready-active, ready-bred, kept-tells, refused-tells, call-refusal, leaves-same, bred-accepted}
+use Rattle.session_laws.specs.Refused.{breedRefusal}
+use Rattle.session_active.proofs.Ways.{unused, without-next, evaluated-without, ready-active, ready-bred, kept-tells, refused-tells, leaves-refused, leaves-taken, bred-accepted}
 use native.Mathlib.Omega.{arith}
 use borrow.Author.Needs.{needs}
 use Rattle.session_active.proofs.sample_bred.Statement.{statement}
@@ -61,13 +59,12 @@ returns c d =
     let s = c .before .before .before .before .before .before .before .before .before .before .before .before .before .before .before .before in
     let a = s .args in
     let st = state (a .session) (a .candidates .now) (a .plans .now) (a .next-dims .now) in
-    let l = long st (s .pre .0 .room) in
+    let i = breeds-active st (a .history .now) (s .pre .1) in
     let b = c .before .before .before .before .before .before .before .before .breed in
     let told = c .before .before .outcome .given in
     let k = refused-tells (a .session) (a .candidates .now) (a .plans .now) (a .next-dims .now) d (a .plan) (a .history .now) (breedRefusal st (a .history .now)) _ (told .0 .0) _ (b .ensures (a .next-dims .now)) (told .1) in
-    ap (λ (r : Sampled). exit r (b .last .1 .1 .1 .1 .0) (a .plans .now) (a .next-dims .now)) (c .refused .ensures)
-    ∙ leaves-same (a .session) (a .candidates .now) (a .plans .now) (a .next-dims .now) d (a .plan) (a .history .now) (told .0 .0) _ _
-    (call-refusal (a .session) (a .candidates .now) (a .plans .now) (a .next-dims .now) d (a .plan) (a .history .now) (s .pre .0 .ok) (s .pre .1) (s .pre .0 .room) (s .pre .0 .few) (l .words) ∙ k .0) (k .1)
+    leaves-refused (a .session) (a .candidates .now) (a .plans .now) (a .next-dims .now) d (a .plan) (a .history .now) (told .0 .0) _ _ _ (c .refused .ensures) (k .1)
+    (breed-refusal st d (a .plan) (a .history .now) (and-not _ _ (active-discovers st (a .plan) i)) (s .pre .0 .few) (s .pre .1) (s .pre .0 .room) ∙ k .0)
 
 same-length-3 : tie.Need-same-length-3
 same-length-3 c = c .before .before .before .before .before .before .sample-from-candidate .kept .1 .1 .0 ∙ c .before .before .before .before .before .before .before .before .before .before .before .before .before .before .before .before .breed .kept .1 .1 .1 .1 .0
@@ -83,15 +80,12 @@ returns-2 c d =
     let s = c .before .before .before .before .before .before .before .before .before .before .before .before .before .before .before .before .before .before .before .before .before .before .before .before in
     let a = s .args in
     let st = state (a .session) (a .candidates .now) (a .plans .now) (a .next-dims .now) in
-    let l = long st (s .pre .0 .room) in
     let b = c .before .before .before .before .before .before .before .before .before .before .before .before .before .before .before .before .breed in
     let told = c .before .before .before .before .before .before .before .before .before .before .enum-told .given in
     let k = kept-tells (a .session) (a .candidates .now) (a .plans .now) (a .next-dims .now) d (a .plan) (a .history .now) (breedRefusal st (a .history .now)) _ (told .0 .0) _ (b .ensures (a .next-dims .now)) (told .1) in
     let i = breeds-active st (a .history .now) (s .pre .1) in
-    c .before .before .before .before .before .before .sample-from-candidate .ensures
-    ∙ ap (λ (x : State). settled (sampleFromCandidate x (a .plan))) (k .1)
-    ∙ leaves-accepted (a .session) (a .candidates .now) (a .plans .now) (a .next-dims .now) d (a .plan) (a .history .now) _
-    (call-refusal (a .session) (a .candidates .now) (a .plans .now) (a .next-dims .now) d (a .plan) (a .history .now) (s .pre .0 .ok) (s .pre .1) (s .pre .0 .room) (s .pre .0 .few) (l .words) ∙ k .0)
+    leaves-taken (a .session) (a .candidates .now) (a .plans .now) (a .next-dims .now) d (a .plan) (a .history .now) _ _ _ (c .before .before .before .before .before .before .sample-from-candidate .ensures) (k .1)
+    (breed-refusal st d (a .plan) (a .history .now) (and-not _ _ (active-discovers st (a .plan) i)) (s .pre .0 .few) (s .pre .1) (s .pre .0 .room) ∙ k .0)
     (bred-accepted (a .session) (a .candidates .now) (a .plans .now) (a .next-dims .now) d (a .plan) (a .history .now) (active-discovers st (a .plan) i) i (s .pre .1))
 
 pub sample-bred-spec : {M : Type 1} → statement M

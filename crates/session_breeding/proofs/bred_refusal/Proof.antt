@@ -3,7 +3,7 @@ use Prim.Native.Nat.{_*_, _≤_}
 use mathlib.Core.List.{[]}
 use mathlib.Core.Path.{refl, sym}
 use lib.Seq.{length-take-le}
-use Rattle.session_breeding.proofs.Breeding.{ideal-room, evaluated-stand, evaluated-plans, short-refused, short-good}
+use Rattle.session_breeding.proofs.Breeding.{ideal-room, evaluated-stand, evaluated-plans, short-is}
 use native.Mathlib.Omega.{arith}
 use borrow.Author.Needs.{needs}
 use Rattle.session_breeding.proofs.bred_refusal.Statement.{statement}
@@ -53,13 +53,13 @@ returns c =
     let s = c .before .before .before .before .before .before .before .before .before .before .before .before .before .before .before .before .before .before in
     let a = s .args in
     let told = c .before .check .given in
-    short-refused (a .session) [] (a .plans .now) (a .history .now) (s .pre .0) _ _ (c .before .before .before .before .before .before .before .before .gather .ensures) _ (c .before .before .before .refusal .ensures) (told .0 .0) (told .1)
+    short-is (a .session) [] (a .plans .now) (a .history .now) (s .pre .0) _ _ (c .before .before .before .before .before .before .before .before .gather .ensures) _ (c .before .before .before .refusal .ensures) _ (told .1)
 
 returns-2 : tie.Need-returns-2
 returns-2 c =
     let s = c .before .before .before .before .before .before .before .before .before .before .before .before .before .before .before .before .before in
     let a = s .args in
-    short-good (a .session) [] (a .plans .now) (a .history .now) (s .pre .0) _ _ (c .before .before .before .before .before .before .before .gather .ensures) _ (c .before .before .refusal .ensures) (c .enum-told .given .1)
+    short-is (a .session) [] (a .plans .now) (a .history .now) (s .pre .0) _ _ (c .before .before .before .before .before .before .before .gather .ensures) _ (c .before .before .refusal .ensures) _ (c .enum-told .given .1)
 
 pub bred-refusal-spec : {M : Type 1} → statement M
 bred-refusal-spec =

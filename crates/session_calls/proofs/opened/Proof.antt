@@ -1,11 +1,10 @@
 -- `opened`. Assumes nothing.
-use borrow.Author.Needs.{needs}
 use Rattle.session_calls.proofs.Property.{usable}
 use Rattle.session_calls.proofs.opened.Statement.{statement}
 use Rattle.session_calls.proofs.opened.Tie as tie
 
 open-requires : tie.Need-open-requires
-open-requires c κs = search needs
+open-requires c κs = tt
 
 returns : tie.Need-returns
 returns c = usable _ _ _ _ _ _ _ (c .«open» .result) (c .«open» .ensures)

@@ -1,6 +1,6 @@
 -- `fill`. Assumes nothing.
 use Prim.Native.Nat.{_-_, _≤_}
-use borrow.Author.Needs.{needs}
+use native.Mathlib.Omega.{arith}
 use Rattle.model.specs.Session.{state}
 use Rattle.model.specs.Property.{SessionOk}
 use Rattle.session_main.proofs.fill.Statement.{statement}
@@ -13,28 +13,29 @@ abbrev μ-loop : tie.MeasureT-loop
 μ-loop history candidates₀ plans₀ next-dims₀ now₀ i₀ candidates plans next-dims now i = 6 - i
 
 put-records-requires : tie.Need-put-records-requires Inv-loop μ-loop
-put-records-requires c κs = search needs
+put-records-requires c κs = tt
 
 loop-holds : tie.Need-loop-holds Inv-loop μ-loop
-loop-holds c = (search needs, c .before .before .pre _ _ _)
+loop-holds c = (omega arith, c .before .before .pre _ _ _)
 
 asked-of-requires : tie.Need-asked-of-requires Inv-loop μ-loop
-asked-of-requires c κs = search needs
+asked-of-requires c κs = tt
 
 ask-requires : tie.Need-ask-requires Inv-loop μ-loop
-ask-requires c κs = search needs
+ask-requires c κs =
+    (c .before .before .before .before .before .before .loop .inv .1, omega (arith, c .before .before .before .before .asked-of .ensures))
 
 add-i : tie.Need-add-i Inv-loop μ-loop
-add-i c = search needs
+add-i c = omega arith
 
 loop-less : tie.Need-loop-less Inv-loop μ-loop
-loop-less c = search needs
+loop-less c = omega arith
 
 loop-again : tie.Need-loop-again Inv-loop μ-loop
-loop-again c = search needs
+loop-again c = (omega arith, c .ask .ensures)
 
 returns : tie.Need-returns Inv-loop μ-loop
-returns c = search needs
+returns c = tt
 
 pub fill-spec : {M : Type 1} → statement M
 fill-spec =

@@ -7,13 +7,16 @@ use Rattle.session_parts.proofs.activate.Tie as tie
 sample-candidates-requires : tie.Need-sample-candidates-requires
 sample-candidates-requires c κs = search needs
 
+renewed-requires : tie.Need-renewed-requires
+renewed-requires c κs = tt
+
 same-length : tie.Need-same-length
 same-length c = search needs
 
 returns : tie.Need-returns
 returns c ps ns =
-    let r = c .before .before .before .sample-candidates in
-    activate-is _ _ _ ps ns _ (r .ensures .0) (r .ensures .1)
+    let r = c .before .before .before .before .sample-candidates in
+    activate-is _ _ _ _ ps ns _ (c .renewed .ensures) (r .ensures .0) (r .ensures .1)
 
 pub activate-spec : {M : Type 1} → statement M
-activate-spec = tie.close (tie.spec sample-candidates-requires same-length returns)
+activate-spec = tie.close (tie.spec sample-candidates-requires renewed-requires same-length returns)

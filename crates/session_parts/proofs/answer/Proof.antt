@@ -1,7 +1,6 @@
 -- the setting is its candidate's, or drawn from the last dimension
 use Prim.Native.Nat.{_-_}
-use lib.ListN.{length}
-use Rattle.settings.proofs.Valid.{each}
+use Rattle.settings.proofs.Valid.{few, each}
 use Rattle.session_parts.proofs.States.{fits-more, answer-stored, answer-drawn}
 use native.Mathlib.Omega.{arith}
 use borrow.Author.Needs.{needs}
@@ -15,10 +14,10 @@ slice-read-d : tie.Need-slice-read-d
 slice-read-d c = search needs
 
 mul-info : tie.Need-mul-info
-mul-info c = omega (arith, c .before .before .before .before .before .before .pre .0 .few)
+mul-info c = omega (arith, few _ _ (c .before .before .before .before .before .before .pre .0 .dims))
 
 array-copy-out-info : tie.Need-array-copy-out-info
-array-copy-out-info c = omega (arith, c .before .before .before .before .before .before .pre .0 .few)
+array-copy-out-info c = omega (arith, few _ _ (c .before .before .before .before .before .before .pre .0 .dims))
 
 kind-of-dimension-requires : tie.Need-kind-of-dimension-requires
 kind-of-dimension-requires c κs = tt
@@ -26,25 +25,25 @@ kind-of-dimension-requires c κs = tt
 mul-of-word : tie.Need-mul-of-word
 mul-of-word c =
     let s = c .before .before .before .before .before .before .before .before in
-    let h = fits-more (s .args .i) (s .args .session .progress .«n_dims») (length (s .args .candidates .now)) (s .pre .1) (s .pre .0 .few) (s .pre .2) in
+    let h = fits-more (s .pre .1) (few _ _ (s .pre .0 .dims)) (s .pre .2) in
     record { fits = omega arith }
 
 add-of-word : tie.Need-add-of-word
 add-of-word c =
     let s = c .before .before .before .before .before .before .before .before in
-    let h = fits-more (s .args .i) (s .args .session .progress .«n_dims») (length (s .args .candidates .now)) (s .pre .1) (s .pre .0 .few) (s .pre .2) in
+    let h = fits-more (s .pre .1) (few _ _ (s .pre .0 .dims)) (s .pre .2) in
     record { fits = omega arith }
 
 mul-of-word-2 : tie.Need-mul-of-word-2
 mul-of-word-2 c =
     let s = c .before .before .before .before .before .before .before .before in
-    let h = fits-more (s .args .i) (s .args .session .progress .«n_dims») (length (s .args .candidates .now)) (s .pre .1) (s .pre .0 .few) (s .pre .2) in
+    let h = fits-more (s .pre .1) (few _ _ (s .pre .0 .dims)) (s .pre .2) in
     record { fits = omega arith }
 
 shared-slice-read-of-word : tie.Need-shared-slice-read-of-word
 shared-slice-read-of-word c =
     let s = c .before .before .before .before .before .before .before .before .before in
-    let h = fits-more (s .args .i) (s .args .session .progress .«n_dims») (length (s .args .candidates .now)) (s .pre .1) (s .pre .0 .few) (s .pre .2) in
+    let h = fits-more (s .pre .1) (few _ _ (s .pre .0 .dims)) (s .pre .2) in
     omega (arith, c .before .before .before .if1 .taken)
 
 of-word-requires : tie.Need-of-word-requires
@@ -69,10 +68,10 @@ sub-info : tie.Need-sub-info
 sub-info c = search needs
 
 mul-info-2 : tie.Need-mul-info-2
-mul-info-2 c = omega (arith, c .before .before .before .before .before .before .pre .0 .few)
+mul-info-2 c = omega (arith, few _ _ (c .before .before .before .before .before .before .pre .0 .dims))
 
 array-copy-out-info-2 : tie.Need-array-copy-out-info-2
-array-copy-out-info-2 c = omega (arith, c .before .before .before .before .before .before .pre .0 .few, c .before .before .before .before .before .before .pre .0 .some)
+array-copy-out-info-2 c = omega (arith, few _ _ (c .before .before .before .before .before .before .pre .0 .dims), c .before .before .before .before .before .before .pre .0 .some)
 
 sample-random-requires : tie.Need-sample-random-requires
 sample-random-requires c κs =

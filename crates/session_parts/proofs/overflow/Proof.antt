@@ -1,5 +1,4 @@
 -- the candidate is drawn, and laid behind the others
-use lib.ListN.{length}
 use Rattle.settings.proofs.Valid.{few}
 use Rattle.session_parts.proofs.States.{fits-more, overflow-is}
 use native.Mathlib.Omega.{arith}
@@ -13,13 +12,13 @@ sample-all-requires c κs = search needs
 mul-put-candidate : tie.Need-mul-put-candidate
 mul-put-candidate c =
     let s = c .before .before .before .before .before .before .before in
-    let h = fits-more (s .args .session .progress .«n_candidates») (s .args .session .progress .«n_dims») (length (s .args .candidates .now)) (s .pre .1) (few _ _ (s .pre .0)) (s .pre .2) in
+    let h = fits-more (s .pre .1) (few _ _ (s .pre .0)) (s .pre .2) in
     record { fits = omega arith }
 
 put-candidate-requires : tie.Need-put-candidate-requires
 put-candidate-requires c κs =
     let s = c .before .before .before .before .before .before .before .before in
-    (few _ _ (s .pre .0), fits-more (s .args .session .progress .«n_candidates») (s .args .session .progress .«n_dims») (length (s .args .candidates .now)) (s .pre .1) (few _ _ (s .pre .0)) (s .pre .2))
+    (few _ _ (s .pre .0), fits-more (s .pre .1) (few _ _ (s .pre .0)) (s .pre .2))
 
 add-t13 : tie.Need-add-t13
 add-t13 c = search needs

@@ -1,19 +1,17 @@
 -- the first i plans stand in history
 use Prim.Native.Nat.{ℕ, _-_, _≤_}
 use mathlib.Core.Path.{_≡_, sym, ap, ap₂, _∙_}
-use mathlib.Core.Bool.{Bool, true, _&&_}
-use lib.Dec.{leb, ltb}
+use mathlib.Core.Bool.{true}
+use lib.Dec.{ltb}
 use lib.ListN.{length}
 use borrow.Author.Tests.{lt-ltb, le-ltb, le-leb, lt-leb}
 use Rattle.model.specs.Lists.{allBelow}
+use Rattle.list_laws.proofs.Bools.{and-not}
 use Rattle.list_laws.proofs.Tests.{allBelow-none, allBelow-yes, allBelow-no}
-use Rattle.session_records.proofs.Records.{stands}
+use Rattle.session_records.proofs.Records.{stands, past}
 use native.Mathlib.Omega.{arith}
 use Rattle.session_records.proofs.evaluated.Statement.{statement}
 use Rattle.session_records.proofs.evaluated.Tie as tie
-
-all-three : {a b c d : Bool} → a ≡ true → b ≡ true → c ≡ d → (a && (b && c)) ≡ d
-all-three e f g = rw (e, f) g
 
 abbrev Inv-loop : tie.InvT-loop
 Inv-loop history plans n-plans size n i₀ i = (i ≤ size) × (allBelow (stands history plans) i ≡ true)
@@ -22,15 +20,12 @@ abbrev μ-loop : tie.MeasureT-loop
 μ-loop history plans n-plans size n i₀ i = size - i
 
 returns : tie.Need-returns Inv-loop μ-loop
-returns c =
-    let a = c .before .before .before .args in
-    sym (ap (λ (x : Bool). x && (leb (a .size) (length (a .plans .now)) && allBelow (stands (a .history .now) (a .plans .now)) (a .size))) (lt-leb (a .size) (a .n-plans) (c .if1 .taken)))
+returns c = sym (and-not _ _ (lt-leb _ (c .before .before .before .args .n-plans) (c .if1 .taken)))
 
 returns-2 : tie.Need-returns-2 Inv-loop μ-loop
 returns-2 c =
     let a = c .before .before .before .before .args in
-    sym (ap₂ (λ (x y : Bool). x && (y && allBelow (stands (a .history .now) (a .plans .now)) (a .size)))
-    (le-leb (a .size) (a .n-plans) (c .before .if1 .left)) (lt-leb (a .size) (length (a .plans .now)) (c .if2 .taken)))
+    sym (past (le-leb (a .size) (a .n-plans) (c .before .if1 .left)) (and-not _ _ (lt-leb (a .size) (length (a .plans .now)) (c .if2 .taken))))
 
 plan-count-requires : tie.Need-plan-count-requires Inv-loop μ-loop
 plan-count-requires c κs = tt
@@ -68,18 +63,18 @@ returns-3 c =
     let e = c .before .record-of .ensures in
     let n = c .before .before .before .before .before .plan-count .ensures in
     let t = c .before .before .before .loop-test .taken in
-    sym (all-three (le-leb (a .size) (a .n-plans) (c .before .before .before .before .before .before .before .if1 .left))
-    (le-leb (a .size) (length (a .plans .now)) (c .before .before .before .before .before .before .if2 .left))
-    (allBelow-no (stands (a .history .now) (a .plans .now)) (a .size) (l .i) t (sym (ap₂ (λ (x y : ℕ). ltb x y) e n) ∙ le-ltb _ _ (c .if3 .left))))
+    sym (past (le-leb (a .size) (a .n-plans) (c .before .before .before .before .before .before .before .if1 .left))
+    (past (le-leb (a .size) (length (a .plans .now)) (c .before .before .before .before .before .before .if2 .left))
+    (allBelow-no (stands (a .history .now) (a .plans .now)) (a .size) (l .i) t (sym (ap₂ (λ (x y : ℕ). ltb x y) e n) ∙ le-ltb _ _ (c .if3 .left)))))
 
 returns-4 : tie.Need-returns-4 Inv-loop μ-loop
 returns-4 c =
     let l = c .before .loop in
     let a = c .before .before .before .before .before .before .before .args in
     let e : l .i ≡ a .size = omega arith in
-    sym (all-three (le-leb (a .size) (a .n-plans) (c .before .before .before .before .if1 .left))
-    (le-leb (a .size) (length (a .plans .now)) (c .before .before .before .if2 .left))
-    (ap (allBelow (stands (a .history .now) (a .plans .now))) (sym e) ∙ l .inv .1))
+    sym (past (le-leb (a .size) (a .n-plans) (c .before .before .before .before .if1 .left))
+    (past (le-leb (a .size) (length (a .plans .now)) (c .before .before .before .if2 .left))
+    (ap (allBelow (stands (a .history .now) (a .plans .now))) (sym e) ∙ l .inv .1)))
 
 pub evaluated-spec : {M : Type 1} → statement M
 evaluated-spec =

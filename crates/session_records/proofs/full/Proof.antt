@@ -1,16 +1,14 @@
 -- a plan is new where its place is past the others
-use mathlib.Core.Path.{sym, ap, ap₂}
-use mathlib.Core.Bool.{Bool, not, _&&_}
+use mathlib.Core.Path.{sym}
 use borrow.Author.Tests.{le-leb, lt-leb}
-use lib.ListN.{take}
-use Rattle.model.specs.Lists.{has}
-use Rattle.session_records.proofs.Records.{is-new-by}
+use Rattle.list_laws.proofs.Bools.{and-not}
+use Rattle.session_records.proofs.Records.{is-new-by, past}
 use borrow.Author.Needs.{needs}
 use Rattle.session_records.proofs.full.Statement.{statement}
 use Rattle.session_records.proofs.full.Tie as tie
 
 returns : tie.Need-returns
-returns c = sym (ap (λ (x : Bool). x && not (has (take (c .before .before .args .n) (c .before .before .args .plans .now)) (c .before .before .args .plan))) (lt-leb 2048 _ (c .if1 .taken)))
+returns c = sym (and-not _ _ (lt-leb 2048 _ (c .if1 .taken)))
 
 place-in-requires : tie.Need-place-in-requires
 place-in-requires c κs = search needs
@@ -19,7 +17,7 @@ returns-2 : tie.Need-returns-2
 returns-2 c =
     let s = c .before .before .before in
     let a = s .args in
-    sym (ap₂ (λ (x y : Bool). x && y) (le-leb 2048 _ (c .before .if1 .left)) (is-new-by (a .plans .now) (a .n) (a .plan) (c .place-in .result) (s .pre) (c .place-in .ensures)))
+    sym (past (le-leb 2048 _ (c .before .if1 .left)) (is-new-by (a .plans .now) (a .n) (a .plan) (c .place-in .result) (s .pre) (c .place-in .ensures)))
 
 pub full-spec : {M : Type 1} → statement M
 full-spec = tie.close (tie.spec returns place-in-requires returns-2)
