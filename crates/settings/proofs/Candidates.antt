@@ -1,12 +1,13 @@
 -- A candidate that is filled place by place.
 use mathlib.Core.Path.{_≡_, refl, sym, ap, ap₂, _∙_}
 use mathlib.Core.List.{List, [], _∷_, _++_}
-use Prim.Native.Nat.{ℕ, suc, _+_, _<_, _≤_}
-use native.Mathlib.Omega.{arith}
+use Prim.Native.Nat.{ℕ, _+_, _<_}
+use native.Mathlib.Nat.{ne-of-lt}
 use native.Mathlib.Numerals.{add-one}
 use lib.ListN.{length, getD, set}
 use lib.Seq.{getD-set-same, getD-set-other}
 use Rattle.list_laws.proofs.Built.{listBelow-none, listBelow-more, listBelow-same}
+use Rattle.model.specs.Lists.{listBelow}
 use Rattle.model.specs.declared.Distribution.{Distribution}
 use Rattle.model.specs.declared.ParamValue.{ParamValue}
 use Rattle.model.specs.Draw.{Drawn, drawn}
@@ -14,21 +15,30 @@ use Rattle.model.specs.Setting.{sampleRandom, sampleAll}
 use Rattle.settings.specs.declared.Slot.{Slot}
 use Rattle.settings.specs.Candidate.{noSlot, slotOf, settingsOf}
 
+-- ---- laws of filling
+
+-- one place more of an array, each entry read by f
+pub filled-more : {A B : Type 0} (f : A → B) (z : A) (a : List A) (i : ℕ) (x : A) → i < length a → listBelow (λ t. f (getD (set a i x) t z)) (i + 1) ≡ listBelow (λ t. f (getD a t z)) i ++ (f x ∷ [])
+filled-more f z a i x h =
+    listBelow-more (λ t. f (getD (set a i x) t z)) i
+    ∙ ap₂ (λ l b. l ++ (b ∷ [])) (listBelow-same _ _ i (λ t l. ap f (getD-set-other a i t x z (ne-of-lt l)))) (ap f (getD-set-same a i x z h))
+
+-- two draws in turn, and what is made of both values: the second starts at the state that the first left
+pub drawn-more : {A B C : Type 0} (join : A → B → C) (next : ℕ → Drawn B) {c : Drawn A} {a : A} {t : ℕ} {b : B} {u : ℕ} → drawn a t ≡ c → drawn b u ≡ next t
+    → drawn (join a b) u ≡ drawn (join (c .value) (next (c .state) .value)) (next (c .state) .state)
+drawn-more {A} {B} join next {c} {a} e f =
+    ap (λ (d : Drawn B). drawn (join a (d .value)) (d .state)) f
+    ∙ ap (λ (d : Drawn A). drawn (join (d .value) (next (d .state) .value)) (next (d .state) .state)) e
+
+-- ---- a candidate
+
 pub settings-none : (params : List Slot) → settingsOf params 0 ≡ []
 unfolding settingsOf
 settings-none params = listBelow-none (slotOf params)
 
-pub less : (i t : ℕ) → t < i → t ≡ i → ⊥
-less i t l e = omega arith
-
--- one place more
 pub settings-more : (params : List Slot) (i : ℕ) (v : ParamValue) → i < length params → settingsOf (set params i (record { value = v })) (i + 1) ≡ settingsOf params i ++ (v ∷ [])
 unfolding settingsOf
-settings-more params i v h =
-    listBelow-more (slotOf (set params i (record { value = v }))) i
-    ∙ ap₂ (λ a b. a ++ (b ∷ []))
-    (listBelow-same _ _ i (λ t l. ap (λ (s : Slot). s .value) (getD-set-other params i t (record { value = v }) noSlot (less i t l))))
-    (ap (λ (s : Slot). s .value) (getD-set-same params i (record { value = v }) noSlot h))
+settings-more params i v h = filled-more (λ (s : Slot). s .value) noSlot params i (record { value = v }) h
 
 pub sampleAll-none : (dims : ℕ → Distribution) (s : ℕ) → sampleAll dims 0 s ≡ drawn [] s
 unfolding sampleAll
@@ -37,7 +47,4 @@ sampleAll-none dims s = refl
 pub sampleAll-more : (dims : ℕ → Distribution) (n s : ℕ) (l : List ParamValue) (t : ℕ) (v : ParamValue) (u : ℕ) → drawn l t ≡ sampleAll dims n s → drawn v u ≡ sampleRandom (dims n) t
     → drawn (l ++ (v ∷ [])) u ≡ sampleAll dims (n + 1) s
 unfolding sampleAll
-sampleAll-more dims n s l t v u e f =
-    ap (λ (d : Drawn ParamValue). drawn (l ++ (d .value ∷ [])) (d .state)) f
-    ∙ ap (λ (c : Drawn (List ParamValue)). drawn (c .value ++ (sampleRandom (dims n) (c .state) .value ∷ [])) (sampleRandom (dims n) (c .state) .state)) e
-    ∙ ap (λ (k : ℕ). sampleAll dims k s) (sym (add-one n))
+sampleAll-more dims n s l t v u e f = drawn-more (λ a b. a ++ (b ∷ [])) (sampleRandom (dims n)) e f ∙ ap (λ (k : ℕ). sampleAll dims k s) (sym (add-one n))
