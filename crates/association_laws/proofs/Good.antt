@@ -1,14 +1,14 @@
 -- A pool that refusal 8 lets pass is measured: its values and its ideal are doubles within 2 ^ 1000.
 use Prim.Native.Nat.{ℕ, _+_, _≤_, _<_, min}
-use mathlib.Core.Path.{_≡_, refl, ap, sym, subst, _∙_}
-use mathlib.Core.Bool.{Bool, true, false, not, _&&_, _||_, true≢false}
+use mathlib.Core.Path.{_≡_, ap, sym, subst, _∙_}
+use mathlib.Core.Bool.{true, false, _&&_, _||_, true≢false}
 use mathlib.Core.List.{List}
 use native.Mathlib.Omega.{arith}
 use borrow.Author.Tests.{eqb-true, not-false}
 use lib.Dec.{T, eqb, leb}
-use lib.Ieee.{Float, nan, inf, fin, binary64, ofBits, fits, le, eq, neg}
+use lib.Ieee.{Float, nan, inf, fin, binary64, ofBits, fits, le, eq}
 use lib.Ieee.Bits.{ofBits-fits}
-use lib.Ieee.Fits.{neg-fits, and-l, and-r}
+use lib.Ieee.Fits.{and-l, and-r}
 use lib.ListN.{length, getD}
 use Rattle.model.specs.declared.Direction.{Direction}
 use Rattle.model.specs.declared.Direction.the-variants.{Minimize, Maximize}
@@ -21,13 +21,13 @@ use Rattle.model.specs.Refusal.{measurable, isInfinity, goodPlan, goodIdeal, ba
 use Rattle.list_laws.proofs.Bools.{by-bool, true-T, and-left, and-right}
 use Rattle.list_laws.proofs.Built.{listBelow-length, listBelow-at}
 use Rattle.list_laws.proofs.Tests.{allIn-each, allBelow-each}
-use Rattle.float_laws.proofs.Rounding.{le-neg}
 use Rattle.float_laws.proofs.Constants.{exp2, minus-exp2}
-use Rattle.association_laws.proofs.Within.{Real, Start, Measured}
+use Rattle.float_laws.proofs.Magnitude.{Within, neg-within}
+use Rattle.association_laws.proofs.Within.{Start, Measured}
 
 -- ---- a value
 
-real-of : (x : Float) → T (fits binary64 x) → measurable x ≡ true → Real x
+real-of : (x : Float) → T (fits binary64 x) → measurable x ≡ true → Within 1000 x
 unfolding measurable ofBits
 real-of x h e = let t = true-T (le (minus-exp2 1000) x && le x (exp2 1000)) e in record {
   held = h;
@@ -35,17 +35,9 @@ real-of x h e = let t = true-T (le (minus-exp2 1000) x && le x (exp2 1000)) e in
   high = and-r (le (minus-exp2 1000) x) (le x (exp2 1000)) t;
 }
 
-real-neg : (x : Float) → Real x → Real (neg x)
-unfolding neg
-real-neg x h = record {
-  held = neg-fits binary64 x (h .held);
-  low = le-neg x (exp2 1000) (h .high);
-  high = le-neg (minus-exp2 1000) x (h .low);
-}
-
-real-toMinimize : (d : Direction) (x : Float) → Real x → Real (toMinimize d x)
+real-toMinimize : (d : Direction) (x : Float) → Within 1000 x → Within 1000 (toMinimize d x)
 real-toMinimize Minimize x h = h
-real-toMinimize Maximize x h = real-neg x h
+real-toMinimize Maximize x h = neg-within 1000 x h
 
 -- ---- an entry of the ideal
 
@@ -81,7 +73,7 @@ words-fit m word h e =
       held = λ j l. rw (listBelow-at (λ j. real (word (2 + j))) (min (word 1) maxValues) nan j (omega arith)) (ofBits-fits binary64 (word (2 + j)));
     }
 
-pub fit-value : (marks : List ℕ) (m : ℕ) (plan : Plan) → Fit m plan → (j : ℕ) → j < m → Real (rowOf marks plan j)
+pub fit-value : (marks : List ℕ) (m : ℕ) (plan : Plan) → Fit m plan → (j : ℕ) → j < m → Within 1000 (rowOf marks plan j)
 unfolding rowOf goodPlan
 fit-value marks m plan h j l =
     let rest = and-right (eqb (plan .rowLength) m) (leb (plan .constraintCount) maxConstraints && (allIn measurable (plan .row) && allIn measurable (plan .constraints))) (h .good) in

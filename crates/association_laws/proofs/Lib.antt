@@ -8,6 +8,6 @@ pub mod Extremes
 pub mod Within
 pub mod Good
 pub mod Coordinates
-pub mod Distances
+pub mod Sums
 pub mod Squares
 pub mod Finite

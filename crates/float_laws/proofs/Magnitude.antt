@@ -1,25 +1,22 @@
 -- Magnitudes by powers of two, which keep a computation from overflowing: `Within k x` says that the double x is at most 2 ^ k in magnitude, so a number and no
--- NaN. A quotient by what is at least 2 ^ -i is within the sum of the exponents.
+-- NaN. A sum is within the next power, a product within the sum of the exponents, and so is a quotient by what is at least 2 ^ -i.
 -- Assumes nothing.
 use mathlib.Core.Path.{_≡_, sym, ap, _∙_, subst}
 use mathlib.Core.Logic.{_⊎_, inl, inr, ⊎-elim}
 use mathlib.Core.Bool.{true, false, not}
 use Prim.Native.Nat.{ℕ, suc, _+_, _-_, _*_, _^_, _≤_, _<_}
-use native.Mathlib.Nat.{le-trans, le-of-eq, mul-le-mul, mul-le-mul-left, mul-le-mul-right, add-mul, mul-assoc, mul-right-comm, mul-mul-mul-comm, mul-pos, one-mul, mul-one, zero-add, pow-suc}
+use native.Mathlib.Nat.{le-trans, le-of-eq, mul-le-mul, mul-le-mul-left, mul-le-mul-right, add-mul, mul-assoc, mul-right-comm, mul-mul-mul-comm, mul-pos, one-mul, zero-add, pow-suc}
 use native.Mathlib.Omega.{arith}
 use lib.Dec.{T, lt→ltb}
 use lib.IntN.{negsuc}
-use lib.Pow.{pow-add, pow-pos, pow-lt}
+use lib.Pow.{pow-add, pow-pos, pow-lt, pow-mono}
 use lib.Ieee.{Float, nan, inf, fin, binary64, fits, isNan, le, neg, add, sub, mul, div}
 use lib.Ieee.Fits.{neg-fits}
-use Rattle.float_laws.proofs.Units.{Number, Counts, counts-of, le→counts}
+use Rattle.float_laws.proofs.Units.{Number, Counts, counts-of, le→counts, counts→le}
 use Rattle.float_laws.proofs.Order.{le-not-nan, le-trans as le-trans-float}
-use Rattle.float_laws.proofs.Rounding.{Rounded, rounded-le, le-rounded, rounded-fits, le-neg, add-rounded, div-rounded}
-use Rattle.float_laws.proofs.Constants.{exp2, exp2-counts, minus-exp2, bounded}
+use Rattle.float_laws.proofs.Rounding.{Rounded, rounded-le, le-rounded, rounded-fits, le-neg, neg-counts, add-rounded, div-rounded}
+use Rattle.float_laws.proofs.Constants.{L, exp2, exp2-counts, minus-exp2, bounded}
 use Rattle.float_laws.proofs.Arithmetic.{mul-rounded}
-
-abbrev L : ℕ
-L = 2 ^ 1074
 
 pub record Within (k : ℕ) (x : Float) : Type 0 where
   pub held : T (fits binary64 x)
@@ -40,7 +37,18 @@ exp2-fits k h =
     less k h = omega arith
 
 minus-counts : (k : ℕ) → Counts binary64 (minus-exp2 k) 0 (2 ^ k * L)
-minus-counts k = (2 ^ k * L, ap (λ (x : ℕ). x * L) (one-mul (2 ^ k)) ∙ sym (mul-one (2 ^ k * L)), sym (zero-add (2 ^ k * L)))
+unfolding neg
+minus-counts k = neg-counts binary64 (exp2 k) (2 ^ k * L) 0 (exp2-counts k)
+
+-- they rise, and their negations fall
+pub exp2-mono : (j k : ℕ) → j ≤ k → T (le (minus-exp2 k) (minus-exp2 j)) × T (le (exp2 j) (exp2 k))
+unfolding neg
+exp2-mono j k h =
+    let a = counts→le binary64 (exp2 j) (exp2 k) (2 ^ j * L) 0 (2 ^ k * L) 0 (exp2-counts j) (exp2-counts k) (none (mul-le-mul-right L (pow-mono h))) in
+    (le-neg (exp2 j) (exp2 k) a, a)
+  where
+    none : {a b : ℕ} → a ≤ b → a + 0 ≤ b + 0
+    none h = omega arith
 
 -- ---- a rounding of what is at most 2 ^ k
 upper : (P N B c l : ℕ) → P ≤ B * c + N → P * l + 0 * c ≤ B * l * c + N * l
