@@ -168,3 +168,7 @@ countBelow-split f g (suc n) = omega (arith, countBelow-split f g n, halves (f n
     halves true true = refl
     halves true false = refl
     halves false b = refl
+
+-- one number that passes makes the count positive
+pub countBelow-at : (f : ℕ → Bool) (n k : ℕ) → k < n → f k ≡ true → 0 < countBelow f n
+countBelow-at f n k h e = omega (arith, countBelow-yes f k e, countBelow-up f (k + 1) n (omega arith))

@@ -11,8 +11,8 @@ use borrow.Author.Tests.{eq-eqb, ne-eqb, eqb-true, ltb-true, ltb-false}
 use lib.Dec.{eqb, ltb}
 use lib.ListN.{length, getD}
 use Rattle.model.specs.Lists.{one, countBelow, sumBelow, has, keep, tally, In, Distinct}
-use Rattle.list_laws.specs.Occ.{occ, AllUnder}
-use Rattle.list_laws.proofs.Bools.{by-bool, one-le}
+use Rattle.list_laws.specs.Occ.{occ, AllUnder, Below}
+use Rattle.list_laws.proofs.Bools.{by-bool, one-le, one-true}
 use Rattle.list_laws.proofs.Counts.{countBelow-sum, countBelow-same, sumBelow-same, sumBelow-add, sumBelow-zero, sumBelow-point}
 
 -- ---- tally: how many entries pass
@@ -327,3 +327,25 @@ different-places (x ∷ l) (Pairwise·cons a d) zero (suc j) h k e =
 different-places (x ∷ l) (Pairwise·cons a d) (suc i) zero h k e =
     absurd (a (getD l i 0) ∣ getD-in l i (omega arith) ∣₁ (sym e))
 different-places (x ∷ l) (Pairwise·cons a d) (suc i) (suc j) h k e = ap suc (different-places l d i j (omega arith) (omega arith) e)
+
+-- ---- Below: every entry is below n, said of the members
+
+pub under-below : (n : ℕ) (l : List ℕ) → AllUnder n l → Below n l
+under-below n l h q m = under-in n q l h (in-occ q l m)
+
+pub below-append : (n : ℕ) (s t : List ℕ) → Below n s → Below n t → Below n (s ++ t)
+below-append n s t h k q m = ⊎-elim (h q) (k q) (List·Memᴰ·append-cases s m)
+
+-- ---- a list with each number below n as often as a test says, and no other, as in `tally-below`: its members are those that pass, each once
+
+module _ (g : ℕ → Bool) (n : ℕ) (l : List ℕ) (a : AllUnder n l) (h : (q : ℕ) → q < n → occ q l ≡ one (g q)) where
+  pub exact-distinct : Distinct l
+  exact-distinct = occ-distinct l (λ q. by-bool (ltb q n)
+      (λ e. omega (arith, h q (ltb-true q n e), one-le (g q)))
+      (λ e. omega (arith, a q (ltb-false q n e))))
+
+  pub exact-passes : (q : ℕ) → In q l → g q ≡ true
+  exact-passes q m = one-true (g q) (omega (arith, h q (under-below n l a q m), in-occ q l m, one-le (g q)))
+
+  pub exact-in : (q : ℕ) → q < n → g q ≡ true → In q l
+  exact-in q u e = occ-in q l (omega (arith, h q u, ap one e))

@@ -5,9 +5,10 @@ use mathlib.Core.List.{List, [], _∷_, _++_, flatten, append-assoc, append-nil}
 use native.Mathlib.Nat.{not-suc-le-zero, zero-mul, suc-mul, mul-le-mul-right, mul-le-mul-left}
 use native.Mathlib.Omega.{arith}
 use lib.ListN.{length, getD, length-append, List·getD-append}
-use lib.Seq.{getD-append-add}
-use Rattle.model.specs.Lists.{listBelow, joinBelow}
-use Rattle.list_laws.proofs.Built.{listBelow-length, listBelow-at}
+use lib.Seq.{getD-append-add, sets}
+use Rattle.model.specs.Lists.{listBelow, joinBelow, over}
+use Rattle.list_laws.proofs.Built.{listBelow-length, listBelow-at, joinBelow-more}
+use Rattle.list_laws.proofs.Runs.{over-run}
 
 -- ---- rows of m entries
 
@@ -83,3 +84,7 @@ module _ {A : Type 0} where
     pub joinBelow-front : (rest : List A) (p j : ℕ) (d : A) → p < n → j < m → getD (joinBelow f n ++ rest) (p * m + j) d ≡ getD (f p) j d
     joinBelow-front rest p j d h g =
         List·getD-append (joinBelow f n) rest d (p * m + j) (omega (arith, row-lt p j n m h g, joinBelow-length)) ∙ joinBelow-at p j d h g
+
+    -- one row more stored behind those at a slice's front
+    pub joinBelow-run : (old : List A) → n * m + length (f n) ≤ length old → sets (over (joinBelow f n) old) (n * m) (f n) ≡ over (joinBelow f (n + 1)) old
+    joinBelow-run old h = over-run (joinBelow f n) (f n) old (n * m) joinBelow-length h ∙ ap (λ l. over l old) (sym (joinBelow-more f n))

@@ -1,11 +1,13 @@
 -- A run of stores: one more at its end, and what stands where afterwards.
-use Prim.Native.Nat.{ℕ, zero, suc, _+_, _≤_, _<_}
-use mathlib.Core.Path.{_≡_, refl, ap, sym, _∙_}
+use Prim.Native.Nat.{ℕ, zero, suc, _+_, _-_, _≤_, _<_}
+use mathlib.Core.Path.{_≡_, refl, ap, ap₂, sym, _∙_}
 use mathlib.Core.List.{List, [], _∷_, _++_}
 use native.Mathlib.Omega.{arith}
 use native.Mathlib.Nat.{suc-add, add-suc, add-zero}
-use lib.ListN.{length, getD, set, length-set}
-use lib.Seq.{sets, getD-set-other, getD-set-same}
+use lib.ListN.{length, getD, set, drop, length-set, length-append}
+use lib.Seq.{sets, sets-eq, getD-set-other, getD-set-same, drop-drop}
+use Rattle.model.specs.Lists.{listBelow, over}
+use Rattle.list_laws.proofs.Built.{listBelow-none, listBelow-more, listBelow-length, over-length, over-take, over-drop}
 
 pub sets-append : {A : Type 0} (l : List A) (i : ℕ) (s t : List A) → sets l i (s ++ t) ≡ sets (sets l i s) (i + length s) t
 sets-append l i [] t = ap (λ (k : ℕ). sets l k t) (sym (add-zero i))
@@ -33,3 +35,30 @@ in-run l i (x ∷ s) zero h g = rw add-zero (before-run (set l i x) (suc i) s i 
 in-run l i (x ∷ s) (suc k) h g =
     ap (λ (t : ℕ). getD (sets (set l i x) (suc i) s) t 0) (add-suc i k ∙ sym (suc-add i k))
     ∙ in-run (set l i x) (suc i) s k (omega arith) (simp length-set (omega arith))
+
+module _ {A : Type 0} where
+  -- a value more stored behind those that stand from `at` on
+  pub run-none : (f : ℕ → A) (l : List A) (at : ℕ) → l ≡ sets l at (listBelow f 0)
+  run-none f l at = ap (sets l at) (sym (listBelow-none f))
+
+  pub run-more : (f : ℕ → A) (l l₀ : List A) (at n : ℕ) (x : A) → l ≡ sets l₀ at (listBelow f n) → x ≡ f n
+      → set l (at + n) x ≡ sets l₀ at (listBelow f (n + 1))
+  run-more f l l₀ at n x e v =
+      ap₂ (λ t y. set t (at + n) y) e v
+      ∙ ap (λ k. set (sets l₀ at (listBelow f n)) (at + k) (f n)) (sym (listBelow-length f n))
+      ∙ sym (sets-append l₀ at (listBelow f n) (f n ∷ []))
+      ∙ ap (sets l₀ at) (sym (listBelow-more f n))
+
+  -- what agrees from place a on agrees from any later place on
+  pub drop-later : (a b : ℕ) (x y : List A) → a ≤ b → drop a x ≡ drop a y → drop b x ≡ drop b y
+  drop-later a b x y h e =
+      let s : b ≡ a + (b - a) = omega arith in
+      ap (λ t. drop t x) s ∙ sym (drop-drop (b - a) a x) ∙ ap (drop (b - a)) e ∙ drop-drop (b - a) a y ∙ ap (λ t. drop t y) (sym s)
+
+  -- a run behind what stands at a slice's front
+  pub over-run : (v s old : List A) (i : ℕ) → length v ≡ i → i + length s ≤ length old → sets (over v old) i s ≡ over (v ++ s) old
+  over-run v s old i e h =
+      let n : i + length s ≡ length (v ++ s) = omega (arith, length-append v s) in
+      sets-eq s (over v old) i (omega (arith, over-length v old (omega arith)))
+      ∙ ap₂ (λ a b. a ++ s ++ b) (over-take v old i e)
+      (drop-later i (i + length s) (over v old) old (omega arith) (over-drop v old i e) ∙ ap (λ t. drop t old) n)

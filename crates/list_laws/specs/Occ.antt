@@ -1,9 +1,9 @@
 -- How often a number stands in a list.
-use Prim.Native.Nat.{ℕ, _≤_}
+use Prim.Native.Nat.{ℕ, _≤_, _<_}
 use mathlib.Core.Path.{_≡_}
 use mathlib.Core.List.{List}
 use lib.Dec.{eqb}
-use Rattle.model.specs.Lists.{tally}
+use Rattle.model.specs.Lists.{tally, In}
 
 -- how often q stands in a list: "each exactly once" is then `occ q l ≡ one (test q)`, on which `omega` works
 unfoldable pub occ : ℕ → List ℕ → ℕ
@@ -12,3 +12,7 @@ occ q l = tally (λ x. eqb x q) l
 -- every entry of a list is below n
 abbrev pub AllUnder : ℕ → List ℕ → Type 0
 AllUnder n l = (q : ℕ) → n ≤ q → occ q l ≡ 0
+
+-- the same by its members
+abbrev pub Below : ℕ → List ℕ → Type 0
+Below n l = (q : ℕ) → In q l → q < n
