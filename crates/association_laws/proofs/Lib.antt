@@ -1,4 +1,3 @@
-pub mod Writes
 pub mod Steps
 pub mod Search
 pub mod Same
