@@ -7,6 +7,7 @@ use native.Mathlib.Omega.{arith}
 use lib.Dec.{T}
 use lib.IntN.{pos}
 use lib.Ieee.{Float, binary64, le, lt, add, ofInt, ofBits}
+use Rattle.float_laws.proofs.Order.{lt→le}
 use Rattle.float_laws.proofs.Constants.{nought}
 use Rattle.real_laws.proofs.Halves.{castable, Parted, parted}
 use Rattle.real.proofs.round_above_zero.Statement.{statement}
@@ -17,7 +18,7 @@ unfolding ofBits
 above c = c .pre .0
 
 truncating-f64-to-u64-requires : tie.Need-truncating-f64-to-u64-requires
-truncating-f64-to-u64-requires c κs = castable (c .args .x) (above c) (c .pre .1)
+truncating-f64-to-u64-requires c κs = castable (c .args .x) (lt→le _ _ (above c)) (lt→le _ _ (c .pre .1))
 
 -- what is known of the whole part
 known : (c : tie.After-truncating-f64-to-u64) → Parted (c .before .args .x) (c .truncating-f64-to-u64 .result)
