@@ -7,16 +7,16 @@ use native.Mathlib.Nat.{le-trans, le-of-eq, le-of-lt, mul-pos, zero-lt-suc, lt-o
 use native.Mathlib.Omega.{arith}
 use mathlib.Core.Bool.{Bool, true, false, not, true≢false}
 use lib.IntN.{ℤ}
-use lib.Dec.{T, leb, leb→le, nleb→lt, ltb→lt}
+use lib.Dec.{T, leb, leb→le, nleb→lt, ltb→lt, eqb→eq}
 use lib.Pow.{pow-add, pow-pos, pow-mono, shl-lt}
 use lib.Count.{leadingZeros}
-use lib.Ieee.{Float, nan, inf, fin, binary64, fits, le, lt}
+use lib.Ieee.{Float, nan, inf, fin, binary64, up, down, fits, le, lt}
 use lib.Ieee.Exact.{HasValue}
 use lib.Ieee.Fits.{odd-fits}
 use lib.Ieee.Digits.{back}
 use lib.Ieee.Scale.{finite}
 use lib.Ieee.Positive.{positive}
-use Rattle.float_laws.proofs.Units.{sle→le}
+use Rattle.float_laws.proofs.Units.{sle→le, zero-exponent}
 use Rattle.float_laws.proofs.Order.{lt→nle}
 use Rattle.float_laws.proofs.Rounding.{unsigned}
 use Rattle.float_laws.proofs.Constants.{nought}
@@ -172,6 +172,16 @@ lt-units v w g h a b l = lt-of-not-le (λ (k : h ≤ g). lt→nle v w l (sle→l
 
 pub from-zero : (m : ℕ) (e : ℤ) → T (fits binary64 (fin false m e)) → T (le nought (fin false m e))
 from-zero m e X = sle→le (2 ^ 1074) nought (fin false m e) false false 0 (m * 2 ^ shiftOf false m e X) (pow-pos 1074) (refl, refl) (counted false m e X) zero-le
+
+-- what is not from 0 up has no root
+pub no-root : (x : Float) → T (fits binary64 x) → (T (le nought x) → ⊥) → sqrtOf x ≡ nan
+unfolding sqrtOf fits le
+no-root nan X h = refl
+no-root (inf true) X h = refl
+no-root (inf false) X h = absurd (h tt)
+no-root (fin false m e) X h = absurd (h (from-zero m e X))
+no-root (fin true zero e) X h = absurd (h (subst (λ (d : ℤ). T (le nought (fin true 0 d))) (sym (zero-exponent e (eqb→eq (up e * down e) 1 X))) tt))
+no-root (fin true (suc m) e) X h = refl
 
 -- what the theorems say of the three counts
 abbrev pub Above : ℕ → ℕ → ℕ → Type 0
