@@ -4,19 +4,18 @@ use mathlib.Core.Path.{_≡_, refl, subst}
 use mathlib.Core.Bool.{true, false}
 use mathlib.Core.List.{List, [], append-assoc}
 use native.Mathlib.Omega.{arith}
-use lib.Dec.{leb}
 use lib.IntN.{pos}
 use lib.Ieee.{Float, le}
 use lib.ListN.{length, getD}
 use Rattle.list_laws.proofs.Bools.{by-bool}
-use Rattle.rng_util.proofs.Draws.{drawUsize-below}
 use Rattle.model.specs.declared.Distribution.{Distribution}
 use Rattle.model.specs.declared.ParamValue.{ParamValue}
 use Rattle.model.specs.Real.{_⊘_, unit}
-use Rattle.model.specs.Draw.{Drawn, drawUsize}
+use Rattle.model.specs.Draw.{Drawn}
 use Rattle.model.specs.Setting.{Pair, Children, validDimension, drawUnit, exponentOf, ofWhole, settingOf, crossoverRuns, crossOne, crossAll, crossover, mutateMaybe, mutateFirst, mutate, Operators, tournament, brood, broods, offspringOf}
 use Rattle.model.specs.Refusal.{badDimensions}
 use Rattle.settings.proofs.Valid.{each}
+use Rattle.settings.proofs.Candidates.{winner-below}
 use Rattle.settings.proofs.InBounds.{Held}
 use Rattle.variation_laws.proofs.Children.{Fit, BothFit, crossed-in-bounds, mutated-in-bounds}
 use Rattle.candidate_laws.specs.Bounds.{AllWithin}
@@ -60,14 +59,6 @@ module _ (dims : ℕ → Distribution) (n : ℕ) (h : AllHeld dims n) (b : badDi
       (λ j l. maybe-fit (unit ⊘ ofWhole (pos n)) (dims j) (settingOf c j) k (so-far j .state) (h j l) (each dims n b j l) (f .fits j l))
 
 -- ---- broods
-
--- the winner is one of the n
-pub winner-below : (ranks : ℕ → ℕ) (n s : ℕ) → 0 < n → tournament ranks n s .value < n
-unfolding tournament
-winner-below ranks n s h =
-    let a = drawUsize n s in
-    let b = drawUsize n (a .state) in
-    by-bool (leb (ranks (a .value)) (ranks (b .value))) (λ e. rw e (drawUsize-below n s h)) (λ e. rw e (drawUsize-below n (a .state) h))
 
 module _ (o : Operators) (h : AllHeld (o .dims) (o .dimCount)) (b : badDimensions (o .dims) (o .dimCount) ≡ false) (parents : List (List ParamValue)) (ranks : ℕ → ℕ) (count : ℕ)
     (some : 0 < count) (a : AllSound (o .dims) (o .dimCount) count parents) where
