@@ -2,7 +2,8 @@
 use lib.Ieee.{Float}
 use Rattle.model.specs.Real.{_⊕_, _⊖_, _⊗_, unit}
 use Rattle.model.specs.Numbers.{midpoint}
-use Rattle.real_variation.proofs.Sbx.{value-of, state-of, child-is}
+use Rattle.rng_util.proofs.Draws.{drawn-value, drawn-state}
+use Rattle.real_variation.proofs.Sbx.{child-is}
 use borrow.Author.Needs.{needs}
 use Rattle.real_variation.proofs.sbx_crossover_f64.Statement.{statement}
 use Rattle.real_variation.proofs.sbx_crossover_f64.Tie as tie
@@ -31,10 +32,10 @@ returns c =
     let d = m .before .before .before .f64-range in
     let a = m .before .before .before .before .args in
     let b = m .before .spread .ensures in
-    let v = value-of _ _ _ (d .ensures) in (
+    let v = drawn-value (d .ensures) in (
       child-is (λ (x : Float). midpoint ((unit ⊕ x) ⊗ a .p) ((unit ⊖ x) ⊗ a .q)) (a .low) (a .high) _ _ (a .k) (a .rng .s) _ _ b v (m .midpoint .ensures) (c .before .before .clamp .ensures),
       child-is (λ (x : Float). midpoint ((unit ⊖ x) ⊗ a .p) ((unit ⊕ x) ⊗ a .q)) (a .low) (a .high) _ _ (a .k) (a .rng .s) _ _ b v (c .before .midpoint2 .ensures) (c .clamp2 .ensures),
-      state-of _ _ _ (d .ensures),
+      drawn-state (d .ensures),
     )
 
 pub sbx-crossover-f64-spec : {M : Type 1} → statement M

@@ -1,5 +1,5 @@
 -- By cases on the distribution.
-use mathlib.Core.Path.{_≡_, sym, ap, _∙_}
+use mathlib.Core.Path.{sym, ap, _∙_}
 use Rattle.model.specs.declared.Distribution.{Distribution}
 use Rattle.model.specs.Setting.{validDimension, sampleRandom}
 use borrow.Author.Needs.{needs}
