@@ -11,7 +11,7 @@ use lib.Signed.{leZ, _≤ℤ_, leZ-yes}
 use lib.Pow.{pow-pos}
 use lib.Ieee.{Float, binary64, fits, isNan, ofBits, ofInt, add, sub, mul, div, le, lt}
 use lib.Ieee.Fits.{add-fits, sub-fits, mul-fits, ofInt-fits, round-fits}
-use Rattle.list_laws.proofs.Bools.{by-bool, T-true, true-T, false-T, and-left, and-right, and-both}
+use Rattle.list_laws.proofs.Bools.{by-bool, true-T, false-T, and-left, and-right}
 use Rattle.float_laws.proofs.Units.{Number, Counts}
 use Rattle.float_laws.proofs.Order as order
 use Rattle.float_laws.proofs.Rounding.{rounded-exact, le-rounded, add-rounded, sub-rounded, round-sle}
@@ -328,10 +328,6 @@ int-argument d n v b some =
     (whole-mono n (d .high) (leZ-yes (true-T _ (and-right (leZ (d .low) n) (leZ n (d .high)) b))))) some
 
 -- ---- what it is for
-
-pub argument-within : (v : Float) → RootArgument v → within nought (ofBits binary64 0x4320_0000_0000_0000) v ≡ true
-unfolding ofBits
-argument-within v a = and-both _ _ (T-true (le constants.nought v) (a .from)) (T-true (le v (exp2 51)) (a .to))
 
 -- "keeping P(lower) <= v < P(upper)" holds of each such v above 0, to the end
 pub root-keeps : (v : Float) (k : ℕ) → RootArgument v → T (lt constants.nought v) → T (le (P (R v k) k) v) × T (lt v (P (real (suc (halvings v k 63 .lower))) k))

@@ -1,7 +1,6 @@
 -- Candidates within their bounds whose doubles are doubles: crossover, mutation and words ask both. Built place by place, and candidate by candidate.
 use Prim.Native.Nat.{ℕ, zero, suc, _<_, _≤_}
 use mathlib.Core.Path.{_≡_, refl, sym, ap, _∙_, subst}
-use mathlib.Core.Bool.{true}
 use mathlib.Core.List.{List, [], _∷_, _++_}
 use mathlib.Core.Logic.{⊎-elim}
 use native.Mathlib.Nat.{not-suc-le-zero, eq-or-lt-of-le, le-of-suc-le-suc}
@@ -10,17 +9,14 @@ use lib.ListN.{length, getD, take, length-append, List·getD-append}
 use lib.Seq.{getD-at, getD-take, length-take-le}
 use Rattle.model.specs.declared.Distribution.{Distribution}
 use Rattle.model.specs.declared.ParamValue.{ParamValue}
-use Rattle.model.specs.Setting.{validDimension, noValue, settingOf}
+use Rattle.model.specs.Setting.{noValue, settingOf}
 use Rattle.settings.proofs.InBounds.{Held}
 use Rattle.variation_laws.proofs.Children.{Fit}
 use Rattle.candidate_laws.specs.Bounds.{Within, AllWithin}
 
--- the numbers of n dimensions are such as the machine holds; each dimension is valid
+-- the numbers of n dimensions are such as the machine holds
 abbrev pub AllHeld : (ℕ → Distribution) → ℕ → Type 0
 AllHeld dims n = (d : ℕ) → d < n → Held (dims d)
-
-abbrev pub AllValid : (ℕ → Distribution) → ℕ → Type 0
-AllValid dims n = (d : ℕ) → d < n → validDimension (dims d) ≡ true
 
 -- ---- places of a list that has one entry more
 

@@ -1,12 +1,12 @@
 -- Candidates as words: where a setting lies, that it is read back, and that words of candidates within their bounds are within them.
-use Prim.Native.Nat.{ℕ, zero, suc, _+_, _*_, _<_, _≤_}
+use Prim.Native.Nat.{ℕ, _+_, _*_, _<_, _≤_}
 use mathlib.Core.Path.{_≡_, refl, sym, ap, _∙_}
 use mathlib.Core.Bool.{true, false, true≢false}
 use mathlib.Core.List.{List, [], _∷_, _++_, map, flatten}
 use mathlib.Core.Logic.{⊎-elim}
-use native.Mathlib.Nat.{eq-or-lt-of-le, add-mul, one-mul, mul-le-mul-right}
+use native.Mathlib.Nat.{eq-or-lt-of-le, add-mul, one-mul}
 use native.Mathlib.Omega.{arith}
-use lib.ListN.{length, getD, take, drop, length-append, length-map, List·getD-append}
+use lib.ListN.{length, getD, take, drop, length-map, List·getD-append}
 use lib.Seq.{getD-append-add, getD-take, length-take-le, ext-getD}
 use lib.Ieee.{binary64}
 use lib.Ieee.Bits.{ofBits-toBits}
@@ -17,7 +17,7 @@ use Rattle.model.specs.declared.Distribution.{Distribution}
 use Rattle.model.specs.declared.Distribution.the-variants as dist
 use Rattle.model.specs.declared.ParamValue.{ParamValue}
 use Rattle.model.specs.declared.ParamValue.the-variants as value
-use Rattle.model.specs.Lists.{listBelow, over}
+use Rattle.model.specs.Lists.{over}
 use Rattle.model.specs.Setting.{kindOfDimension, toWord, ofWord, inBounds, noValue, settingOf, wordsOf, WordsWithin}
 use Rattle.model.specs.Session.{overAt}
 use Rattle.variation_laws.proofs.Children.{Fit}

@@ -1,8 +1,8 @@
 -- Children and mutants of settings within bounds are within bounds, and their doubles are doubles: what is a Float is clamped and no NaN, what is an Int is
 -- clamped, and choices change places or are drawn anew.
 use mathlib.Core.Path.{_≡_}
-use mathlib.Core.Bool.{Bool, true, not, _&&_}
-use Prim.Native.Nat.{ℕ, _<_}
+use mathlib.Core.Bool.{true, not, _&&_}
+use Prim.Native.Nat.{ℕ}
 use borrow.Author.Tests.{lt-ltb}
 use lib.Dec.{T, lit<, lit≤}
 use lib.IntN.{ℤ}

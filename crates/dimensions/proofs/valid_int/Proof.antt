@@ -6,7 +6,6 @@ use mir.Syntax.{w64}
 use mir.Val.{toZ, ofZ}
 use Rattle.model.specs.Setting.{validDimension, minWhole, maxWhole}
 use Rattle.settings.proofs.Signed.{back}
-use borrow.Author.Needs.{needs}
 use Rattle.dimensions.proofs.valid_int.Statement.{statement}
 use Rattle.dimensions.proofs.valid_int.Tie as tie
 
@@ -30,7 +29,7 @@ returns c =
     )
 
 step-above-zero-requires : tie.Need-step-above-zero-requires
-step-above-zero-requires c κs = search needs
+step-above-zero-requires c κs = tt
 
 returns-2 : tie.Need-returns-2
 unfolding validDimension

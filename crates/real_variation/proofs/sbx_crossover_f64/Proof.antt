@@ -4,27 +4,26 @@ use Rattle.model.specs.Real.{_⊕_, _⊖_, _⊗_, unit}
 use Rattle.model.specs.Numbers.{midpoint}
 use Rattle.rng_util.proofs.Draws.{drawn-value, drawn-state}
 use Rattle.real_variation.proofs.Sbx.{child-is}
-use borrow.Author.Needs.{needs}
 use Rattle.real_variation.proofs.sbx_crossover_f64.Statement.{statement}
 use Rattle.real_variation.proofs.sbx_crossover_f64.Tie as tie
 
 f64-range-requires : tie.Need-f64-range-requires
-f64-range-requires c κs = search needs
+f64-range-requires c κs = tt
 
 spread-requires : tie.Need-spread-requires
-spread-requires c κs = search needs
+spread-requires c κs = tt
 
 midpoint-requires : tie.Need-midpoint-requires
-midpoint-requires c κs = search needs
+midpoint-requires c κs = tt
 
 clamp-requires : tie.Need-clamp-requires
-clamp-requires c κs = search needs
+clamp-requires c κs = tt
 
 midpoint-requires-2 : tie.Need-midpoint-requires-2
-midpoint-requires-2 c κs = search needs
+midpoint-requires-2 c κs = tt
 
 clamp-requires-2 : tie.Need-clamp-requires-2
-clamp-requires-2 c κs = search needs
+clamp-requires-2 c κs = tt
 
 returns : tie.Need-returns
 returns c =

@@ -1,5 +1,4 @@
 -- The upper 52 digits of the word over 2^52. Assumes nothing.
-use borrow.Author.Needs.{needs}
 use mathlib.Core.Path.{_≡_, sym, ap, _∙_, subst}
 use Prim.Native.Nat.{ℕ, _/_, _^_, _<_}
 use native.Mathlib.Omega.{arith}
@@ -13,7 +12,7 @@ use Rattle.rng_util.proofs.draw_f64.Statement.{statement}
 use Rattle.rng_util.proofs.draw_f64.Tie as tie
 
 next-requires : tie.Need-next-requires
-next-requires c κs = search needs
+next-requires c κs = tt
 
 -- what is drawn is a word
 is-word : (s w t : ℕ) → drawn w t ≡ drawWord s → w < 2 ^ 64

@@ -1,5 +1,4 @@
 -- a and the word's remainder by how many numbers there are from a to b: nothing on the way leaves 64 bits. Assumes nothing.
-use borrow.Author.Needs.{needs}
 use mathlib.Core.Path.{_≡_}
 use lib.IntN.{ℤ, pos, natAbs, _+ℤ_, _-ℤ_}
 use mir.Syntax.{w64}
@@ -49,7 +48,7 @@ module _ (c : tie.Start) where
     ep = toZ-ofZ w64 (A +ℤ pos R) pick
 
 next-requires : tie.Need-next-requires
-next-requires c κs = search needs
+next-requires c κs = tt
 
 sub-t7 : tie.Need-sub-t7
 sub-t7 c = let s = c .before .before in rw (eb s, ea s) (span.diff-fits (A s) (B s) (s .fits .a) (s .fits .b) (s .pre))

@@ -7,7 +7,7 @@ use Rattle.rng_util.proofs.draw_usize.Statement.{statement}
 use Rattle.rng_util.proofs.draw_usize.Tie as tie
 
 next-requires : tie.Need-next-requires
-next-requires c κs = search needs
+next-requires c κs = tt
 
 rem-t7 : tie.Need-rem-t7
 rem-t7 c = search needs

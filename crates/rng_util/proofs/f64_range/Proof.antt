@@ -1,5 +1,4 @@
 -- The draw of 0..1, stretched and moved. Assumes nothing.
-use borrow.Author.Needs.{needs}
 use lib.Ieee.{Float}
 use Rattle.model.specs.Real.{_⊕_, _⊖_, _⊗_}
 use Rattle.model.specs.Draw.{f64Range}
@@ -8,7 +7,7 @@ use Rattle.rng_util.proofs.f64_range.Statement.{statement}
 use Rattle.rng_util.proofs.f64_range.Tie as tie
 
 draw-f64-requires : tie.Need-draw-f64-requires
-draw-f64-requires c κs = search needs
+draw-f64-requires c κs = tt
 
 returns : tie.Need-returns
 unfolding f64Range

@@ -2,12 +2,11 @@
 use Rattle.model.specs.declared.ParamValue.the-variants as value
 use Rattle.model.specs.Setting.{sampleRandom}
 use Rattle.rng_util.proofs.Draws.{drawn-by}
-use borrow.Author.Needs.{needs}
 use Rattle.sampling.proofs.sample_float.Statement.{statement}
 use Rattle.sampling.proofs.sample_float.Tie as tie
 
 f64-range-requires : tie.Need-f64-range-requires
-f64-range-requires c κs = search needs
+f64-range-requires c κs = tt
 
 returns : tie.Need-returns
 unfolding sampleRandom

@@ -1,5 +1,4 @@
 -- The drawn number as an Int.
-use mathlib.Core.Path.{_≡_}
 use Rattle.model.specs.declared.ParamValue.the-variants as value
 use Rattle.model.specs.Setting.{sampleRandom}
 use Rattle.rng_util.proofs.Draws.{drawn-by}

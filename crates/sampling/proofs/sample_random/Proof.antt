@@ -10,7 +10,7 @@ enum-known-d : tie.Need-enum-known-d
 enum-known-d c = search needs
 
 sample-float-requires : tie.Need-sample-float-requires
-sample-float-requires c κs = search needs
+sample-float-requires c κs = tt
 
 enum-known-d-2 : tie.Need-enum-known-d-2
 enum-known-d-2 c = search needs

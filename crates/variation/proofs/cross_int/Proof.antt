@@ -5,7 +5,6 @@ use mir.Val.{toZ, ofZ}
 use Rattle.model.specs.Setting.{drawUnit, spread, sbxFirst, sbxSecond}
 use Rattle.settings.proofs.Signed.{held, back}
 use Rattle.variation.proofs.Crossing.{crossInt-same, crossInt-apart, level, apart}
-use borrow.Author.Needs.{needs}
 use Rattle.variation.proofs.cross_int.Statement.{statement}
 use Rattle.variation.proofs.cross_int.Tie as tie
 
@@ -20,25 +19,25 @@ returns c =
     rw (held (s .fits .p), held (s .fits .q)) (crossInt-same (a .d) (a .p) (a .q) (a .k) (a .rng .s) (level (a .p) (a .q) (same s (c .if1 .taken))))
 
 real-of-int-requires : tie.Need-real-of-int-requires
-real-of-int-requires c κs = search needs
+real-of-int-requires c κs = tt
 
 real-of-int-requires-2 : tie.Need-real-of-int-requires-2
-real-of-int-requires-2 c κs = search needs
+real-of-int-requires-2 c κs = tt
 
 real-of-int-requires-3 : tie.Need-real-of-int-requires-3
-real-of-int-requires-3 c κs = search needs
+real-of-int-requires-3 c κs = tt
 
 real-of-int-requires-4 : tie.Need-real-of-int-requires-4
-real-of-int-requires-4 c κs = search needs
+real-of-int-requires-4 c κs = tt
 
 sbx-crossover-f64-requires : tie.Need-sbx-crossover-f64-requires
-sbx-crossover-f64-requires c κs = search needs
+sbx-crossover-f64-requires c κs = tt
 
 to-int-requires : tie.Need-to-int-requires
-to-int-requires c κs = search needs
+to-int-requires c κs = tt
 
 to-int-requires-2 : tie.Need-to-int-requires-2
-to-int-requires-2 c κs = search needs
+to-int-requires-2 c κs = tt
 
 returns-2 : tie.Need-returns-2
 returns-2 c =

@@ -1,12 +1,11 @@
 -- The moved real as a Float.
 use Rattle.model.specs.declared.ParamValue.the-variants as value
 use Rattle.rng_util.proofs.Draws.{drawn-by}
-use borrow.Author.Needs.{needs}
 use Rattle.variation.proofs.move_float.Statement.{statement}
 use Rattle.variation.proofs.move_float.Tie as tie
 
 polynomial-mutation-f64-requires : tie.Need-polynomial-mutation-f64-requires
-polynomial-mutation-f64-requires c κs = search needs
+polynomial-mutation-f64-requires c κs = tt
 
 returns : tie.Need-returns
 returns c = drawn-by value.Float (c .before .polynomial-mutation-f64 .ensures)

@@ -1,5 +1,5 @@
 -- The moved real as an Int.
-use mathlib.Core.Path.{_≡_, ap, _∙_}
+use mathlib.Core.Path.{ap, _∙_}
 use lib.IntN.{ℤ}
 use lib.Ieee.{Float}
 use Rattle.model.specs.declared.ParamValue.the-variants as value
@@ -7,24 +7,23 @@ use Rattle.model.specs.Draw.{drawn}
 use Rattle.model.specs.Setting.{toInt, polynomialMutation}
 use Rattle.rng_util.proofs.Draws.{drawn-by}
 use Rattle.settings.proofs.Signed.{held, back}
-use borrow.Author.Needs.{needs}
 use Rattle.variation.proofs.move_int.Statement.{statement}
 use Rattle.variation.proofs.move_int.Tie as tie
 
 real-of-int-requires : tie.Need-real-of-int-requires
-real-of-int-requires c κs = search needs
+real-of-int-requires c κs = tt
 
 real-of-int-requires-2 : tie.Need-real-of-int-requires-2
-real-of-int-requires-2 c κs = search needs
+real-of-int-requires-2 c κs = tt
 
 real-of-int-requires-3 : tie.Need-real-of-int-requires-3
-real-of-int-requires-3 c κs = search needs
+real-of-int-requires-3 c κs = tt
 
 polynomial-mutation-f64-requires : tie.Need-polynomial-mutation-f64-requires
-polynomial-mutation-f64-requires c κs = search needs
+polynomial-mutation-f64-requires c κs = tt
 
 to-int-requires : tie.Need-to-int-requires
-to-int-requires c κs = search needs
+to-int-requires c κs = tt
 
 returns : tie.Need-returns
 returns c =
