@@ -24,7 +24,7 @@ use Rattle.model.specs.Numbers.{powerUp, P, Ends, ends, halved, halvings, R}
 use Rattle.real_laws.proofs.Roots.Pattern.{read-low, read-normal}
 use Rattle.real_laws.proofs.Powers.{inf-mul, fits-power, above-power, power-mono, same-power}
 use Rattle.real_laws.proofs.Nan.{rise, below-inf}
-use Rattle.real_laws.proofs.Halving.{Top, neighbours, upper-half, lower-half, gap, adjacent}
+use Rattle.real_laws.proofs.Halving.{Top, by-halves, gap, adjacent}
 
 -- ---- the real of a pattern up to that of 2^52
 counted : (q k : ℕ) → (g : ℕ) × HasValue (odd 53 false q k 1074) false g (2 ^ 1074) × (0 < q → 0 < g)
@@ -138,14 +138,10 @@ module _ (v : Float) (k : ℕ) (above : T (lt nought v)) (small : T (le v (exp2 
       elim (lt-or-le v (P (real m) k) (le-not-nan nought v (lt→le nought v above) .1) (le-not-nan nought (P (real m) k) n .1)) [ inl l ↦ l | inr g ↦ absurd (subst T e g) ]
 
   step : (l u : ℕ) → u ≤ Top → Kept (ends l u) → Kept (halved v k (ends l u))
-  step l u t r = go (leb u (suc l)) refl (le (P (real ((l + u) / 2)) k) v) refl
-    where
-      go : (p : Bool) → leb u (suc l) ≡ p → (q : Bool) → le (P (real ((l + u) / 2)) k) v ≡ q → Kept (halved v k (ends l u))
-      go true a q b = subst Kept (sym (neighbours v k l u (leb-true u (suc l) a))) r
-      go false a true b = subst Kept (sym (upper-half v k l u (leb-false u (suc l) a) b)) (record { under = subst T (sym b) tt; over = r .over })
-      go false a false b =
-          let h = leb-false u (suc l) a in
-          subst Kept (sym (lower-half v k l u h b)) (record { under = r .under; over = beyond ((l + u) / 2) (omega arith) (omega arith) b })
+  step l u t r = by-halves v k l u Kept
+      (λ h. r)
+      (λ h b. record { under = true-T _ b; over = r .over })
+      (λ h b. record { under = r .under; over = beyond ((l + u) / 2) (omega arith) (omega arith) b })
 
   pub kept : (n : ℕ) → Kept (halvings v k n)
   unfolding halvings

@@ -3,8 +3,8 @@
 use mathlib.Core.Path.{_≡_, refl, sym, ap, _∙_, subst}
 use mathlib.Core.Logic.{inl, inr}
 use mathlib.Core.Bool.{Bool, true, false, cond}
-use Prim.Native.Nat.{ℕ, zero, suc, _*_, _^_, _<_}
-use native.Mathlib.Nat.{zero-mul}
+use Prim.Native.Nat.{ℕ, zero, suc, _*_, _^_, _<_, zero-le}
+use native.Mathlib.Nat.{le-antisymm, zero-mul}
 use native.Mathlib.Omega.{arith}
 use borrow.Author.Tests.{ne-eqb}
 use lib.Dec.{T, lit<}
@@ -12,13 +12,14 @@ use lib.IntN.{ℤ}
 use lib.Ieee.{Float, nan, inf, fin, binary64, up, down, le, lt, mul, fits}
 use lib.Ieee.Fits.{mul-fits}
 use lib.Ieee.Scale.{finite}
-use Rattle.float_laws.proofs.Units.{Counts, counts-of, counts-same, le→counts, counts→le, →slt}
+use Rattle.float_laws.proofs.Units.{Counts, counts→le, →slt}
 use Rattle.float_laws.proofs.Order.{le-trans, le-not-nan, lt→le, lt-or-le}
 use Rattle.float_laws.proofs.Rounding.{between-finite, rounded-exact}
 use Rattle.float_laws.proofs.Constants.{nought, nought-counts, nought-fits, nought-not-nan}
-use Rattle.float_laws.proofs.Arithmetic.{mul-mono, mul-from-zero, mul-rounded}
+use Rattle.float_laws.proofs.Arithmetic.{count, mul-mono, mul-from-zero, mul-rounded}
 use Rattle.model.specs.Numbers.{powerUp}
 use Rattle.real_laws.proofs.Nan.{rise, below-inf}
+use Rattle.real_laws.proofs.Roots.Units.{le-count}
 
 nought-inf : T (le nought (inf false))
 unfolding le
@@ -55,10 +56,8 @@ module _ (z : Float) (Z : T (fits binary64 z)) (F : T (finite z)) (h : T (lt nou
 -- ---- powers of a zero
 level : (y : Float) → T (fits binary64 y) → T (le nought y) → T (le y nought) → Counts binary64 y 0 0
 level y Y h k =
-    let o = counts-of binary64 y (record { held = Y; finite = between-finite nought y nought tt tt h k }) in
-    let a = le→counts binary64 nought y 0 0 (o .0) (o .1) (nought-counts binary64) (o .2) h in
-    let b = le→counts binary64 y nought (o .0) (o .1) 0 0 (o .2) (nought-counts binary64) k in
-    counts-same binary64 y (o .0) (o .1) 0 0 (o .2) (omega arith)
+    let c = count binary64 y (record { held = Y; finite = between-finite nought y nought tt tt h k }) h in
+    subst (λ (g : ℕ). Counts binary64 y g 0) (le-antisymm (le-count y nought (c .0) 0 (c .1) (nought-counts binary64) k) zero-le) (c .1)
 
 zero-power : (y : Float) → Counts binary64 y 0 0 → (j : ℕ) → Counts binary64 (powerUp y j) 0 0
 unfolding powerUp
