@@ -4,14 +4,17 @@ use mathlib.Core.List.{List, [], _∷_, _++_}
 use Prim.Native.Nat.{ℕ, _+_, _<_}
 use native.Mathlib.Nat.{ne-of-lt}
 use native.Mathlib.Numerals.{add-one}
+use lib.Dec.{leb}
 use lib.ListN.{length, getD, set}
 use lib.Seq.{getD-set-same, getD-set-other}
+use Rattle.list_laws.proofs.Bools.{by-bool}
 use Rattle.list_laws.proofs.Built.{listBelow-none, listBelow-more, listBelow-same}
 use Rattle.model.specs.Lists.{listBelow}
 use Rattle.model.specs.declared.Distribution.{Distribution}
 use Rattle.model.specs.declared.ParamValue.{ParamValue}
-use Rattle.model.specs.Draw.{Drawn, drawn}
-use Rattle.model.specs.Setting.{sampleRandom, sampleAll}
+use Rattle.model.specs.Draw.{Drawn, drawn, drawUsize}
+use Rattle.model.specs.Setting.{sampleRandom, sampleAll, tournament}
+use Rattle.rng_util.proofs.Draws.{drawUsize-below}
 use Rattle.settings.specs.declared.Slot.{Slot}
 use Rattle.settings.specs.Candidate.{noSlot, slotOf, settingsOf}
 
@@ -48,3 +51,11 @@ pub sampleAll-more : (dims : ℕ → Distribution) (n s : ℕ) (l : List ParamVa
     → drawn (l ++ (v ∷ [])) u ≡ sampleAll dims (n + 1) s
 unfolding sampleAll
 sampleAll-more dims n s l t v u e f = drawn-more (λ a b. a ++ (b ∷ [])) (sampleRandom (dims n)) e f ∙ ap (λ (k : ℕ). sampleAll dims k s) (sym (add-one n))
+
+-- ---- parents: the winner of a tournament is one of the n
+pub winner-below : (ranks : ℕ → ℕ) (n s : ℕ) → 0 < n → tournament ranks n s .value < n
+unfolding tournament
+winner-below ranks n s h =
+    let a = drawUsize n s in
+    let b = drawUsize n (a .state) in
+    by-bool (leb (ranks (a .value)) (ranks (b .value))) (λ e. rw e (drawUsize-below n s h)) (λ e. rw e (drawUsize-below n (a .state) h))
