@@ -35,7 +35,7 @@ use Rattle.float_laws.proofs.FromZero.{Upto, number}
 use Rattle.float_laws.proofs.Magnitude.{Within, within-number}
 use Rattle.float_laws.proofs.InRange.{part-counts}
 use Rattle.association_laws.proofs.Squares.{square-from-zero, squares-from-zero}
-use Rattle.association_laws.proofs.Sums.{product-unit, sum-within}
+use Rattle.float_laws.proofs.Sums.{product-unit, sum-within}
 
 -- ---- i / h
 

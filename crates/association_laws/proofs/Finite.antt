@@ -20,7 +20,7 @@ use Rattle.reference_laws.proofs.Count.{lines-some}
 use Rattle.association_laws.proofs.Search.{distance-long}
 use Rattle.association_laws.proofs.Within.{Measured, normalised-unit}
 use Rattle.association_laws.proofs.Squares.{squares-from-zero}
-use Rattle.association_laws.proofs.Sums.{unit-within, product-unit, up-to, sum-within}
+use Rattle.float_laws.proofs.Sums.{unit-within, product-unit, up-to, sum-within}
 use Rattle.association_laws.proofs.Coordinates.{sixtyFourth, usable}
 
 -- ---- one point p and one line r of m coordinates within 0..1, of which the line is not short

@@ -1,4 +1,3 @@
-pub mod Steps
 pub mod Search
 pub mod Same
 pub mod Places
@@ -7,6 +6,5 @@ pub mod Extremes
 pub mod Within
 pub mod Good
 pub mod Coordinates
-pub mod Sums
 pub mod Squares
 pub mod Finite

@@ -14,10 +14,11 @@ use Rattle.float_laws.proofs.Rounding.{unsigned, round-unsigned}
 use Rattle.float_laws.proofs.Constants.{nought, nought-not-nan}
 use Rattle.float_laws.proofs.Arithmetic.{add-from-zero}
 use Rattle.float_laws.proofs.Magnitude.{Within, within-not-nan}
+use Rattle.float_laws.proofs.Sums.{sum-fits}
 use Rattle.real_laws.proofs.Roots.Nearest.{from-zero}
 use Rattle.association_laws.specs.Flat.{squaresOf}
 use Rattle.association_laws.specs.Search.{Square}
-use Rattle.association_laws.proofs.Search.{squares-short, squares-long, sum-fits, squares-fit}
+use Rattle.association_laws.proofs.Search.{squares-short, squares-long, squares-fit}
 
 -- with the sign clear
 clear-low : (x : Float) → T (fits binary64 x) → T (unsigned x) → T (not (lt x nought))

@@ -7,5 +7,6 @@ pub mod Constants
 pub mod Arithmetic
 pub mod Magnitude
 pub mod FromZero
+pub mod Sums
 pub mod InRange
 pub mod Patterns

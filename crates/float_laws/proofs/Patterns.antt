@@ -127,9 +127,6 @@ bits→le f x y X Y a b h = elim (total.le-total x y (not-nan x a) (not-nan y b)
 pub lt→bits : (f : Format) (x y : Float) → T (fits f x) → T (fits f y) → T (unsigned x) → T (unsigned y) → T (lt x y) → toBits f x < toBits f y
 lt→bits f x y X Y a b h = lt-of-not-le (λ (g : toBits f y ≤ toBits f x). total.lt→nle x y h (bits→le f y x Y X b a g))
 
-pub bits→lt : (f : Format) (x y : Float) → T (fits f x) → T (fits f y) → T (unsigned x) → T (unsigned y) → toBits f x < toBits f y → T (lt x y)
-bits→lt f x y X Y a b h = elim (total.lt-or-le x y (not-nan x a) (not-nan y b)) [ inl l ↦ l | inr g ↦ absurd (native.Mathlib.Nat.not-le-of-lt h (le→bits f y x Y X b a g)) ]
-
 -- two values with the sign clear that are level are one
 pub le-antisym : (f : Format) (x y : Float) → T (fits f x) → T (fits f y) → T (unsigned x) → T (unsigned y) → T (le x y) → T (le y x) → x ≡ y
 le-antisym f x y X Y a b h k = same-bits f x y X Y (le-antisymm (le→bits f x y X Y a b h) (le→bits f y x Y X b a k))

@@ -1,14 +1,38 @@
--- Sums, from left to right, of doubles within a power of two; products of doubles within 0..1. Assumes nothing.
+-- Sums, from left to right: term by term, and of doubles within a power of two; products of doubles within 0..1. Assumes nothing.
 use Prim.Native.Nat.{ℕ, zero, suc, _+_, _≤_, _<_, zero-le}
+use mathlib.Core.Path.{_≡_, refl, ap, ap₂, sym, _∙_}
 use native.Mathlib.Nat.{add-zero, add-suc}
+use native.Mathlib.Numerals.{add-one}
 use native.Mathlib.Omega.{arith}
-use lib.Dec.{lit≤}
-use lib.Ieee.{Float, le, ofBits, fits}
-use Rattle.model.specs.Real.{_⊗_, minusNought, sumTo}
+use lib.Dec.{T, lit≤}
+use lib.Ieee.{Float, binary64, le, ofBits, fits}
+use lib.Ieee.Fits.{add-fits}
+use Rattle.model.specs.Real.{_⊕_, _⊗_, minusNought, sumTo}
 use Rattle.float_laws.proofs.Order.{le-trans}
 use Rattle.float_laws.proofs.Constants.{nought, one, minus-exp2}
 use Rattle.float_laws.proofs.FromZero.{Upto}
 use Rattle.float_laws.proofs.Magnitude.{Within, within-wider, exp2-mono, add-within, mul-within}
+
+pub sum-none : (f : ℕ → Float) → sumTo f 0 ≡ minusNought
+unfolding sumTo
+sum-none f = refl
+
+-- one more turn of a loop that counts up, from the sum so far
+pub sum-more : (f : ℕ → Float) (n : ℕ) (s : Float) → s ≡ sumTo f n → s ⊕ f n ≡ sumTo f (n + 1)
+unfolding sumTo
+sum-more f n s g = sym (ap (sumTo f) (add-one n) ∙ rw (← g))
+
+pub sum-same : (f g : ℕ → Float) (n : ℕ) → ((t : ℕ) → t < n → f t ≡ g t) → sumTo f n ≡ sumTo g n
+unfolding sumTo
+sum-same f g zero h = refl
+sum-same f g (suc n) h = ap₂ (λ s x. s ⊕ x) (sum-same f g n (λ t l. h t (omega arith))) (h n (omega arith))
+
+pub sum-fits : (f : ℕ → Float) (n : ℕ) → T (fits binary64 (sumTo f n))
+unfolding sumTo fits ofBits
+sum-fits f zero = tt
+sum-fits f (suc n) = add-fits binary64 (sumTo f n) (f n)
+
+-- ---- within powers of two
 
 -- what is within 0..1 is at most 2 ^ 0 in magnitude
 pub unit-within : (x : Float) → Upto one x → Within 0 x
