@@ -52,15 +52,15 @@ module _ {A : Type 0} (beats : A → A → Bool) where
 -- ---- the three
 
 -- x is above l
-abbrev pub over : Float → Float → Bool
-over x l = lt l x
+abbrev pub above : Float → Float → Bool
+above x l = lt l x
 
 pub least-best : (b : Float) (f : ℕ → Float) (n : ℕ) → leastFrom b f n ≡ bestFrom lt b f n
 unfolding leastFrom bestFrom
 least-best b f zero = refl
 least-best b f (suc n) = ap (λ l. cond (lt (f n) l) (f n) l) (least-best b f n)
 
-pub greatest-best : (f : ℕ → Float) (n : ℕ) → greatest f n ≡ bestFrom over (inf true) f n
+pub greatest-best : (f : ℕ → Float) (n : ℕ) → greatest f n ≡ bestFrom above (inf true) f n
 unfolding greatest bestFrom
 greatest-best f zero = refl
 greatest-best f (suc n) = ap (λ l. cond (lt l (f n)) (f n) l) (greatest-best f n)
@@ -106,4 +106,4 @@ pub greatest-ge : (f : ℕ → Float) (n : ℕ) → ((t : ℕ) → t < n → Kno
 unfolding isNan
 greatest-ge f n F t h =
     subst (λ x. T (le (f t) x)) (sym (greatest-best f n))
-    (best-first over (λ x y. T (le y x)) le-refl (λ x y z k l. le-trans z y x l k) (λ x l. lt→le l x) (λ x l X L. nlt→le l x L X) (inf true) f n tt F t h)
+    (best-first above (λ x y. T (le y x)) le-refl (λ x y z k l. le-trans z y x l k) (λ x l. lt→le l x) (λ x l X L. nlt→le l x L X) (inf true) f n tt F t h)

@@ -58,7 +58,7 @@ module _ (m : ℕ) (few : m ≤ 8) (p r : ℕ → Float) (P : (j : ℕ) → j < 
         le-trans (sqrtOf S) (sqrtOf (exp2 38)) (exp2 19) (sqrt-mono S (exp2 38) (off .held) (closed .0) low (off .high)) root-top,
       )
 
-  pub distance-number : (isNan (distance m p r) ≡ false) × (lt (distance m p r) infinity ≡ true)
+  distance-number : (isNan (distance m p r) ≡ false) × (lt (distance m p r) infinity ≡ true)
   distance-number = (
     T-false (isNan (distance m p r)) (le-not-nan nought (distance m p r) (distance-bounds .0) .1),
     T-true (lt (distance m p r) infinity) (le-lt-trans (distance m p r) (exp2 19) infinity (distance-bounds .1) (closed .1)),

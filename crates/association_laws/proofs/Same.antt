@@ -7,13 +7,13 @@ use Rattle.model.specs.Real.{_⊖_, _⊗_, _⊘_, infinity}
 use Rattle.model.specs.Numbers.{sqrtOf, square}
 use Rattle.model.specs.Association.{leastFrom, greatest, dot, offSquares, distance, smallNorm, near, nearestOf}
 use Rattle.float_laws.proofs.Sums.{sum-same}
-use Rattle.association_laws.proofs.Extremes.{over, nearer, best-same, least-best, greatest-best, nearest-best}
+use Rattle.association_laws.proofs.Extremes.{above, nearer, best-same, least-best, greatest-best, nearest-best}
 
 pub least-same : (b : Float) (f g : ℕ → Float) (n : ℕ) → ((t : ℕ) → t < n → f t ≡ g t) → leastFrom b f n ≡ leastFrom b g n
 least-same b f g n h = least-best b f n ∙ best-same lt b f g n h ∙ sym (least-best b g n)
 
 pub greatest-same : (f g : ℕ → Float) (n : ℕ) → ((t : ℕ) → t < n → f t ≡ g t) → greatest f n ≡ greatest g n
-greatest-same f g n h = greatest-best f n ∙ best-same over (inf true) f g n h ∙ sym (greatest-best g n)
+greatest-same f g n h = greatest-best f n ∙ best-same above (inf true) f g n h ∙ sym (greatest-best g n)
 
 pub nearest-same : (d e : ℕ → Float) (n : ℕ) → ((t : ℕ) → t < n → d t ≡ e t) → nearestOf d n ≡ nearestOf e n
 nearest-same d e n h = nearest-best d n ∙ best-same nearer (near 0 infinity) _ _ n (λ t l. ap (near t) (h t l)) ∙ sym (nearest-best e n)

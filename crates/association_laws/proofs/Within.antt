@@ -15,7 +15,7 @@ use Rattle.float_laws.proofs.Constants as constants
 use Rattle.float_laws.proofs.Arithmetic.{sub-from-zero, sub-mono-left}
 use Rattle.float_laws.proofs.FromZero.{Upto, upto-wider, share}
 use Rattle.float_laws.proofs.Magnitude.{Within, within-number, sub-within}
-use Rattle.association_laws.proofs.Extremes.{Known, over, best-all, least-best, greatest-best, least-le, greatest-ge}
+use Rattle.association_laws.proofs.Extremes.{Known, above, best-all, least-best, greatest-best, least-le, greatest-ge}
 
 -- a double from -2 ^ 1000 up, plus infinity among them
 pub record Start (x : Float) : Type 0 where
@@ -48,9 +48,9 @@ module _ (b : Float) (f : ℕ → Float) (n : ℕ) (B : Start b) (F : (t : ℕ) 
   most-within : Within 1000 most
   unfolding le
   most-within = record {
-    held = subst (λ x. T (fits binary64 x)) (sym (greatest-best f n)) (best-all over (λ x. T (fits binary64 x)) (inf true) f n (inf-fits binary64 true) (λ t l. F t l .held));
+    held = subst (λ x. T (fits binary64 x)) (sym (greatest-best f n)) (best-all above (λ x. T (fits binary64 x)) (inf true) f n (inf-fits binary64 true) (λ t l. F t l .held));
     low = le-trans (minus-exp2 1000) (f p) most (F p h .low) most-above;
-    high = subst (λ x. T (le x (exp2 1000))) (sym (greatest-best f n)) (best-all over (λ x. T (le x (exp2 1000))) (inf true) f n tt (λ t l. F t l .high));
+    high = subst (λ x. T (le x (exp2 1000))) (sym (greatest-best f n)) (best-all above (λ x. T (le x (exp2 1000))) (inf true) f n tt (λ t l. F t l .high));
   }
 
   abbrev span : Float
