@@ -1,19 +1,19 @@
 -- A pool that refusal 8 lets pass is measured: its values and its ideal are doubles within 2 ^ 1000.
 use Prim.Native.Nat.{ℕ, _+_, _≤_, _<_, min}
-use mathlib.Core.Path.{_≡_, refl, ap, sym, subst, _∙_}
-use mathlib.Core.Bool.{Bool, true, false, not, _&&_, _||_, true≢false}
+use mathlib.Core.Path.{_≡_, ap, sym, subst, _∙_}
+use mathlib.Core.Bool.{true, false, _&&_, _||_, true≢false}
 use mathlib.Core.List.{List}
 use native.Mathlib.Omega.{arith}
 use borrow.Author.Tests.{eqb-true, not-false}
-use lib.Dec.{T, eqb, leb}
-use lib.Ieee.{Float, nan, inf, fin, binary64, ofBits, fits, le, eq, neg}
+use lib.Dec.{T, eqb}
+use lib.Ieee.{Float, nan, inf, fin, binary64, ofBits, fits, le, eq}
 use lib.Ieee.Bits.{ofBits-fits}
-use lib.Ieee.Fits.{neg-fits, and-l, and-r}
+use lib.Ieee.Fits.{and-l, and-r}
 use lib.ListN.{length, getD}
 use Rattle.model.specs.declared.Direction.{Direction}
 use Rattle.model.specs.declared.Direction.the-variants.{Minimize, Maximize}
-use Rattle.model.specs.Lists.{allIn, allBelow}
-use Rattle.model.specs.Plan.{Plan, maxValues, maxConstraints, planOf}
+use Rattle.model.specs.Lists.{listBelow, allIn, allBelow}
+use Rattle.model.specs.Plan.{maxValues, planOf}
 use Rattle.model.specs.Real.{real}
 use Rattle.model.specs.Row.{directionOf, toMinimize, rowOf}
 use Rattle.model.specs.Association.{Request, objectives}
@@ -21,13 +21,15 @@ use Rattle.model.specs.Refusal.{measurable, isInfinity, goodPlan, goodIdeal, ba
 use Rattle.list_laws.proofs.Bools.{by-bool, true-T, and-left, and-right}
 use Rattle.list_laws.proofs.Built.{listBelow-length, listBelow-at}
 use Rattle.list_laws.proofs.Tests.{allIn-each, allBelow-each}
-use Rattle.float_laws.proofs.Rounding.{le-neg}
+use Rattle.list_laws.proofs.Checks.{good-values}
+use Rattle.front_laws.proofs.Plans.{words-accepted}
 use Rattle.float_laws.proofs.Constants.{exp2, minus-exp2}
-use Rattle.association_laws.proofs.Within.{Real, Start, Measured}
+use Rattle.float_laws.proofs.Magnitude.{Within, neg-within}
+use Rattle.association_laws.proofs.Within.{Start, Measured}
 
 -- ---- a value
 
-real-of : (x : Float) → T (fits binary64 x) → measurable x ≡ true → Real x
+real-of : (x : Float) → T (fits binary64 x) → measurable x ≡ true → Within 1000 x
 unfolding measurable ofBits
 real-of x h e = let t = true-T (le (minus-exp2 1000) x && le x (exp2 1000)) e in record {
   held = h;
@@ -35,17 +37,9 @@ real-of x h e = let t = true-T (le (minus-exp2 1000) x && le x (exp2 1000)) e in
   high = and-r (le (minus-exp2 1000) x) (le x (exp2 1000)) t;
 }
 
-real-neg : (x : Float) → Real x → Real (neg x)
-unfolding neg
-real-neg x h = record {
-  held = neg-fits binary64 x (h .held);
-  low = le-neg x (exp2 1000) (h .high);
-  high = le-neg (minus-exp2 1000) x (h .low);
-}
-
-real-toMinimize : (d : Direction) (x : Float) → Real x → Real (toMinimize d x)
+real-toMinimize : (d : Direction) (x : Float) → Within 1000 x → Within 1000 (toMinimize d x)
 real-toMinimize Minimize x h = h
-real-toMinimize Maximize x h = real-neg x h
+real-toMinimize Maximize x h = neg-within 1000 x h
 
 -- ---- an entry of the ideal
 
@@ -63,34 +57,18 @@ start-of x h e = by-bool (measurable x)
 
 -- ---- a request
 
--- a plan that refusal 8 lets pass, with the m values that it claims, each a double
-pub record Fit (m : ℕ) (plan : Plan) : Type 0 where
-  pub good : goodPlan m plan ≡ true
-  pub whole : length (plan .row) ≡ m
-  pub held : (j : ℕ) → j < m → T (fits binary64 (getD (plan .row) j nan))
+-- a value of a plan of words that refusal 8 lets pass
+word-value : (marks : List ℕ) (m : ℕ) (word : ℕ → ℕ) → m ≤ maxValues → goodPlan m (planOf word) ≡ true → (j : ℕ) → j < m → Within 1000 (rowOf marks (planOf word) j)
+unfolding rowOf planOf
+word-value marks m word few good j l =
+    let values : ℕ → Float = λ i. real (word (2 + i)) in
+    let row = listBelow values (min (word 1) maxValues) in
+    let n : length row ≡ m = words-accepted m word few good .whole in
+    let x = getD row j nan in
+    let held = subst (λ y. T (fits binary64 y)) (sym (listBelow-at values (min (word 1) maxValues) nan j (omega (arith, listBelow-length values (min (word 1) maxValues))))) (ofBits-fits binary64 (word (2 + j))) in
+    real-toMinimize (directionOf (getD marks j 0)) x (real-of x held (allIn-each measurable nan row (good-values m (planOf word) good) j (omega arith)))
 
--- so has every plan of a slice of words
-pub words-fit : (m : ℕ) (word : ℕ → ℕ) → m ≤ maxValues → goodPlan m (planOf word) ≡ true → Fit m (planOf word)
-unfolding planOf goodPlan
-words-fit m word h e =
-    let n = eqb-true (word 1) m (and-left (eqb (word 1) m) _ e) in
-    let k : min (word 1) maxValues ≡ m = omega arith in
-    record {
-      good = e;
-      whole = listBelow-length (λ j. real (word (2 + j))) (min (word 1) maxValues) ∙ k;
-      held = λ j l. rw (listBelow-at (λ j. real (word (2 + j))) (min (word 1) maxValues) nan j (omega arith)) (ofBits-fits binary64 (word (2 + j)));
-    }
-
-pub fit-value : (marks : List ℕ) (m : ℕ) (plan : Plan) → Fit m plan → (j : ℕ) → j < m → Real (rowOf marks plan j)
-unfolding rowOf goodPlan
-fit-value marks m plan h j l =
-    let rest = and-right (eqb (plan .rowLength) m) (leb (plan .constraintCount) maxConstraints && (allIn measurable (plan .row) && allIn measurable (plan .constraints))) (h .good) in
-    let lists = and-right (leb (plan .constraintCount) maxConstraints) (allIn measurable (plan .row) && allIn measurable (plan .constraints)) rest in
-    let row = and-left (allIn measurable (plan .row)) (allIn measurable (plan .constraints)) lists in
-    real-toMinimize (directionOf (getD marks j 0)) (getD (plan .row) j nan)
-    (real-of (getD (plan .row) j nan) (h .held j l) (allIn-each measurable nan (plan .row) row j (omega (arith, h .whole))))
-
-pub good-start : (m : ℕ) (ideal : List Float) → goodIdeal m ideal ≡ true → ((j : ℕ) → j < m → T (fits binary64 (getD ideal j nan)))
+good-start : (m : ℕ) (ideal : List Float) → goodIdeal m ideal ≡ true → ((j : ℕ) → j < m → T (fits binary64 (getD ideal j nan)))
     → (j : ℕ) → j < m → Start (getD ideal j nan)
 unfolding goodIdeal
 good-start m ideal e h j l =
@@ -98,22 +76,17 @@ good-start m ideal e h j l =
     let all = and-right (eqb (length ideal) m) (allIn (λ x. measurable x || isInfinity x) ideal) e in
     start-of (getD ideal j nan) (h j l) (allIn-each (λ x. measurable x || isInfinity x) nan ideal all j (omega arith))
 
-pub measured : (r : Request) → ((p : ℕ) → p < r .count → Fit (objectives r) (r .plans p)) → goodIdeal (objectives r) (r .ideal) ≡ true
-    → ((j : ℕ) → j < objectives r → T (fits binary64 (getD (r .ideal) j nan))) → Measured r
-measured r plans ideal held = record {
-  values = λ p j h k. fit-value (r .marks) (objectives r) (r .plans p) (plans p h) j k;
-  start = good-start (objectives r) (r .ideal) ideal held;
-}
-
--- a pool of words that refusal 8 lets pass
+-- THEOREM: a pool of words that refusal 8 lets pass is measured
 pub measured-words : (r : Request) (word : ℕ → ℕ → ℕ) → ((p : ℕ) → r .plans p ≡ planOf (word p)) → objectives r ≤ maxValues → badPool r ≡ false
     → ((j : ℕ) → j < objectives r → T (fits binary64 (getD (r .ideal) j nan))) → Measured r
 unfolding badPool
-measured-words r word same few good held =
+measured-words r word same few pool held =
     let m = objectives r in
     let all = allBelow (λ p. goodPlan m (r .plans p)) (r .count) in
-    let e : (all && goodIdeal m (r .ideal)) ≡ true = not-false (all && goodIdeal m (r .ideal)) good in
-    measured r
-    (λ p h. subst (Fit m) (sym (same p)) (words-fit m (word p) few
-    (ap (goodPlan m) (sym (same p)) ∙ allBelow-each (λ p. goodPlan m (r .plans p)) (r .count) (and-left all (goodIdeal m (r .ideal)) e) p h)))
-    (and-right all (goodIdeal m (r .ideal)) e) held
+    let e : (all && goodIdeal m (r .ideal)) ≡ true = not-false (all && goodIdeal m (r .ideal)) pool in
+    let good : (p : ℕ) → p < r .count → goodPlan m (planOf (word p)) ≡ true =
+    λ p h. ap (goodPlan m) (sym (same p)) ∙ allBelow-each (λ p. goodPlan m (r .plans p)) (r .count) (and-left all (goodIdeal m (r .ideal)) e) p h in
+    record {
+      values = λ p j h k. subst (λ plan. Within 1000 (rowOf (r .marks) plan j)) (sym (same p)) (word-value (r .marks) m (word p) few (good p h) j k);
+      start = good-start m (r .ideal) (and-right all (goodIdeal m (r .ideal)) e) held;
+    }

@@ -1,5 +1,3 @@
-pub mod Writes
-pub mod Steps
 pub mod Search
 pub mod Same
 pub mod Places
@@ -8,6 +6,5 @@ pub mod Extremes
 pub mod Within
 pub mod Good
 pub mod Coordinates
-pub mod Distances
 pub mod Squares
 pub mod Finite

@@ -1,33 +1,22 @@
 -- Only the entries that are looked at matter: below n the plans, below m the objectives, below k the lines.
-use Prim.Native.Nat.{ℕ, zero, suc, _<_}
-use mathlib.Core.Path.{_≡_, refl, ap, ap₂}
-use mathlib.Core.Bool.{cond}
-use native.Mathlib.Omega.{arith}
-use lib.Ieee.{Float, lt}
-use Rattle.model.specs.Real.{_⊕_, _⊖_, _⊗_, _⊘_, infinity, sumTo}
+use Prim.Native.Nat.{ℕ, _<_}
+use mathlib.Core.Path.{_≡_, ap, ap₂, sym, _∙_}
+use mathlib.Core.Bool.{true, cond}
+use lib.Ieee.{Float, inf, lt}
+use Rattle.model.specs.Real.{_⊖_, _⊗_, _⊘_, infinity}
 use Rattle.model.specs.Numbers.{sqrtOf, square}
 use Rattle.model.specs.Association.{leastFrom, greatest, dot, offSquares, distance, smallNorm, near, nearestOf}
+use Rattle.float_laws.proofs.Sums.{sum-same}
+use Rattle.association_laws.proofs.Extremes.{above, nearer, best-same, least-best, greatest-best, nearest-best}
 
 pub least-same : (b : Float) (f g : ℕ → Float) (n : ℕ) → ((t : ℕ) → t < n → f t ≡ g t) → leastFrom b f n ≡ leastFrom b g n
-unfolding leastFrom
-least-same b f g zero h = refl
-least-same b f g (suc n) h = ap₂ (λ l x. cond (lt x l) x l) (least-same b f g n (λ t l. h t (omega arith))) (h n (omega arith))
+least-same b f g n h = least-best b f n ∙ best-same lt b f g n h ∙ sym (least-best b g n)
 
 pub greatest-same : (f g : ℕ → Float) (n : ℕ) → ((t : ℕ) → t < n → f t ≡ g t) → greatest f n ≡ greatest g n
-unfolding greatest
-greatest-same f g zero h = refl
-greatest-same f g (suc n) h = ap₂ (λ l x. cond (lt l x) x l) (greatest-same f g n (λ t l. h t (omega arith))) (h n (omega arith))
-
-pub sum-same : (f g : ℕ → Float) (n : ℕ) → ((t : ℕ) → t < n → f t ≡ g t) → sumTo f n ≡ sumTo g n
-unfolding sumTo
-sum-same f g zero h = refl
-sum-same f g (suc n) h = ap₂ (λ s x. s ⊕ x) (sum-same f g n (λ t l. h t (omega arith))) (h n (omega arith))
+greatest-same f g n h = greatest-best f n ∙ best-same above (inf true) f g n h ∙ sym (greatest-best g n)
 
 pub nearest-same : (d e : ℕ → Float) (n : ℕ) → ((t : ℕ) → t < n → d t ≡ e t) → nearestOf d n ≡ nearestOf e n
-unfolding nearestOf
-nearest-same d e zero h = refl
-nearest-same d e (suc n) h =
-    ap₂ (λ b x. cond (lt x (b .distance)) (near n x) b) (nearest-same d e n (λ t l. h t (omega arith))) (h n (omega arith))
+nearest-same d e n h = nearest-best d n ∙ best-same nearer (near 0 infinity) _ _ n (λ t l. ap (near t) (h t l)) ∙ sym (nearest-best e n)
 
 module _ (m : ℕ) (p q r s : ℕ → Float) (f : (j : ℕ) → j < m → p j ≡ q j) (g : (j : ℕ) → j < m → r j ≡ s j) where
   dot-same : dot m p r ≡ dot m q s

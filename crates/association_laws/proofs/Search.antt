@@ -1,26 +1,25 @@
 -- One more turn of the search for the nearest line. A square that is not below the best one has no root below the best one's, and one that is below it
 -- times 1 - 2 ^ -30 has: in neither case need a root be taken.
-use Prim.Native.Nat.{ℕ, zero, suc, _+_, _*_}
-use mathlib.Core.Path.{_≡_, refl, ap, ap₂, sym, subst, _∙_}
-use mathlib.Core.Bool.{Bool, true, false, not}
-use native.Mathlib.Numerals.{add-one}
-use lib.Dec.{T, eqb→eq}
-use lib.IntN.{pos}
-use lib.Ieee.{Float, nan, inf, fin, binary64, up, down, lt, le, isNan, ofBits, fits}
-use lib.Ieee.Fits.{add-fits, inf-fits, cond-fits}
-use Rattle.model.specs.Real.{_⊗_, _⊘_, infinity, sumTo}
+use Prim.Native.Nat.{ℕ, _+_}
+use mathlib.Core.Path.{_≡_, refl, ap, ap₂, sym, _∙_}
+use mathlib.Core.Bool.{true, false, not, true≢false}
+use lib.Dec.{T}
+use lib.Ieee.{Float, nan, binary64, lt, le, isNan, fits}
+use lib.Ieee.Fits.{inf-fits, cond-fits}
+use Rattle.model.specs.Real.{_⊗_, _⊘_, infinity}
 use Rattle.model.specs.Numbers.{sqrtOf}
 use Rattle.model.specs.Association.{dot, smallNorm, offSquares, distance, near, nearestOf}
-use Rattle.list_laws.proofs.Bools.{by-bool, T-true, true-T, false-T}
-use Rattle.float_laws.proofs.Units.{zero-exponent}
-use Rattle.float_laws.proofs.Order.{lt→nle, lt→le, nlt→le, le-not-nan}
+use Rattle.list_laws.proofs.Bools.{by-bool, T-true, true-T, T-false, false-T}
+use Rattle.float_laws.proofs.Order.{le→nlt, lt→le, nlt→le, le-not-nan}
 use Rattle.float_laws.proofs.Compared.{nan-below, below-nan}
 use Rattle.float_laws.proofs.Constants.{nought, nought-not-nan}
-use Rattle.real_laws.proofs.Roots.Nearest.{from-zero}
+use Rattle.float_laws.proofs.Sums.{sum-fits}
+use Rattle.real_laws.proofs.Roots.Nearest.{no-root}
 use Rattle.real_laws.proofs.Roots.Monotone.{sqrt-mono}
 use Rattle.real_laws.proofs.Roots.Apart.{nearlyOne, sqrt-apart}
 use Rattle.association_laws.specs.Flat.{squaresOf}
 use Rattle.association_laws.specs.Search.{Square, Found}
+use Rattle.association_laws.proofs.Extremes.{nearer, best-yes, best-no, nearest-best}
 
 -- ---- the distance is the root of its square
 
@@ -41,11 +40,6 @@ module _ (m : ℕ) (p r : ℕ → Float) where
   pub distance-long : lt (dot m r r) smallNorm ≡ false → distance m p r ≡ sqrtOf (offSquares m p r (dot m p r ⊘ dot m r r))
   distance-long h = distance-root ∙ ap sqrtOf (squares-long (dot m r r) refl h)
 
-pub sum-fits : (f : ℕ → Float) (n : ℕ) → T (fits binary64 (sumTo f n))
-unfolding sumTo fits ofBits
-sum-fits f zero = tt
-sum-fits f (suc n) = add-fits binary64 (sumTo f n) (f n)
-
 pub squares-fit : (m : ℕ) (p r : ℕ → Float) → T (fits binary64 (squaresOf m p r))
 unfolding squaresOf
 squares-fit m p r =
@@ -56,24 +50,6 @@ squares-fit m p r =
 from-nought : (s q : Float) → T (not (lt s nought)) → T (lt s q) → T (le nought s)
 from-nought s q h k = nlt→le s nought (le-not-nan s q (lt→le s q k) .0) nought-not-nan h
 
-minus-zero : T (le nought (fin true 0 (pos 0)))
-unfolding le
-minus-zero = tt
-
-clash : (b : Bool) → T b → b ≡ false → ⊥
-clash true t e = false-T true e
-clash false t e = t
-
--- what is not from 0 up has no root
-no-root : (x : Float) → T (fits binary64 x) → le nought x ≡ false → sqrtOf x ≡ nan
-unfolding sqrtOf fits le
-no-root nan X h = refl
-no-root (inf true) X h = refl
-no-root (inf false) X h = absurd (false-T true h)
-no-root (fin false m e) X h = absurd (clash (le nought (fin false m e)) (from-zero m e X) h)
-no-root (fin true zero e) X h = absurd (clash (le nought (fin true 0 e)) (subst (λ d. T (le nought (fin true 0 d))) (sym (zero-exponent e (eqb→eq (up e * down e) 1 X))) minus-zero) h)
-no-root (fin true (suc m) e) X h = refl
-
 pub root-order : (x y : Float) → T (fits binary64 x) → T (fits binary64 y) → lt x y ≡ false → lt (sqrtOf x) (sqrtOf y) ≡ false
 unfolding isNan
 root-order x y X Y h = by-bool (le nought x)
@@ -81,19 +57,20 @@ root-order x y X Y h = by-bool (le nought x)
     (λ b. let u = true-T (le nought x) a in
     let v = true-T (le nought y) b in
     let l = nlt→le x y (le-not-nan nought x u .1) (le-not-nan nought y v .1) (false-T (lt x y) h) in
-    by-bool (lt (sqrtOf x) (sqrtOf y)) (λ e. absurd (lt→nle (sqrtOf x) (sqrtOf y) (true-T (lt (sqrtOf x) (sqrtOf y)) e) (sqrt-mono y x Y X v l))) (λ e. e))
-    (λ b. ap (lt (sqrtOf x)) (no-root y Y b) ∙ below-nan (sqrtOf x) nan refl))
-    (λ a. ap (λ t. lt t (sqrtOf y)) (no-root x X a) ∙ nan-below nan (sqrtOf y) refl)
+    T-false (lt (sqrtOf x) (sqrtOf y)) (le→nlt (sqrtOf y) (sqrtOf x) (sqrt-mono y x Y X v l)))
+    (λ b. ap (lt (sqrtOf x)) (no-root y Y (not-from y b)) ∙ below-nan (sqrtOf x) nan refl))
+    (λ a. ap (λ t. lt t (sqrtOf y)) (no-root x X (not-from x a)) ∙ nan-below nan (sqrtOf y) refl)
+  where
+    not-from : (z : Float) → le nought z ≡ false → T (le nought z) → ⊥
+    not-from z e t = true≢false (sym (T-true (le nought z) t) ∙ e)
 
 -- ---- the search
 
 nearest-yes : (d : ℕ → Float) (n : ℕ) → lt (d n) (nearestOf d n .distance) ≡ true → nearestOf d (n + 1) ≡ near n (d n)
-unfolding nearestOf
-nearest-yes d n e = ap (nearestOf d) (add-one n) ∙ rw e
+nearest-yes d n e = nearest-best d (n + 1) ∙ sym (best-yes nearer _ _ n (nearestOf d n) (nearest-best d n) e)
 
 nearest-no : (d : ℕ → Float) (n : ℕ) → lt (d n) (nearestOf d n .distance) ≡ false → nearestOf d (n + 1) ≡ nearestOf d n
-unfolding nearestOf
-nearest-no d n e = ap (nearestOf d) (add-one n) ∙ rw e
+nearest-no d n e = nearest-best d (n + 1) ∙ sym (best-no nearer _ _ n (nearestOf d n) (nearest-best d n) e)
 
 pub found-none : (d : ℕ → Float) → Found d 0 0 infinity
 unfolding nearestOf sqrtOf

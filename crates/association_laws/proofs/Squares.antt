@@ -8,18 +8,17 @@ use lib.Ieee.Fits.{mul-fits}
 use Rattle.model.specs.Real.{_⊕_, _⊗_, sumTo}
 use Rattle.model.specs.Numbers.{square}
 use Rattle.model.specs.Association.{dot, smallNorm}
-use Rattle.list_laws.proofs.Bools.{by-bool, true-T, false-T}
-use Rattle.float_laws.proofs.Order.{lt→nle, nlt→le}
+use Rattle.list_laws.proofs.Bools.{by-bool}
+use Rattle.float_laws.proofs.Order.{le→nlt, nlt→le}
 use Rattle.float_laws.proofs.Rounding.{unsigned, round-unsigned}
 use Rattle.float_laws.proofs.Constants.{nought, nought-not-nan}
+use Rattle.float_laws.proofs.Arithmetic.{add-from-zero}
+use Rattle.float_laws.proofs.Magnitude.{Within, within-not-nan}
+use Rattle.float_laws.proofs.Sums.{sum-fits}
 use Rattle.real_laws.proofs.Roots.Nearest.{from-zero}
 use Rattle.association_laws.specs.Flat.{squaresOf}
 use Rattle.association_laws.specs.Search.{Square}
-use Rattle.association_laws.proofs.Search.{squares-short, squares-long, sum-fits, squares-fit}
-use Rattle.association_laws.proofs.Distances.{sum-low}
-
-le-nlt : (x y : Float) → T (le x y) → T (not (lt y x))
-le-nlt x y h = by-bool (lt y x) (λ e. absurd (lt→nle y x (true-T (lt y x) e) h)) (false-T (lt y x))
+use Rattle.association_laws.proofs.Search.{squares-short, squares-long, squares-fit}
 
 -- with the sign clear
 clear-low : (x : Float) → T (fits binary64 x) → T (unsigned x) → T (not (lt x nought))
@@ -27,7 +26,7 @@ clear-low nan X u = absurd u
 clear-low (inf true) X u = absurd u
 clear-low (inf false) X u = unfold lt in tt
 clear-low (fin true m e) X u = absurd u
-clear-low (fin false m e) X u = le-nlt nought (fin false m e) (from-zero m e X)
+clear-low (fin false m e) X u = le→nlt nought (fin false m e) (from-zero m e X)
 
 square-low : (x : Float) → T (not (lt (square x) nought))
 unfolding mul lt
@@ -51,13 +50,21 @@ add-low (fin s m e) (inf false) X Y a b = tt
 add-low (fin s m e) (fin t n d) X Y a b =
     let x = fin s m e in
     let y = fin t n d in
-    le-nlt nought (x ⊕ y)
-    (sum-low x y (record { held = X; finite = tt }) (record { held = Y; finite = tt }) (nlt→le x nought tt nought-not-nan a) (nlt→le y nought tt nought-not-nan b))
+    le→nlt nought (x ⊕ y)
+    (add-from-zero binary64 x y (record { held = X; finite = tt }) (record { held = Y; finite = tt }) (nlt→le x nought tt nought-not-nan a) (nlt→le y nought tt nought-not-nan b))
 
 sum-squares-low : (f : ℕ → Float) (n : ℕ) → T (not (lt (sumTo (λ j. square (f j)) n) nought))
 unfolding sumTo
 sum-squares-low f zero = unfold lt ofBits in tt
 sum-squares-low f (suc n) = add-low (sumTo (λ j. square (f j)) n) (square (f n)) (sum-fits _ n) (mul-fits binary64 (f n) (f n)) (sum-squares-low f n) (square-low (f n))
+
+-- so they are from 0 up where they are numbers
+module _ (k : ℕ) where
+  pub square-from-zero : (x : Float) → Within k (square x) → T (le nought (square x))
+  square-from-zero x w = nlt→le (square x) nought (within-not-nan k (square x) w) nought-not-nan (square-low x)
+
+  pub squares-from-zero : (f : ℕ → Float) (n : ℕ) → Within k (sumTo (λ j. square (f j)) n) → T (le nought (sumTo (λ j. square (f j)) n))
+  squares-from-zero f n w = nlt→le _ nought (within-not-nan k _ w) nought-not-nan (sum-squares-low f n)
 
 pub squares-square : (m : ℕ) (p r : ℕ → Float) → Square (squaresOf m p r)
 squares-square m p r = record { held = squares-fit m p r; low = low }

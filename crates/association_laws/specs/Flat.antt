@@ -7,11 +7,12 @@ use lib.Ieee.{Float, nan, lt}
 use lib.ListN.{getD}
 use Rattle.model.specs.Lists.{listBelow, joinBelow}
 use Rattle.model.specs.Real.{_⊖_, _⊘_, infinity}
+use Rattle.front_laws.specs.Flat.{rowAt}
 use Rattle.model.specs.Association.{leastFrom, greatest, interceptFrom, dot, offSquares, smallNorm, distance, Near, nearestOf}
 
 -- the values of objective j, plan by plan
 abbrev pub column : List Float → ℕ → ℕ → ℕ → Float
-column rows m j p = getD rows (p * m + j) nan
+column rows m j p = rowAt rows m p j
 
 -- the entries of a list from `at` on
 abbrev pub from : List Float → ℕ → ℕ → Float

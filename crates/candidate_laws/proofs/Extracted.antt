@@ -1,6 +1,6 @@
 -- The settings of a plan that may be bred from, with drawn ones where it lacks some, are a candidate within its bounds.
 use Prim.Native.Nat.{ℕ, zero, suc, _<_}
-use mathlib.Core.Path.{_≡_, sym, ap, _∙_}
+use mathlib.Core.Path.{_≡_, refl, sym, ap, _∙_}
 use mathlib.Core.Bool.{Bool, true, false, _||_}
 use mathlib.Core.List.{List, [], _∷_}
 use native.Mathlib.Omega.{arith}
@@ -16,11 +16,11 @@ use Rattle.model.specs.Plan.{Plan, Setting}
 use Rattle.model.specs.Setting.{kindOfDimension, ofWord, validDimension, inBounds, noSetting, sortByParam, extractOne, extract, parentsOf}
 use Rattle.model.specs.Refusal.{badDimensions, namedOnce, fitsDimension, breedable}
 use Rattle.settings.proofs.Valid.{each}
-use Rattle.settings.proofs.InBounds.{Held, sampled-in-bounds}
-use Rattle.variation_laws.proofs.Children.{HeldValue}
+use Rattle.settings.proofs.InBounds.{Held}
+use Rattle.variation_laws.proofs.Children.{HeldValue, Fit}
 use Rattle.candidate_laws.specs.Bounds.{Within}
-use Rattle.candidate_laws.proofs.Sound.{AllHeld, AllValid, Sound, sound-within, sound-none, sound-more, AllSound, all-none, all-cons}
-use Rattle.candidate_laws.proofs.Sampled.{sampled-held}
+use Rattle.candidate_laws.proofs.Sound.{AllHeld, Sound, sound-within, sound-built, AllSound, all-none, all-cons}
+use Rattle.candidate_laws.proofs.Sampled.{sampled-fit}
 
 -- every word is that of a double
 pub word-held : (k w : ℕ) → HeldValue (ofWord k w)
@@ -40,27 +40,22 @@ there : (d : Distribution) (x : Setting) → fitsDimension d x ≡ true → inBo
 unfolding fitsDimension
 there d x h = and-right (eqb (x .kind) (kindOfDimension d)) _ h
 
-module _ (dims : ℕ → Distribution) (sorted : List Setting) where
-  one-in : (i s : ℕ) → Held (dims i) → validDimension (dims i) ≡ true → FitsAt dims sorted i
-      → (inBounds (dims i) (extractOne (dims i) sorted i s .value) ≡ true) × HeldValue (extractOne (dims i) sorted i s .value)
-  unfolding extractOne
-  one-in i s h v f = by-bool (ltb i (length sorted))
-      (λ e. rw e (
-      let x = getD sorted i noSetting in
-      let l = ltb-true i (length sorted) e in
-      (there (dims i) x (sym (ap (λ (b : Bool). b || fitsDimension (dims i) x) (lt-leb (length sorted) i l)) ∙ f), word-held (x .kind) (x .value))))
-      (λ e. rw e (sampled-in-bounds (dims i) s h v, sampled-held (dims i) s))
-
-  all-in : (n s : ℕ) → AllHeld dims n → AllValid dims n → ((i : ℕ) → i < n → FitsAt dims sorted i) → Sound dims n (extract dims n sorted s .value)
-  unfolding extract
-  all-in zero s h v f = sound-none dims
-  all-in (suc n) s h v f =
-      let o = one-in n (extract dims n sorted s .state) (h n (omega arith)) (v n (omega arith)) (f n (omega arith)) in
-      sound-more dims n _ _ (all-in n s (λ d l. h d (omega arith)) (λ d l. v d (omega arith)) (λ d l. f d (omega arith))) (o .0) (o .1)
+one-fit : (dims : ℕ → Distribution) (sorted : List Setting) (i s : ℕ) → Held (dims i) → validDimension (dims i) ≡ true → FitsAt dims sorted i → Fit (dims i) (extractOne (dims i) sorted i s .value)
+unfolding extractOne
+one-fit dims sorted i s h v f = by-bool (ltb i (length sorted))
+    (λ e. rw e (
+    let x = getD sorted i noSetting in
+    let l = ltb-true i (length sorted) e in
+    (there (dims i) x (sym (ap (λ (b : Bool). b || fitsDimension (dims i) x) (lt-leb (length sorted) i l)) ∙ f), word-held (x .kind) (x .value))))
+    (λ e. rw e (sampled-fit (dims i) s h v))
 
 module _ (dims : ℕ → Distribution) (n : ℕ) (h : AllHeld dims n) (b : badDimensions dims n ≡ false) where
   pub extract-sound : (p : Plan) (s : ℕ) → breedable dims n p ≡ true → Sound dims n (extract dims n (sortByParam (p .settings)) s .value)
-  extract-sound p s f = all-in dims (sortByParam (p .settings)) n s h (each dims n b) (breedable-fits dims n p f)
+  unfolding extract
+  extract-sound p s f =
+      let sorted = sortByParam (p .settings) in
+      sound-built dims (λ i. extract dims i sorted s .value) (λ i. extractOne (dims i) sorted i (extract dims i sorted s .state) .value) refl (λ i. refl) n
+      (λ i l. one-fit dims sorted i (extract dims i sorted s .state) (h i l) (each dims n b i l) (breedable-fits dims n p f i l))
 
   pub extract-within : (p : Plan) (s : ℕ) → breedable dims n p ≡ true → Within dims n (extract dims n (sortByParam (p .settings)) s .value)
   extract-within p s f = sound-within dims n _ (extract-sound p s f)

@@ -4,7 +4,7 @@ use mathlib.Core.Path.{_≡_, refl, subst}
 use lib.Dec.{T}
 use lib.Ieee.{Float, nan, inf, fin, binary64, fits, isNan, neg, add, sub, mul, div, le, lt}
 use lib.Ieee.Scale.{finite}
-use lib.Ieee.Fits.{add-fits, sub-fits, mul-fits, div-fits, neg-fits}
+use lib.Ieee.Fits.{add-fits, sub-fits, mul-fits, div-fits}
 use Rattle.float_laws.proofs.Units.{Number}
 use Rattle.float_laws.proofs.Order as order
 use Rattle.float_laws.proofs.Rounding.{le-neg, between-finite}

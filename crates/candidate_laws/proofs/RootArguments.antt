@@ -1,24 +1,25 @@
 -- "For other v, in breeding never above 2^51": every v that crossover and mutation hand to R lies within 0..2^51. Assumes nothing.
 use Prim.Native.Nat.{ℕ, suc, _+_, _-_, _*_, _/_, _^_, _≤_, _<_, zero-le}
-use mathlib.Core.Path.{_≡_, refl, ap, ap₂, subst}
-use mathlib.Core.Bool.{true, false, _&&_, cond}
-use native.Mathlib.Nat.{zero-add, add-zero, one-mul, add-mul, mul-assoc, mul-pos, mul-le-mul-right}
+use mathlib.Core.Path.{_≡_, refl, ap, subst}
+use mathlib.Core.Bool.{true, false, cond}
+use native.Mathlib.Nat.{le-of-lt, zero-add, add-zero, one-mul, add-mul, mul-assoc, mul-pos, mul-le-mul-right}
 use native.Mathlib.Omega.{arith}
 use mathlib.Core.Logic.{inl, inr}
 use lib.Dec.{T, lit<, lit≤, leb→le}
 use lib.IntN.{ℤ, pos, negsuc}
-use lib.Signed.{leZ, _≤ℤ_}
+use lib.Signed.{leZ, _≤ℤ_, leZ-yes}
 use lib.Pow.{pow-pos}
 use lib.Ieee.{Float, binary64, fits, isNan, ofBits, ofInt, add, sub, mul, div, le, lt}
 use lib.Ieee.Fits.{add-fits, sub-fits, mul-fits, ofInt-fits, round-fits}
-use Rattle.list_laws.proofs.Bools.{by-bool, T-true, true-T, false-T, and-left, and-right}
-use Rattle.float_laws.proofs.Units.{Number, Counts, counts→le}
+use Rattle.list_laws.proofs.Bools.{by-bool, true-T, false-T, and-left, and-right}
+use Rattle.float_laws.proofs.Units.{Number, Counts}
 use Rattle.float_laws.proofs.Order as order
 use Rattle.float_laws.proofs.Rounding.{rounded-exact, le-rounded, add-rounded, sub-rounded, round-sle}
 use Rattle.float_laws.proofs.Constants as constants
-use Rattle.float_laws.proofs.Constants.{nought-counts, nought-number, one, one-counts, one-number, exp2, minus-exp2, exp2-wider, bounded}
-use Rattle.float_laws.proofs.Arithmetic.{sub-from-zero, sub-mono-left, sub-number, mul-count, mul-mono, div-mono-left, ratio}
-use Rattle.float_laws.proofs.Magnitude.{exp2-below, div-within}
+use Rattle.float_laws.proofs.Constants.{nought-counts, nought-number, one, one-counts, one-number, exp2, minus-exp2}
+use Rattle.float_laws.proofs.Arithmetic.{sub-from-zero, sub-mono-left, mul-count, mul-mono, div-mono-left, ratio}
+use Rattle.float_laws.proofs.Magnitude.{exp2-below, within-number, sub-within, div-within}
+use Rattle.real_laws.proofs.Roots.Units.{count-le}
 use Rattle.real_laws.proofs.Between.{root-under, next-over}
 use Rattle.rng_util.proofs.Draws.{word-below}
 use Rattle.rng_util.proofs.Unit.{upper-below, unit-counts}
@@ -32,6 +33,7 @@ use Rattle.model.specs.Numbers.{P, R, halvings}
 use Rattle.model.specs.Setting.{minWhole, maxWhole, validDimension, inBounds, drawUnit, spread, ofWhole, mutationShift}
 use Rattle.settings.proofs.Valid.{float-bounds, int-bounds}
 use Rattle.settings.proofs.InBounds.{Held}
+use Rattle.variation_laws.proofs.Children.{Inside, inside, float-inside}
 use Rattle.candidate_laws.proofs.FromZero.{Upto, number, upto-wider, sub-anti, add-upto, mul-upto, one-times-one, power-upto, rest-upto, share}
 
 -- ---- the arguments
@@ -114,7 +116,7 @@ unit-draw : (s : ℕ) → Draw (drawUnit s .value)
 unfolding f64Range ofBits sub
 unit-draw s = nought-plus-draw (drawF64 s .value ⊗ one) (draw-times-one (drawF64 s .value) (word-draw s))
 
--- 1/2, 2, 2^-52 and 2^-51
+-- what is known of 1/2, 1, 2, 2^-52 and 2^-51 by computing
 abbrev halfOf : Float
 halfOf = exp2-below 0
 
@@ -128,9 +130,14 @@ record Known : Type 0 where
   two-upto : Upto twoOf twoOf
   two-top : T (le twoOf (exp2 51))
   above : T (lt constants.nought (exp2-below 50))
+  two-steps : mul binary64 twoOf (exp2-below 51) ≡ exp2-below 50
+  two-times-one : mul binary64 twoOf one ≡ twoOf
+  two-halves : mul binary64 twoOf halfOf ≡ one
+  one-less-half : sub binary64 one halfOf ≡ halfOf
+  one-and-one : add binary64 one one ≡ twoOf
 
 known : Known
-unfolding fits le lt
+unfolding fits le lt mul sub add
 known = record {
   half-number = record { held = tt; finite = tt };
   two-number = record { held = tt; finite = tt };
@@ -138,20 +145,22 @@ known = record {
   two-upto = record { held = tt; from = tt; to = tt };
   two-top = tt;
   above = tt;
+  two-steps = refl;
+  two-times-one = refl;
+  two-halves = refl;
+  one-less-half = refl;
+  one-and-one = refl;
 }
 
 -- a draw lies within 0..1, and leaves at least 2^-52 of 1
-below-one : (k : ℕ) → k < 2 ^ 52 → k * 2 ^ 1022 + 0 ≤ L + 0
-below-one k h = small (k * 2 ^ 1022) (2 ^ 52 * 2 ^ 1022) L refl (mul-le-mul-right {m = k} {n = 2 ^ 52} (2 ^ 1022) (omega arith))
-  where
-    small : (a b c : ℕ) → b ≡ c → a ≤ b → a + 0 ≤ c + 0
-    small a b c e h = omega arith
+below-one : (k : ℕ) → k < 2 ^ 52 → k * 2 ^ 1022 ≤ 2 ^ 52 * 2 ^ 1022
+below-one k h = mul-le-mul-right (2 ^ 1022) (le-of-lt h)
 
 draw-upto : (u : Float) → Draw u → Upto one u
 draw-upto u d = record {
   held = d .held;
-  from = counts→le binary64 constants.nought u 0 0 (d .part * 2 ^ 1022) 0 (nought-counts binary64) (d .counts) zero-le;
-  to = counts→le binary64 u one (d .part * 2 ^ 1022) 0 L 0 (d .counts) (one-counts binary64) (below-one (d .part) (d .small));
+  from = count-le constants.nought u 0 (d .part * 2 ^ 1022) (nought-counts binary64) (d .counts) zero-le;
+  to = count-le u one (d .part * 2 ^ 1022) L (d .counts) (one-counts binary64) (below-one (d .part) (d .small));
 }
 
 step-counts : Counts binary64 (exp2-below 51) (2 ^ 1022) 0
@@ -177,14 +186,6 @@ draw-leaves u d =
 
 -- ---- crossover
 
-two-steps : mul binary64 twoOf (exp2-below 51) ≡ exp2-below 50
-unfolding mul
-two-steps = refl
-
-two-times-one : mul binary64 twoOf one ≡ twoOf
-unfolding mul
-two-times-one = refl
-
 argument : (v : Float) → Upto (exp2 51) v → RootArgument v
 argument v u = record { from = u .from; to = u .to }
 
@@ -193,17 +194,17 @@ module _ (u : Float) (d : Draw u) where
   D = draw-upto u d
 
   lower-spread : RootArgument (mul binary64 twoOf u)
-  lower-spread = argument _ (upto-wider twoOf (exp2 51) _ (known .two-top) (mul-upto twoOf one twoOf u (known .two-number) (one-number binary64) (known .two-upto) D twoOf two-times-one))
+  lower-spread = argument _ (upto-wider twoOf (exp2 51) _ (known .two-top) (mul-upto twoOf one twoOf u (known .two-number) (one-number binary64) (known .two-upto) D twoOf (known .two-times-one)))
 
   abbrev divisor : Float
   divisor = mul binary64 twoOf (sub binary64 one u)
 
   divisor-upto : Upto twoOf divisor
-  divisor-upto = mul-upto twoOf one twoOf (sub binary64 one u) (known .two-number) (one-number binary64) (known .two-upto) (rest-upto u D) twoOf two-times-one
+  divisor-upto = mul-upto twoOf one twoOf (sub binary64 one u) (known .two-number) (one-number binary64) (known .two-upto) (rest-upto u D) twoOf (known .two-times-one)
 
   divisor-least : T (le (exp2-below 50) divisor)
   unfolding le
-  divisor-least = subst (λ (z : Float). T (le z divisor)) two-steps
+  divisor-least = subst (λ (z : Float). T (le z divisor)) (known .two-steps)
       (mul-mono binary64 twoOf twoOf (exp2-below 51) (sub binary64 one u) (known .two-number) (known .two-number) (known .step-number) (number one _ (one-number binary64) (rest-upto u D)) tt tt tt (draw-leaves u d))
 
   upper-spread : RootArgument (div binary64 one divisor)
@@ -225,52 +226,30 @@ spread-argument s =
 
 -- ---- mutation
 
--- x lies within low..high, and these are at most 2^53 in magnitude
-pub record Inside (low high x : Float) : Type 0 where
-  pub low-held : T (fits binary64 low)
-  pub high-held : T (fits binary64 high)
-  pub held : T (fits binary64 x)
-  pub low-end : T (le (minus-exp2 53) low)
-  pub high-end : T (le high (exp2 53))
-  pub above : T (le low x)
-  pub below : T (le x high)
-
-two-halves : mul binary64 twoOf halfOf ≡ one
-unfolding mul
-two-halves = refl
-
-one-less-half : sub binary64 one halfOf ≡ halfOf
-unfolding sub
-one-less-half = refl
-
-one-and-one : add binary64 one one ≡ twoOf
-unfolding add
-one-and-one = refl
-
 -- a + b × c, all within 0..1
 sum-argument : (a b c : Float) → Upto one a → Upto one b → Upto one c → RootArgument (add binary64 a (mul binary64 b c))
 sum-argument a b c A B C =
     argument _ (upto-wider twoOf (exp2 51) _ (known .two-top)
-    (add-upto one one a (mul binary64 b c) (one-number binary64) (one-number binary64) A (mul-upto one one b c (one-number binary64) (one-number binary64) B C one one-times-one) twoOf one-and-one))
+    (add-upto one one a (mul binary64 b c) (one-number binary64) (one-number binary64) A (mul-upto one one b c (one-number binary64) (one-number binary64) B C one one-times-one) twoOf (known .one-and-one)))
 
 twice-upto : (a : Float) → Upto halfOf a → Upto one (mul binary64 twoOf a)
-twice-upto a A = mul-upto twoOf halfOf twoOf a (known .two-number) (known .half-number) (known .two-upto) A one two-halves
+twice-upto a A = mul-upto twoOf halfOf twoOf a (known .two-number) (known .half-number) (known .two-upto) A one (known .two-halves)
 
 module _ (low high x : Float) (i : Inside low high x) (some : le (high ⊖ low) nought ≡ false) where
   ordered : T (le low high)
   ordered = order.le-trans low x high (i .above) (i .below)
 
   LO : Number binary64 low
-  LO = bounded binary64 low 53 53 (i .low-held) (i .low-end) (order.le-trans low high (exp2 53) ordered (i .high-end))
+  LO = within-number 53 low (i .low-within)
 
   HI : Number binary64 high
-  HI = bounded binary64 high 53 53 (i .high-held) (order.le-trans (minus-exp2 53) low high (i .low-end) ordered) (i .high-end)
+  HI = within-number 53 high (i .high-within)
 
   X : Number binary64 x
-  X = bounded binary64 x 53 53 (i .held) (order.le-trans (minus-exp2 53) low x (i .low-end) (i .above)) (order.le-trans x high (exp2 53) (i .below) (i .high-end))
+  X = within-number 53 x (i .within)
 
   range : Number binary64 (high ⊖ low)
-  range = sub-number high low HI LO (order.le-trans high (exp2 53) (exp2 1000) (i .high-end) (exp2-wider .1)) (order.le-trans (minus-exp2 1000) (minus-exp2 53) low (exp2-wider .0) (i .low-end)) ordered
+  range = within-number 54 (high ⊖ low) (sub-within 53 high low (lit≤ tt) (i .high-within) (i .low-within))
 
   range-above : T (lt constants.nought (high ⊖ low))
   unfolding ofBits
@@ -301,12 +280,12 @@ module _ (low high x : Float) (i : Inside low high x) (some : le (high ⊖ low) 
         let r : Upto halfOf (sub binary64 one u) = record {
           held = sub-fits binary64 one u;
           from = rest-upto u d .from;
-          to = subst (λ (z : Float). T (le (sub binary64 one u) z)) one-less-half (sub-anti one u halfOf (one-number binary64) U (known .half-number) h);
+          to = subst (λ (z : Float). T (le (sub binary64 one u) z)) (known .one-less-half) (sub-anti one u halfOf (one-number binary64) U (known .half-number) h);
         } in
         let p : Upto halfOf (sub binary64 u halfOf) = record {
           held = sub-fits binary64 u halfOf;
           from = sub-from-zero binary64 u halfOf U (known .half-number) h;
-          to = subst (λ (z : Float). T (le (sub binary64 u halfOf) z)) one-less-half (sub-mono-left binary64 u one halfOf U (one-number binary64) (known .half-number) (d .to));
+          to = subst (λ (z : Float). T (le (sub binary64 u halfOf) z)) (known .one-less-half) (sub-mono-left binary64 u one halfOf U (one-number binary64) (known .half-number) (d .to));
         } in
         sum-argument _ _ _ (twice-upto _ r) (twice-upto _ p) (power-upto _ (rest-upto _ high-share) (k - 1))
 
@@ -321,18 +300,8 @@ module _ (low high x : Float) (i : Inside low high x) (some : le (high ⊖ low) 
 
 pub float-argument : (d : FloatDistribution) (x : Float) → Held (dist.Float d) → validDimension (dist.Float d) ≡ true → T (fits binary64 x) → inBounds (dist.Float d) (value.Float x) ≡ true
     → le (d .high ⊖ d .low) nought ≡ false → (k s : ℕ) → RootArgument (mutationArgument x (d .low) (d .high) (d .high ⊖ d .low) k (drawUnit s .value))
-unfolding inBounds ofBits
-float-argument d x h v f b some =
-    let e = float-bounds d v in
-    mutation-argument (d .low) (d .high) x (record {
-      low-held = h .0;
-      high-held = h .1;
-      held = f;
-      low-end = e .low-end;
-      high-end = e .high-end;
-      above = true-T _ (and-left (le (d .low) x) (le x (d .high)) b);
-      below = true-T _ (and-right (le (d .low) x) (le x (d .high)) b);
-    }) some
+unfolding inBounds
+float-argument d x h v f b some = mutation-argument (d .low) (d .high) x (float-inside d x h (float-bounds d v) f b) some
 
 -- whole numbers as doubles keep their order
 whole-mono : (a b : ℤ) → a ≤ℤ b → T (le (ofWhole a) (ofWhole b))
@@ -351,21 +320,14 @@ pub int-argument : (d : IntDistribution) (n : ℤ) → validDimension (dist.Int 
 unfolding inBounds
 int-argument d n v b some =
     let e = int-bounds d v in
-    mutation-argument (ofWhole (d .low)) (ofWhole (d .high)) (ofWhole n) (record {
-      low-held = ofInt-fits binary64 (d .low);
-      high-held = ofInt-fits binary64 (d .high);
-      held = ofInt-fits binary64 n;
-      low-end = subst (λ (z : Float). T (le z (ofWhole (d .low)))) (ends .0) (whole-mono minWhole (d .low) (e .low-end));
-      high-end = subst (λ (z : Float). T (le (ofWhole (d .high)) z)) (ends .1) (whole-mono (d .high) maxWhole (e .high-end));
-      above = whole-mono (d .low) n (record { le = true-T _ (and-left (leZ (d .low) n) (leZ n (d .high)) b) });
-      below = whole-mono n (d .high) (record { le = true-T _ (and-right (leZ (d .low) n) (leZ n (d .high)) b) });
-    }) some
+    mutation-argument (ofWhole (d .low)) (ofWhole (d .high)) (ofWhole n)
+    (inside (ofWhole (d .low)) (ofWhole (d .high)) (ofWhole n) (ofInt-fits binary64 (d .low)) (ofInt-fits binary64 (d .high)) (ofInt-fits binary64 n)
+    (subst (λ (z : Float). T (le z (ofWhole (d .low)))) (ends .0) (whole-mono minWhole (d .low) (e .low-end)))
+    (subst (λ (z : Float). T (le (ofWhole (d .high)) z)) (ends .1) (whole-mono (d .high) maxWhole (e .high-end)))
+    (whole-mono (d .low) n (leZ-yes (true-T _ (and-left (leZ (d .low) n) (leZ n (d .high)) b))))
+    (whole-mono n (d .high) (leZ-yes (true-T _ (and-right (leZ (d .low) n) (leZ n (d .high)) b))))) some
 
 -- ---- what it is for
-
-pub argument-within : (v : Float) → RootArgument v → within nought (ofBits binary64 0x4320_0000_0000_0000) v ≡ true
-unfolding ofBits
-argument-within v a = ap₂ (λ p q. p && q) (T-true (le constants.nought v) (a .from)) (T-true (le v (exp2 51)) (a .to))
 
 -- "keeping P(lower) <= v < P(upper)" holds of each such v above 0, to the end
 pub root-keeps : (v : Float) (k : ℕ) → RootArgument v → T (lt constants.nought v) → T (le (P (R v k) k) v) × T (lt v (P (real (suc (halvings v k 63 .lower))) k))

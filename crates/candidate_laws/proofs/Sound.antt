@@ -1,26 +1,22 @@
 -- Candidates within their bounds whose doubles are doubles: crossover, mutation and words ask both. Built place by place, and candidate by candidate.
-use Prim.Native.Nat.{ℕ, zero, suc, _+_, _<_, _≤_}
+use Prim.Native.Nat.{ℕ, zero, suc, _<_, _≤_}
 use mathlib.Core.Path.{_≡_, refl, sym, ap, _∙_, subst}
-use mathlib.Core.Bool.{true}
 use mathlib.Core.List.{List, [], _∷_, _++_}
-use mathlib.Core.Logic.{_⊎_, ⊎-elim}
+use mathlib.Core.Logic.{⊎-elim}
 use native.Mathlib.Nat.{not-suc-le-zero, eq-or-lt-of-le, le-of-suc-le-suc}
 use native.Mathlib.Omega.{arith}
 use lib.ListN.{length, getD, take, length-append, List·getD-append}
 use lib.Seq.{getD-at, getD-take, length-take-le}
 use Rattle.model.specs.declared.Distribution.{Distribution}
 use Rattle.model.specs.declared.ParamValue.{ParamValue}
-use Rattle.model.specs.Setting.{validDimension, inBounds, noValue, settingOf}
+use Rattle.model.specs.Setting.{noValue, settingOf}
 use Rattle.settings.proofs.InBounds.{Held}
-use Rattle.variation_laws.proofs.Children.{HeldValue}
+use Rattle.variation_laws.proofs.Children.{Fit}
 use Rattle.candidate_laws.specs.Bounds.{Within, AllWithin}
 
--- the numbers of n dimensions are such as the machine holds; each dimension is valid
+-- the numbers of n dimensions are such as the machine holds
 abbrev pub AllHeld : (ℕ → Distribution) → ℕ → Type 0
 AllHeld dims n = (d : ℕ) → d < n → Held (dims d)
-
-abbrev pub AllValid : (ℕ → Distribution) → ℕ → Type 0
-AllValid dims n = (d : ℕ) → d < n → validDimension (dims d) ≡ true
 
 -- ---- places of a list that has one entry more
 
@@ -45,21 +41,21 @@ module _ {A : Type 0} where
 
 pub record Sound (dims : ℕ → Distribution) (n : ℕ) (c : List ParamValue) : Type 0 where
   pub whole : length c ≡ n
-  pub bounds : (d : ℕ) → d < n → inBounds (dims d) (settingOf c d) ≡ true
-  pub held : (d : ℕ) → d < n → HeldValue (settingOf c d)
+  pub fits : (d : ℕ) → d < n → Fit (dims d) (settingOf c d)
 
 pub sound-within : (dims : ℕ → Distribution) (n : ℕ) (c : List ParamValue) → Sound dims n c → Within dims n c
-sound-within dims n c s = record { whole = s .whole; bounds = s .bounds }
+sound-within dims n c s = record { whole = s .whole; bounds = λ d h. s .fits d h .0 }
 
-pub sound-none : (dims : ℕ → Distribution) → Sound dims 0 []
-sound-none dims = record { whole = refl; bounds = λ d h. absurd (not-suc-le-zero h); held = λ d h. absurd (not-suc-le-zero h) }
-
-pub sound-more : (dims : ℕ → Distribution) (n : ℕ) (c : List ParamValue) (v : ParamValue) → Sound dims n c → inBounds (dims n) v ≡ true → HeldValue v → Sound dims (suc n) (c ++ (v ∷ []))
-sound-more dims n c v s b h = record {
-  whole = snoc-length c v n (s .whole);
-  bounds = snoc-place c v noValue n (s .whole) (λ (d : ℕ) (x : ParamValue). inBounds (dims d) x ≡ true) (s .bounds) b;
-  held = snoc-place c v noValue n (s .whole) (λ (d : ℕ) (x : ParamValue). HeldValue x) (s .held) h;
-}
+-- one that is built place by place, each setting fit for its dimension
+pub sound-built : (dims : ℕ → Distribution) (build : ℕ → List ParamValue) (v : ℕ → ParamValue) → build 0 ≡ [] → ((i : ℕ) → build (suc i) ≡ build i ++ (v i ∷ []))
+    → (n : ℕ) → ((i : ℕ) → i < n → Fit (dims i) (v i)) → Sound dims n (build n)
+sound-built dims build v none more zero f = rw none (record { whole = refl; fits = λ d h. absurd (not-suc-le-zero h) })
+sound-built dims build v none more (suc n) f =
+    let s = sound-built dims build v none more n (λ i h. f i (omega arith)) in
+    subst (Sound dims (suc n)) (sym (more n)) (record {
+      whole = snoc-length (build n) (v n) n (s .whole);
+      fits = snoc-place (build n) (v n) noValue n (s .whole) (λ (d : ℕ) (x : ParamValue). Fit (dims d) x) (s .fits) (f n (omega arith));
+    })
 
 -- ---- so many candidates
 

@@ -1,12 +1,12 @@
 -- Candidates as words: where a setting lies, that it is read back, and that words of candidates within their bounds are within them.
-use Prim.Native.Nat.{ℕ, zero, suc, _+_, _*_, _<_, _≤_}
+use Prim.Native.Nat.{ℕ, _+_, _*_, _<_, _≤_}
 use mathlib.Core.Path.{_≡_, refl, sym, ap, _∙_}
 use mathlib.Core.Bool.{true, false, true≢false}
 use mathlib.Core.List.{List, [], _∷_, _++_, map, flatten}
 use mathlib.Core.Logic.{⊎-elim}
-use native.Mathlib.Nat.{eq-or-lt-of-le, add-mul, one-mul, mul-le-mul-right}
+use native.Mathlib.Nat.{eq-or-lt-of-le, add-mul, one-mul}
 use native.Mathlib.Omega.{arith}
-use lib.ListN.{length, getD, take, drop, length-append, length-map, List·getD-append}
+use lib.ListN.{length, getD, take, drop, length-map, List·getD-append}
 use lib.Seq.{getD-append-add, getD-take, length-take-le, ext-getD}
 use lib.Ieee.{binary64}
 use lib.Ieee.Bits.{ofBits-toBits}
@@ -17,10 +17,10 @@ use Rattle.model.specs.declared.Distribution.{Distribution}
 use Rattle.model.specs.declared.Distribution.the-variants as dist
 use Rattle.model.specs.declared.ParamValue.{ParamValue}
 use Rattle.model.specs.declared.ParamValue.the-variants as value
-use Rattle.model.specs.Lists.{listBelow, over}
+use Rattle.model.specs.Lists.{over}
 use Rattle.model.specs.Setting.{kindOfDimension, toWord, ofWord, inBounds, noValue, settingOf, wordsOf, WordsWithin}
 use Rattle.model.specs.Session.{overAt}
-use Rattle.variation_laws.proofs.Children.{HeldValue}
+use Rattle.variation_laws.proofs.Children.{Fit}
 use Rattle.settings.specs.Candidate.{parentAt, parentsIn}
 use Rattle.candidate_laws.specs.Bounds.{AllWithin}
 use Rattle.candidate_laws.proofs.Sound.{Sound, AllSound, all-within}
@@ -31,17 +31,17 @@ wrong : {C : Type 0} → false ≡ true → C
 wrong e = absurd (true≢false (sym e))
 
 -- a setting within its dimension's bounds is of its kind, so that its word hands it back
-pub word-back : (d : Distribution) (v : ParamValue) → HeldValue v → inBounds d v ≡ true → ofWord (kindOfDimension d) (toWord v) ≡ v
+pub word-back : (d : Distribution) (v : ParamValue) → Fit d v → ofWord (kindOfDimension d) (toWord v) ≡ v
 unfolding inBounds
-word-back (dist.Float d) (value.Float x) h b = ap value.Float (ofBits-toBits binary64 x h)
-word-back (dist.Float d) (value.Int n) h b = wrong b
-word-back (dist.Float d) (value.Categorical c) h b = wrong b
-word-back (dist.Int d) (value.Float x) h b = wrong b
-word-back (dist.Int d) (value.Int n) h b = ap value.Int (int-of-word-of n)
-word-back (dist.Int d) (value.Categorical c) h b = wrong b
-word-back (dist.Categorical d) (value.Float x) h b = wrong b
-word-back (dist.Categorical d) (value.Int n) h b = wrong b
-word-back (dist.Categorical d) (value.Categorical c) h b = refl
+word-back (dist.Float d) (value.Float x) f = ap value.Float (ofBits-toBits binary64 x (f .1))
+word-back (dist.Float d) (value.Int n) f = wrong (f .0)
+word-back (dist.Float d) (value.Categorical c) f = wrong (f .0)
+word-back (dist.Int d) (value.Float x) f = wrong (f .0)
+word-back (dist.Int d) (value.Int n) f = ap value.Int (int-of-word-of n)
+word-back (dist.Int d) (value.Categorical c) f = wrong (f .0)
+word-back (dist.Categorical d) (value.Float x) f = wrong (f .0)
+word-back (dist.Categorical d) (value.Int n) f = wrong (f .0)
+word-back (dist.Categorical d) (value.Categorical c) f = refl
 
 -- ---- where it lies
 
@@ -97,11 +97,11 @@ module _ (dims : ℕ → Distribution) (n count : ℕ) (cs : List (List ParamVal
   read-back : (i d : ℕ) → i < count → d < n → ofWord (kindOfDimension (dims d)) (getD (wordsOf cs ++ rest) (i * n + d) 0) ≡ settingOf (getD cs i []) d
   read-back i d h k =
       ap (ofWord (kindOfDimension (dims d))) (words-front dims n count cs within rest i d h k)
-      ∙ word-back (dims d) (settingOf (getD cs i []) d) (a .each i h .held d k) (a .each i h .bounds d k)
+      ∙ word-back (dims d) (settingOf (getD cs i []) d) (a .each i h .fits d k)
 
   -- words of candidates within their bounds are within them
   pub words-within : WordsWithin dims n count (wordsOf cs ++ rest)
-  words-within i d h k = ap (inBounds (dims d)) (read-back i d h k) ∙ a .each i h .bounds d k
+  words-within i d h k = ap (inBounds (dims d)) (read-back i d h k) ∙ a .each i h .fits d k .0
 
   row-back : (i : ℕ) → i < count → parentAt dims n (wordsOf cs ++ rest) i ≡ getD cs i []
   unfolding parentAt
@@ -149,6 +149,6 @@ module _ (dims : ℕ → Distribution) (n k : ℕ) (c : List ParamValue) (old : 
       ⊎-elim
       (λ e. ap (λ (x : ℕ). inBounds (dims d) (ofWord (kindOfDimension (dims d)) (getD (overAt (k * n) (map toWord c) old) (x * n + d) 0))) e
       ∙ ap (λ (x : ℕ). inBounds (dims d) (ofWord (kindOfDimension (dims d)) x)) (put-at d l)
-      ∙ ap (inBounds (dims d)) (word-back (dims d) (settingOf c d) (s .held d l) (s .bounds d l)) ∙ s .bounds d l)
+      ∙ ap (inBounds (dims d)) (word-back (dims d) (settingOf c d) (s .fits d l)) ∙ s .fits d l .0)
       (λ m. ap (λ (x : ℕ). inBounds (dims d) (ofWord (kindOfDimension (dims d)) x)) (put-before i d m l) ∙ w i d m l)
       (eq-or-lt-of-le g)

@@ -1,25 +1,28 @@
 -- The four operations, each rounded once, and the order: sums and products of numbers from 0 up grow with each part, differences and quotients with the
 -- first, and a quotient x / a for 0 ≤ x ≤ a lies within 0..1. Assumes nothing.
-use mathlib.Core.Path.{_≡_, refl, ap, _∙_}
-use Prim.Native.Nat.{ℕ, _+_, _-_, _*_, _^_, _≤_, _<_}
-use native.Mathlib.Nat.{zero-mul, mul-comm, mul-pos, mul-le-mul, mul-le-mul-right, add-mul, mul-add, mul-mul-mul-comm}
+use mathlib.Core.Path.{_≡_, ap, _∙_}
+use Prim.Native.Nat.{ℕ, _+_, _-_, _*_, _^_, _≤_, _<_, zero-le}
+use native.Mathlib.Nat.{mul-comm, mul-pos, mul-le-mul, mul-le-mul-right, add-mul, mul-add, mul-mul-mul-comm}
 use native.Mathlib.Omega.{arith}
 use mathlib.Core.Bool.{Bool, true, false}
 use lib.Dec.{T}
 use lib.Pow.{pow-pos}
-use lib.Ieee.{Float, nan, inf, fin, Format, binary64, low, up, down, le, lt, add, sub, mul, div, neg, unlike, fits}
-use lib.Ieee.Fits.{down-pos, sub-fits, neg-fits}
+use lib.Ieee.{Float, nan, inf, fin, Format, low, up, down, le, lt, add, sub, mul, div, neg, unlike}
+use lib.Ieee.Fits.{down-pos, neg-fits}
 use lib.Ieee.Scale.{finite, round-same}
-use Rattle.float_laws.proofs.Units.{Number, Sgn, Counts, le→counts, lt→counts, counts-of, counts-same, sgn-same}
+use Rattle.float_laws.proofs.Units.{Number, Sgn, Counts, le→counts, le→count, counts→le, lt→counts, counts-of, counts-same, sgn-same}
 use Rattle.float_laws.proofs.Order.{le-trans}
-use Rattle.float_laws.proofs.Rounding.{Rounded, rounded-mono, rounded-le, le-rounded, add-rounded, sub-rounded, div-rounded, between-finite}
-use Rattle.float_laws.proofs.Constants.{nought, nought-counts, nought-fits, one, one-counts, one-fits, exp2, exp2-counts, minus-exp2}
+use Rattle.float_laws.proofs.Rounding.{Rounded, rounded-mono, rounded-le, le-rounded, add-rounded, sub-rounded, div-rounded}
+use Rattle.float_laws.proofs.Constants.{nought, nought-counts, nought-fits, one, one-counts, one-fits}
 
-pub neg-number : (x : Float) → Number binary64 x → Number binary64 (neg x)
+pub neg-number : {f : Format} (x : Float) → Number f x → Number f (neg x)
 unfolding neg
 neg-number nan X = absurd (X .finite)
 neg-number (inf s) X = absurd (X .finite)
-neg-number (fin s m e) X = record { held = neg-fits binary64 (fin s m e) (X .held); finite = tt }
+neg-number {f} (fin s m e) X = record { held = neg-fits f (fin s m e) (X .held); finite = tt }
+
+pub itself : {f : Format} (x : Float) → Number f x → T (le x x)
+itself {f} x X = let o = counts-of f x X in counts→le f x x (o .0) (o .1) (o .0) (o .1) (o .2) (o .2) (omega arith)
 
 -- sums times one number
 pub scaled : (a b c d L : ℕ) → a + b ≤ c + d → a * L + b * L ≤ c * L + d * L
@@ -36,6 +39,12 @@ count f x X h =
     let d : 0 + o .1 ≤ o .0 + 0 = le→counts f nought x 0 0 (o .0) (o .1) (nought-counts f) (o .2) h in
     (o .0 - o .1, counts-same f x (o .0) (o .1) (o .0 - o .1) 0 (o .2) (omega arith))
 
+-- what is rounded from 0 up is from 0 up
+pub rounded-from-zero : (f : Format) (x : Float) (p n c : ℕ) → 0 < c → Rounded f x p n c → n ≤ p → T (le nought x)
+rounded-from-zero f x p n c C r h =
+    let a = mul-le-mul-right (2 ^ low f) h in
+    le-rounded f x nought p n c 0 0 C r (nought-fits f) (nought-counts f) (omega arith)
+
 -- ---- sums
 pub add-mono : (f : Format) (x x' y y' : Float) → Number f x → Number f x' → Number f y → Number f y' → T (le x x') → T (le y y') → T (le (add f x y) (add f x' y'))
 add-mono f x x' y y' X X' Y Y' h k =
@@ -49,43 +58,23 @@ add-mono f x x' y y' X X' Y Y' h k =
     (add-rounded f x y (a .0) (a .1) (c .0) (c .1) (a .2) (c .2)) (add-rounded f x' y' (b .0) (b .1) (d .0) (d .1) (b .2) (d .2))
     (scaled (a .0 + c .0) (b .1 + d .1) (b .0 + d .0) (a .1 + c .1) (2 ^ low f) (omega arith))
 
+pub add-from-zero : (f : Format) (x y : Float) → Number f x → Number f y → T (le nought x) → T (le nought y) → T (le nought (add f x y))
+add-from-zero f x y X Y h k =
+    let a = count f x X h in
+    let b = count f y Y k in
+    rounded-from-zero f (add f x y) (a .0 + b .0) 0 (2 ^ low f) (pow-pos (low f)) (add-rounded f x y (a .0) 0 (b .0) 0 (a .1) (b .1)) zero-le
+
 -- ---- differences
 pub sub-from-zero : (f : Format) (x y : Float) → Number f x → Number f y → T (le y x) → T (le nought (sub f x y))
 sub-from-zero f x y X Y h =
     let a = counts-of f x X in
     let b = counts-of f y Y in
     let d = le→counts f y x (b .0) (b .1) (a .0) (a .1) (b .2) (a .2) h in
-    le-rounded f (sub f x y) nought (a .0 + b .1) (a .1 + b .0) (2 ^ low f) 0 0 (pow-pos (low f)) (sub-rounded f x y (a .0) (a .1) (b .0) (b .1) (a .2) (b .2)) (nought-fits f) (nought-counts f)
-    (scaled 0 (a .1 + b .0) (a .0 + b .1) 0 (2 ^ low f) (omega arith))
+    rounded-from-zero f (sub f x y) (a .0 + b .1) (a .1 + b .0) (2 ^ low f) (pow-pos (low f)) (sub-rounded f x y (a .0) (a .1) (b .0) (b .1) (a .2) (b .2)) (omega arith)
 
 pub sub-mono-left : (f : Format) (x x' y : Float) → Number f x → Number f x' → Number f y → T (le x x') → T (le (sub f x y) (sub f x' y))
-sub-mono-left f x x' y X X' Y h =
-    let a = counts-of f x X in
-    let b = counts-of f x' X' in
-    let c = counts-of f y Y in
-    let d = le→counts f x x' (a .0) (a .1) (b .0) (b .1) (a .2) (b .2) h in
-    rounded-mono f (sub f x y) (sub f x' y) (a .0 + c .1) (a .1 + c .0) (2 ^ low f) (b .0 + c .1) (b .1 + c .0) (2 ^ low f) (pow-pos (low f)) (pow-pos (low f))
-    (sub-rounded f x y (a .0) (a .1) (c .0) (c .1) (a .2) (c .2)) (sub-rounded f x' y (b .0) (b .1) (c .0) (c .1) (b .2) (c .2))
-    (scaled (a .0 + c .1) (b .1 + c .0) (b .0 + c .1) (a .1 + c .0) (2 ^ low f) (omega arith))
-
-far : (a b c d B C : ℕ) → C ≡ B + B → a + 0 ≤ B + b → 0 + d ≤ c + B → a + d + 0 ≤ C + (b + c)
-far a b c d B C e h k = omega arith
-
--- a difference from 0 up of doubles of magnitude at most 2 ^ 1000 is a number
-pub sub-number : (x y : Float) → Number binary64 x → Number binary64 y → T (le x (exp2 1000)) → T (le (minus-exp2 1000) y) → T (le y x) → Number binary64 (sub binary64 x y)
-unfolding fits
-sub-number x y X Y h k l =
-    let o = counts-of binary64 x X in
-    let w = counts-of binary64 y Y in
-    let B = 2 ^ 1000 * 2 ^ 1074 in
-    let d1 : o .0 + 0 ≤ B + o .1 = le→counts binary64 x (exp2 1000) (o .0) (o .1) B 0 (o .2) (exp2-counts 1000) h in
-    let d2 : 0 + w .1 ≤ w .0 + B = le→counts binary64 (minus-exp2 1000) y 0 B (w .0) (w .1) (B, refl, refl) (w .2) k in
-    record {
-      held = sub-fits binary64 x y;
-      finite = between-finite nought (sub binary64 x y) (exp2 1001) tt tt (sub-from-zero binary64 x y X Y l)
-          (rounded-le binary64 (sub binary64 x y) (exp2 1001) (o .0 + w .1) (o .1 + w .0) (2 ^ 1074) (2 ^ 1001 * 2 ^ 1074) 0 (pow-pos 1074) (sub-rounded binary64 x y (o .0) (o .1) (w .0) (w .1) (o .2) (w .2)) tt (exp2-counts 1001)
-          (scaled (o .0 + w .1) 0 (2 ^ 1001 * 2 ^ 1074) (o .1 + w .0) (2 ^ 1074) (far (o .0) (o .1) (w .0) (w .1) B (2 ^ 1001 * 2 ^ 1074) refl d1 d2)));
-    }
+unfolding sub
+sub-mono-left f x x' y X X' Y h = let Z = neg-number y Y in add-mono f x x' (neg y) (neg y) X X' Z Z h (itself (neg y) Z)
 
 -- ---- products
 -- (p - n) * (p' - n')
@@ -138,14 +127,7 @@ pub mul-from-zero : (f : Format) (x y : Float) → Number f x → Number f y →
 mul-from-zero f x y X Y h k =
     let a = count f x X h in
     let b = count f y Y k in
-    let L2 = 2 ^ low f * 2 ^ low f in
-    le-rounded f (mul f x y) nought (a .0 * b .0) 0 L2 0 0 (mul-pos (pow-pos (low f)) (pow-pos (low f))) (mul-count f x y (a .0) (b .0) (a .1) (b .1)) (nought-fits f) (nought-counts f)
-    (let z = zero-mul L2 in let w = zero-mul (2 ^ low f) in omega arith)
-
-scaled0 : (a b c : ℕ) → a ≤ b → a * c + 0 * c ≤ b * c + 0 * c
-scaled0 a b c h =
-    let x = mul-le-mul-right c h in
-    omega arith
+    rounded-from-zero f (mul f x y) (a .0 * b .0) 0 (2 ^ low f * 2 ^ low f) (mul-pos (pow-pos (low f)) (pow-pos (low f))) (mul-count f x y (a .0) (b .0) (a .1) (b .1)) zero-le
 
 pub mul-mono : (f : Format) (x x' y y' : Float) → Number f x → Number f x' → Number f y → Number f y' → T (le nought x) → T (le nought y) → T (le x x') → T (le y y')
     → T (le (mul f x y) (mul f x' y'))
@@ -156,12 +138,9 @@ mul-mono f x x' y y' X X' Y Y' p q h k =
     let b' = count f y' Y' (le-trans nought y y' q k) in
     let L2 = 2 ^ low f * 2 ^ low f in
     let P : 0 < L2 = mul-pos (pow-pos (low f)) (pow-pos (low f)) in
-    let d = le→counts f x x' (a .0) 0 (a' .0) 0 (a .1) (a' .1) h in
-    let e = le→counts f y y' (b .0) 0 (b' .0) 0 (b .1) (b' .1) k in
-    let d' : a .0 ≤ a' .0 = omega arith in
-    let e' : b .0 ≤ b' .0 = omega arith in
+    let d = mul-le-mul (le→count f x x' (a .0) (a' .0) (a .1) (a' .1) h) (le→count f y y' (b .0) (b' .0) (b .1) (b' .1) k) in
     rounded-mono f (mul f x y) (mul f x' y') (a .0 * b .0) 0 L2 (a' .0 * b' .0) 0 L2 P P (mul-count f x y (a .0) (b .0) (a .1) (b .1)) (mul-count f x' y' (a' .0) (b' .0) (a' .1) (b' .1))
-    (scaled0 (a .0 * b .0) (a' .0 * b' .0) L2 (mul-le-mul d' e'))
+    (scaled (a .0 * b .0) 0 (a' .0 * b' .0) 0 L2 (omega arith))
 
 -- ---- quotients by a divisor above 0
 pub div-mono-left : (f : Format) (x x' y : Float) → Number f x → Number f x' → Number f y → T (lt nought y) → T (le x x') → T (le (div f x y) (div f x' y))
@@ -176,11 +155,6 @@ div-mono-left f x x' y X X' Y p h =
     rounded-mono f (div f x y) (div f x' y) (a .0) (a .1) (c .0 - c .1) (b .0) (b .1) (c .0 - c .1) z z
     (div-rounded f x y (a .0) (a .1) (c .0) (c .1) q (a .2) (c .2)) (div-rounded f x' y (b .0) (b .1) (c .0) (c .1) q (b .2) (c .2))
     (scaled (a .0) (b .1) (b .0) (a .1) (c .0 - c .1) (omega arith))
-
-lower : (p n c L : ℕ) → n ≤ p → 0 * c + n * L ≤ p * L + 0 * c
-lower p n c L h =
-    let x = mul-le-mul-right L h in
-    omega arith
 
 upper : (p n c L : ℕ) → p ≤ c + n → p * L + 0 * c ≤ L * c + n * L
 upper p n c L h =
@@ -203,6 +177,6 @@ ratio f x y X Y h k l =
     let d3 : 0 + m < q + 0 = lt→counts f nought y 0 0 q m (nought-counts f) (b .2) l in
     let r = div-rounded f x y p n q m (omega arith) (a .2) (b .2) in
     let C : 0 < q - m = omega arith in (
-      le-rounded f (div f x y) nought p n (q - m) 0 0 C r (nought-fits f) (nought-counts f) (lower p n (q - m) (2 ^ low f) (omega arith)),
+      rounded-from-zero f (div f x y) p n (q - m) C r (omega arith),
       rounded-le f (div f x y) one p n (q - m) (2 ^ low f) 0 C r (one-fits f) (one-counts f) (upper p n (q - m) (2 ^ low f) (omega arith)),
     )

@@ -17,6 +17,10 @@ nought = fin false 0 (pos 0)
 abbrev pub one : Float
 one = fin false 1 (pos 0)
 
+-- how many units of a double make 1
+abbrev pub L : ℕ
+L = 2 ^ 1074
+
 -- 2 ^ k and -(2 ^ k)
 abbrev pub exp2 : ℕ → Float
 exp2 k = fin false 1 (pos k)
@@ -30,8 +34,8 @@ nought-counts f = (0, zero-mul (2 ^ low f), refl)
 pub one-counts : (f : Format) → Counts f one (2 ^ low f) 0
 one-counts f = (2 ^ low f, one-mul (2 ^ low f) ∙ sym (mul-one (2 ^ low f)), omega arith)
 
-pub exp2-counts : (k : ℕ) → Counts binary64 (exp2 k) (2 ^ k * 2 ^ 1074) 0
-exp2-counts k = (2 ^ k * 2 ^ 1074, ap (λ (x : ℕ). x * 2 ^ 1074) (one-mul (2 ^ k)) ∙ sym (mul-one (2 ^ k * 2 ^ 1074)), sym (zero-add (2 ^ k * 2 ^ 1074)))
+pub exp2-counts : (k : ℕ) → Counts binary64 (exp2 k) (2 ^ k * L) 0
+exp2-counts k = (2 ^ k * L, ap (λ (x : ℕ). x * L) (one-mul (2 ^ k)) ∙ sym (mul-one (2 ^ k * L)), sym (zero-add (2 ^ k * L)))
 
 pub nought-fits : (f : Format) → T (fits f nought)
 unfolding fits

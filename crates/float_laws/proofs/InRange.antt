@@ -3,7 +3,7 @@
 -- (`floor`), so that low plus it, rounded, is at most high. Assumes nothing.
 use mathlib.Core.Path.{_≡_, refl, sym, ap, _∙_, subst}
 use mathlib.Core.Logic.{inl, inr}
-use Prim.Native.Nat.{ℕ, _+_, _-_, _*_, _/_, _^_, _≤_, _<_}
+use Prim.Native.Nat.{ℕ, _+_, _-_, _*_, _/_, _^_, _≤_, _<_, zero-le}
 use native.Mathlib.Nat.{le-trans, le-of-eq, le-of-lt, lt-of-le-of-lt, eq-or-lt-of-le, eq-zero-or-pos, zero-add, one-mul, mul-one, mul-comm, mul-assoc, mul-right-comm, mul-pos, mul-le-mul, mul-le-mul-left, mul-le-mul-right, add-mul, mul-add, add-le-add, div-one, div-mul-le-self, le-div-iff-mul-le, div-lt-iff-lt-mul}
 use native.Mathlib.Omega.{arith}
 use mathlib.Core.Bool.{true, false, true≢false}
@@ -13,13 +13,11 @@ use lib.Ieee.{Float, nan, inf, fin, binary64, up, down, size, le, add, sub, mul,
 use lib.Ieee.Digits.{size-reaches}
 use lib.Ieee.Fits.{kept-lt, round-fits, mul-fits}
 use lib.Ieee.Exact.{HasValue, round-exact}
-use Rattle.float_laws.proofs.Units.{Number, Counts, le→counts, counts-of, counts-finite, sgn-same}
+use Rattle.float_laws.proofs.Units.{Number, Counts, le→counts, le→count, counts-of, counts-finite, sgn-same}
 use Rattle.float_laws.proofs.Rounding.{Rounded, rounded-le, le-rounded, add-rounded, sub-rounded, between-finite, value-counts}
-use Rattle.float_laws.proofs.Constants.{nought, nought-counts, nought-fits, exp2, exp2-counts, minus-exp2}
-use Rattle.float_laws.proofs.Arithmetic.{scaled, sub-from-zero, sub-number, count, mul-count}
-
-abbrev L : ℕ
-L = 2 ^ 1074
+use Rattle.float_laws.proofs.Constants.{L, nought, exp2, exp2-counts, minus-exp2}
+use Rattle.float_laws.proofs.Arithmetic.{scaled, rounded-from-zero, sub-from-zero, count, mul-count}
+use Rattle.float_laws.proofs.FromZero.{sub-number}
 
 abbrev Top : ℕ
 Top = 2 ^ (1074 + 1024)
@@ -71,15 +69,10 @@ module _ (D dr : ℕ) (x : Float) (r : Rounded binary64 x D 0 L) (i : Counts bin
   -- a held count that is not below D is not below dr
   above : (e : ℕ) → D ≤ e → Held e → dr ≤ e
   above e h y =
-      let l = rounded-le binary64 x (y .0) D 0 L e 0 (pow-pos 1074) r (y .1) (y .2) (scaled D 0 e 0 L (shape D e h)) in
-      let d = le→counts binary64 x (y .0) dr 0 e 0 i (y .2) l in
-      drop0 dr e d
+      le→count binary64 x (y .0) dr e i (y .2) (rounded-le binary64 x (y .0) D 0 L e 0 (pow-pos 1074) r (y .1) (y .2) (scaled D 0 e 0 L (shape D e h)))
     where
       shape : (D e : ℕ) → D ≤ e → D + 0 ≤ e + 0
       shape D e h = omega arith
-
-      drop0 : (a b : ℕ) → a + 0 ≤ b + 0 → a ≤ b
-      drop0 a b h = omega arith
 
   under : (c : ℕ) → c ≤ D → c < Top
   under c h = lt-of-le-of-lt (le-trans h (double D)) big
@@ -158,21 +151,18 @@ module _ (lo hi d : Float) (k : ℕ) (LO : Number binary64 lo) (HI : Number bina
       let t = mul f d x in
       let tr = mul-count f d x (k * 2 ^ 1022) (dr .0) is-draw (dr .1) in
       let LL : 0 < L * L = mul-pos (pow-pos 1074) (pow-pos 1074) in
-      let low-t : T (le nought t) = le-rounded f t nought (k * 2 ^ 1022 * dr .0) 0 (L * L) 0 0 LL tr (nought-fits f) (nought-counts f) (least (k * 2 ^ 1022 * dr .0) L (L * L)) in
+      let low-t : T (le nought t) = rounded-from-zero f t (k * 2 ^ 1022 * dr .0) 0 (L * L) LL tr zero-le in
       let high-t : T (le t (y .0)) = rounded-le f t (y .0) (k * 2 ^ 1022 * dr .0) 0 (L * L) (fl .0) 0 LL tr (y .1) (y .2) (most (k * 2 ^ 1022 * dr .0) (fl .0) L (fl .3)) in
       let FT = between-finite nought t (y .0) tt (counts-finite f (y .0) (fl .0) 0 (y .2)) low-t high-t in
       let tc = count f t (record { held = mul-fits f d x; finite = FT }) low-t in
-      let t-le : tc .0 + 0 ≤ fl .0 + 0 = le→counts f t (y .0) (tc .0) 0 (fl .0) 0 (tc .1) (y .2) high-t in
+      let t-le = le→count f t (y .0) (tc .0) (fl .0) (tc .1) (y .2) high-t in
       let s = add-rounded f lo t pl nl (tc .0) 0 (o .2) (tc .1) in (
         le-rounded f (add f lo t) lo (pl + tc .0) (nl + 0) L pl nl (pow-pos 1074) s (LO .held) (o .2) (scaled pl (nl + 0) (pl + tc .0) nl L (grows pl nl (tc .0))),
-        rounded-le f (add f lo t) hi (pl + tc .0) (nl + 0) L ph nh (pow-pos 1074) s (HI .held) (w .2) (scaled (pl + tc .0) nh ph (nl + 0) L (sums pl nl ph nh D (tc .0) order refl (chain (tc .0) (fl .0) D t-le (fl .1)))),
+        rounded-le f (add f lo t) hi (pl + tc .0) (nl + 0) L ph nh (pow-pos 1074) s (HI .held) (w .2) (scaled (pl + tc .0) nh ph (nl + 0) L (sums pl nl ph nh D (tc .0) order refl (le-trans {n = tc .0} t-le (fl .1)))),
       )
     where
       dif : (pl nl ph nh : ℕ) → pl + nh ≤ ph + nl → ph + nl + 0 ≡ ph + nl - (pl + nh) + (nh + pl)
       dif pl nl ph nh h = omega arith
-
-      least : (a l m : ℕ) → 0 * m + 0 * l ≤ a * l + 0 * m
-      least a l m = omega arith
 
       most : (a c l : ℕ) → a ≤ c * l → a * l + 0 * (l * l) ≤ c * (l * l) + 0 * l
       most a c l h =
@@ -182,9 +172,6 @@ module _ (lo hi d : Float) (k : ℕ) (LO : Number binary64 lo) (HI : Number bina
 
       grows : (p n t : ℕ) → p + (n + 0) ≤ p + t + n
       grows p n t = omega arith
-
-      chain : (t c D : ℕ) → t + 0 ≤ c + 0 → c ≤ D → t ≤ D
-      chain t c D h g = omega arith
 
 -- ---- a value in whole parts of p, counted in the units of 2 ^ -1074: q of them make a part
 

@@ -11,7 +11,7 @@ use lib.Dec.{T, nltb→le}
 use lib.Ieee.{Float, nan, inf, fin, up, down, below, le, lt, eq, isNan}
 use lib.Ieee.Fits.{down-pos}
 use lib.Ieee.Exact.{HasValue}
-use Rattle.list_laws.proofs.Bools.{or-l, or-r}
+use Rattle.list_laws.proofs.Bools.{by-bool, true-T, false-T, or-l, or-r}
 use Rattle.float_laws.proofs.Units.{SLe, SLt, sle→, →sle, →slt, le→sle, sle→le}
 
 sle-trans : (s t u : Bool) (a b c : ℕ) → SLe s a t b → SLe t b u c → SLe s a u c
@@ -100,6 +100,9 @@ lt→nle (fin s m e) (inf false) h k = k
 lt→nle (fin s m e) (fin t n d) h k =
     slt-clash s t (m * up e * down d) (n * up d * down e) (→slt s (m * up e * down d) t (n * up d * down e) h) (→sle t (n * up d * down e) s (m * up e * down d) k)
 
+pub le→nlt : (x y : Float) → T (le x y) → T (not (lt y x))
+le→nlt x y h = by-bool (lt y x) (λ e. absurd (lt→nle y x (true-T (lt y x) e) h)) (false-T (lt y x))
+
 -- which of two it is
 nbelow : (s : Bool) (a : ℕ) (t : Bool) (b : ℕ) → T (not (below s a t b)) → SLe t b s a
 nbelow false a false b h = nltb→le a b h
@@ -122,12 +125,8 @@ nlt→le (fin s m e) (inf true) p q h = tt
 nlt→le (fin s m e) (inf false) p q h = absurd h
 nlt→le (fin s m e) (fin t n d) p q h = sle→ t (n * up d * down e) s (m * up e * down d) (nbelow s (m * up e * down d) t (n * up d * down e) h)
 
-yes-no : (b : Bool) → T b ⊎ T (not b)
-yes-no true = inl tt
-yes-no false = inr tt
-
 pub lt-or-le : (x y : Float) → T (not (isNan x)) → T (not (isNan y)) → T (lt x y) ⊎ T (le y x)
-lt-or-le x y p q = elim (yes-no (lt x y)) [ inl l ↦ inl l | inr h ↦ inr (nlt→le x y p q h) ]
+lt-or-le x y p q = by-bool (lt x y) (λ e. inl (true-T (lt x y) e)) (λ e. inr (nlt→le x y p q (false-T (lt x y) e)))
 
 pub le-total : (x y : Float) → T (not (isNan x)) → T (not (isNan y)) → T (le x y) ⊎ T (le y x)
 le-total x y p q = elim (lt-or-le x y p q) [ inl l ↦ inl (lt→le x y l) | inr h ↦ inr h ]

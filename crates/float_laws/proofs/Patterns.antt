@@ -2,7 +2,7 @@
 use mathlib.Core.Path.{_≡_, refl, sym, ap, _∙_, subst}
 use mathlib.Core.Logic.{inl, inr}
 use Prim.Native.Nat.{ℕ, suc, _+_, _-_, _*_, _/_, _^_, _≤_, _<_, zero-le}
-use native.Mathlib.Nat.{le-trans, le-of-eq, le-of-lt, lt-of-le-of-lt, lt-of-lt-of-le, le-antisymm, eq-or-lt-of-le, lt-of-not-le, zero-add, mul-comm, mul-right-comm, add-mul, mul-le-mul-right, mul-lt-mul-of-pos-right, lt-of-mul-lt-mul-right, mul-div-cancel, le-div-iff-mul-le, pow-succ'}
+use native.Mathlib.Nat.{le-trans, le-of-eq, le-of-lt, lt-of-le-of-lt, lt-of-lt-of-le, le-antisymm, eq-or-lt-of-le, lt-of-not-le, zero-add, add-mul, mul-le-mul-right, mul-div-cancel, le-div-iff-mul-le, pow-succ'}
 use native.Mathlib.Omega.{arith}
 use mathlib.Core.Bool.{Bool, true, false, not}
 use lib.IntN.{ℤ}
@@ -13,9 +13,9 @@ use lib.Ieee.Digits.{size-lt, size-le, size-reaches}
 use lib.Ieee.Fits.{down-pos, kept-lt, two, reach}
 use lib.Ieee.Bits.{ofBits-toBits}
 use lib.Ieee.Nearest.{div-mono}
-use Rattle.float_laws.proofs.Units.{le→counts, placed}
+use Rattle.float_laws.proofs.Units.{le→count, placed}
 use Rattle.float_laws.proofs.Order as total
-use Rattle.float_laws.proofs.Rounding.{unsigned}
+use Rattle.float_laws.proofs.Rounding.{unsigned, under}
 
 -- the pattern of g units
 abbrev enc : ℕ → ℕ → ℕ
@@ -77,14 +77,6 @@ enc-lt f g h =
     let d : ones f * H ≡ 2 * emax f * H + H = add-mul (2 * emax f) 1 H ∙ ap (λ (x : ℕ). 2 * emax f * H + x) (native.Mathlib.Nat.one-mul H) in
     lt-of-lt-of-le c (le-of-eq (sym d))
 
-under : (f : Format) (m : ℕ) (e : ℤ) (j : ℕ) → m * up e * 2 ^ low f ≡ m * 2 ^ j * down e → m * up e < 2 ^ suc (emax f) * down e → m * 2 ^ j < 2 ^ (low f + suc (emax f))
-under f m e j h l =
-    let L = 2 ^ low f in
-    lt-of-mul-lt-mul-right (down e)
-    (subst (λ (z : ℕ). z < 2 ^ (low f + suc (emax f)) * down e) h
-    (subst (λ (z : ℕ). m * up e * L < z) (mul-right-comm (2 ^ suc (emax f)) (down e) L ∙ ap (λ (z : ℕ). z * down e) (mul-comm (2 ^ suc (emax f)) L ∙ sym (pow-add 2 (low f) (suc (emax f)))))
-    (mul-lt-mul-of-pos-right l (pow-pos (low f)))))
-
 no-le : (t : Bool) (n : ℕ) (d : ℤ) → T (le (inf false) (fin t n d)) → ⊥
 unfolding le
 no-le t n d h = h
@@ -112,8 +104,8 @@ le→bits f (fin false m e) (fin false n d) X Y a b h =
     let j = placed f false n d Y in
     let g = m * 2 ^ (i .0) in
     let k = n * 2 ^ (j .0) in
-    let l : g + 0 ≤ k + 0 = le→counts f (fin false m e) (fin false n d) g 0 k 0 (g, i .1, sym (zero-add g)) (k, j .1, sym (zero-add k)) h in
-    le-trans (le-of-eq (bits-is f m e g (i .1))) (le-trans (enc-mono (prec f) g k (prec-pos f) (omega arith)) (le-of-eq (sym (bits-is f n d k (j .1)))))
+    let l = le→count f (fin false m e) (fin false n d) g k (g, i .1, sym (zero-add g)) (k, j .1, sym (zero-add k)) h in
+    le-trans (le-of-eq (bits-is f m e g (i .1))) (le-trans (enc-mono (prec f) g k (prec-pos f) l) (le-of-eq (sym (bits-is f n d k (j .1)))))
 
 not-nan : (x : Float) → T (unsigned x) → T (not (isNan x))
 unfolding isNan
@@ -121,22 +113,20 @@ not-nan nan h = absurd h
 not-nan (inf s) h = tt
 not-nan (fin s m e) h = tt
 
+-- one pattern, one value
+same-bits : (f : Format) (x y : Float) → T (fits f x) → T (fits f y) → toBits f x ≡ toBits f y → x ≡ y
+same-bits f x y X Y e = sym (ofBits-toBits f x X) ∙ ap (λ (z : ℕ). ofBits f z) e ∙ ofBits-toBits f y Y
+
 pub bits→le : (f : Format) (x y : Float) → T (fits f x) → T (fits f y) → T (unsigned x) → T (unsigned y) → toBits f x ≤ toBits f y → T (le x y)
 bits→le f x y X Y a b h = elim (total.le-total x y (not-nan x a) (not-nan y b)) [
   | inl l ↦ l
   | inr r ↦
-      let e : toBits f x ≡ toBits f y = le-antisymm h (le→bits f y x Y X b a r) in
-      let same : x ≡ y = sym (ofBits-toBits f x X) ∙ ap (λ (z : ℕ). ofBits f z) e ∙ ofBits-toBits f y Y in
-      subst (λ (z : Float). T (le x z)) same (total.le-refl x (not-nan x a))
+      subst (λ (z : Float). T (le x z)) (same-bits f x y X Y (le-antisymm h (le→bits f y x Y X b a r))) (total.le-refl x (not-nan x a))
 ]
 
 pub lt→bits : (f : Format) (x y : Float) → T (fits f x) → T (fits f y) → T (unsigned x) → T (unsigned y) → T (lt x y) → toBits f x < toBits f y
 lt→bits f x y X Y a b h = lt-of-not-le (λ (g : toBits f y ≤ toBits f x). total.lt→nle x y h (bits→le f y x Y X b a g))
 
-pub bits→lt : (f : Format) (x y : Float) → T (fits f x) → T (fits f y) → T (unsigned x) → T (unsigned y) → toBits f x < toBits f y → T (lt x y)
-bits→lt f x y X Y a b h = elim (total.lt-or-le x y (not-nan x a) (not-nan y b)) [ inl l ↦ l | inr g ↦ absurd (native.Mathlib.Nat.not-le-of-lt h (le→bits f y x Y X b a g)) ]
-
 -- two values with the sign clear that are level are one
 pub le-antisym : (f : Format) (x y : Float) → T (fits f x) → T (fits f y) → T (unsigned x) → T (unsigned y) → T (le x y) → T (le y x) → x ≡ y
-le-antisym f x y X Y a b h k =
-    sym (ofBits-toBits f x X) ∙ ap (λ (z : ℕ). ofBits f z) (le-antisymm (le→bits f x y X Y a b h) (le→bits f y x Y X b a k)) ∙ ofBits-toBits f y Y
+le-antisym f x y X Y a b h k = same-bits f x y X Y (le-antisymm (le→bits f x y X Y a b h) (le→bits f y x Y X b a k))

@@ -14,6 +14,7 @@ use lib.Ieee.{Float, nan, inf, fin, Format, prec, emax, low, up, down, fits, le,
 use lib.Ieee.Fits.{up-pos, down-pos, round-fits}
 use lib.Ieee.Exact.{HasValue, round-exact}
 use lib.Ieee.Order.{round-mono}
+use lib.Ieee.Positive.{first-pos}
 use lib.Ieee.Scale.{finite, round-same}
 use Rattle.float_laws.proofs.Order.{le-trans as le-trans-float}
 use Rattle.float_laws.proofs.Units.{Sgn, Counts, SLe, sle→, →sle, dif→sle, le→counts, counts→le, placed, counts-of, counts-finite, counts-same}
@@ -258,9 +259,6 @@ div-is f s m e zero d K = absurd (lt-irrefl 0 K)
 div-is f true m e (suc k) d K = ap (λ (b : Bool). cond b (cond (eqb m 0) nan (inf true)) (round f true (m * up e * down d) (suc k * up d * down e))) (lib.Dec.eqb·suc-zero k)
 div-is f false m e (suc k) d K = ap (λ (b : Bool). cond b (cond (eqb m 0) nan (inf false)) (round f false (m * up e * down d) (suc k * up d * down e))) (lib.Dec.eqb·suc-zero k)
 
-first-pos : (n u : ℕ) → 0 < n * u → 0 < n
-first-pos n u h = elim (eq-zero-or-pos n) [ inl z ↦ absurd (lt-irrefl 0 (subst (λ (k : ℕ). 0 < k) (ap (λ (k : ℕ). k * u) z ∙ zero-mul u) h)) | inr p ↦ p ]
-
 gap : (g p n : ℕ) → n ≡ p + g → n < p → ⊥
 gap g p n e h = omega arith
 
@@ -301,17 +299,22 @@ value-counts f nan s g p n h k = absurd h
 value-counts f (inf t) s g p n h k = absurd h
 value-counts f (fin t m e) s g p n h k = (g, h .1, subst (λ (b : Bool). Sgn b g p n) (sym (h .0)) k)
 
+-- m * 2 ^ j units are below the first count that is no float
+pub under : (f : Format) (m : ℕ) (e : ℤ) (j : ℕ) → m * up e * 2 ^ low f ≡ m * 2 ^ j * down e → m * up e < 2 ^ suc (emax f) * down e → m * 2 ^ j < 2 ^ (low f + suc (emax f))
+under f m e j h l =
+    let L = 2 ^ low f in
+    lt-of-mul-lt-mul-right (down e)
+    (subst (λ (z : ℕ). z < 2 ^ (low f + suc (emax f)) * down e) h
+    (subst (λ (z : ℕ). m * up e * L < z) (mul-right-comm (2 ^ suc (emax f)) (down e) L ∙ ap (λ (z : ℕ). z * down e) (mul-comm (2 ^ suc (emax f)) L ∙ sym (pow-add 2 (low f) (suc (emax f)))))
+    (mul-lt-mul-of-pos-right l (pow-pos (low f)))))
+
 round-self : (f : Format) (s : Bool) (m : ℕ) (e : ℤ) (g : ℕ) → T (fits f (fin s m e)) → m * up e * 2 ^ low f ≡ g * down e → HasValue (round f s g (2 ^ low f)) s g (2 ^ low f)
 round-self f s m e g h u =
     let j = placed f s m e h in
     let L = 2 ^ low f in
     let q = m * 2 ^ (j .0) in
     let same : g ≡ q = eq-of-mul-eq-mul-right (down e) (down-pos e) g q (sym u ∙ j .1) in
-    let bound : q * down e < 2 ^ (low f + suc (emax f)) * down e =
-    subst (λ (z : ℕ). z < 2 ^ (low f + suc (emax f)) * down e) (j .1)
-    (subst (λ (z : ℕ). m * up e * L < z) (mul-right-comm (2 ^ suc (emax f)) (down e) L ∙ ap (λ (z : ℕ). z * down e) (mul-comm (2 ^ suc (emax f)) L ∙ sym (pow-add 2 (low f) (suc (emax f)))))
-    (mul-lt-mul-of-pos-right (j .3) (pow-pos (low f)))) in
-    round-exact f s g L m (j .0) (pow-pos (low f)) (j .2) (lt-of-mul-lt-mul-right (down e) bound) (ap (λ (z : ℕ). z * L) same)
+    round-exact f s g L m (j .0) (pow-pos (low f)) (j .2) (under f m e (j .0) (j .1) (j .3)) (ap (λ (z : ℕ). z * L) same)
 
 pub self : (f : Format) (y : Float) (p n : ℕ) → T (fits f y) → Counts f y p n → (w : Float) × Rounded f w p n (2 ^ low f) × Counts f w p n
 self f nan p n h a = absurd a

@@ -1,14 +1,14 @@
 -- "keeping P(lower) <= v < P(upper)": true of the ends from the first halving to the last, for 0 < v ≤ 2^51. Assumes nothing.
 use mathlib.Core.Path.{_≡_, refl, sym, ap, subst}
-use mathlib.Core.Logic.{_⊎_, inl, inr}
-use mathlib.Core.Bool.{Bool, true, false, not, cond}
+use mathlib.Core.Logic.{inl, inr}
+use mathlib.Core.Bool.{Bool, true, false, not, cond, true≢false}
 use Prim.Native.Nat.{ℕ, zero, suc, _+_, _-_, _*_, _/_, _%_, _^_, _≤_, _<_}
 use native.Mathlib.Nat.{mul-pos, zero-add, le-of-eq, le-trans as le-trans-ℕ}
 use native.Mathlib.Omega.{arith}
 use borrow.Author.Tests.{leb-true, leb-false, eqb-true, eqb-false}
 use lib.Dec.{T, leb, eqb}
 use lib.Pow.{pow-pos}
-use lib.Ieee.{Float, binary64, le, lt, mul, fits, isNan, eq, ofBits, toBits, odd}
+use lib.Ieee.{Float, nan, inf, fin, binary64, le, lt, mul, fits, isNan, eq, ofBits, toBits, odd}
 use lib.Ieee.Bits.{ofBits-fits, toBits-ofBits}
 use lib.Ieee.Exact.{HasValue, odd-sign}
 use lib.Ieee.Scale.{finite}
@@ -18,12 +18,13 @@ use Rattle.float_laws.proofs.Rounding.{unsigned, value-counts}
 use Rattle.float_laws.proofs.Patterns.{bits→le}
 use Rattle.float_laws.proofs.Constants.{nought, nought-counts, nought-le-one, one, one-number, exp2}
 use Rattle.float_laws.proofs.Arithmetic.{mul-mono}
+use Rattle.list_laws.proofs.Bools.{by-bool, true-T, no-pass}
 use Rattle.model.specs.Real.{real, nought as origin}
 use Rattle.model.specs.Numbers.{powerUp, P, Ends, ends, halved, halvings, R}
-use Rattle.real_laws.proofs.Roots.Exact.{has-sign}
 use Rattle.real_laws.proofs.Roots.Pattern.{read-low, read-normal}
-use Rattle.real_laws.proofs.Powers.{rise, below-inf, inf-mul, fits-power, above-power, power-mono}
-use Rattle.real_laws.proofs.Halving.{Top, neighbours, upper-half, lower-half, gap, adjacent}
+use Rattle.real_laws.proofs.Powers.{inf-mul, fits-power, above-power, power-mono, same-power}
+use Rattle.real_laws.proofs.Nan.{rise, below-inf}
+use Rattle.real_laws.proofs.Halving.{Top, by-halves, gap, adjacent}
 
 -- ---- the real of a pattern up to that of 2^52
 counted : (q k : ℕ) → (g : ℕ) × HasValue (odd 53 false q k 1074) false g (2 ^ 1074) × (0 < q → 0 < g)
@@ -45,6 +46,14 @@ pattern b t = go (eqb (b / 2 ^ 52) 0) refl
         let c = counted (2 ^ 52 + b % 2 ^ 52) (b / 2 ^ 52 - 1) in
         subst (Counted b) (sym (read-normal b (b / 2 ^ 52 - 1) (b % 2 ^ 52) (omega arith) refl (omega arith))) (c .0, c .1, λ h. c .2 (omega arith))
 
+-- a float with a value that has no sign
+has-sign : (v : Float) (a c : ℕ) → HasValue v false a c → T (unsigned v) × T (not (isNan v)) × T (finite v)
+unfolding isNan
+has-sign nan a c h = absurd h
+has-sign (inf s) a c h = absurd h
+has-sign (fin true m e) a c h = absurd (true≢false (h .0))
+has-sign (fin false m e) a c h = (tt, tt, tt)
+
 pub record FromZero (b : ℕ) : Type 0 where
   pub finite : T (finite (real b))
   pub clear : T (unsigned (real b))
@@ -65,19 +74,7 @@ from-zero b t =
       own = toBits-ofBits binary64 b (omega arith) (s .1);
     }
 
-le-or-lt : (a b : ℕ) → (a ≤ b) ⊎ (b < a)
-le-or-lt a b = go (leb a b) refl
-  where
-    go : (t : Bool) → leb a b ≡ t → (a ≤ b) ⊎ (b < a)
-    go true e = inl (leb-true a b e)
-    go false e = inr (leb-false a b e)
-
 -- ---- the first two ends
-zero-power : (j : ℕ) → powerUp nought j ≡ nought
-unfolding powerUp mul
-zero-power zero = refl
-zero-power (suc j) = ap (λ (p : Float). mul binary64 p nought) (zero-power j)
-
 one-top : mul binary64 one (exp2 52) ≡ exp2 52
 unfolding mul
 one-top = refl
@@ -117,11 +114,7 @@ top-power (suc j) =
 
 not-zero : (v : Float) → T (lt nought v) → eq v origin ≡ false
 unfolding ofBits
-not-zero v h = go (eq v origin) refl
-  where
-    go : (b : Bool) → eq v origin ≡ b → b ≡ false
-    go false e = refl
-    go true e = absurd (lt→nle nought v h (eq→le v nought (subst T (sym e) tt)))
+not-zero v h = no-pass (eq v origin) (λ e. lt→nle nought v h (eq→le v nought (true-T _ e)))
 
 -- ---- every halving
 module _ (v : Float) (k : ℕ) (above : T (lt nought v)) (small : T (le v (exp2 51))) where
@@ -130,10 +123,10 @@ module _ (v : Float) (k : ℕ) (above : T (lt nought v)) (small : T (le v (exp2 
     pub over : T (lt v (P (real (e .upper)) k))
 
   first : Kept (ends 0 Top)
-  unfolding ofBits
+  unfolding ofBits mul
   first =
       record {
-        under = subst (λ (x : Float). T (le x v)) (sym (zero-power (k - 1))) (lt→le nought v above);
+        under = subst (λ (x : Float). T (le x v)) (sym (same-power nought refl (k - 1))) (lt→le nought v above);
         over = le-lt-trans v (exp2 51) (powerUp (exp2 52) (k - 1)) small (lt-le-trans (exp2 51) (exp2 52) (powerUp (exp2 52) (k - 1)) (orders .half-top) (top-power (k - 1)));
       }
 
@@ -145,14 +138,10 @@ module _ (v : Float) (k : ℕ) (above : T (lt nought v)) (small : T (le v (exp2 
       elim (lt-or-le v (P (real m) k) (le-not-nan nought v (lt→le nought v above) .1) (le-not-nan nought (P (real m) k) n .1)) [ inl l ↦ l | inr g ↦ absurd (subst T e g) ]
 
   step : (l u : ℕ) → u ≤ Top → Kept (ends l u) → Kept (halved v k (ends l u))
-  step l u t r = go (leb u (suc l)) refl (le (P (real ((l + u) / 2)) k) v) refl
-    where
-      go : (p : Bool) → leb u (suc l) ≡ p → (q : Bool) → le (P (real ((l + u) / 2)) k) v ≡ q → Kept (halved v k (ends l u))
-      go true a q b = subst Kept (sym (neighbours v k l u (leb-true u (suc l) a))) r
-      go false a true b = subst Kept (sym (upper-half v k l u (leb-false u (suc l) a) b)) (record { under = subst T (sym b) tt; over = r .over })
-      go false a false b =
-          let h = leb-false u (suc l) a in
-          subst Kept (sym (lower-half v k l u h b)) (record { under = r .under; over = beyond ((l + u) / 2) (omega arith) (omega arith) b })
+  step l u t r = by-halves v k l u Kept
+      (λ h. r)
+      (λ h b. record { under = true-T _ b; over = r .over })
+      (λ h b. record { under = r .under; over = beyond ((l + u) / 2) (omega arith) (omega arith) b })
 
   pub kept : (n : ℕ) → Kept (halvings v k n)
   unfolding halvings
@@ -180,16 +169,13 @@ module _ (v : Float) (k : ℕ) (above : T (lt nought v)) (small : T (le v (exp2 
       let t = g .top in
       let here = from-zero l (omega arith) in
       let next = from-zero (suc l) (omega arith) in
-      elim (le-or-lt (toBits binary64 y) l) [
-        | inl m ↦
-            subst (λ (x : Float). T (le y x)) (sym lower-is)
-            (bits→le binary64 y (real l) Y (ofBits-fits binary64 l) N (here .clear) (le-trans-ℕ m (le-of-eq (sym (here .own)))))
-        | inr m ↦
-            let up = bits→le binary64 (real (suc l)) y (ofBits-fits binary64 (suc l)) Y (next .clear) N (le-trans-ℕ (le-of-eq (next .own)) m) in
-            absurd
-            (lt→nle v (P (real (suc l)) k) next-over
-            (le-trans (P (real (suc l)) k) (P y k) v (power-mono (real (suc l)) y (ofBits-fits binary64 (suc l)) Y (next .from) up (k - 1)) h))
-      ]
+      by-bool (leb (toBits binary64 y) l)
+      (λ e. subst (λ (x : Float). T (le y x)) (sym lower-is)
+      (bits→le binary64 y (real l) Y (ofBits-fits binary64 l) N (here .clear) (le-trans-ℕ (leb-true _ l e) (le-of-eq (sym (here .own))))))
+      (λ e. let up = bits→le binary64 (real (suc l)) y (ofBits-fits binary64 (suc l)) Y (next .clear) N (le-trans-ℕ (le-of-eq (next .own)) (leb-false _ l e)) in
+      absurd
+      (lt→nle v (P (real (suc l)) k) next-over
+      (le-trans (P (real (suc l)) k) (P y k) v (power-mono (real (suc l)) y (ofBits-fits binary64 (suc l)) Y (next .from) up (k - 1)) h)))
 
 -- ---- of any v and k: R lies within 0..2^52
 abbrev UpToTop : Float → Type 0

@@ -1,19 +1,19 @@
--- Casts: a double beyond the range of 64 bits, and a whole number of at most 2^53 in magnitude, which comes back. Assumes nothing.
+-- Casts: a double beyond the range of 64 bits. Assumes nothing.
 use mathlib.Core.Path.{_≡_, refl, ap, subst}
 use mathlib.Core.Logic.{inl, inr}
 use mathlib.Core.Bool.{Bool, true, false, not}
-use Prim.Native.Nat.{ℕ, _+_, _-_, _*_, _/_, _^_, _≤_, _<_, min}
+use Prim.Native.Nat.{ℕ, _-_, _*_, _/_, _^_, _≤_, _<_, min}
 use native.Mathlib.Nat.{le-div-iff-mul-le}
 use native.Mathlib.Omega.{arith}
-use lib.Dec.{T, leb→le, ltb→lt}
+use lib.Dec.{T}
 use lib.IntN.{ℤ, pos, negsuc, negℤ}
-use lib.Ieee.{Float, nan, inf, fin, up, down, le, lt, isNan, binary64, ofInt, inFloat, toSigned}
-use lib.Ieee.Back.{positive-back, negative-back}
+use lib.Ieee.{Float, nan, inf, fin, up, down, le, lt, isNan, toSigned}
 use lib.Ieee.Fits.{down-pos}
 use Rattle.float_laws.proofs.Units.{→sle, →slt}
 use Rattle.float_laws.proofs.Order.{nlt→le, lt-or-le, le-not-nan}
 use Rattle.float_laws.proofs.Constants.{exp2}
 use Rattle.list_laws.proofs.Bools.{true-T, false-T}
+use Rattle.real_laws.proofs.Nan.{no-minus}
 
 -- 2^63 and -(2^63)
 abbrev pub bottom : Float
@@ -22,15 +22,12 @@ bottom = fin true 1 (pos 63)
 whole : (a d : ℕ) → 0 < d → 1 * 2 ^ 63 * d ≤ a * 1 → 2 ^ 63 ≤ a / d
 whole a d D h = le-div-iff-mul-le D .1 (omega arith)
 
-none : (a d : ℕ) → 0 < d → 1 * 2 ^ 63 * d + a * 1 ≤ 0 → ⊥
-none a d D h = omega arith
-
 at-top : (x : Float) → T (le (exp2 63) x) → pos (2 ^ 63 - 1) ≡ toSigned 63 x
 unfolding toSigned le
 at-top nan h = absurd h
 at-top (inf true) h = absurd h
 at-top (inf false) h = refl
-at-top (fin true m e) h = absurd (none (m * up e) (down e) (down-pos e) (→sle false (1 * 2 ^ 63 * down e) true (m * up e * 1) h))
+at-top (fin true m e) h = absurd (no-minus 63 m e h)
 at-top (fin false m e) h =
     let a = whole (m * up e) (down e) (down-pos e) (→sle false (1 * 2 ^ 63 * down e) false (m * up e * 1) h) in
     ap pos (omega arith)
@@ -59,16 +56,3 @@ above-range x h k = at-top x (nlt→le x (exp2 63) (le-not-nan bottom x (true-T 
 
 pub below-range : (x : Float) → le bottom x ≡ false → T (not (isNan x)) → negsuc (2 ^ 63 - 1) ≡ toSigned 63 x
 below-range x h k = elim (lt-or-le x bottom k (real true 1 (pos 63))) [ inl l ↦ at-bottom x l | inr g ↦ absurd (subst T h g) ]
-
-small : (n : ℕ) → T (inFloat binary64 (pos n)) → n ≤ 2 ^ 53
-unfolding inFloat
-small n h = leb→le n (2 ^ 53) h
-
-small-below : (n : ℕ) → T (inFloat binary64 (negsuc n)) → n < 2 ^ 53
-unfolding inFloat
-small-below n h = ltb→lt n (2 ^ 53) h
-
--- ---- up to 2^53 a whole number true-T a double, and comes back
-pub there-and-back : (n : ℤ) → T (inFloat binary64 n) → toSigned 63 (ofInt binary64 n) ≡ n
-there-and-back (pos n) h = positive-back binary64 63 n h (let l = small n h in omega arith) .1
-there-and-back (negsuc n) h = negative-back binary64 63 n h (let l = small-below n h in omega arith) .1

@@ -17,10 +17,11 @@ use lib.Ieee.Back.{round-whole, whole-unique}
 use lib.Ieee.Order.{le-of-values}
 use lib.Ieee.Positive.{positive-of-value, values-of-le}
 use Rattle.float_laws.proofs.Units.{→sle, →slt, slt→, placed, zero-exponent}
-use Rattle.float_laws.proofs.Order.{lt-trans}
+use Rattle.float_laws.proofs.Order.{lt-le-trans, le-lt-trans}
 use Rattle.float_laws.proofs.Rounding.{round-neg}
 use Rattle.float_laws.proofs.Constants.{nought, exp2}
 use Rattle.model.specs.Numbers.{roundOf}
+use Rattle.real_laws.proofs.Nan.{no-minus}
 
 -- ---- twice x as a fraction
 sum-same : (s : Bool) (m : ℕ) (e : ℤ) → add binary64 (fin s m e) (fin s m e) ≡ round binary64 s (m * up e * down e + m * up e * down e) (down e * down e)
@@ -103,12 +104,9 @@ module _ (A d : ℕ) (D : 0 < d) where
 bound : (A d : ℕ) → A * 1 < 1 * 2 ^ 52 * d → A < 2 ^ 52 * d
 bound A d h = omega arith
 
-sides : T (lt (fin true 1 (pos 0)) nought) × T (lt (exp2 52) (fin false 1 (pos 64)))
+pub castable : (x : Float) → T (le nought x) → T (le x (exp2 52)) → T (lt (fin true 1 (pos 0)) x) × T (lt x (fin false 1 (pos 64)))
 unfolding lt
-sides = (tt, tt)
-
-pub castable : (x : Float) → T (lt nought x) → T (lt x (exp2 52)) → T (lt (fin true 1 (pos 0)) x) × T (lt x (fin false 1 (pos 64)))
-castable x h k = (lt-trans (fin true 1 (pos 0)) nought x (sides .0) h, lt-trans x (exp2 52) (fin false 1 (pos 64)) k (sides .1))
+castable x h k = (lt-le-trans (fin true 1 (pos 0)) nought x tt h, le-lt-trans x (exp2 52) (fin false 1 (pos 64)) k tt)
 
 num-pos : (m : ℕ) (e : ℤ) → T (lt nought (fin false m e)) → 0 < m * up e
 unfolding lt
@@ -179,10 +177,7 @@ pub from-whole : (x : Float) → T (fits binary64 x) → T (le (exp2 52) x) → 
 unfolding roundOf le
 from-whole nan X h = refl
 from-whole (inf s) X h = refl
-from-whole (fin true m e) X h = absurd (none (m * up e) (down e) (down-pos e) (→sle false (1 * 2 ^ 52 * down e) true (m * up e * 1) h))
-  where
-    none : (a d : ℕ) → 0 < d → 1 * 2 ^ 52 * d + a * 1 ≤ 0 → ⊥
-    none a d D h = omega arith
+from-whole (fin true m e) X h = absurd (no-minus 52 m e h)
 from-whole (fin false m (negsuc k)) X h = absurd (no-fraction m k X h)
 from-whole (fin false m (pos k)) X h = sym (ap (λ (z : ℕ). round binary64 false z 1) (same (m * 2 ^ k)) ∙ whole-own m k X)
   where

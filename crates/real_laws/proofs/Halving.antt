@@ -8,6 +8,7 @@ use borrow.Author.Tests.{le-leb, lt-leb, leb-true, leb-false}
 use lib.Dec.{leb}
 use lib.Pow.{pow-mono}
 use lib.Ieee.{Float, le, eq}
+use Rattle.list_laws.proofs.Bools.{by-bool}
 use Rattle.model.specs.Real.{real, nought}
 use Rattle.model.specs.Numbers.{P, Ends, ends, halfBy, halved, halvings, R}
 
@@ -33,6 +34,15 @@ module _ (v : Float) (k : ℕ) where
   unfolding halfBy
   lower-half l u h t = parted l u h ∙ ap (λ (b : Bool). cond b (ends ((l + u) / 2) u) (ends l ((l + u) / 2))) t
 
+  -- what holds of neighbours, and of either half of others, holds after a halving
+  pub by-halves : (l u : ℕ) (C : Ends → Type 0) → (u ≤ suc l → C (ends l u)) → (suc l < u → le (P (real ((l + u) / 2)) k) v ≡ true → C (ends ((l + u) / 2) u))
+      → (suc l < u → le (P (real ((l + u) / 2)) k) v ≡ false → C (ends l ((l + u) / 2))) → C (halved v k (ends l u))
+  by-halves l u C a b c = by-bool (leb u (suc l))
+      (λ e. let h = leb-true u (suc l) e in subst C (sym (neighbours l u h)) (a h))
+      (λ e. let h = leb-false u (suc l) e in by-bool (le (P (real ((l + u) / 2)) k) v)
+      (λ t. subst C (sym (upper-half l u h t)) (b h t))
+      (λ t. subst C (sym (lower-half l u h t)) (c h t)))
+
   -- ---- the numbers between the ends become half as many with each halving
   pub record Gap (n : ℕ) (e : Ends) : Type 0 where
     pub order : e .lower < e .upper
@@ -51,19 +61,10 @@ module _ (v : Float) (k : ℕ) where
       record { order = o; top = let s = g .top in omega arith; left = less (u - l - 1) (u' - l' - 1) (2 ^ n) (2 ^ suc n) h (pow-suc 2 n) (g .left) }
 
   gap-step : (n l u : ℕ) → Gap n (ends l u) → Gap (suc n) (halved v k (ends l u))
-  gap-step n l u g = go (leb u (suc l)) refl (le (P (real ((l + u) / 2)) k) v) refl
-    where
-      go : (p : Bool) → leb u (suc l) ≡ p → (q : Bool) → le (P (real ((l + u) / 2)) k) v ≡ q → Gap (suc n) (halved v k (ends l u))
-      go true a q b =
-          let h = leb-true u (suc l) a in
-          let o = g .order in
-          subst (Gap (suc n)) (sym (neighbours l u h)) (narrower n l u l u g o (omega arith) (omega arith))
-      go false a true b =
-          let h = leb-false u (suc l) a in
-          subst (Gap (suc n)) (sym (upper-half l u h b)) (narrower n l u ((l + u) / 2) u g (omega arith) (omega arith) (omega arith))
-      go false a false b =
-          let h = leb-false u (suc l) a in
-          subst (Gap (suc n)) (sym (lower-half l u h b)) (narrower n l u l ((l + u) / 2) g (omega arith) (omega arith) (omega arith))
+  gap-step n l u g = by-halves l u (Gap (suc n))
+      (λ h. let o = g .order in narrower n l u l u g o (omega arith) (omega arith))
+      (λ h t. narrower n l u ((l + u) / 2) u g (omega arith) (omega arith) (omega arith))
+      (λ h t. narrower n l u l ((l + u) / 2) g (omega arith) (omega arith) (omega arith))
 
   pub gap : (n : ℕ) → Gap n (halvings v k n)
   unfolding halvings

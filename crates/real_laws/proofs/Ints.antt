@@ -4,8 +4,8 @@ use mathlib.Core.Bool.{Bool, true, false, cond, true≢false}
 use Prim.Native.Nat.{ℕ, zero, suc, _+_, _-_, _*_, _/_, _%_, _^_, _<_}
 use native.Mathlib.Nat.{zero-add}
 use native.Mathlib.Omega.{arith}
-use borrow.Author.Tests.{eqb-true, eqb-false, eq-eqb, ne-eqb, le-ltb}
-use lib.Dec.{T, eqb, leb·zero}
+use borrow.Author.Tests.{eq-eqb, ne-eqb, le-ltb}
+use lib.Dec.{T, leb·zero}
 use lib.IntN.{ℤ, pos, negsuc, natAbs, _-ℤ_}
 use lib.Signed.{nonNeg, leZ}
 use mir.Syntax.{w64}
@@ -13,16 +13,6 @@ use mir.Val.{Fits, SFits}
 use Rattle.model.specs.Setting.{wordOfInt, intOfWord}
 
 -- ---- there and back
-pub int-of-word-of : (z : ℤ) → intOfWord (wordOfInt z) ≡ z
-unfolding intOfWord
-int-of-word-of (pos n) =
-    ap (λ (b : Bool). cond b (pos (2 * n / 2)) (negsuc (2 * n / 2))) (eq-eqb (2 * n % 2) 0 (omega arith)) ∙ ap pos (omega arith)
-int-of-word-of (negsuc n) =
-    ap (λ (b : Bool). cond b (pos ((2 * n + 1) / 2)) (negsuc ((2 * n + 1) / 2))) (ne-eqb ((2 * n + 1) % 2) 0 (λ e. odd n e)) ∙ ap negsuc (omega arith)
-  where
-    odd : (n : ℕ) → (2 * n + 1) % 2 ≡ 0 → ⊥
-    odd n e = omega arith
-
 pub intOfWord-even : (w : ℕ) → w % 2 ≡ 0 → intOfWord w ≡ pos (w / 2)
 unfolding intOfWord
 intOfWord-even w h = ap (λ (b : Bool). cond b (pos (w / 2)) (negsuc (w / 2))) (eq-eqb (w % 2) 0 h)
@@ -31,26 +21,12 @@ pub intOfWord-odd : (w : ℕ) → (w % 2 ≡ 0 → ⊥) → intOfWord w ≡ negs
 unfolding intOfWord
 intOfWord-odd w h = ap (λ (b : Bool). cond b (pos (w / 2)) (negsuc (w / 2))) (ne-eqb (w % 2) 0 h)
 
-pub word-of-int-of : (w : ℕ) → wordOfInt (intOfWord w) ≡ w
-unfolding intOfWord
-word-of-int-of w = go (eqb (w % 2) 0) refl
+pub int-of-word-of : (z : ℤ) → intOfWord (wordOfInt z) ≡ z
+int-of-word-of (pos n) = intOfWord-even (2 * n) (omega arith) ∙ ap pos (omega arith)
+int-of-word-of (negsuc n) = intOfWord-odd (2 * n + 1) (odd n) ∙ ap negsuc (omega arith)
   where
-    go : (b : Bool) → eqb (w % 2) 0 ≡ b → wordOfInt (cond b (pos (w / 2)) (negsuc (w / 2))) ≡ w
-    go true h = let e = eqb-true (w % 2) 0 h in omega arith
-    go false h = let e = eqb-false (w % 2) 0 h in omega arith
-
--- a word's number fits 64 bits, and a 64-bit number's word is one
-pub intOfWord-fits : (w : ℕ) → w < 2 ^ 64 → SFits w64 (intOfWord w)
-unfolding intOfWord
-intOfWord-fits w h = go (eqb (w % 2) 0)
-  where
-    go : (b : Bool) → SFits w64 (cond b (pos (w / 2)) (negsuc (w / 2)))
-    go true = record { sfits = omega arith }
-    go false = record { sfits = omega arith }
-
-pub wordOfInt-below : (z : ℤ) → SFits w64 z → wordOfInt z < 2 ^ 64
-wordOfInt-below (pos n) f = let g : n < 2 ^ 63 = f .sfits in omega arith
-wordOfInt-below (negsuc n) f = let g : n < 2 ^ 63 = f .sfits in omega arith
+    odd : (n : ℕ) → (2 * n + 1) % 2 ≡ 0 → ⊥
+    odd n e = omega arith
 
 -- ---- -1 - z, which turns the numbers from zero up into those below, and back
 pub other : (k : ℕ) → negsuc 0 -ℤ pos k ≡ negsuc k

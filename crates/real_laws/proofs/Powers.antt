@@ -1,39 +1,25 @@
 -- Powers of a double from zero up, by repeated rounded products: they are from zero up, and grow with the double, also where they overflow.
 -- Assumes nothing.
-use mathlib.Core.Path.{_≡_, refl, sym, ap, subst}
-use mathlib.Core.Logic.{_⊎_, inl, inr}
-use mathlib.Core.Bool.{Bool, true, false, not, cond}
-use Prim.Native.Nat.{ℕ, zero, suc, _*_, _^_, _<_}
-use native.Mathlib.Nat.{zero-mul}
+use mathlib.Core.Path.{_≡_, refl, sym, ap, _∙_, subst}
+use mathlib.Core.Logic.{inl, inr}
+use mathlib.Core.Bool.{Bool, true, false, cond}
+use Prim.Native.Nat.{ℕ, zero, suc, _*_, _^_, _<_, zero-le}
+use native.Mathlib.Nat.{le-antisymm, zero-mul}
 use native.Mathlib.Omega.{arith}
 use borrow.Author.Tests.{ne-eqb}
 use lib.Dec.{T, lit<}
 use lib.IntN.{ℤ}
-use lib.Ieee.{Float, nan, inf, fin, binary64, up, down, le, lt, mul, fits, isNan}
+use lib.Ieee.{Float, nan, inf, fin, binary64, up, down, le, lt, mul, fits}
 use lib.Ieee.Fits.{mul-fits}
 use lib.Ieee.Scale.{finite}
-use Rattle.float_laws.proofs.Units.{Counts, counts-of, counts-same, le→counts, counts→le, →slt}
+use Rattle.float_laws.proofs.Units.{Counts, counts→le, →slt}
 use Rattle.float_laws.proofs.Order.{le-trans, le-not-nan, lt→le, lt-or-le}
 use Rattle.float_laws.proofs.Rounding.{between-finite, rounded-exact}
-use Rattle.float_laws.proofs.Constants.{nought, nought-counts, nought-fits, nought-not-nan, one, one-fits}
-use Rattle.float_laws.proofs.Arithmetic.{mul-mono, mul-from-zero, mul-rounded}
+use Rattle.float_laws.proofs.Constants.{nought, nought-counts, nought-fits, nought-not-nan}
+use Rattle.float_laws.proofs.Arithmetic.{count, mul-mono, mul-from-zero, mul-rounded}
 use Rattle.model.specs.Numbers.{powerUp}
-
--- ---- what is from zero up is an infinity, or finite
-pub rise : (x : Float) → T (le nought x) → (x ≡ inf false) ⊎ T (finite x)
-unfolding le
-rise nan h = absurd h
-rise (inf true) h = absurd h
-rise (inf false) h = inl refl
-rise (fin s m e) h = inr tt
-
--- nothing but a NaN is above the infinity
-pub below-inf : (x : Float) → T (not (isNan x)) → T (le x (inf false))
-unfolding le isNan
-below-inf nan h = absurd h
-below-inf (inf true) h = tt
-below-inf (inf false) h = tt
-below-inf (fin s m e) h = tt
+use Rattle.real_laws.proofs.Nan.{rise, below-inf}
+use Rattle.real_laws.proofs.Roots.Units.{le-count}
 
 nought-inf : T (le nought (inf false))
 unfolding le
@@ -70,10 +56,8 @@ module _ (z : Float) (Z : T (fits binary64 z)) (F : T (finite z)) (h : T (lt nou
 -- ---- powers of a zero
 level : (y : Float) → T (fits binary64 y) → T (le nought y) → T (le y nought) → Counts binary64 y 0 0
 level y Y h k =
-    let o = counts-of binary64 y (record { held = Y; finite = between-finite nought y nought tt tt h k }) in
-    let a = le→counts binary64 nought y 0 0 (o .0) (o .1) (nought-counts binary64) (o .2) h in
-    let b = le→counts binary64 y nought (o .0) (o .1) 0 0 (o .2) (nought-counts binary64) k in
-    counts-same binary64 y (o .0) (o .1) 0 0 (o .2) (omega arith)
+    let c = count binary64 y (record { held = Y; finite = between-finite nought y nought tt tt h k }) h in
+    subst (λ (g : ℕ). Counts binary64 y g 0) (le-antisymm (le-count y nought (c .0) 0 (c .1) (nought-counts binary64) k) zero-le) (c .1)
 
 zero-power : (y : Float) → Counts binary64 y 0 0 → (j : ℕ) → Counts binary64 (powerUp y j) 0 0
 unfolding powerUp
@@ -81,11 +65,15 @@ zero-power y i zero = i
 zero-power y i (suc j) =
     rounded-exact binary64 (mul binary64 (powerUp y j) y) nought 0 0 (2 ^ 1074 * 2 ^ 1074) 0 0 (lit< tt) (mul-rounded binary64 (powerUp y j) y 0 0 0 0 (zero-power y i j) i) (nought-fits binary64) (nought-counts binary64) refl
 
--- ---- powers of the infinity
+-- ---- powers of what is its own square, as the infinity is
+pub same-power : (y : Float) → mul binary64 y y ≡ y → (j : ℕ) → powerUp y j ≡ y
+unfolding powerUp
+same-power y e zero = refl
+same-power y e (suc j) = ap (λ (p : Float). mul binary64 p y) (same-power y e j) ∙ e
+
 inf-power : (j : ℕ) → powerUp (inf false) j ≡ inf false
-unfolding powerUp mul
-inf-power zero = refl
-inf-power (suc j) = ap (λ (p : Float). mul binary64 p (inf false)) (inf-power j)
+unfolding mul
+inf-power j = same-power (inf false) refl j
 
 -- ---- a power of what is from zero up is from zero up
 pub power-from : (y : Float) → T (fits binary64 y) → T (le nought y) → (j : ℕ) → T (le nought (powerUp y j))
@@ -126,13 +114,3 @@ module _ (y z : Float) (Y : T (fits binary64 y)) (Z : T (fits binary64 z)) (h : 
           counts→le binary64 (powerUp y j) (powerUp z j) 0 0 0 0 (zero-power y (level y Y h (le-trans y z nought k m)) j) (zero-power z (level z Z (le-trans nought y z h k) m) j) (omega arith)
     ]
   ]
-
--- ---- so powers of 0..1 stay there
-one-power : (j : ℕ) → powerUp one j ≡ one
-unfolding powerUp mul
-one-power zero = refl
-one-power (suc j) = ap (λ (p : Float). mul binary64 p one) (one-power j)
-
-pub power-within : (y : Float) → T (fits binary64 y) → T (le nought y) → T (le y one) → (j : ℕ) → T (le nought (powerUp y j)) × T (le (powerUp y j) one)
-power-within y Y h k j =
-    (power-from y Y h j, subst (λ (x : Float). T (le (powerUp y j) x)) (one-power j) (power-mono y one Y (one-fits binary64) h k j))

@@ -6,7 +6,5 @@ pub mod Digits
 pub mod Pattern
 pub mod Monotone
 pub mod Nearest
-pub mod Exact
-pub mod Fractions
 pub mod Apart
 pub mod Examples

@@ -1,6 +1,6 @@
 -- Mutation's steps as the definitions have them.
-use mathlib.Core.Path.{_≡_, refl, sym, ap, ap₂, _∙_}
-use mathlib.Core.Bool.{Bool, true, false, cond}
+use mathlib.Core.Path.{_≡_, ap, _∙_}
+use mathlib.Core.Bool.{true, false}
 use Prim.Native.Nat.{ℕ}
 use lib.Ieee.{Float, le, lt}
 use Rattle.model.specs.Real.{_⊕_, _⊖_, _⊗_, _⊘_, nought, half, unit, two, clamp}

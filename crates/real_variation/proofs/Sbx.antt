@@ -5,7 +5,6 @@ use Prim.Native.Nat.{ℕ}
 use lib.Ieee.{Float, le}
 use Rattle.model.specs.Real.{_⊖_, _⊗_, _⊘_, half, unit, two, clamp}
 use Rattle.model.specs.Numbers.{R}
-use Rattle.model.specs.Draw.{Drawn, drawn}
 use Rattle.model.specs.Setting.{drawUnit, spread}
 
 pub spread-low : (u : Float) (k : ℕ) → le u half ≡ true → R (two ⊗ u) k ≡ spread u k
@@ -15,13 +14,6 @@ spread-low u k h = rw h
 pub spread-high : (u : Float) (k : ℕ) → le u half ≡ false → R (unit ⊘ (two ⊗ (unit ⊖ u))) k ≡ spread u k
 unfolding spread
 spread-high u k h = rw h
-
--- the two parts of a draw
-pub value-of : (s : ℕ) (u : Float) (t : ℕ) → drawn u t ≡ drawUnit s → u ≡ drawUnit s .value
-value-of s u t e = ap (λ (d : Drawn Float). d .value) e
-
-pub state-of : (s : ℕ) (u : Float) (t : ℕ) → drawn u t ≡ drawUnit s → t ≡ drawUnit s .state
-state-of s u t e = ap (λ (d : Drawn Float). d .state) e
 
 -- a child: what a function g of beta makes, held within the bounds
 pub child-is : (g : Float → Float) (low high beta u : Float) (k s : ℕ) (m r : Float) → beta ≡ spread u k → u ≡ drawUnit s .value → m ≡ g beta → r ≡ clamp low high m

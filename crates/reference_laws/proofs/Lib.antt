@@ -3,5 +3,3 @@ pub mod Table
 pub mod First
 pub mod Rows
 pub mod Divisions
-pub mod Amount
-pub mod Norm

@@ -1,7 +1,7 @@
 -- Laws of the rows that the recursion writes, and of a table whose rest is written. Assumes nothing.
 use Prim.Native.Nat.{ℕ, zero, suc, _+_, _-_, _*_, _<_, _≤_}
 use mathlib.Core.Path.{_≡_, refl, sym, ap, _∙_}
-use mathlib.Core.List.{List, [], _∷_, _++_, map, flatten, append-assoc, append-nil, List·Memᴰ, Memᴰ·of-map}
+use mathlib.Core.List.{List, [], _∷_, _++_, map, map-append, flatten, append-assoc, append-nil, List·Memᴰ, Memᴰ·of-map}
 use native.Mathlib.Nat.{le-refl, add-zero, add-suc}
 use native.Mathlib.Numerals.{add-one}
 use native.Mathlib.Omega.{arith}
@@ -35,10 +35,6 @@ module _ {A : Type 0} (f : ℕ → List A) where
 
 -- ---- the rows of the recursion
 
-map-join : {A B : Type 0} (f : A → B) (a b : List A) → map f (a ++ b) ≡ map f a ++ map f b
-map-join f [] b = refl
-map-join f (x ∷ a) b = ap (λ l. f x ∷ l) (map-join f a b)
-
 -- the rows that begin with `before` and go on with each tuple
 abbrev rows : List Float → ℕ → List (List ℕ) → List Float
 rows before h ts = flatten (map (λ t. before ++ map (ratio h) t) ts)
@@ -48,7 +44,7 @@ unfolding joinBelow flatten
 rows-join before h F zero = refl
 rows-join before h F (suc n) =
     let row : List ℕ → List Float = λ t. before ++ map (ratio h) t in
-    ap flatten (map-join row (joinBelow F n) (F n))
+    ap flatten (map-append row (joinBelow F n) (F n))
     ∙ flatten-append (map row (joinBelow F n)) (map row (F n))
     ∙ ap (λ (l : List Float). l ++ rows before h (F n)) (rows-join before h F n)
 

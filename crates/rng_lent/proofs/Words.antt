@@ -1,8 +1,8 @@
 -- What draws in turn leave behind. Assumes nothing.
 use mathlib.Core.Path.{_≡_, sym, ap, subst, _∙_}
 use Prim.Native.Nat.{ℕ, _<_, _^_}
-use Rattle.model.specs.Draw.{Drawn, drawn, drawWord}
-use Rattle.rng_util.proofs.Draws.{step-below}
+use Rattle.model.specs.Draw.{drawn, drawWord}
+use Rattle.rng_util.proofs.Draws.{drawn-value, drawn-state, step-below}
 
 state-below : (n : ℕ) → drawWord n .state < 2 ^ 64
 unfolding drawWord
@@ -10,9 +10,9 @@ state-below n = step-below n
 
 -- the state after a draw is a word
 pub after-below : (n m r : ℕ) → drawn r m ≡ drawWord n → m < 2 ^ 64
-after-below n m r e = subst (λ (t : ℕ). t < 2 ^ 64) (sym (ap (λ (d : Drawn ℕ). d .state) e)) (state-below n)
+after-below n m r e = subst (λ (t : ℕ). t < 2 ^ 64) (sym (drawn-state e)) (state-below n)
 
 -- the second draw starts at the state that the first left
 pub in-turn : (n m m′ r r′ : ℕ) → drawn r m ≡ drawWord n → drawn r′ m′ ≡ drawWord m
     → (r ≡ drawWord n .value) × (drawn r′ m′ ≡ drawWord (drawWord n .state))
-in-turn n m m′ r r′ e e′ = (ap (λ (d : Drawn ℕ). d .value) e, e′ ∙ ap (λ (d : Drawn ℕ). drawWord (d .state)) e)
+in-turn n m m′ r r′ e e′ = (drawn-value e, e′ ∙ ap drawWord (drawn-state e))

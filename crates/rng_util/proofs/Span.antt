@@ -29,6 +29,15 @@ module _ (a b : ℤ) (fa : SFits w64 a) (fb : SFits w64 b) (h : (a ≤ℤ b) × 
   pub diff-fits : SFits w64 (b -ℤ a)
   diff-fits = in-up (b -ℤ a) (omega (arith, diff-up, ord, low, high)) (omega (arith, diff-up, ord, low, high))
 
+  pub diff-nonNeg : T (nonNeg (b -ℤ a))
+  diff-nonNeg = up-nonNeg (b -ℤ a) (omega (arith, diff-up, ord))
+
+  pub diff-abs : natAbs (b -ℤ a) + up a ≡ up b
+  diff-abs = omega (arith, diff-up, up-abs (b -ℤ a) (omega (arith, diff-up, ord)))
+
+  pub diff-abs-below : natAbs (b -ℤ a) ≤ 2 ^ 54
+  diff-abs-below = omega (arith, diff-abs, low, high)
+
   span-up : up (b -ℤ a +ℤ pos 1) + up a ≡ up b + 2 ^ 64 + 1
   span-up = let f = up-add (b -ℤ a) (pos 1) (diff-fits .sfits) (omega arith) in omega (arith, diff-up)
 
@@ -51,21 +60,22 @@ module _ (a b : ℤ) (fa : SFits w64 a) (fb : SFits w64 b) (h : (a ≤ℤ b) × 
   pub span-abs-fits : Fits w64 (natAbs (b -ℤ a +ℤ pos 1))
   span-abs-fits = record { fits = omega (arith, span-abs, low, high) }
 
-  module _ (word : ℕ) where
-    rest-lt : word % natAbs (b -ℤ a +ℤ pos 1) < natAbs (b -ℤ a +ℤ pos 1)
-    rest-lt = mod-lt word span-some
+  pub rest-le : (word : ℕ) → word % natAbs (b -ℤ a +ℤ pos 1) ≤ natAbs (b -ℤ a)
+  rest-le word = omega (arith, mod-lt word span-some, span-abs, diff-abs)
 
-    pub rest-fits : SFits w64 (pos (word % natAbs (b -ℤ a +ℤ pos 1)))
-    rest-fits = record { sfits = omega (arith, rest-lt, span-abs, low, high) }
+  -- a number of them, k above the least
+  module _ (k : ℕ) (l : k ≤ natAbs (b -ℤ a)) where
+    pub above-fits : SFits w64 (pos k)
+    above-fits = record { sfits = omega (arith, diff-abs-below) }
 
-    pick-up : up (a +ℤ pos (word % natAbs (b -ℤ a +ℤ pos 1))) ≡ up a + word % natAbs (b -ℤ a +ℤ pos 1)
-    pick-up = omega (arith, up-add a (pos (word % natAbs (b -ℤ a +ℤ pos 1))) (fa .sfits) (rest-fits .sfits))
+    pick-up : up (a +ℤ pos k) ≡ up a + k
+    pick-up = omega (arith, up-add a (pos k) (fa .sfits) (above-fits .sfits))
 
-    pub pick-fits : SFits w64 (a +ℤ pos (word % natAbs (b -ℤ a +ℤ pos 1)))
-    pick-fits = in-up _ (omega (arith, pick-up, rest-lt, span-abs, low, high)) (omega (arith, pick-up, rest-lt, span-abs, low, high))
+    pub pick-fits : SFits w64 (a +ℤ pos k)
+    pick-fits = in-up _ (omega (arith, pick-up, diff-abs, low, high)) (omega (arith, pick-up, diff-abs, low, high))
 
-    pub pick-low : a ≤ℤ (a +ℤ pos (word % natAbs (b -ℤ a +ℤ pos 1)))
+    pub pick-low : a ≤ℤ (a +ℤ pos k)
     pick-low = up-le a _ fa pick-fits (omega (arith, pick-up))
 
-    pub pick-high : (a +ℤ pos (word % natAbs (b -ℤ a +ℤ pos 1))) ≤ℤ b
-    pick-high = up-le _ b pick-fits fb (omega (arith, pick-up, rest-lt, span-abs))
+    pub pick-high : (a +ℤ pos k) ≤ℤ b
+    pick-high = up-le _ b pick-fits fb (omega (arith, pick-up, diff-abs))

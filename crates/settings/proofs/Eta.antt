@@ -4,14 +4,14 @@ use mathlib.Core.Bool.{true, false}
 use lib.Dec.{T}
 use lib.IntN.{pos}
 use lib.Ieee.{Float, fin, ofBits, le, lt}
-use Rattle.float_laws.proofs.Order.{lt-le-trans, le-lt-trans}
+use Rattle.float_laws.proofs.Order.{le-trans}
+use Rattle.float_laws.proofs.Constants.{exp2}
 use Rattle.list_laws.proofs.Bools.{and-left, and-right, true-T}
+use Rattle.real_laws.proofs.Halves as halves
 use Rattle.model.specs.Real.{nought, within}
 use Rattle.model.specs.Refusal.{ninetyNine}
 
 pub castable : (x : Float) → within nought ninetyNine x ≡ true → T (lt (fin true 1 (pos 0)) x) × T (lt x (fin false 1 (pos 64)))
-unfolding ofBits lt
-castable x h = (
-  lt-le-trans (fin true 1 (pos 0)) nought x tt (true-T _ (and-left (le nought x) (le x ninetyNine) h)),
-  le-lt-trans x ninetyNine (fin false 1 (pos 64)) (true-T _ (and-right (le nought x) (le x ninetyNine) h)) tt,
-)
+unfolding ofBits le
+castable x h =
+    halves.castable x (true-T _ (and-left (le nought x) (le x ninetyNine) h)) (le-trans x ninetyNine (exp2 52) (true-T _ (and-right (le nought x) (le x ninetyNine) h)) tt)

@@ -1,16 +1,16 @@
 -- "Every drawn setting is within its bounds": for a valid dimension whose numbers are such as an `f64` and an `i64` hold.
-use mathlib.Core.Path.{_≡_, refl, sym, ap, ap₂, _∙_}
-use mathlib.Core.Bool.{Bool, true, false, _&&_}
+use mathlib.Core.Path.{_≡_, refl, sym, ap, _∙_}
+use mathlib.Core.Bool.{true, _&&_}
 use Prim.Native.Nat.{ℕ, _<_}
 use borrow.Author.Tests.{lt-ltb}
 use lib.Dec.{T}
 use lib.IntN.{ℤ, pos, _+ℤ_}
-use lib.Signed.{leZ, _≤ℤ_}
+use lib.Signed.{leZ, _≤ℤ_, leZ-yes}
 use lib.Ieee.{Float, binary64, fits, ofBits}
 use mir.Syntax.{w64}
 use mir.Val.{SFits}
-use Rattle.list_laws.proofs.Bools.{T-true, true-T}
-use Rattle.rng_util.proofs.Draws.{drawUsize-below, drawI64-within, f64Range-within}
+use Rattle.list_laws.proofs.Bools.{T-true, true-T, and-both}
+use Rattle.rng_util.proofs.Draws.{drawn-value, drawUsize-below, drawI64-within, f64Range-within}
 use Rattle.model.specs.declared.Distribution.{Distribution}
 use Rattle.model.specs.declared.Distribution.the-variants as dist
 use Rattle.model.specs.declared.FloatDistribution.{FloatDistribution}
@@ -18,7 +18,7 @@ use Rattle.model.specs.declared.IntDistribution.{IntDistribution}
 use Rattle.model.specs.declared.CategoricalDistribution.{CategoricalDistribution}
 use Rattle.model.specs.declared.OptionI64.{OptionI64}
 use Rattle.model.specs.declared.OptionI64.the-variants as optI64
-use Rattle.model.specs.Draw.{Drawn, drawWord}
+use Rattle.model.specs.Draw.{drawWord}
 use Rattle.model.specs.Setting.{minWhole, maxWhole, stepAbove0, validDimension, inBounds, sampleInt, sampleRandom}
 use Rattle.settings.proofs.Valid.{FloatBounds, float-bounds, IntBounds, int-bounds, some-choice}
 use Rattle.settings.proofs.Stepped.{Stepping, rise, pick-low, pick-high, stepped-is}
@@ -34,7 +34,7 @@ Held (dist.Int d) = SFits w64 (d .low) × SFits w64 (d .high) × HeldStep (d .st
 Held (dist.Categorical d) = Unit
 
 pub between : (low high n : ℤ) → low ≤ℤ n → n ≤ℤ high → (leZ low n && leZ n high) ≡ true
-between low high n h k = ap₂ (λ a b. a && b) (T-true (leZ low n) (h .le)) (T-true (leZ n high) (k .le))
+between low high n h k = and-both _ _ (T-true (leZ low n) (h .le)) (T-true (leZ n high) (k .le))
 
 float-in : (d : FloatDistribution) (s : ℕ) → Held (dist.Float d) → FloatBounds d → inBounds (dist.Float d) (sampleRandom (dist.Float d) s .value) ≡ true
 unfolding inBounds sampleRandom ofBits
@@ -45,9 +45,9 @@ whole-in : (low high : ℤ) (step : OptionI64) (s : ℕ) → SFits w64 low → S
 unfolding sampleInt
 whole-in low high optI64.None s fl fh fs o l h p = let w = drawI64-within low high s fl fh (o, l, h) in between low high _ (w .0) (w .1)
 whole-in low high (optI64.Some n) s fl fh fs o l h p =
-    let q : Stepping low high n = record { low-fits = fl; high-fits = fh; step-fits = fs; ordered = o; low-end = l; high-end = h; above = record { le = true-T (leZ (pos 1) n) p } } in
+    let q : Stepping low high n = record { low-fits = fl; high-fits = fh; step-fits = fs; ordered = o; low-end = l; high-end = h; above = leZ-yes (true-T (leZ (pos 1) n) p) } in
     let w = drawWord s .value in
-    let e = ap (λ (d : Drawn ℤ). d .value) (stepped-is low high n q s w (drawWord s .state) refl) in
+    let e = drawn-value (stepped-is low high n q s w (drawWord s .state) refl) in
     sym (ap (λ (z : ℤ). leZ low z && leZ z high) e) ∙ between low high (low +ℤ pos (rise low high n w)) (pick-low low high n q w) (pick-high low high n q w)
 
 int-in : (d : IntDistribution) (s : ℕ) → Held (dist.Int d) → IntBounds d → inBounds (dist.Int d) (sampleRandom (dist.Int d) s .value) ≡ true

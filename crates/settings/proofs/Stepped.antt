@@ -1,22 +1,19 @@
 -- An Int drawn with a step: low + k × step stays within low..high, so nothing on the way leaves 64 bits. Assumes nothing.
-use mathlib.Core.Path.{_≡_, refl, sym, ap, _∙_, subst}
-use Prim.Native.Nat.{ℕ, zero, suc, _+_, _-_, _*_, _/_, _%_, _^_, _<_, _≤_}
+use mathlib.Core.Path.{_≡_, sym, ap, _∙_}
+use Prim.Native.Nat.{ℕ, _+_, _*_, _/_, _%_, _^_, _<_, _≤_}
 use native.Mathlib.Nat.{mod-lt, div-mul-le-self, div-le-self, mul-le-mul-right, le-trans, zero-add, add-zero}
 use native.Mathlib.Omega.{arith}
 use lib.Dec.{T}
-use lib.IntN.{ℤ, pos, negsuc, negℤ, natAbs, _+ℤ_, _-ℤ_, _*ℤ_}
-use lib.Signed.{nonNeg, quotZ, _≤ℤ_}
+use lib.IntN.{ℤ, pos, negℤ, natAbs, _+ℤ_, _-ℤ_, _*ℤ_}
+use lib.Signed.{nonNeg, quotZ, _≤ℤ_, pos-natAbs}
 use mir.Syntax.{w64}
 use mir.Val.{SFits, Fits}
 use Rattle.model.specs.declared.OptionI64.the-variants as optI64
-use Rattle.model.specs.Draw.{Drawn, drawn, drawWord, drawI64}
+use Rattle.model.specs.Draw.{drawn, drawWord, drawI64}
 use Rattle.model.specs.Setting.{sampleInt}
-use Rattle.rng_util.proofs.Shifted.{up, in-up, le-up, up-le, up-add, up-neg, up-nonNeg, up-abs}
-
--- a number from zero up is its magnitude
-pub from-zero : (z : ℤ) → T (nonNeg z) → z ≡ pos (natAbs z)
-from-zero (pos n) h = refl
-from-zero (negsuc n) h = absurd h
+use Rattle.rng_util.proofs.Shifted.{up, up-in, le-up, up-nonNeg, up-abs}
+use Rattle.rng_util.proofs.Span as range
+use Rattle.rng_util.proofs.Draws.{drawn-by}
 
 -- what the definition draws, where high - low is `span` and the step `by`
 value-is : (low : ℤ) (span by w : ℕ) → low +ℤ pos (w % (span / by + 1) * by) ≡ low +ℤ (pos 0 +ℤ pos (w % natAbs (quotZ (pos span) (pos by) -ℤ pos 0 +ℤ pos 1))) *ℤ pos by
@@ -39,35 +36,24 @@ abbrev pub rise : ℤ → ℤ → ℤ → ℕ → ℕ
 rise low high step w = w % (natAbs (high -ℤ low) / natAbs step + 1) * natAbs step
 
 module _ (low high step : ℤ) (q : Stepping low high step) where
-  ord : up low ≤ up high
-  ord = le-up low high (q .ordered)
-
-  bottom : 2 ^ 64 - 2 ^ 53 ≤ up low
-  bottom = le-up _ low (q .low-end)
-
-  top : up high ≤ 2 ^ 64 + 2 ^ 53
-  top = le-up high _ (q .high-end)
-
-  neg-fits : SFits w64 (negℤ low)
-  neg-fits = let e = up-neg low (q .low-fits .sfits) in in-up (negℤ low) (omega (arith, ord, bottom, top)) (omega (arith, ord, bottom, top))
-
-  diff-up : up (high -ℤ low) + up low ≡ up high + 2 ^ 64
-  diff-up = let e = up-neg low (q .low-fits .sfits) in let f = up-add high (negℤ low) (q .high-fits .sfits) (neg-fits .sfits) in omega arith
-
-  pub diff-fits : SFits w64 (high -ℤ low)
-  diff-fits = in-up (high -ℤ low) (omega (arith, diff-up, ord, bottom, top)) (omega (arith, diff-up, ord, bottom, top))
-
-  pub diff-nonNeg : T (nonNeg (high -ℤ low))
-  diff-nonNeg = up-nonNeg (high -ℤ low) (omega (arith, diff-up, ord))
+  -- what is asked of the bounds, so that the laws of the numbers from low to high hold
+  abbrev asked : (low ≤ℤ high) × (negℤ (pos (2 ^ 53)) ≤ℤ low) × (high ≤ℤ pos (2 ^ 53))
+  asked = (q .ordered, q .low-end, q .high-end)
 
   abbrev span : ℕ
   span = natAbs (high -ℤ low)
 
-  span-up : span + up low ≡ up high
-  span-up = omega (arith, diff-up, up-abs (high -ℤ low) (omega (arith, diff-up, ord)))
+  span-below : span ≤ 2 ^ 54
+  span-below = range.diff-abs-below low high (q .low-fits) (q .high-fits) asked
+
+  pub diff-fits : SFits w64 (high -ℤ low)
+  diff-fits = range.diff-fits low high (q .low-fits) (q .high-fits) asked
+
+  pub diff-nonNeg : T (nonNeg (high -ℤ low))
+  diff-nonNeg = range.diff-nonNeg low high (q .low-fits) (q .high-fits) asked
 
   pub span-fits : Fits w64 span
-  span-fits = record { fits = omega (arith, span-up, bottom, top) }
+  span-fits = record { fits = omega (arith, span-below) }
 
   pub step-nonNeg : T (nonNeg step)
   step-nonNeg = up-nonNeg step (omega (arith, le-up (pos 1) step (q .above)))
@@ -82,45 +68,42 @@ module _ (low high step : ℤ) (q : Stepping low high step) where
   by-some = omega (arith, by-up, le-up (pos 1) step (q .above))
 
   pub by-fits : Fits w64 by
-  by-fits = record { fits = omega (arith, by-up, Rattle.rng_util.proofs.Shifted.up-in step (q .step-fits)) }
+  by-fits = record { fits = omega (arith, by-up, up-in step (q .step-fits)) }
 
   pub count-fits : Fits w64 (span / by + 1)
-  count-fits = record { fits = omega (arith, span-up, bottom, top, div-le-self span by) }
+  count-fits = record { fits = omega (arith, span-below, div-le-self span by) }
 
   module _ (w : ℕ) where
     abbrev up-by : ℕ
     up-by = rise low high step w
 
-    pub rise-le : up-by ≤ span
+    rise-le : up-by ≤ span
     rise-le =
         let k : w % (span / by + 1) ≤ span / by = omega (arith, mod-lt w {m = span / by + 1} (omega arith)) in
         le-trans (mul-le-mul-right by k) (div-mul-le-self span by)
 
     pub rise-fits : Fits w64 up-by
-    rise-fits = record { fits = omega (arith, rise-le, span-up, bottom, top) }
+    rise-fits = record { fits = omega (arith, rise-le, span-below) }
 
     pub rise-signed : SFits w64 (pos up-by)
-    rise-signed = record { sfits = omega (arith, rise-le, span-up, bottom, top) }
-
-    pick-up : up (low +ℤ pos up-by) ≡ up low + up-by
-    pick-up = omega (arith, up-add low (pos up-by) (q .low-fits .sfits) (rise-signed .sfits))
+    rise-signed = range.above-fits low high (q .low-fits) (q .high-fits) asked up-by rise-le
 
     pub pick-fits : SFits w64 (low +ℤ pos up-by)
-    pick-fits = in-up _ (omega (arith, pick-up, rise-le, span-up, bottom, top)) (omega (arith, pick-up, rise-le, span-up, bottom, top))
+    pick-fits = range.pick-fits low high (q .low-fits) (q .high-fits) asked up-by rise-le
 
     pub pick-low : low ≤ℤ (low +ℤ pos up-by)
-    pick-low = up-le low _ (q .low-fits) pick-fits (omega (arith, pick-up))
+    pick-low = range.pick-low low high (q .low-fits) (q .high-fits) asked up-by rise-le
 
     pub pick-high : (low +ℤ pos up-by) ≤ℤ high
-    pick-high = up-le _ high pick-fits (q .high-fits) (omega (arith, pick-up, rise-le, span-up))
+    pick-high = range.pick-high low high (q .low-fits) (q .high-fits) asked up-by rise-le
 
   -- the definition's value
   pub stepped-is : (s w t : ℕ) → drawn w t ≡ drawWord s → drawn (low +ℤ pos (rise low high step w)) t ≡ sampleInt low high (optI64.Some step) s
   unfolding sampleInt drawI64
   stepped-is s w t e =
-      ap (λ (d : Drawn ℕ). drawn (low +ℤ pos (rise low high step (d .value))) (d .state)) e
+      drawn-by (λ (v : ℕ). low +ℤ pos (rise low high step v)) e
       ∙ ap (λ (z : ℤ). drawn z (drawWord s .state)) (
       value-is low span by (drawWord s .value)
-      ∙ ap (λ (y : ℤ). low +ℤ (pos 0 +ℤ pos (drawWord s .value % natAbs (quotZ y (pos by) -ℤ pos 0 +ℤ pos 1))) *ℤ pos by) (sym (from-zero (high -ℤ low) diff-nonNeg))
-      ∙ ap (λ (y : ℤ). low +ℤ (pos 0 +ℤ pos (drawWord s .value % natAbs (quotZ (high -ℤ low) y -ℤ pos 0 +ℤ pos 1))) *ℤ y) (sym (from-zero step step-nonNeg))
+      ∙ ap (λ (y : ℤ). low +ℤ (pos 0 +ℤ pos (drawWord s .value % natAbs (quotZ y (pos by) -ℤ pos 0 +ℤ pos 1))) *ℤ pos by) (pos-natAbs (high -ℤ low) diff-nonNeg)
+      ∙ ap (λ (y : ℤ). low +ℤ (pos 0 +ℤ pos (drawWord s .value % natAbs (quotZ (high -ℤ low) y -ℤ pos 0 +ℤ pos 1))) *ℤ y) (pos-natAbs step step-nonNeg)
       )

@@ -1,12 +1,11 @@
 -- What a valid dimension tells of its parts.
-use mathlib.Core.Path.{_≡_, refl, sym, ap, _∙_}
-use mathlib.Core.Bool.{Bool, true, false, not, _&&_, _||_, false≢true, true≢false}
+use mathlib.Core.Path.{_≡_}
+use mathlib.Core.Bool.{true, false, not, _&&_}
 use Prim.Native.Nat.{ℕ, _≤_, _<_}
-use borrow.Author.Tests.{leb-true, not-false}
+use borrow.Author.Tests.{leb-true, ltb-false, not-false}
 use lib.Dec.{T, leb, ltb}
-use lib.IntN.{ℤ, pos}
-use lib.Signed.{leZ, _≤ℤ_}
-use lib.Ieee.{Float, le}
+use lib.Signed.{leZ, _≤ℤ_, leZ-yes}
+use lib.Ieee.{le}
 use Rattle.list_laws.proofs.Bools.{and-left, and-right, true-T, or-left, or-right}
 use Rattle.list_laws.proofs.Tests.{allBelow-each}
 use Rattle.model.specs.declared.Distribution.{Distribution}
@@ -44,9 +43,6 @@ pub record IntBounds (d : IntDistribution) : Type 0 where
   pub high-end : d .high ≤ℤ maxWhole
   pub step : stepAbove0 (d .step) ≡ true
 
-order : (a b : ℤ) → leZ a b ≡ true → a ≤ℤ b
-order a b e = record { le = true-T (leZ a b) e }
-
 pub int-bounds : (d : IntDistribution) → validDimension (dist.Int d) ≡ true → IntBounds d
 unfolding validDimension
 int-bounds d h =
@@ -58,9 +54,9 @@ int-bounds d h =
     let t = and-right a (b && (e && (l && f))) h in
     let u = and-right b (e && (l && f)) t in
     record {
-      ordered = order (d .low) (d .high) (and-left a (b && (e && (l && f))) h);
-      low-end = order minWhole (d .low) (and-left b (e && (l && f)) t);
-      high-end = order (d .high) maxWhole (and-left e (l && f) u);
+      ordered = leZ-yes (true-T a (and-left a (b && (e && (l && f))) h));
+      low-end = leZ-yes (true-T b (and-left b (e && (l && f)) t));
+      high-end = leZ-yes (true-T e (and-left e (l && f) u));
       step = and-right l f (and-right e (l && f) u);
     }
 
@@ -71,7 +67,7 @@ some-choice d h = leb-true 1 (d .«n_choices») (and-left (leb 1 (d .«n_choices
 -- dimensions that are not bad are at most 32, and each is valid
 pub few : (dims : ℕ → Distribution) (n : ℕ) → badDimensions dims n ≡ false → n ≤ 32
 unfolding badDimensions
-few dims n h = borrow.Author.Tests.ltb-false 32 n (or-left (ltb 32 n) (not (allBelow (λ d. validDimension (dims d)) n)) h)
+few dims n h = ltb-false 32 n (or-left (ltb 32 n) (not (allBelow (λ d. validDimension (dims d)) n)) h)
 
 pub each : (dims : ℕ → Distribution) (n : ℕ) → badDimensions dims n ≡ false → (i : ℕ) → i < n → validDimension (dims i) ≡ true
 unfolding badDimensions

@@ -1,7 +1,6 @@
 -- Settings and their words: a kind that is neither 0 nor 1 is a Categorical's.
 use mathlib.Core.Path.{_≡_, refl}
 use Prim.Native.Nat.{ℕ, zero, suc}
-use Rattle.model.specs.declared.ParamValue.{ParamValue}
 use Rattle.model.specs.declared.ParamValue.the-variants as value
 use Rattle.model.specs.Setting.{ofWord}
 

@@ -1,11 +1,11 @@
 -- An eta that is accepted can be cast, and its exponent is at most 100.
-use mathlib.Core.Path.{_≡_, refl, sym, ap, _∙_}
-use mathlib.Core.Bool.{Bool, true, false, _&&_, cond}
-use Prim.Native.Nat.{ℕ, _+_, _-_, _*_, _/_, _^_, _<_, _≤_, min, zero-le}
+use mathlib.Core.Path.{_≡_}
+use mathlib.Core.Bool.{true, false}
+use Prim.Native.Nat.{ℕ, _-_, _*_, _/_, _^_, _≤_, zero-le}
 use native.Mathlib.Nat.{min-le-left, le-trans, div-le-of-le-mul}
 use native.Mathlib.Omega.{arith}
 use lib.Dec.{T}
-use lib.IntN.{ℤ, pos}
+use lib.IntN.{pos}
 use lib.Ieee.{Float, nan, inf, fin, up, down, ofBits, toUnsigned, eq, le, lt}
 use Rattle.float_laws.proofs.Units.{→sle}
 use Rattle.list_laws.proofs.Bools.{and-left, and-right, true-T}

@@ -1,4 +1,5 @@
 -- what the four steps leave is what document 01 says of the request
+use mathlib.Core.Path.{refl}
 use borrow.Author.Needs.{needs}
 use Rattle.association_laws.proofs.Request.{all-steps}
 use Rattle.association.proofs.associate.Statement.{statement}
@@ -8,7 +9,7 @@ update-ideal-point-requires : tie.Need-update-ideal-point-requires
 update-ideal-point-requires c κs = search needs
 
 slice-aggregate-find-intercepts : tie.Need-slice-aggregate-find-intercepts
-slice-aggregate-find-intercepts c = search needs
+slice-aggregate-find-intercepts c = refl
 
 find-intercepts-requires : tie.Need-find-intercepts-requires
 find-intercepts-requires c κs = search needs
@@ -17,7 +18,7 @@ slice-aggregate-normalize-objectives : tie.Need-slice-aggregate-normalize-object
 slice-aggregate-normalize-objectives c = search needs
 
 slice-aggregate-normalize-objectives-2 : tie.Need-slice-aggregate-normalize-objectives-2
-slice-aggregate-normalize-objectives-2 c = search needs
+slice-aggregate-normalize-objectives-2 c = refl
 
 normalize-objectives-requires : tie.Need-normalize-objectives-requires
 normalize-objectives-requires c κs = search needs

@@ -1,5 +1,4 @@
 -- a root decides where the square is below the best one, but not clearly; elsewhere the squares do
-use borrow.Author.Needs.{needs}
 use lib.Ieee.{ofBits}
 use Rattle.association_laws.proofs.Search.{found-clear, found-nearer, found-same, found-farther}
 use Rattle.association.proofs.nearer.Statement.{statement}
@@ -10,10 +9,10 @@ unfolding ofBits
 returns c = λ d f S own. found-clear d _ _ _ _ f S own (c .before .if1 .taken) (c .if2 .taken)
 
 sqrt-requires : tie.Need-sqrt-requires
-sqrt-requires c κs = search needs
+sqrt-requires c κs = tt
 
 sqrt-requires-2 : tie.Need-sqrt-requires-2
-sqrt-requires-2 c κs = search needs
+sqrt-requires-2 c κs = tt
 
 returns-2 : tie.Need-returns-2
 returns-2 c = λ d f S own. found-nearer d _ _ _ _ f S own _ _ (c .before .before .sqrt .ensures) (c .before .sqrt2 .ensures) (c .if3 .taken)

@@ -3,7 +3,6 @@ use Prim.Native.Nat.{_+_, _*_, _-_, _≤_}
 use mathlib.Core.Path.{_≡_, ap, sym, subst, _∙_}
 use native.Mathlib.Nat.{zero-mul, one-mul, add-mul}
 use native.Mathlib.Omega.{arith}
-use borrow.Author.Needs.{needs}
 use lib.Ieee.{div, ofBits}
 use Rattle.model.specs.Numbers.{sqrtOf}
 use Rattle.model.specs.Association.{dot}
@@ -43,7 +42,7 @@ distance-squared-requires c κs =
     (omega arith, omega (arith, inside (c .before)), subst (λ i. c .line-norm .result ≡ dot (a .m) (from (a .table .now) i) (from (a .table .now) i)) (sym e) (c .line-norm .ensures))
 
 nearer-requires : tie.Need-nearer-requires Inv-loop μ-loop
-nearer-requires c κs = search needs
+nearer-requires c κs = tt
 
 add-l : tie.Need-add-l Inv-loop μ-loop
 add-l c = omega arith
@@ -68,7 +67,7 @@ loop-again c =
     )
 
 sqrt-requires : tie.Need-sqrt-requires Inv-loop μ-loop
-sqrt-requires c κs = search needs
+sqrt-requires c κs = tt
 
 returns : tie.Need-returns Inv-loop μ-loop
 returns c =

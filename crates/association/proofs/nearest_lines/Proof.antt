@@ -1,21 +1,20 @@
 -- the plans before p have their line and distance
 use Prim.Native.Nat.{_*_, _+_, _-_, _≤_}
-use mathlib.Core.Path.{_≡_, refl}
+use mathlib.Core.Path.{_≡_, refl, sym}
 use native.Mathlib.Omega.{arith}
 use lib.ListN.{length, length-set}
-use lib.Seq.{sets}
-use Rattle.model.specs.Lists.{listBelow}
+use Rattle.model.specs.Lists.{listBelow, over}
+use Rattle.list_laws.proofs.Built.{over-none, over-set}
 use Rattle.association_laws.specs.Flat.{nearestAt}
 use Rattle.list_laws.proofs.Rows.{row-inside}
-use Rattle.association_laws.proofs.Writes.{run-none, front-more, front-done}
 use Rattle.association.proofs.nearest_lines.Statement.{statement}
 use Rattle.association.proofs.nearest_lines.Tie as tie
 
 abbrev Inv-loop : tie.InvT-loop
 Inv-loop normalized n m table n-lines norms known lines₀ distances₀ p₀ lines distances p =
     (p ≤ n) × (length lines ≡ length lines₀) × (length distances ≡ length distances₀)
-    × (lines ≡ sets lines₀ 0 (listBelow (λ q. nearestAt normalized m table n-lines q .line) p))
-    × (distances ≡ sets distances₀ 0 (listBelow (λ q. nearestAt normalized m table n-lines q .distance) p))
+    × (lines ≡ over (listBelow (λ q. nearestAt normalized m table n-lines q .line) p) lines₀)
+    × (distances ≡ over (listBelow (λ q. nearestAt normalized m table n-lines q .distance) p) distances₀)
 
 abbrev μ-loop : tie.MeasureT-loop
 μ-loop normalized n m table n-lines norms known lines₀ distances₀ p₀ lines distances p = n - p
@@ -29,7 +28,7 @@ inside : (c : tie.In-loop Inv-loop μ-loop) → c .before .loop .p * entry c .ar
 inside c = row-inside _ _ _ (c .loop-test .taken)
 
 loop-holds : tie.Need-loop-holds Inv-loop μ-loop
-loop-holds c = (omega arith, refl, refl, run-none _ _ 0, run-none _ _ 0)
+loop-holds c = (omega arith, refl, refl, sym (over-none _ _), sym (over-none _ _))
 
 mul-nearest-line : tie.Need-mul-nearest-line Inv-loop μ-loop
 mul-nearest-line c = omega (arith, inside c)
@@ -59,7 +58,7 @@ loop-again : tie.Need-loop-again Inv-loop μ-loop
 loop-again c =
     let l = c .before .before .loop in
     let f = c .nearest-line .ensures in
-    (omega arith, simp length-set (l .inv .1), simp length-set (l .inv .2), front-more _ _ _ _ _ (l .inv .3) (f .0), front-more _ _ _ _ _ (l .inv .4) (f .1))
+    (omega arith, simp length-set (l .inv .1), simp length-set (l .inv .2), over-set _ _ _ _ _ (omega arith) (l .inv .3) (f .0), over-set _ _ _ _ _ (omega arith) (l .inv .4) (f .1))
 
 same-length : tie.Need-same-length Inv-loop μ-loop
 same-length c = c .before .loop .inv .1
@@ -71,7 +70,7 @@ returns : tie.Need-returns Inv-loop μ-loop
 returns c =
     let l = c .before .loop in
     let e : l .p ≡ c .before .before .before .before .before .before .before .args .n = omega arith in
-    (front-done _ _ _ _ (omega arith) (rw e at (l .inv .3)), front-done _ _ _ _ (omega arith) (rw e at (l .inv .4)))
+    (rw e at (l .inv .3), rw e at (l .inv .4))
 
 pub nearest-lines-spec : {M : Type 1} → statement M
 nearest-lines-spec =

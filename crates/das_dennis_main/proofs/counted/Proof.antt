@@ -1,5 +1,5 @@
 -- `counted`: where refusal 4 does not apply, 8,192 entries are room enough. Assumes nothing.
-use mathlib.Core.Path.{sym, _∙_}
+use mathlib.Core.Path.{refl, sym, _∙_}
 use native.Mathlib.Omega.{arith}
 use Rattle.reference_laws.proofs.Divisions.{allowed, table-room}
 use borrow.Author.Needs.{needs}
@@ -7,31 +7,31 @@ use Rattle.das_dennis_main.proofs.counted.Statement.{statement}
 use Rattle.das_dennis_main.proofs.counted.Tie as tie
 
 slice-aggregate-number : tie.Need-slice-aggregate-number
-slice-aggregate-number c = search needs
+slice-aggregate-number c = refl
 
 number-requires : tie.Need-number-requires
-number-requires c κs = search needs
+number-requires c κs = tt
 
 slice-aggregate-number-2 : tie.Need-slice-aggregate-number-2
-slice-aggregate-number-2 c = search needs
+slice-aggregate-number-2 c = refl
 
 number-requires-2 : tie.Need-number-requires-2
-number-requires-2 c κs = search needs
+number-requires-2 c κs = tt
 
 bad-divisions-requires : tie.Need-bad-divisions-requires
 bad-divisions-requires c κs = search needs
 
 slice-aggregate-text : tie.Need-slice-aggregate-text
-slice-aggregate-text c = search needs
+slice-aggregate-text c = refl
 
 text-requires : tie.Need-text-requires
-text-requires c κs = search needs
+text-requires c κs = tt
 
 returns : tie.Need-returns
-returns c = search needs
+returns c = tt
 
 slice-aggregate-das-dennis : tie.Need-slice-aggregate-das-dennis
-slice-aggregate-das-dennis c = search needs
+slice-aggregate-das-dennis c = refl
 
 das-dennis-requires : tie.Need-das-dennis-requires
 das-dennis-requires c κs =
@@ -40,7 +40,7 @@ das-dennis-requires c κs =
     ((omega arith, omega arith, omega arith, omega arith), table-room (a .m) (a .h) (omega arith) w)
 
 slice-aggregate-number-3 : tie.Need-slice-aggregate-number-3
-slice-aggregate-number-3 c = search needs
+slice-aggregate-number-3 c = refl
 
 point-count-requires : tie.Need-point-count-requires
 point-count-requires c κs =
@@ -49,22 +49,22 @@ point-count-requires c κs =
     omega arith
 
 number-requires-3 : tie.Need-number-requires-3
-number-requires-3 c κs = search needs
+number-requires-3 c κs = tt
 
 slice-aggregate-number-4 : tie.Need-slice-aggregate-number-4
-slice-aggregate-number-4 c = search needs
+slice-aggregate-number-4 c = refl
 
 number-requires-4 : tie.Need-number-requires-4
-number-requires-4 c κs = search needs
+number-requires-4 c κs = tt
 
 slice-aggregate-text-2 : tie.Need-slice-aggregate-text-2
-slice-aggregate-text-2 c = search needs
+slice-aggregate-text-2 c = refl
 
 text-requires-2 : tie.Need-text-requires-2
-text-requires-2 c κs = search needs
+text-requires-2 c κs = tt
 
 returns-2 : tie.Need-returns-2
-returns-2 c = search needs
+returns-2 c = tt
 
 pub counted-spec : {M : Type 1} → statement M
 counted-spec =

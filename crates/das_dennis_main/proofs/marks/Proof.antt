@@ -23,7 +23,7 @@ array-read-mark : tie.Need-array-read-mark Inv-loop μ-loop
 array-read-mark c = search needs
 
 mark-requires : tie.Need-mark-requires Inv-loop μ-loop
-mark-requires c κs = search needs
+mark-requires c κs = tt
 
 array-write-line : tie.Need-array-write-line Inv-loop μ-loop
 array-write-line c = search needs
@@ -41,10 +41,10 @@ slice-aggregate-text : tie.Need-slice-aggregate-text Inv-loop μ-loop
 slice-aggregate-text c = search needs
 
 text-requires : tie.Need-text-requires Inv-loop μ-loop
-text-requires c κs = search needs
+text-requires c κs = tt
 
 returns : tie.Need-returns Inv-loop μ-loop
-returns c = search needs
+returns c = tt
 
 pub marks-spec : {M : Type 1} → statement M
 marks-spec =

@@ -1,9 +1,8 @@
 -- every dimension before place i is valid
 use Prim.Native.Nat.{_-_, _≤_}
-use mathlib.Core.Path.{_≡_, sym, ap, _∙_}
+use mathlib.Core.Path.{_≡_, sym, _∙_}
 use mathlib.Core.Bool.{true}
 use native.Mathlib.Omega.{arith}
-use borrow.Author.Needs.{needs}
 use borrow.Author.Tests.{lt-ltb, le-ltb}
 use lib.ListN.{getD}
 use Rattle.list_laws.proofs.Tests.{allBelow-none, allBelow-yes, allBelow-no}
@@ -34,7 +33,7 @@ array-copy-out-info : tie.Need-array-copy-out-info Inv-loop μ-loop
 array-copy-out-info c = omega arith
 
 valid-dimension-requires : tie.Need-valid-dimension-requires Inv-loop μ-loop
-valid-dimension-requires c κs = search needs
+valid-dimension-requires c κs = tt
 
 add-i : tie.Need-add-i Inv-loop μ-loop
 add-i c = omega arith

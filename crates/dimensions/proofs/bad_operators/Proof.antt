@@ -1,18 +1,17 @@
 -- The three tests are those of the definition.
-use mathlib.Core.Path.{_≡_, sym, ap, _∙_}
+use mathlib.Core.Path.{sym, _∙_}
 use Rattle.model.specs.Refusal.{badOperators}
-use borrow.Author.Needs.{needs}
 use Rattle.dimensions.proofs.bad_operators.Statement.{statement}
 use Rattle.dimensions.proofs.bad_operators.Tie as tie
 
 real-within-requires : tie.Need-real-within-requires
-real-within-requires c κs = search needs
+real-within-requires c κs = tt
 
 whole-eta-requires : tie.Need-whole-eta-requires
-whole-eta-requires c κs = search needs
+whole-eta-requires c κs = tt
 
 whole-eta-requires-2 : tie.Need-whole-eta-requires-2
-whole-eta-requires-2 c κs = search needs
+whole-eta-requires-2 c κs = tt
 
 returns : tie.Need-returns
 unfolding badOperators

@@ -2,7 +2,7 @@
 use lib.IntN.{ℤ, pos}
 use lib.Signed.{leZ}
 use Rattle.settings.proofs.Signed.{back}
-use mathlib.Core.Path.{_≡_, sym, ap, _∙_}
+use mathlib.Core.Path.{sym, ap, _∙_}
 use Rattle.model.specs.Setting.{stepAbove0}
 use borrow.Author.Needs.{needs}
 use Rattle.dimensions.proofs.step_above_zero.Statement.{statement}

@@ -1,5 +1,4 @@
 -- The two tests are those of the definition.
-use mathlib.Core.Path.{_≡_}
 use borrow.Author.Tests.{le-leb, lt-leb}
 use Rattle.model.specs.Setting.{validDimension}
 use Rattle.dimensions.proofs.valid_categorical.Statement.{statement}

@@ -9,19 +9,19 @@ enum-known-d : tie.Need-enum-known-d
 enum-known-d c = search needs
 
 valid-float-requires : tie.Need-valid-float-requires
-valid-float-requires c κs = search needs
+valid-float-requires c κs = tt
 
 enum-known-d-2 : tie.Need-enum-known-d-2
 enum-known-d-2 c = search needs
 
 valid-int-requires : tie.Need-valid-int-requires
-valid-int-requires c κs = search needs
+valid-int-requires c κs = tt
 
 enum-known-d-3 : tie.Need-enum-known-d-3
 enum-known-d-3 c = search needs
 
 valid-categorical-requires : tie.Need-valid-categorical-requires
-valid-categorical-requires c κs = search needs
+valid-categorical-requires c κs = tt
 
 returns : tie.Need-returns
 returns c = c .valid-float .ensures ∙ sym (ap validDimension (c .before .before .d .given .1))

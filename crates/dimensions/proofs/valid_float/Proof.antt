@@ -10,10 +10,10 @@ use Rattle.dimensions.proofs.valid_float.Statement.{statement}
 use Rattle.dimensions.proofs.valid_float.Tie as tie
 
 real-within-requires : tie.Need-real-within-requires
-real-within-requires c κs = search needs
+real-within-requires c κs = tt
 
 real-within-requires-2 : tie.Need-real-within-requires-2
-real-within-requires-2 c κs = search needs
+real-within-requires-2 c κs = tt
 
 low-in : (c : tie.Then2) → within minBound maxBound (c .before .before .before .args .d .low) ≡ true
 unfolding ofBits neg

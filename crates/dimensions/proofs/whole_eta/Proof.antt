@@ -1,12 +1,11 @@
 -- Between 0 and 99 the cast to a whole number asks nothing more.
 use mathlib.Core.Path.{_≡_, sym, ap, _∙_}
-use mathlib.Core.Bool.{Bool, true, false, _&&_}
+use mathlib.Core.Bool.{true, false}
 use lib.IntN.{pos}
 use lib.Ieee.{Float, binary64, ofInt, toUnsigned, eq}
 use Rattle.model.specs.Real.{nought, within}
 use Rattle.settings.proofs.Eta.{castable}
 use Rattle.model.specs.Refusal.{ninetyNine, wholeEta}
-use borrow.Author.Needs.{needs}
 use Rattle.dimensions.proofs.whole_eta.Statement.{statement}
 use Rattle.dimensions.proofs.whole_eta.Tie as tie
 
@@ -19,13 +18,13 @@ unfolding wholeEta
 no-eta x h = rw h
 
 real-within-requires : tie.Need-real-within-requires
-real-within-requires c κs = search needs
+real-within-requires c κs = tt
 
 truncating-f64-to-u64-requires : tie.Need-truncating-f64-to-u64-requires
 truncating-f64-to-u64-requires c κs = castable _ (sym (c .before .real-within .ensures) ∙ c .if1 .taken)
 
 nearest-u64-to-f64-requires : tie.Need-nearest-u64-to-f64-requires
-nearest-u64-to-f64-requires c κs = search needs
+nearest-u64-to-f64-requires c κs = tt
 
 returns : tie.Need-returns
 returns c =

@@ -5,7 +5,7 @@ use native.Mathlib.Omega.{arith}
 use lib.Ieee.{neg, ofBits}
 use Rattle.model.specs.Association.{dot}
 use Rattle.association_laws.specs.Flat.{from}
-use Rattle.association_laws.proofs.Steps.{sum-none, sum-more}
+use Rattle.float_laws.proofs.Sums.{sum-none, sum-more}
 use Rattle.distances.proofs.dot_product.Statement.{statement}
 use Rattle.distances.proofs.dot_product.Tie as tie
 

@@ -1,18 +1,17 @@
 -- the lines before l have their norm
 use Prim.Native.Nat.{_+_, _*_, _-_, _≤_}
-use mathlib.Core.Path.{_≡_, refl}
+use mathlib.Core.Path.{_≡_, refl, sym}
 use native.Mathlib.Omega.{arith}
 use lib.ListN.{length, length-set}
-use lib.Seq.{sets}
-use Rattle.model.specs.Lists.{listBelow}
+use Rattle.model.specs.Lists.{listBelow, over}
+use Rattle.list_laws.proofs.Built.{over-none, over-set}
 use Rattle.association_laws.specs.Flat.{normAt}
 use Rattle.list_laws.proofs.Rows.{row-inside}
-use Rattle.association_laws.proofs.Writes.{run-none, front-more, front-done}
 use Rattle.distances.proofs.line_norms.Statement.{statement}
 use Rattle.distances.proofs.line_norms.Tie as tie
 
 abbrev Inv-loop : tie.InvT-loop
-Inv-loop table n m norms₀ l₀ norms l = (l ≤ n) × (length norms ≡ length norms₀) × (norms ≡ sets norms₀ 0 (listBelow (normAt table m) l))
+Inv-loop table n m norms₀ l₀ norms l = (l ≤ n) × (length norms ≡ length norms₀) × (norms ≡ over (listBelow (normAt table m) l) norms₀)
 
 abbrev μ-loop : tie.MeasureT-loop
 μ-loop table n m norms₀ l₀ norms l = n - l
@@ -26,7 +25,7 @@ inside : (c : tie.In-loop Inv-loop μ-loop) → c .before .loop .l * entry c .ar
 inside c = row-inside _ _ _ (c .loop-test .taken)
 
 loop-holds : tie.Need-loop-holds Inv-loop μ-loop
-loop-holds c = (omega arith, refl, run-none _ _ 0)
+loop-holds c = (omega arith, refl, sym (over-none _ _))
 
 mul-dot-product : tie.Need-mul-dot-product Inv-loop μ-loop
 mul-dot-product c = omega (arith, inside c)
@@ -52,7 +51,7 @@ loop-less c = omega arith
 loop-again : tie.Need-loop-again Inv-loop μ-loop
 loop-again c =
     let l = c .before .before .loop in
-    (omega arith, simp length-set (l .inv .1), front-more _ _ _ _ _ (l .inv .2) (c .dot-product .ensures))
+    (omega arith, simp length-set (l .inv .1), over-set _ _ _ _ _ (omega arith) (l .inv .2) (c .dot-product .ensures))
 
 same-length : tie.Need-same-length Inv-loop μ-loop
 same-length c = c .before .loop .inv .1
@@ -60,7 +59,7 @@ same-length c = c .before .loop .inv .1
 returns : tie.Need-returns Inv-loop μ-loop
 returns c =
     let e : c .before .loop .l ≡ c .before .before .before .before .args .n = omega arith in
-    front-done _ _ _ _ (omega arith) (rw e at (c .before .loop .inv .2))
+    rw e at (c .before .loop .inv .2)
 
 pub line-norms-spec : {M : Type 1} → statement M
 line-norms-spec =

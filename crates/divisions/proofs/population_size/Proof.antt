@@ -1,7 +1,7 @@
 -- `population_size`. Assumes nothing.
-use mathlib.Core.Path.{ap, _∙_}
+use mathlib.Core.Path.{_≡_, ap, _∙_}
 use native.Mathlib.Omega.{arith}
-use Rattle.model.specs.Reference.{orElse, pointCount}
+use Rattle.model.specs.Reference.{orElse, pointCount, divisionsOf}
 use Rattle.model.specs.Session.{given}
 use Rattle.reference_laws.proofs.Divisions.{session-allowed, population-small, population-large}
 use borrow.Author.Needs.{needs}
@@ -19,21 +19,19 @@ point-count-requires c κs =
 or-else-requires : tie.Need-or-else-requires
 or-else-requires c κs = search needs
 
+-- the size given, or else the point count
+sized : (c : tie.After-or-else) →
+    let a = c .before .before .before .args in
+    c .or-else .result ≡ orElse (given (a .size)) (pointCount (a .m) (divisionsOf (a .m) (given (a .size)) (given (a .divisions))))
+sized c =
+    let a = c .before .before .before .args in
+    c .or-else .ensures ∙ ap (orElse (given (a .size))) (c .before .point-count .ensures ∙ ap (pointCount (a .m)) (c .before .before .divisions-of .ensures))
+
 returns : tie.Need-returns
-returns c =
-    let a = c .before .before .before .before .args in
-    population-small (a .m) _ (given (a .size)) (given (a .divisions))
-    (c .before .or-else .ensures
-    ∙ ap (orElse (given (a .size))) (c .before .before .point-count .ensures ∙ ap (pointCount (a .m)) (c .before .before .before .divisions-of .ensures)))
-    (c .if1 .taken)
+returns c = population-small _ _ _ _ (sized (c .before)) (c .if1 .taken)
 
 returns-2 : tie.Need-returns-2
-returns-2 c =
-    let a = c .before .before .before .before .args in
-    population-large (a .m) _ (given (a .size)) (given (a .divisions))
-    (c .before .or-else .ensures
-    ∙ ap (orElse (given (a .size))) (c .before .before .point-count .ensures ∙ ap (pointCount (a .m)) (c .before .before .before .divisions-of .ensures)))
-    (c .if1 .left)
+returns-2 c = population-large _ _ _ _ (sized (c .before)) (c .if1 .left)
 
 pub population-size-spec : {M : Type 1} → statement M
 population-size-spec =

@@ -1,28 +1,27 @@
 -- the objectives before j have their intercept
 use Prim.Native.Nat.{_-_, _≤_}
-use mathlib.Core.Path.{_≡_, refl, ap, _∙_}
+use mathlib.Core.Path.{_≡_, refl, ap, sym, _∙_}
 use native.Mathlib.Omega.{arith}
 use borrow.Author.Needs.{needs}
 use lib.Ieee.{nan}
 use lib.ListN.{length, getD, length-set}
-use lib.Seq.{sets}
-use Rattle.model.specs.Lists.{listBelow}
+use Rattle.model.specs.Lists.{listBelow, over}
 use Rattle.model.specs.Real.{_⊖_}
 use Rattle.model.specs.Association.{interceptFrom}
+use Rattle.list_laws.proofs.Built.{over-none, over-set}
 use Rattle.association_laws.specs.Flat.{interceptAt}
-use Rattle.association_laws.proofs.Writes.{run-none, front-more, front-done}
 use Rattle.normalization.proofs.find_intercepts.Statement.{statement}
 use Rattle.normalization.proofs.find_intercepts.Tie as tie
 
 abbrev Inv-loop : tie.InvT-loop
 Inv-loop rows n m ideal intercepts₀ j₀ intercepts j =
-    (j ≤ m) × (length intercepts ≡ length intercepts₀) × (intercepts ≡ sets intercepts₀ 0 (listBelow (interceptAt rows n m ideal) j))
+    (j ≤ m) × (length intercepts ≡ length intercepts₀) × (intercepts ≡ over (listBelow (interceptAt rows n m ideal) j) intercepts₀)
 
 abbrev μ-loop : tie.MeasureT-loop
 μ-loop rows n m ideal intercepts₀ j₀ intercepts j = m - j
 
 loop-holds : tie.Need-loop-holds Inv-loop μ-loop
-loop-holds c = (omega arith, refl, run-none _ _ 0)
+loop-holds c = (omega arith, refl, sym (over-none _ _))
 
 greatest-of-requires : tie.Need-greatest-of-requires Inv-loop μ-loop
 greatest-of-requires c κs = search needs
@@ -53,7 +52,7 @@ loop-again c =
     let l = c .before .before .before .before .loop in
     let a = c .before .before .before .before .before .before .before .before .args in
     let v = c .intercept .ensures ∙ ap (λ t. interceptFrom (t ⊖ getD (a .ideal .now) (l .j) nan)) (c .before .before .greatest-of .ensures) in
-    (omega arith, simp length-set (l .inv .1), front-more _ _ _ _ _ (l .inv .2) v)
+    (omega arith, simp length-set (l .inv .1), over-set _ _ _ _ _ (omega arith) (l .inv .2) v)
 
 same-length : tie.Need-same-length Inv-loop μ-loop
 same-length c = c .before .loop .inv .1
@@ -61,7 +60,7 @@ same-length c = c .before .loop .inv .1
 returns : tie.Need-returns Inv-loop μ-loop
 returns c =
     let e : c .before .loop .j ≡ c .before .before .before .before .before .args .m = omega arith in
-    front-done _ _ _ _ (omega arith) (rw e at (c .before .loop .inv .2))
+    rw e at (c .before .loop .inv .2)
 
 pub find-intercepts-spec : {M : Type 1} → statement M
 find-intercepts-spec =

@@ -1,18 +1,18 @@
 -- the best so far is the greatest of the plans before p
 use Prim.Native.Nat.{_+_, _*_, _-_, _≤_}
 use mathlib.Core.Path.{_≡_, sym, _∙_}
+use mathlib.Core.Bool.{true}
 use mathlib.Core.Logic.{⊎-elim}
 use native.Mathlib.Omega.{arith}
-use lib.Ieee.{div, ofBits, neg}
-use Rattle.model.specs.Association.{greatest}
+use lib.Ieee.{inf, div, ofBits, neg}
 use Rattle.association_laws.specs.Flat.{column}
 use Rattle.list_laws.proofs.Rows.{row-inside}
-use Rattle.association_laws.proofs.Steps.{greatest-none, greatest-yes, greatest-no}
+use Rattle.association_laws.proofs.Extremes.{bestFrom, above, best-none, best-yes, best-no, greatest-best}
 use Rattle.normalization.proofs.greatest_of.Statement.{statement}
 use Rattle.normalization.proofs.greatest_of.Tie as tie
 
 abbrev Inv-loop : tie.InvT-loop
-Inv-loop rows n m j best₀ p₀ best p = (p ≤ n) × (best ≡ greatest (column rows m j) p)
+Inv-loop rows n m j best₀ p₀ best p = (p ≤ n) × (best ≡ bestFrom above (inf true) (column rows m j) p)
 
 abbrev μ-loop : tie.MeasureT-loop
 μ-loop rows n m j best₀ p₀ best p = n - p
@@ -23,7 +23,7 @@ inside c = row-inside _ _ _ (c .loop-test .taken)
 
 loop-holds : tie.Need-loop-holds Inv-loop μ-loop
 unfolding div ofBits neg
-loop-holds c = (omega arith, sym (greatest-none _))
+loop-holds c = (omega arith, sym (best-none above _ _))
 
 mul-v : tie.Need-mul-v Inv-loop μ-loop
 mul-v c = omega (arith, inside c)
@@ -48,14 +48,14 @@ loop-again c =
     let l = c .before .before .before .loop in (
       omega arith,
       ⊎-elim
-          (λ w. w .1 ∙ greatest-yes _ _ _ (l .inv .1) (w .0 .taken))
-          (λ w. w .1 ∙ greatest-no _ _ _ (l .inv .1) (w .0 .left)) (c .if1 .came),
+          (λ w. w .1 ∙ best-yes above _ _ _ _ (l .inv .1) (w .0 .taken))
+          (λ w. w .1 ∙ best-no above _ _ _ _ (l .inv .1) (w .0 .left)) (c .if1 .came),
     )
 
 returns : tie.Need-returns Inv-loop μ-loop
 returns c =
     let e : c .before .loop .p ≡ c .before .before .args .n = omega arith in
-    rw e at (c .before .loop .inv .1)
+    rw e at (c .before .loop .inv .1) ∙ sym (greatest-best _ _)
 
 pub greatest-of-spec : {M : Type 1} → statement M
 greatest-of-spec =

@@ -3,15 +3,15 @@ use Prim.Native.Nat.{_+_, _*_, _-_, _≤_}
 use mathlib.Core.Path.{_≡_, sym, _∙_}
 use mathlib.Core.Logic.{⊎-elim}
 use native.Mathlib.Omega.{arith}
-use Rattle.model.specs.Association.{leastFrom}
+use lib.Ieee.{lt}
 use Rattle.association_laws.specs.Flat.{column}
 use Rattle.list_laws.proofs.Rows.{row-inside}
-use Rattle.association_laws.proofs.Steps.{least-none, least-yes, least-no}
+use Rattle.association_laws.proofs.Extremes.{bestFrom, best-none, best-yes, best-no, least-best}
 use Rattle.normalization.proofs.least_of.Statement.{statement}
 use Rattle.normalization.proofs.least_of.Tie as tie
 
 abbrev Inv-loop : tie.InvT-loop
-Inv-loop rows n m j start least₀ p₀ least p = (p ≤ n) × (least ≡ leastFrom start (column rows m j) p)
+Inv-loop rows n m j start least₀ p₀ least p = (p ≤ n) × (least ≡ bestFrom lt start (column rows m j) p)
 
 abbrev μ-loop : tie.MeasureT-loop
 μ-loop rows n m j start least₀ p₀ least p = n - p
@@ -21,7 +21,7 @@ inside : (c : tie.In-loop Inv-loop μ-loop) → c .before .loop .p * c .before .
 inside c = row-inside _ _ _ (c .loop-test .taken)
 
 loop-holds : tie.Need-loop-holds Inv-loop μ-loop
-loop-holds c = (omega arith, sym (least-none _ _))
+loop-holds c = (omega arith, sym (best-none lt _ _))
 
 mul-v : tie.Need-mul-v Inv-loop μ-loop
 mul-v c = omega (arith, inside c)
@@ -46,14 +46,14 @@ loop-again c =
     let l = c .before .before .before .loop in (
       omega arith,
       ⊎-elim
-          (λ w. w .1 ∙ least-yes _ _ _ _ (l .inv .1) (w .0 .taken))
-          (λ w. w .1 ∙ least-no _ _ _ _ (l .inv .1) (w .0 .left)) (c .if1 .came),
+          (λ w. w .1 ∙ best-yes lt _ _ _ _ (l .inv .1) (w .0 .taken))
+          (λ w. w .1 ∙ best-no lt _ _ _ _ (l .inv .1) (w .0 .left)) (c .if1 .came),
     )
 
 returns : tie.Need-returns Inv-loop μ-loop
 returns c =
     let e : c .before .loop .p ≡ c .before .before .args .n = omega arith in
-    rw e at (c .before .loop .inv .1)
+    rw e at (c .before .loop .inv .1) ∙ sym (least-best _ _ _)
 
 pub least-of-spec : {M : Type 1} → statement M
 least-of-spec =

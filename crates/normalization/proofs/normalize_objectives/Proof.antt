@@ -3,16 +3,16 @@ use Prim.Native.Nat.{_-_, _≤_}
 use mathlib.Core.Path.{_≡_, refl, _∙_}
 use native.Mathlib.Omega.{arith}
 use lib.ListN.{length}
-use lib.Seq.{sets}
+use Rattle.model.specs.Lists.{over}
 use Rattle.association_laws.specs.Flat.{normalAt, flatRows}
-use Rattle.list_laws.proofs.Rows.{row-inside}
-use Rattle.association_laws.proofs.Writes.{rows-none, rows-more, rows-done}
+use Rattle.list_laws.proofs.Rows.{row-inside, row-within}
+use Rattle.association_laws.proofs.Places.{rows-none, rows-more}
 use Rattle.normalization.proofs.normalize_objectives.Statement.{statement}
 use Rattle.normalization.proofs.normalize_objectives.Tie as tie
 
 abbrev Inv-loop : tie.InvT-loop
 Inv-loop rows n m ideal intercepts normalized₀ p₀ normalized p =
-    (p ≤ n) × (length normalized ≡ length normalized₀) × (normalized ≡ sets normalized₀ 0 (flatRows (normalAt rows m ideal intercepts) p m))
+    (p ≤ n) × (length normalized ≡ length normalized₀) × (normalized ≡ over (flatRows (normalAt rows m ideal intercepts) p m) normalized₀)
 
 abbrev μ-loop : tie.MeasureT-loop
 μ-loop rows n m ideal intercepts normalized₀ p₀ normalized p = n - p
@@ -35,8 +35,10 @@ loop-less c = omega arith
 loop-again : tie.Need-loop-again Inv-loop μ-loop
 loop-again c =
     let l = c .before .before .before .before .before .loop in
+    let a = c .before .before .before .before .before .before .before .before .before .before .args in
     let f = c .before .before .normalize-row in
-    (omega arith, f .kept .1 .1 .1 .1 .1 .0 ∙ l .inv .1, rows-more _ _ _ _ _ _ (l .inv .2) (f .ensures))
+    let h = row-within (l .p) (a .n) (a .m) (length (a .normalized .now)) (c .before .before .before .before .loop-test .taken) (omega arith) in
+    (omega arith, f .kept .1 .1 .1 .1 .1 .0 ∙ l .inv .1, rows-more _ _ _ _ _ _ h (l .inv .2) (f .ensures))
 
 same-length : tie.Need-same-length Inv-loop μ-loop
 same-length c = c .before .loop .inv .1
@@ -44,7 +46,7 @@ same-length c = c .before .loop .inv .1
 returns : tie.Need-returns Inv-loop μ-loop
 returns c =
     let e : c .before .loop .p ≡ c .before .before .before .before .before .before .args .n = omega arith in
-    rows-done _ _ _ _ _ (omega arith) (rw e at (c .before .loop .inv .2))
+    rw e at (c .before .loop .inv .2)
 
 pub normalize-objectives-spec : {M : Type 1} → statement M
 normalize-objectives-spec =

@@ -5,8 +5,8 @@ use native.Mathlib.Omega.{arith}
 use lib.ListN.{length, length-set}
 use lib.Seq.{sets}
 use Rattle.model.specs.Lists.{listBelow}
+use Rattle.list_laws.proofs.Runs.{run-none, run-more}
 use Rattle.association_laws.specs.Flat.{normalAt}
-use Rattle.association_laws.proofs.Writes.{run-none, run-more}
 use Rattle.normalization.proofs.normalize_row.Statement.{statement}
 use Rattle.normalization.proofs.normalize_row.Tie as tie
 

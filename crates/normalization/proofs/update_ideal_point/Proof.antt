@@ -1,27 +1,27 @@
 -- the objectives before j have their ideal
 use Prim.Native.Nat.{_-_, _≤_}
-use mathlib.Core.Path.{_≡_, refl, ap, _∙_}
+use mathlib.Core.Path.{_≡_, refl, ap, sym, _∙_}
 use native.Mathlib.Omega.{arith}
 use borrow.Author.Needs.{needs}
 use lib.Ieee.{nan}
 use lib.ListN.{length, length-set}
-use lib.Seq.{sets}
-use Rattle.model.specs.Lists.{listBelow}
+use Rattle.model.specs.Lists.{listBelow, over}
 use Rattle.model.specs.Association.{leastFrom}
+use Rattle.list_laws.proofs.Built.{over-none, over-set}
 use Rattle.association_laws.specs.Flat.{column, leastAt}
-use Rattle.association_laws.proofs.Writes.{run-none, front-more, front-past, front-done}
+use Rattle.association_laws.proofs.Places.{over-next}
 use Rattle.normalization.proofs.update_ideal_point.Statement.{statement}
 use Rattle.normalization.proofs.update_ideal_point.Tie as tie
 
 abbrev Inv-loop : tie.InvT-loop
 Inv-loop rows n m ideal₀ j₀ ideal j =
-    (j ≤ m) × (length ideal ≡ length ideal₀) × (ideal ≡ sets ideal₀ 0 (listBelow (leastAt rows n m ideal₀) j))
+    (j ≤ m) × (length ideal ≡ length ideal₀) × (ideal ≡ over (listBelow (leastAt rows n m ideal₀) j) ideal₀)
 
 abbrev μ-loop : tie.MeasureT-loop
 μ-loop rows n m ideal₀ j₀ ideal j = m - j
 
 loop-holds : tie.Need-loop-holds Inv-loop μ-loop
-loop-holds c = (omega arith, refl, run-none _ _ 0)
+loop-holds c = (omega arith, refl, sym (over-none _ _))
 
 mul-start : tie.Need-mul-start Inv-loop μ-loop
 mul-start c = omega arith
@@ -48,8 +48,8 @@ loop-again : tie.Need-loop-again Inv-loop μ-loop
 loop-again c =
     let l = c .before .before .before .loop in
     let a = c .before .before .before .before .before .before .args in
-    let v = c .least-of .ensures ∙ ap (λ t. leastFrom t (column (a .rows .now) (a .m) (l .j)) (a .n)) (front-past _ nan _ _ _ (l .inv .2)) in
-    (omega arith, simp length-set (l .inv .1), front-more _ _ _ _ _ (l .inv .2) v)
+    let v = c .least-of .ensures ∙ ap (λ t. leastFrom t (column (a .rows .now) (a .m) (l .j)) (a .n)) (over-next _ _ _ _ nan (l .inv .2)) in
+    (omega arith, simp length-set (l .inv .1), over-set _ _ _ _ _ (omega arith) (l .inv .2) v)
 
 same-length : tie.Need-same-length Inv-loop μ-loop
 same-length c = c .before .loop .inv .1
@@ -57,7 +57,7 @@ same-length c = c .before .loop .inv .1
 returns : tie.Need-returns Inv-loop μ-loop
 returns c =
     let e : c .before .loop .j ≡ c .before .before .before .before .args .m = omega arith in
-    front-done _ _ _ _ (omega arith) (rw e at (c .before .loop .inv .2))
+    rw e at (c .before .loop .inv .2)
 
 pub update-ideal-point-spec : {M : Type 1} → statement M
 update-ideal-point-spec =

@@ -1,5 +1,4 @@
 -- The invariant: the ends are those that some halvings lead to. The measure is what lies between them. Assumes nothing.
-use borrow.Author.Needs.{needs}
 use mathlib.Core.Path.{_≡_, sym, ap, _∙_}
 use mathlib.Core.Bool.{Bool}
 use Prim.Native.Nat.{ℕ, _+_, _-_, _/_, _≤_, _<_}
@@ -42,10 +41,10 @@ add-middle : tie.Need-add-middle Inv-loop μ-loop
 add-middle c = let l = c .before .loop in let g = between (c .before .before) (l .lower) (l .upper) (l .inv) in omega arith
 
 real-of-word-requires : tie.Need-real-of-word-requires Inv-loop μ-loop
-real-of-word-requires c κs = search needs
+real-of-word-requires c κs = tt
 
 power-requires : tie.Need-power-requires Inv-loop μ-loop
-power-requires c κs = search needs
+power-requires c κs = tt
 
 loop-less : tie.Need-loop-less Inv-loop μ-loop
 loop-less c =
@@ -74,7 +73,7 @@ loop-again-2 c =
     (middle (a .v) _ _ ((l .lower + l .upper) / 2) (a .k) _ (c .before .before .real-of-word .ensures) (c .before .power .ensures) (c .if2 .left))
 
 real-of-word-requires-2 : tie.Need-real-of-word-requires-2 Inv-loop μ-loop
-real-of-word-requires-2 c κs = search needs
+real-of-word-requires-2 c κs = tt
 
 returns-2 : tie.Need-returns-2 Inv-loop μ-loop
 returns-2 c =

@@ -1,5 +1,4 @@
 -- The library's nearest double. Assumes nothing.
-use borrow.Author.Needs.{needs}
 use mathlib.Core.Path.{ap, _∙_}
 use lib.Ieee.{binary64, ofInt}
 use mir.Syntax.{w64}
@@ -8,7 +7,7 @@ use Rattle.real.proofs.real_of_int.Statement.{statement}
 use Rattle.real.proofs.real_of_int.Tie as tie
 
 nearest-i64-to-f64-requires : tie.Need-nearest-i64-to-f64-requires
-nearest-i64-to-f64-requires c κs = search needs
+nearest-i64-to-f64-requires c κs = tt
 
 returns : tie.Need-returns
 returns c = c .nearest-i64-to-f64 .ensures ∙ ap (ofInt binary64) (toZ-ofZ w64 (c .before .args .n) (c .before .fits .n))

@@ -1,5 +1,4 @@
 -- The whole part, and the test that decides (`Halves`). Assumes nothing.
-use borrow.Author.Needs.{needs}
 use mathlib.Core.Path.{_≡_, sym, ap, _∙_, subst}
 use mathlib.Core.Bool.{Bool}
 use Prim.Native.Nat.{ℕ, _+_, _*_}
@@ -7,6 +6,7 @@ use native.Mathlib.Omega.{arith}
 use lib.Dec.{T}
 use lib.IntN.{pos}
 use lib.Ieee.{Float, binary64, le, lt, add, ofInt, ofBits}
+use Rattle.float_laws.proofs.Order.{lt→le}
 use Rattle.float_laws.proofs.Constants.{nought}
 use Rattle.real_laws.proofs.Halves.{castable, Parted, parted}
 use Rattle.real.proofs.round_above_zero.Statement.{statement}
@@ -17,7 +17,7 @@ unfolding ofBits
 above c = c .pre .0
 
 truncating-f64-to-u64-requires : tie.Need-truncating-f64-to-u64-requires
-truncating-f64-to-u64-requires c κs = castable (c .args .x) (above c) (c .pre .1)
+truncating-f64-to-u64-requires c κs = castable (c .args .x) (lt→le _ _ (above c)) (lt→le _ _ (c .pre .1))
 
 -- what is known of the whole part
 known : (c : tie.After-truncating-f64-to-u64) → Parted (c .before .args .x) (c .truncating-f64-to-u64 .result)
@@ -32,16 +32,16 @@ add-nearest-u64-to-f64 : tie.Need-add-nearest-u64-to-f64
 add-nearest-u64-to-f64 c = let h = known c .small in omega arith
 
 nearest-u64-to-f64-requires : tie.Need-nearest-u64-to-f64-requires
-nearest-u64-to-f64-requires c κs = search needs
+nearest-u64-to-f64-requires c κs = tt
 
 add-nearest-u64-to-f64-2 : tie.Need-add-nearest-u64-to-f64-2
 add-nearest-u64-to-f64-2 c = let h = known (c .before .before) .small in omega arith
 
 nearest-u64-to-f64-requires-2 : tie.Need-nearest-u64-to-f64-requires-2
-nearest-u64-to-f64-requires-2 c κs = search needs
+nearest-u64-to-f64-requires-2 c κs = tt
 
 nearest-u64-to-f64-requires-3 : tie.Need-nearest-u64-to-f64-requires-3
-nearest-u64-to-f64-requires-3 c κs = search needs
+nearest-u64-to-f64-requires-3 c κs = tt
 
 -- the test, on what the library answered
 test : (x y : Float) (n : ℕ) (b : Bool) → y ≡ ofInt binary64 (pos (2 * n + 1)) → le y (add binary64 x x) ≡ b → le (ofInt binary64 (pos (2 * n + 1))) (add binary64 x x) ≡ b

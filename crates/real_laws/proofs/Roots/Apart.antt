@@ -1,24 +1,25 @@
 -- A double from 0 on that is below another times 1 - 2 ^ -30 has a root below the other's, also after both are rounded (`sqrt-apart`). Assumes nothing.
 -- In numerals, 1073741824 is 2 ^ 30 and 1099511627776 is 2 ^ 40.
 use mathlib.Core.Path.{_≡_, refl, sym, ap, _∙_, subst}
+use mathlib.Core.Logic.{inl, inr}
 use Prim.Native.Nat.{ℕ, zero, suc, _+_, _-_, _*_, _/_, _^_, _≤_, _<_}
 use native.Mathlib.Nat.{le-trans, le-of-eq, le-of-lt, lt-of-lt-of-le, lt-of-not-le, not-le-of-lt, zero-mul, mul-assoc, mul-left-comm, mul-mul-mul-comm, mul-pos, mul-le-mul-left, mul-le-mul-right, mul-lt-mul-of-pos-right, zero-lt-suc, le-div-iff-mul-le, div-lt-iff-lt-mul}
 use native.Mathlib.Omega.{arith}
-use mathlib.Core.Bool.{Bool, true, false}
-use lib.IntN.{ℤ, negsuc}
+use mathlib.Core.Bool.{false}
+use lib.IntN.{negsuc}
 use lib.Dec.{T}
 use lib.Pow.{pow-add, pow-pos, pow-mono}
-use lib.Ieee.{Float, nan, inf, fin, binary64, size, fits, le, lt, mul}
+use lib.Ieee.{Float, fin, binary64, size, fits, le, lt, mul}
 use lib.Ieee.Digits.{size-lt}
-use lib.Ieee.Exact.{HasValue}
-use Rattle.float_laws.proofs.Units.{Counts, le→counts, counts→lt}
-use Rattle.float_laws.proofs.Order.{lt→nle, lt→le, le-lt-trans}
-use Rattle.float_laws.proofs.Rounding.{rounded-le, value-counts}
-use Rattle.float_laws.proofs.Arithmetic.{mul-count}
-use Rattle.float_laws.proofs.Constants.{nought, nought-counts}
+use Rattle.float_laws.proofs.Units.{Counts, counts-finite}
+use Rattle.float_laws.proofs.Order.{lt→nle, lt→le, le-not-nan, le-lt-trans}
+use Rattle.float_laws.proofs.Rounding.{rounded-le}
+use Rattle.float_laws.proofs.Arithmetic.{count, mul-count}
+use Rattle.float_laws.proofs.Constants.{nought}
 use Rattle.model.specs.Numbers.{nearRoot, dropped, sqrtOf}
+use Rattle.real_laws.proofs.Nan.{rise, below-inf, finite-below}
 use Rattle.real_laws.proofs.Roots.Whole.{nearRoot-near, square-mono}
-use Rattle.real_laws.proofs.Roots.Units.{shiftOf, counted, rootUnits, rootUnits-zero, root-counted}
+use Rattle.real_laws.proofs.Roots.Units.{count-lt, rootUnits, rootUnits-zero, root-counts}
 use Rattle.real_laws.proofs.Roots.Monotone.{kept-ge}
 
 -- ---- the square of a root in units, beside the number: within one in 2 ^ 40, where digits are dropped
@@ -136,64 +137,20 @@ apart-counts zero h l =
 apart-counts (suc g) h l =
     apart-units (suc g * 2 ^ 1074) (h * 2 ^ 1074) (drops (suc g) (zero-lt-suc g)) (drops h (some-units (suc g) h l)) (scaled (suc g) h (2 ^ 1074) l (pow-pos 1074))
 
--- ---- the counts of doubles and of their roots
-bare : (g : ℕ) → g ≡ 0 + g
-bare g = omega arith
-
-plain : (a b : ℕ) → a < b → a + 0 < b + 0
-plain a b h = omega arith
-
-zero-of : (g : ℕ) → 0 + g ≤ 0 + 0 → g ≡ 0
-zero-of g h = omega arith
-
-as-count : (v : Float) (g : ℕ) → HasValue v false g (2 ^ 1074) → Counts binary64 v g 0
-as-count v g a = value-counts binary64 v false g g 0 a (bare g)
-
--- a double with the sign set that is from 0 on is a zero
-minus-zero : (m : ℕ) (e : ℤ) (S : T (fits binary64 (fin true m e))) → T (le nought (fin true m e)) → m * 2 ^ shiftOf true m e S ≡ 0
-minus-zero m e S h =
-    let g = m * 2 ^ shiftOf true m e S in
-    zero-of g (le→counts binary64 nought (fin true m e) 0 0 0 g (nought-counts binary64) (value-counts binary64 (fin true m e) true g 0 g (counted true m e S) (bare g)) h)
-
--- so a double from 0 on and its root have counts without a sign
-rootCount : (s : Bool) (m : ℕ) (e : ℤ) → T (fits binary64 (fin s m e)) → T (le nought (fin s m e))
-    → (g : ℕ) × Counts binary64 (fin s m e) g 0 × Counts binary64 (sqrtOf (fin s m e)) (rootUnits (g * 2 ^ 1074)) 0
-rootCount false m e S h =
-    let g = m * 2 ^ shiftOf false m e S in
-    (g, as-count (fin false m e) g (counted false m e S), as-count (sqrtOf (fin false m e)) (rootUnits (g * 2 ^ 1074)) (root-counted false m e S h))
-rootCount true m e S h =
-    let g = m * 2 ^ shiftOf true m e S in
-    let z = minus-zero m e S h in
-    let r : rootUnits (0 * 2 ^ 1074) ≡ 0 = ap rootUnits (zero-mul (2 ^ 1074)) ∙ rootUnits-zero in
-    let w : rootUnits (g * 2 ^ 1074) ≡ 0 = ap (λ (x : ℕ). rootUnits (x * 2 ^ 1074)) z ∙ r in (
-      0,
-      value-counts binary64 (fin true m e) true g 0 0 (counted true m e S) (sym z ∙ bare g),
-      subst (λ (x : ℕ). Counts binary64 (sqrtOf (fin true m e)) x 0) (sym r)
-          (value-counts binary64 (sqrtOf (fin true m e)) true (rootUnits (g * 2 ^ 1074)) 0 0 (root-counted true m e S h) (sym w ∙ bare (rootUnits (g * 2 ^ 1074)))),
-    )
-
-below-inf : (v : Float) (g n : ℕ) → Counts binary64 v g n → T (lt v (inf false))
-unfolding lt
-below-inf nan g n a = absurd a
-below-inf (inf t) g n a = absurd a
-below-inf (fin t m e) g n a = tt
-
 -- THEOREM
 pub sqrt-apart : (s b : Float) → T (fits binary64 s) → T (fits binary64 b) → T (le nought s) → T (lt s b) → T (lt s (mul binary64 b nearlyOne)) → T (lt (sqrtOf s) (sqrtOf b))
-unfolding le lt sqrtOf
-sqrt-apart nan b S B h k l = absurd h
-sqrt-apart (inf true) b S B h k l = absurd h
-sqrt-apart (inf false) nan S B h k l = absurd k
-sqrt-apart (inf false) (inf true) S B h k l = absurd k
-sqrt-apart (inf false) (inf false) S B h k l = absurd k
-sqrt-apart (inf false) (fin t n d) S B h k l = absurd k
-sqrt-apart (fin s m e) nan S B h k l = absurd k
-sqrt-apart (fin s m e) (inf true) S B h k l = absurd k
-sqrt-apart (fin s m e) (inf false) S B h k l = let a = rootCount s m e S h in below-inf (sqrtOf (fin s m e)) (rootUnits (a .0 * 2 ^ 1074)) 0 (a .2)
-sqrt-apart (fin s m e) (fin t n d) S B h k l =
-    let x = fin s m e in
-    let y = fin t n d in
-    let a = rootCount s m e S h in
-    let c = rootCount t n d B (lt→le nought y (le-lt-trans nought x y h k)) in
-    counts→lt binary64 (sqrtOf x) (sqrtOf y) (rootUnits (a .0 * 2 ^ 1074)) 0 (rootUnits (c .0 * 2 ^ 1074)) 0 (a .2) (c .2)
-    (plain (rootUnits (a .0 * 2 ^ 1074)) (rootUnits (c .0 * 2 ^ 1074)) (apart-counts (a .0) (c .0) (below x y (a .0) (c .0) S (a .1) (c .1) l)))
+sqrt-apart s b S B h j l =
+    let n = lt→le nought b (le-lt-trans nought s b h j) in
+    elim (rise s h) [
+      | inl e ↦ absurd (lt→nle s b j (subst (λ (v : Float). T (le b v)) (sym e) (below-inf b (le-not-nan nought b n .1))))
+      | inr F ↦
+          let c = count binary64 s (record { held = S; finite = F }) h in
+          let r = root-counts s (c .0) (c .1) in
+          elim (rise b n) [
+            | inl e ↦ subst (λ (v : Float). T (lt (sqrtOf s) (sqrtOf v))) (sym e) (unfold sqrtOf in finite-below (sqrtOf s) (counts-finite binary64 (sqrtOf s) (rootUnits (c .0 * 2 ^ 1074)) 0 r))
+            | inr G ↦
+                let d = count binary64 b (record { held = B; finite = G }) n in
+                count-lt (sqrtOf s) (sqrtOf b) (rootUnits (c .0 * 2 ^ 1074)) (rootUnits (d .0 * 2 ^ 1074)) r (root-counts b (d .0) (d .1))
+                (apart-counts (c .0) (d .0) (below s b (c .0) (d .0) S (c .1) (d .1) l))
+          ]
+    ]

@@ -2,26 +2,28 @@
 -- (`inUnits`), the exact root is the root of X * 2 ^ 1074 units. Where y is above r, the root is not beyond the middle of the two, (R + Y) / 2; where y is below r, it is not
 -- before the middle. Squared and without fractions: 4 * (X * 2 ^ 1074) ≤ (R + Y) * (R + Y), and the other way round. Assumes nothing.
 use mathlib.Core.Path.{_≡_, refl, sym, ap, _∙_, subst}
-use Prim.Native.Nat.{ℕ, suc, _+_, _-_, _*_, _/_, _^_, _≤_, _<_, zero-le}
-use native.Mathlib.Nat.{le-trans, le-of-eq, le-of-lt, mul-pos, lt-of-lt-of-le, lt-of-not-le, lt-of-mul-lt-mul-right, one-mul, mul-assoc, mul-mul-mul-comm, add-mul, mul-le-mul-left, mul-le-mul-right, mul-lt-mul-of-pos-right, pow-suc}
+use Prim.Native.Nat.{ℕ, zero, suc, _+_, _-_, _*_, _/_, _^_, _≤_, _<_, zero-le}
+use native.Mathlib.Nat.{le-trans, le-of-eq, le-of-lt, mul-pos, zero-lt-suc, lt-of-lt-of-le, lt-of-not-le, lt-of-mul-lt-mul-right, one-mul, mul-assoc, mul-mul-mul-comm, add-mul, mul-le-mul-left, mul-le-mul-right, mul-lt-mul-of-pos-right, pow-suc}
 use native.Mathlib.Omega.{arith}
 use mathlib.Core.Bool.{Bool, true, false, not, true≢false}
 use lib.IntN.{ℤ}
-use lib.Dec.{T, leb, leb→le, nleb→lt, ltb→lt}
-use lib.Pow.{pow-add, pow-pos, pow-mono}
-use lib.Ieee.{Float, nan, inf, fin, binary64, fits, le, lt}
+use lib.Dec.{T, leb, leb→le, nleb→lt, ltb→lt, eqb→eq}
+use lib.Pow.{pow-add, pow-pos, pow-mono, shl-lt}
+use lib.Count.{leadingZeros}
+use lib.Ieee.{Float, nan, inf, fin, binary64, up, down, fits, le, lt}
 use lib.Ieee.Exact.{HasValue}
+use lib.Ieee.Fits.{odd-fits}
 use lib.Ieee.Digits.{back}
 use lib.Ieee.Scale.{finite}
 use lib.Ieee.Positive.{positive}
-use Rattle.float_laws.proofs.Units.{sle→le}
+use Rattle.float_laws.proofs.Units.{sle→le, zero-exponent}
 use Rattle.float_laws.proofs.Order.{lt→nle}
 use Rattle.float_laws.proofs.Rounding.{unsigned}
 use Rattle.float_laws.proofs.Constants.{nought}
 use Rattle.model.specs.Numbers.{nearRoot, unitsOf, sqrtOf}
 use Rattle.real_laws.proofs.Roots.Whole.{IsNear, nearRoot-near, square-suc, square-twice, square-mono}
 use Rattle.real_laws.proofs.Roots.Scaled.{parts, exponent, moved, dropped-is, cut-is}
-use Rattle.real_laws.proofs.Roots.Units.{shiftOf, counted, digits-lt, unitsOf-is, rootUnits, root-counted}
+use Rattle.real_laws.proofs.Roots.Units.{shiftOf, counted, digits-lt, unitsOf-is, rootUnits, shift-lt, sqrtOf-units, root-valued}
 
 -- ---- a number of at most 53 digits, moved up, that is 2 ^ 52 * 2 ^ k at least is a multiple of 2 ^ k
 reaches : (p j k : ℕ) → p < 2 ^ 53 → 2 ^ 52 * 2 ^ k ≤ p * 2 ^ j → k ≤ j
@@ -144,11 +146,6 @@ shape m j p h =
     split : (i : ℕ) → 26 ≤ i → 2 * i ≡ 52 + (i - 26 + (i - 26))
     split i h = omega arith
 
-pub root-pos : (m j : ℕ) → 0 < m → m < 2 ^ 53 → 0 < rootUnits (m * 2 ^ j * 2 ^ 1074)
-root-pos m j p h =
-    let s = shape m j p h in
-    lt-of-lt-of-le (mul-pos (lt-of-lt-of-le (pow-pos 52) (s .7)) (pow-pos (s .2))) (le-of-eq (sym (s .4)))
-
 -- ---- floats
 -- a finite double's size in units; and for one with the sign clear that is its value
 abbrev pub inUnits : Float → ℕ
@@ -176,6 +173,16 @@ lt-units v w g h a b l = lt-of-not-le (λ (k : h ≤ g). lt→nle v w l (sle→l
 pub from-zero : (m : ℕ) (e : ℤ) → T (fits binary64 (fin false m e)) → T (le nought (fin false m e))
 from-zero m e X = sle→le (2 ^ 1074) nought (fin false m e) false false 0 (m * 2 ^ shiftOf false m e X) (pow-pos 1074) (refl, refl) (counted false m e X) zero-le
 
+-- what is not from 0 up has no root
+pub no-root : (x : Float) → T (fits binary64 x) → (T (le nought x) → ⊥) → sqrtOf x ≡ nan
+unfolding sqrtOf fits le
+no-root nan X h = refl
+no-root (inf true) X h = refl
+no-root (inf false) X h = absurd (h tt)
+no-root (fin false m e) X h = absurd (h (from-zero m e X))
+no-root (fin true zero e) X h = absurd (h (subst (λ (d : ℤ). T (le nought (fin true 0 d))) (sym (zero-exponent e (eqb→eq (up e * down e) 1 X))) tt))
+no-root (fin true (suc m) e) X h = refl
+
 -- what the theorems say of the three counts
 abbrev pub Above : ℕ → ℕ → ℕ → Type 0
 Above x r y = 4 * (x * 2 ^ 1074) ≤ (r + y) * (r + y)
@@ -198,7 +205,7 @@ sqrt-nearest (fin false m e) (fin false n d) X P Y F N =
     let s = shape m (shiftOf false m e X) (ltb→lt 0 m P) (digits-lt false m e X) in
     let q = s .1 in
     let k = s .2 in
-    let vr : HasValue (sqrtOf (fin false m e)) false (q * 2 ^ k) (2 ^ 1074) = subst (λ (z : ℕ). HasValue (sqrtOf (fin false m e)) false z (2 ^ 1074)) (s .4) (root-counted false m e X (from-zero m e X)) in
+    let vr : HasValue (sqrtOf (fin false m e)) false (q * 2 ^ k) (2 ^ 1074) = subst (λ (z : ℕ). HasValue (sqrtOf (fin false m e)) false z (2 ^ 1074)) (s .4) (root-valued (fin false m e) g (counted false m e X) (mul-pos (ltb→lt 0 m P) (pow-pos (shiftOf false m e X)))) in
     let vy = counted false n d Y in
     let ex : inUnits (fin false m e) ≡ g = units-of (fin false m e) g (counted false m e X) in
     let er : inUnits (sqrtOf (fin false m e)) ≡ q * 2 ^ k = units-of (sqrtOf (fin false m e)) (q * 2 ^ k) vr in
@@ -212,3 +219,24 @@ sqrt-nearest (fin false m e) (fin false n d) X P Y F N =
   where
     exchange : (C : ℕ → ℕ → ℕ → Type 0) {a b c a' b' c' : ℕ} → a' ≡ a → b' ≡ b → c' ≡ c → C a b c → C a' b' c'
     exchange C {a} {b} {c} {a'} {b'} {c'} p q r h = subst (λ (z : ℕ). C z b' c') (sym p) (subst (λ (z : ℕ). C a z c') (sym q) (subst (λ (z : ℕ). C a b z) (sym r) h))
+
+-- ---- and it is a double
+field-lt : (j z : ℕ) → j < 2098 → 53 + ((j + 1074 - (z - 11)) / 2 - 26) ≤ 2098
+field-lt j z h = omega arith
+
+pub sqrtOf-fits : (x : Float) → T (fits binary64 x) → T (fits binary64 (sqrtOf x))
+unfolding sqrtOf
+sqrtOf-fits nan X = X
+sqrtOf-fits (inf true) X = unfold fits in tt
+sqrtOf-fits (inf false) X = X
+sqrtOf-fits (fin s zero e) X = X
+sqrtOf-fits (fin true (suc m) e) X = unfold fits in tt
+sqrtOf-fits (fin false (suc m) e) X =
+    let j = shiftOf false (suc m) e X in
+    let f = parts (suc m) j (zero-lt-suc m) (digits-lt false (suc m) e X) in
+    let q = nearRoot (suc m * 2 ^ moved (suc m) j * 2 ^ 52) in
+    let k = exponent (suc m) j / 2 - 26 in
+    subst (λ (v : Float). T (fits binary64 v))
+    (sym (sqrtOf-units (fin false (suc m) e) (suc m * 2 ^ j) (counted false (suc m) e X) (mul-pos (zero-lt-suc m) (pow-pos j)) ∙ f .is))
+    (odd-fits binary64 53 false q k (f .root-high) (le-of-lt (f .root-high))
+    (lt-of-lt-of-le (shl-lt 53 k (f .root-high)) (pow-mono (field-lt j (leadingZeros 64 (suc m)) (shift-lt (suc m) e X (zero-lt-suc m))))))

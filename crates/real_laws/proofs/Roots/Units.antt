@@ -1,18 +1,30 @@
 -- `sqrtOf` in units, 2 ^ -1074 each: a double that is finite has a whole number of them (`counted`), and what its root has (`rootUnits`). Assumes nothing.
-use mathlib.Core.Path.{_≡_, refl, sym, ap, _∙_, subst}
+use mathlib.Core.Path.{_≡_, refl, sym, ap, _∙_, subst, subst₂}
 use Prim.Native.Nat.{ℕ, zero, suc, _+_, _*_, _/_, _^_, _≤_, _<_}
-use native.Mathlib.Nat.{le-trans, le-of-eq, lt-of-lt-of-le, lt-of-not-le, not-le-of-lt, lt-irrefl, lt-of-mul-lt-mul-right, zero-mul, one-mul, mul-right-comm, mul-div-cancel, mul-pos, mul-le-mul-right, mul-lt-mul-of-pos-right, zero-lt-suc}
+use native.Mathlib.Nat.{le-trans, le-of-eq, lt-of-lt-of-le, lt-of-not-le, not-le-of-lt, lt-irrefl, eq-zero-or-pos, lt-of-mul-lt-mul-right, zero-add, add-zero, zero-mul, one-mul, mul-right-comm, mul-div-cancel, mul-pos, mul-le-mul-right, mul-lt-mul-of-pos-right, zero-lt-suc}
 use native.Mathlib.Omega.{arith}
+use mathlib.Core.Logic.{inl, inr}
 use mathlib.Core.Bool.{Bool, true, false, true≢false}
 use lib.IntN.{ℤ}
 use lib.Dec.{T}
 use lib.Pow.{pow-pos, pow-mono}
-use lib.Ieee.{Float, nan, inf, fin, binary64, up, down, size, fits, le}
-use lib.Ieee.Fits.{down-pos}
+use lib.Ieee.{Float, nan, inf, fin, binary64, up, down, size, fits, le, lt}
+use lib.Ieee.Fits.{up-pos, down-pos}
 use lib.Ieee.Exact.{HasValue, odd-sign}
-use Rattle.float_laws.proofs.Units.{placed, le→sle}
-use Rattle.float_laws.proofs.Constants.{nought}
+use lib.Ieee.Positive.{first-pos}
+use Rattle.float_laws.proofs.Units.{Sgn, Counts, le→counts, counts→le, counts→lt, placed}
+use Rattle.float_laws.proofs.Rounding.{value-counts}
 use Rattle.model.specs.Numbers.{nearRoot, dropped, rooted, unitsOf, sqrtOf}
+
+-- ---- the order of doubles from 0 on is that of their counts
+pub le-count : (x y : Float) (g h : ℕ) → Counts binary64 x g 0 → Counts binary64 y h 0 → T (le x y) → g ≤ h
+le-count x y g h a b l = subst₂ (λ (m n : ℕ). m ≤ n) (add-zero g) (add-zero h) (le→counts binary64 x y g 0 h 0 a b l)
+
+pub count-le : (x y : Float) (g h : ℕ) → Counts binary64 x g 0 → Counts binary64 y h 0 → g ≤ h → T (le x y)
+count-le x y g h a b l = counts→le binary64 x y g 0 h 0 a b (subst₂ (λ (m n : ℕ). m ≤ n) (sym (add-zero g)) (sym (add-zero h)) l)
+
+pub count-lt : (x y : Float) (g h : ℕ) → Counts binary64 x g 0 → Counts binary64 y h 0 → g < h → T (lt x y)
+count-lt x y g h a b l = counts→lt binary64 x y g 0 h 0 a b (subst₂ (λ (m n : ℕ). m < n) (sym (add-zero g)) (sym (add-zero h)) l)
 
 -- ---- the count of a double that is finite: m * 2 ^ j, for a j that its exponent gives
 pub shiftOf : (s : Bool) (m : ℕ) (e : ℤ) → T (fits binary64 (fin s m e)) → ℕ
@@ -62,23 +74,37 @@ sqrtOf-units (fin true m e) g h p = absurd (true≢false (h .0))
 sqrtOf-units (fin false zero e) g h p = absurd (lt-irrefl 0 (subst (λ (x : ℕ). 0 < x) (sym (h .1) ∙ ap (λ (x : ℕ). x * 2 ^ 1074) (zero-mul (up e)) ∙ zero-mul (2 ^ 1074)) (mul-pos p (down-pos e))))
 sqrtOf-units (fin false (suc m) e) g h p = ap (λ (n : ℕ). rooted (n * 2 ^ 1074)) (ap (λ (x : ℕ). x / down e) (h .1) ∙ mul-div-cancel g (down-pos e))
 
--- ---- the count of `sqrtOf` of a double from 0 on
-none : (a b : ℕ) → 0 < b → a + b ≤ 0 → ⊥
-none a b h k = omega arith
+pub root-valued : (v : Float) (g : ℕ) → HasValue v false g (2 ^ 1074) → 0 < g → HasValue (sqrtOf v) false (rootUnits (g * 2 ^ 1074)) (2 ^ 1074)
+root-valued v g h p = subst (λ (u : Float). HasValue u false (rootUnits (g * 2 ^ 1074)) (2 ^ 1074)) (sym (sqrtOf-units v g h p)) (rooted-counted (g * 2 ^ 1074))
 
-pub root-counted : (s : Bool) (m : ℕ) (e : ℤ) (X : T (fits binary64 (fin s m e))) → T (le nought (fin s m e)) → HasValue (sqrtOf (fin s m e)) s (rootUnits (m * 2 ^ shiftOf s m e X * 2 ^ 1074)) (2 ^ 1074)
+-- ---- the count of `sqrtOf` of a double from 0 on
+-- a zero has none
+zero-count : (s : Bool) (e : ℤ) (g : ℕ) → Counts binary64 (fin s 0 e) g 0 → g ≡ 0
+zero-count s e g (n, u, i) = elim (eq-zero-or-pos n) [
+  | inl z ↦ by s g n i z
+  | inr p ↦ absurd (lt-irrefl 0 (subst (λ (x : ℕ). 0 < x) (sym u ∙ ap (λ (x : ℕ). x * 2 ^ 1074) (zero-mul (up e)) ∙ zero-mul (2 ^ 1074)) (mul-pos p (down-pos e))))
+]
+  where
+    by : (s : Bool) (g n : ℕ) → Sgn s n g 0 → n ≡ 0 → g ≡ 0
+    by true g n i z = omega arith
+    by false g n i z = omega arith
+
+-- and what is no zero has some
+some-count : (m : ℕ) (e : ℤ) (n : ℕ) → suc m * up e * 2 ^ 1074 ≡ n * down e → 0 < n
+some-count m e n u = first-pos n (down e) (subst (λ (k : ℕ). 0 < k) u (mul-pos (mul-pos (zero-lt-suc m) (up-pos e)) (pow-pos 1074)))
+
+pub root-counts : (x : Float) (g : ℕ) → Counts binary64 x g 0 → Counts binary64 (sqrtOf x) (rootUnits (g * 2 ^ 1074)) 0
 unfolding sqrtOf
-root-counted s zero e X h = (
-  refl,
-  ap (λ (x : ℕ). x * 2 ^ 1074) (zero-mul (up e)) ∙ zero-mul (2 ^ 1074)
-      ∙ sym (ap (λ (x : ℕ). x * down e) (ap rootUnits (ap (λ (x : ℕ). x * 2 ^ 1074) (zero-mul (2 ^ shiftOf s zero e X)) ∙ zero-mul (2 ^ 1074)) ∙ rootUnits-zero) ∙ zero-mul (down e)),
-)
-root-counted false (suc m) e X h =
-    let g = suc m * 2 ^ shiftOf false (suc m) e X in
-    subst (λ (v : Float). HasValue v false (rootUnits (g * 2 ^ 1074)) (2 ^ 1074))
-    (sym (sqrtOf-units (fin false (suc m) e) g (counted false (suc m) e X) (mul-pos (zero-lt-suc m) (pow-pos (shiftOf false (suc m) e X)))))
-    (rooted-counted (g * 2 ^ 1074))
-root-counted true (suc m) e X h =
-    let g = suc m * 2 ^ shiftOf true (suc m) e X in
-    absurd (none 0 g (mul-pos (zero-lt-suc m) (pow-pos (shiftOf true (suc m) e X)))
-    (le→sle (2 ^ 1074) nought (fin true (suc m) e) false true 0 g (pow-pos 1074) (refl, refl) (counted true (suc m) e X) h))
+root-counts nan g c = absurd c
+root-counts (inf s) g c = absurd c
+root-counts (fin s zero e) g c =
+    let z = zero-count s e g c in
+    subst (λ (k : ℕ). Counts binary64 (fin s 0 e) k 0) (z ∙ sym (ap rootUnits (ap (λ (k : ℕ). k * 2 ^ 1074) z ∙ zero-mul (2 ^ 1074)) ∙ rootUnits-zero)) c
+root-counts (fin false (suc m) e) g (n, u, i) =
+    let x = fin false (suc m) e in
+    let v : HasValue x false g (2 ^ 1074) = (refl, u ∙ ap (λ (k : ℕ). k * down e) (sym (i ∙ zero-add n))) in
+    value-counts binary64 (sqrtOf x) false (rootUnits (g * 2 ^ 1074)) (rootUnits (g * 2 ^ 1074)) 0 (root-valued x g v (some-count m e g (v .1))) (sym (zero-add (rootUnits (g * 2 ^ 1074))))
+root-counts (fin true (suc m) e) g (n, u, i) = absurd (none g n (some-count m e n u) i)
+  where
+    none : (g n : ℕ) → 0 < n → 0 ≡ g + n → ⊥
+    none g n p e = omega arith

@@ -1,9 +1,8 @@
 -- The two tests hold the gap from both sides.
-use mathlib.Core.Path.{_≡_, sym, _∙_}
-use mathlib.Core.Bool.{Bool, true, false, _&&_}
+use mathlib.Core.Path.{_≡_}
+use mathlib.Core.Bool.{_&&_}
 use native.Mathlib.Omega.{arith}
-use lib.IntN.{negsuc}
-use lib.Ieee.{Float, fin, ofBits, neg, lt}
+use lib.Ieee.{Float, ofBits, neg, lt}
 use Rattle.model.specs.Real.{_⊖_, absolute}
 use Rattle.model.specs.Setting.{smallGap}
 use Rattle.real_variation.proofs.Gap.{both-sides}

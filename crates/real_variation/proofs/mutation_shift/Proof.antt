@@ -1,14 +1,13 @@
 -- Below one half, and from it on.
 use Rattle.real_variation.proofs.Mutating.{shift-below, shift-above}
-use borrow.Author.Needs.{needs}
 use Rattle.real_variation.proofs.mutation_shift.Statement.{statement}
 use Rattle.real_variation.proofs.mutation_shift.Tie as tie
 
 power-requires : tie.Need-power-requires
-power-requires c κs = search needs
+power-requires c κs = tt
 
 root-requires : tie.Need-root-requires
-root-requires c κs = search needs
+root-requires c κs = tt
 
 returns : tie.Need-returns
 returns c =
@@ -16,10 +15,10 @@ returns c =
     shift-below (a .x) (a .low) (a .high) (a .range) (a .k) (a .u) _ _ (c .before .before .if1 .taken) (c .before .power .ensures) (c .root .ensures)
 
 power-requires-2 : tie.Need-power-requires-2
-power-requires-2 c κs = search needs
+power-requires-2 c κs = tt
 
 root-requires-2 : tie.Need-root-requires-2
-root-requires-2 c κs = search needs
+root-requires-2 c κs = tt
 
 returns-2 : tie.Need-returns-2
 returns-2 c =

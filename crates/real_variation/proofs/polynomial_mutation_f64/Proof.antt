@@ -1,11 +1,10 @@
 -- The draw comes first.
 use Rattle.real_variation.proofs.Mutating.{stays, moves}
-use borrow.Author.Needs.{needs}
 use Rattle.real_variation.proofs.polynomial_mutation_f64.Statement.{statement}
 use Rattle.real_variation.proofs.polynomial_mutation_f64.Tie as tie
 
 f64-range-requires : tie.Need-f64-range-requires
-f64-range-requires c κs = search needs
+f64-range-requires c κs = tt
 
 returns : tie.Need-returns
 returns c =
@@ -13,10 +12,10 @@ returns c =
     stays (a .x) (a .low) (a .high) (a .k) (a .rng .s) _ _ (c .before .before .f64-range .ensures) (c .if1 .taken)
 
 mutation-shift-requires : tie.Need-mutation-shift-requires
-mutation-shift-requires c κs = search needs
+mutation-shift-requires c κs = tt
 
 clamp-requires : tie.Need-clamp-requires
-clamp-requires c κs = search needs
+clamp-requires c κs = tt
 
 returns-2 : tie.Need-returns-2
 returns-2 c =

@@ -49,6 +49,7 @@ use Rattle.rng_lent.proofs.draw_word.Symbol as draw-word-def
 use Rattle.rng_lent.proofs.draw_word.Symbol.{name as #word}
 use Rattle.rng_lent.proofs.draw_word.Met as draw-word-thm
 use Rattle.rng_lent.proofs.Words.{after-below}
+use Rattle.rng_lent.proofs.Lent.{h, mach, goes}
 use Rattle.rng_lent.proofs.draw.Key.{name as #draw}
 use Rattle.rng_lent.proofs.draw as draw
 use Rattle.rng_lent.proofs.draw.Statement as stated
@@ -56,12 +57,6 @@ use Rattle.rng_lent.proofs.draw.Code as code
 
 abbrev stayed : Stays (draw.ended .signature .params) (draw.ended .kept)
 stayed = (stay-ref (0 ∷ []) tt (plain (λ _. T.the-row)), tt)
-
-abbrev h : ℕ → Rng
-h m = record { s = m }
-
-abbrev mach : ℕ → Val
-mach m = vstruct (vcons (vint w64 m) vnil)
 
 -- a state in memory: the struct's cell, its one field's cell, and that field as what a loan takes
 abbrev cell : ℕ → ℕ → ℕ → Fml
@@ -108,11 +103,6 @@ module _ {M : Type 1} (𝓤 : URA M) (H : Heap 𝓤) (A : Atoms 𝓤) (W : Given
   abbrev to-word : ℕ → ℕ → ℕ → GName → ℕ → Word 𝓤 H A at-mem run .Ghost
   to-word b o ν δ n = (((ν ∷ [], tt), (fullShare, tt), tt, (x′ b o δ n, tt), (vptr b (o + 0) ∷ [], tt)), tt)
 
-  goes-word : (b o ν : ℕ) (δ : GName) (n : ℕ) → ent 𝓤 (sep 𝓤 (A .lft (ν ∷ []) fullShare) (sem 𝓤 H A (lent b o ν δ n))) (Word 𝓤 H A at-mem run .pre (to-word b o ν δ n))
-  goes-word b o ν δ n =
-      qed W (‵ (flft (ν ∷ []) fullShare) ∷ ‵ (lent b o ν δ n) ∷ []) ∵ nothing ! $ move ! (1 ∷ 0 ∷ []) $ join ! $ move ! (1 ∷ []) $ nothing ! $ move ! (1 ∷ 0 ∷ []) $ fjoin ! $
-      move ! (1 ∷ 0 ∷ []) $ join ! $ nothing ! $ move ! (1 ∷ 0 ∷ []) $ frame ! $ done !
-
   module _ (κ : Lft) (q : Share) (b o : ℕ) (γ : GName) (n : ℕ) where
     abbrev x : RefT Rng × Unit {0}
     x = (record { ptr = (b, o); name = γ; now = h n }, tt)
@@ -153,7 +143,7 @@ module _ {M : Type 1} (𝓤 : URA M) (H : Heap 𝓤) (A : Atoms 𝓤) (W : Given
           -- [the field's cell; the way back; the open borrow; obs; auth; _2; …; _1; …; room for _0; …; true; true]
           use1 W (‵ (lies b o n)) (to-lies b o n (n-fits g)) $ lft-new ! tt (λ ν. move ! (1 ∷ []) $
           use1 W (later (some (λ (δ : GName). ‵ (lent b o ν δ n) ⊛ ‵ (flent (ν ∷ []) (Body (mem u64) b (o + 0) δ))))) (lends-ref 𝓤 H A W u64 (named 0) (ν ∷ []) n b (o + 0)) $ await ! tt $ pick ! (λ δ. split ! $
-          move ! (2 ∷ 0 ∷ []) $ use2 W (raw (Word 𝓤 H A at-mem run .pre (to-word b o ν δ n))) (goes-word b o ν δ n) $
+          move ! (2 ∷ 0 ∷ []) $ use2 W (raw (Word 𝓤 H A at-mem run .pre (to-word b o ν δ n))) (goes 𝓤 H A W u64 (ν ∷ []) (x′ b o δ n) (vptr b (o + 0) ∷ [])) $
           calls-at ! fm (Word 𝓤 H A at-mem run) known (to-word b o ν δ n) (and-then ! (load ! (from ! (stop !)) (look ! 6 refl)) (no-more !)) (λ w.
           use1 W (later (some (λ (r : ℕ). ((‵ (flft (ν ∷ []) fullShare) ⊛ ‵ ftrue) ⊛ ‵ (u64 .own r (w ∷ []))) ⊛ raw (ensured 𝓤 H A draw-word.ended (draw-word.clauses 𝓤 H A at-mem run) (ν ∷ [], tt) (x′ b o δ n, tt) tt r)))) (id⊢ 𝓤 _) $ await ! tt $ pick ! (λ r.
           split ! $ move ! (1 ∷ []) $ use1 W (some (λ (z : ℕ × Unit {0}). ‵ (lasts draw-word.ended (ν ∷ [], tt) (x′ b o δ n, tt) z) ⊛ raw (fact 𝓤 (drawn r (z .0) ≡ drawWord n)))) (id⊢ 𝓤 _) $ pick ! (λ z.

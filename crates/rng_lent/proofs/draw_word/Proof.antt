@@ -1,10 +1,9 @@
 -- What `next` answers by value is what is put back. Assumes nothing.
-use borrow.Author.Needs.{needs}
 use Rattle.rng_lent.proofs.draw_word.Statement.{statement}
 use Rattle.rng_lent.proofs.draw_word.Tie as tie
 
 next-requires : tie.Need-next-requires
-next-requires c κs = search needs
+next-requires c κs = tt
 
 returns : tie.Need-returns
 returns c = c .before .next .ensures

@@ -1,12 +1,12 @@
 -- a and the word's remainder by how many numbers there are from a to b: nothing on the way leaves 64 bits. Assumes nothing.
-use borrow.Author.Needs.{needs}
-use mathlib.Core.Path.{_≡_, ap}
+use mathlib.Core.Path.{_≡_}
 use lib.IntN.{ℤ, pos, natAbs, _+ℤ_, _-ℤ_}
 use mir.Syntax.{w64}
-use mir.Val.{toZ, ofZ}
+use mir.Val.{SFits, toZ, ofZ}
 use mir.ValLaws.{toZ-ofZ}
 use Prim.Native.Nat.{ℕ, _%_}
-use Rattle.model.specs.Draw.{Drawn, drawn, drawWord, drawI64}
+use Rattle.model.specs.Draw.{drawI64}
+use Rattle.rng_util.proofs.Draws.{drawn-by}
 use Rattle.rng_util.proofs.Span as span
 use Rattle.rng_util.proofs.draw_i64.Statement.{statement}
 use Rattle.rng_util.proofs.draw_i64.Tie as tie
@@ -35,14 +35,20 @@ module _ (c : tie.Start) where
     abbrev R : ℕ
     R = w % natAbs (B -ℤ A +ℤ pos 1)
 
+    rest : SFits w64 (pos R)
+    rest = span.above-fits A B (c .fits .a) (c .fits .b) (c .pre) R (span.rest-le A B (c .fits .a) (c .fits .b) (c .pre) w)
+
+    pick : SFits w64 (A +ℤ pos R)
+    pick = span.pick-fits A B (c .fits .a) (c .fits .b) (c .pre) R (span.rest-le A B (c .fits .a) (c .fits .b) (c .pre) w)
+
     er : toZ w64 R ≡ pos R
-    er = toZ-ofZ w64 (pos R) (span.rest-fits A B (c .fits .a) (c .fits .b) (c .pre) w)
+    er = toZ-ofZ w64 (pos R) rest
 
     ep : toZ w64 (ofZ w64 (A +ℤ pos R)) ≡ A +ℤ pos R
-    ep = toZ-ofZ w64 (A +ℤ pos R) (span.pick-fits A B (c .fits .a) (c .fits .b) (c .pre) w)
+    ep = toZ-ofZ w64 (A +ℤ pos R) pick
 
 next-requires : tie.Need-next-requires
-next-requires c κs = search needs
+next-requires c κs = tt
 
 sub-t7 : tie.Need-sub-t7
 sub-t7 c = let s = c .before .before in rw (eb s, ea s) (span.diff-fits (A s) (B s) (s .fits .a) (s .fits .b) (s .pre))
@@ -62,23 +68,20 @@ rem-t10 c = let s = c .before .before in rw (eb s, ea s, ed s, es s) (span.span-
 cast-t11 : tie.Need-cast-t11
 cast-t11 c =
     let s = c .before .before in
-    rw (eb s, ea s, ed s, es s) (span.rest-fits (A s) (B s) (s .fits .a) (s .fits .b) (s .pre) (c .before .next .result .value))
+    rw (eb s, ea s, ed s, es s) (rest s (c .before .next .result .value))
 
 add-t12 : tie.Need-add-t12
 add-t12 c =
     let s = c .before .before in
     let w = c .before .next .result .value in
-    rw (eb s, ea s, ed s, es s, er s w) (span.pick-fits (A s) (B s) (s .fits .a) (s .fits .b) (s .pre) w)
-
-is-drawn : (a b : ℤ) (s w t : ℕ) → drawn w t ≡ drawWord s → drawn (a +ℤ pos (w % natAbs (b -ℤ a +ℤ pos 1))) t ≡ drawI64 a b s
-unfolding drawI64
-is-drawn a b s w t e = ap (λ (d : Drawn ℕ). drawn (a +ℤ pos (d .value % natAbs (b -ℤ a +ℤ pos 1))) (d .state)) e
+    rw (eb s, ea s, ed s, es s, er s w) (pick s w)
 
 returns : tie.Need-returns
+unfolding drawI64
 returns c =
     let s = c .before .before in
     let w = c .before .next .result .value in
-    rw (eb s, ea s, ed s, es s, er s w, ep s w) (is-drawn (A s) (B s) (s .args .rng .s) w (c .before .next .result .rng .s) (c .before .next .ensures))
+    rw (eb s, ea s, ed s, es s, er s w, ep s w) (drawn-by (λ (v : ℕ). A s +ℤ pos (v % natAbs (B s -ℤ A s +ℤ pos 1))) (c .before .next .ensures))
 
 pub draw-i64-spec : {M : Type 1} → statement M
 draw-i64-spec =

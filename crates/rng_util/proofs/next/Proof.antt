@@ -1,5 +1,4 @@
 -- The word: the code's `^` is the definition's exclusive or. Assumes nothing.
-use borrow.Author.Needs.{needs}
 use mathlib.Core.Path.{_≡_, sym, ap, _∙_}
 use Prim.Native.Nat.{ℕ, _/_, _^_, _<_}
 use native.Mathlib.Omega.{arith}
@@ -11,7 +10,7 @@ use Rattle.rng_util.proofs.next.Statement.{statement}
 use Rattle.rng_util.proofs.next.Tie as tie
 
 step-requires : tie.Need-step-requires
-step-requires c κs = search needs
+step-requires c κs = tt
 
 is-word : (t : ℕ) → t < 2 ^ 64 → bitXor t (t / 2 ^ 32) ≡ wordOf t
 unfolding wordOf

@@ -1,5 +1,4 @@
 -- The step is the product's and the sum's remainders. Assumes nothing.
-use borrow.Author.Needs.{needs}
 use mathlib.Core.Path.{_≡_}
 use Prim.Native.Nat.{ℕ, _+_, _*_, _%_, _^_}
 use native.Mathlib.Omega.{arith}
@@ -8,10 +7,10 @@ use Rattle.rng_util.proofs.step.Statement.{statement}
 use Rattle.rng_util.proofs.step.Tie as tie
 
 wrapping-mul-u64-requires : tie.Need-wrapping-mul-u64-requires
-wrapping-mul-u64-requires c κs = search needs
+wrapping-mul-u64-requires c κs = tt
 
 wrapping-add-u64-requires : tie.Need-wrapping-add-u64-requires
-wrapping-add-u64-requires c κs = search needs
+wrapping-add-u64-requires c κs = tt
 
 is-step : (s p r : ℕ) → p ≡ (s * 6364136223846793005) % 2 ^ 64 → r ≡ (p + 1442695040888963407) % 2 ^ 64 → r ≡ step s
 unfolding step

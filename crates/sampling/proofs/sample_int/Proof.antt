@@ -1,22 +1,11 @@
 -- The drawn number as an Int.
-use mathlib.Core.Path.{_≡_, ap, _∙_}
-use Prim.Native.Nat.{ℕ}
-use lib.IntN.{ℤ}
-use mir.Syntax.{w64}
-use mir.Val.{toZ, ofZ}
-use Rattle.model.specs.declared.Distribution.the-variants as dist
-use Rattle.model.specs.declared.IntDistribution.{IntDistribution}
 use Rattle.model.specs.declared.ParamValue.the-variants as value
-use Rattle.model.specs.Draw.{Drawn, drawn}
-use Rattle.model.specs.Setting.{sampleInt, sampleRandom}
+use Rattle.model.specs.Setting.{sampleRandom}
+use Rattle.rng_util.proofs.Draws.{drawn-by}
 use Rattle.settings.proofs.Signed.{back}
 use Rattle.settings.proofs.Valid.{int-bounds}
 use Rattle.sampling.proofs.sample_int.Statement.{statement}
 use Rattle.sampling.proofs.sample_int.Tie as tie
-
-is-drawn : (d : IntDistribution) (s : ℕ) (n : ℤ) (t : ℕ) → drawn n t ≡ sampleInt (d .low) (d .high) (d .step) s → drawn (value.Int n) t ≡ sampleRandom (dist.Int d) s
-unfolding sampleRandom
-is-drawn d s n t e = ap (λ (y : Drawn ℤ). drawn (value.Int (y .value)) (y .state)) e
 
 sample-whole-requires : tie.Need-sample-whole-requires
 sample-whole-requires c κs =
@@ -26,12 +15,13 @@ sample-whole-requires c κs =
     rw (back (s .args .d .low) (t .0 .1), back (s .args .d .high) (t .1 .0 .1)) (b .ordered, b .low-end, b .high-end, b .step)
 
 returns : tie.Need-returns
+unfolding sampleRandom
 returns c =
     let s = c .before .before .before .before .before in
     let t = c .before .before .before .struct-told2 .given in
     let n = c .before .before .sample-whole in
     rw (back (n .result .value) (c .before .struct-told3 .given .0 .1))
-    (is-drawn (s .args .d) (s .args .rng .s) (n .result .value) (n .result .rng .s) (rw (back (s .args .d .low) (t .0 .1), back (s .args .d .high) (t .1 .0 .1)) at (n .ensures)))
+    (drawn-by value.Int (rw (back (s .args .d .low) (t .0 .1), back (s .args .d .high) (t .1 .0 .1)) at (n .ensures)))
 
 pub sample-int-spec : {M : Type 1} → statement M
 sample-int-spec = tie.close (tie.spec sample-whole-requires returns)

@@ -1,5 +1,5 @@
 -- By cases on the distribution.
-use mathlib.Core.Path.{_≡_, sym, ap, _∙_}
+use mathlib.Core.Path.{sym, ap, _∙_}
 use Rattle.model.specs.declared.Distribution.{Distribution}
 use Rattle.model.specs.Setting.{validDimension, sampleRandom}
 use borrow.Author.Needs.{needs}
@@ -10,7 +10,7 @@ enum-known-d : tie.Need-enum-known-d
 enum-known-d c = search needs
 
 sample-float-requires : tie.Need-sample-float-requires
-sample-float-requires c κs = search needs
+sample-float-requires c κs = tt
 
 enum-known-d-2 : tie.Need-enum-known-d-2
 enum-known-d-2 c = search needs

@@ -61,7 +61,7 @@ cast-by : tie.Need-cast-by
 cast-by c = rw (es c) (stepped.step-nonNeg (L c) (H c) (S c) (asked c), stepped.by-fits (L c) (H c) (S c) (asked c))
 
 next-requires : tie.Need-next-requires
-next-requires c κs = search needs
+next-requires c κs = tt
 
 div-k : tie.Need-div-k
 div-k c = let s = c .before .before in rw (es s) (stepped.by-some (L s) (H s) (S s) (asked s))

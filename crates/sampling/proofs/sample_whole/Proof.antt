@@ -1,11 +1,11 @@
 -- With a step and without.
 use Rattle.model.specs.declared.OptionI64.the-variants as optI64
-use Rattle.model.specs.Draw.{Drawn, drawn, drawI64}
-use mathlib.Core.Path.{_≡_, sym, ap, _∙_, subst}
+use Rattle.model.specs.Draw.{drawn, drawI64}
+use mathlib.Core.Path.{_≡_, sym, ap, _∙_}
 use mathlib.Core.Bool.{true}
 use Prim.Native.Nat.{ℕ}
 use lib.IntN.{ℤ, pos}
-use lib.Signed.{leZ, _≤ℤ_}
+use lib.Signed.{leZ, _≤ℤ_, leZ-yes}
 use Rattle.list_laws.proofs.Bools.{true-T}
 use Rattle.model.specs.declared.OptionI64.{OptionI64}
 use Rattle.model.specs.Setting.{stepAbove0, sampleInt}
@@ -15,7 +15,7 @@ use Rattle.sampling.proofs.sample_whole.Statement.{statement}
 use Rattle.sampling.proofs.sample_whole.Tie as tie
 
 above : (o : OptionI64) (n : ℤ) → o ≡ optI64.Some n → stepAbove0 o ≡ true → pos 1 ≤ℤ n
-above o n e h = record { le = true-T (leZ (pos 1) n) (sym (ap stepAbove0 e) ∙ h) }
+above o n e h = leZ-yes (true-T (leZ (pos 1) n) (sym (ap stepAbove0 e) ∙ h))
 
 is-drawn : (low high : ℤ) (o : OptionI64) (s : ℕ) (n : ℤ) (t : ℕ) → o ≡ optI64.None → drawn n t ≡ drawI64 low high s → drawn n t ≡ sampleInt low high o s
 unfolding sampleInt

@@ -1,6 +1,6 @@
 -- By cases on the dimension and the setting.
 use Rattle.settings.proofs.Signed.{back}
-use mathlib.Core.Path.{_≡_, sym, ap, ap₂, _∙_}
+use mathlib.Core.Path.{sym, ap₂, _∙_}
 use Rattle.model.specs.Setting.{inBounds}
 use borrow.Author.Needs.{needs}
 use Rattle.settings.proofs.in_bounds.Statement.{statement}
@@ -13,7 +13,7 @@ enum-known-v : tie.Need-enum-known-v
 enum-known-v c = search needs
 
 real-within-requires : tie.Need-real-within-requires
-real-within-requires c κs = search needs
+real-within-requires c κs = tt
 
 enum-told : tie.Need-enum-told
 enum-told c = search needs
@@ -31,7 +31,7 @@ enum-known-v-2 : tie.Need-enum-known-v-2
 enum-known-v-2 c = search needs
 
 whole-within-requires : tie.Need-whole-within-requires
-whole-within-requires c κs = search needs
+whole-within-requires c κs = tt
 
 enum-told-4 : tie.Need-enum-told-4
 enum-told-4 c = search needs

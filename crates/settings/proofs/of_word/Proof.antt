@@ -1,23 +1,22 @@
 -- By the kind.
-use mathlib.Core.Path.{_≡_, sym, ap, _∙_}
+use mathlib.Core.Path.{sym, ap, _∙_}
 use Prim.Native.Nat.{ℕ}
 use Rattle.model.specs.declared.ParamValue.the-variants as value
 use Rattle.model.specs.Setting.{ofWord}
 use Rattle.settings.proofs.Signed.{back}
 use Rattle.settings.proofs.Words.{ofWord-other}
-use borrow.Author.Needs.{needs}
 use Rattle.settings.proofs.of_word.Statement.{statement}
 use Rattle.settings.proofs.of_word.Tie as tie
 
 real-of-word-requires : tie.Need-real-of-word-requires
-real-of-word-requires c κs = search needs
+real-of-word-requires c κs = tt
 
 returns : tie.Need-returns
 returns c =
     ap value.Float (c .real-of-word .ensures) ∙ sym (ap (λ (k : ℕ). ofWord k (c .before .before .args .w)) (c .before .if1 .taken))
 
 int-of-word-requires : tie.Need-int-of-word-requires
-int-of-word-requires c κs = search needs
+int-of-word-requires c κs = tt
 
 returns-2 : tie.Need-returns-2
 returns-2 c =

@@ -1,6 +1,4 @@
 -- The two tests are those of the definition.
-use mathlib.Core.Path.{_≡_}
-use Rattle.model.specs.Real.{within}
 use Rattle.settings.proofs.real_within.Statement.{statement}
 use Rattle.settings.proofs.real_within.Tie as tie
 

@@ -1,6 +1,6 @@
 -- By cases on the setting.
 use Rattle.settings.proofs.Signed.{back}
-use mathlib.Core.Path.{_≡_, sym, ap, _∙_}
+use mathlib.Core.Path.{sym, ap, _∙_}
 use Rattle.model.specs.Setting.{toWord}
 use borrow.Author.Needs.{needs}
 use Rattle.settings.proofs.to_word.Statement.{statement}
@@ -10,13 +10,13 @@ enum-known-v : tie.Need-enum-known-v
 enum-known-v c = search needs
 
 word-of-real-requires : tie.Need-word-of-real-requires
-word-of-real-requires c κs = search needs
+word-of-real-requires c κs = tt
 
 enum-known-v-2 : tie.Need-enum-known-v-2
 enum-known-v-2 c = search needs
 
 word-of-int-requires : tie.Need-word-of-int-requires
-word-of-int-requires c κs = search needs
+word-of-int-requires c κs = tt
 
 enum-known-v-3 : tie.Need-enum-known-v-3
 enum-known-v-3 c = search needs

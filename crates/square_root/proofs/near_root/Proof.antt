@@ -5,7 +5,6 @@ use native.Mathlib.Nat.{lt-of-lt-of-le, lt-of-le-of-lt}
 use native.Mathlib.Numerals.{add-one}
 use native.Mathlib.Omega.{arith}
 use mathlib.Core.Bool.{Bool, cond}
-use borrow.Author.Needs.{needs}
 use borrow.Author.Tests.{lt-ltb, le-ltb}
 use lib.Dec.{lit≤}
 use Rattle.model.specs.Numbers.{nearRoot, closer}
@@ -57,7 +56,7 @@ add-take c =
     omega (arith, take-fits a (l .rest) (l .rem) (l .root) (l .i) (l .inv) (turn c))
 
 root-digit-requires : tie.Need-root-digit-requires Inv-loop μ-loop
-root-digit-requires c κs = search needs
+root-digit-requires c κs = tt
 
 -- what the digit makes of the turn
 taken : (c : tie.After-root-digit Inv-loop μ-loop) → Step (c .before .before .before .args .a) (c .before .before .loop .rest) (c .before .before .loop .rem) (c .before .before .loop .root) (c .before .before .loop .i) (c .root-digit .result)

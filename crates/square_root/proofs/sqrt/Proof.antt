@@ -1,29 +1,26 @@
 -- `sqrt` meets its contract. Its tests tell apart the ways that `sqrtOf` goes. Assumes nothing.
 use mathlib.Core.Path.{_≡_, refl, sym, ap, _∙_, subst}
+use mathlib.Core.Logic.{inl, inr}
 use Prim.Native.Nat.{ℕ, zero, suc, _*_, _<_, _≤_}
 use native.Mathlib.Nat.{not-le-of-lt, mul-pos, zero-mul, zero-lt-suc}
 use native.Mathlib.Omega.{arith}
-use mathlib.Core.Bool.{Bool, true, false, not, _||_, Bool·beq, true≢false}
-use borrow.Author.Tests.{lt-ltb}
+use mathlib.Core.Bool.{true, false, _||_, Bool·beq, true≢false}
 use lib.IntN.{ℤ}
-use lib.Dec.{T, eqb, ltb, eqb→eq}
-use lib.Ieee.{Float, nan, inf, fin, binary64, up, down, level as levelled, lt, eq, div, fits, isNan, ofBits, toBits}
+use lib.Dec.{T, eqb, eqb→eq}
+use lib.Ieee.{Float, nan, inf, fin, binary64, up, down, le, lt, eq, div, fits, ofBits, toBits}
 use lib.Ieee.Fits.{up-pos, and-l}
 use lib.Ieee.Bits.{ofBits-toBits}
+use Rattle.list_laws.proofs.Bools.{true-T, false-T, or-split}
+use Rattle.float_laws.proofs.Order.{le-not-nan, lt→le, lt→nle, nlt→le}
 use Rattle.float_laws.proofs.Rounding.{unsigned}
 use Rattle.float_laws.proofs.Patterns.{lt→bits}
-use Rattle.float_laws.proofs.Constants.{nought}
+use Rattle.float_laws.proofs.Constants.{nought, nought-not-nan}
+use Rattle.real_laws.proofs.Roots.Nearest.{no-root}
 use Rattle.model.specs.Numbers.{sqrtOf}
 use Rattle.square_root.proofs.sqrt.Statement.{statement}
 use Rattle.square_root.proofs.sqrt.Tie as tie
 
 -- ---- x is above 0
-not-nan : (x : Float) → lt nought x ≡ true → T (not (isNan x))
-unfolding lt isNan
-not-nan nan h = absurd (true≢false (sym h))
-not-nan (inf s) h = tt
-not-nan (fin s m e) h = tt
-
 clear : (x : Float) → lt nought x ≡ true → T (unsigned x)
 unfolding lt
 clear nan h = absurd (true≢false (sym h))
@@ -60,26 +57,12 @@ level (inf s) h = absurd (true≢false (sym h))
 level (fin s zero e) h = refl
 level (fin s (suc m) e) h = absurd (not-pos (suc m * up e * 1) (mul-pos (mul-pos (zero-lt-suc m) (up-pos e)) (zero-lt-suc 0)) (eqb→eq (suc m * up e * 1) (0 * 1 * down e) (and-l (eqb (suc m * up e * 1) (0 * 1 * down e)) (Bool·beq s false || eqb (suc m * up e * 1) 0) (subst T (sym h) tt)) ∙ zero-mul (down e)))
 
-zero-level : (s : Bool) (e : ℤ) → eq (fin s 0 e) nought ≡ true
-unfolding eq
-zero-level s e = ap (λ (a : ℕ). levelled s (a * 1) false (0 * down e)) (zero-mul (up e)) ∙ ap (λ (b : ℕ). levelled s 0 false b) (zero-mul (down e)) ∙ both s
-  where
-    both : (s : Bool) → levelled s 0 false 0 ≡ true
-    both true = refl
-    both false = refl
-
-suc-above : (m : ℕ) (e : ℤ) → lt nought (fin false (suc m) e) ≡ true
-unfolding lt
-suc-above m e = ap (λ (a : ℕ). ltb a (suc m * up e * 1)) (zero-mul (down e)) ∙ lt-ltb 0 (suc m * up e * 1) (mul-pos (mul-pos (zero-lt-suc m) (up-pos e)) (zero-lt-suc 0))
-
-no-root : (x : Float) → lt nought x ≡ false → eq x nought ≡ false → nan ≡ sqrtOf x
-unfolding lt sqrtOf
-no-root nan h k = refl
-no-root (inf true) h k = refl
-no-root (inf false) h k = absurd (true≢false h)
-no-root (fin s zero e) h k = absurd (true≢false (sym (zero-level s e) ∙ k))
-no-root (fin true (suc m) e) h k = refl
-no-root (fin false (suc m) e) h k = absurd (true≢false (sym (suc-above m e) ∙ h))
+below : (x : Float) → lt nought x ≡ false → eq x nought ≡ false → T (le nought x) → ⊥
+unfolding le
+below x h k l = elim (or-split (lt x nought) (eq x nought) (nlt→le nought x nought-not-nan (le-not-nan nought x l .1) (false-T _ h))) [
+  | inl m ↦ lt→nle x nought m l
+  | inr e ↦ subst T k e
+]
 
 -- ---- the needs
 held : (c : tie.Start) → T (fits binary64 (c .args .x))
@@ -87,7 +70,7 @@ held c = subst T (sym (c .good .0 .1)) tt
 
 float-to-bits-b : tie.Need-float-to-bits-b
 unfolding ofBits
-float-to-bits-b c = not-nan (c .before .args .x) (c .if1 .taken)
+float-to-bits-b c = le-not-nan nought (c .before .args .x) (lt→le nought (c .before .args .x) (true-T _ (c .if1 .taken))) .1
 
 root-of-pattern-requires : tie.Need-root-of-pattern-requires
 unfolding ofBits
@@ -106,7 +89,7 @@ returns-3 c = level (c .before .before .args .x) (c .if3 .taken)
 
 returns-4 : tie.Need-returns-4
 unfolding ofBits div
-returns-4 c = no-root (c .before .before .args .x) (c .before .if1 .left) (c .if3 .left)
+returns-4 c = let x = c .before .before .args .x in sym (no-root x (held (c .before .before)) (below x (c .before .if1 .left) (c .if3 .left)))
 
 pub sqrt-spec : {M : Type 1} → statement M
 sqrt-spec =

@@ -1,12 +1,11 @@
 -- One draw, whatever it says.
 use mathlib.Core.Bool.{true, false}
 use Rattle.variation.proofs.Crossing.{crossCategorical-is}
-use borrow.Author.Needs.{needs}
 use Rattle.variation.proofs.cross_categorical.Statement.{statement}
 use Rattle.variation.proofs.cross_categorical.Tie as tie
 
 f64-range-requires : tie.Need-f64-range-requires
-f64-range-requires c κs = search needs
+f64-range-requires c κs = tt
 
 returns : tie.Need-returns
 returns c = let a = c .before .before .before .args in crossCategorical-is (a .p) (a .q) (a .rng .s) _ _ true (c .before .before .f64-range .ensures) (c .if1 .taken)

@@ -1,18 +1,17 @@
 -- Skipped, or crossed.
 use mathlib.Core.Path.{sym, _∙_}
 use Rattle.variation.proofs.Crossing.{crossFloat-close, crossFloat-apart}
-use borrow.Author.Needs.{needs}
 use Rattle.variation.proofs.cross_float.Statement.{statement}
 use Rattle.variation.proofs.cross_float.Tie as tie
 
 close-requires : tie.Need-close-requires
-close-requires c κs = search needs
+close-requires c κs = tt
 
 returns : tie.Need-returns
 returns c = let a = c .before .before .args in crossFloat-close (a .d) (a .p) (a .q) (a .k) (a .rng .s) (sym (c .before .close .ensures) ∙ c .if1 .taken)
 
 sbx-crossover-f64-requires : tie.Need-sbx-crossover-f64-requires
-sbx-crossover-f64-requires c κs = search needs
+sbx-crossover-f64-requires c κs = tt
 
 returns-2 : tie.Need-returns-2
 returns-2 c =

@@ -10,19 +10,19 @@ enum-known-d : tie.Need-enum-known-d
 enum-known-d c = search needs
 
 cross-float-requires : tie.Need-cross-float-requires
-cross-float-requires c κs = search needs
+cross-float-requires c κs = tt
 
 enum-told : tie.Need-enum-told
 enum-told c = search needs
 
 as-they-are-requires : tie.Need-as-they-are-requires
-as-they-are-requires c κs = search needs
+as-they-are-requires c κs = tt
 
 enum-told-2 : tie.Need-enum-told-2
 enum-told-2 c = search needs
 
 as-they-are-requires-2 : tie.Need-as-they-are-requires-2
-as-they-are-requires-2 c κs = search needs
+as-they-are-requires-2 c κs = tt
 
 returns : tie.Need-returns
 returns c =

@@ -1,26 +1,16 @@
 -- Skipped, or crossed as reals.
-use mathlib.Core.Path.{_≡_, sym, ap, ap₂, _∙_}
-use lib.IntN.{ℤ}
-use lib.Ieee.{Float}
+use mathlib.Core.Path.{_≡_, sym, ap, _∙_}
 use mir.Syntax.{w64}
 use mir.Val.{toZ, ofZ}
-use Rattle.model.specs.declared.IntDistribution.{IntDistribution}
-use Rattle.model.specs.Setting.{ofWhole, drawUnit, spread, sbxFirst, sbxSecond}
+use Rattle.model.specs.Setting.{drawUnit, spread, sbxFirst, sbxSecond}
 use Rattle.settings.proofs.Signed.{held, back}
 use Rattle.variation.proofs.Crossing.{crossInt-same, crossInt-apart, level, apart}
-use borrow.Author.Needs.{needs}
 use Rattle.variation.proofs.cross_int.Statement.{statement}
 use Rattle.variation.proofs.cross_int.Tie as tie
 
 -- the numbers are equal where their bits are
 same : (s : tie.Start) → ofZ w64 (s .args .p) ≡ ofZ w64 (s .args .q) → s .args .p ≡ s .args .q
 same s t = sym (held (s .fits .p)) ∙ ap (toZ w64) t ∙ held (s .fits .q)
-
--- a child of reals that are whole numbers
-whole-child : (f : Float → Float → Float → Float → Float) (d : IntDistribution) (p q : ℤ) (a b l h x : Float) → a ≡ ofWhole p → b ≡ ofWhole q → l ≡ ofWhole (d .low) → h ≡ ofWhole (d .high)
-    → x ≡ f l h a b → x ≡ f (ofWhole (d .low)) (ofWhole (d .high)) (ofWhole p) (ofWhole q)
-whole-child f d p q a b l h x ea eb el eh e =
-    e ∙ ap₂ (λ (y z : Float). f y z a b) el eh ∙ ap₂ (f (ofWhole (d .low)) (ofWhole (d .high))) ea eb
 
 returns : tie.Need-returns
 returns c =
@@ -29,25 +19,25 @@ returns c =
     rw (held (s .fits .p), held (s .fits .q)) (crossInt-same (a .d) (a .p) (a .q) (a .k) (a .rng .s) (level (a .p) (a .q) (same s (c .if1 .taken))))
 
 real-of-int-requires : tie.Need-real-of-int-requires
-real-of-int-requires c κs = search needs
+real-of-int-requires c κs = tt
 
 real-of-int-requires-2 : tie.Need-real-of-int-requires-2
-real-of-int-requires-2 c κs = search needs
+real-of-int-requires-2 c κs = tt
 
 real-of-int-requires-3 : tie.Need-real-of-int-requires-3
-real-of-int-requires-3 c κs = search needs
+real-of-int-requires-3 c κs = tt
 
 real-of-int-requires-4 : tie.Need-real-of-int-requires-4
-real-of-int-requires-4 c κs = search needs
+real-of-int-requires-4 c κs = tt
 
 sbx-crossover-f64-requires : tie.Need-sbx-crossover-f64-requires
-sbx-crossover-f64-requires c κs = search needs
+sbx-crossover-f64-requires c κs = tt
 
 to-int-requires : tie.Need-to-int-requires
-to-int-requires c κs = search needs
+to-int-requires c κs = tt
 
 to-int-requires-2 : tie.Need-to-int-requires-2
-to-int-requires-2 c κs = search needs
+to-int-requires-2 c κs = tt
 
 returns-2 : tie.Need-returns-2
 returns-2 c =
@@ -72,8 +62,8 @@ returns-2 c =
     rw (back (i1 .result) (i1 .ok), back (i2 .result) (i2 .ok))
     (crossInt-apart (a .d) (a .p) (a .q) (a .k) (a .rng .s) (i1 .result) (i2 .result) (x .result .first) (x .result .second) (x .result .rng .s)
     (apart (a .p) (a .q) (λ e. e1 .if1 .left (ap (ofZ w64) e)))
-    (whole-child (λ (l h y z : Float). sbxFirst l h beta y z) (a .d) (a .p) (a .q) _ _ _ _ _ ea eb el eh (x .ensures .0))
-    (whole-child (λ (l h y z : Float). sbxSecond l h beta y z) (a .d) (a .p) (a .q) _ _ _ _ _ ea eb el eh (x .ensures .1))
+    (x .ensures .0 ∙ (λ i. sbxFirst (el i) (eh i) beta (ea i) (eb i)))
+    (x .ensures .1 ∙ (λ i. sbxSecond (el i) (eh i) beta (ea i) (eb i)))
     (rw (bl, bh) at (i1 .ensures)) (rw (bl, bh) at (i2 .ensures)) (x .ensures .2))
 
 pub cross-int-spec : {M : Type 1} → statement M

@@ -1,5 +1,5 @@
 -- By cases on the distribution.
-use mathlib.Core.Path.{_≡_, sym, ap, _∙_}
+use mathlib.Core.Path.{sym, ap, _∙_}
 use Rattle.settings.proofs.Signed.{held}
 use Rattle.model.specs.declared.Distribution.{Distribution}
 use Rattle.model.specs.Setting.{crossInts}
@@ -11,19 +11,19 @@ enum-told : tie.Need-enum-told
 enum-told c = search needs
 
 as-they-are-requires : tie.Need-as-they-are-requires
-as-they-are-requires c κs = search needs
+as-they-are-requires c κs = tt
 
 enum-known-d : tie.Need-enum-known-d
 enum-known-d c = search needs
 
 cross-int-requires : tie.Need-cross-int-requires
-cross-int-requires c κs = search needs
+cross-int-requires c κs = tt
 
 enum-told-2 : tie.Need-enum-told-2
 enum-told-2 c = search needs
 
 as-they-are-requires-2 : tie.Need-as-they-are-requires-2
-as-they-are-requires-2 c κs = search needs
+as-they-are-requires-2 c κs = tt
 
 returns : tie.Need-returns
 returns c =

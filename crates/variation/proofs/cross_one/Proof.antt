@@ -3,7 +3,6 @@ use mathlib.Core.Path.{_≡_, refl, sym, ap, ap₂, _∙_}
 use Prim.Native.Nat.{ℕ}
 use Rattle.model.specs.declared.Distribution.{Distribution}
 use Rattle.model.specs.declared.ParamValue.{ParamValue}
-use Rattle.model.specs.declared.ParamValue.the-variants as value
 use Rattle.model.specs.Draw.{Drawn, drawn}
 use Rattle.model.specs.Setting.{Pair, pair, crossOne}
 use Rattle.settings.proofs.Signed.{back}
@@ -27,19 +26,19 @@ enum-known-b : tie.Need-enum-known-b
 enum-known-b c = search needs
 
 cross-floats-requires : tie.Need-cross-floats-requires
-cross-floats-requires c κs = search needs
+cross-floats-requires c κs = tt
 
 enum-told : tie.Need-enum-told
 enum-told c = search needs
 
 as-they-are-requires : tie.Need-as-they-are-requires
-as-they-are-requires c κs = search needs
+as-they-are-requires c κs = tt
 
 enum-told-2 : tie.Need-enum-told-2
 enum-told-2 c = search needs
 
 as-they-are-requires-2 : tie.Need-as-they-are-requires-2
-as-they-are-requires-2 c κs = search needs
+as-they-are-requires-2 c κs = tt
 
 enum-known-a-2 : tie.Need-enum-known-a-2
 enum-known-a-2 c = search needs
@@ -48,19 +47,19 @@ enum-told-3 : tie.Need-enum-told-3
 enum-told-3 c = search needs
 
 as-they-are-requires-3 : tie.Need-as-they-are-requires-3
-as-they-are-requires-3 c κs = search needs
+as-they-are-requires-3 c κs = tt
 
 enum-known-b-2 : tie.Need-enum-known-b-2
 enum-known-b-2 c = search needs
 
 cross-ints-requires : tie.Need-cross-ints-requires
-cross-ints-requires c κs = search needs
+cross-ints-requires c κs = tt
 
 enum-told-4 : tie.Need-enum-told-4
 enum-told-4 c = search needs
 
 as-they-are-requires-4 : tie.Need-as-they-are-requires-4
-as-they-are-requires-4 c κs = search needs
+as-they-are-requires-4 c κs = tt
 
 enum-known-a-3 : tie.Need-enum-known-a-3
 enum-known-a-3 c = search needs
@@ -69,19 +68,19 @@ enum-told-5 : tie.Need-enum-told-5
 enum-told-5 c = search needs
 
 as-they-are-requires-5 : tie.Need-as-they-are-requires-5
-as-they-are-requires-5 c κs = search needs
+as-they-are-requires-5 c κs = tt
 
 enum-told-6 : tie.Need-enum-told-6
 enum-told-6 c = search needs
 
 as-they-are-requires-6 : tie.Need-as-they-are-requires-6
-as-they-are-requires-6 c κs = search needs
+as-they-are-requires-6 c κs = tt
 
 enum-known-b-3 : tie.Need-enum-known-b-3
 enum-known-b-3 c = search needs
 
 cross-categorical-requires : tie.Need-cross-categorical-requires
-cross-categorical-requires c κs = search needs
+cross-categorical-requires c κs = tt
 
 returns : tie.Need-returns
 returns c =

@@ -10,19 +10,19 @@ enum-known-d : tie.Need-enum-known-d
 enum-known-d c = search needs
 
 move-float-requires : tie.Need-move-float-requires
-move-float-requires c κs = search needs
+move-float-requires c κs = tt
 
 enum-told : tie.Need-enum-told
 enum-told c = search needs
 
 unmoved-requires : tie.Need-unmoved-requires
-unmoved-requires c κs = search needs
+unmoved-requires c κs = tt
 
 enum-told-2 : tie.Need-enum-told-2
 enum-told-2 c = search needs
 
 unmoved-requires-2 : tie.Need-unmoved-requires-2
-unmoved-requires-2 c κs = search needs
+unmoved-requires-2 c κs = tt
 
 returns : tie.Need-returns
 returns c =

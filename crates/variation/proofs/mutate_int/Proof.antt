@@ -1,5 +1,5 @@
 -- By cases on the distribution.
-use mathlib.Core.Path.{_≡_, sym, ap, _∙_}
+use mathlib.Core.Path.{sym, ap, _∙_}
 use Rattle.settings.proofs.Signed.{held}
 use Rattle.model.specs.declared.Distribution.{Distribution}
 use Rattle.model.specs.Setting.{mutateInt}
@@ -11,19 +11,19 @@ enum-told : tie.Need-enum-told
 enum-told c = search needs
 
 unmoved-requires : tie.Need-unmoved-requires
-unmoved-requires c κs = search needs
+unmoved-requires c κs = tt
 
 enum-known-d : tie.Need-enum-known-d
 enum-known-d c = search needs
 
 move-int-requires : tie.Need-move-int-requires
-move-int-requires c κs = search needs
+move-int-requires c κs = tt
 
 enum-told-2 : tie.Need-enum-told-2
 enum-told-2 c = search needs
 
 unmoved-requires-2 : tie.Need-unmoved-requires-2
-unmoved-requires-2 c κs = search needs
+unmoved-requires-2 c κs = tt
 
 returns : tie.Need-returns
 returns c =

@@ -5,7 +5,7 @@ use Rattle.variation.proofs.mutate_maybe.Statement.{statement}
 use Rattle.variation.proofs.mutate_maybe.Tie as tie
 
 f64-range-requires : tie.Need-f64-range-requires
-f64-range-requires c κs = search needs
+f64-range-requires c κs = tt
 
 returns : tie.Need-returns
 returns c =

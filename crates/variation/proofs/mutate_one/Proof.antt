@@ -11,13 +11,13 @@ enum-known-v : tie.Need-enum-known-v
 enum-known-v c = search needs
 
 mutate-float-requires : tie.Need-mutate-float-requires
-mutate-float-requires c κs = search needs
+mutate-float-requires c κs = tt
 
 enum-known-v-2 : tie.Need-enum-known-v-2
 enum-known-v-2 c = search needs
 
 mutate-int-requires : tie.Need-mutate-int-requires
-mutate-int-requires c κs = search needs
+mutate-int-requires c κs = tt
 
 enum-known-v-3 : tie.Need-enum-known-v-3
 enum-known-v-3 c = search needs

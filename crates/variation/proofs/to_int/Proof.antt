@@ -1,21 +1,20 @@
 -- Rounded, cast and clamped.
-use mathlib.Core.Path.{_≡_, ap, _∙_}
+use mathlib.Core.Path.{ap, _∙_}
 use lib.IntN.{ℤ}
-use lib.Ieee.{Float, toSigned}
+use lib.Ieee.{toSigned}
 use Rattle.model.specs.Setting.{clampInt}
 use Rattle.settings.proofs.Signed.{held, back}
-use borrow.Author.Needs.{needs}
 use Rattle.variation.proofs.to_int.Statement.{statement}
 use Rattle.variation.proofs.to_int.Tie as tie
 
 round-requires : tie.Need-round-requires
-round-requires c κs = search needs
+round-requires c κs = tt
 
 int-of-real-requires : tie.Need-int-of-real-requires
-int-of-real-requires c κs = search needs
+int-of-real-requires c κs = tt
 
 clamp-int-requires : tie.Need-clamp-int-requires
-clamp-int-requires c κs = search needs
+clamp-int-requires c κs = tt
 
 returns : tie.Need-returns
 returns c =

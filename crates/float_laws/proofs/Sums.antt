@@ -1,0 +1,62 @@
+-- Sums, from left to right: term by term, and of doubles within a power of two; products of doubles within 0..1. Assumes nothing.
+use Prim.Native.Nat.{ℕ, zero, suc, _+_, _≤_, _<_, zero-le}
+use mathlib.Core.Path.{_≡_, refl, ap, ap₂, sym, _∙_}
+use native.Mathlib.Nat.{add-zero, add-suc}
+use native.Mathlib.Numerals.{add-one}
+use native.Mathlib.Omega.{arith}
+use lib.Dec.{T, lit≤}
+use lib.Ieee.{Float, binary64, le, ofBits, fits}
+use lib.Ieee.Fits.{add-fits}
+use Rattle.model.specs.Real.{_⊕_, _⊗_, minusNought, sumTo}
+use Rattle.float_laws.proofs.Order.{le-trans}
+use Rattle.float_laws.proofs.Constants.{nought, one, minus-exp2}
+use Rattle.float_laws.proofs.FromZero.{Upto}
+use Rattle.float_laws.proofs.Magnitude.{Within, within-wider, exp2-mono, add-within, mul-within}
+
+pub sum-none : (f : ℕ → Float) → sumTo f 0 ≡ minusNought
+unfolding sumTo
+sum-none f = refl
+
+-- one more turn of a loop that counts up, from the sum so far
+pub sum-more : (f : ℕ → Float) (n : ℕ) (s : Float) → s ≡ sumTo f n → s ⊕ f n ≡ sumTo f (n + 1)
+unfolding sumTo
+sum-more f n s g = sym (ap (sumTo f) (add-one n) ∙ rw (← g))
+
+pub sum-same : (f g : ℕ → Float) (n : ℕ) → ((t : ℕ) → t < n → f t ≡ g t) → sumTo f n ≡ sumTo g n
+unfolding sumTo
+sum-same f g zero h = refl
+sum-same f g (suc n) h = ap₂ (λ s x. s ⊕ x) (sum-same f g n (λ t l. h t (omega arith))) (h n (omega arith))
+
+pub sum-fits : (f : ℕ → Float) (n : ℕ) → T (fits binary64 (sumTo f n))
+unfolding sumTo fits ofBits
+sum-fits f zero = tt
+sum-fits f (suc n) = add-fits binary64 (sumTo f n) (f n)
+
+-- ---- within powers of two
+
+-- what is within 0..1 is at most 2 ^ 0 in magnitude
+pub unit-within : (x : Float) → Upto one x → Within 0 x
+unfolding le
+unit-within x u = record { held = u .held; low = le-trans (minus-exp2 0) nought x tt (u .from); high = u .to }
+
+pub product-unit : (x y : Float) → Upto one x → Upto one y → Within 0 (x ⊗ y)
+product-unit x y u v = mul-within 0 0 x y (lit≤ tt) (unit-within x u) (unit-within y v)
+
+nought-within : Within 0 minusNought
+unfolding ofBits fits le
+nought-within = record { held = tt; low = tt; high = tt }
+
+pub up-to : (j k : ℕ) (x : Float) → j ≤ k → Within j x → Within k x
+up-to j k x h w = let e = exp2-mono j k h in within-wider j k x (e .0) (e .1) w
+
+-- a power more for each term
+sum-next : (k : ℕ) (f : ℕ → Float) (n : ℕ) → k + n ≤ 1023 → ((t : ℕ) → t < n → Within k (f t)) → Within (k + n) (sumTo f n)
+unfolding sumTo
+sum-next k f zero h F = rw add-zero (up-to 0 k minusNought zero-le nought-within)
+sum-next k f (suc n) h F =
+    let s = sum-next k f n (omega arith) (λ t l. F t (omega arith)) in
+    rw add-suc (add-within (k + n) (sumTo f n) (f n) (omega arith) s (up-to k (k + n) (f n) (omega arith) (F n (omega arith))))
+
+-- of at most m terms
+pub sum-within : (k : ℕ) (f : ℕ → Float) (n m : ℕ) → n ≤ m → k + m ≤ 1023 → ((t : ℕ) → t < n → Within k (f t)) → Within (k + m) (sumTo f n)
+sum-within k f n m l h F = up-to (k + n) (k + m) (sumTo f n) (omega arith) (sum-next k f n (omega arith) F)
