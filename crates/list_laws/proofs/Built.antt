@@ -139,13 +139,11 @@ map-at f [] i z y h = absurd (omega arith)
 map-at f (a ∷ l) zero z y h = refl
 map-at f (a ∷ l) (suc i) z y h = map-at f l i z y (omega arith)
 
--- a list that is drawn entry by entry, one more at its end: `pick` draws that from what is drawn so far
-pub drawn-more : {A : Type 0} (draws : ℕ → Drawn (List A)) (pick : Drawn (List A) → Drawn A) (n : ℕ)
-    → draws (suc n) ≡ drawn (draws n .value ++ (pick (draws n) .value ∷ [])) (pick (draws n) .state)
-    → (l : List A) (t : ℕ) (v : A) (u : ℕ) → drawn l t ≡ draws n → drawn v u ≡ pick (drawn l t) → drawn (l ++ (v ∷ [])) u ≡ draws (n + 1)
-drawn-more {A} draws pick n step l t v u e f =
-    ap (λ (d : Drawn A). drawn (l ++ (d .value ∷ [])) (d .state)) f
-    ∙ ap (λ (c : Drawn (List A)). drawn (c .value ++ (pick c .value ∷ [])) (pick c .state)) e ∙ sym step ∙ ap draws (sym (add-one n))
+-- what is drawn after another draw, and joined to what that handed out: `next` draws it
+pub drawn-more : {A B C : Type 0} (join : A → B → C) (next : Drawn A → Drawn B) {c : Drawn A} {a : A} {t : ℕ} {b : B} {u : ℕ} → drawn a t ≡ c → drawn b u ≡ next (drawn a t)
+    → drawn (join a b) u ≡ drawn (join (c .value) (next c .value)) (next c .state)
+drawn-more {A} {B} join next {c} {a} e f =
+    ap (λ (d : Drawn B). drawn (join a (d .value)) (d .state)) f ∙ ap (λ (d : Drawn A). drawn (join (d .value) (next d .value)) (next d .state)) e
 
 -- what is left of it past a place, and what lies before one
 module _ {A : Type 0} (f : ℕ → A) where

@@ -55,31 +55,3 @@ filled-more f l q v h e g t u = ⊎-elim
   where
     below : t ≤ q
     below = omega arith
-
--- a list on its way to the values of f: below q it has them, from q on it is as it was
-pub record Partly (f : ℕ → ℕ) (l₀ : List ℕ) (q : ℕ) (l : List ℕ) : Type 0 where
-  pub size : length l ≡ length l₀
-  pub under : (t : ℕ) → t < q → getD l t 0 ≡ f t
-  pub over : (t : ℕ) → q ≤ t → getD l t 0 ≡ getD l₀ t 0
-
-pub partly-none : (f : ℕ → ℕ) (l : List ℕ) → Partly f l 0 l
-partly-none f l = record { size = refl; under = λ t h. absurd (omega arith); over = λ t h. refl }
-
-module _ (f : ℕ → ℕ) (l₀ : List ℕ) (q : ℕ) (l : List ℕ) (h : Partly f l₀ q l) where
-  pub partly-set : (v : ℕ) → q < length l₀ → v ≡ f q → Partly f l₀ (q + 1) (set l q v)
-  partly-set v u e = record {
-    size = length-set l q v ∙ h .size;
-    under = filled-more f l q v (omega arith) e (h .under);
-    over = λ t w. getD-set-other l q t v 0 (λ z. omega arith) ∙ h .over t (omega arith);
-  }
-
-  -- a value that is to stay as it was
-  pub partly-keep : f q ≡ getD l₀ q 0 → Partly f l₀ (q + 1) l
-  partly-keep e = record {
-    size = h .size;
-    under = λ t u. ⊎-elim (λ w. ap (λ i. getD l i 0) w ∙ h .over q (omega arith) ∙ sym e ∙ ap f (sym w)) (λ m. h .under t m) (eq-or-lt-of-le (below t u));
-    over = λ t u. h .over t (omega arith);
-  }
-    where
-      below : (t : ℕ) → t < q + 1 → t ≤ q
-      below t u = omega arith

@@ -1,14 +1,15 @@
 -- The loop over the open places: the first j are filled as `picks` fills them.
 use Prim.Native.Nat.{ℕ, _+_, _-_, _<_}
-use mathlib.Core.Path.{_≡_, refl, ap, _∙_}
+use mathlib.Core.Path.{_≡_, refl, ap, sym, _∙_}
 use mathlib.Core.Bool.{Bool, false}
 use mathlib.Core.List.{List, [], _∷_, _++_}
+use native.Mathlib.Numerals.{add-one}
 use native.Mathlib.Omega.{arith}
 use lib.Ieee.{Float}
 use lib.ListN.{length, set, take, drop, replicate, length-drop}
 use lib.Seq.{getD-take, getD-drop, length-take-le}
 use Rattle.model.specs.Lists.{over}
-use Rattle.model.specs.Draw.{drawn}
+use Rattle.model.specs.Draw.{Drawn, drawn}
 use Rattle.model.specs.Kept.{nicheCount, pickOne, picks}
 use Rattle.list_laws.proofs.Built.{drawn-more}
 use Rattle.niching_laws.proofs.KeptLength.{picks-length}
@@ -22,8 +23,9 @@ picks-next : (line : ℕ → ℕ) (distance : ℕ → Float) (n : ℕ) (before f
     → drawn r u ≡ pickOne line distance n before front (picks line distance n before front j s .value) (picks line distance n before front j s .state)
     → drawn (picks line distance n before front j s .value ++ (r ∷ [])) u ≡ picks line distance n before front (j + 1) s
 unfolding picks
-picks-next line distance n before front j s r u =
-    drawn-more (λ k. picks line distance n before front k s) (λ d. pickOne line distance n before front (d .value) (d .state)) j refl _ _ r u refl
+picks-next line distance n before front j s r u e =
+    drawn-more (λ a b. a ++ (b ∷ [])) (λ (d : Drawn (List ℕ)). pickOne line distance n before front (d .value) (d .state)) refl e
+    ∙ ap (λ k. picks line distance n before front k s) (sym (add-one j))
 
 -- the state of the loop
 pub record Selecting (before front lines : List ℕ) (distances : List Float) (n s : ℕ) (old : List ℕ) (j : ℕ) (counts waits : List ℕ) (taken : List Bool)

@@ -1,9 +1,10 @@
 -- Padding, draw by draw.
 use Prim.Native.Nat.{ℕ, _+_, _<_}
-use mathlib.Core.Path.{_≡_, refl, ap, _∙_}
+use mathlib.Core.Path.{_≡_, refl, ap, sym, _∙_}
 use mathlib.Core.List.{List, [], _∷_, _++_}
+use native.Mathlib.Numerals.{add-one}
 use lib.ListN.{length, set}
-use Rattle.model.specs.Draw.{drawn, drawUsize}
+use Rattle.model.specs.Draw.{Drawn, drawn, drawUsize}
 use Rattle.model.specs.Kept.{padding}
 use Rattle.list_laws.proofs.Built.{drawn-more}
 use Rattle.niching_laws.proofs.KeptLength.{padding-length}
@@ -20,7 +21,9 @@ padded-none n s old = record { same = refl; written = refl; state = refl }
 module _ (n s : ℕ) (old : List ℕ) (j : ℕ) (out : List ℕ) (t : ℕ) (h : Padded n s old j out t) (room : j < length old) (r u : ℕ) (e : drawn r u ≡ drawUsize n t) where
   next : drawn (padding n j s .value ++ (r ∷ [])) u ≡ padding n (j + 1) s
   unfolding padding
-  next = drawn-more (λ k. padding n k s) (λ d. drawUsize n (d .state)) j refl _ _ r u refl (e ∙ ap (drawUsize n) (h .state))
+  next =
+      drawn-more (λ a b. a ++ (b ∷ [])) (λ (d : Drawn (List ℕ)). drawUsize n (d .state)) refl (e ∙ ap (drawUsize n) (h .state))
+      ∙ ap (λ k. padding n k s) (sym (add-one j))
 
   pub padded-more : Padded n s old (j + 1) (set out j r) u
   padded-more = written-more h (padding-length n j s) room r u next
