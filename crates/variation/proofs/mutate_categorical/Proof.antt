@@ -29,7 +29,7 @@ enum-told-3 : tie.Need-enum-told-3
 enum-told-3 c = search needs
 
 sample-random-requires : tie.Need-sample-random-requires
-sample-random-requires c κs = search needs
+sample-random-requires c κs = c .before .before .pre
 
 returns : tie.Need-returns
 returns c =

@@ -1,7 +1,6 @@
 -- By cases on the distribution.
-use mathlib.Core.Path.{sym, ap, _∙_}
+use mathlib.Core.Path.{sym, _∙_}
 use Rattle.settings.proofs.Signed.{held}
-use Rattle.model.specs.declared.Distribution.{Distribution}
 use Rattle.model.specs.Setting.{mutateInt}
 use borrow.Author.Needs.{needs}
 use Rattle.variation.proofs.mutate_int.Statement.{statement}
@@ -29,19 +28,19 @@ returns : tie.Need-returns
 returns c =
     let s = c .before .before .before in
     let a = s .args in
-    (rw (held (s .fits .n)) at (c .unmoved .ensures)) ∙ sym (ap (λ (d : Distribution). mutateInt d (a .n) (a .k) (a .rng .s)) (c .before .enum-told .given .1))
+    c .unmoved .ensures ∙ (λ i. mutateInt (sym (c .before .enum-told .given .1) i) (held (s .fits .n) i) (a .k) (a .rng .s))
 
 returns-2 : tie.Need-returns-2
 returns-2 c =
     let s = c .before .before .before .before in
     let a = s .args in
-    (rw (held (s .fits .n)) at (c .move-int .ensures)) ∙ sym (ap (λ (d : Distribution). mutateInt d (a .n) (a .k) (a .rng .s)) (c .before .before .d .given .1))
+    c .move-int .ensures ∙ (λ i. mutateInt (sym (c .before .before .d .given .1) i) (held (s .fits .n) i) (a .k) (a .rng .s))
 
 returns-3 : tie.Need-returns-3
 returns-3 c =
     let s = c .before .before .before in
     let a = s .args in
-    (rw (held (s .fits .n)) at (c .unmoved2 .ensures)) ∙ sym (ap (λ (d : Distribution). mutateInt d (a .n) (a .k) (a .rng .s)) (c .before .enum-told2 .given .1))
+    c .unmoved2 .ensures ∙ (λ i. mutateInt (sym (c .before .enum-told2 .given .1) i) (held (s .fits .n) i) (a .k) (a .rng .s))
 
 pub mutate-int-spec : {M : Type 1} → statement M
 mutate-int-spec =

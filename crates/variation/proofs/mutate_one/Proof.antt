@@ -1,7 +1,8 @@
 -- By cases on the setting.
 use mathlib.Core.Path.{sym, ap, _∙_}
+use lib.IntN.{ℤ}
 use Rattle.model.specs.declared.ParamValue.{ParamValue}
-use Rattle.model.specs.Setting.{mutateOne}
+use Rattle.model.specs.Setting.{mutateInt, mutateOne}
 use Rattle.settings.proofs.Signed.{back}
 use borrow.Author.Needs.{needs}
 use Rattle.variation.proofs.mutate_one.Statement.{statement}
@@ -23,7 +24,7 @@ enum-known-v-3 : tie.Need-enum-known-v-3
 enum-known-v-3 c = search needs
 
 mutate-categorical-requires : tie.Need-mutate-categorical-requires
-mutate-categorical-requires c κs = search needs
+mutate-categorical-requires c κs = c .before .before .before .pre
 
 returns : tie.Need-returns
 returns c =
@@ -34,7 +35,8 @@ returns-2 : tie.Need-returns-2
 returns-2 c =
     let a = c .before .before .before .before .args in
     let g = c .before .before .v2 .given in
-    (rw (back (g .0 .0) (c .before .known-told2 .given .0 .1)) at (c .mutate-int .ensures)) ∙ sym (ap (λ (v : ParamValue). mutateOne (a .d) v (a .k) (a .rng .s)) (g .1))
+    let n = back (g .0 .0) (c .before .known-told2 .given .0 .1) in
+    c .mutate-int .ensures ∙ ap (λ (z : ℤ). mutateInt (a .d) z (a .k) (a .rng .s)) n ∙ sym (ap (λ (v : ParamValue). mutateOne (a .d) v (a .k) (a .rng .s)) (g .1))
 
 returns-3 : tie.Need-returns-3
 returns-3 c =
