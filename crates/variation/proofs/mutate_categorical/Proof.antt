@@ -14,19 +14,19 @@ unfolding sampleRandom
 anew d a c s e = ap (λ (x : Distribution). sampleRandom x s) e ∙ sym (ap (λ (x : Distribution). mutateCategorical x c s) e)
 
 enum-told : tie.Need-enum-told
-enum-told c = search needs
+enum-told c = c .match .keys1
 
 unmoved-requires : tie.Need-unmoved-requires
 unmoved-requires c κs = tt
 
 enum-told-2 : tie.Need-enum-told-2
-enum-told-2 c = search needs
+enum-told-2 c = c .match .keys2
 
 unmoved-requires-2 : tie.Need-unmoved-requires-2
 unmoved-requires-2 c κs = tt
 
 enum-told-3 : tie.Need-enum-told-3
-enum-told-3 c = search needs
+enum-told-3 c = c .match .keys3
 
 sample-random-requires : tie.Need-sample-random-requires
 sample-random-requires c κs = c .before .before .pre

@@ -7,19 +7,19 @@ use Rattle.variation.proofs.mutate_int.Statement.{statement}
 use Rattle.variation.proofs.mutate_int.Tie as tie
 
 enum-told : tie.Need-enum-told
-enum-told c = search needs
+enum-told c = c .match .keys1
 
 unmoved-requires : tie.Need-unmoved-requires
 unmoved-requires c κs = tt
 
 enum-known-d : tie.Need-enum-known-d
-enum-known-d c = search needs
+enum-known-d c = c .match .keys2
 
 move-int-requires : tie.Need-move-int-requires
 move-int-requires c κs = tt
 
 enum-told-2 : tie.Need-enum-told-2
-enum-told-2 c = search needs
+enum-told-2 c = c .match .keys3
 
 unmoved-requires-2 : tie.Need-unmoved-requires-2
 unmoved-requires-2 c κs = tt

@@ -9,19 +9,19 @@ use Rattle.variation.proofs.mutate_one.Statement.{statement}
 use Rattle.variation.proofs.mutate_one.Tie as tie
 
 enum-known-v : tie.Need-enum-known-v
-enum-known-v c = search needs
+enum-known-v c = c .match .keys1
 
 mutate-float-requires : tie.Need-mutate-float-requires
 mutate-float-requires c κs = tt
 
 enum-known-v-2 : tie.Need-enum-known-v-2
-enum-known-v-2 c = search needs
+enum-known-v-2 c = c .match .keys2
 
 mutate-int-requires : tie.Need-mutate-int-requires
 mutate-int-requires c κs = tt
 
 enum-known-v-3 : tie.Need-enum-known-v-3
-enum-known-v-3 c = search needs
+enum-known-v-3 c = c .match .keys3
 
 mutate-categorical-requires : tie.Need-mutate-categorical-requires
 mutate-categorical-requires c κs = c .before .before .before .pre
