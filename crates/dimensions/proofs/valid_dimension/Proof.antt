@@ -1,7 +1,6 @@
 -- By cases on the distribution.
 use mathlib.Core.Path.{sym, ap, _∙_}
 use Rattle.model.specs.Setting.{validDimension}
-use borrow.Author.Needs.{needs}
 use Rattle.dimensions.proofs.valid_dimension.Statement.{statement}
 use Rattle.dimensions.proofs.valid_dimension.Tie as tie
 

@@ -2,7 +2,6 @@
 use mathlib.Core.Path.{sym, ap, _∙_}
 use Rattle.model.specs.declared.Distribution.{Distribution}
 use Rattle.model.specs.Setting.{validDimension, sampleRandom}
-use borrow.Author.Needs.{needs}
 use Rattle.sampling.proofs.sample_random.Statement.{statement}
 use Rattle.sampling.proofs.sample_random.Tie as tie
 

@@ -2,7 +2,6 @@
 use mathlib.Core.Path.{sym, ap, _∙_}
 use Rattle.model.specs.declared.Distribution.{Distribution}
 use Rattle.model.specs.Setting.{crossFloats}
-use borrow.Author.Needs.{needs}
 use Rattle.variation.proofs.cross_floats.Statement.{statement}
 use Rattle.variation.proofs.cross_floats.Tie as tie
 

@@ -2,7 +2,6 @@
 use mathlib.Core.Path.{sym, _∙_}
 use Rattle.settings.proofs.Signed.{held}
 use Rattle.model.specs.Setting.{crossInts}
-use borrow.Author.Needs.{needs}
 use Rattle.variation.proofs.cross_ints.Statement.{statement}
 use Rattle.variation.proofs.cross_ints.Tie as tie
 

@@ -6,7 +6,6 @@ use Rattle.model.specs.declared.ParamValue.{ParamValue}
 use Rattle.model.specs.Draw.{Drawn, drawn}
 use Rattle.model.specs.Setting.{Pair, pair, crossOne}
 use Rattle.settings.proofs.Signed.{back}
-use borrow.Author.Needs.{needs}
 use Rattle.variation.proofs.cross_one.Statement.{statement}
 use Rattle.variation.proofs.cross_one.Tie as tie
 

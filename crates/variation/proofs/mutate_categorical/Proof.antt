@@ -5,7 +5,6 @@ use Rattle.model.specs.declared.Distribution.{Distribution}
 use Rattle.model.specs.declared.Distribution.the-variants as dist
 use Rattle.model.specs.declared.CategoricalDistribution.{CategoricalDistribution}
 use Rattle.model.specs.Setting.{sampleRandom, mutateCategorical}
-use borrow.Author.Needs.{needs}
 use Rattle.variation.proofs.mutate_categorical.Statement.{statement}
 use Rattle.variation.proofs.mutate_categorical.Tie as tie
 

@@ -2,7 +2,6 @@
 use mathlib.Core.Path.{sym, ap, _∙_}
 use Rattle.model.specs.declared.Distribution.{Distribution}
 use Rattle.model.specs.Setting.{mutateFloat}
-use borrow.Author.Needs.{needs}
 use Rattle.variation.proofs.mutate_float.Statement.{statement}
 use Rattle.variation.proofs.mutate_float.Tie as tie
 

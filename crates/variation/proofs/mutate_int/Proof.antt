@@ -2,7 +2,6 @@
 use mathlib.Core.Path.{sym, _∙_}
 use Rattle.settings.proofs.Signed.{held}
 use Rattle.model.specs.Setting.{mutateInt}
-use borrow.Author.Needs.{needs}
 use Rattle.variation.proofs.mutate_int.Statement.{statement}
 use Rattle.variation.proofs.mutate_int.Tie as tie
 

@@ -4,7 +4,6 @@ use lib.IntN.{ℤ}
 use Rattle.model.specs.declared.ParamValue.{ParamValue}
 use Rattle.model.specs.Setting.{mutateInt, mutateOne}
 use Rattle.settings.proofs.Signed.{back}
-use borrow.Author.Needs.{needs}
 use Rattle.variation.proofs.mutate_one.Statement.{statement}
 use Rattle.variation.proofs.mutate_one.Tie as tie
 
