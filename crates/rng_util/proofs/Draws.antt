@@ -1,5 +1,6 @@
 -- What holds of every draw, whatever the state: words are words, a draw below n is below n, a draw from a to b lies there. Assumes nothing.
-use mathlib.Core.Path.{_≡_, ap}
+use mathlib.Core.Path.{_≡_, sym, ap, _∙_}
+use mathlib.Core.Bool.{Bool}
 use Prim.Native.Nat.{ℕ, _/_, _^_, _<_}
 use native.Mathlib.Nat.{mod-lt}
 use native.Mathlib.Omega.{arith}
@@ -23,6 +24,10 @@ use Rattle.rng_util.proofs.Span.{rest-le, pick-low, pick-high}
 module _ {A : Type 0} {d : Drawn A} {x : A} {t : ℕ} where
   pub drawn-by : {B : Type 0} (f : A → B) → drawn x t ≡ d → drawn (f x) t ≡ drawn (f (d .value)) (d .state)
   drawn-by f e = ap (λ (y : Drawn A). drawn (f (y .value)) (y .state)) e
+
+  -- what is made by a test of the value
+  pub drawn-tested : {C : Type 0} (F : Bool → ℕ → C) (test : A → Bool) {b : Bool} → drawn x t ≡ d → test x ≡ b → F b t ≡ F (test (d .value)) (d .state)
+  drawn-tested F test e h = ap (λ (c : Bool). F c t) (sym h) ∙ ap (λ (y : Drawn A). F (test (y .value)) (y .state)) e
 
   pub drawn-value : drawn x t ≡ d → x ≡ d .value
   drawn-value e = ap (λ (y : Drawn A). y .value) e

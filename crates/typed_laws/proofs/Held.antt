@@ -66,17 +66,15 @@ pub each-field : {A D : Type 0} (f : D → List Val → Fml) (into : A → D) (P
     → (xs : List A) (us : List Val) → shadow (each D f (map into xs) us) → (i : ℕ) → i < length xs → P (getD xs i z)
 each-field f into P one z xs us p = each-at (λ x vs. f (into x) vs) P one z xs us (each-map f into xs us p)
 
-infos-held : (dims : List DimensionInfo) (us : List Val) → shadow (each DimensionInfo (struct.row info.the-type .own) dims us) → (d : ℕ) → d < length dims
-    → Held (getD dims d noDimension .distribution)
-infos-held = each-at (struct.row info.the-type .own) (λ (x : DimensionInfo). Held (x .distribution)) info-held noDimension
-
 -- `dims: [DimensionInfo; 32]`
 module _ (dims : List DimensionInfo) (vs : List Val) (p : Is (Array (struct.row info.the-type) 32) dims vs) where
   pub array-length : length dims ≡ 32
   array-length = p .1 .0 .1
 
   pub array-held : (d : ℕ) → d < 32 → Held (getD dims d noDimension .distribution)
-  array-held d h = let e = array-length in infos-held dims (p .0) (p .1 .1) d (omega arith)
+  array-held d h =
+      let e = array-length in
+      each-at (struct.row info.the-type .own) (λ (x : DimensionInfo). Held (x .distribution)) info-held noDimension dims (p .0) (p .1 .1) d (omega arith)
 
 -- ---- a session's
 
@@ -88,7 +86,7 @@ module _ (s : Session) (vs : List Val) (p : Is (struct.row session.the-type) s v
   session-held d h =
       let e = session-dimensions in
       let q = p .1 .1 .1 .1 .1 .1 .0 in
-      infos-held (s .dimensions) (q .0) (each-map _ _ (s .dimensions) (q .0) (q .1 .1)) d (omega arith)
+      each-field _ _ (λ (x : DimensionInfo). Held (x .distribution)) info-held noDimension (s .dimensions) (q .0) (q .1 .1) d (omega arith)
 
   pub session-ideal : length (s .«ideal_point») ≡ 8
   session-ideal = sym (length-map (s .«ideal_point») _) ∙ p .1 .1 .1 .1 .1 .1 .1 .0 .1 .0 .1

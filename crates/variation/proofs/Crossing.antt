@@ -7,12 +7,13 @@ use borrow.Author.Tests.{leb-true}
 use lib.IntN.{ℤ, pos, negsuc}
 use lib.Signed.{leZ, ≤ℤ-refl}
 use lib.Ieee.{Float, lt}
+use Rattle.rng_util.proofs.Draws.{drawn-tested}
 use Rattle.list_laws.proofs.Bools.{T-true, no-pass, and-left, and-right, and-both}
 use Rattle.model.specs.declared.FloatDistribution.{FloatDistribution}
 use Rattle.model.specs.declared.IntDistribution.{IntDistribution}
 use Rattle.model.specs.declared.ParamValue.the-variants as value
 use Rattle.model.specs.Real.{_⊖_, half, absolute}
-use Rattle.model.specs.Draw.{Drawn, drawn}
+use Rattle.model.specs.Draw.{drawn}
 use Rattle.model.specs.Setting.{pair, smallGap, drawUnit, spread, sbxFirst, sbxSecond, toInt, ofWhole, crossFloat, crossInt, crossCategorical}
 
 pub crossFloat-close : (d : FloatDistribution) (p q : Float) (k s : ℕ) → lt (absolute (p ⊖ q)) smallGap ≡ true → drawn (pair (value.Float p) (value.Float q)) s ≡ crossFloat d p q k s
@@ -45,8 +46,7 @@ pub crossCategorical-is : (p q s : ℕ) (u : Float) (t : ℕ) (b : Bool) → dra
     → drawn (cond b (pair (value.Categorical q) (value.Categorical p)) (pair (value.Categorical p) (value.Categorical q))) t ≡ crossCategorical p q s
 unfolding crossCategorical
 crossCategorical-is p q s u t b e h =
-    ap (λ (c : Bool). drawn (cond c (pair (value.Categorical q) (value.Categorical p)) (pair (value.Categorical p) (value.Categorical q))) t) (sym h)
-    ∙ ap (λ (d : Drawn Float). drawn (cond (lt (d .value) half) (pair (value.Categorical q) (value.Categorical p)) (pair (value.Categorical p) (value.Categorical q))) (d .state)) e
+    drawn-tested (λ (c : Bool) (r : ℕ). drawn (cond c (pair (value.Categorical q) (value.Categorical p)) (pair (value.Categorical p) (value.Categorical q))) r) (λ (x : Float). lt x half) e h
 
 -- equal whole numbers are at most each other, and only they
 pub level : (p q : ℤ) → p ≡ q → (leZ p q && leZ q p) ≡ true

@@ -1,19 +1,18 @@
 -- A setting that mutates or not, by its draw.
-use mathlib.Core.Path.{_≡_, sym, ap, _∙_}
+use mathlib.Core.Path.{_≡_, _∙_}
 use mathlib.Core.Bool.{Bool, true, false, cond}
 use Prim.Native.Nat.{ℕ}
 use lib.Ieee.{Float, le}
 use Rattle.model.specs.declared.Distribution.{Distribution}
 use Rattle.model.specs.declared.ParamValue.{ParamValue}
 use Rattle.model.specs.Draw.{Drawn, drawn}
+use Rattle.rng_util.proofs.Draws.{drawn-tested}
 use Rattle.model.specs.Setting.{drawUnit, mutateOne, mutateMaybe}
 
 module _ (probability : Float) (d : Distribution) (v : ParamValue) (k s : ℕ) (u : Float) (t : ℕ) (e : drawn u t ≡ drawUnit s) where
   maybe-by : (b : Bool) → le probability u ≡ b → cond b (drawn v t) (mutateOne d v k t) ≡ mutateMaybe probability d v k s
   unfolding mutateMaybe
-  maybe-by b h =
-      sym (ap (λ (c : Bool). cond c (drawn v t) (mutateOne d v k t)) h)
-      ∙ ap (λ (x : Drawn Float). cond (le probability (x .value)) (drawn v (x .state)) (mutateOne d v k (x .state))) e
+  maybe-by b h = drawn-tested (λ (c : Bool) (r : ℕ). cond c (drawn v r) (mutateOne d v k r)) (le probability) e h
 
   pub maybe-not : le probability u ≡ true → drawn v t ≡ mutateMaybe probability d v k s
   maybe-not h = maybe-by true h

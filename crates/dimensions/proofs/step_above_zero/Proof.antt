@@ -9,10 +9,10 @@ use Rattle.dimensions.proofs.step_above_zero.Statement.{statement}
 use Rattle.dimensions.proofs.step_above_zero.Tie as tie
 
 enum-told : tie.Need-enum-told
-enum-told c = search needs
+enum-told c = c .match .keys1
 
 enum-known-step : tie.Need-enum-known-step
-enum-known-step c = search needs
+enum-known-step c = c .match .keys2
 
 returns : tie.Need-returns
 returns c = search needs

@@ -1,24 +1,23 @@
 -- By cases on the distribution.
 use mathlib.Core.Path.{sym, ap, _∙_}
 use Rattle.model.specs.Setting.{validDimension}
-use borrow.Author.Needs.{needs}
 use Rattle.dimensions.proofs.valid_dimension.Statement.{statement}
 use Rattle.dimensions.proofs.valid_dimension.Tie as tie
 
 enum-known-d : tie.Need-enum-known-d
-enum-known-d c = search needs
+enum-known-d c = c .match .keys1
 
 valid-float-requires : tie.Need-valid-float-requires
 valid-float-requires c κs = tt
 
 enum-known-d-2 : tie.Need-enum-known-d-2
-enum-known-d-2 c = search needs
+enum-known-d-2 c = c .match .keys2
 
 valid-int-requires : tie.Need-valid-int-requires
 valid-int-requires c κs = tt
 
 enum-known-d-3 : tie.Need-enum-known-d-3
-enum-known-d-3 c = search needs
+enum-known-d-3 c = c .match .keys3
 
 valid-categorical-requires : tie.Need-valid-categorical-requires
 valid-categorical-requires c κs = tt

@@ -5,7 +5,6 @@ use lib.Ieee.{ofBits, neg}
 use Rattle.model.specs.declared.Distribution.the-variants as dist
 use Rattle.model.specs.Real.{within}
 use Rattle.model.specs.Setting.{minBound, maxBound, noStep, validDimension}
-use borrow.Author.Needs.{needs}
 use Rattle.dimensions.proofs.valid_float.Statement.{statement}
 use Rattle.dimensions.proofs.valid_float.Tie as tie
 
@@ -28,10 +27,10 @@ returns : tie.Need-returns
 returns c = rw (rest (c .before), c .if4 .taken)
 
 enum-told : tie.Need-enum-told
-enum-told c = search needs
+enum-told c = c .match .keys1
 
 enum-told-2 : tie.Need-enum-told-2
-enum-told-2 c = search needs
+enum-told-2 c = c .match .keys2
 
 returns-2 : tie.Need-returns-2
 returns-2 c = let b = c .before .before in rw (rest (b .before), b .if4 .left, c .enum-told .given .1)

@@ -2,24 +2,23 @@
 use mathlib.Core.Path.{sym, ap, _∙_}
 use Rattle.model.specs.declared.Distribution.{Distribution}
 use Rattle.model.specs.Setting.{validDimension, sampleRandom}
-use borrow.Author.Needs.{needs}
 use Rattle.sampling.proofs.sample_random.Statement.{statement}
 use Rattle.sampling.proofs.sample_random.Tie as tie
 
 enum-known-d : tie.Need-enum-known-d
-enum-known-d c = search needs
+enum-known-d c = c .match .keys1
 
 sample-float-requires : tie.Need-sample-float-requires
 sample-float-requires c κs = tt
 
 enum-known-d-2 : tie.Need-enum-known-d-2
-enum-known-d-2 c = search needs
+enum-known-d-2 c = c .match .keys2
 
 sample-int-requires : tie.Need-sample-int-requires
 sample-int-requires c κs = sym (ap validDimension (c .before .d2 .given .1)) ∙ c .before .before .before .pre
 
 enum-known-d-3 : tie.Need-enum-known-d-3
-enum-known-d-3 c = search needs
+enum-known-d-3 c = c .match .keys3
 
 sample-categorical-requires : tie.Need-sample-categorical-requires
 sample-categorical-requires c κs = sym (ap validDimension (c .before .d3 .given .1)) ∙ c .before .before .before .pre

@@ -22,13 +22,13 @@ unfolding sampleInt
 is-drawn low high o s n t e h = h ∙ sym (ap (λ (x : OptionI64). sampleInt low high x s) e)
 
 enum-told : tie.Need-enum-told
-enum-told c = search needs
+enum-told c = c .match .keys1
 
 draw-i64-requires : tie.Need-draw-i64-requires
 draw-i64-requires c κs = search needs
 
 enum-known-step : tie.Need-enum-known-step
-enum-known-step c = search needs
+enum-known-step c = c .match .keys2
 
 sample-stepped-requires : tie.Need-sample-stepped-requires
 sample-stepped-requires c κs =

@@ -2,51 +2,50 @@
 use Rattle.settings.proofs.Signed.{back}
 use mathlib.Core.Path.{sym, ap₂, _∙_}
 use Rattle.model.specs.Setting.{inBounds}
-use borrow.Author.Needs.{needs}
 use Rattle.settings.proofs.in_bounds.Statement.{statement}
 use Rattle.settings.proofs.in_bounds.Tie as tie
 
 enum-known-d : tie.Need-enum-known-d
-enum-known-d c = search needs
+enum-known-d c = c .match .keys1
 
 enum-known-v : tie.Need-enum-known-v
-enum-known-v c = search needs
+enum-known-v c = c .match2 .keys1
 
 real-within-requires : tie.Need-real-within-requires
 real-within-requires c κs = tt
 
 enum-told : tie.Need-enum-told
-enum-told c = search needs
+enum-told c = c .match2 .keys2
 
 enum-told-2 : tie.Need-enum-told-2
-enum-told-2 c = search needs
+enum-told-2 c = c .match2 .keys3
 
 enum-known-d-2 : tie.Need-enum-known-d-2
-enum-known-d-2 c = search needs
+enum-known-d-2 c = c .match .keys2
 
 enum-told-3 : tie.Need-enum-told-3
-enum-told-3 c = search needs
+enum-told-3 c = c .match3 .keys1
 
 enum-known-v-2 : tie.Need-enum-known-v-2
-enum-known-v-2 c = search needs
+enum-known-v-2 c = c .match3 .keys2
 
 whole-within-requires : tie.Need-whole-within-requires
 whole-within-requires c κs = tt
 
 enum-told-4 : tie.Need-enum-told-4
-enum-told-4 c = search needs
+enum-told-4 c = c .match3 .keys3
 
 enum-known-d-3 : tie.Need-enum-known-d-3
-enum-known-d-3 c = search needs
+enum-known-d-3 c = c .match .keys3
 
 enum-told-5 : tie.Need-enum-told-5
-enum-told-5 c = search needs
+enum-told-5 c = c .match4 .keys1
 
 enum-told-6 : tie.Need-enum-told-6
-enum-told-6 c = search needs
+enum-told-6 c = c .match4 .keys2
 
 enum-known-v-3 : tie.Need-enum-known-v-3
-enum-known-v-3 c = search needs
+enum-known-v-3 c = c .match4 .keys3
 
 returns : tie.Need-returns
 unfolding inBounds

@@ -7,19 +7,19 @@ use Rattle.settings.proofs.to_word.Statement.{statement}
 use Rattle.settings.proofs.to_word.Tie as tie
 
 enum-known-v : tie.Need-enum-known-v
-enum-known-v c = search needs
+enum-known-v c = c .match .keys1
 
 word-of-real-requires : tie.Need-word-of-real-requires
 word-of-real-requires c κs = tt
 
 enum-known-v-2 : tie.Need-enum-known-v-2
-enum-known-v-2 c = search needs
+enum-known-v-2 c = c .match .keys2
 
 word-of-int-requires : tie.Need-word-of-int-requires
 word-of-int-requires c κs = tt
 
 enum-known-v-3 : tie.Need-enum-known-v-3
-enum-known-v-3 c = search needs
+enum-known-v-3 c = c .match .keys3
 
 returns : tie.Need-returns
 returns c = c .word-of-real .ensures ∙ sym (ap toWord (c .before .before .v .given .1))

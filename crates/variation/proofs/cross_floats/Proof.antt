@@ -2,24 +2,23 @@
 use mathlib.Core.Path.{sym, ap, _∙_}
 use Rattle.model.specs.declared.Distribution.{Distribution}
 use Rattle.model.specs.Setting.{crossFloats}
-use borrow.Author.Needs.{needs}
 use Rattle.variation.proofs.cross_floats.Statement.{statement}
 use Rattle.variation.proofs.cross_floats.Tie as tie
 
 enum-known-d : tie.Need-enum-known-d
-enum-known-d c = search needs
+enum-known-d c = c .match .keys1
 
 cross-float-requires : tie.Need-cross-float-requires
 cross-float-requires c κs = tt
 
 enum-told : tie.Need-enum-told
-enum-told c = search needs
+enum-told c = c .match .keys2
 
 as-they-are-requires : tie.Need-as-they-are-requires
 as-they-are-requires c κs = tt
 
 enum-told-2 : tie.Need-enum-told-2
-enum-told-2 c = search needs
+enum-told-2 c = c .match .keys3
 
 as-they-are-requires-2 : tie.Need-as-they-are-requires-2
 as-they-are-requires-2 c κs = tt

@@ -6,7 +6,6 @@ use Rattle.model.specs.declared.ParamValue.{ParamValue}
 use Rattle.model.specs.Draw.{Drawn, drawn}
 use Rattle.model.specs.Setting.{Pair, pair, crossOne}
 use Rattle.settings.proofs.Signed.{back}
-use borrow.Author.Needs.{needs}
 use Rattle.variation.proofs.cross_one.Statement.{statement}
 use Rattle.variation.proofs.cross_one.Tie as tie
 
@@ -20,64 +19,64 @@ module _ (d : Distribution) (k s : ℕ) (a b x y : ParamValue) (e : a ≡ x) (f 
   mixed g h = crossed (h ∙ ap (λ (v : ParamValue). drawn (pair x v) s) f ∙ g)
 
 enum-known-a : tie.Need-enum-known-a
-enum-known-a c = search needs
+enum-known-a c = c .match .keys1
 
 enum-known-b : tie.Need-enum-known-b
-enum-known-b c = search needs
+enum-known-b c = c .match2 .keys1
 
 cross-floats-requires : tie.Need-cross-floats-requires
 cross-floats-requires c κs = tt
 
 enum-told : tie.Need-enum-told
-enum-told c = search needs
+enum-told c = c .match2 .keys2
 
 as-they-are-requires : tie.Need-as-they-are-requires
 as-they-are-requires c κs = tt
 
 enum-told-2 : tie.Need-enum-told-2
-enum-told-2 c = search needs
+enum-told-2 c = c .match2 .keys3
 
 as-they-are-requires-2 : tie.Need-as-they-are-requires-2
 as-they-are-requires-2 c κs = tt
 
 enum-known-a-2 : tie.Need-enum-known-a-2
-enum-known-a-2 c = search needs
+enum-known-a-2 c = c .match .keys2
 
 enum-told-3 : tie.Need-enum-told-3
-enum-told-3 c = search needs
+enum-told-3 c = c .match3 .keys1
 
 as-they-are-requires-3 : tie.Need-as-they-are-requires-3
 as-they-are-requires-3 c κs = tt
 
 enum-known-b-2 : tie.Need-enum-known-b-2
-enum-known-b-2 c = search needs
+enum-known-b-2 c = c .match3 .keys2
 
 cross-ints-requires : tie.Need-cross-ints-requires
 cross-ints-requires c κs = tt
 
 enum-told-4 : tie.Need-enum-told-4
-enum-told-4 c = search needs
+enum-told-4 c = c .match3 .keys3
 
 as-they-are-requires-4 : tie.Need-as-they-are-requires-4
 as-they-are-requires-4 c κs = tt
 
 enum-known-a-3 : tie.Need-enum-known-a-3
-enum-known-a-3 c = search needs
+enum-known-a-3 c = c .match .keys3
 
 enum-told-5 : tie.Need-enum-told-5
-enum-told-5 c = search needs
+enum-told-5 c = c .match4 .keys1
 
 as-they-are-requires-5 : tie.Need-as-they-are-requires-5
 as-they-are-requires-5 c κs = tt
 
 enum-told-6 : tie.Need-enum-told-6
-enum-told-6 c = search needs
+enum-told-6 c = c .match4 .keys2
 
 as-they-are-requires-6 : tie.Need-as-they-are-requires-6
 as-they-are-requires-6 c κs = tt
 
 enum-known-b-3 : tie.Need-enum-known-b-3
-enum-known-b-3 c = search needs
+enum-known-b-3 c = c .match4 .keys3
 
 cross-categorical-requires : tie.Need-cross-categorical-requires
 cross-categorical-requires c κs = tt

@@ -5,7 +5,6 @@ use Rattle.model.specs.declared.Distribution.{Distribution}
 use Rattle.model.specs.declared.Distribution.the-variants as dist
 use Rattle.model.specs.declared.CategoricalDistribution.{CategoricalDistribution}
 use Rattle.model.specs.Setting.{sampleRandom, mutateCategorical}
-use borrow.Author.Needs.{needs}
 use Rattle.variation.proofs.mutate_categorical.Statement.{statement}
 use Rattle.variation.proofs.mutate_categorical.Tie as tie
 
@@ -14,22 +13,22 @@ unfolding sampleRandom
 anew d a c s e = ap (λ (x : Distribution). sampleRandom x s) e ∙ sym (ap (λ (x : Distribution). mutateCategorical x c s) e)
 
 enum-told : tie.Need-enum-told
-enum-told c = search needs
+enum-told c = c .match .keys1
 
 unmoved-requires : tie.Need-unmoved-requires
 unmoved-requires c κs = tt
 
 enum-told-2 : tie.Need-enum-told-2
-enum-told-2 c = search needs
+enum-told-2 c = c .match .keys2
 
 unmoved-requires-2 : tie.Need-unmoved-requires-2
 unmoved-requires-2 c κs = tt
 
 enum-told-3 : tie.Need-enum-told-3
-enum-told-3 c = search needs
+enum-told-3 c = c .match .keys3
 
 sample-random-requires : tie.Need-sample-random-requires
-sample-random-requires c κs = search needs
+sample-random-requires c κs = c .before .before .pre
 
 returns : tie.Need-returns
 returns c =

@@ -2,24 +2,23 @@
 use mathlib.Core.Path.{sym, ap, _∙_}
 use Rattle.model.specs.declared.Distribution.{Distribution}
 use Rattle.model.specs.Setting.{mutateFloat}
-use borrow.Author.Needs.{needs}
 use Rattle.variation.proofs.mutate_float.Statement.{statement}
 use Rattle.variation.proofs.mutate_float.Tie as tie
 
 enum-known-d : tie.Need-enum-known-d
-enum-known-d c = search needs
+enum-known-d c = c .match .keys1
 
 move-float-requires : tie.Need-move-float-requires
 move-float-requires c κs = tt
 
 enum-told : tie.Need-enum-told
-enum-told c = search needs
+enum-told c = c .match .keys2
 
 unmoved-requires : tie.Need-unmoved-requires
 unmoved-requires c κs = tt
 
 enum-told-2 : tie.Need-enum-told-2
-enum-told-2 c = search needs
+enum-told-2 c = c .match .keys3
 
 unmoved-requires-2 : tie.Need-unmoved-requires-2
 unmoved-requires-2 c κs = tt

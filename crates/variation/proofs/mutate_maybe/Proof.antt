@@ -1,6 +1,5 @@
 -- The draw decides.
 use Rattle.variation.proofs.Maybe.{maybe-not, maybe-moved}
-use borrow.Author.Needs.{needs}
 use Rattle.variation.proofs.mutate_maybe.Statement.{statement}
 use Rattle.variation.proofs.mutate_maybe.Tie as tie
 
@@ -13,7 +12,7 @@ returns c =
     maybe-not (a .probability) (a .d) (a .v) (a .k) (a .rng .s) _ _ (c .before .before .f64-range .ensures) (c .if1 .taken)
 
 mutate-one-requires : tie.Need-mutate-one-requires
-mutate-one-requires c κs = search needs
+mutate-one-requires c κs = c .before .before .before .pre
 
 returns-2 : tie.Need-returns-2
 returns-2 c =

@@ -1,29 +1,29 @@
 -- By cases on the setting.
 use mathlib.Core.Path.{sym, ap, _∙_}
+use lib.IntN.{ℤ}
 use Rattle.model.specs.declared.ParamValue.{ParamValue}
-use Rattle.model.specs.Setting.{mutateOne}
+use Rattle.model.specs.Setting.{mutateInt, mutateOne}
 use Rattle.settings.proofs.Signed.{back}
-use borrow.Author.Needs.{needs}
 use Rattle.variation.proofs.mutate_one.Statement.{statement}
 use Rattle.variation.proofs.mutate_one.Tie as tie
 
 enum-known-v : tie.Need-enum-known-v
-enum-known-v c = search needs
+enum-known-v c = c .match .keys1
 
 mutate-float-requires : tie.Need-mutate-float-requires
 mutate-float-requires c κs = tt
 
 enum-known-v-2 : tie.Need-enum-known-v-2
-enum-known-v-2 c = search needs
+enum-known-v-2 c = c .match .keys2
 
 mutate-int-requires : tie.Need-mutate-int-requires
 mutate-int-requires c κs = tt
 
 enum-known-v-3 : tie.Need-enum-known-v-3
-enum-known-v-3 c = search needs
+enum-known-v-3 c = c .match .keys3
 
 mutate-categorical-requires : tie.Need-mutate-categorical-requires
-mutate-categorical-requires c κs = search needs
+mutate-categorical-requires c κs = c .before .before .before .pre
 
 returns : tie.Need-returns
 returns c =
@@ -34,7 +34,8 @@ returns-2 : tie.Need-returns-2
 returns-2 c =
     let a = c .before .before .before .before .args in
     let g = c .before .before .v2 .given in
-    (rw (back (g .0 .0) (c .before .known-told2 .given .0 .1)) at (c .mutate-int .ensures)) ∙ sym (ap (λ (v : ParamValue). mutateOne (a .d) v (a .k) (a .rng .s)) (g .1))
+    let n = back (g .0 .0) (c .before .known-told2 .given .0 .1) in
+    c .mutate-int .ensures ∙ ap (λ (z : ℤ). mutateInt (a .d) z (a .k) (a .rng .s)) n ∙ sym (ap (λ (v : ParamValue). mutateOne (a .d) v (a .k) (a .rng .s)) (g .1))
 
 returns-3 : tie.Need-returns-3
 returns-3 c =
