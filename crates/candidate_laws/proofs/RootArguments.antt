@@ -34,7 +34,8 @@ use Rattle.model.specs.Setting.{minWhole, maxWhole, validDimension, inBounds, d
 use Rattle.settings.proofs.Valid.{float-bounds, int-bounds}
 use Rattle.settings.proofs.InBounds.{Held}
 use Rattle.variation_laws.proofs.Children.{Inside, inside, float-inside}
-use Rattle.candidate_laws.proofs.FromZero.{Upto, number, upto-wider, sub-anti, add-upto, mul-upto, one-times-one, power-upto, rest-upto, share}
+use Rattle.float_laws.proofs.FromZero.{Upto, number, upto-wider, sub-anti, add-upto, mul-upto, one-times-one, rest-upto, share}
+use Rattle.candidate_laws.proofs.FromZero.{power-upto}
 
 -- ---- the arguments
 

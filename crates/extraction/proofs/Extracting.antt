@@ -7,15 +7,14 @@ use native.Mathlib.Nat.{min-eq-left}
 use native.Mathlib.Numerals.{add-one}
 use borrow.Author.Tests.{lt-ltb, le-ltb, le-leb, lt-leb}
 use lib.ListN.{getD}
-use Rattle.list_laws.proofs.Built.{listBelow-length, listBelow-at}
+use Rattle.list_laws.proofs.Built.{listBelow-length, listBelow-at, drawn-more}
 use Rattle.model.specs.declared.Distribution.{Distribution}
 use Rattle.model.specs.declared.ParamValue.{ParamValue}
 use Rattle.model.specs.Lists.{allBelow, listBelow}
-use Rattle.model.specs.Draw.{drawn}
+use Rattle.model.specs.Draw.{Drawn, drawn}
 use Rattle.model.specs.Plan.{Setting, planOf, planAt}
 use Rattle.model.specs.Setting.{ofWord, sampleRandom, noSetting, sortByParam, extractOne, extract}
 use Rattle.model.specs.Refusal.{namedOnce, fitsDimension, breedable}
-use Rattle.settings.proofs.Candidates.{drawn-more}
 use Rattle.extraction.specs.declared.Entry.{Entry}
 use Rattle.extraction.specs.Entries.{settingAt, entryAt, entriesOf, fitsAt}
 
@@ -46,7 +45,7 @@ extract-none dims sorted s = refl
 pub extract-more : (dims : ℕ → Distribution) (n : ℕ) (sorted : List Setting) (s : ℕ) (l : List ParamValue) (t : ℕ) (v : ParamValue) (u : ℕ) → drawn l t ≡ extract dims n sorted s
     → drawn v u ≡ extractOne (dims n) sorted n t → drawn (l ++ (v ∷ [])) u ≡ extract dims (n + 1) sorted s
 unfolding extract
-extract-more dims n sorted s l t v u e f = drawn-more (λ a b. a ++ (b ∷ [])) (extractOne (dims n) sorted n) e f ∙ ap (λ (k : ℕ). extract dims k sorted s) (sym (add-one n))
+extract-more dims n sorted s l t v u e f = drawn-more (λ a b. a ++ (b ∷ [])) (λ (d : Drawn (List ParamValue)). extractOne (dims n) sorted n (d .state)) e f ∙ ap (λ (k : ℕ). extract dims k sorted s) (sym (add-one n))
 
 -- ---- refusal 9
 

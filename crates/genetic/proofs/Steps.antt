@@ -8,7 +8,7 @@ use lib.Ieee.{Float, lt}
 use Rattle.model.specs.declared.Distribution.{Distribution}
 use Rattle.model.specs.declared.ParamValue.{ParamValue}
 use Rattle.model.specs.Draw.{Drawn, drawn, drawUsize}
-use Rattle.settings.proofs.Candidates.{drawn-more}
+use Rattle.list_laws.proofs.Built.{drawn-more}
 use Rattle.model.specs.Setting.{Children, children, drawUnit, crossAll, crossover, tournament}
 
 -- ---- crossover
@@ -31,4 +31,4 @@ module _ (dims : ℕ → Distribution) (n : ℕ) (probability : Float) (k : ℕ)
 pub tournament-is : (ranks : ℕ → ℕ) (n s i t j u : ℕ) (b : Bool) → drawn i t ≡ drawUsize n s → drawn j u ≡ drawUsize n t → leb (ranks i) (ranks j) ≡ b → drawn (cond b i j) u ≡ tournament ranks n s
 unfolding tournament
 tournament-is ranks n s i t j u b e f h =
-    ap (λ (c : Bool). drawn (cond c i j) u) (sym h) ∙ drawn-more (λ (x y : ℕ). cond (leb (ranks x) (ranks y)) x y) (drawUsize n) e f
+    ap (λ (c : Bool). drawn (cond c i j) u) (sym h) ∙ drawn-more (λ (x y : ℕ). cond (leb (ranks x) (ranks y)) x y) (λ (d : Drawn ℕ). drawUsize n (d .state)) e f

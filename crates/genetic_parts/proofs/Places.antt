@@ -5,15 +5,14 @@ use Prim.Native.Nat.{ℕ, _+_, _<_}
 use native.Mathlib.Numerals.{add-one}
 use lib.IntN.{pos}
 use lib.Ieee.{Float}
-use Rattle.list_laws.proofs.Built.{listBelow-at}
+use Rattle.list_laws.proofs.Built.{listBelow-at, drawn-more}
 use Rattle.model.specs.declared.Distribution.{Distribution}
 use Rattle.model.specs.declared.ParamValue.{ParamValue}
 use Rattle.model.specs.Real.{_⊘_, unit}
-use Rattle.model.specs.Draw.{drawn}
+use Rattle.model.specs.Draw.{Drawn, drawn}
 use Rattle.model.specs.Setting.{Pair, pair, Children, children, noValue, settingOf, ofWhole, crossOne, crossAll, mutateMaybe, mutateFirst}
 use Rattle.settings.specs.declared.Slot.{Slot}
 use Rattle.settings.specs.Candidate.{slotOf, settingsOf}
-use Rattle.settings.proofs.Candidates.{drawn-more}
 
 pub setting-at : (params : List Slot) (n i : ℕ) → i < n → settingOf (settingsOf params n) i ≡ slotOf params i
 unfolding settingsOf
@@ -30,7 +29,7 @@ pub crossAll-more : (dims : ℕ → Distribution) (n : ℕ) (p q : List ParamVal
     → drawn (children (a ++ (x ∷ [])) (b ++ (y ∷ []))) u ≡ crossAll dims (n + 1) p q k s
 unfolding crossAll
 crossAll-more dims n p q k s a b t x y v w u e ev ew f =
-    drawn-more (λ (c : Children) (r : Pair). children (c .first ++ (r .first ∷ [])) (c .second ++ (r .second ∷ []))) (crossOne (dims n) (settingOf p n) (settingOf q n) k) e
+    drawn-more (λ (c : Children) (r : Pair). children (c .first ++ (r .first ∷ [])) (c .second ++ (r .second ∷ []))) (λ (d : Drawn Children). crossOne (dims n) (settingOf p n) (settingOf q n) k (d .state)) e
     (f ∙ sym (ap₂ (λ (c d : ParamValue). crossOne (dims n) c d k t) ev ew))
     ∙ ap (λ (j : ℕ). crossAll dims j p q k s) (sym (add-one n))
 
@@ -45,6 +44,6 @@ pub mutateFirst-more : (dims : ℕ → Distribution) (n j : ℕ) (c : List Param
     → drawn (l ++ (x ∷ [])) u ≡ mutateFirst dims n (j + 1) c k s
 unfolding mutateFirst
 mutateFirst-more dims n j c k s l t p v x u e ep ev f =
-    drawn-more (λ a b. a ++ (b ∷ [])) (mutateMaybe (unit ⊘ ofWhole (pos n)) (dims j) (settingOf c j) k) e
+    drawn-more (λ a b. a ++ (b ∷ [])) (λ (d : Drawn (List ParamValue)). mutateMaybe (unit ⊘ ofWhole (pos n)) (dims j) (settingOf c j) k (d .state)) e
     (f ∙ ap₂ (λ (z : Float) (y : ParamValue). mutateMaybe z (dims j) y k t) ep (sym ev))
     ∙ ap (λ (i : ℕ). mutateFirst dims n i c k s) (sym (add-one j))

@@ -20,6 +20,7 @@ use Rattle.model.specs.Calls.{Lent, lent, roomOf, SelectExit, wordRequest, answ
 use Rattle.demand3_laws.proofs.Calls.{planAt-row, selects}
 use Rattle.front_cut.specs.declared.Cut.{Cut}
 use Rattle.plan_rows.specs.Filled.{RowsOf}
+use Rattle.plan_rows.proofs.Rows.{rows-values}
 use Rattle.pool_sort.specs.Laid.{RowsIn, OrderIn, Sorts}
 use Rattle.nsga3_laws.specs.Admitted.{Admitted}
 use Rattle.nsga3_laws.proofs.Admitted.{admitted}
@@ -50,7 +51,7 @@ module _ (r : Request) (i : List Float) (k₀ k l₀ l : List ℕ) (s : ℕ) whe
 
 pub rows-in : (r : Request) (n : ℕ) → n ≡ r .count → (old rows : List Float) → r .count * objectives r ≤ length rows
     → RowsOf (r .marks) (r .plans) n old rows → RowsIn r rows
-rows-in r n e old rows h f = record { table = h; values = λ p j a b. f .values p j (omega (arith, e)) b }
+rows-in r n e old rows h f = record { table = h; values = λ p j a b. rows-values (r .marks) (r .plans) n old rows f p j (omega (arith, e)) b }
 
 -- ---- the answer
 

@@ -8,7 +8,7 @@ use lib.Dec.{leb}
 use lib.ListN.{length, getD, set}
 use lib.Seq.{getD-set-same, getD-set-other}
 use Rattle.list_laws.proofs.Bools.{by-bool}
-use Rattle.list_laws.proofs.Built.{listBelow-none, listBelow-more, listBelow-same}
+use Rattle.list_laws.proofs.Built.{listBelow-none, listBelow-more, listBelow-same, drawn-more}
 use Rattle.model.specs.Lists.{listBelow}
 use Rattle.model.specs.declared.Distribution.{Distribution}
 use Rattle.model.specs.declared.ParamValue.{ParamValue}
@@ -25,13 +25,6 @@ pub filled-more : {A B : Type 0} (f : A → B) (z : A) (a : List A) (i : ℕ) (x
 filled-more f z a i x h =
     listBelow-more (λ t. f (getD (set a i x) t z)) i
     ∙ ap₂ (λ l b. l ++ (b ∷ [])) (listBelow-same _ _ i (λ t l. ap f (getD-set-other a i t x z (ne-of-lt l)))) (ap f (getD-set-same a i x z h))
-
--- two draws in turn, and what is made of both values: the second starts at the state that the first left
-pub drawn-more : {A B C : Type 0} (join : A → B → C) (next : ℕ → Drawn B) {c : Drawn A} {a : A} {t : ℕ} {b : B} {u : ℕ} → drawn a t ≡ c → drawn b u ≡ next t
-    → drawn (join a b) u ≡ drawn (join (c .value) (next (c .state) .value)) (next (c .state) .state)
-drawn-more {A} {B} join next {c} {a} e f =
-    ap (λ (d : Drawn B). drawn (join a (d .value)) (d .state)) f
-    ∙ ap (λ (d : Drawn A). drawn (join (d .value) (next (d .state) .value)) (next (d .state) .state)) e
 
 -- ---- a candidate
 
@@ -50,7 +43,7 @@ sampleAll-none dims s = refl
 pub sampleAll-more : (dims : ℕ → Distribution) (n s : ℕ) (l : List ParamValue) (t : ℕ) (v : ParamValue) (u : ℕ) → drawn l t ≡ sampleAll dims n s → drawn v u ≡ sampleRandom (dims n) t
     → drawn (l ++ (v ∷ [])) u ≡ sampleAll dims (n + 1) s
 unfolding sampleAll
-sampleAll-more dims n s l t v u e f = drawn-more (λ a b. a ++ (b ∷ [])) (sampleRandom (dims n)) e f ∙ ap (λ (k : ℕ). sampleAll dims k s) (sym (add-one n))
+sampleAll-more dims n s l t v u e f = drawn-more (λ a b. a ++ (b ∷ [])) (λ (d : Drawn (List ParamValue)). sampleRandom (dims n) (d .state)) e f ∙ ap (λ (k : ℕ). sampleAll dims k s) (sym (add-one n))
 
 -- ---- parents: the winner of a tournament is one of the n
 pub winner-below : (ranks : ℕ → ℕ) (n s : ℕ) → 0 < n → tournament ranks n s .value < n
