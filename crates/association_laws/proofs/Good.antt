@@ -63,7 +63,7 @@ unfolding rowOf planOf
 word-value marks m word few good j l =
     let values : ℕ → Float = λ i. real (word (2 + i)) in
     let row = listBelow values (min (word 1) maxValues) in
-    let n : length row ≡ m = words-accepted m word few good .whole in
+    let n : m ≤ length row = words-accepted m word few good .whole in
     let x = getD row j nan in
     let held = subst (λ y. T (fits binary64 y)) (sym (listBelow-at values (min (word 1) maxValues) nan j (omega (arith, listBelow-length values (min (word 1) maxValues))))) (ofBits-fits binary64 (word (2 + j))) in
     real-toMinimize (directionOf (getD marks j 0)) x (real-of x held (allIn-each measurable nan row (good-values m (planOf word) good) j (omega arith)))

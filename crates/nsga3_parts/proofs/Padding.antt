@@ -22,7 +22,7 @@ module _ (n s : ℕ) (old : List ℕ) (j : ℕ) (out : List ℕ) (t : ℕ) (h : 
   next : drawn (padding n j s .value ++ (r ∷ [])) u ≡ padding n (j + 1) s
   unfolding padding
   next =
-      drawn-more (λ a b. a ++ (b ∷ [])) (λ (d : Drawn (List ℕ)). drawUsize n (d .state)) refl (e ∙ ap (drawUsize n) (h .state))
+      drawn-more (λ a b. a ++ (b ∷ [])) (λ (d : Drawn (List ℕ)). drawUsize n (d .state)) {a = padding n j s .value} refl (e ∙ ap (drawUsize n) (h .state))
       ∙ ap (λ k. padding n k s) (sym (add-one j))
 
   pub padded-more : Padded n s old (j + 1) (set out j r) u
