@@ -97,20 +97,50 @@ fn exponent(eta: f64) -> u64 {
     0
 }
 
+// What an operator takes: the exponent of its eta, and a candidate with its dimensions, of which and of whose settings the first `count` count.
+struct Operand {
+    k: u64,
+    count: usize,
+    dims: [DimensionInfo; 32],
+    params: [Slot; 32],
+    next: usize,
+}
+
+// The operand whose eta stands at `at`, and the place after it; there is no exponent where there are more than 32 dimensions.
+fn read_operand(input: &Words, at: usize) -> Operand
+    requires { ⌜ at ≤ 3 ⌝ }
+    ensures { λ r. ⌜ (r .count ≤ 32) × (r .next ≤ 8193) ⌝ }
+{
+    let n = replay::word(input, at + 1) as usize;
+    let count = replay_values::least(n, 32);
+    let read = replay_values::read_dimensions(input, at + 2, count);
+    let dims = read.dims;
+    let settings = replay_values::read_settings(input, read.next, count);
+    let params = settings.params;
+    let k = if n == count {
+        exponent(replay_values::real_at(input, at))
+    } else {
+        0
+    };
+    Operand {
+        k,
+        count,
+        dims,
+        params,
+        next: settings.next,
+    }
+}
+
 // 82: the children of two parents.
 fn crossover(input: &Words, n: usize, out: &mut Words) -> usize {
-    let k = exponent(replay_values::real_at(input, 3));
-    let count = replay::word(input, 4) as usize;
-    if k == 0 || 32 < count {
-        return 0;
-    }
-    let read = replay_values::read_dimensions(input, 5, count);
-    let dims = read.dims;
-    let first = replay_values::read_settings(input, read.next, count);
+    let first = read_operand(input, 3);
+    let count = first.count;
+    let dims = first.dims;
     let p = first.params;
+    let k = first.k;
     let second = replay_values::read_settings(input, first.next, count);
     let q = second.params;
-    if second.next != n {
+    if k == 0 || second.next != n {
         return 0;
     }
     let s = replay::word(input, 1);
@@ -162,20 +192,15 @@ fn put_mutant(
 
 // 84
 fn mutate(input: &Words, n: usize, out: &mut Words) -> usize {
-    let k = exponent(replay_values::real_at(input, 2));
-    let count = replay::word(input, 3) as usize;
-    if k == 0 || 32 < count {
-        return 0;
-    }
-    let read = replay_values::read_dimensions(input, 4, count);
+    let read = read_operand(input, 2);
     let dims = read.dims;
-    let old = replay_values::read_settings(input, read.next, count);
-    let params = old.params;
-    if old.next != n {
+    let params = read.params;
+    let k = read.k;
+    if k == 0 || read.next != n {
         return 0;
     }
     let s = replay::word(input, 1);
-    put_mutant(dims, count, params, k, Rng { s }, out)
+    put_mutant(dims, read.count, params, k, Rng { s }, out)
 }
 
 // 85: a real mutated.
@@ -227,8 +252,7 @@ fn tournament(input: &Words, n: usize, out: &mut Words) -> usize {
     let s = replay::word(input, 1);
     let drawn = winner(&ranks, count, Rng { s });
     let rng = drawn.rng;
-    let place = replay::put(out, 0, drawn.value as u64);
-    replay::put(out, place, rng.s)
+    replay_values::put_two(out, 0, drawn.value as u64, rng.s)
 }
 
 // ---- the generation step
@@ -335,13 +359,12 @@ fn put_step(
     if 1024 < size {
         return 0;
     }
-    let first = replay::put(out, 0, 0);
-    let second = replay::put(out, first, n as u64);
-    let third = replay_values::put_places(out, second, kept, n);
-    let fourth = replay_values::put_reals(out, third, ideal, call.m);
-    let fifth = replay::put(out, fourth, size as u64);
-    let sixth = replay_values::put_candidates(out, fifth, offspring, size, dims, n_dims);
-    replay::put(out, sixth, state)
+    let first = replay_values::put_two(out, 0, 0, n as u64);
+    let second = replay_values::put_places(out, first, kept, n);
+    let third = replay_values::put_reals(out, second, ideal, call.m);
+    let fourth = replay::put(out, third, size as u64);
+    let fifth = replay_values::put_candidates(out, fourth, offspring, size, dims, n_dims);
+    replay::put(out, fifth, state)
 }
 
 // The answer of a call with slices that are short in the way given; the ideal stands at `at`.

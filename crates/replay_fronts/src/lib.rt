@@ -178,36 +178,42 @@ fn first_beats_constrained(rows: &Rows, m: usize, flags: &Flags, sums: &Sums) ->
     replay_values::as_word(domination::constrained_dominates(rows, m, flags, sums, 0, 1))
 }
 
-// 30: two rows.
-fn dominance(input: &Words, n: usize, m: usize, out: &mut Words) -> usize
+// 31 after its rows: the constraints of the first and of the second, from `at` on.
+fn constrained_dominance(
+    input: &Words,
+    n: usize,
+    at: usize,
+    m: usize,
+    rows: &Rows,
+    out: &mut Words,
+) -> usize
+    requires { ⌜ (at ≤ 8193) × (m ≤ 8) ⌝ }
+{
+    let mut flags = [true; 1024];
+    let mut sums = [0.0; 1024];
+    let second = read_constraints(input, at, 0, &mut flags, &mut sums);
+    let place = read_constraints(input, second, 1, &mut flags, &mut sums);
+    if place != n {
+        return 0;
+    }
+    replay::put(out, 0, first_beats_constrained(rows, m, &flags, &sums))
+}
+
+// 30 and 31: two rows.
+fn dominance(input: &Words, n: usize, m: usize, constrained: bool, out: &mut Words) -> usize
     requires { ⌜ m ≤ 8 ⌝ }
 {
     let mut marks = [0u8; 16];
     replay_values::read_marks(input, 2, m, &mut marks);
     let mut rows = [0.0; 8192];
     let place = read_rows(input, m + 2, m, 2, &marks, &mut rows);
+    if constrained {
+        return constrained_dominance(input, n, place, m, &rows, out);
+    }
     if place != n {
         return 0;
     }
     replay::put(out, 0, first_beats(&rows, m))
-}
-
-// 31: two rows, then the constraints of the first and of the second.
-fn constrained_dominance(input: &Words, n: usize, m: usize, out: &mut Words) -> usize
-    requires { ⌜ m ≤ 8 ⌝ }
-{
-    let mut marks = [0u8; 16];
-    replay_values::read_marks(input, 2, m, &mut marks);
-    let mut rows = [0.0; 8192];
-    let second = read_rows(input, m + 2, m, 2, &marks, &mut rows);
-    let mut flags = [true; 1024];
-    let mut sums = [0.0; 1024];
-    let third = read_constraints(input, second, 0, &mut flags, &mut sums);
-    let place = read_constraints(input, third, 1, &mut flags, &mut sums);
-    if place != n {
-        return 0;
-    }
-    replay::put(out, 0, first_beats_constrained(&rows, m, &flags, &sums))
 }
 
 // The first m values in minimise-space.
@@ -379,8 +385,8 @@ pub fn answer(input: &Words, n: usize, out: &mut Words) -> usize {
         return 0;
     }
     match command {
-        30 => dominance(input, n, m, out),
-        31 => constrained_dominance(input, n, m, out),
+        30 => dominance(input, n, m, false, out),
+        31 => dominance(input, n, m, true, out),
         32 => minimize_space(input, n, m, out),
         40 => fronts(input, n, m, false, out),
         41 => fronts(input, n, m, true, out),

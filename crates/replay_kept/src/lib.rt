@@ -74,13 +74,12 @@ fn put_selection(
     state: u64,
     out: &mut Words,
 ) -> usize {
-    let first = replay::put(out, 0, 0);
-    let second = replay::put(out, first, size as u64);
-    let third = replay_values::put_places(out, second, kept, size);
-    let fourth = replay_values::put_places(out, third, fronts, n);
-    let fifth = replay_values::put_places(out, fourth, lines, n);
-    let sixth = replay_values::put_reals(out, fifth, ideal, m);
-    replay::put(out, sixth, state)
+    let first = replay_values::put_two(out, 0, 0, size as u64);
+    let second = replay_values::put_places(out, first, kept, size);
+    let third = replay_values::put_places(out, second, fronts, n);
+    let fourth = replay_values::put_places(out, third, lines, n);
+    let fifth = replay_values::put_reals(out, fourth, ideal, m);
+    replay::put(out, fifth, state)
 }
 
 // The answer of a call with slices that are short in the way given.

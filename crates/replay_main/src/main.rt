@@ -118,7 +118,7 @@ fn number(n: u64, label: &[u8]) {
     io::write_all(STDOUT_FILENO, label);
 }
 
-// A record's line.
+// A line of a tally.
 fn tell(record: &[u8], t: Tally) {
     io::write_all(STDOUT_FILENO, record);
     number(t.agree, b" agree, ");
@@ -127,20 +127,32 @@ fn tell(record: &[u8], t: Tally) {
     number(t.broken, b" broken\n");
 }
 
+// A record's line.
+fn tell_of(record: usize, t: Tally) {
+    match record {
+        0 => tell(b"draw: ", t),
+        1 => tell(b"numbers: ", t),
+        2 => tell(b"dominance: ", t),
+        3 => tell(b"fronts: ", t),
+        4 => tell(b"reference: ", t),
+        5 => tell(b"tables: ", t),
+        6 => tell(b"association: ", t),
+        7 => tell(b"kept: ", t),
+        8 => tell(b"breeding: ", t),
+        9 => tell(b"session: ", t),
+        10 => tell(b"choose: ", t),
+        _ => tell(b"no record: ", t),
+    }
+}
+
 fn report(tallies: Tallies) {
-    let t = tallies.of;
-    tell(b"draw: ", t[0]);
-    tell(b"numbers: ", t[1]);
-    tell(b"dominance: ", t[2]);
-    tell(b"fronts: ", t[3]);
-    tell(b"reference: ", t[4]);
-    tell(b"tables: ", t[5]);
-    tell(b"association: ", t[6]);
-    tell(b"kept: ", t[7]);
-    tell(b"breeding: ", t[8]);
-    tell(b"session: ", t[9]);
-    tell(b"choose: ", t[10]);
-    tell(b"no record: ", t[11]);
+    let of = tallies.of;
+    let mut r: usize = 0;
+    while r < 12 {
+        let t = of[r];
+        tell_of(r, t);
+        r += 1;
+    }
 }
 
 // Reads as much as there is and tells the tallies.

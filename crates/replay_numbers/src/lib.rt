@@ -19,8 +19,7 @@ fn put_real(out: &mut Words, x: f64) -> usize {
 
 // A value and the generator's state after it.
 fn put_drawn(out: &mut Words, value: u64, rng: Rng) -> usize {
-    let at = replay::put(out, 0, value);
-    replay::put(out, at, rng.s)
+    replay_values::put_two(out, 0, value, rng.s)
 }
 
 // 10: the next words.
@@ -74,25 +73,20 @@ fn range(s: u64, low: f64, high: f64, out: &mut Words) -> usize {
     put_drawn(out, real::word_of_real(d.value), d.rng)
 }
 
-// 20 and 21 take k from 1 to 100.
-fn power(y: f64, k: u64, out: &mut Words) -> usize {
+// 20, the power, and 21, the root, take k from 1 to 100.
+fn powered(command: u64, x: f64, k: u64, out: &mut Words) -> usize {
     if k < 1 {
         return 0;
     }
     if 100 < k {
         return 0;
     }
-    put_real(out, powers::power(y, k))
-}
-
-fn root(v: f64, k: u64, out: &mut Words) -> usize {
-    if k < 1 {
-        return 0;
-    }
-    if 100 < k {
-        return 0;
-    }
-    put_real(out, powers::root(v, k))
+    let y = if command == 20 {
+        powers::power(x, k)
+    } else {
+        powers::root(x, k)
+    };
+    put_real(out, y)
 }
 
 fn draws(input: &Words, command: u64, out: &mut Words) -> usize {
@@ -114,8 +108,7 @@ fn numbers(input: &Words, command: u64, out: &mut Words) -> usize {
     let y = replay_values::real_at(input, 2);
     let k = replay::word(input, 2);
     match command {
-        20 => power(x, k, out),
-        21 => root(x, k, out),
+        20 | 21 => powered(command, x, k, out),
         22 => put_real(out, square_root::sqrt(x)),
         23 => put_real(out, real::round(x)),
         24 => put_real(out, real::midpoint(x, y)),

@@ -16,20 +16,6 @@ pub fn fill_table(m: usize, h: usize, table: &mut Table) -> usize
     das_dennis::das_dennis(m, h, table)
 }
 
-// 50: the table, of divisions that are not refused.
-fn table(m: usize, h: usize, out: &mut Words) -> usize
-    requires { ⌜ (1 ≤ m) × (m ≤ 8) ⌝ }
-{
-    let mut table = [0.0; 8192];
-    let lines = fill_table(m, h, &mut table);
-    if lines == 0 {
-        return 0;
-    }
-    let first = replay::put(out, 0, lines as u64);
-    let second = replay::put(out, first, m as u64);
-    put_table(out, second, &table, lines * m)
-}
-
 fn put_table(out: &mut Words, at: usize, table: &Table, k: usize) -> usize {
     replay_values::put_reals(out, at, table, k)
 }
@@ -48,8 +34,8 @@ fn digest(table: &Table, n: usize) -> u64
     d
 }
 
-// 54: how many lines the table has and its digest, of divisions that are not refused.
-fn table_digest(m: usize, h: usize, out: &mut Words) -> usize
+// 50 and 54, of divisions that are not refused: how many lines the table has, then m and the table, or its digest.
+fn table(m: usize, h: usize, digested: bool, out: &mut Words) -> usize
     requires { ⌜ (1 ≤ m) × (m ≤ 8) ⌝ }
 {
     let mut table = [0.0; 8192];
@@ -57,8 +43,12 @@ fn table_digest(m: usize, h: usize, out: &mut Words) -> usize
     if lines == 0 {
         return 0;
     }
-    let first = replay::put(out, 0, lines as u64);
-    replay::put(out, first, digest(&table, lines * m))
+    let k = lines * m;
+    if digested {
+        return replay_values::put_two(out, 0, lines as u64, digest(&table, k));
+    }
+    let place = replay_values::put_two(out, 0, lines as u64, m as u64);
+    put_table(out, place, &table, k)
 }
 
 // 51
@@ -148,10 +138,10 @@ fn of_two(command: u64, m: usize, x: usize, out: &mut Words) -> usize {
         return 0;
     }
     match command {
-        50 => table(m, x, out),
+        50 => table(m, x, false, out),
         51 => automatic(m, x, out),
         52 => count(m, x, out),
-        54 => table_digest(m, x, out),
+        54 => table(m, x, true, out),
         _ => 0,
     }
 }

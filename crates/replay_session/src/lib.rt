@@ -26,32 +26,6 @@ ghost use Rattle.session_calls.specs.Usable.{usableBy};
 
 // ---- the calls of `sample`
 
-// A call whose lent slices are too short.
-fn called_short(
-    session: Session,
-    distribution: Distribution,
-    plan: u64,
-    history: &History,
-    n: usize,
-    candidates: &mut [u64; 65535],
-    plans: &mut Numbers,
-    next_dims: &mut [usize; 2047],
-) -> Sampled
-    requires { ⌜ ((cs ps ns : List ℕ) → longEnough (state session cs ps ns) ≡ false → SessionOk (state session cs ps ns)) ⌝ }
-    requires { ⌜ n ≤ 4097 ⌝ }
-{
-    session_calls::sampled(
-        session,
-        distribution,
-        plan,
-        history,
-        n,
-        candidates,
-        plans,
-        next_dims,
-    )
-}
-
 // Slices of their own are lent: candidates and next dimensions each one place short, and the generation's plan numbers.
 fn tried_short(
     session: Session,
@@ -67,7 +41,7 @@ fn tried_short(
     let mut candidates = [0u64; 65535];
     let mut plans = numbers;
     let mut next_dims = [0usize; 2047];
-    called_short(
+    session_calls::sampled(
         session,
         distribution,
         plan,
@@ -101,14 +75,8 @@ fn active(phase: Phase) -> bool {
 // A mark and a number: 0 0 for none.
 fn put_option(out: &mut Words, at: usize, x: OptionU64) -> usize {
     match x {
-        OptionU64::None => {
-            let place = replay::put(out, at, 0);
-            replay::put(out, place, 0)
-        }
-        OptionU64::Some(n) => {
-            let place = replay::put(out, at, 1);
-            replay::put(out, place, n)
-        }
+        OptionU64::None => replay_values::put_two(out, at, 0, 0),
+        OptionU64::Some(n) => replay_values::put_two(out, at, 1, n),
     }
 }
 
@@ -133,8 +101,7 @@ fn put_plans(out: &mut Words, at: usize, plans: &Numbers, next_dims: &NextDims, 
     let mut i: usize = 0;
     while i < n {
         if i < 2048 {
-            let number = replay::put(out, place, plans[i]);
-            place = replay::put(out, number, next_dims[i] as u64);
+            place = replay_values::put_two(out, place, plans[i], next_dims[i] as u64);
         }
         i += 1;
     }
@@ -165,6 +132,15 @@ fn put_ideal(out: &mut Words, at: usize, ideal: [f64; 8], m: usize) -> usize {
     replay_values::put_reals(out, place, &ideal, m)
 }
 
+// What discovery has found: whether it is over, the first plan, and the dimensions.
+fn put_found(out: &mut Words, at: usize, active: bool, session: Session, n: usize) -> usize {
+    let first = session.discovery_trial_id;
+    let dims = session.dimensions;
+    let mark = replay::put(out, at, replay_values::as_word(active));
+    let place = put_option(out, mark, first);
+    put_dimensions(out, place, dims, n)
+}
+
 // The rest of the state. In discovery the Rust has settled neither the size nor the ideal.
 fn put_full(
     out: &mut Words,
@@ -174,7 +150,6 @@ fn put_full(
     plans: &Numbers,
     next_dims: &NextDims,
 ) -> usize {
-    let first = session.discovery_trial_id;
     let dims = session.dimensions;
     let ideal = session.ideal_point;
     let progress = session.progress;
@@ -183,38 +158,31 @@ fn put_full(
     let settled = active(phase);
     let size = if settled { config.population_size } else { 0 };
     let m = if settled { config.n_obj } else { 0 };
+    let n_dims = progress.n_dims;
     let n = progress.n_plans;
-    let a = replay::put(out, at, replay_values::as_word(settled));
-    let b = put_option(out, a, first);
-    let c = put_dimensions(out, b, dims, progress.n_dims);
-    let d = replay::put(out, c, size as u64);
-    let e = replay::put(out, d, n as u64);
-    let f = put_plans(out, e, plans, next_dims, n);
-    let g = put_candidates(
-        out,
-        f,
-        candidates,
-        progress.n_candidates,
-        dims,
-        progress.n_dims,
-    );
-    put_ideal(out, g, ideal, m)
+    let a = put_found(out, at, settled, session, n_dims);
+    let b = replay_values::put_two(out, a, size as u64, n as u64);
+    let c = put_plans(out, b, plans, next_dims, n);
+    let d = put_candidates(out, c, candidates, progress.n_candidates, dims, n_dims);
+    put_ideal(out, d, ideal, m)
 }
 
-// Generator, generation and number of plans; with `full` the rest too.
-fn put_state(
+// The answer of a call: its outcome, then generator, generation and number of plans; with `full` the rest too.
+fn put_answer(
     out: &mut Words,
     at: usize,
-    session: Session,
+    r: Sampled,
     full: bool,
     candidates: &Candidates,
     plans: &Numbers,
     next_dims: &NextDims,
 ) -> usize {
+    let outcome = r.outcome;
+    let session = r.session;
     let rng = session.rng;
     let progress = session.progress;
-    let a = replay::put(out, at, rng.s);
-    let b = replay::put(out, a, progress.generation);
+    let a = put_outcome(out, at, outcome);
+    let b = replay_values::put_two(out, a, rng.s, progress.generation);
     let c = replay::put(out, b, progress.n_plans as u64);
     if full {
         return put_full(out, c, session, candidates, plans, next_dims);
@@ -265,26 +233,47 @@ fn take_history(
     Taken { next, held }
 }
 
-// Where a replay stands: the session, the next place of the line, the place of the answer, and how many records the history has.
+// Where a replay stands: the session, the next place of the line, and the place of the answer.
 struct Stand {
     session: Session,
     next: usize,
     put: usize,
-    held: usize,
 }
 
-// What a line says of a call besides its history.
+// What a line says of a call, how many records its history has, and the place after it.
 struct Asked {
     times: u64,
     plan: u64,
     distribution: Distribution,
     short: bool,
     full: bool,
+    held: usize,
+    next: usize,
+}
+
+// A call that is to be short, and its answer.
+fn answer_short(
+    session: Session,
+    put: usize,
+    asked: Asked,
+    history: &History,
+    candidates: &Candidates,
+    plans: &Numbers,
+    next_dims: &NextDims,
+    out: &mut Words,
+) -> usize
+    requires { ⌜ ((cs ps ns : List ℕ) → longEnough (state session cs ps ns) ≡ false → SessionOk (state session cs ps ns)) ⌝ }
+    requires { ⌜ asked .held ≤ 4097 ⌝ }
+{
+    let d = asked.distribution;
+    let r = tried_short(session, d, asked.plan, history, asked.held, *plans);
+    put_answer(out, put, r, asked.full, candidates, plans, next_dims)
 }
 
 // Makes a call and writes its answer. One that is to be short leaves the session as it was.
 fn answer_call(
-    stand: Stand,
+    session: Session,
+    put: usize,
     asked: Asked,
     history: &History,
     candidates: &mut Candidates,
@@ -292,61 +281,46 @@ fn answer_call(
     next_dims: &mut NextDims,
     out: &mut Words,
 ) -> Stand
-    requires { ⌜ SessionOk (state (stand .session) (now candidates) (now plans) (now «next_dims»)) ⌝ }
-    requires { ⌜ (stand .held ≤ 4097) × (stand .next ≤ 8193) ⌝ }
+    requires { ⌜ SessionOk (state session (now candidates) (now plans) (now «next_dims»)) ⌝ }
+    requires { ⌜ (asked .held ≤ 4097) × (asked .next ≤ 8193) ⌝ }
     ensures { λ r. ⌜ SessionOk (state (r .session) (now (candidates .exit)) (now (plans .exit)) (now («next_dims» .exit))) ⌝ }
-    ensures { λ r. ⌜ (r .held ≤ 4097) × (r .next ≤ 8193) ⌝ }
+    ensures { λ r. ⌜ r .next ≤ 8193 ⌝ }
 {
-    let session = stand.session;
-    let d = asked.distribution;
-    let held = stand.held;
-    let next = stand.next;
+    let next = asked.next;
     if asked.short {
-        let r = tried_short(session, d, asked.plan, history, held, *plans);
-        let outcome = r.outcome;
-        let after = r.session;
-        let a = put_outcome(out, stand.put, outcome);
-        let put = put_state(out, a, after, asked.full, candidates, plans, next_dims);
-        return Stand {
+        let put = answer_short(
             session,
-            next,
             put,
-            held,
-        };
+            asked,
+            history,
+            candidates,
+            plans,
+            next_dims,
+            out,
+        );
+        return Stand { session, next, put };
     }
+    let d = asked.distribution;
     let r = session_calls::repeated(
         session,
         d,
         asked.plan,
         asked.times,
         history,
-        held,
+        asked.held,
         candidates,
         plans,
         next_dims,
     );
-    let outcome = r.outcome;
     let session = r.session;
-    let a = put_outcome(out, stand.put, outcome);
-    let put = put_state(out, a, session, asked.full, candidates, plans, next_dims);
-    Stand {
-        session,
-        next,
-        put,
-        held,
-    }
+    let put = put_answer(out, put, r, asked.full, candidates, plans, next_dims);
+    Stand { session, next, put }
 }
 
-// What is read of a call: the call, the place after it, and its history's length.
-struct ReadCall {
-    asked: Asked,
-    next: usize,
-    held: usize,
-}
-
-fn read_call(input: &Words, at: usize, history: &mut History) -> ReadCall
+// The call at a place, with its history.
+fn read_call(input: &Words, at: usize, history: &mut History) -> Asked
     requires { ⌜ at ≤ 8193 ⌝ }
-    ensures { λ r. ⌜ (r .next ≤ 8193) × (r .held ≤ 4097) ⌝ }
+    ensures { λ r. ⌜ (r .held ≤ 4097) × (r .next ≤ 8193) ⌝ }
 {
     let times = replay::word(input, at);
     let plan = replay::word(input, at + 1);
@@ -359,17 +333,14 @@ fn read_call(input: &Words, at: usize, history: &mut History) -> ReadCall
     let count = replay::word(input, place + 3) as usize;
     let taken = take_history(input, replay::ahead(place, 4), keep, copies, count, history);
     let full = replay::word(input, taken.next) == 1;
-    let asked = Asked {
+    Asked {
         times,
         plan,
         distribution,
         short,
         full,
-    };
-    ReadCall {
-        asked,
-        next: replay::ahead(taken.next, 1),
         held: taken.held,
+        next: replay::ahead(taken.next, 1),
     }
 }
 
@@ -384,20 +355,22 @@ fn next_call(
     out: &mut Words,
 ) -> Stand
     requires { ⌜ SessionOk (state (stand .session) (now candidates) (now plans) (now «next_dims»)) ⌝ }
-    requires { ⌜ (stand .held ≤ 4097) × (stand .next ≤ 8193) ⌝ }
+    requires { ⌜ stand .next ≤ 8193 ⌝ }
     ensures { λ r. ⌜ SessionOk (state (r .session) (now (candidates .exit)) (now (plans .exit)) (now («next_dims» .exit))) ⌝ }
-    ensures { λ r. ⌜ (r .held ≤ 4097) × (r .next ≤ 8193) ⌝ }
+    ensures { λ r. ⌜ r .next ≤ 8193 ⌝ }
 {
-    let read = read_call(input, stand.next, history);
-    let asked = read.asked;
+    let asked = read_call(input, stand.next, history);
     let session = stand.session;
-    let now = Stand {
+    answer_call(
         session,
-        next: read.next,
-        put: stand.put,
-        held: read.held,
-    };
-    answer_call(now, asked, history, candidates, plans, next_dims, out)
+        stand.put,
+        asked,
+        history,
+        candidates,
+        plans,
+        next_dims,
+        out,
+    )
 }
 
 // The calls of a line of n numbers; how many numbers the answer has.
@@ -414,7 +387,6 @@ fn calls(input: &Words, n: usize, at: usize, count: u64, session: Session, out: 
         session,
         next: at,
         put,
-        held: 0,
     };
     let mut i: u64 = 0;
     while i < count {

@@ -85,6 +85,14 @@ pub fn read_reals(input: &Words, at: usize, k: usize, reals: &mut Reals)
     }
 }
 
+// Two numbers, one after the other.
+pub fn put_two(out: &mut Words, at: usize, a: u64, b: u64) -> usize
+    ensures { λ r. ⌜ r ≤ 8193 ⌝ }
+{
+    let place = replay::put(out, at, a);
+    replay::put(out, place, b)
+}
+
 pub fn put_real(out: &mut Words, at: usize, x: f64) -> usize
     ensures { λ r. ⌜ r ≤ 8193 ⌝ }
 {
@@ -244,18 +252,9 @@ fn float_step(input: &Words, at: usize) -> OptionF64
     OptionF64::Some(real_at(input, at + 1))
 }
 
-fn int_step(input: &Words, at: usize) -> OptionI64
-    requires { ⌜ at ≤ 9000 ⌝ }
-{
-    if replay::word(input, at) == 0 {
-        return OptionI64::None;
-    }
-    OptionI64::Some(int_at(input, at + 1))
-}
-
-// The Int step of the short form, where 0 stands for none.
-fn short_step(input: &Words, at: usize) -> OptionI64 {
-    if replay::word(input, at) == 0 {
+// An Int's step, which stands at `at` where the number at `mark` is not 0; in the short form the two are one place.
+fn int_step(input: &Words, mark: usize, at: usize) -> OptionI64 {
+    if replay::word(input, mark) == 0 {
         return OptionI64::None;
     }
     OptionI64::Some(int_at(input, at))
@@ -274,27 +273,27 @@ pub fn read_dimension(input: &Words, at: usize) -> ReadDimension
     ensures { λ r. ⌜ r .next ≤ 8193 ⌝ }
 {
     let form = replay::word(input, at);
-    if form == 0 {
-        return read(float(input, at, false, OptionF64::None), at, 3);
-    }
-    if form == 1 {
-        return read(int(input, at, false, short_step(input, at + 3)), at, 4);
-    }
-    if form == 2 {
-        return read(categorical(replay::word(input, at + 1) as usize), at, 2);
-    }
     let log_scale = replay::word(input, at + 3) == 1;
-    if form == 3 {
-        return read(
+    match form {
+        0 => read(float(input, at, false, OptionF64::None), at, 3),
+        1 => read(
+            int(input, at, false, int_step(input, at + 3, at + 3)),
+            at,
+            4,
+        ),
+        2 => read(categorical(replay::word(input, at + 1) as usize), at, 2),
+        3 => read(
             float(input, at, log_scale, float_step(input, at + 4)),
             at,
             6,
-        );
+        ),
+        4 => read(
+            int(input, at, log_scale, int_step(input, at + 4, at + 5)),
+            at,
+            6,
+        ),
+        _ => read(categorical(0), 8193, 0),
     }
-    if form == 4 {
-        return read(int(input, at, log_scale, int_step(input, at + 4)), at, 6);
-    }
-    read(categorical(0), 8193, 0)
 }
 
 fn blank_dimensions() -> [DimensionInfo; 32] {
@@ -326,8 +325,7 @@ pub fn read_dimensions(input: &Words, at: usize, n: usize) -> ReadDimensions
 fn put_float(out: &mut Words, at: usize, d: FloatDistribution) -> usize
     ensures { λ r. ⌜ r ≤ 8193 ⌝ }
 {
-    let form = replay::put(out, at, 0);
-    let low = put_real(out, form, d.low);
+    let low = put_two(out, at, 0, real::word_of_real(d.low));
     put_real(out, low, d.high)
 }
 
@@ -335,13 +333,12 @@ fn put_int(out: &mut Words, at: usize, d: IntDistribution) -> usize
     ensures { λ r. ⌜ r ≤ 8193 ⌝ }
 {
     let step = d.step;
-    let form = replay::put(out, at, 1);
-    let low = replay::put(out, form, real::word_of_int(d.low));
-    let high = replay::put(out, low, real::word_of_int(d.high));
-    match step {
-        OptionI64::None => replay::put(out, high, 0),
-        OptionI64::Some(n) => replay::put(out, high, real::word_of_int(n)),
-    }
+    let last = match step {
+        OptionI64::None => 0,
+        OptionI64::Some(n) => real::word_of_int(n),
+    };
+    let low = put_two(out, at, 1, real::word_of_int(d.low));
+    put_two(out, low, real::word_of_int(d.high), last)
 }
 
 // A dimension in its short form.
@@ -351,10 +348,7 @@ pub fn put_dimension(out: &mut Words, at: usize, d: Distribution) -> usize
     match d {
         Distribution::Float(f) => put_float(out, at, f),
         Distribution::Int(i) => put_int(out, at, i),
-        Distribution::Categorical(c) => {
-            let form = replay::put(out, at, 2);
-            replay::put(out, form, c.n_choices as u64)
-        }
+        Distribution::Categorical(c) => put_two(out, at, 2, c.n_choices as u64),
     }
 }
 
@@ -400,8 +394,7 @@ fn kind_of(v: ParamValue) -> u64 {
 pub fn put_setting(out: &mut Words, at: usize, v: ParamValue) -> usize
     ensures { λ r. ⌜ r ≤ 8193 ⌝ }
 {
-    let kind = replay::put(out, at, kind_of(v));
-    replay::put(out, kind, settings::to_word(v))
+    put_two(out, at, kind_of(v), settings::to_word(v))
 }
 
 // The first n settings of a candidate.
@@ -439,8 +432,12 @@ fn put_candidate(
     while i < n {
         let info = dims[i];
         let d = info.distribution;
-        let kind = replay::put(out, place, settings::kind_of_dimension(d));
-        place = replay::put(out, kind, word_of(words, from + i));
+        place = put_two(
+            out,
+            place,
+            settings::kind_of_dimension(d),
+            word_of(words, from + i),
+        );
         i += 1;
     }
     place

@@ -11,10 +11,10 @@ add-word-2 : tie.Need-add-word-2
 add-word-2 c = search needs
 
 word-requires : tie.Need-word-requires
-word-requires c κs = search needs
+word-requires c κs = tt
 
 returns : tie.Need-returns
-returns c = search needs
+returns c = tt
 
 values-of-requires : tie.Need-values-of-requires
 values-of-requires c κs = mul-le-mul (c .if1 .left) (c .before .before .pre .1)
@@ -32,7 +32,7 @@ read-rows-requires : tie.Need-read-rows-requires
 read-rows-requires c κs = search needs
 
 returns-2 : tie.Need-returns-2
-returns-2 c = search needs
+returns-2 c = tt
 
 add-read-reals : tie.Need-add-read-reals
 add-read-reals c = search needs
@@ -44,7 +44,7 @@ put-normalized-requires : tie.Need-put-normalized-requires
 put-normalized-requires c κs = search needs
 
 returns-3 : tie.Need-returns-3
-returns-3 c = search needs
+returns-3 c = tt
 
 pub normalize-spec : {M : Type 1} → statement M
 normalize-spec =

@@ -20,7 +20,7 @@ element-copy-out-put : tie.Need-element-copy-out-put Inv-loop μ-loop
 element-copy-out-put c = search needs
 
 put-requires : tie.Need-put-requires Inv-loop μ-loop
-put-requires c κs = search needs
+put-requires c κs = tt
 
 mul-put-real : tie.Need-mul-put-real Inv-loop μ-loop
 mul-put-real c = search needs
@@ -29,7 +29,7 @@ element-copy-out-put-real : tie.Need-element-copy-out-put-real Inv-loop μ-loop
 element-copy-out-put-real c = search needs
 
 put-real-requires : tie.Need-put-real-requires Inv-loop μ-loop
-put-real-requires c κs = search needs
+put-real-requires c κs = tt
 
 add-i : tie.Need-add-i Inv-loop μ-loop
 add-i c = search needs
@@ -41,7 +41,7 @@ loop-again : tie.Need-loop-again Inv-loop μ-loop
 loop-again c = search needs
 
 returns : tie.Need-returns Inv-loop μ-loop
-returns c = search needs
+returns c = tt
 
 pub put-nearest-spec : {M : Type 1} → statement M
 put-nearest-spec =

@@ -8,7 +8,7 @@ bad-dimensions-requires : tie.Need-bad-dimensions-requires
 bad-dimensions-requires c κs = search needs
 
 returns : tie.Need-returns
-returns c = search needs
+returns c = tt
 
 extract-requires : tie.Need-extract-requires
 extract-requires c κs = (search needs, sym (c .before .before .bad-dimensions .ensures) ∙ c .before .if1 .left)
@@ -17,7 +17,7 @@ put-candidate-requires : tie.Need-put-candidate-requires
 put-candidate-requires c κs = search needs
 
 returns-2 : tie.Need-returns-2
-returns-2 c = search needs
+returns-2 c = tt
 
 pub put-extract-spec : {M : Type 1} → statement M
 put-extract-spec =

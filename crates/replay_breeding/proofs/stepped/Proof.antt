@@ -17,41 +17,41 @@ slice-aggregate-nsga3-generate-offspring-2 c = sym (length-take-le _ _ (omega ar
 
 slice-relend-prefix-nsga3-generate-offspring :
     tie.Need-slice-relend-prefix-nsga3-generate-offspring
-slice-relend-prefix-nsga3-generate-offspring c = search needs
+slice-relend-prefix-nsga3-generate-offspring c = omega arith
 
 slice-aggregate-nsga3-generate-offspring-3 : tie.Need-slice-aggregate-nsga3-generate-offspring-3
 slice-aggregate-nsga3-generate-offspring-3 c = sym (length-take-le _ _ (omega arith))
 
 slice-relend-prefix-nsga3-generate-offspring-2 :
     tie.Need-slice-relend-prefix-nsga3-generate-offspring-2
-slice-relend-prefix-nsga3-generate-offspring-2 c = search needs
+slice-relend-prefix-nsga3-generate-offspring-2 c = omega arith
 
 slice-aggregate-nsga3-generate-offspring-4 : tie.Need-slice-aggregate-nsga3-generate-offspring-4
 slice-aggregate-nsga3-generate-offspring-4 c = sym (length-take-le _ _ (omega arith))
 
 slice-relend-prefix-nsga3-generate-offspring-3 :
     tie.Need-slice-relend-prefix-nsga3-generate-offspring-3
-slice-relend-prefix-nsga3-generate-offspring-3 c = search needs
+slice-relend-prefix-nsga3-generate-offspring-3 c = omega arith
 
 slice-aggregate-nsga3-generate-offspring-5 : tie.Need-slice-aggregate-nsga3-generate-offspring-5
 slice-aggregate-nsga3-generate-offspring-5 c = sym (length-take-le _ _ (omega arith))
 
 slice-relend-prefix-nsga3-generate-offspring-4 :
     tie.Need-slice-relend-prefix-nsga3-generate-offspring-4
-slice-relend-prefix-nsga3-generate-offspring-4 c = search needs
+slice-relend-prefix-nsga3-generate-offspring-4 c = omega arith
 
 slice-aggregate-nsga3-generate-offspring-6 : tie.Need-slice-aggregate-nsga3-generate-offspring-6
 slice-aggregate-nsga3-generate-offspring-6 c = sym (length-take-le _ _ (omega arith))
 
 slice-relend-prefix-nsga3-generate-offspring-5 :
     tie.Need-slice-relend-prefix-nsga3-generate-offspring-5
-slice-relend-prefix-nsga3-generate-offspring-5 c = search needs
+slice-relend-prefix-nsga3-generate-offspring-5 c = omega arith
 
 slice-aggregate-nsga3-generate-offspring-7 : tie.Need-slice-aggregate-nsga3-generate-offspring-7
 slice-aggregate-nsga3-generate-offspring-7 c = sym (length-take-le _ _ (omega arith))
 
 nsga3-generate-offspring-requires : tie.Need-nsga3-generate-offspring-requires
-nsga3-generate-offspring-requires c κs = search needs
+nsga3-generate-offspring-requires c κs = tt
 
 same-length : tie.Need-same-length
 same-length c = search needs
@@ -69,7 +69,7 @@ same-length-5 : tie.Need-same-length-5
 same-length-5 c = search needs
 
 returns : tie.Need-returns
-returns c = search needs
+returns c = tt
 
 pub stepped-spec : {M : Type 1} → statement M
 stepped-spec =

@@ -19,13 +19,13 @@ add-word : tie.Need-add-word Inv-loop μ-loop
 add-word c = search needs
 
 word-requires : tie.Need-word-requires Inv-loop μ-loop
-word-requires c κs = search needs
+word-requires c κs = tt
 
 same-length : tie.Need-same-length Inv-loop μ-loop
 same-length c = search needs
 
 returns : tie.Need-returns Inv-loop μ-loop
-returns c = search needs
+returns c = tt
 
 cast-file : tie.Need-cast-file Inv-loop μ-loop
 cast-file c = search needs
@@ -46,7 +46,7 @@ same-length-2 : tie.Need-same-length-2 Inv-loop μ-loop
 same-length-2 c = search needs
 
 returns-2 : tie.Need-returns-2 Inv-loop μ-loop
-returns-2 c = search needs
+returns-2 c = tt
 
 pub fill-file-spec : {M : Type 1} → statement M
 fill-file-spec =

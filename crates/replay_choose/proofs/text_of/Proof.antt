@@ -15,7 +15,7 @@ enum-known-chosen : tie.Need-enum-known-chosen
 enum-known-chosen c = search needs
 
 put-text-requires : tie.Need-put-text-requires
-put-text-requires c κs = search needs
+put-text-requires c κs = tt
 
 enum-known-chosen-2 : tie.Need-enum-known-chosen-2
 enum-known-chosen-2 c = search needs
@@ -31,13 +31,13 @@ write-refused-requires c κs =
     omega (arith, refused-short (c .before .before .chosen2 .given .0 .0) (omega arith))
 
 put-text-requires-2 : tie.Need-put-text-requires-2
-put-text-requires-2 c κs = search needs
+put-text-requires-2 c κs = tt
 
 returns : tie.Need-returns
-returns c = search needs
+returns c = tt
 
 returns-2 : tie.Need-returns-2
-returns-2 c = search needs
+returns-2 c = tt
 
 pub text-of-spec : {M : Type 1} → statement M
 text-of-spec =

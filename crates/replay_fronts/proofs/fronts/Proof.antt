@@ -8,10 +8,10 @@ add-word : tie.Need-add-word
 add-word c = search needs
 
 word-requires : tie.Need-word-requires
-word-requires c κs = search needs
+word-requires c κs = tt
 
 returns : tie.Need-returns
-returns c = search needs
+returns c = tt
 
 read-marks-requires : tie.Need-read-marks-requires
 read-marks-requires c κs = search needs
@@ -23,7 +23,7 @@ read-plans-requires : tie.Need-read-plans-requires
 read-plans-requires c κs = search needs
 
 returns-2 : tie.Need-returns-2
-returns-2 c = search needs
+returns-2 c = tt
 
 sorted-constrained-requires : tie.Need-sorted-constrained-requires
 sorted-constrained-requires c κs = let e = c .before .before .before .before .before .before .before .before .before .before .before .before .before in (e .if1 .left, mul-le-mul (e .if1 .left) (e .before .before .pre))
@@ -32,10 +32,10 @@ sorted-requires : tie.Need-sorted-requires
 sorted-requires c κs = let e = c .before .before .before .before .before .before .before .before .before .before .before in (e .if1 .left, mul-le-mul (e .if1 .left) (e .before .before .pre))
 
 returns-3 : tie.Need-returns-3
-returns-3 c = search needs
+returns-3 c = tt
 
 returns-4 : tie.Need-returns-4
-returns-4 c = search needs
+returns-4 c = tt
 
 pub fronts-spec : {M : Type 1} → statement M
 fronts-spec =

@@ -7,8 +7,9 @@ use borrow.Author.Count.{below-none, below-more}
 use lib.Ieee.{nan, isNan}
 use borrow.Author.Needs.{needs}
 use lib.ListN.{getD}
+use Rattle.list_laws.proofs.Bools.{T-false}
 use Rattle.list_laws.proofs.Rows.{row-lt}
-use Rattle.replay_fronts.proofs.Nan.{no-nan}
+use Rattle.real_laws.proofs.Nan.{eq-not-nan}
 use Rattle.replay_fronts.proofs.known.Statement.{statement}
 use Rattle.replay_fronts.proofs.known.Tie as tie
 
@@ -40,7 +41,7 @@ loop-less : tie.Need-loop-less Inv-loop μ-loop
 loop-less c = search needs
 
 loop-again : tie.Need-loop-again Inv-loop μ-loop
-loop-again c = let l = c .before .before .before .loop in (omega arith, (omega arith, below-more _ _ (l .inv .1 .1) (no-nan _ (c .if1 .left))))
+loop-again c = let l = c .before .before .before .loop in (omega arith, (omega arith, below-more _ _ (l .inv .1 .1) (T-false _ (eq-not-nan _ (c .if1 .left)))))
 
 returns-2 : tie.Need-returns-2 Inv-loop μ-loop
 returns-2 c = λ e p h j g. c .before .loop .inv .1 .1 _ (omega (arith, row-lt p j (c .before .before .args .n) (c .before .before .args .m) h g))

@@ -17,19 +17,19 @@ add-real-at : tie.Need-add-real-at Inv-loop μ-loop
 add-real-at c = search needs
 
 real-at-requires : tie.Need-real-at-requires Inv-loop μ-loop
-real-at-requires c κs = search needs
+real-at-requires c κs = tt
 
 element-copy-out-to-minimize : tie.Need-element-copy-out-to-minimize Inv-loop μ-loop
 element-copy-out-to-minimize c = search needs
 
 to-minimize-requires : tie.Need-to-minimize-requires Inv-loop μ-loop
-to-minimize-requires c κs = search needs
+to-minimize-requires c κs = tt
 
 add-set-real : tie.Need-add-set-real Inv-loop μ-loop
 add-set-real c = search needs
 
 set-real-requires : tie.Need-set-real-requires Inv-loop μ-loop
-set-real-requires c κs = search needs
+set-real-requires c κs = tt
 
 add-j : tie.Need-add-j Inv-loop μ-loop
 add-j c = search needs
@@ -41,7 +41,7 @@ loop-again : tie.Need-loop-again Inv-loop μ-loop
 loop-again c = search needs
 
 ahead-requires : tie.Need-ahead-requires Inv-loop μ-loop
-ahead-requires c κs = search needs
+ahead-requires c κs = tt
 
 returns : tie.Need-returns Inv-loop μ-loop
 returns c = search needs

@@ -21,13 +21,13 @@ fast-non-dominated-sort-requires c κs =
     (search needs, t .before .known .ensures (t .if1 .taken), search needs, search needs, search needs, search needs)
 
 put-fronts-requires : tie.Need-put-fronts-requires
-put-fronts-requires c κs = search needs
+put-fronts-requires c κs = tt
 
 returns : tie.Need-returns
-returns c = search needs
+returns c = tt
 
 returns-2 : tie.Need-returns-2
-returns-2 c = search needs
+returns-2 c = tt
 
 pub sorted-spec : {M : Type 1} → statement M
 sorted-spec =

@@ -1,5 +1,4 @@
 -- `violation`. Assumes nothing.
-use borrow.Author.Needs.{needs}
 use mathlib.Core.Path.{sym}
 use lib.Seq.{length-take-le}
 use Rattle.replay_fronts.proofs.violation.Statement.{statement}
@@ -9,13 +8,13 @@ slice-aggregate-total-violation : tie.Need-slice-aggregate-total-violation
 slice-aggregate-total-violation c = sym (length-take-le (c .before .before .before .args .k) (c .before .before .before .args .values .now) (c .before .if1 .taken))
 
 total-violation-requires : tie.Need-total-violation-requires
-total-violation-requires c κs = search needs
+total-violation-requires c κs = tt
 
 returns : tie.Need-returns
-returns c = search needs
+returns c = tt
 
 returns-2 : tie.Need-returns-2
-returns-2 c = search needs
+returns-2 c = tt
 
 pub violation-spec : {M : Type 1} → statement M
 violation-spec =

@@ -16,31 +16,31 @@ slice-aggregate-nsga3-select-2 : tie.Need-slice-aggregate-nsga3-select-2
 slice-aggregate-nsga3-select-2 c = sym (length-take-le _ _ (omega arith))
 
 slice-relend-prefix-nsga3-select : tie.Need-slice-relend-prefix-nsga3-select
-slice-relend-prefix-nsga3-select c = search needs
+slice-relend-prefix-nsga3-select c = omega arith
 
 slice-aggregate-nsga3-select-3 : tie.Need-slice-aggregate-nsga3-select-3
 slice-aggregate-nsga3-select-3 c = sym (length-take-le _ _ (omega arith))
 
 slice-relend-prefix-nsga3-select-2 : tie.Need-slice-relend-prefix-nsga3-select-2
-slice-relend-prefix-nsga3-select-2 c = search needs
+slice-relend-prefix-nsga3-select-2 c = omega arith
 
 slice-aggregate-nsga3-select-4 : tie.Need-slice-aggregate-nsga3-select-4
 slice-aggregate-nsga3-select-4 c = sym (length-take-le _ _ (omega arith))
 
 slice-relend-prefix-nsga3-select-3 : tie.Need-slice-relend-prefix-nsga3-select-3
-slice-relend-prefix-nsga3-select-3 c = search needs
+slice-relend-prefix-nsga3-select-3 c = omega arith
 
 slice-aggregate-nsga3-select-5 : tie.Need-slice-aggregate-nsga3-select-5
 slice-aggregate-nsga3-select-5 c = sym (length-take-le _ _ (omega arith))
 
 slice-relend-prefix-nsga3-select-4 : tie.Need-slice-relend-prefix-nsga3-select-4
-slice-relend-prefix-nsga3-select-4 c = search needs
+slice-relend-prefix-nsga3-select-4 c = omega arith
 
 slice-aggregate-nsga3-select-6 : tie.Need-slice-aggregate-nsga3-select-6
 slice-aggregate-nsga3-select-6 c = sym (length-take-le _ _ (omega arith))
 
 nsga3-select-requires : tie.Need-nsga3-select-requires
-nsga3-select-requires c κs = search needs
+nsga3-select-requires c κs = tt
 
 same-length : tie.Need-same-length
 same-length c = search needs
@@ -55,7 +55,7 @@ same-length-4 : tie.Need-same-length-4
 same-length-4 c = search needs
 
 returns : tie.Need-returns
-returns c = search needs
+returns c = tt
 
 pub selection-spec : {M : Type 1} → statement M
 selection-spec =

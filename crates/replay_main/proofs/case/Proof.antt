@@ -11,13 +11,13 @@ read-line-requires-2 : tie.Need-read-line-requires-2
 read-line-requires-2 c κs = search needs
 
 command-requires : tie.Need-command-requires
-command-requires c κs = search needs
+command-requires c κs = tt
 
 record-of-requires : tie.Need-record-of-requires
-record-of-requires c κs = search needs
+record-of-requires c κs = tt
 
 answer-requires : tie.Need-answer-requires
-answer-requires c κs = search needs
+answer-requires c κs = tt
 
 judged-requires : tie.Need-judged-requires
 judged-requires c κs = search needs

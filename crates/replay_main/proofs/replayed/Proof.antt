@@ -13,7 +13,7 @@ abbrev μ-loop : tie.MeasureT-loop
 μ-loop bytes tallies₀ at₀ tallies at = length bytes - at
 
 no-tallies-requires : tie.Need-no-tallies-requires Inv-loop μ-loop
-no-tallies-requires c κs = search needs
+no-tallies-requires c κs = tt
 
 loop-holds : tie.Need-loop-holds Inv-loop μ-loop
 loop-holds c = search needs
@@ -31,7 +31,7 @@ loop-again : tie.Need-loop-again Inv-loop μ-loop
 loop-again c = search needs
 
 returns : tie.Need-returns Inv-loop μ-loop
-returns c = search needs
+returns c = tt
 
 pub replayed-spec : {M : Type 1} → statement M
 replayed-spec =

@@ -8,31 +8,31 @@ use Rattle.replay_reference.proofs.opened.Statement.{statement}
 use Rattle.replay_reference.proofs.opened.Tie as tie
 
 too-large-requires : tie.Need-too-large-requires
-too-large-requires c κs = search needs
+too-large-requires c κs = tt
 
 put-requires : tie.Need-put-requires
-put-requires c κs = search needs
+put-requires c κs = tt
 
 returns : tie.Need-returns
-returns c = search needs
+returns c = tt
 
 bad-session-divisions-requires : tie.Need-bad-session-divisions-requires
 bad-session-divisions-requires c κs = search needs
 
 put-requires-2 : tie.Need-put-requires-2
-put-requires-2 c κs = search needs
+put-requires-2 c κs = tt
 
 returns-2 : tie.Need-returns-2
-returns-2 c = search needs
+returns-2 c = tt
 
 divisions-of-requires : tie.Need-divisions-of-requires
 divisions-of-requires c κs = search needs
 
 put-requires-3 : tie.Need-put-requires-3
-put-requires-3 c κs = search needs
+put-requires-3 c κs = tt
 
 put-requires-4 : tie.Need-put-requires-4
-put-requires-4 c κs = search needs
+put-requires-4 c κs = tt
 
 point-count-requires : tie.Need-point-count-requires
 point-count-requires c κs =
@@ -43,7 +43,7 @@ point-count-requires c κs =
     omega (arith, w .most, d .divisions-of .ensures)
 
 put-requires-5 : tie.Need-put-requires-5
-put-requires-5 c κs = search needs
+put-requires-5 c κs = tt
 
 population-size-requires : tie.Need-population-size-requires
 population-size-requires c κs =
@@ -53,10 +53,10 @@ population-size-requires c κs =
     (omega arith, e)
 
 put-requires-6 : tie.Need-put-requires-6
-put-requires-6 c κs = search needs
+put-requires-6 c κs = tt
 
 returns-3 : tie.Need-returns-3
-returns-3 c = search needs
+returns-3 c = tt
 
 pub opened-spec : {M : Type 1} → statement M
 opened-spec =

@@ -7,16 +7,16 @@ use Rattle.replay_session.proofs.calls.Statement.{statement}
 use Rattle.replay_session.proofs.calls.Tie as tie
 
 abbrev Inv-loop : tie.InvT-loop
-Inv-loop input n at count out₀ history₀ candidates₀ plans₀ next-dims₀ put stand₀ i₀ out history candidates plans next-dims stand i = (i ≤ count) × (((stand .held ≤ 4097) × (stand .next ≤ 8193)) × SessionOk (state (stand .session) candidates plans next-dims))
+Inv-loop input n at count out₀ history₀ candidates₀ plans₀ next-dims₀ put stand₀ i₀ out history candidates plans next-dims stand i = (i ≤ count) × ((stand .next ≤ 8193) × SessionOk (state (stand .session) candidates plans next-dims))
 
 abbrev μ-loop : tie.MeasureT-loop
 μ-loop input n at count out₀ history₀ candidates₀ plans₀ next-dims₀ put stand₀ i₀ out history candidates plans next-dims stand i = count - i
 
 put-requires : tie.Need-put-requires Inv-loop μ-loop
-put-requires c κs = search needs
+put-requires c κs = tt
 
 loop-holds : tie.Need-loop-holds Inv-loop μ-loop
-loop-holds c = (search needs, ((search needs, search needs), c .before .before .pre .0 _ _ _))
+loop-holds c = (search needs, (search needs, c .before .before .pre .0 _ _ _))
 
 next-call-requires : tie.Need-next-call-requires Inv-loop μ-loop
 next-call-requires c κs = search needs
@@ -31,10 +31,10 @@ loop-again : tie.Need-loop-again Inv-loop μ-loop
 loop-again c = search needs
 
 returns : tie.Need-returns Inv-loop μ-loop
-returns c = search needs
+returns c = tt
 
 returns-2 : tie.Need-returns-2 Inv-loop μ-loop
-returns-2 c = search needs
+returns-2 c = tt
 
 pub calls-spec : {M : Type 1} → statement M
 calls-spec =

@@ -10,22 +10,22 @@ cast-put : tie.Need-cast-put
 cast-put c = search needs
 
 put-requires : tie.Need-put-requires
-put-requires c κs = search needs
+put-requires c κs = tt
 
 enum-told : tie.Need-enum-told
 enum-told c = search needs
 
 word-requires : tie.Need-word-requires
-word-requires c κs = search needs
+word-requires c κs = tt
 
 returns : tie.Need-returns
-returns c = search needs
+returns c = tt
 
 add-word : tie.Need-add-word
 add-word c = search needs
 
 word-requires-2 : tie.Need-word-requires-2
-word-requires-2 c κs = search needs
+word-requires-2 c κs = tt
 
 add-calls : tie.Need-add-calls
 add-calls c = search needs
@@ -34,10 +34,10 @@ calls-requires : tie.Need-calls-requires
 calls-requires c κs = let k = c .before .before .before .before in (rw (k .enum-told .given .1) at (k .before .before .before .pre .1), search needs)
 
 returns-2 : tie.Need-returns-2
-returns-2 c = search needs
+returns-2 c = tt
 
 returns-3 : tie.Need-returns-3
-returns-3 c = search needs
+returns-3 c = tt
 
 pub follow-spec : {M : Type 1} → statement M
 follow-spec =

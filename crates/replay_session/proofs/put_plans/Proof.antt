@@ -13,23 +13,20 @@ abbrev μ-loop : tie.MeasureT-loop
 loop-holds : tie.Need-loop-holds Inv-loop μ-loop
 loop-holds c = search needs
 
-mul-put : tie.Need-mul-put Inv-loop μ-loop
-mul-put c = search needs
+mul-put-two : tie.Need-mul-put-two Inv-loop μ-loop
+mul-put-two c = search needs
 
-element-copy-out-put : tie.Need-element-copy-out-put Inv-loop μ-loop
-element-copy-out-put c = search needs
+element-copy-out-put-two : tie.Need-element-copy-out-put-two Inv-loop μ-loop
+element-copy-out-put-two c = search needs
 
-put-requires : tie.Need-put-requires Inv-loop μ-loop
-put-requires c κs = search needs
+mul-put-two-2 : tie.Need-mul-put-two-2 Inv-loop μ-loop
+mul-put-two-2 c = search needs
 
-mul-put-2 : tie.Need-mul-put-2 Inv-loop μ-loop
-mul-put-2 c = search needs
+element-copy-out-put-two-2 : tie.Need-element-copy-out-put-two-2 Inv-loop μ-loop
+element-copy-out-put-two-2 c = search needs
 
-element-copy-out-put-2 : tie.Need-element-copy-out-put-2 Inv-loop μ-loop
-element-copy-out-put-2 c = search needs
-
-put-requires-2 : tie.Need-put-requires-2 Inv-loop μ-loop
-put-requires-2 c κs = search needs
+put-two-requires : tie.Need-put-two-requires Inv-loop μ-loop
+put-two-requires c κs = tt
 
 add-i : tie.Need-add-i Inv-loop μ-loop
 add-i c = search needs
@@ -41,7 +38,7 @@ loop-again : tie.Need-loop-again Inv-loop μ-loop
 loop-again c = search needs
 
 returns : tie.Need-returns Inv-loop μ-loop
-returns c = search needs
+returns c = tt
 
 pub put-plans-spec : {M : Type 1} → statement M
 put-plans-spec =
@@ -50,12 +47,11 @@ put-plans-spec =
     Inv-loop
     μ-loop
     loop-holds
-    mul-put
-    element-copy-out-put
-    put-requires
-    mul-put-2
-    element-copy-out-put-2
-    put-requires-2
+    mul-put-two
+    element-copy-out-put-two
+    mul-put-two-2
+    element-copy-out-put-two-2
+    put-two-requires
     add-i
     loop-less
     loop-again

@@ -29,7 +29,7 @@ add-least : tie.Need-add-least Inv-loop μ-loop
 add-least c = search needs
 
 least-requires : tie.Need-least-requires Inv-loop μ-loop
-least-requires c κs = search needs
+least-requires c κs = tt
 
 add-c : tie.Need-add-c Inv-loop μ-loop
 add-c c = search needs

@@ -20,19 +20,16 @@ array-copy-out-info : tie.Need-array-copy-out-info Inv-loop μ-loop
 array-copy-out-info c = search needs
 
 kind-of-dimension-requires : tie.Need-kind-of-dimension-requires Inv-loop μ-loop
-kind-of-dimension-requires c κs = search needs
-
-put-requires : tie.Need-put-requires Inv-loop μ-loop
-put-requires c κs = search needs
+kind-of-dimension-requires c κs = tt
 
 add-word-of : tie.Need-add-word-of Inv-loop μ-loop
 add-word-of c = search needs
 
 word-of-requires : tie.Need-word-of-requires Inv-loop μ-loop
-word-of-requires c κs = search needs
+word-of-requires c κs = tt
 
-put-requires-2 : tie.Need-put-requires-2 Inv-loop μ-loop
-put-requires-2 c κs = search needs
+put-two-requires : tie.Need-put-two-requires Inv-loop μ-loop
+put-two-requires c κs = tt
 
 add-i : tie.Need-add-i Inv-loop μ-loop
 add-i c = search needs
@@ -44,7 +41,7 @@ loop-again : tie.Need-loop-again Inv-loop μ-loop
 loop-again c = search needs
 
 returns : tie.Need-returns Inv-loop μ-loop
-returns c = search needs
+returns c = tt
 
 pub put-candidate-spec : {M : Type 1} → statement M
 put-candidate-spec =
@@ -56,10 +53,9 @@ put-candidate-spec =
     mul-info
     array-copy-out-info
     kind-of-dimension-requires
-    put-requires
     add-word-of
     word-of-requires
-    put-requires-2
+    put-two-requires
     add-i
     loop-less
     loop-again

@@ -20,7 +20,7 @@ array-copy-out-slot : tie.Need-array-copy-out-slot Inv-loop μ-loop
 array-copy-out-slot c = search needs
 
 put-setting-requires : tie.Need-put-setting-requires Inv-loop μ-loop
-put-setting-requires c κs = search needs
+put-setting-requires c κs = tt
 
 add-i : tie.Need-add-i Inv-loop μ-loop
 add-i c = search needs
@@ -32,7 +32,7 @@ loop-again : tie.Need-loop-again Inv-loop μ-loop
 loop-again c = search needs
 
 returns : tie.Need-returns Inv-loop μ-loop
-returns c = search needs
+returns c = tt
 
 pub put-settings-spec : {M : Type 1} → statement M
 put-settings-spec =

@@ -11,7 +11,7 @@ abbrev μ-loop : tie.MeasureT-loop
 μ-loop input at n dims₀ next₀ i₀ dims next i = n - i
 
 blank-dimensions-requires : tie.Need-blank-dimensions-requires Inv-loop μ-loop
-blank-dimensions-requires c κs = search needs
+blank-dimensions-requires c κs = tt
 
 loop-holds : tie.Need-loop-holds Inv-loop μ-loop
 loop-holds c = search needs

@@ -19,7 +19,7 @@ add-least : tie.Need-add-least Inv-loop μ-loop
 add-least c = search needs
 
 least-requires : tie.Need-least-requires Inv-loop μ-loop
-least-requires c κs = search needs
+least-requires c κs = tt
 
 mul-base : tie.Need-mul-base Inv-loop μ-loop
 mul-base c = search needs

@@ -17,7 +17,7 @@ add-real-at : tie.Need-add-real-at Inv-loop μ-loop
 add-real-at c = search needs
 
 real-at-requires : tie.Need-real-at-requires Inv-loop μ-loop
-real-at-requires c κs = search needs
+real-at-requires c κs = tt
 
 mul-reals : tie.Need-mul-reals Inv-loop μ-loop
 mul-reals c = search needs
@@ -35,7 +35,7 @@ loop-again : tie.Need-loop-again Inv-loop μ-loop
 loop-again c = search needs
 
 returns : tie.Need-returns Inv-loop μ-loop
-returns c = search needs
+returns c = tt
 
 pub read-reals-spec : {M : Type 1} → statement M
 read-reals-spec =

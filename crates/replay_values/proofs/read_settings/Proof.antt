@@ -11,22 +11,22 @@ abbrev μ-loop : tie.MeasureT-loop
 μ-loop input at n params₀ next₀ i₀ params next i = n - i
 
 blank-settings-requires : tie.Need-blank-settings-requires Inv-loop μ-loop
-blank-settings-requires c κs = search needs
+blank-settings-requires c κs = tt
 
 loop-holds : tie.Need-loop-holds Inv-loop μ-loop
 loop-holds c = search needs
 
 word-requires : tie.Need-word-requires Inv-loop μ-loop
-word-requires c κs = search needs
+word-requires c κs = tt
 
 add-word : tie.Need-add-word Inv-loop μ-loop
 add-word c = search needs
 
 word-requires-2 : tie.Need-word-requires-2 Inv-loop μ-loop
-word-requires-2 c κs = search needs
+word-requires-2 c κs = tt
 
 of-word-requires : tie.Need-of-word-requires Inv-loop μ-loop
-of-word-requires c κs = search needs
+of-word-requires c κs = tt
 
 mul-params : tie.Need-mul-params Inv-loop μ-loop
 mul-params c = search needs
@@ -35,7 +35,7 @@ array-set-from-params : tie.Need-array-set-from-params Inv-loop μ-loop
 array-set-from-params c = search needs
 
 ahead-requires : tie.Need-ahead-requires Inv-loop μ-loop
-ahead-requires c κs = search needs
+ahead-requires c κs = tt
 
 add-i : tie.Need-add-i Inv-loop μ-loop
 add-i c = search needs

@@ -5,25 +5,25 @@ use Rattle.replay_values.proofs.room_for.Statement.{statement}
 use Rattle.replay_values.proofs.room_for.Tie as tie
 
 least-requires : tie.Need-least-requires
-least-requires c κs = search needs
+least-requires c κs = tt
 
 least-requires-2 : tie.Need-least-requires-2
-least-requires-2 c κs = search needs
+least-requires-2 c κs = tt
 
 candidate-words-requires : tie.Need-candidate-words-requires
 candidate-words-requires c κs = mul-le-mul (c .before .least .ensures .1) (c .least2 .ensures .1)
 
 less-one-requires : tie.Need-less-one-requires
-less-one-requires c κs = search needs
+less-one-requires c κs = tt
 
 less-one-requires-2 : tie.Need-less-one-requires-2
-less-one-requires-2 c κs = search needs
+less-one-requires-2 c κs = tt
 
 less-one-requires-3 : tie.Need-less-one-requires-3
-less-one-requires-3 c κs = search needs
+less-one-requires-3 c κs = tt
 
 less-one-requires-4 : tie.Need-less-one-requires-4
-less-one-requires-4 c κs = search needs
+less-one-requires-4 c κs = tt
 
 returns : tie.Need-returns
 returns c = search needs

@@ -1,0 +1,34 @@
+-- `tried_short`. Assumes nothing.
+use Prim.Native.Nat.{ℕ}
+use mathlib.Core.Path.{sym}
+use native.Mathlib.Omega.{arith}
+use lib.ListN.{length-replicate}
+use Rattle.session_calls.proofs.Property.{too-short}
+use borrow.Author.Needs.{needs}
+use Rattle.replay_session.proofs.tried_short.Statement.{statement}
+use Rattle.replay_session.proofs.tried_short.Tie as tie
+
+slice-aggregate-sampled : tie.Need-slice-aggregate-sampled
+slice-aggregate-sampled c = sym (length-replicate {A = ℕ} 65535 0)
+
+slice-aggregate-sampled-2 : tie.Need-slice-aggregate-sampled-2
+slice-aggregate-sampled-2 c = search needs
+
+slice-aggregate-sampled-3 : tie.Need-slice-aggregate-sampled-3
+slice-aggregate-sampled-3 c = sym (length-replicate {A = ℕ} 2047 0)
+
+sampled-requires : tie.Need-sampled-requires
+sampled-requires c κs = (c .before .before .before .before .pre .0 _ _ _ (too-short _ _ _ _ (omega (arith, length-replicate {A = ℕ} 65535 0))), search needs)
+
+returns : tie.Need-returns
+returns c = tt
+
+pub tried-short-spec : {M : Type 1} → statement M
+tried-short-spec =
+    tie.close
+    (tie.spec
+    slice-aggregate-sampled
+    slice-aggregate-sampled-2
+    slice-aggregate-sampled-3
+    sampled-requires
+    returns)
