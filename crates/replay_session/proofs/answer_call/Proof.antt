@@ -1,5 +1,5 @@
 -- `answer_call`. Assumes nothing.
-use Rattle.session_calls.proofs.Property.{short-ok}
+use Rattle.session_laws.proofs.Steps.{short-ok}
 use borrow.Author.Needs.{needs}
 use Rattle.replay_session.proofs.answer_call.Statement.{statement}
 use Rattle.replay_session.proofs.answer_call.Tie as tie
