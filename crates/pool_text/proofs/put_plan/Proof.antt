@@ -1,6 +1,5 @@
 -- `put_plan`: four fields, one after the other.
 use borrow.Author.Needs.{needs}
-use lib.ListN.{length-append}
 use Rattle.pool_laws.specs.Text.{fields, fieldsText}
 use Rattle.pool_laws.proofs.Puts.{room-1, room-2, room-3, room-4, put-four}
 use Rattle.pool_text.proofs.put_plan.Statement.{statement}
@@ -38,7 +37,7 @@ put-number-requires-3 c κs =
     let w = x .before .before .before .before in
     let s = w .before .before .before in
     let a = s .args in
-    simp length-append (simp length-append at (room-4 _ (a .at) (fields (a .p) (a .front) (a .line) (a .place)) (s .pre) _ _ (w .put-number .ensures) _ _ (x .put-number2 .ensures) _ _ (y .put-line .ensures)))
+    room-4 _ (a .at) (fields (a .p) (a .front) (a .line) (a .place)) (s .pre) _ _ (w .put-number .ensures) _ _ (x .put-number2 .ensures) _ _ (y .put-line .ensures)
 
 same-length : tie.Need-same-length
 same-length c = search needs
