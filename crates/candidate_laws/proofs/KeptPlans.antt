@@ -1,11 +1,11 @@
 -- The kept list of any request: it has the size wanted, and lists plans of the pool.
 use Prim.Native.Nat.{ℕ, zero, suc, _-_, _<_}
 use mathlib.Core.Logic.{⊎-elim}
-use mathlib.Core.List.{List, _++_, List·Memᴰ·append-cases, List·Memᴰ·not-nil}
+use mathlib.Core.List.{List, _++_, List·Memᴰ·not-nil}
 use lib.ListN.{length, getD}
 use Rattle.list_laws.specs.Occ.{AllUnder}
 use Rattle.list_laws.proofs.Bools.{by-bool}
-use Rattle.list_laws.proofs.Members.{in-occ, under-in, in-snoc, getD-in}
+use Rattle.list_laws.proofs.Members.{in-occ, under-in, in-snoc, getD-in, below-append}
 use Rattle.rng_util.proofs.Draws.{drawUsize-below}
 use Rattle.front_laws.proofs.Rounds.{found}
 use Rattle.front_laws.proofs.Order.{listing-below}
@@ -25,18 +25,15 @@ padding-in n zero s h q m = absurd (List·Memᴰ·not-nil m)
 padding-in n (suc k) s h q m =
     ⊎-elim (padding-in n k s h q) (λ e. rw e (drawUsize-below n (padding n k s .state) h)) (in-snoc (padding n k s .value) _ q m)
 
-both-in : (n : ℕ) (a b : List ℕ) → Below n a → Below n b → Below n (a ++ b)
-both-in n a b h k q m = ⊎-elim (h q) (k q) (List·Memᴰ·append-cases a m)
-
 pub kept-in : (r : Request) → 0 < r .count → Below (r .count) (selected r .kept)
 unfolding selected selectedSplit selectedWhole filled before splitFront
 kept-in r some =
     let whole = under-below (r .count) (before r) (listing-below (dominance r) (r .count) (wholeFronts r)) in
     by-bool (isSplit r)
-    (λ e. rw e (both-in (r .count) (before r) (filled r .value) whole
+    (λ e. rw e (below-append (r .count) (before r) (filled r .value) whole
     (picks-below (r .count) some (lineOf r) (λ p. association r p .distance) (lineCount r) (before r) (splitFront r)
     (under-below (r .count) (splitFront r) (found (dominance r) (r .count) (wholeFronts r) .below)) (r .size - length (before r)) (r .state))))
-    (λ e. rw e (both-in (r .count) (before r) _ whole (padding-in (r .count) (r .size - length (before r)) (r .state) some)))
+    (λ e. rw e (below-append (r .count) (before r) _ whole (padding-in (r .count) (r .size - length (before r)) (r .state) some)))
 
 pub kept-below : (r : Request) → 0 < r .count → (i : ℕ) → i < length (selected r .kept) → getD (selected r .kept) i 0 < r .count
 kept-below r some i h = kept-in r some _ (getD-in (selected r .kept) i h)

@@ -68,8 +68,3 @@ nought-le-one = tt
 -- what is at most a power of two in magnitude is a number
 pub bounded : (f : Format) (x : Float) (j k : ℕ) → T (fits f x) → T (le (minus-exp2 j) x) → T (le x (exp2 k)) → Number f x
 bounded f x j k X h g = record { held = X; finite = between-finite (minus-exp2 j) x (exp2 k) tt tt h g }
-
--- what is at most 2^53 in magnitude is at most 2^1000
-pub exp2-wider : T (le (minus-exp2 1000) (minus-exp2 53)) × T (le (exp2 53) (exp2 1000))
-unfolding le
-exp2-wider = (tt, tt)

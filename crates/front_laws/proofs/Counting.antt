@@ -10,7 +10,7 @@ use Rattle.list_laws.proofs.Counts.{countBelow-none, countBelow-more, countBelo
 use Rattle.front_laws.specs.Post.{Countable, Raising, Raised}
 use Rattle.list_laws.proofs.Built.{over-none, over-set, over-size, over-below}
 use Rattle.list_laws.proofs.Runs.{over-next, over-keep}
-use Rattle.list_laws.proofs.Stores.{filled-more}
+use Rattle.list_laws.proofs.Stores.{set-each}
 
 -- ---- plan q has been compared with those before p
 
@@ -56,6 +56,6 @@ counted-low d q cs h t l = omega (arith, h t l, countBelow-le (λ s. d s t) q)
 -- one plan more, which does not dominate itself
 pub counted-more : (d : ℕ → ℕ → Bool) (q : ℕ) (cs₀ cs : List ℕ) (r : ℕ) → Counted d q cs₀ → Raised d q cs₀ cs r → d q q ≡ false → q < length cs
     → Counted d (q + 1) (set cs q r)
-counted-more d q cs₀ cs r h a e l = filled-more (λ t. countBelow (λ s. d s t) (q + 1)) cs q r l
+counted-more d q cs₀ cs r h a e l = set-each (λ t (x : ℕ). x ≡ countBelow (λ s. d s t) (q + 1)) 0 cs q r l
     (a .result ∙ sym (countBelow-no (λ s. d s q) q e))
     (λ t u. over-below _ q cs cs₀ t 0 (a .counts) u ∙ ap (λ v. v + one (d q t)) (h t u) ∙ sym (countBelow-more (λ s. d s t) q))

@@ -107,11 +107,11 @@ module _ (d : ℕ → ℕ → Bool) (n k start end : ℕ) (cs₀ o₀ r₀ : Lis
       record {
         counts = λ t v. over-below (lower d (getD o i 0) (of cs)) n cs′ cs t 0 (f .counts) v ∙ ap (λ q. getD cs t 0 - one (d q t)) m ∙ ap (λ c. c - one (d p t)) (h .counts t v)
             ∙ sym (ap (λ q. lowerAll d q (of cs₀) t) e ∙ ap (λ g. g t) (lowerAll-append d xs (p ∷ []) (of cs₀)));
-        order = f .order .order ∙ ap (sets o len) now ∙ ap (λ q. sets q len (freed d n p w)) (h .order)
+        order = f .order .stored ∙ ap (sets o len) now ∙ ap (λ q. sets q len (freed d n p w)) (h .order)
             ∙ ap (λ q. sets (sets o₀ end (freedAll d n xs (of cs₀))) q (freed d n p w)) (h .result)
             ∙ sym (sets-append o₀ end (freedAll d n xs (of cs₀)) (freed d n p w))
             ∙ ap (sets o₀ end) (sym all);
-        result = let a = f .order .size in
+        result = let a = f .order .ends in
             let b = ap length now in
             let g = h .result in
             let j = ap length all ∙ length-append (freedAll d n xs (of cs₀)) (freed d n p w) in

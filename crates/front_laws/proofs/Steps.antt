@@ -13,7 +13,8 @@ use Rattle.list_laws.proofs.Built.{over-none, over-set, over-size}
 use Rattle.list_laws.proofs.Kept.{keepBelow-room}
 use Rattle.list_laws.proofs.Runs.{over-next, over-keep}
 use Rattle.front_laws.specs.Post.{of, freedAt, Freed, frees, Releasing}
-use Rattle.list_laws.proofs.Stores.{Picked, picked-none, picked-no, picked-length, picked-more}
+use Rattle.list_laws.specs.Put.{Picked}
+use Rattle.list_laws.proofs.Stores.{picked-none, picked-no, picked-length, picked-more}
 
 abbrev Lowered : (ℕ → ℕ → Bool) → ℕ → List ℕ → ℕ → List ℕ → Type 0
 Lowered d p cs₀ q cs = cs ≡ over (listBelow (lower d p (of cs₀)) q) cs₀
@@ -41,7 +42,7 @@ module _ (d : ℕ → ℕ → Bool) (p : ℕ) (cs₀ : List ℕ) (q : ℕ) (cs :
       → at + length (freedAt d n p cs₀) ≤ length o₀ → d p q ≡ true → getD cs q 0 ≡ 1 → len < length o₀
   unfolding freed
   frees-room n o₀ at o len l k r e v =
-      omega (arith, k .size, r, keepBelow-room (frees d p cs₀) n q l (frees-now e ∙ eq-eqb (getD cs q 0 - 1) 0 (omega arith)))
+      omega (arith, k .ends, r, keepBelow-room (frees d p cs₀) n q l (frees-now e ∙ eq-eqb (getD cs q 0 - 1) 0 (omega arith)))
 
 -- ---- counts and order together, as the loop of one member has them before its turn for q
 

@@ -8,7 +8,7 @@ use lib.ListN.{length, getD, set}
 use lib.Seq.{sets, slice}
 use Rattle.model.specs.Lists.{one, countBelow, tally, firstBelow, listBelow, over}
 use Rattle.model.specs.Front.{lower, freed, lowerAll, freedAll, front, listing, frontList}
-use Rattle.list_laws.proofs.Stores.{Picked}
+use Rattle.list_laws.specs.Put.{Picked}
 use Rattle.front_laws.specs.Ranks.{mark}
 
 -- the counts that a list holds

@@ -2,7 +2,7 @@
 use Prim.Native.Nat.{_≤_}
 use mathlib.Core.Path.{_≡_, refl, sym, _∙_}
 use mathlib.Core.Logic.{_⊎_, inl, inr}
-use mathlib.Core.Bool.{Bool, true, false, not, _&&_, _||_, false≢true, true≢false}
+use mathlib.Core.Bool.{Bool, true, false, cond, not, _&&_, _||_, false≢true, true≢false}
 use native.Mathlib.Omega.{arith}
 use lib.Dec.{T}
 use Rattle.model.specs.Lists.{one}
@@ -11,6 +11,11 @@ use Rattle.model.specs.Lists.{one}
 pub by-bool : {C : Type 0} (b : Bool) → (b ≡ true → C) → (b ≡ false → C) → C
 by-bool true f g = f refl
 by-bool false f g = g refl
+
+-- what holds of each of two values where a test picks it, holds of the one that it picks
+pub by-cond : {A : Type 0} (P : A → Type 0) (b : Bool) (x y : A) → (b ≡ true → P x) → (b ≡ false → P y) → P (cond b x y)
+by-cond P true x y f g = f refl
+by-cond P false x y f g = g refl
 
 -- a test that passes, as a fact and as an equation
 pub T-true : (b : Bool) → T b → b ≡ true
@@ -65,10 +70,12 @@ pub and-not-right : (a c : Bool) → (not a && c) ≡ true → c ≡ true
 and-not-right true c e = absurd (false≢true e)
 and-not-right false c e = e
 
--- a conjunction whose halves pass passes; one that fails, and whose one half passes, fails in the other
+-- a conjunction whose first half passes is its second; one whose halves pass passes; one that fails, and whose one half passes, fails in the other
+pub past : {a b d : Bool} → a ≡ true → b ≡ d → (a && b) ≡ d
+past e f = rw e f
+
 pub and-both : (a c : Bool) → a ≡ true → c ≡ true → (a && c) ≡ true
-and-both true c h k = k
-and-both false c h k = absurd (false≢true h)
+and-both a c h k = past h k
 
 pub and-fails : (a c : Bool) → (a && c) ≡ false → a ≡ true → c ≡ false
 and-fails true c e h = e

@@ -3,17 +3,15 @@ use Prim.Native.Nat.{ℕ, _≤_}
 use mathlib.Core.Path.{_≡_, refl, ap, _∙_}
 use mathlib.Core.Bool.{Bool, true, false, cond, _&&_}
 use mathlib.Core.List.{List, [], _∷_, List·Memᴰ, List·Memᴰ·head, List·Memᴰ·tail}
-use mathlib.Core.Option.{none, some}
+use mathlib.Core.Option.{none, some, Option·some-ne-none}
 use native.Mathlib.Omega.{arith}
 use borrow.Author.Tests.{eqb-true, leb-true}
 use lib.Dec.{eqb, leb}
 use Rattle.model.specs.Lists.{allIn}
 use Rattle.model.specs.Plan.{Plan, maxConstraints}
+use Rattle.model.specs.Reference.{orElse}
 use Rattle.model.specs.Refusal.{Check, firstOf, measurable, goodPlan}
-use Rattle.list_laws.proofs.Bools.{and-left, and-right}
-
-pub not-some : {A : Type 0} (a : A) → some a ≡ none → ⊥
-not-some a e = let z : _≡_ {A = ℕ} 0 1 = cc in omega arith
+use Rattle.list_laws.proofs.Bools.{by-bool, and-left, and-right}
 
 -- where none applies, each of them does not
 not-given : (c : Check) (cs : List Check) → firstOf (c ∷ cs) ≡ none → (c .applies ≡ false) × (firstOf cs ≡ none)
@@ -21,21 +19,21 @@ unfolding firstOf
 not-given c cs e = go (c .applies) refl e
   where
     go : (b : Bool) → c .applies ≡ b → cond b (some (c .number)) (firstOf cs) ≡ none → (c .applies ≡ false) × (firstOf cs ≡ none)
-    go true h k = absurd (not-some (c .number) k)
+    go true h k = absurd (Option·some-ne-none (c .number) k)
     go false h k = (h, k)
 
 pub applies-not : {c : Check} {cs : List Check} → List·Memᴰ c cs → firstOf cs ≡ none → c .applies ≡ false
 applies-not (List·Memᴰ·head {x = c′} {xs = cs} e) h = ap (λ (k : Check). k .applies) e ∙ not-given c′ cs h .0
 applies-not (List·Memᴰ·tail {x = c′} {xs = cs} m) h = applies-not m (not-given c′ cs h .1)
 
--- one that does not apply is passed over, also after two others
+-- one that does not apply is passed over, and what comes after two others counts by its own first
 pub passed-over : (c : Check) (cs : List Check) → c .applies ≡ false → firstOf (c ∷ cs) ≡ firstOf cs
 unfolding firstOf
 passed-over c cs e = rw e
 
-pub last-one : (a b c : Check) → c .applies ≡ false → firstOf (a ∷ b ∷ c ∷ []) ≡ firstOf (a ∷ b ∷ [])
+pub after-two : (a b : Check) (cs ds : List Check) → firstOf cs ≡ firstOf ds → firstOf (a ∷ b ∷ cs) ≡ firstOf (a ∷ b ∷ ds)
 unfolding firstOf
-last-one a b c e = rw e
+after-two a b cs ds e = rw e
 
 -- ---- refusal 8: the number of values, the number of constraints, and the values of a plan that it lets pass
 
@@ -58,3 +56,8 @@ module _ (m : ℕ) (p : Plan) (good : goodPlan m p ≡ true) where
 pub applies-first : (c : Check) (cs : List Check) → c .applies ≡ true → firstOf (c ∷ cs) ≡ some (c .number)
 unfolding firstOf
 applies-first c cs e = rw e
+
+-- the first of three checks, of which the last applies, by the first of the two before
+pub then-last : (a b c : Check) → c .applies ≡ true → firstOf (a ∷ b ∷ c ∷ []) ≡ some (orElse (firstOf (a ∷ b ∷ [])) (c .number))
+unfolding firstOf
+then-last a b c e = by-bool (a .applies) (λ p. rw p) (λ p. by-bool (b .applies) (λ q. rw (p, q)) (λ q. rw (p, q, e)))

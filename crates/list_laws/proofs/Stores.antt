@@ -1,43 +1,51 @@
--- A run of stores, one more at its end, and what it leaves alone.
+-- Runs of stores, one behind the other, and one entry stored.
 use Prim.Native.Nat.{ℕ, _+_, _≤_, _<_}
-use mathlib.Core.Path.{_≡_, refl, ap, sym, _∙_}
+use mathlib.Core.Path.{_≡_, refl, ap, sym, subst, _∙_}
 use mathlib.Core.Bool.{Bool, true, false, cond}
 use mathlib.Core.Logic.{⊎-elim}
-use mathlib.Core.List.{List, [], _∷_}
+use mathlib.Core.List.{List, [], _∷_, _++_}
 use native.Mathlib.Omega.{arith}
 use native.Mathlib.Nat.{eq-or-lt-of-le, add-zero}
-use lib.ListN.{length, getD, set, length-append, length-set}
+use lib.ListN.{length, getD, set, length-append}
 use lib.Seq.{sets, length-sets, getD-set-other, getD-set-same}
 use Rattle.model.specs.Lists.{one, keepBelow}
 use Rattle.list_laws.proofs.Kept.{keepBelow-none, keepBelow-yes, keepBelow-no}
-use Rattle.list_laws.proofs.Runs.{sets-snoc}
+use Rattle.list_laws.specs.Put.{Put, Picked}
+use Rattle.list_laws.proofs.Runs.{sets-append}
 
--- the numbers below q that pass f stand in a list from `at` on, up to `len`; the rest is as in l
-pub record Picked (f : ℕ → Bool) (l : List ℕ) (at q : ℕ) (o : List ℕ) (len : ℕ) : Type 0 where
-  pub order : o ≡ sets l at (keepBelow f q)
-  pub size : len ≡ at + length (keepBelow f q)
+pub put-nothing : (o : List ℕ) (at : ℕ) → Put o at [] o at
+put-nothing o at = record { stored = refl; ends = omega arith }
+
+pub put-then : (o₀ o₁ o₂ : List ℕ) (at r₁ r₂ : ℕ) (a b : List ℕ) → Put o₀ at a o₁ r₁ → Put o₁ r₁ b o₂ r₂ → Put o₀ at (a ++ b) o₂ r₂
+put-then o₀ o₁ o₂ at r₁ r₂ a b p q = record {
+  stored =
+      q .stored ∙ ap (λ (l : List ℕ). sets l r₁ b) (p .stored) ∙ ap (λ (k : ℕ). sets (sets o₀ at a) k b) (p .ends)
+      ∙ sym (sets-append o₀ at a b);
+  ends = omega (arith, p .ends, q .ends, length-append a b);
+}
+
+pub put-length : (o₀ o₁ : List ℕ) (at r : ℕ) (a : List ℕ) → Put o₀ at a o₁ r → length o₁ ≡ length o₀
+put-length o₀ o₁ at r a p = ap length (p .stored) ∙ length-sets o₀ at a
+
+-- the same text by another name
+pub put-as : (o₀ o₁ : List ℕ) (at r : ℕ) (a b : List ℕ) → a ≡ b → Put o₀ at a o₁ r → Put o₀ at b o₁ r
+put-as o₀ o₁ at r a b e p = record { stored = p .stored ∙ ap (λ (l : List ℕ). sets o₀ at l) e; ends = p .ends ∙ ap (λ (l : List ℕ). at + length l) e }
+
+-- ---- the numbers that pass a test
 
 pub picked-none : (f : ℕ → Bool) (l : List ℕ) (at : ℕ) → Picked f l at 0 l at
-picked-none f l at = record {
-  order = rw keepBelow-none;
-  size = rw keepBelow-none (omega arith);
-}
+picked-none f l at = put-as l l at at [] _ (sym (keepBelow-none f)) (put-nothing l at)
 
 pub picked-yes : (f : ℕ → Bool) (l : List ℕ) (at q : ℕ) (o : List ℕ) (len : ℕ) → f q ≡ true → Picked f l at q o len
     → Picked f l at (q + 1) (set o len q) (len + 1)
-picked-yes f l at q o len e h = record {
-  order = rw keepBelow-yes (ap (λ t. set t len q) (h .order) ∙ sets-snoc l at len (keepBelow f q) q (h .size));
-  size = rw (keepBelow-yes, length-append) (omega arith);
-}
+picked-yes f l at q o len e h =
+    put-as l _ at (len + 1) _ _ (sym (keepBelow-yes f q e)) (put-then l o _ at len (len + 1) (keepBelow f q) (q ∷ []) h (record { stored = refl; ends = refl }))
 
 pub picked-no : (f : ℕ → Bool) (l : List ℕ) (at q : ℕ) (o : List ℕ) (len : ℕ) → f q ≡ false → Picked f l at q o len → Picked f l at (q + 1) o len
-picked-no f l at q o len e h = record {
-  order = rw keepBelow-no (h .order);
-  size = rw keepBelow-no (h .size);
-}
+picked-no f l at q o len e h = put-as l o at len _ _ (sym (keepBelow-no f q e)) h
 
 pub picked-length : (f : ℕ → Bool) (l : List ℕ) (at q : ℕ) (o : List ℕ) (len : ℕ) → Picked f l at q o len → length o ≡ length l
-picked-length f l at q o len h = ap length (h .order) ∙ length-sets l at (keepBelow f q)
+picked-length f l at q o len h = put-length l o at len (keepBelow f q) h
 
 -- the same where a test says whether there is one more
 pub picked-more : (f : ℕ → Bool) (l : List ℕ) (at q : ℕ) (o : List ℕ) (len : ℕ) (b : Bool) → f q ≡ b → Picked f l at q o len
@@ -45,13 +53,14 @@ pub picked-more : (f : ℕ → Bool) (l : List ℕ) (at q : ℕ) (o : List ℕ) 
 picked-more f l at q o len true e h = picked-yes f l at q o len e h
 picked-more f l at q o len false e h = rw add-zero (picked-no f l at q o len e h)
 
--- a list of values up to q, one more stored
-pub filled-more : (f : ℕ → ℕ) (l : List ℕ) (q : ℕ) (v : ℕ) → q < length l → v ≡ f q → ((t : ℕ) → t < q → getD l t 0 ≡ f t)
-    → (t : ℕ) → t < q + 1 → getD (set l q v) t 0 ≡ f t
-filled-more f l q v h e g t u = ⊎-elim
-    (λ w. ap (λ i. getD (set l q v) i 0) w ∙ getD-set-same l q v 0 h ∙ e ∙ ap f (sym w))
-    (λ m. getD-set-other l q t v 0 (λ w. omega arith) ∙ g t m)
-    (eq-or-lt-of-le below)
-  where
-    below : t ≤ q
-    below = omega arith
+-- ---- one entry
+
+-- an entry is stored at place n: what holds of it, and of the n before it, holds of them all
+pub set-each : {A : Type 0} (P : ℕ → A → Type 0) (d : A) (l : List A) (n : ℕ) (x : A) → n < length l → P n x → ((k : ℕ) → k < n → P k (getD l k d))
+    → (k : ℕ) → k < n + 1 → P k (getD (set l n x) k d)
+set-each P d l n x room here before k h =
+    let i : k ≤ n = omega arith in
+    ⊎-elim
+    (λ e. subst (λ (t : ℕ). P t (getD (set l n x) t d)) (sym e) (subst (P n) (sym (getD-set-same l n x d room)) here))
+    (λ m. subst (P k) (sym (getD-set-other l n k x d (λ e. omega arith))) (before k m))
+    (eq-or-lt-of-le i)

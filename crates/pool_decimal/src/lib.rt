@@ -4,7 +4,8 @@ ghost use mathlib.Core.List.{[], _∷_};
 ghost use Prim.Native.Nat.{_+_, _<_, _≤_};
 ghost use lib.ListN.{length};
 ghost use Rattle.model.specs.PoolFile.{digitsOf, decimal};
-ghost use Rattle.pool_laws.specs.Text.{Put, ended};
+ghost use Rattle.list_laws.specs.Put.{Put};
+ghost use Rattle.pool_laws.specs.Text.{ended};
 
 // A decimal digit in ASCII.
 fn digit(n: usize) -> u8

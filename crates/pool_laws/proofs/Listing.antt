@@ -10,8 +10,10 @@ use Rattle.model.specs.Lists.{listBelow, joinBelow}
 use Rattle.model.specs.Kept.{Selected}
 use Rattle.model.specs.PoolFile.{ascii, decimal, headerText, planText, placeOf, listingText, refusedText}
 use Rattle.list_laws.proofs.Built.{joinBelow-same}
-use Rattle.pool_laws.specs.Text.{Put, joined, ended, refusedWord, headings, listed, fieldsText, fieldsOf}
-use Rattle.pool_laws.proofs.Puts.{room-first, room-rest, put-as, put-then}
+use Rattle.list_laws.specs.Put.{Put}
+use Rattle.pool_laws.specs.Text.{joined, ended, refusedWord, headings, listed, fieldsText, fieldsOf}
+use Rattle.list_laws.proofs.Stores.{put-as, put-then}
+use Rattle.pool_laws.proofs.Puts.{room-first, room-rest}
 
 -- ---- the texts of the header, of a plan's line and of a refusal
 

@@ -9,21 +9,8 @@ use lib.ListN.{length, getD, take, drop, set, length-append}
 use lib.Seq.{sets, sets-eq, length-sets, take-suc}
 use Rattle.model.specs.Lists.{over}
 use Rattle.list_laws.proofs.Runs.{sets-append}
-use Rattle.pool_laws.specs.Text.{Put, Four, joined}
-
-pub put-nothing : (o : List ℕ) (at : ℕ) → Put o at [] o at
-put-nothing o at = record { stored = refl; ends = omega arith }
-
-pub put-then : (o₀ o₁ o₂ : List ℕ) (at r₁ r₂ : ℕ) (a b : List ℕ) → Put o₀ at a o₁ r₁ → Put o₁ r₁ b o₂ r₂ → Put o₀ at (a ++ b) o₂ r₂
-put-then o₀ o₁ o₂ at r₁ r₂ a b p q = record {
-  stored =
-      q .stored ∙ ap (λ (l : List ℕ). sets l r₁ b) (p .stored) ∙ ap (λ (k : ℕ). sets (sets o₀ at a) k b) (p .ends)
-      ∙ sym (sets-append o₀ at a b);
-  ends = omega (arith, p .ends, q .ends, length-append a b);
-}
-
-pub put-length : (o₀ o₁ : List ℕ) (at r : ℕ) (a : List ℕ) → Put o₀ at a o₁ r → length o₁ ≡ length o₀
-put-length o₀ o₁ at r a p = ap length (p .stored) ∙ length-sets o₀ at a
+use Rattle.list_laws.specs.Put.{Put}
+use Rattle.pool_laws.specs.Text.{Four, joined}
 
 -- room for a whole text is room for its first part, and then for the rest
 pub room-first : (at n : ℕ) (a b : List ℕ) → at + length (a ++ b) ≤ n → at + length a ≤ n
@@ -31,10 +18,6 @@ room-first at n a b h = omega (arith, length-append a b)
 
 pub room-rest : (o₀ o₁ : List ℕ) (at r : ℕ) (a b : List ℕ) → at + length (a ++ b) ≤ length o₀ → Put o₀ at a o₁ r → r + length b ≤ length o₁
 room-rest o₀ o₁ at r a b h p = omega (arith, length-append a b, p .ends, put-length o₀ o₁ at r a p)
-
--- the same text by another name
-pub put-as : (o₀ o₁ : List ℕ) (at r : ℕ) (a b : List ℕ) → a ≡ b → Put o₀ at a o₁ r → Put o₀ at b o₁ r
-put-as o₀ o₁ at r a b e p = record { stored = p .stored ∙ ap (λ (l : List ℕ). sets o₀ at l) e; ends = p .ends ∙ ap (λ (l : List ℕ). at + length l) e }
 
 -- a text put byte by byte: one more
 pub take-more : {A : Type 0} (l : List A) (i : ℕ) (d : A) → i < length l → take (i + 1) l ≡ take i l ++ (getD l i d ∷ [])

@@ -9,11 +9,6 @@ use lib.Seq.{sets}
 use Rattle.model.specs.Kept.{Selected}
 use Rattle.model.specs.PoolFile.{decimal, lineText}
 
--- a text stands from `at` on and ends at r; the rest is as it was
-pub record Put (before : List ℕ) (at : ℕ) (text after : List ℕ) (r : ℕ) : Type 0 where
-  pub stored : after ≡ sets before at text
-  pub ends : r ≡ at + length text
-
 -- a selection of which the listing shows these lists
 abbrev pub listed : List ℕ → List ℕ → List ℕ → Selected
 listed kept fronts lines = record { kept = kept; fronts = fronts; lines = lines; ideal = []; state = 0 }

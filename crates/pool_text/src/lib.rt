@@ -9,7 +9,8 @@ ghost use lib.ListN.{length};
 ghost use Rattle.model.specs.Lists.{joinBelow, over};
 ghost use Rattle.model.specs.Refusal.{maxSize};
 ghost use Rattle.model.specs.PoolFile.{lineText, headerText, listingText, refusedText};
-ghost use Rattle.pool_laws.specs.Text.{Put, ended, listed, fieldsText, fieldsOf};
+ghost use Rattle.list_laws.specs.Put.{Put};
+ghost use Rattle.pool_laws.specs.Text.{ended, listed, fieldsText, fieldsOf};
 
 // A line's number, or `-`, and the space after it.
 fn put_line(l: usize, out: &mut [u8], at: usize) -> usize

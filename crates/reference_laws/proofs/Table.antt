@@ -1,12 +1,13 @@
 -- THEOREM (Das and Dennis 1998): the list of lines has every point of the lattice, nothing else, and none twice. Assumes nothing.
 use Prim.Native.Nat.{ℕ, zero, suc, _+_, _-_, _≤_, _<_}
 use mathlib.Core.Path.{_≡_, sym, ap, subst, _∙_}
-use mathlib.Core.Logic.{⊎-elim, _≢_, ∥∥₁-elim}
-use mathlib.Core.HLevel.{¬-prop, ⊥-prop}
-use mathlib.Core.List.{List, [], _∷_, List·Memᴰ, List·Memᴰ·head, List·Memᴰ·not-nil, List·Memᴰ·eq-of-singleton, List·Memᴰ·append-cases, Memᴰ·append-left, Memᴰ·append-right, Memᴰ·map, Memᴰ·of-map, head-eq-of-cons-eq, tail-eq-of-cons-eq, List·Nodup, nodup-append, Pairwise·nil, Pairwise·map, pairwise-singleton}
+use mathlib.Core.Logic.{⊎-elim, _≢_}
+use mathlib.Core.HLevel.{¬-prop}
+use mathlib.Core.List.{List, [], _∷_, List·Memᴰ, List·Memᴰ·head, List·Memᴰ·not-nil, List·Memᴰ·eq-of-singleton, List·Memᴰ·append-cases, Memᴰ·append-left, Memᴰ·append-right, Memᴰ·map, Memᴰ·of-map, head-eq-of-cons-eq, tail-eq-of-cons-eq, List·Nodup, Pairwise·nil, Pairwise·map, pairwise-singleton}
 use native.Mathlib.Nat.{add-zero, add-suc}
 use native.Mathlib.Omega.{arith}
 use lib.ListN.{length}
+use Rattle.list_laws.proofs.Members.{distinct-append}
 use Rattle.model.specs.Lists.{joinBelow}
 use Rattle.model.specs.Reference.{tuples, lattice}
 use Rattle.model.specs.Papers.DasDennis1998.{total, IsPoint, IsTable}
@@ -31,14 +32,11 @@ module _ {A : Type 0} (f : ℕ → List A) where
 
   pub join-once : (n : ℕ) → ((i : ℕ) → i < n → List·Nodup (f i)) → ((i j : ℕ) (a : A) → i < j → List·Memᴰ a (f i) → List·Memᴰ a (f j) → ⊥)
       → List·Nodup (joinBelow f n)
-  unfolding joinBelow nodup-append
+  unfolding joinBelow
   join-once zero each apart = Pairwise·nil
   join-once (suc n) each apart =
-      nodup-append .1 (
-        join-once n (λ i h. each i (omega arith)) apart,
-        each n (omega arith),
-        λ a before here. ∥∥₁-elim before ⊥-prop (λ b. ∥∥₁-elim here ⊥-prop (λ w. let r = mem-join n b in apart (r .0) n a (r .1) (r .2) w)),
-      )
+      distinct-append (joinBelow f n) (f n) (join-once n (λ i h. each i (omega arith)) apart) (each n (omega arith))
+      (λ a b w. let r = mem-join n b in apart (r .0) n a (r .1) (r .2) w)
 
 -- ---- the points that are listed
 

@@ -11,7 +11,8 @@ use lib.Ieee.{Float, binary64, le, fits}
 use mir.Syntax.{w64}
 use mir.Val.{SFits}
 use Rattle.float_laws.proofs.Order.{le-trans}
-use Rattle.float_laws.proofs.Constants.{exp2, minus-exp2, exp2-wider, bounded}
+use Rattle.float_laws.proofs.Constants.{exp2, minus-exp2, bounded}
+use Rattle.float_laws.proofs.Magnitude.{exp2-mono}
 use Rattle.float_laws.proofs.InRange as in-range
 use Rattle.model.specs.Real.{within}
 use Rattle.model.specs.Draw.{Drawn, drawn, step, wordOf, drawWord, unitOf, drawF64, drawUsize, drawI64, f64Range}
@@ -68,5 +69,5 @@ f64Range-within low high s fl fh h kl kh =
     let top = exp2 53 in
     let d =
     in-range.drawn low high (unitOf w) (w / 2 ^ 12) (bounded binary64 low 53 53 fl kl (le-trans low high top h kh)) (bounded binary64 high 53 53 fh (le-trans bottom low high kl h) kh) h
-    (le-trans (minus-exp2 1000) bottom low (exp2-wider .0) kl) (le-trans high top (exp2 1000) kh (exp2-wider .1)) (upper-below w b) (unit-counts w b) in
+    (le-trans (minus-exp2 1000) bottom low (exp2-mono 53 1000 (omega arith) .0) kl) (le-trans high top (exp2 1000) kh (exp2-mono 53 1000 (omega arith) .1)) (upper-below w b) (unit-counts w b) in
     and-i (le low _) (le _ high) (d .0) (d .1)

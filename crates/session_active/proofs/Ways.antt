@@ -3,12 +3,11 @@ use Prim.Native.Nat.{ℕ, _≤_}
 use mathlib.Core.Path.{_≡_, refl, sym, ap, _∙_, subst}
 use mathlib.Core.Bool.{Bool, true, false, not, _&&_}
 use mathlib.Core.List.{List, []}
-use mathlib.Core.Option.{Option, none, some}
+use mathlib.Core.Option.{Option, none, some, Option·some-ne-none}
 use native.Mathlib.Omega.{arith}
 use lib.Dec.{leb}
 use lib.ListN.{length}
 use Rattle.list_laws.proofs.Bools.{and-right, and-not-left, and-not, and-no}
-use Rattle.list_laws.proofs.Checks.{not-some}
 use Rattle.model.specs.declared.Distribution.{Distribution}
 use Rattle.model.specs.declared.Outcome.{Outcome}
 use Rattle.model.specs.declared.Outcome.the-variants as outcome
@@ -165,10 +164,10 @@ module _ (s : Session) (cs ps ns : List ℕ) (d : Distribution) (plan : ℕ) (hi
   -- what its answer tells
   pub kept-tells : (o : Option ℕ) (c : Outcome) (n : ℕ) (x : State) → bredExit (refusedBy c) x ≡ breedBy o st history → c ≡ outcome.Kept n → (o ≡ none) × (x ≡ breed st history)
   kept-tells none c n x e f = (refl, ap (λ (b : BredExit). b .after) e)
-  kept-tells (some q) c n x e f = absurd (not-some q (sym (ap (λ (b : BredExit). b .refusal) e) ∙ ap (λ (y : Outcome). refusedBy y) f))
+  kept-tells (some q) c n x e f = absurd (Option·some-ne-none q (sym (ap (λ (b : BredExit). b .refusal) e) ∙ ap (λ (y : Outcome). refusedBy y) f))
 
   pub refused-tells : (o : Option ℕ) (c : Outcome) (n : ℕ) (x : State) → bredExit (refusedBy c) x ≡ breedBy o st history → c ≡ outcome.Refused n → (o ≡ some n) × (x ≡ st)
-  refused-tells none c n x e f = absurd (not-some n (sym (ap (λ (y : Outcome). refusedBy y) f) ∙ ap (λ (b : BredExit). b .refusal) e))
+  refused-tells none c n x e f = absurd (Option·some-ne-none n (sym (ap (λ (y : Outcome). refusedBy y) f) ∙ ap (λ (b : BredExit). b .refusal) e))
   refused-tells (some q) c n x e f =
       (sym (ap (λ (b : BredExit). b .refusal) e) ∙ ap (λ (y : Outcome). refusedBy y) f, ap (λ (b : BredExit). b .after) e)
 

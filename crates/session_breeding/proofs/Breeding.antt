@@ -3,7 +3,7 @@ use Prim.Native.Nat.{ℕ, _*_, _≤_}
 use mathlib.Core.Path.{_≡_, refl, sym, ap, ap₂, _∙_}
 use mathlib.Core.Bool.{true}
 use mathlib.Core.List.{List, [], _++_}
-use mathlib.Core.Option.{Option, none, some}
+use mathlib.Core.Option.{Option, none, some, Option·some-ne-none}
 use native.Mathlib.Omega.{arith}
 use native.Mathlib.Nat.{le-refl}
 use borrow.Author.Tests.{eqb-true, leb-true}
@@ -12,7 +12,6 @@ use lib.Ieee.{Float}
 use lib.ListN.{length, getD, take, drop, length-take, length-replicate}
 use Rattle.list_laws.proofs.Bools.{and-left, and-right}
 use Rattle.list_laws.proofs.Built.{over-take}
-use Rattle.list_laws.proofs.Checks.{not-some}
 use Rattle.model.specs.declared.Outcome.{Outcome}
 use Rattle.model.specs.declared.Outcome.the-variants as outcome
 use Rattle.model.specs.declared.Selection.{Selection}
@@ -28,7 +27,8 @@ use Rattle.model.specs.Property.{SessionOk}
 use Rattle.refusals.specs.declared.Check.{Check}
 use Rattle.refusals.specs.Checked.{checked}
 use Rattle.session_laws.specs.Refused.{breedRefusal, shortRefusal}
-use Rattle.session_laws.proofs.Request.{bred-length, bred-request, step-refusal, then-last}
+use Rattle.session_laws.proofs.Request.{bred-length, bred-request, step-refusal}
+use Rattle.list_laws.proofs.Checks.{then-last}
 use Rattle.session_records.proofs.Records.{stands}
 use Rattle.session_breeding.specs.Breeding.{bredSession, Stepped, stepped, takenOf, blankLent, stepOn, bredExit, breedBy, breedOf}
 
@@ -121,7 +121,7 @@ module _ (s : Session) (cs ps : List ℕ) (history : List ℕ) where
         → r .outcome ≡ outcome.Refused n → bredExit (refusedBy (r .outcome)) (state s words ps ns) ≡ breedBy o (at ns) history
     unfolding stepAccepted
     refused-by none n e f =
-        absurd (not-some n (sym (ap (λ (x : Outcome). refusedBy x) f) ∙ ap (λ (x : Stepped). refusedBy (x .answer .outcome)) e))
+        absurd (Option·some-ne-none n (sym (ap (λ (x : Outcome). refusedBy x) f) ∙ ap (λ (x : Stepped). refusedBy (x .answer .outcome)) e))
     refused-by (some q) n e f =
         ap₂ (λ (x : Outcome) (y : List ℕ). bredExit (refusedBy x) (state s y ps ns)) (ap (λ (x : Stepped). x .answer .outcome) e) (ap (λ (x : Stepped). x .offspring) e)
 
@@ -131,7 +131,7 @@ module _ (s : Session) (cs ps : List ℕ) (history : List ℕ) where
         → bredExit (refusedBy (r .outcome)) (state u words ps ns) ≡ breedBy o (at ns) history
     unfolding stepAccepted breed bredFrom
     bred-by (some q) n u e f h k =
-        absurd (not-some q (sym (ap (λ (x : Stepped). refusedBy (x .answer .outcome)) e) ∙ ap (λ (x : Outcome). refusedBy x) f))
+        absurd (Option·some-ne-none q (sym (ap (λ (x : Stepped). refusedBy (x .answer .outcome)) e) ∙ ap (λ (x : Outcome). refusedBy x) f))
     bred-by none n u e f h k =
         ap₂ (λ (x : Option ℕ) (y : Session). bredExit x (state y words ps ns)) (ap (λ (x : Outcome). refusedBy x) f)
         (k ∙ ap (λ (x : ℕ). bredSession s (r .rng .s) (after ++ drop x (s .«ideal_point»))) (sym h))

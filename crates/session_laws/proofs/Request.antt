@@ -12,7 +12,7 @@ use borrow.Author.Tests.{lt-ltb, le-ltb, lt-leb, leb-false, ne-eqb, not-false}
 use Rattle.list_laws.proofs.Bools.{by-bool, and-left, and-right, and-both, and-fails-first, and-not, and-no, or-left, or-right, or-both}
 use Rattle.list_laws.proofs.Tests.{allBelow-every}
 use Rattle.list_laws.proofs.Built.{listBelow-length}
-use Rattle.list_laws.proofs.Checks.{passed-over, last-one}
+use Rattle.list_laws.proofs.Checks.{passed-over, applies-first, after-two, then-last}
 use Rattle.list_laws.proofs.Rows.{joinBelow-length}
 use Rattle.model.specs.declared.Distribution.{Distribution}
 use Rattle.model.specs.declared.Session.{Session}
@@ -61,20 +61,6 @@ dimensions-good s ok =
     (ap not (allBelow-every (λ d. validDimension (dimensionOf s d)) (s .progress .«n_dims») (ok .valid)))
 
 -- ---- a session's six checks
-
--- one that applies is the first, and what comes after two others counts by its own first
-applies-first : (c : Check) (cs : List Check) → c .applies ≡ true → firstOf (c ∷ cs) ≡ some (c .number)
-unfolding firstOf
-applies-first c cs e = rw e
-
-after-two : (a b : Check) (cs ds : List Check) → firstOf cs ≡ firstOf ds → firstOf (a ∷ b ∷ cs) ≡ firstOf (a ∷ b ∷ ds)
-unfolding firstOf
-after-two a b cs ds e = rw e
-
--- the first of three checks, of which the last applies, by the first of the two before
-pub then-last : (a b c : Check) → c .applies ≡ true → firstOf (a ∷ b ∷ c ∷ []) ≡ some (orElse (firstOf (a ∷ b ∷ [])) (c .number))
-unfolding firstOf
-then-last a b c e = by-bool (a .applies) (λ p. rw p) (λ p. by-bool (b .applies) (λ q. rw (p, q)) (λ q. rw (p, q, e)))
 
 -- a dimension that 6 does not apply to
 pub fit-dimension : (n : ℕ) (d : Distribution) → (leb maxSettings n || not (validDimension d)) ≡ false → (n < maxSettings) × (validDimension d ≡ true)
@@ -185,4 +171,4 @@ module _ (st : State) (history : List ℕ) (ok : SessionOk st) where
     step-refusal =
         passed-over _ _ (ok .config .directions) ∙ passed-over _ _ request-size ∙ passed-over _ _ request-divisions
         ∙ passed-over _ _ (ok .config .operators) ∙ passed-over _ _ (dimensions-good (st .session) (ok .dimensions)) ∙ passed-over _ _ request-size
-        ∙ last-one _ _ _ request-room
+        ∙ after-two _ _ _ _ (passed-over _ _ request-room)

@@ -11,7 +11,7 @@ use mir.Val.{Val}
 use denote.Laws.{Is}
 use denote.Struct.Declared as struct
 use borrow.Author.Tests.{not-true, not-false}
-use Rattle.list_laws.proofs.Bools.{and-left, and-both, and-fails}
+use Rattle.list_laws.proofs.Bools.{and-left, and-both, and-fails, by-cond}
 use Rattle.list_laws.proofs.Checks.{applies-not}
 use Rattle.demand3_laws.proofs.Calls.{sample-demand3}
 use Rattle.model.specs.declared.Distribution.{Distribution}
@@ -26,7 +26,6 @@ use Rattle.model.specs.Calls.{SampleExit, sampleBy, sampleOf, Samples}
 use Rattle.model.proofs.Session as session
 use Rattle.candidate_laws.proofs.Sound.{AllHeld}
 use Rattle.typed_laws.proofs.Held.{session-dimensions, session-held}
-use Rattle.session_laws.proofs.Lists.{by-cond}
 use Rattle.session_laws.proofs.Request.{breeds-active, fit-dimension, room-left}
 use Rattle.session_laws.proofs.Steps.{long, some-dimension, active-ok, discover-ok, activate-ok, activate-long, sampleFromCandidate-ok}
 use Rattle.session_laws.proofs.Breed.{breed-ok, breed-long}

@@ -9,7 +9,7 @@ use lib.Dec.{eqb, leb, ltb}
 use lib.ListN.{length, getD, set, take, length-take, length-set}
 use lib.Seq.{getD-set-same, getD-set-other, set-out, getD-take}
 use borrow.Author.Tests.{ltb-true, ltb-false, le-leb, leb-true, eqb-true, eqb-false, not-true}
-use Rattle.list_laws.proofs.Bools.{by-bool, and-left, and-right, and-both}
+use Rattle.list_laws.proofs.Bools.{by-bool, and-left, and-right, and-both, by-cond}
 use Rattle.list_laws.proofs.Members.{in-has, getD-in}
 use Rattle.model.specs.declared.Distribution.{Distribution}
 use Rattle.model.specs.declared.Phase.{Phase}
@@ -28,7 +28,8 @@ use Rattle.candidate_laws.proofs.Sound.{AllHeld}
 use Rattle.candidate_laws.proofs.Sampled.{sampleAll-sound, sampleCandidates-sound}
 use Rattle.candidate_laws.proofs.Words.{words-within, words-put}
 use Rattle.list_laws.proofs.Built.{over-long}
-use Rattle.session_laws.proofs.Lists.{overAt-long, set-each, by-cond}
+use Rattle.list_laws.proofs.Stores.{set-each}
+use Rattle.session_laws.proofs.Lists.{overAt-long}
 use Rattle.session_laws.proofs.Request.{dimensions-good}
 
 -- ---- the lengths of the lent slices

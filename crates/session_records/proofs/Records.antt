@@ -84,10 +84,6 @@ is-new-by ps n plan i h e =
     (λ b. ap not (le-ltb i n (leb-true n i b)) ∙ sym b)
     (λ b. ap not (lt-ltb i n (leb-false n i b)) ∙ sym b)
 
--- a test whose first half passes is its second half
-pub past : {a b d : Bool} → a ≡ true → b ≡ d → (a && b) ≡ d
-past e f = rw e f
-
 -- ---- the records bred from
 
 pub records-more : (f : ℕ → ℕ) (history old pool : List ℕ) (i k : ℕ) → k ≡ f i → pool ≡ over (joinBelow (λ i. blockOf history (f i)) i) old

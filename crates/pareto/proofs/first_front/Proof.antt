@@ -7,7 +7,8 @@ use native.Mathlib.Omega.{arith}
 use borrow.Author.Tests.{eq-eqb, ne-eqb}
 use lib.Dec.{eqb}
 use lib.ListN.{length, getD, length-set}
-use Rattle.list_laws.proofs.Stores.{Picked, picked-none, picked-yes, picked-no}
+use Rattle.list_laws.specs.Put.{Picked}
+use Rattle.list_laws.proofs.Stores.{picked-none, picked-yes, picked-no}
 use Rattle.pareto.proofs.first_front.Statement.{statement}
 use Rattle.pareto.proofs.first_front.Tie as tie
 
@@ -59,7 +60,7 @@ returns : tie.Need-returns Inv-loop μ-loop
 returns c =
     let l = c .before .loop in
     let e : l .q ≡ c .before .before .args .n = omega arith in
-    rw (← e) (l .inv .3 .size ∙ zero-add _, l .inv .3 .order)
+    rw (← e) (l .inv .3 .ends ∙ zero-add _, l .inv .3 .stored)
 
 pub first-front-spec : {M : Type 1} → statement M
 first-front-spec =

@@ -5,7 +5,8 @@ use mathlib.Core.List.{[], _∷_, _++_}
 use native.Mathlib.Omega.{arith}
 use lib.ListN.{length}
 use Rattle.model.specs.PoolFile.{digitsOf}
-use Rattle.pool_laws.proofs.Puts.{put-nothing, put-then, put-as, room-first, room-rest}
+use Rattle.list_laws.proofs.Stores.{put-nothing, put-then, put-as}
+use Rattle.pool_laws.proofs.Puts.{room-first, room-rest}
 use Rattle.pool_laws.proofs.Decimals.{digits-none, digits-one, digits-more}
 use borrow.Fn.Kinds.{In}
 use borrow.Fn.PlainCycle.{Measures, is, falls, and}

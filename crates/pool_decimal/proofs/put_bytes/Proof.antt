@@ -4,8 +4,9 @@ use mathlib.Core.Path.{_≡_, refl, _∙_}
 use native.Mathlib.Omega.{arith}
 use lib.ListN.{length, take, length-set}
 use lib.Seq.{take-all}
-use Rattle.pool_laws.specs.Text.{Put}
-use Rattle.pool_laws.proofs.Puts.{put-more, put-as}
+use Rattle.list_laws.specs.Put.{Put}
+use Rattle.list_laws.proofs.Stores.{put-as}
+use Rattle.pool_laws.proofs.Puts.{put-more}
 use Rattle.pool_decimal.proofs.put_bytes.Statement.{statement}
 use Rattle.pool_decimal.proofs.put_bytes.Tie as tie
 

@@ -2,7 +2,8 @@
 use mathlib.Core.List.{[], _∷_}
 use borrow.Author.Needs.{needs}
 use Rattle.model.specs.PoolFile.{decimal}
-use Rattle.pool_laws.proofs.Puts.{put-then, room-first, room-rest}
+use Rattle.list_laws.proofs.Stores.{put-then}
+use Rattle.pool_laws.proofs.Puts.{room-first, room-rest}
 use Rattle.pool_decimal.proofs.put_number.Statement.{statement}
 use Rattle.pool_decimal.proofs.put_number.Tie as tie
 

@@ -2,7 +2,8 @@
 use mathlib.Core.Path.{sym}
 use borrow.Author.Needs.{needs}
 use Rattle.pool_laws.specs.Text.{headings}
-use Rattle.pool_laws.proofs.Puts.{room-1, room-2, room-3, room-4, put-four, put-as}
+use Rattle.list_laws.proofs.Stores.{put-as}
+use Rattle.pool_laws.proofs.Puts.{room-1, room-2, room-3, room-4, put-four}
 use Rattle.pool_laws.proofs.Listing.{header-text}
 use Rattle.pool_text.proofs.put_header.Statement.{statement}
 use Rattle.pool_text.proofs.put_header.Tie as tie

@@ -3,7 +3,7 @@ use mathlib.Core.Path.{ap, sym}
 use mathlib.Core.List.{List}
 use borrow.Author.Needs.{needs}
 use Rattle.pool_laws.specs.Text.{ended}
-use Rattle.pool_laws.proofs.Puts.{put-as}
+use Rattle.list_laws.proofs.Stores.{put-as}
 use Rattle.pool_laws.proofs.Decimals.{line-none, line-some}
 use Rattle.pool_text.proofs.put_line.Statement.{statement}
 use Rattle.pool_text.proofs.put_line.Tie as tie

@@ -5,8 +5,9 @@ use native.Mathlib.Omega.{arith}
 use lib.ListN.{length}
 use Rattle.model.specs.Lists.{joinBelow}
 use Rattle.list_laws.proofs.Built.{joinBelow-none, joinBelow-more}
-use Rattle.pool_laws.specs.Text.{Put, fieldsOf}
-use Rattle.pool_laws.proofs.Puts.{put-nothing, put-then, put-as, put-length}
+use Rattle.list_laws.specs.Put.{Put}
+use Rattle.pool_laws.specs.Text.{fieldsOf}
+use Rattle.list_laws.proofs.Stores.{put-nothing, put-then, put-as, put-length}
 use Rattle.pool_laws.proofs.Listing.{join-room}
 use Rattle.pool_text.proofs.put_plans.Statement.{statement}
 use Rattle.pool_text.proofs.put_plans.Tie as tie

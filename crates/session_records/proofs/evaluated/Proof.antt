@@ -6,9 +6,9 @@ use lib.Dec.{ltb}
 use lib.ListN.{length}
 use borrow.Author.Tests.{lt-ltb, le-ltb, le-leb, lt-leb}
 use Rattle.model.specs.Lists.{allBelow}
-use Rattle.list_laws.proofs.Bools.{and-not}
+use Rattle.list_laws.proofs.Bools.{and-not, past}
 use Rattle.list_laws.proofs.Tests.{allBelow-none, allBelow-yes, allBelow-no}
-use Rattle.session_records.proofs.Records.{stands, past}
+use Rattle.session_records.proofs.Records.{stands}
 use native.Mathlib.Omega.{arith}
 use Rattle.session_records.proofs.evaluated.Statement.{statement}
 use Rattle.session_records.proofs.evaluated.Tie as tie

@@ -1,8 +1,8 @@
 -- a plan is new where its place is past the others
 use mathlib.Core.Path.{sym}
 use borrow.Author.Tests.{le-leb, lt-leb}
-use Rattle.list_laws.proofs.Bools.{and-not}
-use Rattle.session_records.proofs.Records.{is-new-by, past}
+use Rattle.list_laws.proofs.Bools.{and-not, past}
+use Rattle.session_records.proofs.Records.{is-new-by}
 use borrow.Author.Needs.{needs}
 use Rattle.session_records.proofs.full.Statement.{statement}
 use Rattle.session_records.proofs.full.Tie as tie

@@ -1,8 +1,7 @@
 -- length by length
 use mathlib.Core.Path.{refl, sym}
 use borrow.Author.Tests.{le-leb, lt-leb}
-use Rattle.list_laws.proofs.Bools.{and-not}
-use Rattle.session_records.proofs.Records.{past}
+use Rattle.list_laws.proofs.Bools.{and-not, past}
 use Rattle.session_records.proofs.long_enough.Statement.{statement}
 use Rattle.session_records.proofs.long_enough.Tie as tie
 
