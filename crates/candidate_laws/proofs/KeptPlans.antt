@@ -1,11 +1,10 @@
 -- The kept list of any request: it has the size wanted, and lists plans of the pool.
 use Prim.Native.Nat.{ℕ, zero, suc, _-_, _<_}
 use mathlib.Core.Logic.{⊎-elim}
-use mathlib.Core.List.{List, _++_, List·Memᴰ·not-nil}
+use mathlib.Core.List.{List·Memᴰ·not-nil}
 use lib.ListN.{length, getD}
-use Rattle.list_laws.specs.Occ.{AllUnder}
 use Rattle.list_laws.proofs.Bools.{by-bool}
-use Rattle.list_laws.proofs.Members.{in-occ, under-in, in-snoc, getD-in, below-append}
+use Rattle.list_laws.proofs.Members.{in-snoc, getD-in, under-below, below-append}
 use Rattle.rng_util.proofs.Draws.{drawUsize-below}
 use Rattle.front_laws.proofs.Rounds.{found}
 use Rattle.front_laws.proofs.Order.{listing-below}
@@ -15,9 +14,6 @@ use Rattle.model.specs.Association.{Request, lineCount, dominance, association,
 use Rattle.model.specs.Kept.{wholeFronts, before, isSplit, splitFront, filled, padding, selectedSplit, selectedWhole, selected}
 
 -- ---- its entries
-
-under-below : (n : ℕ) (l : List ℕ) → AllUnder n l → Below n l
-under-below n l h q m = under-in n q l h (in-occ q l m)
 
 padding-in : (n k s : ℕ) → 0 < n → Below n (padding n k s .value)
 unfolding padding

@@ -2,7 +2,7 @@
 -- "the answer is the number alone, with nothing written and no word drawn": a refusal leaves state, generator and slices as they were found.
 use Prim.Native.Nat.{ℕ, _≤_}
 use mathlib.Core.Path.{_≡_}
-use mathlib.Core.Bool.{Bool, true}
+use mathlib.Core.Bool.{true}
 use mathlib.Core.List.{List}
 use mathlib.Core.Option.{Option, none, some}
 use lib.Ieee.{Float}
@@ -24,9 +24,9 @@ use Rattle.model.specs.declared.Chosen.the-variants as chosen
 use Rattle.model.specs.Lists.{over}
 use Rattle.model.specs.Plan.{planAt, planCount}
 use Rattle.model.specs.Association.{Request}
-use Rattle.model.specs.Kept.{Selected, selected}
+use Rattle.model.specs.Kept.{selected}
 use Rattle.model.specs.Demand3.{Demand3}
-use Rattle.model.specs.Setting.{Operators, Generation, generation, wordsOf, WordsWithin}
+use Rattle.model.specs.Setting.{Operators, generation, wordsOf, WordsWithin}
 use Rattle.model.specs.Session.{State, Answered, noDimension, given, opened, blank, accepted, state, breeds, requestOf, operatorsOf}
 use Rattle.model.specs.PoolFile.{PoolFile, parse, fileRequest, fileText, refusedText}
 use Rattle.model.specs.Refusal.{Room, selectRefusal, stepRefusal, openRefusal, sampleRefusal, chooseRefusal}

@@ -6,16 +6,15 @@ use mathlib.Core.Bool.{Bool, true, false, cond}
 use mathlib.Core.List.{List, [], _∷_, _++_}
 use lib.Ieee.{Float, binary64, ofBits}
 use lib.ListN.{length, getD}
-use Rattle.model.specs.declared.ParamValue.{ParamValue}
 use Rattle.model.specs.declared.ParamValue.the-variants as value
 use Rattle.model.specs.declared.Distribution.{Distribution}
 use Rattle.model.specs.declared.Distribution.the-variants as dist
 use Rattle.model.specs.Lists.{keepBelow}
-use Rattle.model.specs.Real.{real, nought, half, unit, infinity, _⊘_}
+use Rattle.model.specs.Real.{nought, half, unit, infinity, _⊘_}
 use Rattle.model.specs.Draw.{drawn, step, drawWord}
 use Rattle.model.specs.Numbers.{roundOf, R}
 use Rattle.model.specs.Plan.{Plan, Setting}
-use Rattle.model.specs.Row.{dominates, feasible, constrainedDominates, rowBeats}
+use Rattle.model.specs.Row.{dominates, feasible, constrainedDominates}
 use Rattle.model.specs.Front.{front, frontOf}
 use Rattle.model.specs.Papers.Deb2002.{inFront}
 use Rattle.model.specs.Reference.{dasDennis, lattice, pointCount, autoDivisions}

@@ -1,9 +1,7 @@
 -- The session property: "a contract may ask of it a property that opening is proved to give and every call to keep, refused or not, and nothing more".
 use Prim.Native.Nat.{ℕ, _≤_, _<_, max}
 use mathlib.Core.Path.{_≡_}
-use mathlib.Core.Bool.{Bool, true, false}
-use mathlib.Core.List.{List}
-use lib.Dec.{T}
+use mathlib.Core.Bool.{true, false}
 use lib.ListN.{length, getD, take}
 use Rattle.model.specs.declared.OptionU64.{OptionU64}
 use Rattle.model.specs.declared.OptionU64.the-variants as optU64

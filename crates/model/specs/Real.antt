@@ -1,7 +1,7 @@
 -- Doubles: the rounded operations under the signs of numerical analysis, and the constants that the records name, by their bit patterns.
 use Prim.Native.Nat.{ℕ, zero, suc}
-use mathlib.Core.Bool.{Bool, true, false, cond, _&&_}
-use lib.Ieee.{Float, nan, inf, fin, binary64, add, sub, mul, div, lt, le, neg, ofBits, toBits}
+use mathlib.Core.Bool.{Bool, false, cond, _&&_}
+use lib.Ieee.{Float, nan, inf, fin, binary64, add, sub, mul, div, lt, le, ofBits, toBits}
 
 infixl 65 _⊕_ _⊖_
 infixl 70 _⊗_ _⊘_

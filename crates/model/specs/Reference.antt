@@ -6,7 +6,6 @@ use mathlib.Core.Option.{Option, none, some}
 use lib.IntN.{pos}
 use lib.Dec.{leb, ltb}
 use lib.Ieee.{Float, binary64, ofInt}
-use lib.ListN.{getD}
 use Rattle.model.specs.Lists.{joinBelow, firstBelow}
 use Rattle.model.specs.Real.{_⊘_}
 

@@ -1,6 +1,5 @@
 -- Document 01, "Session": the state, what opening answers, and what an accepted call does.
-use Prim.Native.Nat.{ℕ, zero, suc, _+_, _-_, _*_, _%_, _^_, _≤_, _<_}
-use mathlib.Core.Path.{_≡_}
+use Prim.Native.Nat.{ℕ, suc, _+_, _-_, _*_, _%_, _^_}
 use mathlib.Core.Bool.{Bool, true, false, cond, not, _&&_}
 use mathlib.Core.List.{List, [], _∷_, _++_, map}
 use mathlib.Core.Option.{Option, none, some}
@@ -18,17 +17,14 @@ use Rattle.model.specs.declared.OptionUsize.the-variants as optUsize
 use Rattle.model.specs.declared.DimensionInfo.{DimensionInfo}
 use Rattle.model.specs.declared.Phase.{Phase}
 use Rattle.model.specs.declared.Phase.the-variants.{Discovery, Active}
-use Rattle.model.specs.declared.Rng.{Rng}
-use Rattle.model.specs.declared.Config.{Config}
 use Rattle.model.specs.declared.Progress.{Progress}
 use Rattle.model.specs.declared.Session.{Session}
 use Rattle.model.specs.Lists.{allBelow, lastBelow, listBelow, joinBelow, has, over}
 use Rattle.model.specs.Real.{nought, infinity}
-use Rattle.model.specs.Draw.{Drawn}
 use Rattle.model.specs.Plan.{planAt, planCount, planWords, maxValues, maxSettings}
 use Rattle.model.specs.Reference.{divisionsOf, populationSize}
 use Rattle.model.specs.Association.{Request}
-use Rattle.model.specs.Setting.{kindOfDimension, toWord, ofWord, sampleRandom, sampleAll, sampleCandidates, Operators, Generation, generation, wordsOf}
+use Rattle.model.specs.Setting.{kindOfDimension, toWord, ofWord, sampleRandom, sampleAll, sampleCandidates, Operators, generation, wordsOf}
 
 -- ---- the state
 

@@ -1,5 +1,5 @@
 -- Document 01, "Setting and dimension": settings, bounds, sampling, extraction, crossover, mutation and the generation step.
-use Prim.Native.Nat.{ℕ, zero, suc, _+_, _*_, _/_, _%_, _^_, _<_, min}
+use Prim.Native.Nat.{ℕ, zero, suc, _+_, _*_, _/_, _%_, _^_, _<_}
 use mathlib.Core.Path.{_≡_}
 use mathlib.Core.Bool.{Bool, true, false, cond, not, _&&_}
 use mathlib.Core.List.{List, [], _∷_, _++_, map}
@@ -18,7 +18,6 @@ use Rattle.model.specs.declared.OptionF64.{OptionF64}
 use Rattle.model.specs.declared.OptionF64.the-variants as optF64
 use Rattle.model.specs.declared.OptionI64.{OptionI64}
 use Rattle.model.specs.declared.OptionI64.the-variants as optI64
-use Rattle.model.specs.Lists.{allBelow, listBelow, allIn}
 use Rattle.model.specs.Real.{_⊕_, _⊖_, _⊗_, _⊘_, real, bits, nought, half, unit, two, absolute, within, clamp}
 use Rattle.model.specs.Draw.{Drawn, drawn, drawUsize, drawI64, f64Range}
 use Rattle.model.specs.Numbers.{roundOf, midpoint, P, R}
@@ -26,7 +25,7 @@ use Rattle.model.specs.Plan.{Plan, Setting}
 use Rattle.model.specs.Row.{rowBeats}
 use Rattle.model.specs.Front.{frontOf}
 use Rattle.model.specs.Association.{Request}
-use Rattle.model.specs.Kept.{Selected, selected}
+use Rattle.model.specs.Kept.{selected}
 
 -- ---- settings as words
 

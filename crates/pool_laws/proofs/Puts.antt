@@ -6,9 +6,9 @@ use native.Mathlib.Nat.{zero-add}
 use native.Mathlib.Numerals.{add-one}
 use native.Mathlib.Omega.{arith}
 use lib.ListN.{length, getD, take, drop, set, length-append}
-use lib.Seq.{sets, sets-eq, length-sets, take-suc}
+use lib.Seq.{sets-eq, take-suc}
 use Rattle.model.specs.Lists.{over}
-use Rattle.list_laws.proofs.Runs.{sets-append}
+use Rattle.list_laws.proofs.Stores.{put-then, put-length, put-as}
 use Rattle.list_laws.specs.Put.{Put}
 use Rattle.pool_laws.specs.Text.{Four, joined}
 

@@ -1,5 +1,5 @@
 -- What reading promises: positions move forward and stay within the input.
-use Prim.Native.Nat.{ℕ, _+_, _<_, _≤_}
+use Prim.Native.Nat.{ℕ, _<_, _≤_}
 use Rattle.replay.specs.declared.Found.{Found}
 use Rattle.replay.specs.declared.Found.the-variants.{Number, EndOfLine, EndOfInput, Broken}
 

@@ -1,13 +1,8 @@
 -- Entries put into a list, and the value that a test picks.
-use Prim.Native.Nat.{ℕ, _+_, _≤_, _<_}
-use mathlib.Core.Path.{_≡_, refl, sym, subst}
-use mathlib.Core.Bool.{Bool, true, false, cond}
+use Prim.Native.Nat.{ℕ, _≤_}
 use mathlib.Core.List.{List}
-use mathlib.Core.Logic.{⊎-elim}
-use native.Mathlib.Nat.{eq-or-lt-of-le}
 use native.Mathlib.Omega.{arith}
-use lib.ListN.{length, getD, set, take, drop, length-append, length-take, length-drop}
-use lib.Seq.{getD-set-same, getD-set-other}
+use lib.ListN.{length, take, drop, length-append, length-take, length-drop}
 use Rattle.list_laws.proofs.Built.{over-long}
 use Rattle.model.specs.Lists.{over}
 use Rattle.model.specs.Session.{overAt}

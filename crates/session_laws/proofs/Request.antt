@@ -12,12 +12,11 @@ use borrow.Author.Tests.{lt-ltb, le-ltb, lt-leb, leb-false, ne-eqb, not-false}
 use Rattle.list_laws.proofs.Bools.{by-bool, and-left, and-right, and-both, and-fails-first, and-not, and-no, or-left, or-right, or-both}
 use Rattle.list_laws.proofs.Tests.{allBelow-every}
 use Rattle.list_laws.proofs.Built.{listBelow-length}
-use Rattle.list_laws.proofs.Checks.{passed-over, applies-first, after-two, then-last}
+use Rattle.list_laws.proofs.Checks.{passed-over, applies-first, after-two}
 use Rattle.list_laws.proofs.Rows.{joinBelow-length}
 use Rattle.model.specs.declared.Distribution.{Distribution}
 use Rattle.model.specs.declared.Session.{Session}
 use Rattle.model.specs.Plan.{planWords, planCount, maxSettings}
-use Rattle.model.specs.Reference.{orElse}
 use Rattle.model.specs.Association.{objectives}
 use Rattle.model.specs.Setting.{validDimension}
 use Rattle.model.specs.Session.{State, isActive, discovers, longEnough, blockOf, recordOf, bredFrom, breeds, requestOf, operatorsOf, dimensionOf, isNew, maxPlans, maxWords}
