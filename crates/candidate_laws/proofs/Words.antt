@@ -7,10 +7,10 @@ use mathlib.Core.Logic.{⊎-elim}
 use native.Mathlib.Nat.{eq-or-lt-of-le, add-mul, one-mul}
 use native.Mathlib.Omega.{arith}
 use lib.ListN.{length, getD, take, drop, length-map, List·getD-append}
-use lib.Seq.{getD-append-add, getD-take, length-take-le, ext-getD}
+use lib.Seq.{getD-append-add, getD-take, length-take-le}
 use lib.Ieee.{binary64}
 use lib.Ieee.Bits.{ofBits-toBits}
-use Rattle.list_laws.proofs.Built.{listBelow-length, listBelow-at, map-at}
+use Rattle.list_laws.proofs.Built.{map-at, listBelow-whole}
 use Rattle.list_laws.proofs.Rows.{row-lt, flatten-length, flatten-at}
 use Rattle.real_laws.proofs.Ints.{int-of-word-of}
 use Rattle.model.specs.declared.Distribution.{Distribution}
@@ -105,20 +105,12 @@ module _ (dims : ℕ → Distribution) (n count : ℕ) (cs : List (List ParamVal
 
   row-back : (i : ℕ) → i < count → parentAt dims n (wordsOf cs ++ rest) i ≡ getD cs i []
   unfolding parentAt
-  row-back i h =
-      let u = listBelow-length (λ j. ofWord (kindOfDimension (dims j)) (getD (wordsOf cs ++ rest) (i * n + j) 0)) n in
-      let w = a .each i h .whole in
-      ext-getD noValue (parentAt dims n (wordsOf cs ++ rest) i) (getD cs i []) (omega arith)
-      (λ j l. listBelow-at (λ j. ofWord (kindOfDimension (dims j)) (getD (wordsOf cs ++ rest) (i * n + j) 0)) n noValue j (omega arith) ∙ read-back i j h (omega arith))
+  row-back i h = listBelow-whole _ n noValue (getD cs i []) (a .each i h .whole) (λ j l. read-back i j h l)
 
   -- and hand the candidates back
   pub parents-back : parentsIn dims n (wordsOf cs ++ rest) count ≡ cs
   unfolding parentsIn
-  parents-back =
-      let u = listBelow-length (parentAt dims n (wordsOf cs ++ rest)) count in
-      let w = a .whole in
-      ext-getD [] (parentsIn dims n (wordsOf cs ++ rest) count) cs (omega arith)
-      (λ i l. listBelow-at (parentAt dims n (wordsOf cs ++ rest)) count [] i (omega arith) ∙ row-back i (omega arith))
+  parents-back = listBelow-whole _ count [] cs (a .whole) (λ i l. row-back i l)
 
 -- ---- a candidate put behind k others
 

@@ -141,9 +141,10 @@ pub within-not-nan : (k : ℕ) (x : Float) → Within k x → T (not (isNan x))
 within-not-nan k x w = le-not-nan x (exp2 k) (w .high) .0
 
 -- a bound may be widened
-pub within-wider : (j k : ℕ) (x : Float) → T (le (minus-exp2 k) (minus-exp2 j)) → T (le (exp2 j) (exp2 k)) → Within j x → Within k x
-within-wider j k x a b w =
-    record { held = w .held; low = le-trans-float (minus-exp2 k) (minus-exp2 j) x a (w .low); high = le-trans-float x (exp2 j) (exp2 k) (w .high) b }
+pub within-wider : (j k : ℕ) (x : Float) → j ≤ k → Within j x → Within k x
+within-wider j k x h w =
+    let e = exp2-mono j k h in
+    record { held = w .held; low = le-trans-float (minus-exp2 k) (minus-exp2 j) x (e .0) (w .low); high = le-trans-float x (exp2 j) (exp2 k) (w .high) (e .1) }
 
 pub neg-within : (k : ℕ) (x : Float) → Within k x → Within k (neg x)
 unfolding neg

@@ -11,7 +11,7 @@ use Rattle.model.specs.Real.{_⊕_, _⊗_, minusNought, sumTo}
 use Rattle.float_laws.proofs.Order.{le-trans}
 use Rattle.float_laws.proofs.Constants.{nought, one, minus-exp2}
 use Rattle.float_laws.proofs.FromZero.{Upto}
-use Rattle.float_laws.proofs.Magnitude.{Within, within-wider, exp2-mono, add-within, mul-within}
+use Rattle.float_laws.proofs.Magnitude.{Within, within-wider, add-within, mul-within}
 
 pub sum-none : (f : ℕ → Float) → sumTo f 0 ≡ minusNought
 unfolding sumTo
@@ -46,17 +46,14 @@ nought-within : Within 0 minusNought
 unfolding ofBits fits le
 nought-within = record { held = tt; low = tt; high = tt }
 
-pub up-to : (j k : ℕ) (x : Float) → j ≤ k → Within j x → Within k x
-up-to j k x h w = let e = exp2-mono j k h in within-wider j k x (e .0) (e .1) w
-
 -- a power more for each term
 sum-next : (k : ℕ) (f : ℕ → Float) (n : ℕ) → k + n ≤ 1023 → ((t : ℕ) → t < n → Within k (f t)) → Within (k + n) (sumTo f n)
 unfolding sumTo
-sum-next k f zero h F = rw add-zero (up-to 0 k minusNought zero-le nought-within)
+sum-next k f zero h F = rw add-zero (within-wider 0 k minusNought zero-le nought-within)
 sum-next k f (suc n) h F =
     let s = sum-next k f n (omega arith) (λ t l. F t (omega arith)) in
-    rw add-suc (add-within (k + n) (sumTo f n) (f n) (omega arith) s (up-to k (k + n) (f n) (omega arith) (F n (omega arith))))
+    rw add-suc (add-within (k + n) (sumTo f n) (f n) (omega arith) s (within-wider k (k + n) (f n) (omega arith) (F n (omega arith))))
 
 -- of at most m terms
 pub sum-within : (k : ℕ) (f : ℕ → Float) (n m : ℕ) → n ≤ m → k + m ≤ 1023 → ((t : ℕ) → t < n → Within k (f t)) → Within (k + m) (sumTo f n)
-sum-within k f n m l h F = up-to (k + n) (k + m) (sumTo f n) (omega arith) (sum-next k f n (omega arith) F)
+sum-within k f n m l h F = within-wider (k + n) (k + m) (sumTo f n) (omega arith) (sum-next k f n (omega arith) F)

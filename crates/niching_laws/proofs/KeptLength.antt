@@ -1,4 +1,4 @@
--- The kept list of any request has the size wanted.
+-- The kept list of any request has the size wanted, and the fronts handed out are the pool's.
 use Prim.Native.Nat.{ℕ, zero, suc, _-_, _<_, _≤_}
 use mathlib.Core.Path.{_≡_, refl}
 use mathlib.Core.Bool.{Bool, false}
@@ -8,9 +8,9 @@ use borrow.Author.Tests.{ltb-false}
 use lib.Dec.{ltb}
 use lib.Ieee.{Float}
 use lib.ListN.{length, length-append}
-use Rattle.model.specs.Front.{listing}
+use Rattle.model.specs.Front.{listing, frontList}
 use Rattle.model.specs.Association.{Request, lineCount, dominance, association, lineOf}
-use Rattle.model.specs.Kept.{picks, wholeFronts, before, isSplit, splitFront, filled, padding, selectedSplit, selectedWhole, selected}
+use Rattle.model.specs.Kept.{Selected, picks, wholeFronts, before, isSplit, splitFront, filled, padding, selectedSplit, selectedWhole, selected}
 use Rattle.list_laws.proofs.Bools.{by-bool}
 use Rattle.list_laws.proofs.First.{firstBelow-before}
 
@@ -33,10 +33,20 @@ unfolding padding
 padding-length n zero s = refl
 padding-length n (suc k) s = rw length-append (omega (arith, padding-length n k s))
 
+-- what holds whether or not a front is split holds of what is selected
+pub by-split : (r : Request) (P : Selected → Type 0) → P (selectedSplit r) → P (selectedWhole r) → P (selected r)
+unfolding selected
+by-split r P a b = by-bool (isSplit r) (λ e. rw e a) (λ e. rw e b)
+
+-- and the fronts handed out are the pool's, either way
+pub fronts-all : (r : Request) → selected r .fronts ≡ frontList (dominance r) (r .count)
+unfolding selectedSplit selectedWhole
+fronts-all r = by-split r (λ s. s .fronts ≡ frontList (dominance r) (r .count)) refl refl
+
 pub kept-length : (r : Request) → length (selected r .kept) ≡ r .size
-unfolding selected selectedSplit selectedWhole filled
+unfolding selectedSplit selectedWhole filled
 kept-length r =
     let b = before-le r in
-    by-bool (isSplit r)
-    (λ e. rw (e, length-append) (omega (arith, picks-length (lineOf r) (λ p. association r p .distance) (lineCount r) (before r) (splitFront r) (r .size - length (before r)) (r .state))))
-    (λ e. rw (e, length-append) (omega (arith, padding-length (r .count) (r .size - length (before r)) (r .state))))
+    by-split r (λ s. length (s .kept) ≡ r .size)
+    (rw length-append (omega (arith, picks-length (lineOf r) (λ p. association r p .distance) (lineCount r) (before r) (splitFront r) (r .size - length (before r)) (r .state))))
+    (rw length-append (omega (arith, padding-length (r .count) (r .size - length (before r)) (r .state))))

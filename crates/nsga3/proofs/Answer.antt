@@ -1,7 +1,7 @@
 -- The answer of a selection, from what its steps leave.
 use Prim.Native.Nat.{ℕ, _+_, _*_, _-_, _≤_}
-use mathlib.Core.Path.{_≡_, refl, ap, ap₂, sym, subst, _∙_}
-use mathlib.Core.Bool.{Bool, true, false}
+use mathlib.Core.Path.{_≡_, ap, ap₂, sym, subst, _∙_}
+use mathlib.Core.Bool.{Bool}
 use mathlib.Core.List.{List, _++_}
 use native.Mathlib.Omega.{arith}
 use lib.Ieee.{Float}
@@ -12,10 +12,10 @@ use Rattle.refusals.specs.declared.Check.{Check}
 use Rattle.refusals.specs.declared.Check.the-variants as check
 use Rattle.refusals.specs.Checked.{checked}
 use Rattle.model.specs.Lists.{over}
-use Rattle.model.specs.Front.{frontList}
-use Rattle.model.specs.Association.{Request, objectives, dominance}
+use Rattle.model.specs.Association.{Request, objectives}
 use Rattle.model.specs.Refusal.{selectRefusal}
-use Rattle.model.specs.Kept.{before, isSplit, bySplit, selectedSplit, selectedWhole, selected, padding, noLine}
+use Rattle.niching_laws.proofs.KeptLength.{fronts-all}
+use Rattle.model.specs.Kept.{before, isSplit, bySplit, selectedWhole, selected, padding, noLine}
 use Rattle.model.specs.Calls.{Lent, lent, roomOf, SelectExit, wordRequest, answered, selectAccepted, selectBy, selectOf, Selects}
 use Rattle.demand3_laws.proofs.Calls.{planAt-row, selects}
 use Rattle.front_cut.specs.declared.Cut.{Cut}
@@ -54,14 +54,6 @@ pub rows-in : (r : Request) (n : ℕ) → n ≡ r .count → (old rows : List Fl
 rows-in r n e old rows h f = record { table = h; values = λ p j a b. rows-values (r .marks) (r .plans) n old rows f p j (omega (arith, e)) b }
 
 -- ---- the answer
-
-fronts-all : (r : Request) → selected r .fronts ≡ frontList (dominance r) (r .count)
-unfolding selected selectedSplit selectedWhole
-fronts-all r = go (isSplit r)
-  where
-    go : (b : Bool) → bySplit b r .fronts ≡ frontList (dominance r) (r .count)
-    go true = refl
-    go false = refl
 
 pub accepted-exit : (r : Request) (o : List ℕ) (c : Cut) (i : List Float) (k₀ k f₀ f l₀ l : List ℕ) (g : Rng) → Sorts r o c f₀ f
     → Hands (selected r) i k₀ k l₀ l (g .s)

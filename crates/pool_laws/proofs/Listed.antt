@@ -7,23 +7,17 @@ use lib.ListN.{length, getD, take, length-replicate}
 use Rattle.model.specs.Lists.{over}
 use Rattle.model.specs.Front.{frontList}
 use Rattle.model.specs.Association.{Request, lineOf}
-use Rattle.model.specs.Kept.{Selected, selected, selectedSplit, selectedWhole, isSplit, noLine}
+use Rattle.model.specs.Kept.{Selected, selected, selectedSplit, selectedWhole, noLine}
 use Rattle.model.specs.PoolFile.{headerText, planText, listingText}
-use Rattle.list_laws.proofs.Bools.{by-bool}
 use Rattle.list_laws.proofs.Built.{listBelow-length, joinBelow-same, over-take, over-at}
-use Rattle.niching_laws.proofs.KeptLength.{kept-length}
+use Rattle.niching_laws.proofs.KeptLength.{kept-length, by-split, fronts-all}
 use Rattle.pool_laws.specs.Text.{listed}
 
 -- ---- fronts and lines are as many as the plans
 
--- what holds whether or not a front is split holds of what is selected
-pub by-split : (r : Request) (P : Selected → Type 0) → P (selectedSplit r) → P (selectedWhole r) → P (selected r)
-unfolding selected
-by-split r P a b = by-bool (isSplit r) (λ e. rw e a) (λ e. rw e b)
-
 fronts-count : (r : Request) → length (selected r .fronts) ≡ r .count
-unfolding selectedSplit selectedWhole frontList
-fronts-count r = by-split r (λ s. length (s .fronts) ≡ r .count) (listBelow-length _ (r .count)) (listBelow-length _ (r .count))
+unfolding frontList
+fronts-count r = ap length (fronts-all r) ∙ listBelow-length _ (r .count)
 
 lines-count : (r : Request) → length (selected r .lines) ≡ r .count
 unfolding selectedSplit selectedWhole

@@ -17,7 +17,7 @@ use Rattle.list_laws.proofs.First.{firstBelow-le}
 use Rattle.list_laws.proofs.Built.{listBelow-at}
 use Rattle.niching_laws.proofs.Association.{lineOf-inside}
 use Rattle.niching_laws.proofs.KeptLength.{kept-length}
-use Rattle.pool_laws.proofs.Listed.{by-split}
+use Rattle.niching_laws.proofs.KeptLength.{by-split}
 use Rattle.pool_laws.proofs.Lengths.{Small, listing-short}
 
 front-le : (d : ℕ → ℕ → Bool) (n p : ℕ) → p < n → getD (frontList d n) p 0 ≤ n

@@ -1,10 +1,10 @@
 -- Plans found by their numbers: the last record of one in a history, its place in a generation, and the records bred from.
-use Prim.Native.Nat.{ℕ, suc, _+_, _-_, _*_, _≤_, _<_}
+use Prim.Native.Nat.{ℕ, suc, _+_, _-_, _*_, _≤_, _<_, zero-le}
 use mathlib.Core.Path.{_≡_, refl, sym, ap, ap₂, _∙_}
 use mathlib.Core.Bool.{Bool, false, not}
 use mathlib.Core.List.{List, [], _∷_}
 use mathlib.Core.Logic.{⊎-elim}
-use native.Mathlib.Nat.{eq-or-lt-of-le, add-zero}
+use native.Mathlib.Nat.{eq-or-lt-of-le, add-zero, zero-add}
 use native.Mathlib.Numerals.{add-one}
 use native.Mathlib.Omega.{arith}
 use borrow.Author.Tests.{eq-eqb, ne-eqb, lt-ltb, le-ltb, leb-true, leb-false}
@@ -12,10 +12,9 @@ use lib.Dec.{eqb, leb, ltb, leb·suc-suc}
 use lib.ListN.{length, getD, take, drop, drop-of-length-le}
 use lib.Seq.{drop-cons, length-take-le}
 use Rattle.list_laws.proofs.Bools.{by-bool}
-use Rattle.list_laws.proofs.Built.{listBelow-length, joinBelow-more}
+use Rattle.list_laws.proofs.Built.{listBelow-length}
 use Rattle.list_laws.proofs.First.{lastBelow-nowhere, lastBelow-at, lastBelow-same}
-use Rattle.candidates.proofs.Laid.{over-next}
-use Rattle.list_laws.proofs.Rows.{joinBelow-length}
+use Rattle.candidates.proofs.Laid.{join-next}
 use Rattle.model.specs.Lists.{lastBelow, joinBelow, has, over}
 use Rattle.model.specs.Plan.{planOf, planAt, planCount, planWords}
 use Rattle.model.specs.Session.{placeIn, recordOf, blockOf, overAt}
@@ -90,5 +89,4 @@ pub records-more : (f : ℕ → ℕ) (history old pool : List ℕ) (i k : ℕ) �
     → overAt (i * planWords) (blockOf history k) pool ≡ over (joinBelow (λ i. blockOf history (f i)) (i + 1)) old
 records-more f history old pool i k e g =
     ap₂ (λ a b. overAt (i * planWords) (blockOf history a) b) e g
-    ∙ over-next (joinBelow (λ i. blockOf history (f i)) i) (blockOf history (f i)) old (i * planWords) (joinBelow-length (λ i. blockOf history (f i)) planWords i (λ i u. listBelow-length _ planWords))
-    ∙ ap (λ x. over x old) (sym (joinBelow-more (λ i. blockOf history (f i)) i))
+    ∙ join-next (λ i. blockOf history (f i)) planWords (λ d. listBelow-length _ planWords) 0 (i * planWords) i old zero-le (zero-add (i * planWords))

@@ -166,7 +166,7 @@ mutation-fit d x k s h b i = by-bool (le (d .high ⊖ d .low) real.nought)
     let c = float-inside d x h b (i .1) (i .0) in
     let r = sub-within 53 (d .high) (d .low) (lit≤ tt) (c .high-within) (c .low-within) in
     let m = mul-within 53 54 _ _ (lit≤ tt) (shift-small x (d .low) (d .high) (d .high ⊖ d .low) k (drawUnit s .value)) r in
-    clamped d _ h b (add-fits binary64 _ _) (within-not-nan 108 _ (add-within 107 x _ (lit≤ tt) (within-wider 53 107 x tt tt (c .within)) m))))
+    clamped d _ h b (add-fits binary64 _ _) (within-not-nan 108 _ (add-within 107 x _ (lit≤ tt) (within-wider 53 107 x (lit≤ tt) (c .within)) m))))
 
 pub mutated-in-bounds : (d : Distribution) (a : ParamValue) (k s : ℕ) → Held d → validDimension d ≡ true → Fit d a → Fit d (mutateOne d a k s .value)
 unfolding inBounds
