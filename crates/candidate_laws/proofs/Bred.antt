@@ -1,25 +1,26 @@
 -- Crossed and mutated candidates lie within their bounds, and so do the children of broods.
-use Prim.Native.Nat.{ℕ, zero, suc, _+_, _/_, _<_}
-use mathlib.Core.Path.{_≡_, refl, subst}
+use Prim.Native.Nat.{ℕ, suc, _+_, _/_, _<_}
+use mathlib.Core.Path.{_≡_, subst}
 use mathlib.Core.Bool.{true, false}
-use mathlib.Core.List.{List, [], append-assoc}
+use mathlib.Core.List.{List, [], _∷_, _++_, append-assoc}
 use native.Mathlib.Omega.{arith}
 use lib.IntN.{pos}
 use lib.Ieee.{Float, le}
 use lib.ListN.{length, getD}
 use Rattle.list_laws.proofs.Bools.{by-bool}
+use Rattle.list_laws.proofs.Places.{places-none, places-more, places-take}
+use Rattle.list_laws.proofs.Draws.{inTurn-keeps, places-drawn}
 use Rattle.model.specs.declared.Distribution.{Distribution}
 use Rattle.model.specs.declared.ParamValue.{ParamValue}
 use Rattle.model.specs.Real.{_⊘_, unit}
-use Rattle.model.specs.Draw.{Drawn}
-use Rattle.model.specs.Setting.{Pair, Children, validDimension, drawUnit, exponentOf, ofWhole, settingOf, crossoverRuns, crossOne, crossAll, crossover, mutateMaybe, mutateFirst, mutate, Operators, tournament, brood, broods, offspringOf}
+use Rattle.model.specs.Setting.{Children, validDimension, drawUnit, exponentOf, ofWhole, noValue, settingOf, children, withPair, crossoverRuns, crossOne, crossAll, crossover, mutateMaybe, mutate, Operators, tournament, brood, broods, offspringOf}
 use Rattle.model.specs.Refusal.{badDimensions}
 use Rattle.settings.proofs.Valid.{each}
 use Rattle.settings.proofs.Candidates.{winner-below}
 use Rattle.settings.proofs.InBounds.{Held}
-use Rattle.variation_laws.proofs.Children.{Fit, BothFit, crossed-in-bounds, mutated-in-bounds}
+use Rattle.variation_laws.proofs.Children.{Fit, crossed-in-bounds, mutated-in-bounds}
 use Rattle.candidate_laws.specs.Bounds.{AllWithin}
-use Rattle.candidate_laws.proofs.Sound.{AllHeld, Sound, sound-built, AllSound, all-within, all-none, all-more, all-take}
+use Rattle.candidate_laws.proofs.Sound.{AllHeld, Sound, AllSound, all-within}
 
 pub record BothSound (dims : ℕ → Distribution) (n : ℕ) (c : Children) : Type 0 where
   pub first : Sound dims n (c .first)
@@ -35,15 +36,11 @@ maybe-fit probability d v k s h g f = by-bool (le probability (drawUnit s .value
 
 module _ (dims : ℕ → Distribution) (n : ℕ) (h : AllHeld dims n) (b : badDimensions dims n ≡ false) where
   pub crossAll-sound : (p q : List ParamValue) (k s : ℕ) → Sound dims n p → Sound dims n q → BothSound dims n (crossAll dims n p q k s .value)
-  unfolding crossAll
   crossAll-sound p q k s sp sq =
-      let so-far : ℕ → Drawn Children = λ i. crossAll dims i p q k s in
-      let next : ℕ → Drawn Pair = λ i. crossOne (dims i) (settingOf p i) (settingOf q i) k (so-far i .state) in
-      let fit : (i : ℕ) → i < n → BothFit (dims i) (next i) = λ i l. crossed-in-bounds (dims i) (settingOf p i) (settingOf q i) k (so-far i .state) (h i l) (each dims n b i l) (sp .fits i l) (sq .fits i l) in
-      record {
-        first = sound-built dims (λ i. so-far i .value .first) (λ i. next i .value .first) refl (λ i. refl) n (λ i l. fit i l .0);
-        second = sound-built dims (λ i. so-far i .value .second) (λ i. next i .value .second) refl (λ i. refl) n (λ i l. fit i l .1);
-      }
+      inTurn-keeps withPair (children [] []) (λ d so-far. crossOne (dims d) (settingOf p d) (settingOf q d) k) (BothSound dims) s n
+      (record { first = places-none _ noValue; second = places-none _ noValue })
+      (λ i c t l so-far. let fit = crossed-in-bounds (dims i) (settingOf p i) (settingOf q i) k t (h i l) (each dims n b i l) (sp .each i l) (sq .each i l) in
+      record { first = places-more _ noValue i (c .first) _ (so-far .first) (fit .0); second = places-more _ noValue i (c .second) _ (so-far .second) (fit .1) })
 
   pub crossover-sound : (probability : Float) (k : ℕ) (p q : List ParamValue) (s : ℕ) → Sound dims n p → Sound dims n q → BothSound dims n (crossover dims n probability k p q s .value)
   unfolding crossover
@@ -52,11 +49,9 @@ module _ (dims : ℕ → Distribution) (n : ℕ) (h : AllHeld dims n) (b : badDi
       (λ e. rw e (record { first = sp; second = sq }))
 
   pub mutate-sound : (c : List ParamValue) (k s : ℕ) → Sound dims n c → Sound dims n (mutate dims n c k s .value)
-  unfolding mutateFirst
   mutate-sound c k s f =
-      let so-far : ℕ → Drawn (List ParamValue) = λ j. mutateFirst dims n j c k s in
-      sound-built dims (λ j. so-far j .value) (λ j. mutateMaybe (unit ⊘ ofWhole (pos n)) (dims j) (settingOf c j) k (so-far j .state) .value) refl (λ j. refl) n
-      (λ j l. maybe-fit (unit ⊘ ofWhole (pos n)) (dims j) (settingOf c j) k (so-far j .state) (h j l) (each dims n b j l) (f .fits j l))
+      places-drawn (λ d l. mutateMaybe (unit ⊘ ofWhole (pos n)) (dims d) (settingOf c d) k) (λ d v. Fit (dims d) v) noValue n s
+      (λ j l t u. maybe-fit (unit ⊘ ofWhole (pos n)) (dims j) (settingOf c j) k t (h j u) (each dims n b j u) (f .each j u))
 
 -- ---- broods
 
@@ -78,20 +73,19 @@ module _ (o : Operators) (h : AllHeld (o .dims) (o .dimCount)) (b : badDimension
       }
 
   pub broods-sound : (k s : ℕ) → AllSound (o .dims) (o .dimCount) (k + k) (broods o parents ranks k s .value)
-  unfolding broods
-  broods-sound zero s = all-none (o .dims) (o .dimCount)
-  broods-sound (suc k) s =
-      let so-far = broods o parents ranks k s in
-      let c = brood-sound (so-far .state) in
-      let m = all-more (o .dims) (o .dimCount) (suc (k + k)) _ _ (all-more (o .dims) (o .dimCount) (k + k) (so-far .value) _ (broods-sound k s) (c .first)) (c .second) in
-      let e : suc (suc (k + k)) ≡ suc k + suc k = omega arith in
-      subst (λ (j : ℕ). AllSound (o .dims) (o .dimCount) j (broods o parents ranks (suc k) s .value)) e (subst (AllSound (o .dims) (o .dimCount) (suc (suc (k + k)))) (append-assoc (so-far .value) _ _) m)
+  broods-sound k s =
+      inTurn-keeps (λ born c. born ++ (c .first ∷ c .second ∷ [])) [] (λ i born. brood o parents ranks) (λ i born. AllSound (o .dims) (o .dimCount) (i + i) born) s k (places-none _ [])
+      (λ i born t l so-far. let c = brood-sound t in
+      let m = places-more _ [] (suc (i + i)) _ _ (places-more _ [] (i + i) born _ so-far (c .first)) (c .second) in
+      let e : suc (suc (i + i)) ≡ suc i + suc i = omega arith in
+      subst (λ (j : ℕ). AllSound (o .dims) (o .dimCount) j (born ++ (brood o parents ranks t .value .first ∷ brood o parents ranks t .value .second ∷ []))) e
+      (subst (AllSound (o .dims) (o .dimCount) (suc (suc (i + i)))) (append-assoc born _ _) m))
 
   pub offspringOf-sound : (size s : ℕ) → AllSound (o .dims) (o .dimCount) size (offspringOf o parents ranks size s .value)
   unfolding offspringOf
   offspringOf-sound size s =
       let k = (size + 1) / 2 in
-      all-take (o .dims) (o .dimCount) (k + k) size _ (omega arith) (broods-sound k s)
+      places-take _ [] (k + k) size _ (omega arith) (broods-sound k s)
 
   pub offspringOf-within : (size s : ℕ) → AllWithin (o .dims) (o .dimCount) size (offspringOf o parents ranks size s .value)
   offspringOf-within size s = all-within (o .dims) (o .dimCount) size _ (offspringOf-sound size s)

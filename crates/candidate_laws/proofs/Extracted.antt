@@ -1,9 +1,8 @@
 -- The settings of a plan that may be bred from, with drawn ones where it lacks some, are a candidate within its bounds.
 use Prim.Native.Nat.{ℕ, zero, suc, _<_}
-use mathlib.Core.Path.{_≡_, refl, sym, ap, _∙_}
+use mathlib.Core.Path.{_≡_, sym, ap, _∙_}
 use mathlib.Core.Bool.{Bool, true, false, _||_}
-use mathlib.Core.List.{List, [], _∷_}
-use native.Mathlib.Omega.{arith}
+use mathlib.Core.List.{List, []}
 use borrow.Author.Tests.{ltb-true, lt-leb}
 use lib.Dec.{eqb, leb, ltb}
 use lib.Ieee.{binary64}
@@ -11,15 +10,16 @@ use lib.Ieee.Bits.{ofBits-fits}
 use lib.ListN.{length, getD}
 use Rattle.list_laws.proofs.Bools.{by-bool, and-right}
 use Rattle.list_laws.proofs.Tests.{allBelow-each}
+use Rattle.list_laws.proofs.Draws.{places-drawn}
 use Rattle.model.specs.declared.Distribution.{Distribution}
 use Rattle.model.specs.Plan.{Plan, Setting}
-use Rattle.model.specs.Setting.{kindOfDimension, ofWord, validDimension, inBounds, noSetting, sortByParam, extractOne, extract, parentsOf}
+use Rattle.model.specs.Setting.{noValue, kindOfDimension, ofWord, validDimension, inBounds, noSetting, sortByParam, extractOne, extract, parentsOf}
 use Rattle.model.specs.Refusal.{badDimensions, namedOnce, fitsDimension, breedable}
 use Rattle.settings.proofs.Valid.{each}
 use Rattle.settings.proofs.InBounds.{Held}
 use Rattle.variation_laws.proofs.Children.{HeldValue, Fit}
 use Rattle.candidate_laws.specs.Bounds.{Within}
-use Rattle.candidate_laws.proofs.Sound.{AllHeld, Sound, sound-within, sound-built, AllSound, all-none, all-cons}
+use Rattle.candidate_laws.proofs.Sound.{AllHeld, Sound, sound-within, AllSound}
 use Rattle.candidate_laws.proofs.Sampled.{sampled-fit}
 
 -- every word is that of a double
@@ -51,11 +51,9 @@ one-fit dims sorted i s h v f = by-bool (ltb i (length sorted))
 
 module _ (dims : ℕ → Distribution) (n : ℕ) (h : AllHeld dims n) (b : badDimensions dims n ≡ false) where
   pub extract-sound : (p : Plan) (s : ℕ) → breedable dims n p ≡ true → Sound dims n (extract dims n (sortByParam (p .settings)) s .value)
-  unfolding extract
   extract-sound p s f =
       let sorted = sortByParam (p .settings) in
-      sound-built dims (λ i. extract dims i sorted s .value) (λ i. extractOne (dims i) sorted i (extract dims i sorted s .state) .value) refl (λ i. refl) n
-      (λ i l. one-fit dims sorted i (extract dims i sorted s .state) (h i l) (each dims n b i l) (breedable-fits dims n p f i l))
+      places-drawn (λ i l. extractOne (dims i) sorted i) (λ d v. Fit (dims d) v) noValue n s (λ i l t u. one-fit dims sorted i t (h i u) (each dims n b i u) (breedable-fits dims n p f i u))
 
   pub extract-within : (p : Plan) (s : ℕ) → breedable dims n p ≡ true → Within dims n (extract dims n (sortByParam (p .settings)) s .value)
   extract-within p s f = sound-within dims n _ (extract-sound p s f)
@@ -63,8 +61,5 @@ module _ (dims : ℕ → Distribution) (n : ℕ) (h : AllHeld dims n) (b : badDi
   -- the kept plans' settings
   pub parentsOf-sound : (plans : ℕ → Plan) (kept : List ℕ) (s : ℕ) → ((i : ℕ) → i < length kept → breedable dims n (plans (getD kept i 0)) ≡ true)
       → AllSound dims n (length kept) (parentsOf dims n plans kept s .value)
-  unfolding parentsOf
-  parentsOf-sound plans [] s f = all-none dims n
-  parentsOf-sound plans (p ∷ ps) s f =
-      all-cons dims n (length ps) _ _ (extract-sound (plans p) s (f 0 (omega arith)))
-      (parentsOf-sound plans ps (extract dims n (sortByParam (plans p .settings)) s .state) (λ i l. f (suc i) (omega arith)))
+  parentsOf-sound plans kept s f =
+      places-drawn (λ i parents. extract dims n (sortByParam (plans (getD kept i 0) .settings))) (λ i c. Sound dims n c) [] (length kept) s (λ i l t u. extract-sound (plans (getD kept i 0)) t (f i u))

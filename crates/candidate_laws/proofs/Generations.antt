@@ -2,20 +2,21 @@
 use Prim.Native.Nat.{ℕ, zero, suc, _<_}
 use mathlib.Core.Path.{_≡_, refl}
 use mathlib.Core.Bool.{true, false}
-use mathlib.Core.List.{List}
+use mathlib.Core.List.{List, []}
 use native.Mathlib.Omega.{arith}
 use borrow.Author.Tests.{ltb-false, not-false}
 use lib.Dec.{ltb}
 use lib.ListN.{length}
 use Rattle.list_laws.proofs.Bools.{by-bool}
 use Rattle.list_laws.proofs.Tests.{allBelow-each}
+use Rattle.list_laws.proofs.Places.{places-none}
 use Rattle.model.specs.Lists.{over}
 use Rattle.model.specs.Association.{Request}
 use Rattle.model.specs.Kept.{selected}
 use Rattle.model.specs.Setting.{parentsOf, Operators, offspringOf, rankOf, generationOf, generationOfOne, generation, wordsOf, WordsWithin}
 use Rattle.model.specs.Refusal.{badDimensions, breedable, badParents}
 use Rattle.candidate_laws.specs.Bounds.{AllWithin}
-use Rattle.candidate_laws.proofs.Sound.{AllHeld, AllSound, all-within, all-none}
+use Rattle.candidate_laws.proofs.Sound.{AllHeld, AllSound, all-within}
 use Rattle.candidate_laws.proofs.Sampled.{sampleCandidates-sound}
 use Rattle.candidate_laws.proofs.Extracted.{parentsOf-sound}
 use Rattle.candidate_laws.proofs.Bred.{offspringOf-sound}
@@ -37,7 +38,7 @@ module _ (o : Operators) (r : Request) (h : AllHeld (o .dims) (o .dimCount)) (b 
       (offspringOf o (parentsOf (o .dims) (o .dimCount) (r .plans) (selected r .kept) (selected r .state) .value) (rankOf r (selected r .kept)) size
       (parentsOf (o .dims) (o .dimCount) (r .plans) (selected r .kept) (selected r .state) .state) .value)
   unfolding offspringOf
-  bred zero e some = all-none (o .dims) (o .dimCount)
+  bred zero e some = places-none _ []
   bred (suc size) e some =
       let l = kept-length r in
       offspringOf-sound o h b _ (rankOf r (selected r .kept)) (length (selected r .kept)) (omega arith) (kept-sound some (selected r .state)) (suc size) _

@@ -1,19 +1,21 @@
 -- Drawn candidates lie within their bounds.
-use Prim.Native.Nat.{ℕ, zero, suc}
-use mathlib.Core.Path.{_≡_, refl}
+use Prim.Native.Nat.{ℕ}
+use mathlib.Core.Path.{_≡_}
 use mathlib.Core.Bool.{true, false}
+use mathlib.Core.List.{[]}
 use lib.Ieee.{binary64}
 use lib.Ieee.Fits.{add-fits}
 use Rattle.model.specs.declared.Distribution.{Distribution}
 use Rattle.model.specs.declared.Distribution.the-variants as dist
 use Rattle.model.specs.Draw.{f64Range}
-use Rattle.model.specs.Setting.{validDimension, sampleRandom, sampleAll, sampleCandidates}
+use Rattle.list_laws.proofs.Draws.{places-drawn}
+use Rattle.model.specs.Setting.{noValue, validDimension, sampleRandom, sampleAll, sampleCandidates}
 use Rattle.model.specs.Refusal.{badDimensions}
 use Rattle.settings.proofs.Valid.{each}
 use Rattle.settings.proofs.InBounds.{Held, sampled-in-bounds}
 use Rattle.variation_laws.proofs.Children.{HeldValue, Fit}
 use Rattle.candidate_laws.specs.Bounds.{Within}
-use Rattle.candidate_laws.proofs.Sound.{AllHeld, Sound, sound-within, sound-built, AllSound, all-none, all-more}
+use Rattle.candidate_laws.proofs.Sound.{AllHeld, Sound, sound-within, AllSound}
 
 -- a drawn setting fits its dimension; a drawn double is a double
 pub sampled-fit : (d : Distribution) (s : ℕ) → Held d → validDimension d ≡ true → Fit d (sampleRandom d s .value)
@@ -27,16 +29,11 @@ sampled-fit d s h v = (sampled-in-bounds d s h v, held d)
 module _ (dims : ℕ → Distribution) (n : ℕ) (h : AllHeld dims n) (b : badDimensions dims n ≡ false) where
   -- a candidate
   pub sampleAll-sound : (s : ℕ) → Sound dims n (sampleAll dims n s .value)
-  unfolding sampleAll
-  sampleAll-sound s =
-      sound-built dims (λ i. sampleAll dims i s .value) (λ i. sampleRandom (dims i) (sampleAll dims i s .state) .value) refl (λ i. refl) n
-      (λ i l. sampled-fit (dims i) (sampleAll dims i s .state) (h i l) (each dims n b i l))
+  sampleAll-sound s = places-drawn (λ i l. sampleRandom (dims i)) (λ d v. Fit (dims d) v) noValue n s (λ i l t u. sampled-fit (dims i) t (h i u) (each dims n b i u))
 
   pub sampleAll-within : (s : ℕ) → Within dims n (sampleAll dims n s .value)
   sampleAll-within s = sound-within dims n _ (sampleAll-sound s)
 
   -- so many
   pub sampleCandidates-sound : (k s : ℕ) → AllSound dims n k (sampleCandidates dims n k s .value)
-  unfolding sampleCandidates
-  sampleCandidates-sound zero s = all-none dims n
-  sampleCandidates-sound (suc k) s = all-more dims n k _ _ (sampleCandidates-sound k s) (sampleAll-sound (sampleCandidates dims n k s .state))
+  sampleCandidates-sound k s = places-drawn (λ i cs. sampleAll dims n) (λ i c. Sound dims n c) [] k s (λ i cs t u. sampleAll-sound t)

@@ -97,11 +97,11 @@ module _ (dims : ℕ → Distribution) (n count : ℕ) (cs : List (List ParamVal
   read-back : (i d : ℕ) → i < count → d < n → ofWord (kindOfDimension (dims d)) (getD (wordsOf cs ++ rest) (i * n + d) 0) ≡ settingOf (getD cs i []) d
   read-back i d h k =
       ap (ofWord (kindOfDimension (dims d))) (words-front dims n count cs within rest i d h k)
-      ∙ word-back (dims d) (settingOf (getD cs i []) d) (a .each i h .fits d k)
+      ∙ word-back (dims d) (settingOf (getD cs i []) d) (a .each i h .each d k)
 
   -- words of candidates within their bounds are within them
   pub words-within : WordsWithin dims n count (wordsOf cs ++ rest)
-  words-within i d h k = ap (inBounds (dims d)) (read-back i d h k) ∙ a .each i h .fits d k .0
+  words-within i d h k = ap (inBounds (dims d)) (read-back i d h k) ∙ a .each i h .each d k .0
 
   row-back : (i : ℕ) → i < count → parentAt dims n (wordsOf cs ++ rest) i ≡ getD cs i []
   unfolding parentAt
@@ -141,6 +141,6 @@ module _ (dims : ℕ → Distribution) (n k : ℕ) (c : List ParamValue) (old : 
       ⊎-elim
       (λ e. ap (λ (x : ℕ). inBounds (dims d) (ofWord (kindOfDimension (dims d)) (getD (overAt (k * n) (map toWord c) old) (x * n + d) 0))) e
       ∙ ap (λ (x : ℕ). inBounds (dims d) (ofWord (kindOfDimension (dims d)) x)) (put-at d l)
-      ∙ ap (inBounds (dims d)) (word-back (dims d) (settingOf c d) (s .fits d l)) ∙ s .fits d l .0)
+      ∙ ap (inBounds (dims d)) (word-back (dims d) (settingOf c d) (s .each d l)) ∙ s .each d l .0)
       (λ m. ap (λ (x : ℕ). inBounds (dims d) (ofWord (kindOfDimension (dims d)) x)) (put-before i d m l) ∙ w i d m l)
       (eq-or-lt-of-le g)

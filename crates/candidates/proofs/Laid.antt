@@ -8,12 +8,12 @@ use native.Mathlib.Omega.{arith}
 use lib.ListN.{length, set, take, drop, length-append, length-drop, take-append-drop}
 use lib.Seq.{length-take-le, set-split, drop-drop, take-at, drop-at}
 use Rattle.list_laws.proofs.Built.{listBelow-none, listBelow-more, listBelow-length, joinBelow-more, over-length}
+use Rattle.list_laws.proofs.Draws.{inTurn-none, inTurn-more}
 use Rattle.list_laws.proofs.Rows.{joinBelow-length}
-use Rattle.model.specs.declared.Distribution.{Distribution}
 use Rattle.model.specs.declared.ParamValue.{ParamValue}
 use Rattle.model.specs.Lists.{listBelow, joinBelow, over}
-use Rattle.model.specs.Draw.{Drawn, drawn}
-use Rattle.model.specs.Setting.{toWord, sampleAll, sampleCandidates, wordsOf}
+use Rattle.model.specs.Draw.{Drawn, drawn, drawAll}
+use Rattle.model.specs.Setting.{toWord, wordsOf}
 use Rattle.model.specs.Session.{overAt}
 use Rattle.settings.specs.declared.Slot.{Slot}
 use Rattle.settings.specs.Candidate.{slotOf, settingsOf}
@@ -109,27 +109,17 @@ laid-more old k d out t h cs w out′ u z room e =
       state = refl;
     }
 
--- one candidate more, whose draw is `next`
-pub laid-next : (next : ℕ → Drawn (List ParamValue)) (old : List ℕ) (n i : ℕ) (d : Drawn (List (List ParamValue))) (out : List ℕ) (t : ℕ) → LaidOut old (i * n) d out t
-    → (v : List ParamValue) (u : ℕ) (out′ : List ℕ) → drawn v u ≡ next t → length (map toWord v) ≡ n → i * n + n ≤ length old
-    → out′ ≡ overAt (i * n) (map toWord v) out → LaidOut old ((i + 1) * n) (drawn (d .value ++ (next (d .state) .value ∷ [])) (next (d .state) .state)) out′ u
-laid-next next old n i d out t h v u out′ e z room put =
-    let k : i * n + n ≡ (i + 1) * n = sym (add-mul i 1 n ∙ ap (λ m. i * n + m) (one-mul n)) in
-    let m = laid-more old (i * n) d out t h (v ∷ []) n out′ u (ap length (words-one v) ∙ z) room (put ∙ ap (λ w. overAt (i * n) w out) (sym (words-one v))) in
-    subst (λ x. LaidOut old ((i + 1) * n) x out′ u)
-    (ap (λ (x : Drawn (List ParamValue)). drawn (d .value ++ (x .value ∷ [])) (x .state)) (e ∙ ap next (h .state)))
-    (subst (λ j. LaidOut old j (drawn (d .value ++ (v ∷ [])) u) out′ u) k m)
+-- candidates drawn one after the other: none yet, and one more
+module _ (next : ℕ → List (List ParamValue) → ℕ → Drawn (List ParamValue)) (s : ℕ) (old : List ℕ) (n : ℕ) where
+  pub laid-first : LaidOut old (0 * n) (drawAll next 0 s) old s
+  laid-first = subst (λ d. LaidOut old (0 * n) d old s) (sym (inTurn-none (λ cs c. cs ++ (c ∷ [])) [] next s)) (laid-none old n s)
 
--- drawn candidates
-module _ (dims : ℕ → Distribution) (n s : ℕ) (old : List ℕ) where
-  pub samples-none : LaidOut old (0 * n) (sampleCandidates dims n 0 s) old s
-  unfolding sampleCandidates
-  samples-none = laid-none old n s
-
-  pub samples-more : (i : ℕ) (out : List ℕ) (t : ℕ) → LaidOut old (i * n) (sampleCandidates dims n i s) out t → (v : List ParamValue) (u : ℕ) (out′ : List ℕ)
-      → drawn v u ≡ sampleAll dims n t → length (map toWord v) ≡ n → i * n + n ≤ length old → out′ ≡ overAt (i * n) (map toWord v) out
-      → LaidOut old ((i + 1) * n) (sampleCandidates dims n (i + 1) s) out′ u
-  unfolding sampleCandidates
-  samples-more i out t h v u out′ e z room put =
-      subst (λ d. LaidOut old ((i + 1) * n) d out′ u) (ap (λ k. sampleCandidates dims n k s) (sym (add-one i)))
-      (laid-next (sampleAll dims n) old n i (sampleCandidates dims n i s) out t h v u out′ e z room put)
+  pub laid-next : (i : ℕ) (out : List ℕ) (t : ℕ) → LaidOut old (i * n) (drawAll next i s) out t → (v : List ParamValue) (u : ℕ) (out′ : List ℕ)
+      → drawn v u ≡ next i (drawAll next i s .value) t → length (map toWord v) ≡ n → i * n + n ≤ length old → out′ ≡ overAt (i * n) (map toWord v) out
+      → LaidOut old ((i + 1) * n) (drawAll next (i + 1) s) out′ u
+  laid-next i out t h v u out′ e z room put =
+      let so-far = drawAll next i s in
+      let k : i * n + n ≡ (i + 1) * n = sym (add-mul i 1 n ∙ ap (λ m. i * n + m) (one-mul n)) in
+      let m = laid-more old (i * n) so-far out t h (v ∷ []) n out′ u (ap length (words-one v) ∙ z) room (put ∙ ap (λ w. overAt (i * n) w out) (sym (words-one v))) in
+      subst (λ x. LaidOut old ((i + 1) * n) x out′ u) (inTurn-more (λ cs c. cs ++ (c ∷ [])) [] next i s refl (e ∙ ap (next i (so-far .value)) (h .state)))
+      (subst (λ j. LaidOut old j (drawn (so-far .value ++ (v ∷ [])) u) out′ u) k m)

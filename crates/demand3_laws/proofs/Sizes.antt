@@ -10,7 +10,8 @@ use borrow.Author.Tests.{ltb-true, ltb-false}
 use Rattle.model.specs.Front.{listing}
 use Rattle.model.specs.Papers.Deb2002.{inFirst}
 use Rattle.model.specs.Association.{Request, dominance}
-use Rattle.model.specs.Kept.{wholeFronts, before, isSplit, splitFront, filled, padding, selectedSplit, selectedWhole, selected}
+use Rattle.model.specs.Draw.{inTurn}
+use Rattle.model.specs.Kept.{wholeFronts, before, isSplit, splitFront, filled, selectedSplit, selectedWhole, selected}
 use Rattle.model.specs.Demand3.{sizeOfFirst, Split}
 use Rattle.demand3_laws.specs.Facts.{FrontFacts}
 use Rattle.list_laws.proofs.Bools.{by-bool, and-left, and-right}
@@ -88,7 +89,7 @@ module _ (r : Request) where
         last-one h = omega (arith, firstBelow-le (λ k. ltb (r .size) (len (suc k))) (r .count))
 
     pub whole-kept : selected r .kept ≡ before r
-    unfolding selected selectedWhole padding
+    unfolding selected selectedWhole inTurn
     whole-kept = rw (whole, none) (append-nil (before r))
       where
         none : r .size - length (before r) ≡ 0

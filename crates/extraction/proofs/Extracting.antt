@@ -1,19 +1,17 @@
 -- A plan's settings, and a candidate made of them place by place.
-use mathlib.Core.Path.{_≡_, refl, sym, ap, _∙_}
+use mathlib.Core.Path.{_≡_, refl}
 use mathlib.Core.Bool.{true, false, _&&_}
-use mathlib.Core.List.{List, [], _∷_, _++_}
+use mathlib.Core.List.{List}
 use Prim.Native.Nat.{ℕ, _+_, _*_, _<_, _≤_, min}
 use native.Mathlib.Nat.{min-eq-left}
-use native.Mathlib.Numerals.{add-one}
 use borrow.Author.Tests.{lt-ltb, le-ltb, le-leb, lt-leb}
 use lib.ListN.{getD}
-use Rattle.list_laws.proofs.Built.{listBelow-length, listBelow-at, drawn-more}
+use Rattle.list_laws.proofs.Built.{listBelow-length, listBelow-at}
 use Rattle.model.specs.declared.Distribution.{Distribution}
-use Rattle.model.specs.declared.ParamValue.{ParamValue}
 use Rattle.model.specs.Lists.{allBelow, listBelow}
-use Rattle.model.specs.Draw.{Drawn, drawn}
-use Rattle.model.specs.Plan.{Setting, planOf, planAt}
-use Rattle.model.specs.Setting.{ofWord, sampleRandom, noSetting, sortByParam, extractOne, extract}
+use Rattle.model.specs.Draw.{drawn}
+use Rattle.model.specs.Plan.{planOf, planAt}
+use Rattle.model.specs.Setting.{ofWord, sampleRandom, noSetting, sortByParam, extractOne}
 use Rattle.model.specs.Refusal.{namedOnce, fitsDimension, breedable}
 use Rattle.extraction.specs.declared.Entry.{Entry}
 use Rattle.extraction.specs.Entries.{settingAt, entryAt, entriesOf, fitsAt}
@@ -37,15 +35,6 @@ one-there d a count i s h = rw (listBelow-length (entryAt a) count, lt-ltb i cou
 pub one-missing : (d : Distribution) (a : List Entry) (count i s : ℕ) → count ≤ i → extractOne d (entriesOf a count) i s ≡ sampleRandom d s
 unfolding extractOne entriesOf
 one-missing d a count i s h = rw (listBelow-length (entryAt a) count, le-ltb i count h)
-
-pub extract-none : (dims : ℕ → Distribution) (sorted : List Setting) (s : ℕ) → extract dims 0 sorted s ≡ drawn [] s
-unfolding extract
-extract-none dims sorted s = refl
-
-pub extract-more : (dims : ℕ → Distribution) (n : ℕ) (sorted : List Setting) (s : ℕ) (l : List ParamValue) (t : ℕ) (v : ParamValue) (u : ℕ) → drawn l t ≡ extract dims n sorted s
-    → drawn v u ≡ extractOne (dims n) sorted n t → drawn (l ++ (v ∷ [])) u ≡ extract dims (n + 1) sorted s
-unfolding extract
-extract-more dims n sorted s l t v u e f = drawn-more (λ a b. a ++ (b ∷ [])) (λ (d : Drawn (List ParamValue)). extractOne (dims n) sorted n (d .state)) e f ∙ ap (λ (k : ℕ). extract dims k sorted s) (sym (add-one n))
 
 -- ---- refusal 9
 

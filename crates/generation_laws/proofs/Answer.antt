@@ -1,26 +1,26 @@
 -- The answer of a generation step, from what its parts leave.
-use Prim.Native.Nat.{ℕ, suc, _≤_, _<_}
-use mathlib.Core.Path.{_≡_, refl, ap, ap₂, sym, subst, _∙_}
+use Prim.Native.Nat.{ℕ, _≤_, _<_}
+use mathlib.Core.Path.{_≡_, ap, ap₂, sym, subst, _∙_}
 use mathlib.Core.Bool.{false}
-use mathlib.Core.List.{List, [], _∷_}
+use mathlib.Core.List.{List}
 use mathlib.Core.Option.{none, some}
 use native.Mathlib.Omega.{arith}
 use borrow.Author.Tests.{lt-ltb, le-ltb}
 use lib.Ieee.{Float}
 use lib.ListN.{length, getD, take}
 use Rattle.list_laws.proofs.Built.{over-take, over-at}
-use Rattle.model.specs.declared.Distribution.{Distribution}
+use Rattle.list_laws.proofs.Draws.{drawAll-length}
 use Rattle.model.specs.declared.ParamValue.{ParamValue}
 use Rattle.model.specs.declared.Outcome.the-variants as outcome
 use Rattle.model.specs.declared.Rng.{Rng}
 use Rattle.model.specs.Lists.{over}
 use Rattle.model.specs.Draw.{Drawn, drawn}
-use Rattle.model.specs.Plan.{Plan, planAt, planCount}
+use Rattle.model.specs.Plan.{planAt, planCount}
 use Rattle.model.specs.Row.{rowBeats}
 use Rattle.model.specs.Front.{frontOf}
 use Rattle.model.specs.Association.{Request}
 use Rattle.model.specs.Kept.{selected}
-use Rattle.model.specs.Setting.{Operators, Generation, wordsOf, WordsWithin, sampleCandidates, parentsOf, offspringOf, rankOf, generationOf, generationOfOne, byPool, generation}
+use Rattle.model.specs.Setting.{Operators, Generation, wordsOf, WordsWithin, sampleCandidates, sortByParam, extract, parentsOf, offspringOf, rankOf, generationOf, generationOfOne, byPool, generation}
 use Rattle.model.specs.Refusal.{badDimensions, stepRefusal}
 use Rattle.model.specs.Calls.{wordRequest, Lent, roomOf, SelectExit, answered, selectAccepted, selectBy, selectOf, Selects, StepExit, stepAccepted, stepBy, stepOf, Steps}
 use Rattle.demand3_laws.proofs.Passed.{passed, one-to-1024}
@@ -31,11 +31,6 @@ use Rattle.candidate_laws.proofs.Generations.{generation-words}
 use Rattle.generation_laws.specs.Bred.{rankAt, bredFrom, exit}
 use Rattle.generation_laws.proofs.Accepted.{selects}
 use Rattle.generation_laws.proofs.Breeding.{offspring-same}
-
-parents-length : (dims : ℕ → Distribution) (n : ℕ) (plans : ℕ → Plan) (ps : List ℕ) (s : ℕ) → length (parentsOf dims n plans ps s .value) ≡ length ps
-unfolding parentsOf
-parents-length dims n plans [] s = refl
-parents-length dims n plans (p ∷ ps) s = ap suc (parents-length dims n plans ps _)
 
 -- an exit that keeps n plans
 abbrev kept-exit : ℕ → ℕ → List Float → List ℕ → List ℕ → List ℕ → List ℕ → StepExit
@@ -91,7 +86,7 @@ module _ (o : Operators) (pool directions : List ℕ) (divisions size : ℕ) (g 
       bred-generation =
           let taken : take size (x .slices .kept) ≡ selected r .kept = ap (take size) kept-is ∙ over-take (selected r .kept) (at .kept) size (kept-length r) in
           let ps = parentsOf (o .dims) (o .dimCount) (planAt pool) (selected r .kept) (selected r .state) in
-          let z : length (ps .value) ≡ size = parents-length (o .dims) (o .dimCount) (planAt pool) (selected r .kept) (selected r .state) ∙ kept-length r in
+          let z : length (ps .value) ≡ size = drawAll-length (λ i parents. extract (o .dims) (o .dimCount) (sortByParam (planAt pool (getD (selected r .kept) i 0) .settings))) (length (selected r .kept)) (selected r .state) ∙ kept-length r in
           let some : 0 < size = one-to-1024 size (passed o r (roomOf at) (length old) refused .size) .0 in
           ap₂ (λ k s. let p = parentsOf (o .dims) (o .dimCount) (planAt pool) k s in offspringOf o (p .value) (rankAt pool directions (x .slices .kept)) size (p .state)) taken state-is
           ∙ offspring-same o (ps .value) (rankAt pool directions (x .slices .kept)) (rankAt pool directions (selected r .kept)) (omega arith)

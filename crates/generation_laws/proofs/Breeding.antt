@@ -1,13 +1,14 @@
 -- Breeding looks at the ranks of its parents only; the offspring of a kept list from the words of its parents and a list of their ranks.
-use Prim.Native.Nat.{ℕ, zero, suc, _+_, _/_, _≤_, _<_}
-use mathlib.Core.Path.{_≡_, refl, ap, ap₂, sym, subst, _∙_}
+use Prim.Native.Nat.{ℕ, _+_, _/_, _≤_, _<_}
+use mathlib.Core.Path.{_≡_, ap, ap₂, sym, subst, _∙_}
 use mathlib.Core.Bool.{true, false, cond}
-use mathlib.Core.List.{List}
+use mathlib.Core.List.{List, []}
 use native.Mathlib.Omega.{arith}
 use lib.Dec.{leb}
 use lib.ListN.{length, getD, take, drop}
 use lib.Seq.{length-take-le, getD-take}
 use Rattle.list_laws.proofs.Built.{over-below}
+use Rattle.list_laws.proofs.Draws.{inTurn-same}
 use Rattle.list_laws.proofs.Tests.{allBelow-each}
 use Rattle.rng_util.proofs.Draws.{drawUsize-below}
 use Rattle.model.specs.declared.ParamValue.{ParamValue}
@@ -40,9 +41,7 @@ module _ (o : Operators) (ps : List (List ParamValue)) (f g : ℕ → ℕ) (some
       rw (e s, e (tournament g (length ps) s .state))
 
   broods-same : (k s : ℕ) → broods o ps f k s ≡ broods o ps g k s
-  unfolding broods
-  broods-same zero s = refl
-  broods-same (suc k) s = rw (broods-same k s, brood-same (broods o ps g k s .state))
+  broods-same k s = inTurn-same _ [] (λ i born. brood o ps f) (λ i born. brood o ps g) (λ i born. Unit {0}) s k tt (λ i born t l u. tt) (λ i born t l u. brood-same t)
 
   pub offspring-same : (size s : ℕ) → offspringOf o ps f size s ≡ offspringOf o ps g size s
   unfolding offspringOf

@@ -8,7 +8,7 @@ use lib.Ieee.{Float, lt}
 use Rattle.model.specs.declared.Distribution.{Distribution}
 use Rattle.model.specs.declared.ParamValue.{ParamValue}
 use Rattle.model.specs.Draw.{Drawn, drawn, drawUsize}
-use Rattle.list_laws.proofs.Built.{drawn-more}
+use Rattle.list_laws.proofs.Draws.{drawn-more}
 use Rattle.model.specs.Setting.{Children, children, drawUnit, crossAll, crossover, tournament}
 
 -- ---- crossover

@@ -1,15 +1,15 @@
 -- Laws of `listBelow`, `joinBelow` and `over`.
 use Prim.Native.Nat.{ℕ, zero, suc, _+_, _≤_, _<_}
-use mathlib.Core.Path.{_≡_, refl, ap, ap₂, sym, _∙_}
+use mathlib.Core.Path.{_≡_, refl, ap, ap₂, sym, subst, _∙_}
 use mathlib.Core.List.{List, [], _∷_, _++_, map, append-assoc, append-nil}
 use mathlib.Core.Logic.{⊎-elim}
-use native.Mathlib.Nat.{not-suc-le-zero, eq-or-lt-of-le}
+use native.Mathlib.Nat.{not-suc-le-zero, eq-or-lt-of-le, le-of-suc-le-suc}
 use native.Mathlib.Numerals.{add-one}
 use native.Mathlib.Omega.{arith}
 use lib.ListN.{length, getD, set, take, drop, drop-of-length-le, length-append, length-drop, take-append-drop, List·getD-append}
-use lib.Seq.{drop-cons, append-snoc, take-length, set-at, getD-at, ext-getD, length-take-le, getD-take, take-at, take-all, drop-at}
+use lib.Seq.{drop-cons, take-length, set-at, getD-at, ext-getD, length-take-le, getD-take, take-at, take-all, drop-at}
 use Rattle.model.specs.Lists.{listBelow, joinBelow, over}
-use Rattle.model.specs.Draw.{Drawn, drawn}
+use Rattle.list_laws.proofs.Below.{same-below}
 
 module _ {A : Type 0} where
   pub listBelow-none : (f : ℕ → A) → listBelow f 0 ≡ []
@@ -25,22 +25,23 @@ module _ {A : Type 0} where
   listBelow-length f zero = refl
   listBelow-length f (suc n) = length-append (listBelow f n) (f n ∷ []) ∙ omega (arith, listBelow-length f n)
 
+  -- one entry more at a list's end: what holds of each place before it, and of it, holds of each
+  pub snoc-each : (l : List A) (a z : A) (n : ℕ) → length l ≡ n → (P : ℕ → A → Type 0) → ((i : ℕ) → i < n → P i (getD l i z)) → P n a
+      → (i : ℕ) → i < suc n → P i (getD (l ++ (a ∷ [])) i z)
+  snoc-each l a z n e P f g i h = ⊎-elim
+      (λ v. subst (λ (k : ℕ). P k (getD (l ++ (a ∷ [])) k z)) (sym v) (subst (P n) (sym (getD-at l a [] z n e)) g))
+      (λ m. subst (P i) (sym (List·getD-append l (a ∷ []) z i (omega arith))) (f i m))
+      (eq-or-lt-of-le (le-of-suc-le-suc h))
+
   -- place i holds f i
   pub listBelow-at : (f : ℕ → A) (n : ℕ) (d : A) (i : ℕ) → i < n → getD (listBelow f n) i d ≡ f i
   unfolding listBelow
   listBelow-at f zero d i h = absurd (not-suc-le-zero h)
-  listBelow-at f (suc n) d i h =
-      let g : i ≤ n = omega arith in
-      let s = listBelow-length f n in
-      ⊎-elim
-      (λ v. ap (λ t. getD (listBelow f n ++ (f n ∷ [])) t d) v ∙ getD-at (listBelow f n) (f n) [] d n s ∙ ap f (sym v))
-      (λ m. List·getD-append (listBelow f n) (f n ∷ []) d i (omega arith) ∙ listBelow-at f n d i m)
-      (eq-or-lt-of-le g)
+  listBelow-at f (suc n) d i h = snoc-each (listBelow f n) (f n) d n (listBelow-length f n) (λ i a. a ≡ f i) (listBelow-at f n d) refl i h
 
   pub listBelow-same : (f g : ℕ → A) (n : ℕ) → ((t : ℕ) → t < n → f t ≡ g t) → listBelow f n ≡ listBelow g n
   unfolding listBelow
-  listBelow-same f g zero h = refl
-  listBelow-same f g (suc n) h = ap₂ (λ a b. a ++ (b ∷ [])) (listBelow-same f g n (λ t l. h t (omega arith))) (h n (omega arith))
+  listBelow-same = same-below listBelow (λ f g. refl) (λ f g n e v. ap₂ (λ a b. a ++ (b ∷ [])) e v)
 
   -- a list whose first n places hold f 0 .. f (n - 1) begins with them
   pub listBelow-take : (f : ℕ → A) (n : ℕ) (d : A) (l : List A) → n ≤ length l → ((t : ℕ) → t < n → getD l t d ≡ f t) → take n l ≡ listBelow f n
@@ -60,8 +61,7 @@ module _ {A : Type 0} where
 
   pub joinBelow-same : (f g : ℕ → List A) (n : ℕ) → ((t : ℕ) → t < n → f t ≡ g t) → joinBelow f n ≡ joinBelow g n
   unfolding joinBelow
-  joinBelow-same f g zero h = refl
-  joinBelow-same f g (suc n) h = ap₂ (λ a b. a ++ b) (joinBelow-same f g n (λ t l. h t (omega arith))) (h n (omega arith))
+  joinBelow-same = same-below joinBelow (λ f g. refl) (λ f g n e v. ap₂ (λ a b. a ++ b) e v)
 
   -- what a slice holds once new entries stand at its front
   pub over-length : (new old : List A) → length new ≤ length old → length (over new old) ≡ length old
@@ -88,20 +88,19 @@ module _ {A : Type 0} where
       sym (take-append-drop n l) ∙ ap₂ (λ a b. a ++ b) (listBelow-take f n d l h g) e
       ∙ ap (λ t. listBelow f n ++ drop t old) (sym (listBelow-length f n))
 
+  -- one entry more behind what stands at the front
+  pub over-snoc : (v old : List A) (j : ℕ) (r : A) → length v ≡ j → j < length old → set (over v old) j r ≡ over (v ++ (r ∷ [])) old
+  over-snoc v old j r e h =
+      let z : length (v ++ (r ∷ [])) ≡ suc j = length-append v (r ∷ []) ∙ omega (arith, e) in
+      ap (λ t. set (v ++ t) j r) (ap (λ m. drop m old) e ∙ drop-cons old j r h) ∙ set-at v (getD old j r) (drop (suc j) old) r j e
+      ∙ sym (append-assoc v (r ∷ []) (drop (length (v ++ (r ∷ []))) old) ∙ ap (λ m. v ++ (r ∷ drop m old)) z)
+
   -- the laws by which a loop that fills a slice from its front uses it: place after place is stored
   pub over-none : (f : ℕ → A) (l : List A) → over (listBelow f 0) l ≡ l
   over-none f l = ap (λ t. over t l) (listBelow-none f)
 
   pub over-more : (f : ℕ → A) (j : ℕ) (l : List A) → j < length l → set (over (listBelow f j) l) j (f j) ≡ over (listBelow f (j + 1)) l
-  over-more f j l h =
-      let s = listBelow-length f j in
-      let u = listBelow-length f (j + 1) in
-      ap (λ t. set (listBelow f j ++ drop t l) j (f j)) s
-      ∙ ap (λ t. set (listBelow f j ++ t) j (f j)) (drop-cons l j (f j) h)
-      ∙ set-at (listBelow f j) (getD l j (f j)) (drop (suc j) l) (f j) j s
-      ∙ sym (append-snoc (listBelow f j) (f j) (drop (suc j) l))
-      ∙ ap (λ t. t ++ drop (suc j) l) (sym (listBelow-more f j))
-      ∙ ap (λ t. listBelow f (j + 1) ++ drop t l) (sym (u ∙ add-one j))
+  over-more f j l h = over-snoc (listBelow f j) l j (f j) (listBelow-length f j) h ∙ ap (λ t. over t l) (sym (listBelow-more f j))
 
   pub over-size : (f : ℕ → A) (j : ℕ) (l : List A) → j ≤ length l → length (over (listBelow f j) l) ≡ length l
   over-size f j l h = over-length (listBelow f j) l (omega (arith, listBelow-length f j))
@@ -126,24 +125,11 @@ module _ {A : Type 0} where
   over-below f n l old i d e h =
       ap (λ t. getD t i d) e ∙ over-at (listBelow f n) old i d (omega (arith, listBelow-length f n)) ∙ listBelow-at f n d i h
 
--- one entry more behind what stands at the front
-pub over-snoc : (v old : List ℕ) (j r : ℕ) → length v ≡ j → j < length old → set (over v old) j r ≡ over (v ++ (r ∷ [])) old
-over-snoc v old j r e h =
-    let z : length (v ++ (r ∷ [])) ≡ suc j = length-append v (r ∷ []) ∙ omega (arith, e) in
-    ap (λ t. set (v ++ t) j r) (ap (λ m. drop m old) e ∙ drop-cons old j 0 h) ∙ set-at v (getD old j 0) (drop (suc j) old) r j e
-    ∙ sym (append-assoc v (r ∷ []) (drop (length (v ++ (r ∷ []))) old) ∙ ap (λ m. v ++ (r ∷ drop m old)) z)
-
 -- an entry of a list's image
 pub map-at : {A B : Type 0} (f : A → B) (l : List A) (i : ℕ) (z : B) (y : A) → i < length l → getD (map f l) i z ≡ f (getD l i y)
 map-at f [] i z y h = absurd (omega arith)
 map-at f (a ∷ l) zero z y h = refl
 map-at f (a ∷ l) (suc i) z y h = map-at f l i z y (omega arith)
-
--- what is drawn after another draw, and joined to what that handed out: `next` draws it
-pub drawn-more : {A B C : Type 0} (join : A → B → C) (next : Drawn A → Drawn B) {c : Drawn A} {a : A} {t : ℕ} {b : B} {u : ℕ} → drawn a t ≡ c → drawn b u ≡ next (drawn a t)
-    → drawn (join a b) u ≡ drawn (join (c .value) (next c .value)) (next c .state)
-drawn-more {A} {B} join next {c} {a} e f =
-    ap (λ (d : Drawn B). drawn (join a (d .value)) (d .state)) f ∙ ap (λ (d : Drawn A). drawn (join (d .value) (next d .value)) (next d .state)) e
 
 -- what is left of it past a place, and what lies before one
 module _ {A : Type 0} (f : ℕ → A) where

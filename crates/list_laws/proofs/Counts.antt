@@ -6,10 +6,12 @@ use mathlib.Core.Logic.{⊎-elim}
 use native.Mathlib.Nat.{not-suc-le-zero, add-zero, eq-or-lt-of-le}
 use native.Mathlib.Numerals.{add-one}
 use native.Mathlib.Omega.{arith}
-use borrow.Author.Tests.{ne-eqb}
+use borrow.Author.Tests.{eq-eqb, ne-eqb, not-true}
 use lib.Dec.{eqb}
 use Rattle.model.specs.Lists.{one, anyBelow, countBelow, sumBelow}
-use Rattle.list_laws.proofs.Bools.{by-bool, one-le, one-true, one-false}
+use Rattle.list_laws.proofs.Bools.{by-bool, past, one-le}
+use Rattle.list_laws.proofs.Below.{same-below}
+use Rattle.list_laws.proofs.Tests.{anyBelow-some, anyBelow-each, allBelow-any, allBelow-each}
 
 -- ---- countBelow
 
@@ -47,7 +49,7 @@ anyBelow-count f (suc n) = by-bool (f n)
     (λ e. rw (e, or-true, ne-eqb (countBelow f n + 1) 0 (λ z. omega arith)))
     (λ e. rw (e, or-false, anyBelow-count f n, add-zero))
 
--- if what passes f passes g, f's count is at most g's; and it is less where some number passes g alone
+-- if what passes f passes g, f's count is at most g's
 pub countBelow-mono : (f g : ℕ → Bool) (n : ℕ) → ((t : ℕ) → t < n → f t ≡ true → g t ≡ true) → countBelow f n ≤ countBelow g n
 unfolding countBelow
 countBelow-mono f g zero h = omega arith
@@ -56,22 +58,27 @@ countBelow-mono f g (suc n) h = by-bool (f n)
     rw (e, u) (omega (arith, countBelow-mono f g n (λ t l. h t (omega arith)))))
     (λ e. rw e (omega (arith, countBelow-mono f g n (λ t l. h t (omega arith)))))
 
+-- those that pass f are those that pass g too, and those that do not
+pub countBelow-split : (f g : ℕ → Bool) (n : ℕ) → countBelow f n ≡ countBelow (λ t. f t && g t) n + countBelow (λ t. f t && not (g t)) n
+unfolding countBelow
+countBelow-split f g zero = refl
+countBelow-split f g (suc n) = omega (arith, countBelow-split f g n, halves (f n) (g n))
+  where
+    halves : (a b : Bool) → one a ≡ one (a && b) + one (a && not b)
+    halves true true = refl
+    halves true false = refl
+    halves false b = refl
+
+-- one number that passes makes the count positive
+pub countBelow-at : (f : ℕ → Bool) (n k : ℕ) → k < n → f k ≡ true → 0 < countBelow f n
+countBelow-at f n k h e = omega (arith, countBelow-yes f k e, countBelow-up f (k + 1) n (omega arith))
+
+-- if what passes f passes g, and some number passes g alone, f's count is less
 pub countBelow-less : (f g : ℕ → Bool) (n k : ℕ) → ((t : ℕ) → t < n → f t ≡ true → g t ≡ true) → k < n → f k ≡ false → g k ≡ true
     → countBelow f n < countBelow g n
-unfolding countBelow
-countBelow-less f g zero k h l a b = absurd (not-suc-le-zero l)
-countBelow-less f g (suc n) k h l a b =
-    let i : k ≤ n = omega arith in
-    let h′ : (t : ℕ) → t < n → f t ≡ true → g t ≡ true = λ t u. h t (omega arith) in
-    ⊎-elim
-    (λ e. let p : f n ≡ false = ap f (sym e) ∙ a in
-    let q : g n ≡ true = ap g (sym e) ∙ b in
-    rw (p, q) (omega (arith, countBelow-mono f g n h′)))
-    (λ (m : k < n). by-bool (f n)
-    (λ e. let u : g n ≡ true = h n (omega arith) e in
-    rw (e, u) (omega (arith, countBelow-less f g n k h′ m a b)))
-    (λ e. rw e (omega (arith, countBelow-less f g n k h′ m a b))))
-    (eq-or-lt-of-le i)
+countBelow-less f g n k h l a b =
+    let more = countBelow-at (λ t. g t && not (f t)) n k l (past b (ap not a)) in
+    omega (arith, countBelow-split g f n, countBelow-mono f (λ t. g t && f t) n (λ t u e. past (h t u e) e))
 
 -- if all pass, the count is n; and conversely
 pub countBelow-all : (f : ℕ → Bool) (n : ℕ) → ((t : ℕ) → t < n → f t ≡ true) → countBelow f n ≡ n
@@ -80,46 +87,26 @@ countBelow-all f zero h = refl
 countBelow-all f (suc n) h = let e : f n ≡ true = h n (omega arith) in rw (e, countBelow-all f n (λ t u. h t (omega arith))) (omega arith)
 
 pub all-countBelow : (f : ℕ → Bool) (n : ℕ) → n ≤ countBelow f n → (t : ℕ) → t < n → f t ≡ true
-unfolding countBelow
-all-countBelow f zero h t l = absurd (not-suc-le-zero l)
-all-countBelow f (suc n) h t l =
-    let b = countBelow-le f n in
-    let i : t ≤ n = omega arith in
-    let e : f n ≡ true = one-true (f n) (omega (arith, one-le (f n))) in
-    ⊎-elim (λ v. ap f v ∙ e) (λ m. all-countBelow f n (omega (arith, one-le (f n))) t m) (eq-or-lt-of-le i)
+all-countBelow f n h t l = by-bool (f t) (λ e. e) (λ e. absurd (omega (arith, countBelow-less f (λ k. true) n t (λ k u v. refl) l e refl, countBelow-le (λ k. true) n)))
 
--- if the count is not zero, some number passes
+-- if the count is not zero, some number passes; if it is, none does
 pub some-countBelow : (f : ℕ → Bool) (n : ℕ) → 0 < countBelow f n → (t : ℕ) × (t < n) × (f t ≡ true)
-unfolding countBelow
-some-countBelow f zero h = absurd (not-suc-le-zero h)
-some-countBelow f (suc n) h = by-bool (f n)
-    (λ e. (n, omega arith, e))
-    (λ e. let g : 0 < countBelow f n = omega (arith, ap one e) in
-    let r = some-countBelow f n g in (r .0, omega (arith, r .1), r .2))
+some-countBelow f n h = anyBelow-some f n (anyBelow-count f n ∙ ap not (ne-eqb (countBelow f n) 0 (λ e. omega arith)))
 
--- if the count is zero, no number passes
 pub none-countBelow : (f : ℕ → Bool) (n : ℕ) → countBelow f n ≡ 0 → (t : ℕ) → t < n → f t ≡ false
-unfolding countBelow
-none-countBelow f zero h t l = absurd (not-suc-le-zero l)
-none-countBelow f (suc n) h t l =
-    let i : t ≤ n = omega arith in
-    ⊎-elim (λ v. ap f v ∙ one-false (f n) (omega arith)) (λ m. none-countBelow f n (omega arith) t m) (eq-or-lt-of-le i)
+none-countBelow f n h = anyBelow-each f n (anyBelow-count f n ∙ ap not (eq-eqb (countBelow f n) 0 h))
 
 -- if the count is less than n, some number does not pass
 pub left-countBelow : (f : ℕ → Bool) (n : ℕ) → countBelow f n < n → (t : ℕ) × (t < n) × (f t ≡ false)
-unfolding countBelow
-left-countBelow f zero h = absurd (not-suc-le-zero h)
-left-countBelow f (suc n) h = by-bool (f n)
-    (λ e. let g : countBelow f n < n = omega (arith, ap one e) in
-    let r = left-countBelow f n g in (r .0, omega (arith, r .1), r .2))
-    (λ e. (n, omega arith, e))
+left-countBelow f n h = by-bool (anyBelow (λ t. not (f t)) n)
+    (λ e. let r = anyBelow-some (λ t. not (f t)) n e in (r .0, r .1, not-true (f (r .0)) (r .2)))
+    (λ e. absurd (omega (arith, countBelow-all f n (allBelow-each f n (allBelow-any f n ∙ ap not e)))))
 
 -- ---- sumBelow
 
 pub sumBelow-same : (f g : ℕ → ℕ) (n : ℕ) → ((t : ℕ) → t < n → f t ≡ g t) → sumBelow f n ≡ sumBelow g n
 unfolding sumBelow
-sumBelow-same f g zero h = refl
-sumBelow-same f g (suc n) h = omega (arith, sumBelow-same f g n (λ t l. h t (omega arith)), h n (omega arith))
+sumBelow-same = same-below sumBelow (λ f g. refl) (λ f g n e v. omega arith)
 
 pub sumBelow-add : (f g : ℕ → ℕ) (n : ℕ) → sumBelow (λ t. f t + g t) n ≡ sumBelow f n + sumBelow g n
 unfolding sumBelow
@@ -157,18 +144,3 @@ countBelow-sum f (suc n) = omega (arith, countBelow-sum f n)
 
 pub countBelow-same : (f g : ℕ → Bool) (n : ℕ) → ((t : ℕ) → t < n → f t ≡ g t) → countBelow f n ≡ countBelow g n
 countBelow-same f g n h = countBelow-sum f n ∙ sumBelow-same _ _ n (λ t l. ap one (h t l)) ∙ sym (countBelow-sum g n)
-
--- those that pass f are those that pass g too, and those that do not
-pub countBelow-split : (f g : ℕ → Bool) (n : ℕ) → countBelow f n ≡ countBelow (λ t. f t && g t) n + countBelow (λ t. f t && not (g t)) n
-unfolding countBelow
-countBelow-split f g zero = refl
-countBelow-split f g (suc n) = omega (arith, countBelow-split f g n, halves (f n) (g n))
-  where
-    halves : (a b : Bool) → one a ≡ one (a && b) + one (a && not b)
-    halves true true = refl
-    halves true false = refl
-    halves false b = refl
-
--- one number that passes makes the count positive
-pub countBelow-at : (f : ℕ → Bool) (n k : ℕ) → k < n → f k ≡ true → 0 < countBelow f n
-countBelow-at f n k h e = omega (arith, countBelow-yes f k e, countBelow-up f (k + 1) n (omega arith))

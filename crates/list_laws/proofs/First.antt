@@ -10,6 +10,7 @@ use borrow.Author.Tests.{lt-ltb, le-ltb, ltb-true, ltb-false}
 use lib.Dec.{ltb}
 use Rattle.model.specs.Lists.{firstBelow, lastBelow}
 use Rattle.list_laws.proofs.Bools.{by-bool}
+use Rattle.list_laws.proofs.Below.{same-below}
 
 -- ---- firstBelow: the first that passes is k just where k passes and none before it does
 
@@ -81,9 +82,7 @@ firstBelow-before f (suc n) t h = by-bool (ltb (firstBelow f n) n)
 
 pub firstBelow-same : (f g : ℕ → Bool) (n : ℕ) → ((t : ℕ) → t < n → f t ≡ g t) → firstBelow f n ≡ firstBelow g n
 unfolding firstBelow
-firstBelow-same f g zero h = refl
-firstBelow-same f g (suc n) h =
-    rw (firstBelow-same f g n (λ t l. h t (omega arith)), h n (omega arith))
+firstBelow-same = same-below firstBelow (λ f g. refl) (λ f g n e v. rw (e, v))
 
 -- ---- lastBelow
 
@@ -106,8 +105,7 @@ lastBelow-no f n e h = ap (lastBelow f) (add-one n) ∙ rw (e, le-ltb (lastBelow
 
 pub lastBelow-same : (f g : ℕ → Bool) (n : ℕ) → ((t : ℕ) → t < n → f t ≡ g t) → lastBelow f n ≡ lastBelow g n
 unfolding lastBelow
-lastBelow-same f g zero h = refl
-lastBelow-same f g (suc n) h = rw (lastBelow-same f g n (λ t l. h t (omega arith)), h n (omega arith))
+lastBelow-same = same-below lastBelow (λ f g. refl) (λ f g n e v. rw (e, v))
 
 -- none passes, and the last that does
 pub lastBelow-nowhere : (f : ℕ → Bool) (n : ℕ) → ((t : ℕ) → t < n → f t ≡ false) → lastBelow f n ≡ n

@@ -12,6 +12,7 @@ use lib.ListN.{length, length-append}
 use Rattle.model.specs.Lists.{one, countBelow, keepBelow, In}
 use Rattle.list_laws.specs.Occ.{occ, AllUnder}
 use Rattle.list_laws.proofs.Bools.{by-bool, one-le, one-true}
+use Rattle.list_laws.proofs.Below.{same-below}
 use Rattle.list_laws.proofs.Counts.{countBelow-none, countBelow-yes, countBelow-no, countBelow-up}
 use Rattle.list_laws.proofs.Members.{occ-nil, occ-cons, occ-append, in-occ, occ-in, under-in}
 
@@ -29,8 +30,7 @@ keepBelow-no f n e = ap (keepBelow f) (add-one n) ∙ ap (λ b. keepBelow f n ++
 
 pub keepBelow-same : (f g : ℕ → Bool) (n : ℕ) → ((t : ℕ) → t < n → f t ≡ g t) → keepBelow f n ≡ keepBelow g n
 unfolding keepBelow
-keepBelow-same f g zero h = refl
-keepBelow-same f g (suc n) h = rw (keepBelow-same f g n (λ t l. h t (omega arith)), h n (omega arith))
+keepBelow-same = same-below keepBelow (λ f g. refl) (λ f g n e v. rw (e, v))
 
 pub keepBelow-length : (f : ℕ → Bool) (n : ℕ) → length (keepBelow f n) ≡ countBelow f n
 unfolding keepBelow

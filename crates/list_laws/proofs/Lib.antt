@@ -1,10 +1,13 @@
 pub mod Bools
+pub mod Below
 pub mod Tests
 pub mod Counts
 pub mod First
 pub mod Members
 pub mod Kept
 pub mod Built
+pub mod Places
+pub mod Draws
 pub mod Rows
 pub mod Runs
 pub mod Stores

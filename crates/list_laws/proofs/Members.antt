@@ -31,13 +31,9 @@ tally-append f [] t = omega arith
 tally-append f (x ∷ s) t = omega (arith, tally-append f s t)
 
 -- one entry more at the end
-pub tally-yes : (f : ℕ → Bool) (l : List ℕ) (x : ℕ) → f x ≡ true → tally f (l ++ (x ∷ [])) ≡ tally f l + 1
+pub tally-snoc : (f : ℕ → Bool) (l : List ℕ) (p : ℕ) → tally f (l ++ (p ∷ [])) ≡ tally f l + one (f p)
 unfolding tally
-tally-yes f l x e = tally-append f l (x ∷ []) ∙ omega (arith, ap one e)
-
-pub tally-no : (f : ℕ → Bool) (l : List ℕ) (x : ℕ) → f x ≡ false → tally f (l ++ (x ∷ [])) ≡ tally f l
-unfolding tally
-tally-no f l x e = tally-append f l (x ∷ []) ∙ omega (arith, ap one e)
+tally-snoc f l p = omega (arith, tally-append f l (p ∷ []))
 
 pub tally-le : (f : ℕ → Bool) (l : List ℕ) → tally f l ≤ length l
 unfolding tally
@@ -126,11 +122,6 @@ has-append (x ∷ s) t q = ap (λ b. eqb x q || b) (has-append s t q) ∙ regrou
 
 pub under-in : (n q : ℕ) (l : List ℕ) → AllUnder n l → 0 < occ q l → q < n
 under-in n q l h m = by-bool (ltb q n) (ltb-true q n) (λ e. absurd (omega (arith, h q (ltb-false q n e))))
-
-pub under-at : (n : ℕ) (l : List ℕ) (i : ℕ) → AllUnder n l → i < length l → getD l i 0 < n
-under-at n [] i h u = absurd (not-suc-le-zero u)
-under-at n (x ∷ l) zero h u = under-in n x (x ∷ l) h (omega (arith, occ-here x l))
-under-at n (x ∷ l) (suc i) h u = under-at n l i (λ q v. omega (arith, h q v, occ-cons q x l)) (omega arith)
 
 -- ---- Distinct: no number is listed twice
 
@@ -283,18 +274,6 @@ in-snoc l p q m = go (List·Memᴰ·append-cases l m)
     go (inl h) = inl h
     go (inr h) = inr (List·Memᴰ·eq-of-singleton h)
 
-pub distinct-snoc : (l : List ℕ) (p : ℕ) → Distinct l → (In p l → ⊥) → Distinct (l ++ (p ∷ []))
-distinct-snoc l p d h =
-    nodup-append .1 (
-      d,
-      nodup-cons .1 (λ m. ∥∥₁-elim m ⊥-prop List·Memᴰ·not-nil, nodup-nil),
-      λ q m k. ∥∥₁-elim m ⊥-prop (λ m′. ∥∥₁-elim k ⊥-prop (λ k′. h (Memᴰ·cast (sym (List·Memᴰ·eq-of-singleton k′)) m′))),
-    )
-
-pub tally-snoc : (f : ℕ → Bool) (l : List ℕ) (p : ℕ) → tally f (l ++ (p ∷ [])) ≡ tally f l + one (f p)
-unfolding tally
-tally-snoc f l p = omega (arith, tally-append f l (p ∷ []))
-
 -- the first of a list of different numbers is not among the others
 pub first-apart : {p : ℕ} {l : List ℕ} → Distinct (p ∷ l) → In p l → ⊥
 first-apart d m = nodup-cons .0 d .0 ∣ m ∣₁
@@ -312,6 +291,9 @@ getD-member d (x ∷ l) (suc i) h = List·Memᴰ·tail (getD-member d l i (omega
 
 pub getD-in : (l : List ℕ) (i : ℕ) → i < length l → In (getD l i 0) l
 getD-in l i h = getD-member 0 l i h
+
+pub under-at : (n : ℕ) (l : List ℕ) (i : ℕ) → AllUnder n l → i < length l → getD l i 0 < n
+under-at n l i h u = under-in n (getD l i 0) l h (in-occ (getD l i 0) l (getD-in l i u))
 
 -- and what is listed stands at some place
 pub place-of : {p : ℕ} {l : List ℕ} → In p l → (i : ℕ) × (i < length l) × (getD l i 0 ≡ p)
@@ -336,6 +318,12 @@ under-below n l h q m = under-in n q l h (in-occ q l m)
 pub below-append : (n : ℕ) (s t : List ℕ) → Below n s → Below n t → Below n (s ++ t)
 below-append n s t h k q m = ⊎-elim (h q) (k q) (List·Memᴰ·append-cases s m)
 
+pub below-none : (n : ℕ) → Below n []
+below-none n q m = absurd (List·Memᴰ·not-nil m)
+
+pub below-snoc : (n : ℕ) (l : List ℕ) (p : ℕ) → Below n l → p < n → Below n (l ++ (p ∷ []))
+below-snoc n l p h k = below-append n l (p ∷ []) h (λ q m. rw (List·Memᴰ·eq-of-singleton m) k)
+
 -- ---- a list with each number below n as often as a test says, and no other, as in `tally-below`: its members are those that pass, each once
 
 module _ (g : ℕ → Bool) (n : ℕ) (l : List ℕ) (a : AllUnder n l) (h : (q : ℕ) → q < n → occ q l ≡ one (g q)) where
@@ -353,3 +341,7 @@ module _ (g : ℕ → Bool) (n : ℕ) (l : List ℕ) (a : AllUnder n l) (h : (q 
 -- two lists of different entries that share none
 pub distinct-append : {A : Type 0} (s t : List A) → List·Nodup s → List·Nodup t → ((a : A) → List·Memᴰ a s → List·Memᴰ a t → ⊥) → List·Nodup (s ++ t)
 distinct-append s t d e h = nodup-append .1 (d, e, λ a m k. ∥∥₁-elim m ⊥-prop (λ m′. ∥∥₁-elim k ⊥-prop (h a m′)))
+
+pub distinct-snoc : (l : List ℕ) (p : ℕ) → Distinct l → (In p l → ⊥) → Distinct (l ++ (p ∷ []))
+distinct-snoc l p d h =
+    distinct-append l (p ∷ []) d (nodup-cons .1 (λ m. ∥∥₁-elim m ⊥-prop List·Memᴰ·not-nil, nodup-nil)) (λ q m k. h (Memᴰ·cast (sym (List·Memᴰ·eq-of-singleton k)) m))

@@ -16,7 +16,7 @@ sets-append l i (x ∷ s) t =
     ∙ ap (λ (k : ℕ). sets (sets (set l i x) (suc i) s) k t) (suc-add i (length s) ∙ sym (add-suc i (length s)))
 
 -- at j, the place after the run
-pub sets-snoc : (l : List ℕ) (i j : ℕ) (s : List ℕ) (x : ℕ) → j ≡ i + length s → set (sets l i s) j x ≡ sets l i (s ++ (x ∷ []))
+pub sets-snoc : {A : Type 0} (l : List A) (i j : ℕ) (s : List A) (x : A) → j ≡ i + length s → set (sets l i s) j x ≡ sets l i (s ++ (x ∷ []))
 sets-snoc l i j s x e = ap (λ (k : ℕ). set (sets l i s) k x) e ∙ sym (sets-append l i s (x ∷ []))
 
 -- what stands before the run and past it stays
@@ -45,8 +45,7 @@ module _ {A : Type 0} where
       → set l (at + n) x ≡ sets l₀ at (listBelow f (n + 1))
   run-more f l l₀ at n x e v =
       ap₂ (λ t y. set t (at + n) y) e v
-      ∙ ap (λ k. set (sets l₀ at (listBelow f n)) (at + k) (f n)) (sym (listBelow-length f n))
-      ∙ sym (sets-append l₀ at (listBelow f n) (f n ∷ []))
+      ∙ sets-snoc l₀ at (at + n) (listBelow f n) (f n) (ap (λ k. at + k) (sym (listBelow-length f n)))
       ∙ ap (sets l₀ at) (sym (listBelow-more f n))
 
   -- what agrees from place a on agrees from any later place on

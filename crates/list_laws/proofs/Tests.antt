@@ -1,7 +1,7 @@
 -- Laws of `anyBelow`, `allBelow` and `allIn`: at n + 1, by what lies below n alone, and as facts of each number.
 use Prim.Native.Nat.{ℕ, zero, suc, _+_, _≤_, _<_}
 use mathlib.Core.Path.{_≡_, refl, ap, ap₂, sym, _∙_}
-use mathlib.Core.Bool.{Bool, true, false, _&&_, _||_, or-true, or-false, false≢true, true≢false}
+use mathlib.Core.Bool.{Bool, true, false, not, _&&_, _||_, or-true, or-false, false≢true, true≢false}
 use mathlib.Core.List.{List, [], _∷_, List·Memᴰ·not-nil, List·Memᴰ·cases-cons}
 use mathlib.Core.Logic.{⊎-elim}
 use native.Mathlib.Nat.{not-suc-le-zero, eq-or-lt-of-le}
@@ -10,6 +10,7 @@ use native.Mathlib.Omega.{arith}
 use lib.ListN.{length, getD}
 use Rattle.model.specs.Lists.{anyBelow, allBelow, allIn, listBelow, In}
 use Rattle.list_laws.proofs.Bools.{by-bool, and-left, and-right}
+use Rattle.list_laws.proofs.Below.{same-below}
 use Rattle.list_laws.proofs.Built.{listBelow-length, listBelow-at}
 
 -- ---- anyBelow
@@ -59,8 +60,7 @@ anyBelow-nowhere f n h = by-bool (anyBelow f n)
 -- only what lies below n matters
 pub anyBelow-same : (f g : ℕ → Bool) (n : ℕ) → ((t : ℕ) → t < n → f t ≡ g t) → anyBelow f n ≡ anyBelow g n
 unfolding anyBelow
-anyBelow-same f g zero h = refl
-anyBelow-same f g (suc n) h = ap₂ (λ a b. a || b) (anyBelow-same f g n (λ t l. h t (omega arith))) (h n (omega arith))
+anyBelow-same = same-below anyBelow (λ f g. refl) (λ f g n e v. ap₂ (λ a b. a || b) e v)
 
 -- ---- allBelow
 
@@ -75,32 +75,31 @@ allBelow-more f n = ap (allBelow f) (add-one n)
 pub allBelow-yes : (f : ℕ → Bool) (n : ℕ) → allBelow f n ≡ true → f n ≡ true → allBelow f (n + 1) ≡ true
 allBelow-yes f n h e = allBelow-more f n ∙ ap₂ (λ a b. a && b) h e
 
+-- all pass just where none does not
+pub allBelow-any : (f : ℕ → Bool) (n : ℕ) → allBelow f n ≡ not (anyBelow (λ t. not (f t)) n)
+unfolding allBelow anyBelow
+allBelow-any f zero = refl
+allBelow-any f (suc n) = ap (λ b. b && f n) (allBelow-any f n) ∙ neither (anyBelow (λ t. not (f t)) n) (f n)
+  where
+    neither : (a b : Bool) → (not a && b) ≡ not (a || not b)
+    neither true b = refl
+    neither false true = refl
+    neither false false = refl
+
 -- one that does not pass settles it
 pub allBelow-no : (f : ℕ → Bool) (n k : ℕ) → k < n → f k ≡ false → allBelow f n ≡ false
-unfolding allBelow
-allBelow-no f zero k h e = absurd (not-suc-le-zero h)
-allBelow-no f (suc n) k h e =
-    let g : k ≤ n = omega arith in
-    ⊎-elim (λ v. ap (λ b. allBelow f n && b) (ap f (sym v) ∙ e) ∙ no (allBelow f n))
-    (λ m. ap (λ b. b && f n) (allBelow-no f n k m e)) (eq-or-lt-of-le g)
-  where
-    no : (b : Bool) → (b && false) ≡ false
-    no true = refl
-    no false = refl
+allBelow-no f n k h e = allBelow-any f n ∙ ap not (anyBelow-at (λ t. not (f t)) n k h (ap not e))
 
 -- all pass just where each one does
 pub allBelow-each : (f : ℕ → Bool) (n : ℕ) → allBelow f n ≡ true → (k : ℕ) → k < n → f k ≡ true
 allBelow-each f n e k h = by-bool (f k) (λ v. v) (λ v. absurd (true≢false (sym e ∙ allBelow-no f n k h v)))
 
 pub allBelow-every : (f : ℕ → Bool) (n : ℕ) → ((k : ℕ) → k < n → f k ≡ true) → allBelow f n ≡ true
-unfolding allBelow
-allBelow-every f zero h = refl
-allBelow-every f (suc n) h = ap₂ (λ a b. a && b) (allBelow-every f n (λ t l. h t (omega arith))) (h n (omega arith))
+allBelow-every f n h = allBelow-any f n ∙ ap not (anyBelow-nowhere (λ t. not (f t)) n (λ k l. ap not (h k l)))
 
 pub allBelow-same : (f g : ℕ → Bool) (n : ℕ) → ((t : ℕ) → t < n → f t ≡ g t) → allBelow f n ≡ allBelow g n
 unfolding allBelow
-allBelow-same f g zero h = refl
-allBelow-same f g (suc n) h = ap₂ (λ a b. a && b) (allBelow-same f g n (λ t l. h t (omega arith))) (h n (omega arith))
+allBelow-same = same-below allBelow (λ f g. refl) (λ f g n e v. ap₂ (λ a b. a && b) e v)
 
 -- ---- allIn
 

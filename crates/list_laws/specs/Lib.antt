@@ -1,2 +1,3 @@
 pub mod Occ
 pub mod Put
+pub mod Places

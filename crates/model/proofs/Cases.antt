@@ -22,17 +22,17 @@ use Rattle.model.specs.Cases as Cases
 pub p-cases : Cases.PCases
 unfolding add sub mul div lt le eq ofBits ofInt neg Lists.anyBelow Lists.allBelow Lists.countBelow Lists.sumBelow Lists.firstBelow Lists.lastBelow
     Lists.keepBelow Lists.listBelow Lists.joinBelow Lists.allIn Lists.has Lists.keep Lists.tally Real.absolute Real.sumTo Draw.step Draw.xorLow Draw.wordOf
-    Draw.drawWord Draw.unitOf Draw.drawF64 Draw.drawUsize Draw.drawI64 Draw.f64Range Numbers.grown Numbers.rootIn Numbers.wholeRoot Numbers.closer
+    Draw.drawWord Draw.unitOf Draw.drawF64 Draw.drawUsize Draw.drawI64 Draw.f64Range Draw.inTurn Numbers.grown Numbers.rootIn Numbers.wholeRoot Numbers.closer
     Numbers.nearRoot Numbers.rooted Numbers.sqrtOf Numbers.roundOf Numbers.powerUp Numbers.halfBy Numbers.halved Numbers.halvings Numbers.R Plan.planOf
     Row.rowOf Row.dominates Row.feasible Row.violation Row.constrainedDominates Row.rowBeats Row.beats Front.lower Front.freed Front.lowerAll Front.freedAll
     Front.firstRound Front.nextRound Front.round Front.listing Front.frontOf Front.frontList Reference.tuples Reference.dasDennis Reference.binomial
     Reference.pointCount Reference.autoDivisions Reference.divisionsOf Reference.populationSize Association.leastFrom Association.greatest Association.idealOf
     Association.interceptOf Association.normalised Association.coordinate Association.distance Association.distanceTo Association.nearestOf
-    Association.association Kept.drawFrom Kept.nearestFrom Kept.nearest Kept.drawMember Kept.pickOne Kept.picks Kept.wholeFronts Kept.before Kept.isSplit
-    Kept.splitFront Kept.filled Kept.padding Kept.selectedSplit Kept.selectedWhole Kept.selected Setting.intOfWord Setting.validDimension Setting.inBounds
-    Setting.sampleInt Setting.sampleRandom Setting.sampleAll Setting.sampleCandidates Setting.insert Setting.sortByParam Setting.extractOne Setting.extract
-    Setting.parentsOf Setting.spread Setting.crossFloat Setting.crossInt Setting.crossCategorical Setting.crossAll Setting.crossover Setting.mutationShift
-    Setting.polynomialMutation Setting.mutateMaybe Setting.mutateFirst Setting.tournament Setting.brood Setting.broods Setting.offspringOf Setting.rankOf
+    Association.association Kept.drawFrom Kept.nearestFrom Kept.nearest Kept.drawMember Kept.pickOne Kept.wholeFronts Kept.before Kept.isSplit
+    Kept.splitFront Kept.filled Kept.selectedSplit Kept.selectedWhole Kept.selected Setting.intOfWord Setting.validDimension Setting.inBounds
+    Setting.sampleInt Setting.sampleRandom Setting.insert Setting.sortByParam Setting.extractOne
+    Setting.spread Setting.crossFloat Setting.crossInt Setting.crossCategorical Setting.crossover Setting.mutationShift
+    Setting.polynomialMutation Setting.mutateMaybe Setting.tournament Setting.brood Setting.offspringOf Setting.rankOf
     Setting.generationOf Setting.generationOfOne Setting.generation Setting.wordsOf PoolFile.numberFrom PoolFile.groupsOf PoolFile.many PoolFile.plan
     PoolFile.poolFile PoolFile.parse PoolFile.ascii PoolFile.digitsOf PoolFile.lineText PoolFile.placeOf PoolFile.headerText PoolFile.planText
     PoolFile.listingText PoolFile.refusedText Refusal.firstOf Refusal.badDirections Refusal.badDivisions Refusal.badSessionDivisions Refusal.wholeEta
@@ -65,17 +65,17 @@ p-cases = record {
 pub traps : Cases.Traps
 unfolding add sub mul div lt le eq ofBits ofInt neg Deb.undominatedOfRest Deb.inFirst Lists.anyBelow Lists.allBelow Lists.countBelow Lists.sumBelow
     Lists.firstBelow Lists.lastBelow Lists.keepBelow Lists.listBelow Lists.joinBelow Lists.allIn Lists.has Lists.keep Lists.tally Real.absolute Real.sumTo
-    Draw.step Draw.xorLow Draw.wordOf Draw.drawWord Draw.unitOf Draw.drawF64 Draw.drawUsize Draw.drawI64 Draw.f64Range Numbers.grown Numbers.rootIn
+    Draw.step Draw.xorLow Draw.wordOf Draw.drawWord Draw.unitOf Draw.drawF64 Draw.drawUsize Draw.drawI64 Draw.f64Range Draw.inTurn Numbers.grown Numbers.rootIn
     Numbers.wholeRoot Numbers.closer Numbers.nearRoot Numbers.rooted Numbers.sqrtOf Numbers.roundOf Numbers.powerUp Numbers.halfBy Numbers.halved
     Numbers.halvings Numbers.R Plan.planOf Row.rowOf Row.dominates Row.feasible Row.violation Row.constrainedDominates Row.rowBeats Row.beats Front.lower
     Front.freed Front.lowerAll Front.freedAll Front.firstRound Front.nextRound Front.round Front.listing Front.frontOf Front.frontList Reference.tuples
     Reference.dasDennis Reference.binomial Reference.pointCount Reference.autoDivisions Reference.divisionsOf Reference.populationSize Association.leastFrom
     Association.greatest Association.idealOf Association.interceptOf Association.normalised Association.coordinate Association.distance Association.distanceTo
-    Association.nearestOf Association.association Kept.drawFrom Kept.nearestFrom Kept.nearest Kept.drawMember Kept.pickOne Kept.picks Kept.wholeFronts
-    Kept.before Kept.isSplit Kept.splitFront Kept.filled Kept.padding Kept.selectedSplit Kept.selectedWhole Kept.selected Setting.intOfWord
-    Setting.validDimension Setting.inBounds Setting.sampleInt Setting.sampleRandom Setting.sampleAll Setting.sampleCandidates Setting.insert Setting.sortByParam
-    Setting.extractOne Setting.extract Setting.parentsOf Setting.spread Setting.crossFloat Setting.crossInt Setting.crossCategorical Setting.crossAll
-    Setting.crossover Setting.mutationShift Setting.polynomialMutation Setting.mutateMaybe Setting.mutateFirst Setting.tournament Setting.brood Setting.broods
+    Association.nearestOf Association.association Kept.drawFrom Kept.nearestFrom Kept.nearest Kept.drawMember Kept.pickOne Kept.wholeFronts
+    Kept.before Kept.isSplit Kept.splitFront Kept.filled Kept.selectedSplit Kept.selectedWhole Kept.selected Setting.intOfWord
+    Setting.validDimension Setting.inBounds Setting.sampleInt Setting.sampleRandom Setting.insert Setting.sortByParam
+    Setting.extractOne Setting.spread Setting.crossFloat Setting.crossInt Setting.crossCategorical
+    Setting.crossover Setting.mutationShift Setting.polynomialMutation Setting.mutateMaybe Setting.tournament Setting.brood
     Setting.offspringOf Setting.rankOf Setting.generationOf Setting.generationOfOne Setting.generation Setting.wordsOf PoolFile.numberFrom PoolFile.groupsOf
     PoolFile.many PoolFile.plan PoolFile.poolFile PoolFile.parse PoolFile.ascii PoolFile.digitsOf PoolFile.lineText PoolFile.placeOf PoolFile.headerText
     PoolFile.planText PoolFile.listingText PoolFile.refusedText Refusal.firstOf Refusal.badDirections Refusal.badDivisions Refusal.badSessionDivisions

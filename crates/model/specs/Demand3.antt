@@ -5,10 +5,10 @@ use mathlib.Core.Bool.{Bool, true, false, _&&_}
 use mathlib.Core.List.{List}
 use lib.Dec.{eqb}
 use lib.ListN.{length}
-use Rattle.model.specs.Lists.{In, Distinct, countBelow, sumBelow, tally}
+use Rattle.model.specs.Lists.{In, Distinct, countBelow, sumBelow}
 use Rattle.model.specs.Papers.Deb2002 as Deb
 use Rattle.model.specs.Association.{Request, dominance, lineCount, lineOf}
-use Rattle.model.specs.Kept.{selected}
+use Rattle.model.specs.Kept.{nicheCount, selected}
 
 -- "Front 0 is the undominated under `constrained_dominates`, each later front the undominated of the rest.": plan p is in one of the first k fronts,
 -- plan p is in front k, and how many plans the first k fronts hold
@@ -40,7 +40,7 @@ pub record Filling (r : Request) (k : ℕ) (filling : List ℕ) : Type 0 where
 -- "A line's final niche count is the number of plans in the finished list that are associated with it; for another filling, of those in the fronts before
 -- and that filling."
 abbrev pub finalCount : Request → List ℕ → ℕ → ℕ
-finalCount r list l = tally (λ p. eqb (lineOf r p) l) list
+finalCount r list l = nicheCount (lineOf r) list l
 
 abbrev pub fillingCount : Request → ℕ → List ℕ → ℕ → ℕ
 fillingCount r k filling l = countBelow (λ p. inFirst r k p && eqb (lineOf r p) l) (r .count) + finalCount r filling l

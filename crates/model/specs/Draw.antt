@@ -1,6 +1,7 @@
 -- Document 01, "Draw". A draw is a function from the generator's state to a value and the state after it.
 use Prim.Native.Nat.{ℕ, zero, suc, _+_, _*_, _/_, _%_, _^_}
 use mathlib.Core.Bool.{false}
+use mathlib.Core.List.{List, [], _∷_, _++_}
 use lib.IntN.{ℤ, pos, natAbs, _+ℤ_, _-ℤ_}
 use lib.Ieee.{Float, binary64, round}
 use Rattle.model.specs.Real.{_⊕_, _⊖_, _⊗_}
@@ -47,3 +48,19 @@ drawI64 a b s = let d = drawWord s in drawn (a +ℤ pos (d .value % natAbs (b -�
 -- "`f64_range`: low + draw × (high - low), each operation rounded"
 unfoldable pub f64Range : Float → Float → ℕ → Drawn Float
 f64Range low high s = let d = drawF64 s in drawn (low ⊕ (d .value ⊗ (high ⊖ low))) (d .state)
+
+-- ---- draws in turn
+
+-- n draws, one after the other: `next i` draws by what those before it built, and `join` puts its value to that. `none` is what no draw builds.
+module _ {A B : Type 0} where
+  unfoldable pub inTurn : (B → A → B) → B → (ℕ → B → ℕ → Drawn A) → ℕ → ℕ → Drawn B
+  inTurn join none next zero s = drawn none s
+  inTurn join none next (suc n) s =
+      let so-far = inTurn join none next n s in
+      let v = next n (so-far .value) (so-far .state) in
+      drawn (join (so-far .value) (v .value)) (v .state)
+
+-- a list of n values
+module _ {A : Type 0} where
+  abbrev pub drawAll : (ℕ → List A → ℕ → Drawn A) → ℕ → ℕ → Drawn (List A)
+  drawAll next n s = inTurn (λ l a. l ++ (a ∷ [])) [] next n s

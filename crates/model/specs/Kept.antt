@@ -6,7 +6,7 @@ use lib.Dec.{eqb, leb, ltb}
 use lib.Ieee.{Float, lt}
 use lib.ListN.{length, getD, replicate}
 use Rattle.model.specs.Lists.{listBelow, keepBelow, firstBelow, allIn, has, keep, tally}
-use Rattle.model.specs.Draw.{Drawn, drawn, drawUsize}
+use Rattle.model.specs.Draw.{Drawn, drawn, drawUsize, drawAll}
 use Rattle.model.specs.Front.{front, listing, frontList}
 use Rattle.model.specs.Association.{Request, objectives, lineCount, dominance, idealOf, association, lineOf}
 
@@ -56,12 +56,8 @@ pickOne line distance lines before split picked s =
     drawMember distance (counts (l .value)) (keep (λ p. eqb (line p) (l .value)) waits) (l .state)
 
 -- the plans picked for n open places, one after the other
-unfoldable pub picks : (ℕ → ℕ) → (ℕ → Float) → ℕ → List ℕ → List ℕ → ℕ → ℕ → Drawn (List ℕ)
-picks line distance lines before split zero s = drawn [] s
-picks line distance lines before split (suc n) s =
-    let so-far = picks line distance lines before split n s in
-    let p = pickOne line distance lines before split (so-far .value) (so-far .state) in
-    drawn (so-far .value ++ (p .value ∷ [])) (p .state)
+abbrev pub picks : (ℕ → ℕ) → (ℕ → Float) → ℕ → List ℕ → List ℕ → ℕ → ℕ → Drawn (List ℕ)
+picks line distance lines before split n s = drawAll (λ place picked. pickOne line distance lines before split picked) n s
 
 -- ---- the list
 
@@ -85,12 +81,8 @@ filled r =
     picks (lineOf r) (λ p. association r p .distance) (lineCount r) (before r) (splitFront r) (r .size - length (before r)) (r .state)
 
 -- "A pool smaller than the size is padded with `usize(0..n)`.": k draws
-unfoldable pub padding : ℕ → ℕ → ℕ → Drawn (List ℕ)
-padding n zero s = drawn [] s
-padding n (suc k) s =
-    let so-far = padding n k s in
-    let p = drawUsize n (so-far .state) in
-    drawn (so-far .value ++ (p .value ∷ [])) (p .state)
+abbrev pub padding : ℕ → ℕ → ℕ → Drawn (List ℕ)
+padding n k s = drawAll (λ place listed. drawUsize n) k s
 
 -- the mark for "no line" in the list of lines: the greatest word
 abbrev pub noLine : ℕ

@@ -17,6 +17,7 @@ use Rattle.model.specs.declared.OptionUsize.the-variants as optUsize
 use Rattle.model.specs.declared.DimensionInfo.{DimensionInfo}
 use Rattle.model.specs.declared.Phase.{Phase}
 use Rattle.model.specs.declared.Phase.the-variants.{Discovery, Active}
+use Rattle.model.specs.declared.Config.{Config}
 use Rattle.model.specs.declared.Progress.{Progress}
 use Rattle.model.specs.declared.Session.{Session}
 use Rattle.model.specs.Lists.{allBelow, lastBelow, listBelow, joinBelow, has, over}
@@ -84,6 +85,30 @@ progress dims candidates plans gen = record { «n_dims» = dims; «n_candidates�
 abbrev pub state : Session → List ℕ → List ℕ → List ℕ → State
 state s cs ps ns = record { session = s; candidates = cs; plans = ps; nextDims = ns }
 
+-- a session in which no plan has come yet, of a configuration and a seed
+abbrev pub begun : Config → ℕ → Session
+begun c seed = record {
+  config = c;
+  phase = Discovery;
+  «discovery_trial_id» = optU64.None;
+  rng = record { s = seed };
+  dimensions = replicate maxSettings blankDimension;
+  «ideal_point» = replicate maxValues infinity;
+  progress = progress 0 0 0 0;
+}
+
+-- the session of a new generation, by its generator, its ideal and its number: it has as many candidates as the size, and no plan has come yet
+abbrev pub renewed : Session → ℕ → List Float → ℕ → Session
+renewed s g ideal number = record {
+  config = s .config;
+  phase = Active;
+  «discovery_trial_id» = s .«discovery_trial_id»;
+  rng = record { s = g };
+  dimensions = s .dimensions;
+  «ideal_point» = ideal;
+  progress = progress (s .progress .«n_dims») (s .config .«population_size») 0 number;
+}
+
 -- ---- opening
 
 -- an optional size or number of divisions, as the definitions take it
@@ -93,43 +118,27 @@ given (optUsize.Some n) = some n
 
 -- The session that an accepted opening answers. "Directions are given at opening (added), with the seed."
 unfoldable pub opened : List ℕ → ℕ → Option ℕ → Option ℕ → Float → Float → Float → Session
-opened marks seed size divisions probability crossoverEta mutationEta = record {
-  config = record {
-    «n_obj» = length marks;
-    directions = over marks (replicate maxValues 0);
-    divisions = divisionsOf (length marks) size divisions;
-    «population_size» = populationSize (length marks) size divisions;
-    «crossover_prob» = probability;
-    «crossover_eta» = crossoverEta;
-    «mutation_eta» = mutationEta;
-  };
-  phase = Discovery;
-  «discovery_trial_id» = optU64.None;
-  rng = record { s = seed };
-  dimensions = replicate maxSettings blankDimension;
-  «ideal_point» = replicate maxValues infinity;
-  progress = progress 0 0 0 0;
-}
+opened marks seed size divisions probability crossoverEta mutationEta = begun (record {
+  «n_obj» = length marks;
+  directions = over marks (replicate maxValues 0);
+  divisions = divisionsOf (length marks) size divisions;
+  «population_size» = populationSize (length marks) size divisions;
+  «crossover_prob» = probability;
+  «crossover_eta» = crossoverEta;
+  «mutation_eta» = mutationEta;
+}) seed
 
 -- the session beside a refusal: nothing of what was given is in it
 abbrev pub blank : Session
-blank = record {
-  config = record {
-    «n_obj» = 0;
-    directions = replicate maxValues 0;
-    divisions = 0;
-    «population_size» = 0;
-    «crossover_prob» = nought;
-    «crossover_eta» = nought;
-    «mutation_eta» = nought;
-  };
-  phase = Discovery;
-  «discovery_trial_id» = optU64.None;
-  rng = record { s = 0 };
-  dimensions = replicate maxSettings blankDimension;
-  «ideal_point» = replicate maxValues infinity;
-  progress = progress 0 0 0 0;
-}
+blank = begun (record {
+  «n_obj» = 0;
+  directions = replicate maxValues 0;
+  divisions = 0;
+  «population_size» = 0;
+  «crossover_prob» = nought;
+  «crossover_eta» = nought;
+  «mutation_eta» = nought;
+}) 0
 
 -- ---- an accepted call
 
@@ -158,17 +167,8 @@ discover st d plan =
 unfoldable pub activate : State → State
 activate st =
     let s = st .session in
-    let n = s .progress .«n_dims» in
-    let cs = sampleCandidates (dimensionOf s) n (s .config .«population_size») (s .rng .s) in
-    let active : Session = record {
-      config = s .config;
-      phase = Active;
-      «discovery_trial_id» = s .«discovery_trial_id»;
-      rng = record { s = cs .state };
-      dimensions = s .dimensions;
-      «ideal_point» = s .«ideal_point»;
-      progress = progress n (s .config .«population_size») 0 (s .progress .generation);
-    } in
+    let cs = sampleCandidates (dimensionOf s) (s .progress .«n_dims») (s .config .«population_size») (s .rng .s) in
+    let active = renewed s (cs .state) (s .«ideal_point») (s .progress .generation) in
     state active (over (wordsOf (cs .value)) (st .candidates)) (st .plans) (st .nextDims)
 
 -- entries put into a list from place `at` on
@@ -267,20 +267,12 @@ operatorsOf s = record {
   mutationEta = s .config .«mutation_eta»;
 }
 
--- "a new generation is bred": its candidates take the place of the old ones, and no plan has come yet. The generation's number wraps at 2^64.
+-- "a new generation is bred": its candidates take the place of the old ones. The generation's number wraps at 2^64.
 unfoldable pub breed : State → List ℕ → State
 breed st history =
     let s = st .session in
     let g = generation (operatorsOf s) (requestOf st history) in
-    let bred : Session = record {
-      config = s .config;
-      phase = Active;
-      «discovery_trial_id» = s .«discovery_trial_id»;
-      rng = record { s = g .state };
-      dimensions = s .dimensions;
-      «ideal_point» = over (g .ideal) (s .«ideal_point»);
-      progress = progress (s .progress .«n_dims») (s .config .«population_size») 0 ((s .progress .generation + 1) % 2 ^ 64);
-    } in
+    let bred = renewed s (g .state) (over (g .ideal) (s .«ideal_point»)) ((s .progress .generation + 1) % 2 ^ 64) in
     state bred (over (wordsOf (g .offspring)) (st .candidates)) (st .plans) (st .nextDims)
 
 -- ---- which of these a call does

@@ -19,7 +19,7 @@ use Rattle.model.specs.declared.OptionF64.the-variants as optF64
 use Rattle.model.specs.declared.OptionI64.{OptionI64}
 use Rattle.model.specs.declared.OptionI64.the-variants as optI64
 use Rattle.model.specs.Real.{_⊕_, _⊖_, _⊗_, _⊘_, real, bits, nought, half, unit, two, absolute, within, clamp}
-use Rattle.model.specs.Draw.{Drawn, drawn, drawUsize, drawI64, f64Range}
+use Rattle.model.specs.Draw.{Drawn, drawn, drawUsize, drawI64, f64Range, inTurn, drawAll}
 use Rattle.model.specs.Numbers.{roundOf, midpoint, P, R}
 use Rattle.model.specs.Plan.{Plan, Setting}
 use Rattle.model.specs.Row.{rowBeats}
@@ -117,20 +117,12 @@ sampleRandom (dist.Int d) s = let n = sampleInt (d .low) (d .high) (d .step) s i
 sampleRandom (dist.Categorical d) s = let c = drawUsize (d .«n_choices») s in drawn (value.Categorical (c .value)) (c .state)
 
 -- a candidate: a setting for each of n dimensions, drawn in their order
-unfoldable pub sampleAll : (ℕ → Distribution) → ℕ → ℕ → Drawn (List ParamValue)
-sampleAll dims zero s = drawn [] s
-sampleAll dims (suc n) s =
-    let c = sampleAll dims n s in
-    let v = sampleRandom (dims n) (c .state) in
-    drawn (c .value ++ (v .value ∷ [])) (v .state)
+abbrev pub sampleAll : (ℕ → Distribution) → ℕ → ℕ → Drawn (List ParamValue)
+sampleAll dims n s = drawAll (λ d settings. sampleRandom (dims d)) n s
 
 -- so many candidates, one after the other
-unfoldable pub sampleCandidates : (ℕ → Distribution) → ℕ → ℕ → ℕ → Drawn (List (List ParamValue))
-sampleCandidates dims n zero s = drawn [] s
-sampleCandidates dims n (suc k) s =
-    let cs = sampleCandidates dims n k s in
-    let c = sampleAll dims n (cs .state) in
-    drawn (cs .value ++ (c .value ∷ [])) (c .state)
+abbrev pub sampleCandidates : (ℕ → Distribution) → ℕ → ℕ → ℕ → Drawn (List (List ParamValue))
+sampleCandidates dims n k s = drawAll (λ i candidates. sampleAll dims n) k s
 
 -- ---- extraction
 
@@ -152,20 +144,12 @@ extractOne d sorted i s =
     let x = getD sorted i noSetting in
     cond (ltb i (length sorted)) (drawn (ofWord (x .kind) (x .value)) s) (sampleRandom d s)
 
-unfoldable pub extract : (ℕ → Distribution) → ℕ → List Setting → ℕ → Drawn (List ParamValue)
-extract dims zero sorted s = drawn [] s
-extract dims (suc n) sorted s =
-    let c = extract dims n sorted s in
-    let v = extractOne (dims n) sorted n (c .state) in
-    drawn (c .value ++ (v .value ∷ [])) (v .state)
+abbrev pub extract : (ℕ → Distribution) → ℕ → List Setting → ℕ → Drawn (List ParamValue)
+extract dims n sorted s = drawAll (λ d settings. extractOne (dims d) sorted d) n s
 
 -- the parents: the settings of each kept plan, in the kept list's order
-unfoldable pub parentsOf : (ℕ → Distribution) → ℕ → (ℕ → Plan) → List ℕ → ℕ → Drawn (List (List ParamValue))
-parentsOf dims n plans [] s = drawn [] s
-parentsOf dims n plans (p ∷ ps) s =
-    let c = extract dims n (sortByParam (plans p .settings)) s in
-    let cs = parentsOf dims n plans ps (c .state) in
-    drawn (c .value ∷ cs .value) (cs .state)
+abbrev pub parentsOf : (ℕ → Distribution) → ℕ → (ℕ → Plan) → List ℕ → ℕ → Drawn (List (List ParamValue))
+parentsOf dims n plans kept s = drawAll (λ i parents. extract dims n (sortByParam (plans (getD kept i 0) .settings))) (length kept) s
 
 -- ---- crossover; k is eta + 1
 
@@ -268,13 +252,12 @@ noValue = value.Float nan
 abbrev pub settingOf : List ParamValue → ℕ → ParamValue
 settingOf settings i = getD settings i noValue
 
--- dimension after dimension
-unfoldable pub crossAll : (ℕ → Distribution) → ℕ → List ParamValue → List ParamValue → ℕ → ℕ → Drawn Children
-crossAll dims zero p q k s = drawn (children [] []) s
-crossAll dims (suc n) p q k s =
-    let c = crossAll dims n p q k s in
-    let v = crossOne (dims n) (settingOf p n) (settingOf q n) k (c .state) in
-    drawn (children (c .value .first ++ (v .value .first ∷ [])) (c .value .second ++ (v .value .second ∷ []))) (v .state)
+-- dimension after dimension: each child takes one of the two settings
+abbrev pub withPair : Children → Pair → Children
+withPair c v = children (c .first ++ (v .first ∷ [])) (c .second ++ (v .second ∷ []))
+
+abbrev pub crossAll : (ℕ → Distribution) → ℕ → List ParamValue → List ParamValue → ℕ → ℕ → Drawn Children
+crossAll dims n p q k s = inTurn withPair (children [] []) (λ d so-far. crossOne (dims d) (settingOf p d) (settingOf q d) k) n s
 
 -- "`crossover` runs unless its draw exceeds the probability"
 abbrev pub crossoverRuns : Float → Float → Bool
@@ -331,12 +314,8 @@ mutateMaybe probability d v k s =
     cond (le probability (u .value)) (drawn v (u .state)) (mutateOne d v k (u .state))
 
 -- the first j of n dimensions
-unfoldable pub mutateFirst : (ℕ → Distribution) → ℕ → ℕ → List ParamValue → ℕ → ℕ → Drawn (List ParamValue)
-mutateFirst dims n zero c k s = drawn [] s
-mutateFirst dims n (suc j) c k s =
-    let b = mutateFirst dims n j c k s in
-    let v = mutateMaybe (unit ⊘ ofWhole (pos n)) (dims j) (settingOf c j) k (b .state) in
-    drawn (b .value ++ (v .value ∷ [])) (v .state)
+abbrev pub mutateFirst : (ℕ → Distribution) → ℕ → ℕ → List ParamValue → ℕ → ℕ → Drawn (List ParamValue)
+mutateFirst dims n j c k s = drawAll (λ d settings. mutateMaybe (unit ⊘ ofWhole (pos n)) (dims d) (settingOf c d) k) j s
 
 abbrev pub mutate : (ℕ → Distribution) → ℕ → List ParamValue → ℕ → ℕ → Drawn (List ParamValue)
 mutate dims n c k s = mutateFirst dims n n c k s
@@ -369,12 +348,8 @@ brood o parents ranks s =
     drawn (children (a .value) (b .value)) (b .state)
 
 -- the children of so many broods, one after the other
-unfoldable pub broods : Operators → List (List ParamValue) → (ℕ → ℕ) → ℕ → ℕ → Drawn (List (List ParamValue))
-broods o parents ranks zero s = drawn [] s
-broods o parents ranks (suc k) s =
-    let so-far = broods o parents ranks k s in
-    let c = brood o parents ranks (so-far .state) in
-    drawn (so-far .value ++ (c .value .first ∷ c .value .second ∷ [])) (c .state)
+abbrev pub broods : Operators → List (List ParamValue) → (ℕ → ℕ) → ℕ → ℕ → Drawn (List (List ParamValue))
+broods o parents ranks k s = inTurn (λ born c. born ++ (c .first ∷ c .second ∷ [])) [] (λ i born. brood o parents ranks) k s
 
 -- "An odd size drops the last second child after its mutation."
 unfoldable pub offspringOf : Operators → List (List ParamValue) → (ℕ → ℕ) → ℕ → ℕ → Drawn (List (List ParamValue))

@@ -10,7 +10,8 @@ use lib.ListN.{length, getD, set, take}
 use lib.Seq.{take-suc, take-length, length-take-le, getD-set-same, getD-set-other}
 use Rattle.model.specs.Kept.{nicheCount}
 use Rattle.list_laws.proofs.Bools.{by-bool}
-use Rattle.list_laws.proofs.Members.{tally-nil, tally-yes, tally-no, tally-le}
+use Rattle.list_laws.proofs.Members.{tally-nil, tally-le}
+use Rattle.niching_laws.proofs.Run.{count-same, count-other}
 use Rattle.niching_array_laws.specs.Niche.{countOf, Zeros}
 
 -- one plan more at the end of those counted, and its line's count one higher
@@ -21,9 +22,9 @@ counts-more line plans p counts h g l = by-bool (eqb (line p) l)
     (λ e. let v : line p ≡ l = eqb-true (line p) l e in
     ap (countOf (set counts (line p) (countOf counts (line p) + 1))) (sym v)
     ∙ getD-set-same counts (line p) (countOf counts (line p) + 1) 0 h
-    ∙ omega (arith, g l, ap (countOf counts) v, tally-yes (λ q. eqb (line q) l) plans p e))
+    ∙ omega (arith, g l, ap (countOf counts) v, count-same line plans p l v))
     (λ e. getD-set-other counts (line p) l (countOf counts (line p) + 1) 0 (λ v. eqb-false (line p) l e (sym v))
-    ∙ g l ∙ sym (tally-no (λ q. eqb (line q) l) plans p e))
+    ∙ g l ∙ sym (count-other line plans p l (eqb-false (line p) l e)))
 
 -- the counts of the first i plans
 pub record Counted (line : ℕ → ℕ) (plans : List ℕ) (i : ℕ) (counts : List ℕ) : Type 0 where

@@ -1,65 +1,56 @@
 -- The loop over the open places: the first j are filled as `picks` fills them.
 use Prim.Native.Nat.{ℕ, _+_, _-_, _<_}
-use mathlib.Core.Path.{_≡_, refl, ap, sym, _∙_}
+use mathlib.Core.Path.{_≡_, ap, _∙_}
 use mathlib.Core.Bool.{Bool, false}
-use mathlib.Core.List.{List, [], _∷_, _++_}
-use native.Mathlib.Numerals.{add-one}
+use mathlib.Core.List.{List}
 use native.Mathlib.Omega.{arith}
 use lib.Ieee.{Float}
 use lib.ListN.{length, set, take, drop, replicate, length-drop}
 use lib.Seq.{getD-take, getD-drop, length-take-le}
 use Rattle.model.specs.Lists.{over}
-use Rattle.model.specs.Draw.{Drawn, drawn}
+use Rattle.model.specs.Draw.{Drawn, drawn, inTurn}
 use Rattle.model.specs.Kept.{nicheCount, pickOne, picks}
-use Rattle.list_laws.proofs.Built.{drawn-more}
-use Rattle.niching_laws.proofs.KeptLength.{picks-length}
-use Rattle.niching_laws.proofs.Written.{Written, written-more}
+use Rattle.list_laws.proofs.Draws.{drawAll-length}
+use Rattle.niching_laws.proofs.Written.{Written, written-none, written-next, written-more}
 use Rattle.niching_array_laws.specs.Niche.{lineIn, distanceIn, planAt, countOf, Zeros, OnLines, Ready, Took, Splits, picksOf, NichingSelects}
 use Rattle.niching_array_laws.proofs.Places.{replicate-at}
 use Rattle.niching_array_laws.proofs.Filling.{Given, Holds, holds-first, holds-pick, holds-ready, holds-more}
 
--- one pick more
-picks-next : (line : ℕ → ℕ) (distance : ℕ → Float) (n : ℕ) (before front : List ℕ) (j s r u : ℕ)
-    → drawn r u ≡ pickOne line distance n before front (picks line distance n before front j s .value) (picks line distance n before front j s .state)
-    → drawn (picks line distance n before front j s .value ++ (r ∷ [])) u ≡ picks line distance n before front (j + 1) s
-unfolding picks
-picks-next line distance n before front j s r u e =
-    drawn-more (λ a b. a ++ (b ∷ [])) (λ (d : Drawn (List ℕ)). pickOne line distance n before front (d .value) (d .state)) refl e
-    ∙ ap (λ k. picks line distance n before front k s) (sym (add-one j))
+-- how the loop picks
+abbrev pickIn : List ℕ → List Float → ℕ → List ℕ → List ℕ → ℕ → List ℕ → ℕ → Drawn ℕ
+pickIn lines distances n before front place picked = pickOne (lineIn lines) (distanceIn distances) n before front picked
 
 -- the state of the loop
 pub record Selecting (before front lines : List ℕ) (distances : List Float) (n s : ℕ) (old : List ℕ) (j : ℕ) (counts waits : List ℕ) (taken : List Bool)
     (out : List ℕ) (t : ℕ) : Type 0 where
   pub holds : Holds before front lines (picks (lineIn lines) (distanceIn distances) n before front j s .value) counts waits taken
-  pub picked : Written (λ k. picks (lineIn lines) (distanceIn distances) n before front k s) old j out t
+  pub picked : Written (pickIn lines distances n before front) s old j out t
 
 pub selecting-first : (before front lines : List ℕ) (distances : List Float) (n s : ℕ) (old counts waits : List ℕ)
     → ((l : ℕ) → countOf counts l ≡ nicheCount (lineIn lines) before l) → ((l : ℕ) → countOf waits l ≡ nicheCount (lineIn lines) front l)
     → length counts ≡ 1024 → length waits ≡ 1024
     → Selecting before front lines distances n s old 0 counts waits (replicate 1024 false) old s
-unfolding picks
+unfolding inTurn
 selecting-first before front lines distances n s old counts waits a b c d = record {
   holds = holds-first before front lines counts waits a b c d;
-  picked = record { same = refl; written = refl; state = refl };
+  picked = written-none (pickIn lines distances n before front) s old;
 }
 
 module _ {before front lines : List ℕ} {distances : List Float} {n s : ℕ} {old : List ℕ} {j : ℕ} {counts waits : List ℕ} {taken : List Bool} {out : List ℕ} {t : ℕ}
     (h : Selecting before front lines distances n s old j counts waits taken out t) (g : Given before front lines distances n) where
   pub selecting-ready : j < length front → Ready front lines distances n counts waits taken
-  selecting-ready u = holds-ready (h .holds) distances n g (omega (arith, picks-length (lineIn lines) (distanceIn distances) n before front j s))
+  selecting-ready u = holds-ready (h .holds) distances n g (omega (arith, drawAll-length (pickIn lines distances n before front) j s))
 
   pub selecting-more : {counts′ waits′ : List ℕ} {taken′ : List Bool} {r u : ℕ} → j < length old
       → Took front lines distances n t counts counts′ waits waits′ taken taken′ r u
       → Selecting before front lines distances n s old (j + 1) counts′ waits′ taken′ (set out j r) u
   selecting-more {counts′} {waits′} {taken′} {r} {u} v k = record {
-    holds = rw (← whole) (holds-more (h .holds) g k);
-    picked = written-more (h .picked) (picks-length (lineIn lines) (distanceIn distances) n before front j s) v r u whole;
+    holds = rw (← written-next (h .picked) r u chosen) (holds-more (h .holds) g k);
+    picked = written-more (h .picked) v r u chosen;
   }
     where
-      whole : drawn (picks (lineIn lines) (distanceIn distances) n before front j s .value ++ (r ∷ [])) u
-          ≡ picks (lineIn lines) (distanceIn distances) n before front (j + 1) s
-      whole = picks-next (lineIn lines) (distanceIn distances) n before front j s r u
-          (k .chosen ∙ holds-pick (h .holds) distances n t ∙ ap (pickOne (lineIn lines) (distanceIn distances) n before front _) (h .picked .state))
+      chosen : drawn r u ≡ pickOne (lineIn lines) (distanceIn distances) n before front (picks (lineIn lines) (distanceIn distances) n before front j s .value) t
+      chosen = k .chosen ∙ holds-pick (h .holds) distances n t
 
 -- ---- what the caller knows of the order
 

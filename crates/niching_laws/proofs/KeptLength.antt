@@ -1,17 +1,16 @@
 -- The kept list of any request has the size wanted, and the fronts handed out are the pool's.
-use Prim.Native.Nat.{ℕ, zero, suc, _-_, _<_, _≤_}
+use Prim.Native.Nat.{ℕ, zero, suc, _<_, _≤_}
 use mathlib.Core.Path.{_≡_, refl}
 use mathlib.Core.Bool.{Bool, false}
-use mathlib.Core.List.{List}
 use native.Mathlib.Omega.{arith}
 use borrow.Author.Tests.{ltb-false}
 use lib.Dec.{ltb}
-use lib.Ieee.{Float}
 use lib.ListN.{length, length-append}
 use Rattle.model.specs.Front.{listing, frontList}
-use Rattle.model.specs.Association.{Request, lineCount, dominance, association, lineOf}
-use Rattle.model.specs.Kept.{Selected, picks, wholeFronts, before, isSplit, splitFront, filled, padding, selectedSplit, selectedWhole, selected}
+use Rattle.model.specs.Association.{Request, dominance}
+use Rattle.model.specs.Kept.{Selected, wholeFronts, before, isSplit, filled, selectedSplit, selectedWhole, selected}
 use Rattle.list_laws.proofs.Bools.{by-bool}
+use Rattle.list_laws.proofs.Draws.{drawAll-length}
 use Rattle.list_laws.proofs.First.{firstBelow-before}
 
 fronts-le : (d : ℕ → ℕ → Bool) (n size k : ℕ) → ((t : ℕ) → t < k → ltb size (length (listing d n (suc t))) ≡ false) → length (listing d n k) ≤ size
@@ -22,16 +21,6 @@ fronts-le d n size (suc k) h = ltb-false size (length (listing d n (suc k))) (h 
 pub before-le : (r : Request) → length (before r) ≤ r .size
 unfolding before wholeFronts
 before-le r = fronts-le (dominance r) (r .count) (r .size) (wholeFronts r) (firstBelow-before (λ k. ltb (r .size) (length (listing (dominance r) (r .count) (suc k)))) (r .count))
-
-pub picks-length : (line : ℕ → ℕ) (distance : ℕ → Float) (lines : ℕ) (b split : List ℕ) (n s : ℕ) → length (picks line distance lines b split n s .value) ≡ n
-unfolding picks
-picks-length line distance lines b split zero s = refl
-picks-length line distance lines b split (suc n) s = rw length-append (omega (arith, picks-length line distance lines b split n s))
-
-pub padding-length : (n k s : ℕ) → length (padding n k s .value) ≡ k
-unfolding padding
-padding-length n zero s = refl
-padding-length n (suc k) s = rw length-append (omega (arith, padding-length n k s))
 
 -- what holds whether or not a front is split holds of what is selected
 pub by-split : (r : Request) (P : Selected → Type 0) → P (selectedSplit r) → P (selectedWhole r) → P (selected r)
@@ -48,5 +37,5 @@ unfolding selectedSplit selectedWhole filled
 kept-length r =
     let b = before-le r in
     by-split r (λ s. length (s .kept) ≡ r .size)
-    (rw length-append (omega (arith, picks-length (lineOf r) (λ p. association r p .distance) (lineCount r) (before r) (splitFront r) (r .size - length (before r)) (r .state))))
-    (rw length-append (omega (arith, padding-length (r .count) (r .size - length (before r)) (r .state))))
+    (rw (length-append, drawAll-length) (omega arith))
+    (rw (length-append, drawAll-length) (omega arith))

@@ -1,5 +1,5 @@
 -- `picks` is a run, so all that holds of any run holds of the plans that it picks.
-use Prim.Native.Nat.{ℕ, zero, suc, _≤_, _<_}
+use Prim.Native.Nat.{ℕ, _≤_, _<_}
 use mathlib.Core.Path.{_≡_, refl, sym, _∙_}
 use mathlib.Core.Bool.{Bool, true, false, not, true≢false}
 use mathlib.Core.List.{List, _++_}
@@ -10,9 +10,9 @@ use borrow.Author.Tests.{not-true}
 use Rattle.model.specs.Lists.{In, Distinct, has}
 use Rattle.model.specs.Kept.{nicheCount, waiting, pickOne, picks}
 use Rattle.niching_laws.specs.Niching.{Split, Waiting, Pick, Run, start, next, Niched}
+use Rattle.list_laws.proofs.Draws.{drawAll-keeps}
 use Rattle.list_laws.proofs.Members.{in-has, has-in, keep-in, in-keep, tally-all}
 use Rattle.niching_laws.proofs.Tally.{pigeonhole}
-use Rattle.niching_laws.proofs.KeptLength.{picks-length}
 use Rattle.niching_laws.proofs.Niched.{run-niched}
 use Rattle.niching_laws.proofs.Choice.{Chosen, chosen}
 
@@ -55,12 +55,9 @@ module _ (distance : ℕ → Float) {before front : List ℕ} {line : ℕ → �
 
   -- with no more open places than the front has plans, `picks` is a run
   pub picks-run : (n s : ℕ) → n ≤ length front → Run before front line n (picks line distance lines before front n s .value)
-  unfolding picks
-  picks-run zero s h = start
-  picks-run (suc n) s h =
-      let r = picks-run n s (omega arith) in
-      let so-far = picks line distance lines before front n s in
-      next r (pick-of (so-far .value) _ (pickOne-chosen (so-far .state) (so-far .value) (omega (arith, picks-length line distance lines before front n s))))
+  picks-run n s h =
+      drawAll-keeps (λ place picked. pickOne line distance lines before front picked) (λ k picked. Run before front line k picked) s n start
+      (λ k picked t u e r. next r (pick-of picked _ (pickOne-chosen t picked (omega arith)))) .1
 
   -- so it meets demand 3
   pub picks-niched : (n s : ℕ) → n ≤ length front → Niched before front line lines n (picks line distance lines before front n s .value)

@@ -12,11 +12,11 @@ use lib.Ieee.{Float, lt}
 use lib.ListN.{length}
 use borrow.Author.Tests.{eqb-true, eqb-false, ltb-true, ltb-false}
 use Rattle.model.specs.Lists.{In, has}
-use Rattle.model.specs.Kept.{nicheCount, waiting, picks}
+use Rattle.model.specs.Kept.{nicheCount, waiting, pickOne, picks}
 use Rattle.model.specs.Papers.DebJain2014.{Candidate, Least, Reached, start, exclude, pickNearest, pickAny}
 use Rattle.niching_laws.specs.Niching.{Split, ByProcedure}
+use Rattle.list_laws.proofs.Draws.{drawAll-keeps}
 use Rattle.list_laws.proofs.Members.{has-in, in-has}
-use Rattle.niching_laws.proofs.KeptLength.{picks-length}
 use Rattle.niching_laws.proofs.Choice.{Chosen}
 use Rattle.niching_laws.proofs.Picks.{waiting-in, in-waiting, pickOne-chosen}
 
@@ -135,18 +135,16 @@ module _ (before front : List ℕ) (line : ℕ → ℕ) (distance : ℕ → Floa
 
 module _ (distance : ℕ → Float) {before front : List ℕ} {line : ℕ → ℕ} {lines : ℕ} (split : Split before front line lines) where
   picks-cleared : (n s : ℕ) → n ≤ length front → Cleared before front line distance lines (picks line distance lines before front n s .value) 0 0
-  unfolding picks
-  picks-cleared zero s h =
-      record {
+  picks-cleared n s h =
+      drawAll-keeps (λ place picked. pickOne line distance lines before front picked) (λ k picked. Cleared before front line distance lines picked 0 0) s n
+      (record {
         here = record { excluded = []; reached = start };
         barren = λ j i. absurd (List·Memᴰ·not-nil i);
         lower = λ i l k. absurd (omega arith);
         level = λ i l k. absurd (omega arith);
-      }
-  picks-cleared (suc n) s h =
-      let so-far = picks line distance lines before front n s in
-      let c = pickOne-chosen distance split (so-far .state) (so-far .value) (omega (arith, picks-length line distance lines before front n s)) in
-      picked-once before front line distance lines (so-far .value) _ c (split .inside _ (in-waiting front (so-far .value) _ (c .listed) .member)) (picks-cleared n s (omega arith))
+      })
+      (λ k picked t u e cleared. let c = pickOne-chosen distance split t picked (omega arith) in
+      picked-once before front line distance lines picked _ c (split .inside _ (in-waiting front picked _ (c .listed) .member)) cleared) .1
 
   -- with no more open places than the front has plans, the procedure of Deb and Jain can pick what `picks` picks
   pub picks-procedure : (n s : ℕ) → n ≤ length front → ByProcedure before front line distance lines (picks line distance lines before front n s .value)

@@ -8,18 +8,18 @@ use native.Mathlib.Omega.{arith}
 use lib.Dec.{eqb}
 use lib.ListN.{length-append}
 use borrow.Author.Tests.{eqb-true, eqb-false, eq-eqb, ne-eqb}
-use Rattle.model.specs.Lists.{In}
+use Rattle.model.specs.Lists.{one, In}
 use Rattle.model.specs.Kept.{nicheCount}
 use Rattle.niching_laws.specs.Niching.{Served, Waited, Run, start, next, Filling, Balanced}
-use Rattle.list_laws.proofs.Members.{in-snoc, distinct-snoc, tally-yes, tally-no, tally-snoc}
+use Rattle.list_laws.proofs.Members.{in-snoc, distinct-snoc, tally-snoc}
 
 -- a plan counts once on its line, and on no other
 module _ (line : ℕ → ℕ) (ps : List ℕ) (p : ℕ) where
   pub count-same : (l : ℕ) → line p ≡ l → nicheCount line (ps ++ (p ∷ [])) l ≡ nicheCount line ps l + 1
-  count-same l e = tally-yes (λ (q : ℕ). eqb (line q) l) ps p (eq-eqb (line p) l e)
+  count-same l e = tally-snoc (λ (q : ℕ). eqb (line q) l) ps p ∙ ap (λ b. nicheCount line ps l + one b) (eq-eqb (line p) l e)
 
   pub count-other : (l : ℕ) → line p ≢ l → nicheCount line (ps ++ (p ∷ [])) l ≡ nicheCount line ps l
-  count-other l e = tally-no (λ (q : ℕ). eqb (line q) l) ps p (ne-eqb (line p) l e)
+  count-other l e = omega (arith, tally-snoc (λ (q : ℕ). eqb (line q) l) ps p, ap one (ne-eqb (line p) l e))
 
   pub count-grows : (l : ℕ) → nicheCount line ps l ≤ nicheCount line (ps ++ (p ∷ [])) l
   count-grows l = omega (arith, tally-snoc (λ (q : ℕ). eqb (line q) l) ps p)

@@ -1,20 +1,24 @@
 -- The picks look at the lines and distances of the pool's plans alone: two lists of them that agree below n give the same picks.
 use Prim.Native.Nat.{ℕ, zero, suc, _<_}
 use mathlib.Core.Path.{_≡_, refl, ap, ap₂, _∙_, fun-ext}
-use mathlib.Core.Logic.{⊎-elim}
 use mathlib.Core.Bool.{Bool, true, false, cond, not}
-use mathlib.Core.List.{List, [], _∷_, _++_, map, List·Memᴰ·head, List·Memᴰ·tail, List·Memᴰ·not-nil}
+use mathlib.Core.List.{List, [], _∷_, _++_, map, List·Memᴰ·head, List·Memᴰ·tail}
 use borrow.Author.Tests.{ltb-true, ltb-false}
 use lib.Dec.{eqb, ltb}
 use lib.Ieee.{Float, lt}
 use lib.ListN.{length, getD, List·getD-eq-default}
 use Rattle.model.specs.Lists.{has, keep, keepBelow}
-use Rattle.model.specs.Draw.{Drawn, drawn}
+use Rattle.model.specs.Draw.{Drawn, drawn, drawAll}
 use Rattle.model.specs.Kept.{nicheCount, waiting, openLines, leastLines, drawFrom, nearestFrom, nearest, drawMember, pickOne, picks}
 pub use Rattle.list_laws.specs.Occ.{Below}
 use Rattle.list_laws.proofs.Bools.{by-bool}
-use Rattle.list_laws.proofs.Members.{tally-same, keep-same, in-keep, in-snoc, getD-in, below-append}
+use Rattle.list_laws.proofs.Members.{tally-same, keep-same, in-keep, getD-in, below-append, below-none, below-snoc}
+use Rattle.list_laws.proofs.Draws.{inTurn-same, drawAll-keeps}
 use Rattle.niching_laws.proofs.Choice.{nearestFrom-in}
+
+-- a list of draws below n is below n
+pub drawn-below : (n : ℕ) (next : ℕ → List ℕ → ℕ → Drawn ℕ) → ((i : ℕ) (l : List ℕ) (t : ℕ) → next i l t .value < n) → (k s : ℕ) → Below n (drawAll next k s .value)
+drawn-below n next each k s = drawAll-keeps next (λ i. Below n) s k (below-none n) (λ i l t u e h. below-snoc n l _ h (each i l t)) .1
 
 module _ (n : ℕ) (some : 0 < n) where
   -- ---- what is picked is below n
@@ -43,11 +47,7 @@ module _ (n : ℕ) (some : 0 < n) where
     pick-below picked s = member-below far _ _ _ (keep-below _ (waiting split picked) (keep-below _ split within))
 
     pub picks-below : (k s : ℕ) → Below n (picks line far lines before split k s .value)
-    unfolding picks
-    picks-below zero s q m = absurd (List·Memᴰ·not-nil m)
-    picks-below (suc k) s q m =
-        ⊎-elim (picks-below k s q) (λ e. rw e (pick-below (picks line far lines before split k s .value) (picks line far lines before split k s .state)))
-        (in-snoc (picks line far lines before split k s .value) _ q m)
+    picks-below k s = drawn-below n (λ place picked. pickOne line far lines before split picked) (λ i. pick-below) k s
 
   -- ---- and looks at plans below n alone
 
@@ -102,9 +102,7 @@ module _ (n : ℕ) (some : 0 < n) where
 
       -- THE LAW
       pub picks-agree : (k s : ℕ) → picks line far lines before split k s ≡ picks line′ far′ lines before split k s
-      unfolding picks
-      picks-agree zero s = refl
-      picks-agree (suc k) s =
-          let so-far = picks line′ far′ lines before split k s in
-          ap (λ (d : Drawn (List ℕ)). let p = pickOne line far lines before split (d .value) (d .state) in drawn (d .value ++ (p .value ∷ [])) (p .state)) (picks-agree k s)
-          ∙ ap (λ (p : Drawn ℕ). drawn (so-far .value ++ (p .value ∷ [])) (p .state)) (pick-agree (so-far .value) (so-far .state) (picks-below line′ far′ lines before split within k s))
+      picks-agree k s =
+          inTurn-same (λ l p. l ++ (p ∷ [])) [] (λ place picked. pickOne line far lines before split picked) (λ place picked. pickOne line′ far′ lines before split picked)
+          (λ i. Below n) s k (below-none n) (λ i picked t u h. below-snoc n picked _ h (pick-below line far lines before split within picked t))
+          (λ i picked t u. pick-agree picked t)

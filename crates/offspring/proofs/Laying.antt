@@ -3,17 +3,17 @@ use mathlib.Core.Path.{_≡_, refl, sym, ap, subst, _∙_}
 use mathlib.Core.List.{List, [], _∷_, _++_, map}
 use Prim.Native.Nat.{ℕ, zero, suc, _+_, _-_, _*_, _/_, _≤_, _<_, min}
 use native.Mathlib.Nat.{add-mul, one-mul, mul-le-mul-right}
-use native.Mathlib.Numerals.{add-one}
 use native.Mathlib.Omega.{arith}
 use lib.ListN.{length, getD, take, length-append}
-use lib.Seq.{take-all, take-suc, take-append-add}
+use lib.Seq.{take-all, take-append-add}
 use Rattle.model.specs.declared.Distribution.{Distribution}
 use Rattle.model.specs.declared.ParamValue.{ParamValue}
-use Rattle.model.specs.Draw.{Drawn, drawn}
+use Rattle.model.specs.Draw.{Drawn, drawn, inTurn}
+use Rattle.list_laws.proofs.Draws.{inTurn-keeps, inTurn-more}
 use Rattle.model.specs.Plan.{Plan}
-use Rattle.model.specs.Setting.{toWord, wordsOf, extract, sortByParam, parentsOf, Operators, Children, children, brood, broods, offspringOf}
+use Rattle.model.specs.Setting.{toWord, wordsOf, sortByParam, extract, Operators, Children, children, brood, broods, offspringOf}
 use Rattle.model.specs.Session.{overAt}
-use Rattle.candidates.proofs.Laid.{at-next, words-one, LaidOut, laid-none, laid-more, laid-next}
+use Rattle.candidates.proofs.Laid.{at-next, words-one, LaidOut, laid-none, laid-more}
 
 words-two : (a b : List ParamValue) → wordsOf (a ∷ b ∷ []) ≡ map toWord a ++ map toWord b
 unfolding wordsOf
@@ -40,50 +40,19 @@ module _ (a b : List ParamValue) (n at size : ℕ) (l l′ l″ : List ℕ) (fir
       let e : size - at ≡ 1 = omega arith in
       first ∙ ap (λ t. overAt (at * n) t l) (sym (words-one a)) ∙ ap (λ k. overAt (at * n) (wordsOf (take k (a ∷ b ∷ []))) l) (sym e)
 
--- ---- parents
+-- ---- parents: the settings of a kept list's plan i
 
-module _ (dims : ℕ → Distribution) (n : ℕ) (plans : ℕ → Plan) where
-  abbrev settings-of : ℕ → ℕ → Drawn (List ParamValue)
-  settings-of p s = extract dims n (sortByParam (plans p .settings)) s
-
-  -- one more plan at the list's end
-  parents-snoc : (ps : List ℕ) (p s : ℕ) → parentsOf dims n plans (ps ++ (p ∷ [])) s
-      ≡ drawn (parentsOf dims n plans ps s .value ++ (settings-of p (parentsOf dims n plans ps s .state) .value ∷ [])) (settings-of p (parentsOf dims n plans ps s .state) .state)
-  unfolding parentsOf
-  parents-snoc [] p s = refl
-  parents-snoc (q ∷ ps) p s =
-      ap (λ (d : Drawn (List (List ParamValue))). drawn (settings-of q s .value ∷ d .value) (d .state)) (parents-snoc ps p (settings-of q s .state))
-
-  module _ (kept : List ℕ) (s : ℕ) where
-    abbrev pub parentsTo : ℕ → Drawn (List (List ParamValue))
-    parentsTo i = parentsOf dims n plans (take i kept) s
-
-    parents-next : (i : ℕ) → i < length kept → parentsTo (i + 1)
-        ≡ drawn (parentsTo i .value ++ (settings-of (getD kept i 0) (parentsTo i .state) .value ∷ [])) (settings-of (getD kept i 0) (parentsTo i .state) .state)
-    parents-next i h = ap (λ l. parentsOf dims n plans l s) (ap (λ k. take k kept) (add-one i) ∙ take-suc kept i 0 h) ∙ parents-snoc (take i kept) (getD kept i 0) s
-
-    pub parents-none : (old : List ℕ) → LaidOut old (0 * n) (parentsTo 0) old s
-    unfolding parentsOf
-    parents-none old = laid-none old n s
-
-    pub parents-more : (old : List ℕ) (i : ℕ) (out : List ℕ) (t : ℕ) → LaidOut old (i * n) (parentsTo i) out t → i < length kept
-        → (v : List ParamValue) (u : ℕ) (out′ : List ℕ) → drawn v u ≡ settings-of (getD kept i 0) t → length (map toWord v) ≡ n → i * n + n ≤ length old
-        → out′ ≡ overAt (i * n) (map toWord v) out → LaidOut old ((i + 1) * n) (parentsTo (i + 1)) out′ u
-    parents-more old i out t h l v u out′ e z room put =
-        subst (λ d. LaidOut old ((i + 1) * n) d out′ u) (sym (parents-next i l)) (laid-next (settings-of (getD kept i 0)) old n i (parentsTo i) out t h v u out′ e z room put)
+abbrev pub parentIn : (ℕ → Distribution) → ℕ → (ℕ → Plan) → List ℕ → ℕ → List (List ParamValue) → ℕ → Drawn (List ParamValue)
+parentIn dims n plans kept i parents = extract dims n (sortByParam (plans (getD kept i 0) .settings))
 
 -- ---- offspring
 
 module _ (o : Operators) (parents : List (List ParamValue)) (ranks : ℕ → ℕ) (s : ℕ) where
-  broods-length : (k : ℕ) → length (broods o parents ranks k s .value) ≡ 2 * k
-  unfolding broods
-  broods-length zero = refl
-  broods-length (suc k) = length-append (broods o parents ranks k s .value) _ ∙ omega (arith, broods-length k)
+  abbrev with-both : List (List ParamValue) → Children → List (List ParamValue)
+  with-both born c = born ++ (c .first ∷ c .second ∷ [])
 
-  broods-next : (k : ℕ) → broods o parents ranks (k + 1) s
-      ≡ (let b = broods o parents ranks k s in let c = brood o parents ranks (b .state) in drawn (b .value ++ (c .value .first ∷ c .value .second ∷ [])) (c .state))
-  unfolding broods
-  broods-next k = ap (λ j. broods o parents ranks j s) (add-one k)
+  broods-length : (k : ℕ) → length (broods o parents ranks k s .value) ≡ 2 * k
+  broods-length k = inTurn-keeps with-both [] (λ i born. brood o parents ranks) (λ i born. length born ≡ 2 * i) s k refl (λ i born t l e. length-append born _ ∙ omega arith)
 
   module _ (size : ℕ) where
     -- those of so many broods that the size has room for
@@ -104,11 +73,11 @@ module _ (o : Operators) (parents : List (List ParamValue)) (ranks : ℕ → ℕ
         let z = broods-length k in
         let f : length bs + (size - 2 * k) ≡ size = omega arith in
         ap (λ (d : Drawn (List (List ParamValue))). drawn (take size (d .value)) (d .state))
-        (broods-next k ∙ sym (ap (λ (c : Drawn Children). drawn (bs ++ (c .value .first ∷ c .value .second ∷ [])) (c .state)) e))
+        (sym (inTurn-more with-both [] (λ i born. brood o parents ranks) k s refl e))
         ∙ ap (λ l. drawn l u) (ap (λ j. take j (bs ++ (a ∷ b ∷ []))) (sym f) ∙ take-append-add bs (a ∷ b ∷ []) (size - 2 * k) ∙ ap (λ l. l ++ take (size - 2 * k) (a ∷ b ∷ [])) (sym (all-so-far k h)))
 
     pub bred-none : (old : List ℕ) (n : ℕ) → LaidOut old (min (2 * 0) size * n) (bredBy 0) old s
-    unfolding broods
+    unfolding inTurn
     bred-none old n =
         let m : 0 ≡ min (2 * 0) size = omega arith in
         subst (λ l. LaidOut old (min (2 * 0) size * n) (drawn l s) old s) (sym (take-all size [] (omega arith))) (subst (λ k. LaidOut old (k * n) (drawn [] s) old s) m (laid-none old n s))

@@ -18,8 +18,8 @@ use Rattle.model.specs.declared.Sampling.the-variants as sampling
 use Rattle.model.specs.Lists.{over}
 use Rattle.model.specs.Draw.{Drawn, drawn}
 use Rattle.model.specs.Setting.{kindOfDimension, toWord, ofWord, sampleRandom, sampleAll, sampleCandidates, wordsOf}
-use Rattle.model.specs.Session.{State, Answered, state, progress, dimensionOf, withRng, withProgress, overAt, discover, activate, overflow, enter, enlist, answer, isNew, placeIn, plansOf, sampleFromCandidate}
-use Rattle.session_parts.specs.Exits.{exit, settled, renewed, Ready}
+use Rattle.model.specs.Session.{State, Answered, state, progress, dimensionOf, withRng, withProgress, renewed, overAt, discover, activate, overflow, enter, enlist, answer, isNew, placeIn, plansOf, sampleFromCandidate}
+use Rattle.session_parts.specs.Exits.{exit, settled, Ready}
 use Rattle.session_records.proofs.Records.{is-new-by}
 
 -- ---- discovery

@@ -3,11 +3,9 @@ use Prim.Native.Nat.{ℕ, _≤_}
 use mathlib.Core.Path.{_≡_}
 use mathlib.Core.Bool.{false}
 use mathlib.Core.List.{List}
-use lib.Ieee.{Float}
 use Rattle.model.specs.declared.Session.{Session}
 use Rattle.model.specs.declared.Sampled.{Sampled}
 use Rattle.model.specs.declared.Sampling.the-variants as sampling
-use Rattle.model.specs.declared.Phase.the-variants.{Active}
 use Rattle.model.specs.Session.{Answered, state, progress, dimensionOf, maxPlans}
 use Rattle.model.specs.Refusal.{badDimensions}
 use Rattle.model.specs.Calls.{SampleExit}
@@ -18,18 +16,6 @@ exit r cs ps ns = record { answer = r .outcome; after = state (r .session) cs ps
 
 abbrev pub settled : Answered → SampleExit
 settled a = record { answer = sampling.Setting (a .setting); after = a .after }
-
--- the session of a new generation, for its generator, its ideal and the generation's number
-abbrev pub renewed : Session → ℕ → List Float → ℕ → Session
-renewed s g ideal number = record {
-  config = s .config;
-  phase = Active;
-  «discovery_trial_id» = s .«discovery_trial_id»;
-  rng = record { s = g };
-  dimensions = s .dimensions;
-  «ideal_point» = ideal;
-  progress = progress (s .progress .«n_dims») (s .config .«population_size») 0 number;
-}
 
 -- what a state past discovery needs to be drawn from
 pub record Ready (s : Session) : Type 0 where

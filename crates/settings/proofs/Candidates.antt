@@ -1,19 +1,18 @@
 -- A candidate that is filled place by place.
-use mathlib.Core.Path.{_≡_, refl, sym, ap, ap₂, _∙_}
+use mathlib.Core.Path.{_≡_, sym, ap, ap₂, _∙_}
 use mathlib.Core.List.{List, [], _∷_, _++_}
 use Prim.Native.Nat.{ℕ, _+_, _<_}
 use native.Mathlib.Nat.{ne-of-lt}
-use native.Mathlib.Numerals.{add-one}
 use lib.Dec.{leb}
 use lib.ListN.{length, getD, set}
 use lib.Seq.{getD-set-same, getD-set-other}
 use Rattle.list_laws.proofs.Bools.{by-bool}
-use Rattle.list_laws.proofs.Built.{listBelow-none, listBelow-more, listBelow-same, drawn-more}
+use Rattle.list_laws.proofs.Built.{listBelow-none, listBelow-more, listBelow-same}
+use Rattle.list_laws.proofs.Draws.{inTurn-none, inTurn-more}
 use Rattle.model.specs.Lists.{listBelow}
-use Rattle.model.specs.declared.Distribution.{Distribution}
 use Rattle.model.specs.declared.ParamValue.{ParamValue}
-use Rattle.model.specs.Draw.{Drawn, drawn, drawUsize}
-use Rattle.model.specs.Setting.{sampleRandom, sampleAll, tournament}
+use Rattle.model.specs.Draw.{Drawn, drawn, drawUsize, drawAll}
+use Rattle.model.specs.Setting.{tournament}
 use Rattle.rng_util.proofs.Draws.{drawUsize-below}
 use Rattle.settings.specs.declared.Slot.{Slot}
 use Rattle.settings.specs.Candidate.{noSlot, slotOf, settingsOf}
@@ -36,14 +35,14 @@ pub settings-more : (params : List Slot) (i : ℕ) (v : ParamValue) → i < leng
 unfolding settingsOf
 settings-more params i v h = filled-more (λ (s : Slot). s .value) noSlot params i (record { value = v }) h
 
-pub sampleAll-none : (dims : ℕ → Distribution) (s : ℕ) → sampleAll dims 0 s ≡ drawn [] s
-unfolding sampleAll
-sampleAll-none dims s = refl
+-- one that is drawn place by place: nothing is drawn yet, and one setting more
+module _ (next : ℕ → List ParamValue → ℕ → Drawn ParamValue) (params : List Slot) where
+  pub candidate-none : (s : ℕ) → drawn (settingsOf params 0) s ≡ drawAll next 0 s
+  candidate-none s = ap (λ l. drawn l s) (settings-none params) ∙ sym (inTurn-none (λ l v. l ++ (v ∷ [])) [] next s)
 
-pub sampleAll-more : (dims : ℕ → Distribution) (n s : ℕ) (l : List ParamValue) (t : ℕ) (v : ParamValue) (u : ℕ) → drawn l t ≡ sampleAll dims n s → drawn v u ≡ sampleRandom (dims n) t
-    → drawn (l ++ (v ∷ [])) u ≡ sampleAll dims (n + 1) s
-unfolding sampleAll
-sampleAll-more dims n s l t v u e f = drawn-more (λ a b. a ++ (b ∷ [])) (λ (d : Drawn (List ParamValue)). sampleRandom (dims n) (d .state)) e f ∙ ap (λ (k : ℕ). sampleAll dims k s) (sym (add-one n))
+  pub candidate-more : (i s : ℕ) {t u : ℕ} {v : ParamValue} → i < length params → drawn (settingsOf params i) t ≡ drawAll next i s → drawn v u ≡ next i (settingsOf params i) t
+      → drawn (settingsOf (set params i (record { value = v })) (i + 1)) u ≡ drawAll next (i + 1) s
+  candidate-more i s {u = u} {v = v} h e f = ap (λ l. drawn l u) (settings-more params i v h) ∙ inTurn-more (λ l x. l ++ (x ∷ [])) [] next i s e f
 
 -- ---- parents: the winner of a tournament is one of the n
 pub winner-below : (ranks : ℕ → ℕ) (n s : ℕ) → 0 < n → tournament ranks n s .value < n

@@ -9,7 +9,7 @@ use Rattle.model.specs.Setting.{wordsOf, sampleCandidates}
 use Rattle.settings.specs.Candidate.{dimensionsOf}
 use Rattle.settings.proofs.Valid.{few}
 use Rattle.list_laws.proofs.Rows.{row-within}
-use Rattle.candidates.proofs.Laid.{LaidOut, samples-none, samples-more, words-length}
+use Rattle.candidates.proofs.Laid.{LaidOut, laid-first, laid-next, words-length}
 use Rattle.candidates.proofs.sample_candidates.Statement.{statement}
 use Rattle.candidates.proofs.sample_candidates.Tie as tie
 
@@ -27,7 +27,7 @@ row s i h = row-within i (s .args .count) (s .args .n) (length (s .args .out .no
 loop-holds : tie.Need-loop-holds Inv-loop μ-loop
 loop-holds c =
     let a = c .before .args in
-    (omega arith, samples-none (dimensionsOf (a .dims)) (a .n) (a .rng .s) (a .out .now))
+    (omega arith, laid-first _ _ _ (a .n))
 
 sample-all-requires : tie.Need-sample-all-requires Inv-loop μ-loop
 sample-all-requires c κs = search needs
@@ -60,7 +60,7 @@ loop-again c =
     let t = c .before .before .before .before .before .before .before .loop-test .taken in
     let v = c .before .before .before .before .before .before .sample-all in (
       omega arith,
-      samples-more (dimensionsOf (a .dims)) (a .n) (a .rng .s) (a .out .now) (l .i) (l .out) _ (l .inv .1) _ _ _ (v .ensures) (words-length (v .result .params) (a .n))
+      laid-next _ (a .rng .s) (a .out .now) (a .n) (l .i) (l .out) _ (l .inv .1) _ _ _ (v .ensures) (words-length (v .result .params) (a .n))
           (row s (l .i) t) (c .before .before .before .put-candidate .ensures),
     )
 

@@ -1,7 +1,7 @@
 -- the dimensions before place i are crossed
 use mathlib.Core.Path.{subst}
 use Prim.Native.Nat.{ℕ, _-_, _≤_, _<_}
-use mathlib.Core.Path.{_≡_, sym, ap₂, _∙_}
+use mathlib.Core.Path.{_≡_, ap₂, _∙_}
 use mathlib.Core.List.{List}
 use lib.ListN.{length, length-set}
 use native.Mathlib.Omega.{arith}
@@ -10,7 +10,7 @@ use Rattle.model.specs.declared.ParamValue.{ParamValue}
 use Rattle.model.specs.Draw.{drawn}
 use Rattle.model.specs.Setting.{children, crossAll}
 use Rattle.settings.specs.Candidate.{dimensionsOf, settingsOf}
-use Rattle.settings.proofs.Candidates.{settings-none, settings-more}
+use Rattle.settings.proofs.Candidates.{settings-more}
 use Rattle.genetic_parts.proofs.Places.{setting-at, crossAll-none, crossAll-more}
 use Rattle.genetic_parts.proofs.cross_all.Statement.{statement}
 use Rattle.genetic_parts.proofs.cross_all.Tie as tie
@@ -29,7 +29,7 @@ loop-holds c = (
   omega arith,
   c .good .1 .1 .0 .1 .0 .1,
   c .good .1 .1 .1 .0 .1 .0 .1,
-  ap₂ (λ (a b : List ParamValue). drawn (children a b) (c .args .rng .s)) (settings-none _) (settings-none _) ∙ sym (crossAll-none _ _ _ _ _),
+  crossAll-none (dimensionsOf (c .args .t1)) (settingsOf (c .args .t3) (c .args .n)) (settingsOf (c .args .t4) (c .args .n)) (c .args .k) (c .args .rng .s) (c .args .t3) (c .args .t4),
 )
 
 mul-info : tie.Need-mul-info Inv-loop μ-loop

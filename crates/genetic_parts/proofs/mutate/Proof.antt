@@ -1,7 +1,7 @@
 -- the dimensions before place i are mutated
 use mathlib.Core.Path.{subst}
 use Prim.Native.Nat.{ℕ, _-_, _≤_, _<_}
-use mathlib.Core.Path.{_≡_, sym, ap, _∙_}
+use mathlib.Core.Path.{_≡_, ap}
 use lib.Ieee.{Float}
 use lib.ListN.{length, length-set}
 use native.Mathlib.Omega.{arith}
@@ -11,8 +11,8 @@ use Rattle.model.specs.Draw.{drawn}
 use Rattle.model.specs.Setting.{mutateFirst}
 use Rattle.settings.specs.Candidate.{dimensionsOf, settingsOf}
 use Rattle.settings.proofs.Valid.{few, each}
-use Rattle.settings.proofs.Candidates.{settings-none, settings-more}
-use Rattle.genetic_parts.proofs.Places.{setting-at, mutateFirst-none, mutateFirst-more}
+use Rattle.settings.proofs.Candidates.{candidate-none, candidate-more}
+use Rattle.genetic_parts.proofs.Places.{setting-at, mutated-as}
 use Rattle.genetic_parts.proofs.mutate.Statement.{statement}
 use Rattle.genetic_parts.proofs.mutate.Tie as tie
 
@@ -31,7 +31,7 @@ loop-holds c = (
   omega arith,
   few _ _ (c .before .pre),
   c .before .good .1 .1 .0 .1 .0 .1,
-  ap (λ l. drawn l (c .before .args .rng .s)) (settings-none _) ∙ sym (mutateFirst-none _ _ _ _ _),
+  candidate-none _ _ _,
 )
 
 mul-info : tie.Need-mul-info Inv-loop μ-loop
@@ -71,9 +71,8 @@ loop-again c =
       omega arith,
       omega arith,
       simp length-set (l .inv .2),
-      ap (λ x. drawn x (v .result .rng .s)) (settings-more (l .out) (l .i) (v .result .value) room)
-          ∙ mutateFirst-more (dimensionsOf (a .t1)) (a .n) (l .i) (settingsOf (a .t3) (a .n)) _ _ _ _ _ _ _ _ (l .inv .3) (ap (λ (x : Float). unit ⊘ x) (b .nearest-u64-to-f64 .ensures))
-          (setting-at (a .t3) (a .n) (l .i) (c .before .before .before .before .loop-test .taken)) (v .ensures),
+      candidate-more _ (l .out) (l .i) _ room (l .inv .3) (mutated-as (dimensionsOf (a .t1) (l .i)) _ (l .rng .s) (v .ensures) (ap (λ (x : Float). unit ⊘ x) (b .nearest-u64-to-f64 .ensures))
+          (setting-at (a .t3) (a .n) (l .i) (c .before .before .before .before .loop-test .taken))),
     )
 
 returns : tie.Need-returns Inv-loop μ-loop

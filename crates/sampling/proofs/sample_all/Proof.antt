@@ -1,13 +1,13 @@
 -- the settings before place i are drawn
 use Prim.Native.Nat.{_-_, _≤_, _<_}
-use mathlib.Core.Path.{_≡_, refl, sym, ap, _∙_}
+use mathlib.Core.Path.{_≡_, refl}
 use native.Mathlib.Omega.{arith}
 use lib.ListN.{length, length-set}
 use Rattle.model.specs.Draw.{drawn}
 use Rattle.model.specs.Setting.{sampleAll}
 use Rattle.settings.specs.Candidate.{dimensionsOf, settingsOf}
 use Rattle.settings.proofs.Valid.{few, each}
-use Rattle.settings.proofs.Candidates.{settings-none, settings-more, sampleAll-none, sampleAll-more}
+use Rattle.settings.proofs.Candidates.{candidate-none, candidate-more}
 use Rattle.sampling.proofs.sample_all.Statement.{statement}
 use Rattle.sampling.proofs.sample_all.Tie as tie
 
@@ -19,7 +19,7 @@ abbrev μ-loop : tie.MeasureT-loop
 μ-loop n dims rng₀ params₀ i₀ rng params i = n - i
 
 loop-holds : tie.Need-loop-holds Inv-loop μ-loop
-loop-holds c = (omega arith, few _ _ (c .pre), refl, ap (λ l. drawn l (c .args .rng .s)) (settings-none _) ∙ sym (sampleAll-none _ _))
+loop-holds c = (omega arith, few _ _ (c .pre), refl, candidate-none _ _ _)
 
 mul-info : tie.Need-mul-info Inv-loop μ-loop
 mul-info c = omega arith
@@ -50,8 +50,7 @@ loop-again c =
       omega arith,
       omega arith,
       simp length-set (l .inv .2),
-      ap (λ x. drawn x (v .result .rng .s)) (settings-more (l .params) (l .i) (v .result .value) room)
-          ∙ sampleAll-more _ (l .i) _ _ _ _ _ (l .inv .3) (v .ensures),
+      candidate-more _ (l .params) (l .i) _ room (l .inv .3) (v .ensures),
     )
 
 returns : tie.Need-returns Inv-loop μ-loop

@@ -1,7 +1,7 @@
 -- the generation's number wraps
 use Prim.Native.Nat.{ℕ}
 use mathlib.Core.Path.{ap, _∙_}
-use Rattle.session_parts.specs.Exits.{renewed}
+use Rattle.model.specs.Session.{renewed}
 use borrow.Author.Needs.{needs}
 use Rattle.session_breeding.proofs.bred_session.Statement.{statement}
 use Rattle.session_breeding.proofs.bred_session.Tie as tie
