@@ -13,7 +13,7 @@ use lib.ListN.{length, getD}
 use Rattle.model.specs.declared.Direction.{Direction}
 use Rattle.model.specs.declared.Direction.the-variants.{Minimize, Maximize}
 use Rattle.model.specs.Lists.{listBelow, allIn, allBelow}
-use Rattle.model.specs.Plan.{maxValues, planOf}
+use Rattle.model.specs.Plan.{maxObjectives, planOf}
 use Rattle.model.specs.Real.{real}
 use Rattle.model.specs.Row.{directionOf, toMinimize, rowOf}
 use Rattle.model.specs.Association.{Request, objectives}
@@ -58,14 +58,14 @@ start-of x h e = by-bool (measurable x)
 -- ---- a request
 
 -- a value of a plan of words that refusal 8 lets pass
-word-value : (marks : List ℕ) (m : ℕ) (word : ℕ → ℕ) → m ≤ maxValues → goodPlan m (planOf word) ≡ true → (j : ℕ) → j < m → Within 1000 (rowOf marks (planOf word) j)
+word-value : (marks : List ℕ) (m : ℕ) (word : ℕ → ℕ) → m ≤ maxObjectives → goodPlan m (planOf word) ≡ true → (j : ℕ) → j < m → Within 1000 (rowOf marks (planOf word) j)
 unfolding rowOf planOf
 word-value marks m word few good j l =
     let values : ℕ → Float = λ i. real (word (2 + i)) in
-    let row = listBelow values (min (word 1) maxValues) in
+    let row = listBelow values (min (word 1) maxObjectives) in
     let n : m ≤ length row = words-accepted m word few good .whole in
     let x = getD row j nan in
-    let held = subst (λ y. T (fits binary64 y)) (sym (listBelow-at values (min (word 1) maxValues) nan j (omega (arith, listBelow-length values (min (word 1) maxValues))))) (ofBits-fits binary64 (word (2 + j))) in
+    let held = subst (λ y. T (fits binary64 y)) (sym (listBelow-at values (min (word 1) maxObjectives) nan j (omega (arith, listBelow-length values (min (word 1) maxObjectives))))) (ofBits-fits binary64 (word (2 + j))) in
     real-toMinimize (directionOf (getD marks j 0)) x (real-of x held (allIn-each measurable nan row (good-values m (planOf word) good) j (omega arith)))
 
 good-start : (m : ℕ) (ideal : List Float) → goodIdeal m ideal ≡ true → ((j : ℕ) → j < m → T (fits binary64 (getD ideal j nan)))
@@ -77,7 +77,7 @@ good-start m ideal e h j l =
     start-of (getD ideal j nan) (h j l) (allIn-each (λ x. measurable x || isInfinity x) nan ideal all j (omega arith))
 
 -- THEOREM: a pool of words that refusal 8 lets pass is measured
-pub measured-words : (r : Request) (word : ℕ → ℕ → ℕ) → ((p : ℕ) → r .plans p ≡ planOf (word p)) → objectives r ≤ maxValues → badPool r ≡ false
+pub measured-words : (r : Request) (word : ℕ → ℕ → ℕ) → ((p : ℕ) → r .plans p ≡ planOf (word p)) → objectives r ≤ maxObjectives → badPool r ≡ false
     → ((j : ℕ) → j < objectives r → T (fits binary64 (getD (r .ideal) j nan))) → Measured r
 unfolding badPool
 measured-words r word same few pool held =

@@ -1,22 +1,23 @@
 -- Only the entries that are looked at matter: below n the plans, below m the objectives, below k the lines.
 use Prim.Native.Nat.{ℕ, _<_}
-use mathlib.Core.Path.{_≡_, ap, ap₂, sym, _∙_}
+use mathlib.Core.Path.{_≡_, ap, ap₂}
 use mathlib.Core.Bool.{true, cond}
 use lib.Ieee.{Float, inf, lt}
 use Rattle.model.specs.Real.{_⊖_, _⊗_, _⊘_, infinity}
 use Rattle.model.specs.Numbers.{sqrtOf, square}
 use Rattle.model.specs.Association.{leastFrom, greatest, dot, offSquares, distance, smallNorm, near, nearestOf}
 use Rattle.float_laws.proofs.Sums.{sum-same}
-use Rattle.association_laws.proofs.Extremes.{above, nearer, best-same, least-best, greatest-best, nearest-best}
+use Rattle.association_laws.proofs.Extremes.{above}
+use Rattle.list_laws.proofs.Best.{best-same}
 
 pub least-same : (b : Float) (f g : ℕ → Float) (n : ℕ) → ((t : ℕ) → t < n → f t ≡ g t) → leastFrom b f n ≡ leastFrom b g n
-least-same b f g n h = least-best b f n ∙ best-same lt b f g n h ∙ sym (least-best b g n)
+least-same b f g n h = best-same lt b f g n h
 
 pub greatest-same : (f g : ℕ → Float) (n : ℕ) → ((t : ℕ) → t < n → f t ≡ g t) → greatest f n ≡ greatest g n
-greatest-same f g n h = greatest-best f n ∙ best-same above (inf true) f g n h ∙ sym (greatest-best g n)
+greatest-same f g n h = best-same above (inf true) f g n h
 
 pub nearest-same : (d e : ℕ → Float) (n : ℕ) → ((t : ℕ) → t < n → d t ≡ e t) → nearestOf d n ≡ nearestOf e n
-nearest-same d e n h = nearest-best d n ∙ best-same nearer (near 0 infinity) _ _ n (λ t l. ap (near t) (h t l)) ∙ sym (nearest-best e n)
+nearest-same d e n h = best-same (λ x y. lt (x .distance) (y .distance)) (near 0 infinity) _ _ n (λ t l. ap (near t) (h t l))
 
 module _ (m : ℕ) (p q r s : ℕ → Float) (f : (j : ℕ) → j < m → p j ≡ q j) (g : (j : ℕ) → j < m → r j ≡ s j) where
   dot-same : dot m p r ≡ dot m q s

@@ -2,13 +2,14 @@
 -- times 1 - 2 ^ -30 has: in neither case need a root be taken.
 use Prim.Native.Nat.{ℕ, _+_}
 use mathlib.Core.Path.{_≡_, refl, ap, ap₂, sym, _∙_}
-use mathlib.Core.Bool.{true, false, not, true≢false}
+use mathlib.Core.Bool.{true, false, not, true≢false, cond, Bool}
 use lib.Dec.{T}
 use lib.Ieee.{Float, nan, binary64, lt, le, isNan, fits}
 use lib.Ieee.Fits.{inf-fits, cond-fits}
 use Rattle.model.specs.Real.{_⊗_, _⊘_, infinity}
 use Rattle.model.specs.Numbers.{sqrtOf}
 use Rattle.model.specs.Association.{dot, smallNorm, offSquares, distance, near, nearestOf}
+use Rattle.model.specs.Lists.{bestFrom}
 use Rattle.list_laws.proofs.Bools.{by-bool, T-true, true-T, T-false, false-T}
 use Rattle.float_laws.proofs.Order.{le→nlt, lt→le, nlt→le, le-not-nan}
 use Rattle.float_laws.proofs.Compared.{nan-below, below-nan}
@@ -19,7 +20,7 @@ use Rattle.real_laws.proofs.Roots.Monotone.{sqrt-mono}
 use Rattle.real_laws.proofs.Roots.Apart.{nearlyOne, sqrt-apart}
 use Rattle.association_laws.specs.Flat.{squaresOf}
 use Rattle.association_laws.specs.Search.{Square, Found}
-use Rattle.association_laws.proofs.Extremes.{nearer, best-yes, best-no, nearest-best}
+use Rattle.list_laws.proofs.Best.{best-more}
 
 -- ---- the distance is the root of its square
 
@@ -66,27 +67,25 @@ root-order x y X Y h = by-bool (le nought x)
 
 -- ---- the search
 
-nearest-yes : (d : ℕ → Float) (n : ℕ) → lt (d n) (nearestOf d n .distance) ≡ true → nearestOf d (n + 1) ≡ near n (d n)
-nearest-yes d n e = nearest-best d (n + 1) ∙ sym (best-yes nearer _ _ n (nearestOf d n) (nearest-best d n) e)
-
-nearest-no : (d : ℕ → Float) (n : ℕ) → lt (d n) (nearestOf d n .distance) ≡ false → nearestOf d (n + 1) ≡ nearestOf d n
-nearest-no d n e = nearest-best d (n + 1) ∙ sym (best-no nearer _ _ n (nearestOf d n) (nearest-best d n) e)
+-- one line more is the nearest, or the one found before it
+nearest-next : (d : ℕ → Float) (n : ℕ) {b : Bool} → lt (d n) (nearestOf d n .distance) ≡ b → cond b (near n (d n)) (nearestOf d n) ≡ nearestOf d (n + 1)
+nearest-next d n e = best-more (λ x y. lt (x .distance) (y .distance)) (near 0 infinity) (λ l. near l (d l)) n refl e
 
 pub found-none : (d : ℕ → Float) → Found d 0 0 infinity
-unfolding nearestOf sqrtOf
+unfolding bestFrom sqrtOf
 found-none d = record { nearest = refl; root = refl; held = inf-fits binary64 false }
 
 -- s is the next line's square
 module _ (d : ℕ → Float) (n l : ℕ) (q s : Float) (f : Found d n l q) (S : Square s) (own : sqrtOf s ≡ d n) where
   taken : lt (sqrtOf s) (sqrtOf q) ≡ true → Found d (n + 1) n s
   taken e =
-      let here = nearest-yes d n (ap₂ lt (sym own) (sym (f .root)) ∙ e) in
-      record { nearest = sym (ap (λ b. b .line) here); root = own ∙ sym (ap (λ b. b .distance) here); held = S .held }
+      let here = nearest-next d n (ap₂ lt (sym own) (sym (f .root)) ∙ e) in
+      record { nearest = ap (λ b. b .line) here; root = own ∙ ap (λ b. b .distance) here; held = S .held }
 
   passed : lt (sqrtOf s) (sqrtOf q) ≡ false → Found d (n + 1) l q
   passed e =
-      let here = nearest-no d n (ap₂ lt (sym own) (sym (f .root)) ∙ e) in
-      record { nearest = f .nearest ∙ sym (ap (λ b. b .line) here); root = f .root ∙ sym (ap (λ b. b .distance) here); held = f .held }
+      let here = nearest-next d n (ap₂ lt (sym own) (sym (f .root)) ∙ e) in
+      record { nearest = f .nearest ∙ ap (λ b. b .line) here; root = f .root ∙ ap (λ b. b .distance) here; held = f .held }
 
   -- a square that is clearly below the best one
   pub found-clear : lt s q ≡ true → lt s (q ⊗ nearlyOne) ≡ true → Found d (n + 1) n s

@@ -1,6 +1,6 @@
 -- THEOREM: every normalised value lies within 0..1. Assumes nothing.
 use Prim.Native.Nat.{ℕ, _<_}
-use mathlib.Core.Path.{_≡_, sym, subst, ap₂}
+use mathlib.Core.Path.{_≡_, ap₂}
 use mathlib.Core.Bool.{true, not, _&&_}
 use lib.Dec.{T, lit≤}
 use lib.Ieee.{Float, nan, inf, binary64, lt, le, ofBits, fits, isNan}
@@ -15,7 +15,8 @@ use Rattle.float_laws.proofs.Constants as constants
 use Rattle.float_laws.proofs.Arithmetic.{sub-from-zero, sub-mono-left}
 use Rattle.float_laws.proofs.FromZero.{Upto, upto-wider, share}
 use Rattle.float_laws.proofs.Magnitude.{Within, within-number, sub-within}
-use Rattle.association_laws.proofs.Extremes.{Known, above, best-all, least-best, greatest-best, least-le, greatest-ge}
+use Rattle.association_laws.proofs.Extremes.{Known, above, least-le, greatest-ge}
+use Rattle.list_laws.proofs.Best.{best-all}
 
 -- a double from -2 ^ 1000 up, plus infinity among them
 pub record Start (x : Float) : Type 0 where
@@ -41,16 +42,16 @@ module _ (b : Float) (f : ℕ → Float) (n : ℕ) (B : Start b) (F : (t : ℕ) 
 
   least-within : Within 1000 least
   least-within =
-      let s : Start least = subst Start (sym (least-best b f n)) (best-all lt Start b f n B (λ t l. record { held = F t l .held; low = F t l .low })) in
+      let s : Start least = best-all lt Start b f n B (λ t l. record { held = F t l .held; low = F t l .low }) in
       record { held = s .held; low = s .low; high = le-trans least (f p) (exp2 1000) least-below (F p h .high) }
 
   -- so is the greatest; where it starts, at minus infinity, it is a double and at most 2 ^ 1000
   most-within : Within 1000 most
   unfolding le
   most-within = record {
-    held = subst (λ x. T (fits binary64 x)) (sym (greatest-best f n)) (best-all above (λ x. T (fits binary64 x)) (inf true) f n (inf-fits binary64 true) (λ t l. F t l .held));
+    held = best-all above (λ x. T (fits binary64 x)) (inf true) f n (inf-fits binary64 true) (λ t l. F t l .held);
     low = le-trans (minus-exp2 1000) (f p) most (F p h .low) most-above;
-    high = subst (λ x. T (le x (exp2 1000))) (sym (greatest-best f n)) (best-all above (λ x. T (le x (exp2 1000))) (inf true) f n tt (λ t l. F t l .high));
+    high = best-all above (λ x. T (le x (exp2 1000))) (inf true) f n tt (λ t l. F t l .high);
   }
 
   abbrev span : Float

@@ -14,7 +14,7 @@ use Rattle.list_laws.proofs.Draws.{places-drawn}
 use Rattle.model.specs.declared.Distribution.{Distribution}
 use Rattle.model.specs.Plan.{Plan, Setting}
 use Rattle.model.specs.Setting.{noValue, kindOfDimension, ofWord, validDimension, inBounds, noSetting, sortByParam, extractOne, extract, parentsOf}
-use Rattle.model.specs.Refusal.{badDimensions, namedOnce, fitsDimension, breedable}
+use Rattle.model.specs.Refusal.{badDimensions, namedOnce, fitsDimension, breedable, fitsAt}
 use Rattle.settings.proofs.Valid.{each}
 use Rattle.settings.proofs.InBounds.{Held}
 use Rattle.variation_laws.proofs.Children.{HeldValue, Fit}
@@ -28,11 +28,7 @@ word-held zero w = ofBits-fits binary64 w
 word-held (suc zero) w = tt
 word-held (suc (suc k)) w = tt
 
--- setting i of the sorted ones fits dimension i, or there is none
-abbrev FitsAt : (ℕ → Distribution) → List Setting → ℕ → Type 0
-FitsAt dims sorted i = (leb (length sorted) i || fitsDimension (dims i) (getD sorted i noSetting)) ≡ true
-
-breedable-fits : (dims : ℕ → Distribution) (n : ℕ) (p : Plan) → breedable dims n p ≡ true → (i : ℕ) → i < n → FitsAt dims (sortByParam (p .settings)) i
+breedable-fits : (dims : ℕ → Distribution) (n : ℕ) (p : Plan) → breedable dims n p ≡ true → (i : ℕ) → i < n → fitsAt dims (sortByParam (p .settings)) i ≡ true
 unfolding breedable
 breedable-fits dims n p h = allBelow-each _ n (and-right (namedOnce (p .settings)) _ (and-right (leb (p .settingCount) 32) _ h))
 
@@ -40,8 +36,8 @@ there : (d : Distribution) (x : Setting) → fitsDimension d x ≡ true → inBo
 unfolding fitsDimension
 there d x h = and-right (eqb (x .kind) (kindOfDimension d)) _ h
 
-one-fit : (dims : ℕ → Distribution) (sorted : List Setting) (i s : ℕ) → Held (dims i) → validDimension (dims i) ≡ true → FitsAt dims sorted i → Fit (dims i) (extractOne (dims i) sorted i s .value)
-unfolding extractOne
+one-fit : (dims : ℕ → Distribution) (sorted : List Setting) (i s : ℕ) → Held (dims i) → validDimension (dims i) ≡ true → fitsAt dims sorted i ≡ true → Fit (dims i) (extractOne (dims i) sorted i s .value)
+unfolding extractOne fitsAt
 one-fit dims sorted i s h v f = by-bool (ltb i (length sorted))
     (λ e. rw e (
     let x = getD sorted i noSetting in

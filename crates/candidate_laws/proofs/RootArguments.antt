@@ -27,10 +27,10 @@ use Rattle.model.specs.declared.Distribution.the-variants as dist
 use Rattle.model.specs.declared.FloatDistribution.{FloatDistribution}
 use Rattle.model.specs.declared.IntDistribution.{IntDistribution}
 use Rattle.model.specs.declared.ParamValue.the-variants as value
-use Rattle.model.specs.Real.{_⊕_, _⊖_, _⊗_, _⊘_, real, nought, half, unit, two, within}
+use Rattle.model.specs.Real.{_⊕_, _⊖_, _⊗_, _⊘_, real, nought, half, unit, within}
 use Rattle.model.specs.Draw.{step, wordOf, drawWord, unitOf, drawF64, f64Range}
 use Rattle.model.specs.Numbers.{P, R, halvings}
-use Rattle.model.specs.Setting.{minWhole, maxWhole, validDimension, inBounds, drawUnit, spread, ofWhole, mutationShift}
+use Rattle.model.specs.Setting.{minWhole, maxWhole, validDimension, inBounds, drawUnit, ofWhole, mutationShift, spreadArgument, belowArgument, aboveArgument}
 use Rattle.settings.proofs.Valid.{float-bounds, int-bounds}
 use Rattle.settings.proofs.InBounds.{Held}
 use Rattle.variation_laws.proofs.Children.{Inside, inside, float-inside}
@@ -44,21 +44,7 @@ pub record RootArgument (v : Float) : Type 0 where
   pub from : T (le constants.nought v)
   pub to : T (le v (exp2 51))
 
--- what crossover hands to R for a draw u
-abbrev pub spreadArgument : Float → Float
-spreadArgument u = cond (le u half) (two ⊗ u) (unit ⊘ (two ⊗ (unit ⊖ u)))
-
-pub spread-is : (u : Float) (k : ℕ) → spread u k ≡ R (spreadArgument u) k
-unfolding spread
-spread-is u k = refl
-
--- and what mutation does, below one half and from there on
-abbrev pub belowArgument : Float → Float → Float → ℕ → Float → Float
-belowArgument x low range k u = (two ⊗ u) ⊕ ((unit ⊖ (two ⊗ u)) ⊗ P (unit ⊖ ((x ⊖ low) ⊘ range)) k)
-
-abbrev pub aboveArgument : Float → Float → Float → ℕ → Float → Float
-aboveArgument x high range k u = (two ⊗ (unit ⊖ u)) ⊕ ((two ⊗ (u ⊖ half)) ⊗ P (unit ⊖ ((high ⊖ x) ⊘ range)) k)
-
+-- what mutation hands to R for a draw u
 abbrev pub mutationArgument : Float → Float → Float → Float → ℕ → Float → Float
 mutationArgument x low high range k u = cond (lt u half) (belowArgument x low range k u) (aboveArgument x high range k u)
 

@@ -2,12 +2,12 @@
 use Prim.Native.Nat.{ℕ, _+_, _*_, _<_, _≤_}
 use mathlib.Core.Path.{_≡_, refl, sym, ap, _∙_}
 use mathlib.Core.Bool.{true, false, true≢false}
-use mathlib.Core.List.{List, [], _∷_, _++_, map, flatten}
+use mathlib.Core.List.{List, [], _++_, map}
 use mathlib.Core.Logic.{⊎-elim}
 use native.Mathlib.Nat.{eq-or-lt-of-le, add-mul, one-mul}
 use native.Mathlib.Omega.{arith}
-use lib.ListN.{length, getD, take, drop, length-map, List·getD-append}
-use lib.Seq.{getD-append-add, getD-take, length-take-le}
+use lib.ListN.{length, getD, length-map, List·getD-append}
+use lib.Seq.{sets}
 use lib.Ieee.{binary64}
 use lib.Ieee.Bits.{ofBits-toBits}
 use Rattle.list_laws.proofs.Built.{map-at, listBelow-whole}
@@ -17,9 +17,8 @@ use Rattle.model.specs.declared.Distribution.{Distribution}
 use Rattle.model.specs.declared.Distribution.the-variants as dist
 use Rattle.model.specs.declared.ParamValue.{ParamValue}
 use Rattle.model.specs.declared.ParamValue.the-variants as value
-use Rattle.model.specs.Lists.{over}
 use Rattle.model.specs.Setting.{kindOfDimension, toWord, ofWord, inBounds, noValue, settingOf, wordsOf, WordsWithin}
-use Rattle.model.specs.Session.{overAt}
+use Rattle.list_laws.proofs.Runs.{before-run, in-run}
 use Rattle.variation_laws.proofs.Children.{Fit}
 use Rattle.settings.specs.Candidate.{parentAt, parentsIn}
 use Rattle.candidate_laws.specs.Bounds.{AllWithin}
@@ -49,25 +48,20 @@ word-back (dist.Categorical d) (value.Categorical c) f = refl
 abbrev pub AllLong : ℕ → List (List ParamValue) → Type 0
 AllLong n cs = (i : ℕ) → i < length cs → length (getD cs i []) ≡ n
 
--- their words are rows, one after the other
-words-rows : (cs : List (List ParamValue)) → wordsOf cs ≡ flatten (map (map toWord) cs)
-unfolding wordsOf flatten
-words-rows [] = refl
-words-rows (c ∷ cs) = ap (λ (l : List ℕ). map toWord c ++ l) (words-rows cs)
-
 row-long : (n : ℕ) (cs : List (List ParamValue)) → AllLong n cs → (i : ℕ) → i < length (map (map toWord) cs) → length (getD (map (map toWord) cs) i []) ≡ n
 row-long n cs l i h =
     let g : i < length cs = omega (arith, length-map cs (map toWord)) in
     ap length (map-at (map toWord) cs i [] [] g) ∙ length-map (getD cs i []) toWord ∙ l i g
 
 pub long-length : (n : ℕ) (cs : List (List ParamValue)) → AllLong n cs → length (wordsOf cs) ≡ length cs * n
+unfolding wordsOf
 long-length n cs l =
-    ap length (words-rows cs) ∙ flatten-length n (map (map toWord) cs) (row-long n cs l) ∙ ap (λ (k : ℕ). k * n) (length-map cs (map toWord))
+    flatten-length n (map (map toWord) cs) (row-long n cs l) ∙ ap (λ (k : ℕ). k * n) (length-map cs (map toWord))
 
 pub long-at : (n : ℕ) (cs : List (List ParamValue)) → AllLong n cs → (i d : ℕ) → i < length cs → d < n → getD (wordsOf cs) (i * n + d) 0 ≡ toWord (settingOf (getD cs i []) d)
+unfolding wordsOf
 long-at n cs l i d h k =
-    ap (λ (w : List ℕ). getD w (i * n + d) 0) (words-rows cs)
-    ∙ flatten-at n (map (map toWord) cs) (row-long n cs l) i d 0 (omega (arith, length-map cs (map toWord))) k
+    flatten-at n (map (map toWord) cs) (row-long n cs l) i d 0 (omega (arith, length-map cs (map toWord))) k
     ∙ ap (λ (w : List ℕ). getD w d 0) (map-at (map toWord) cs i [] [] h)
     ∙ map-at toWord (getD cs i []) d 0 noValue (omega (arith, l i h))
 
@@ -115,31 +109,21 @@ module _ (dims : ℕ → Distribution) (n count : ℕ) (cs : List (List ParamVal
 -- ---- a candidate put behind k others
 
 module _ (dims : ℕ → Distribution) (n k : ℕ) (c : List ParamValue) (old : List ℕ) (s : Sound dims n c) (w : WordsWithin dims n k old) (room : (k + 1) * n ≤ length old) where
-  front : length (take (k * n) old) ≡ k * n
-  front = length-take-le (k * n) old (omega (arith, add-mul k 1 n, one-mul n))
-
   -- what lay before it stands, and it lies behind
-  pub put-before : (i d : ℕ) → i < k → d < n → getD (overAt (k * n) (map toWord c) old) (i * n + d) 0 ≡ getD old (i * n + d) 0
-  put-before i d h l =
-      let p = row-lt i d k n h l in
-      let f = front in
-      List·getD-append (take (k * n) old) (over (map toWord c) (drop (k * n) old)) 0 (i * n + d) (omega arith) ∙ getD-take (k * n) old (i * n + d) 0 p
+  pub put-before : (i d : ℕ) → i < k → d < n → getD (sets old (k * n) (map toWord c)) (i * n + d) 0 ≡ getD old (i * n + d) 0
+  put-before i d h l = before-run old (k * n) (map toWord c) (i * n + d) (row-lt i d k n h l)
 
-  pub put-at : (d : ℕ) → d < n → getD (overAt (k * n) (map toWord c) old) (k * n + d) 0 ≡ toWord (settingOf c d)
+  pub put-at : (d : ℕ) → d < n → getD (sets old (k * n) (map toWord c)) (k * n + d) 0 ≡ toWord (settingOf c d)
   put-at d l =
-      let new = over (map toWord c) (drop (k * n) old) in
       let m = length-map c toWord in
       let g = s .whole in
-      ap (λ (x : ℕ). getD (take (k * n) old ++ new) (x + d) 0) (sym front)
-      ∙ getD-append-add (take (k * n) old) new d 0
-      ∙ List·getD-append (map toWord c) (drop (length (map toWord c)) (drop (k * n) old)) 0 d (omega arith)
-      ∙ map-at toWord c d 0 noValue (omega arith)
+      in-run old (k * n) (map toWord c) d (omega arith) (omega (arith, add-mul k 1 n, one-mul n)) ∙ map-at toWord c d 0 noValue (omega arith)
 
-  pub words-put : WordsWithin dims n (k + 1) (overAt (k * n) (map toWord c) old)
+  pub words-put : WordsWithin dims n (k + 1) (sets old (k * n) (map toWord c))
   words-put i d h l =
       let g : i ≤ k = omega arith in
       ⊎-elim
-      (λ e. ap (λ (x : ℕ). inBounds (dims d) (ofWord (kindOfDimension (dims d)) (getD (overAt (k * n) (map toWord c) old) (x * n + d) 0))) e
+      (λ e. ap (λ (x : ℕ). inBounds (dims d) (ofWord (kindOfDimension (dims d)) (getD (sets old (k * n) (map toWord c)) (x * n + d) 0))) e
       ∙ ap (λ (x : ℕ). inBounds (dims d) (ofWord (kindOfDimension (dims d)) x)) (put-at d l)
       ∙ ap (inBounds (dims d)) (word-back (dims d) (settingOf c d) (s .each d l)) ∙ s .each d l .0)
       (λ m. ap (λ (x : ℕ). inBounds (dims d) (ofWord (kindOfDimension (dims d)) x)) (put-before i d m l) ∙ w i d m l)

@@ -5,10 +5,10 @@ ghost use mathlib.Core.List.{map};
 ghost use Prim.Native.Nat.{_+_, _*_, _≤_};
 ghost use lib.ListN.{length};
 ghost use Rattle.model.specs.Lists.{over};
-ghost use Rattle.model.specs.Setting.{toWord, sampleCandidates, wordsOf};
+ghost use Rattle.model.specs.Setting.{toWord, sampleCandidates, wordsOf, dimensionsOf};
 ghost use Rattle.model.specs.Refusal.{badDimensions};
-ghost use Rattle.model.specs.Session.{overAt};
-ghost use Rattle.settings.specs.Candidate.{dimensionsOf, settingsOf};
+ghost use lib.Seq.{sets};
+ghost use Rattle.settings.specs.Candidate.{settingsOf};
 use model::DimensionInfo;
 use model::Rng;
 use settings::Slot;
@@ -16,7 +16,7 @@ use settings::Slot;
 // The words of a candidate's first n settings, from place `at` on.
 pub fn put_candidate(params: [Slot; 32], n: usize, at: usize, out: &mut [u64])
     requires { ⌜ (n ≤ 32) × (at + n ≤ length (now out)) ⌝ }
-    ensures { λ _. ⌜ now (out .exit) ≡ overAt at (map toWord (settingsOf params n)) (now (out .entry)) ⌝ }
+    ensures { λ _. ⌜ now (out .exit) ≡ sets (now (out .entry)) at (map toWord (settingsOf params n)) ⌝ }
 {
     let mut j = 0;
     while j < n {

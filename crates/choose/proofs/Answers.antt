@@ -10,7 +10,7 @@ use Rattle.model.specs.Lists.{over}
 use Rattle.model.specs.PoolFile.{parse, refusedText}
 use Rattle.model.specs.Refusal.{chooseRefusal}
 use Rattle.model.specs.Calls.{ChooseExit, textOf, chooseBy, chooseOf, printedBy, printed, maxText, Chooses}
-use Rattle.pool_number.proofs.Options.{by-option}
+use Rattle.list_laws.proofs.Bools.{by-option}
 use Rattle.pool_laws.proofs.Lengths.{refused-short}
 use Rattle.choose.specs.Printing.{Prints}
 

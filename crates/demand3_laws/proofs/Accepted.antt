@@ -12,11 +12,11 @@ use Rattle.model.specs.Refusal.{measurable}
 use Rattle.model.specs.Demand3.{Demand3}
 use Rattle.niching_laws.specs.Niching.{ByProcedure}
 use Rattle.list_laws.proofs.Tests.{allIn-each}
-use Rattle.list_laws.proofs.Checks.{good-values}
+use Rattle.list_laws.proofs.Checks.{good-values, pool-plan}
 use Rattle.front_laws.proofs.Plans.{known-toMinimize, measurable-known, beats-strict}
 use Rattle.reference_laws.proofs.Count.{lines-some}
 use Rattle.demand3_laws.specs.Facts.{Strict, Accepted}
-pub use Rattle.demand3_laws.proofs.Passed.{some-objectives, one-to-1024, pool-plan}
+pub use Rattle.demand3_laws.proofs.Passed.{some-objectives, one-to-1024}
 use Rattle.demand3_laws.proofs.Fronts.{front-facts}
 use Rattle.demand3_laws.proofs.Demand3.{demand3-facts, filled-procedure}
 

@@ -3,12 +3,12 @@ use Prim.Native.Nat.{ℕ, _≤_, min}
 use mathlib.Core.Path.{_≡_, refl, sym, subst}
 use mathlib.Core.Bool.{true, false}
 use mathlib.Core.List.{List, List·Memᴰ·head, List·Memᴰ·tail}
-use mathlib.Core.Option.{none}
+use mathlib.Core.Option.{Option, none, some}
 use native.Mathlib.Omega.{arith}
 use lib.ListN.{length, length-take}
 use borrow.Author.Tests.{le-ltb}
 use Rattle.model.specs.declared.Distribution.{Distribution}
-use Rattle.model.specs.Plan.{planOf, planAt, maxValues}
+use Rattle.model.specs.Plan.{planOf, planAt, maxObjectives}
 use Rattle.model.specs.Association.{Request, objectives}
 use Rattle.model.specs.Kept.{selected}
 use Rattle.model.specs.Setting.{Operators, generation, generationOf, WordsWithin}
@@ -16,22 +16,22 @@ use Rattle.model.specs.Session.{State, bredFrom, breeds, requestOf, operatorsOf
 use Rattle.model.specs.Property.{SessionOk}
 use Rattle.model.specs.Refusal.{Room, badDirections, badDivisions, badPool, selectRefusal, stepRefusal, sampleRefusal}
 use Rattle.model.specs.Demand3.{Demand3}
-use Rattle.model.specs.Calls.{Lent, roomOf, handedOut, selectAccepted, selectOf, Selects, stepAccepted, stepOf, Steps}
+use Rattle.model.specs.Calls.{refusedBy, Lent, roomOf, handedOut, selectAccepted, selectBy, selectOf, Selects, stepAccepted, stepBy, stepOf, Steps}
 use Rattle.list_laws.proofs.Built.{listBelow-length, over-take}
-use Rattle.list_laws.proofs.Checks.{applies-not, good-length}
+use Rattle.list_laws.proofs.Checks.{applies-not, good-length, pool-plan}
 use Rattle.demand3_laws.specs.Facts.{Accepted}
-use Rattle.demand3_laws.proofs.Passed.{some-objectives, pool-plan, select-passed, passed}
+use Rattle.demand3_laws.proofs.Passed.{some-objectives, select-passed, passed}
 use Rattle.demand3_laws.proofs.Accepted.{demand3}
 
 -- ---- plans that lie in a slice of words have as many values as they claim, up to 8
 
 -- a request whose plans lie in a slice of words
 abbrev pub InWords : Request → Type 0
-InWords r = (p : ℕ) → length (r .plans p .row) ≡ min (r .plans p .rowLength) maxValues
+InWords r = (p : ℕ) → length (r .plans p .row) ≡ min (r .plans p .rowLength) maxObjectives
 
-pub planAt-row : (words : List ℕ) (p : ℕ) → length (planAt words p .row) ≡ min (planAt words p .rowLength) maxValues
+pub planAt-row : (words : List ℕ) (p : ℕ) → length (planAt words p .row) ≡ min (planAt words p .rowLength) maxObjectives
 unfolding planOf
-planAt-row words p = listBelow-length _ (min (planAt words p .rowLength) maxValues)
+planAt-row words p = listBelow-length _ (min (planAt words p .rowLength) maxObjectives)
 
 word-accepted : (r : Request) → InWords r → badDirections (r .marks) ≡ false → badDivisions (objectives r) (r .divisions) ≡ false → badPool r ≡ false
     → Accepted r
@@ -45,6 +45,18 @@ word-accepted r words directions divisions pool =
           omega (arith, words p, good-length (objectives r) (r .plans p) (pool-plan r pool p h));
     }
 
+-- ---- the answers tell the refusal, or that there is none
+
+pub select-refused : (r : Request) (at : Lent) (o : Option ℕ) → refusedBy (selectBy o r at .answer .outcome) ≡ o
+unfolding selectAccepted
+select-refused r at none = refl
+select-refused r at (some n) = refl
+
+step-refused : (o : Operators) (r : Request) (at : Lent) (offspring : List ℕ) (n : Option ℕ) → refusedBy (stepBy n o r at offspring .answer .outcome) ≡ n
+unfolding stepAccepted
+step-refused o r at offspring none = refl
+step-refused o r at offspring (some n) = refl
+
 -- ---- `nsga3_select`
 
 module _ (r : Request) (words : InWords r) where
@@ -53,11 +65,15 @@ module _ (r : Request) (words : InWords r) where
 
   pub selects : (entry : Lent) → Selects r entry (selectOf r entry)
   unfolding selectOf selectAccepted
-  selects entry = record { whole = refl; demand3 = λ e enough. go e (demand3 r (select-accepted (roomOf entry) e) enough) }
+  selects entry = record {
+    whole = refl;
+    refused = select-refused r entry (selectRefusal r (roomOf entry));
+    demand3 = λ e enough. go e (demand3 r (select-accepted (roomOf entry) e) enough);
+  }
     where
       go : selectRefusal r (roomOf entry) ≡ none → Demand3 r (selected r .kept)
           → Demand3 r (handedOut (selectOf r entry .answer .outcome) (selectOf r entry .slices .kept))
-      go e d = rw e (subst (Demand3 r) (sym (over-take (selected r .kept) (entry .kept) (r .size) (d .exactly))) d)
+      go e d = rw e (subst (Demand3 r) (sym (over-take (selected r .kept) (entry .kept) (length (selected r .kept)) refl)) d)
 
   -- ---- `nsga3_generate_offspring`
 
@@ -77,6 +93,7 @@ module _ (r : Request) (words : InWords r) where
   steps o entry offspring bounds =
       record {
         whole = refl;
+        refused = step-refused o r entry offspring (stepRefusal o r (roomOf entry) (length offspring));
         demand3 = λ e two enough. go e (subst (Demand3 r) (sym (generation-kept o two)) (demand3 r (step-accepted o (roomOf entry) (length offspring) e) enough));
         bounds = bounds;
       }
@@ -87,23 +104,26 @@ module _ (r : Request) (words : InWords r) where
 
 -- ---- `sample`
 
+-- the objectives and divisions of the selection that a session makes
+module _ (st : State) (history : List ℕ) (ok : SessionOk st) where
+  pub request-objectives : objectives (requestOf st history) ≡ st .session .config .«n_obj»
+  request-objectives = omega (arith, length-take (st .session .config .«n_obj») (st .session .config .directions), ok .config .objectives)
+
+  pub request-divisions : badDivisions (objectives (requestOf st history)) (st .session .config .divisions) ≡ false
+  request-divisions = rw request-objectives (ok .config .divisions)
+
 pub sample-demand3 : (st : State) (d : Distribution) (plan : ℕ) (history : List ℕ) → SessionOk st → sampleRefusal st d plan history ≡ none → breeds st history ≡ true
     → Demand3 (requestOf st history) (generation (operatorsOf (st .session)) (requestOf st history) .kept)
 unfolding sampleRefusal
 sample-demand3 st d plan history ok e bred =
     subst (Demand3 r) (sym (generation-kept r words (operatorsOf (st .session)) (omega (arith, ok .config .atLeast4))))
-    (demand3 r (word-accepted r words (ok .config .directions) divisions pool) (omega arith))
+    (demand3 r (word-accepted r words (ok .config .directions) (request-divisions st history ok) pool) (omega arith))
   where
     r : Request
     r = requestOf st history
 
     words : InWords r
     words p = planAt-row (bredFrom st history) p
-
-    divisions : badDivisions (objectives r) (r .divisions) ≡ false
-    divisions =
-        let all : objectives r ≡ st .session .config .«n_obj» = omega (arith, length-take (st .session .config .«n_obj») (st .session .config .directions), ok .config .objectives) in
-        rw all (ok .config .divisions)
 
     pool : badPool r ≡ false
     pool = rw bred at (applies-not (List·Memᴰ·tail (List·Memᴰ·tail (List·Memᴰ·head refl))) e)

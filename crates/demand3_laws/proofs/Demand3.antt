@@ -12,13 +12,14 @@ use Rattle.model.specs.Papers.Deb2002.{inFirst, inFront}
 use Rattle.model.specs.Association.{Request, dominance, lineCount, distanceTo, association, lineOf}
 use Rattle.model.specs.Kept.{nicheCount, wholeFronts, before, isSplit, splitFront, filled, selected}
 use Rattle.model.specs.Demand3.{Split, Filling, finalCount, fillingCount, sumOfSquares, Served, Waits, Demand3}
+use Rattle.list_laws.specs.Occ.{Exactly}
 use Rattle.niching_laws.specs.Niching as Niching
 use Rattle.niching_laws.specs.Niching.{ByProcedure}
 use Rattle.list_laws.proofs.Members.{tally-append, tally-below, distinct-append}
 use Rattle.niching_laws.proofs.Picks.{picks-niched}
 use Rattle.niching_laws.proofs.Procedure.{picks-procedure, procedure-other}
 use Rattle.niching_laws.proofs.Association.{lineOf-inside, kept-distance}
-use Rattle.demand3_laws.specs.Facts.{Exactly, FrontFacts}
+use Rattle.demand3_laws.specs.Facts.{FrontFacts}
 use Rattle.list_laws.proofs.Bools.{by-bool, no-pass}
 use Rattle.front_laws.proofs.Rounds.{inFirst-more}
 use Rattle.front_laws.proofs.Order.{inFront-new, inFront-first, listing-below, listing-exact}

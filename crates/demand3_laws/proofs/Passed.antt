@@ -1,20 +1,18 @@
 -- A call that meets no refusal passes each test, and what each test rules out.
 use Prim.Native.Nat.{ℕ, _≤_, _<_}
 use mathlib.Core.Path.{_≡_, refl}
-use mathlib.Core.Bool.{true, false}
+use mathlib.Core.Bool.{false}
 use mathlib.Core.List.{List, List·Memᴰ·head, List·Memᴰ·tail}
 use mathlib.Core.Option.{none}
 use native.Mathlib.Omega.{arith}
 use lib.Dec.{eqb, leb, ltb}
 use lib.ListN.{length}
 use borrow.Author.Tests.{eqb-false, leb-true, ltb-false, not-false}
-use Rattle.model.specs.Lists.{allBelow}
 use Rattle.model.specs.Association.{Request, objectives}
 use Rattle.model.specs.Setting.{Operators}
-use Rattle.model.specs.Refusal.{Room, badDirections, badSize, badDivisions, badOperators, badDimensions, badCount, badPool, badParents, noRoom, noStepRoom, goodPlan, goodIdeal, selectRefusal, stepRefusal}
+use Rattle.model.specs.Refusal.{Room, badDirections, badSize, badDivisions, badOperators, badDimensions, badCount, badPool, badParents, noRoom, noStepRoom, selectRefusal, stepRefusal}
 use Rattle.list_laws.proofs.Bools.{or-left, or-right, and-left, and-right}
 use Rattle.list_laws.proofs.Checks.{applies-not}
-use Rattle.list_laws.proofs.Tests.{allBelow-each}
 
 -- ---- what each test rules out
 
@@ -29,19 +27,6 @@ pub one-to-1024 : (n : ℕ) → badCount n ≡ false → (0 < n) × (n ≤ 1024)
 one-to-1024 n e =
     let h = eqb-false n 0 (or-left (eqb n 0) (ltb 1024 n) e) in
     (omega arith, ltb-false 1024 n (or-right (eqb n 0) (ltb 1024 n) e))
-
--- each plan and the ideal are good
-module _ (r : Request) (e : badPool r ≡ false) where
-  pub pool-plans : allBelow (λ p. goodPlan (objectives r) (r .plans p)) (r .count) ≡ true
-  unfolding badPool
-  pool-plans = and-left (allBelow (λ p. goodPlan (objectives r) (r .plans p)) (r .count)) _ (not-false _ e)
-
-  pub pool-ideal : goodIdeal (objectives r) (r .ideal) ≡ true
-  unfolding badPool
-  pool-ideal = and-right (allBelow (λ p. goodPlan (objectives r) (r .plans p)) (r .count)) _ (not-false _ e)
-
-  pub pool-plan : (p : ℕ) → p < r .count → goodPlan (objectives r) (r .plans p) ≡ true
-  pool-plan = allBelow-each (λ p. goodPlan (objectives r) (r .plans p)) (r .count) pool-plans
 
 -- each lent slice has room
 pub room-each : (r : Request) (room : Room) → noRoom r room ≡ false → (r .size ≤ room .kept) × (r .count ≤ room .fronts) × (r .count ≤ room .lines)

@@ -2,22 +2,13 @@
 use Prim.Native.Nat.{ℕ, _≤_, _<_}
 use mathlib.Core.Path.{_≡_}
 use mathlib.Core.Bool.{Bool, true, false}
-use mathlib.Core.List.{List}
 use lib.ListN.{length}
-use Rattle.model.specs.Lists.{In, Distinct}
 use Rattle.model.specs.Front.{front, listing}
 use Rattle.model.specs.Papers.Deb2002.{inFirst, inFront}
 use Rattle.model.specs.Association.{Request, objectives}
 use Rattle.model.specs.Refusal.{badDirections, badDivisions, badPool}
-use Rattle.list_laws.specs.Occ.{Below}
+use Rattle.list_laws.specs.Occ.{Exactly}
 pub use Rattle.front_laws.specs.Strict.{Strict}
-
--- a list of each number below n that passes a test, once, and no other
-pub record Exactly (g : ℕ → Bool) (n : ℕ) (l : List ℕ) : Type 0 where
-  pub distinct : Distinct l
-  pub below : Below n l
-  pub passes : (p : ℕ) → In p l → g p ≡ true
-  pub every : (p : ℕ) → p < n → g p ≡ true → In p l
 
 -- the listing of the first k fronts has the plans of the paper's first k fronts, and front k those of the paper's front k, each once and no other; and every
 -- plan is in one of the paper's first n fronts

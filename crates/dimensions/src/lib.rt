@@ -1,9 +1,8 @@
 // Refusals 5 and 6: what operators and dimensions are asked (document 01, "Setting and dimension"; Rust: distribution.rs).
 ghost use mathlib.Core.Path.{_≡_};
-ghost use Rattle.model.specs.Setting.{stepAbove0, validDimension};
+ghost use Rattle.model.specs.Setting.{stepAbove0, validDimension, dimensionsOf};
 ghost use Rattle.model.specs.Refusal.{wholeEta, badOperators, badDimensions};
 ghost use Rattle.model.specs.declared.Distribution.the-variants as dist;
-ghost use Rattle.settings.specs.Candidate.{dimensionsOf};
 use model::CategoricalDistribution;
 use model::DimensionInfo;
 use model::Distribution;

@@ -20,13 +20,13 @@ use Rattle.model.specs.declared.Outcome.{Outcome}
 use Rattle.model.specs.declared.Outcome.the-variants as outcome
 use Rattle.model.specs.declared.Rng.{Rng}
 use Rattle.model.specs.Association.{Request}
-use Rattle.model.specs.Calls.{Lent, roomOf, SelectExit, StepExit, ChooseExit, SampleExit, operators, selectOf, stepOf, openOf, sampleOf, chooseOf}
+use Rattle.model.specs.Calls.{Lent, roomOf, SelectExit, StepExit, ChooseExit, SampleExit, selectOf, stepOf, openOf, sampleOf, chooseOf}
 use Rattle.model.specs.Demand3.{Demand3}
 use Rattle.model.specs.Kept as keeping
 use Rattle.model.specs.Lists.{over}
 use Rattle.model.specs.PoolFile.{PoolFile, parse, fileRequest}
 use Rattle.model.specs.Refusal.{selectRefusal, stepRefusal, sampleRefusal, chooseRefusal}
-use Rattle.model.specs.Setting.{Operators, WordsWithin, generation, kindOf, toWord}
+use Rattle.model.specs.Setting.{Operators, WordsWithin, generation, kindOf, toWord, operators}
 use Rattle.model.specs.Session.{State, state, breeds, requestOf, operatorsOf}
 use Rattle.model.specs.Property.{SessionOk}
 use Rattle.session_words.specs.Coding.{dimensionAt, dimensionsAt, dimensionCount, sessionWidth, sessionWords, sessionOf}

@@ -12,9 +12,9 @@ use Rattle.model.specs.Lists.{allBelow, listBelow}
 use Rattle.model.specs.Draw.{drawn}
 use Rattle.model.specs.Plan.{planOf, planAt}
 use Rattle.model.specs.Setting.{ofWord, sampleRandom, noSetting, sortByParam, extractOne}
-use Rattle.model.specs.Refusal.{namedOnce, fitsDimension, breedable}
+use Rattle.model.specs.Refusal.{namedOnce, fitsDimension, breedable, fitsAt}
 use Rattle.extraction.specs.declared.Entry.{Entry}
-use Rattle.extraction.specs.Entries.{settingAt, entryAt, entriesOf, fitsAt}
+use Rattle.extraction.specs.Entries.{settingAt, entryAt, entriesOf}
 
 pub plan-settings : (words : List ℕ) (i : ℕ) → planAt words i .settings ≡ listBelow (settingAt words (i * 124)) (min (getD words (i * 124 + 27) 0) 32)
 unfolding planOf

@@ -15,6 +15,10 @@ lt-self x = no-pass (lt x x) (λ e. order.lt-irrefl x (true-T (lt x x) e))
 pub lt-down : (x y z : Float) → lt x y ≡ false → lt z y ≡ true → lt x z ≡ false
 lt-down x y z h k = no-pass (lt x z) (λ e. true≢false (sym (lt-trans x z y e k) ∙ h))
 
+-- and the same from above
+pub lt-up : (x y z : Float) → lt y x ≡ false → lt y z ≡ true → lt z x ≡ false
+lt-up x y z h k = no-pass (lt z x) (λ e. true≢false (sym (lt-trans y z x k e) ∙ h))
+
 -- what is below y is below any number that is not
 pub lt-past : (x y z : Float) → lt x y ≡ true → lt z y ≡ false → isNan z ≡ false → lt x z ≡ true
 lt-past x y z h k v =

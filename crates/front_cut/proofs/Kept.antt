@@ -14,13 +14,14 @@ use Rattle.model.specs.Lists.{firstBelow}
 use Rattle.model.specs.Front.{front, listing}
 use Rattle.model.specs.Association.{Request, dominance}
 use Rattle.model.specs.Kept.{wholeFronts, before, isSplit, splitFront}
+use Rattle.list_laws.proofs.Rows.{joinBelow-fits}
 use Rattle.list_laws.proofs.Bools.{by-bool, and-left, and-right, and-fails, and-no}
 use Rattle.list_laws.proofs.First.{firstBelow-le, firstBelow-nowhere, firstBelow-at, firstBelow-passes, firstBelow-before, firstBelow-same}
 use Rattle.front_laws.specs.Strict.{Strict}
 use Rattle.front_laws.proofs.Order.{ended, listing-room, listing-whole}
 use Rattle.front_laws.specs.Post.{Sorted}
 use Rattle.front_laws.proofs.Places.{frontCount-empty, sorted-few, sorted-end, sorted-fronts}
-use Rattle.front_laws.proofs.Listings.{listing-none, listing-more, listing-grows, listing-fits}
+use Rattle.front_laws.proofs.Listings.{listing-none, listing-more, listing-grows}
 use Rattle.front_cut.specs.declared.Cut.{Cut}
 use Rattle.front_cut.specs.Fitting.{fitting, startOf, cutOf}
 use Rattle.front_cut.proofs.Fitting.{fitting-le, cut-by}
@@ -91,7 +92,7 @@ module _ (r : Request) (strict : Strict (dominance r) (r .count)) (o₀ o k₀ k
   w-before t l = firstBelow-before over-size x t (omega (arith, fitting-first))
 
   start-fits : startOf e w ≤ size
-  start-fits = omega (arith, start-at w w-le, listing-fits d n size w w-before)
+  start-fits = omega (arith, start-at w w-le, joinBelow-fits (front d n) size w w-before)
 
   whole-some : w < x → wholeFronts r ≡ w
   unfolding wholeFronts

@@ -6,9 +6,10 @@ use mathlib.Core.List.{[], _++_, append-nil}
 use borrow.Author.Tests.{ltb-true, ltb-false}
 use lib.Dec.{ltb}
 use Rattle.model.specs.Front.{freedAll, firstRound, nextRound, round, front, listing}
+use Rattle.list_laws.proofs.Below.{later}
 use Rattle.list_laws.proofs.Bools.{by-bool}
 use Rattle.front_laws.specs.Strict.{Strict}
-use Rattle.front_laws.proofs.Listings.{later, listing-more}
+use Rattle.front_laws.proofs.Listings.{listing-more}
 use Rattle.front_laws.proofs.Order.{ended}
 
 stays-empty : (d : ℕ → ℕ → Bool) (n k : ℕ) → front d n k ≡ [] → front d n (suc k) ≡ []

@@ -10,14 +10,14 @@ use borrow.Author.Tests.{eqb-true, eqb-false, ltb-true, ltb-false}
 use lib.Dec.{eqb, ltb}
 use lib.ListN.{length}
 use Rattle.model.specs.Front.{front, listing}
-use Rattle.model.specs.Lists.{one, countBelow}
+use Rattle.model.specs.Lists.{one, countBelow, joinBelow}
 use Rattle.model.specs.Papers.Deb2002.{undominatedOfRest, inFirst, inFront}
-use Rattle.list_laws.specs.Occ.{occ, AllUnder}
+use Rattle.list_laws.proofs.Below.{later}
+use Rattle.list_laws.specs.Occ.{occ, AllUnder, Exactly}
 use Rattle.list_laws.proofs.Bools.{by-bool, and-not-left, and-not-right, and-no}
 use Rattle.list_laws.proofs.Counts.{countBelow-le, countBelow-mono, countBelow-less, countBelow-all, all-countBelow, some-countBelow, none-countBelow, left-countBelow}
-use Rattle.list_laws.proofs.Members.{occ-nil, occ-append, occ-empty, length-below}
+use Rattle.list_laws.proofs.Members.{occ-nil, occ-append, occ-empty, length-below, exactly-of}
 use Rattle.front_laws.specs.Strict.{Strict}
-use Rattle.front_laws.proofs.Listings.{later}
 use Rattle.front_laws.proofs.Rounds.{waiting, inFront-count, inFirst-more, found}
 
 -- ---- for any d
@@ -60,13 +60,13 @@ inFirst-front d n (suc k) q e = by-bool (inFirst d n k q)
 
 -- the first k fronts list each plan of theirs once, and no other
 pub listing-below : (d : ℕ → ℕ → Bool) (n k : ℕ) → AllUnder n (listing d n k)
-unfolding listing
+unfolding joinBelow
 listing-below d n zero q h = occ-nil q
 listing-below d n (suc k) q h =
     omega (arith, occ-append q (listing d n k) (front d n k), listing-below d n k q h, found d n k .below q h)
 
 pub listing-exact : (d : ℕ → ℕ → Bool) (n k q : ℕ) → q < n → occ q (listing d n k) ≡ one (inFirst d n k q)
-unfolding listing inFirst
+unfolding joinBelow inFirst
 listing-exact d n zero q l = occ-nil q
 listing-exact d n (suc k) q l =
     let s = occ-append q (listing d n k) (front d n k) in
@@ -182,3 +182,11 @@ module _ (d : ℕ → ℕ → Bool) (n : ℕ) (s : Strict d n) where
 
   pub listing-whole : (k : ℕ) → front d n k ≡ [] → length (listing d n k) ≡ n
   listing-whole k e = listing-length d n k ∙ countBelow-all (inFirst d n k) n (empty-inFirst k e)
+
+-- ---- the plans of front k are those of the paper's front k, and the listing's those of its first k fronts: each once, and no other
+
+pub front-exactly : (d : ℕ → ℕ → Bool) (n k : ℕ) → Exactly (inFront d n k) n (front d n k)
+front-exactly d n k = exactly-of (inFront d n k) n (front d n k) (found d n k .below) (found d n k .exact)
+
+pub listing-exactly : (d : ℕ → ℕ → Bool) (n k : ℕ) → Exactly (inFirst d n k) n (listing d n k)
+listing-exactly d n k = exactly-of (inFirst d n k) n (listing d n k) (listing-below d n k) (listing-exact d n k)

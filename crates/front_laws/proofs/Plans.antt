@@ -10,7 +10,7 @@ use lib.ListN.{length, getD}
 use Rattle.model.specs.declared.Direction.{Direction}
 use Rattle.model.specs.declared.Direction.the-variants.{Minimize, Maximize}
 use Rattle.model.specs.Papers.Deb2002.{Dominates, Solution, ConstrainedDominates, onlyFeasible, lessViolation, bothFeasible}
-use Rattle.model.specs.Plan.{Plan, maxValues, planOf}
+use Rattle.model.specs.Plan.{Plan, maxObjectives, planOf}
 use Rattle.model.specs.Real.{real}
 use Rattle.model.specs.Refusal.{measurable, goodPlan}
 use Rattle.model.specs.Row.{directionOf, toMinimize, rowOf, dominates, feasible, violation, byFeasibility, constrainedDominates, rowBeats, beats}
@@ -95,13 +95,13 @@ accepted-known marks m plan h j l =
     (measurable-known (getD (plan .row) j nan) (allIn-each measurable nan (plan .row) (good-values m plan (h .good)) j (omega (arith, h .whole))))
 
 -- a plan of words that passes refusal 8, where there are at most 8 objectives
-pub words-accepted : (m : ℕ) (word : ℕ → ℕ) → m ≤ maxValues → goodPlan m (planOf word) ≡ true → Accepted m (planOf word)
+pub words-accepted : (m : ℕ) (word : ℕ → ℕ) → m ≤ maxObjectives → goodPlan m (planOf word) ≡ true → Accepted m (planOf word)
 unfolding planOf
 words-accepted m word h e =
     let n : word 1 ≡ m = good-length m (planOf word) e in
     record {
       good = e;
-      whole = omega (arith, listBelow-length (λ j. real (word (2 + j))) (min (word 1) maxValues));
+      whole = omega (arith, listBelow-length (λ j. real (word (2 + j))) (min (word 1) maxObjectives));
     }
 
 -- where no row has a NaN

@@ -10,7 +10,7 @@ use Rattle.model.specs.Lists.{one, anyBelow, countBelow, tally}
 use Rattle.model.specs.Papers.Deb2002.{undominatedOfRest, inFirst, inFront}
 use Rattle.list_laws.specs.Occ.{occ, AllUnder}
 use Rattle.list_laws.proofs.Bools.{by-bool}
-use Rattle.list_laws.proofs.Counts.{anyBelow-count, countBelow-mono, sumBelow-same, sumBelow-add, countBelow-sum}
+use Rattle.list_laws.proofs.Counts.{countBelow-sum, anyBelow-count, countBelow-mono, sumBelow-same, sumBelow-add}
 use Rattle.list_laws.proofs.Kept.{keepBelow-under, keepBelow-occ}
 use Rattle.list_laws.proofs.Members.{tally-below}
 use Rattle.front_laws.proofs.Lowering.{lowerAll-count, freedAll-below, met, met-none, occ-freedAll}

@@ -5,7 +5,7 @@ use mathlib.Core.Bool.{Bool}
 use mathlib.Core.List.{_++_}
 use lib.Dec.{eqb}
 use Rattle.model.specs.Front.{lowerAll, freedAll, firstRound, nextRound, round, front, listing, frontOf, frontList}
-use Rattle.model.specs.Lists.{countBelow, has, In}
+use Rattle.model.specs.Lists.{countBelow, has, In, joinBelow}
 use Rattle.list_laws.proofs.Built.{listBelow-same}
 use Rattle.list_laws.proofs.Counts.{countBelow-same}
 use Rattle.list_laws.proofs.First.{firstBelow-same}
@@ -50,7 +50,7 @@ module _ (d e : ℕ → ℕ → Bool) (n : ℕ) (a : Agree d e n) where
   front-same k = agreed k .members
 
   pub listing-same : (k : ℕ) → listing d n k ≡ listing e n k
-  unfolding listing
+  unfolding joinBelow
   listing-same zero = refl
   listing-same (suc k) = ap₂ (λ x y. x ++ y) (listing-same k) (front-same k)
 

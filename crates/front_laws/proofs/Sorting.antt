@@ -13,12 +13,11 @@ use lib.Dec.{eqb}
 use lib.ListN.{length, getD, set, take, drop}
 use lib.Seq.{sets, slice, drop-at}
 use Rattle.model.specs.Front.{lowerAll, freedAll, firstRound, nextRound, round, front, listing}
-use Rattle.model.specs.Lists.{countBelow, firstBelow, keepBelow, listBelow, over, tally}
-use Rattle.list_laws.proofs.Built.{listBelow-same, over-length, over-take, over-drop, over-at, over-none, over-size, over-set}
+use Rattle.model.specs.Lists.{countBelow, firstBelow, keepBelow, listBelow, over, tally, joinBelow}
+use Rattle.list_laws.proofs.Built.{listBelow-same, over-length, over-take, over-drop, over-at, over-none, over-size, over-set, over-run, drop-later}
 use Rattle.list_laws.proofs.First.{firstBelow-nowhere, firstBelow-at, firstBelow-same}
 use Rattle.list_laws.proofs.Kept.{keepBelow-same}
 use Rattle.list_laws.proofs.Members.{under-at, empty-of}
-use Rattle.list_laws.proofs.Runs.{drop-later, over-run}
 use Rattle.front_laws.specs.Ranks.{mark, ranked}
 use Rattle.front_laws.specs.Strict.{Strict}
 use Rattle.front_laws.proofs.Empty.{empty-later, first-empty, listing-all}
@@ -47,7 +46,7 @@ module _ (d : ℕ → ℕ → Bool) (n : ℕ) (o₀ o r₀ e₀ cs : List ℕ) (
     (l : len ≡ length (keepBelow (λ q. eqb (getD cs q 0) 0) n)) (e : o₀ ≡ sets o 0 (keepBelow (λ q. eqb (getD cs q 0) 0) n)) where
   -- the order as the first front leaves it
   first-members : keepBelow (λ q. eqb (getD cs q 0) 0) n ≡ listing d n 1
-  unfolding round firstRound nextRound listing
+  unfolding round firstRound nextRound joinBelow
   first-members = keepBelow-same _ _ n (λ t u. ap (λ v. eqb v 0) (c t u))
 
   first-order : o₀ ≡ over (listing d n 1) o
@@ -58,7 +57,7 @@ module _ (d : ℕ → ℕ → Bool) (n : ℕ) (o₀ o r₀ e₀ cs : List ℕ) (
 
   -- the loop begins at round 0
   pub sorting-first : Sorting d n o₀ r₀ e₀ 0 0 len cs o₀ r₀ e₀
-  unfolding round firstRound nextRound listing ranked
+  unfolding round firstRound nextRound joinBelow ranked
   sorting-first = record {
     counted = c;
     starts = refl;

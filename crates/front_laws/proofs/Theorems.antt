@@ -8,33 +8,23 @@ use native.Mathlib.Omega.{arith}
 use borrow.Author.Tests.{not-true}
 use lib.ListN.{length}
 use Rattle.model.specs.Front.{front, listing, frontOf, frontList}
-use Rattle.model.specs.Lists.{one, anyBelow, over, In, has, Distinct}
+use Rattle.model.specs.Lists.{one, anyBelow, over, In, has}
 use Rattle.model.specs.Papers.Deb2002.{undominatedOfRest, inFirst, inFront}
-use Rattle.list_laws.specs.Occ.{occ, Below}
+use Rattle.list_laws.specs.Occ.{occ}
 use Rattle.list_laws.proofs.Bools.{by-bool, and-not-right}
 use Rattle.list_laws.proofs.Built.{over-filled}
 use Rattle.list_laws.proofs.First.{firstBelow-at}
-use Rattle.list_laws.proofs.Members.{has-in, in-has, under-below, exact-distinct, exact-passes, exact-in}
+use Rattle.list_laws.proofs.Members.{has-in, in-has}
 use Rattle.list_laws.proofs.Tests.{anyBelow-each, anyBelow-nowhere}
 use Rattle.front_laws.specs.Ranks.{ranked}
 use Rattle.front_laws.specs.Strict.{Strict}
-use Rattle.front_laws.proofs.Order.{inFront-new, one-front, inFirst-front, not-dominated, under-front, all-inFirst, empty-inFirst, ended, listing-whole}
+use Rattle.front_laws.proofs.Order.{front-exactly, inFront-new, one-front, inFirst-front, not-dominated, under-front, all-inFirst, empty-inFirst, ended, listing-whole}
 use Rattle.front_laws.proofs.Ranks.{ranked-length, ranked-drop, ranked-at}
 use Rattle.front_laws.proofs.Rounds.{found}
 
--- the members of a front are plans of the pool
-pub member-below : (d : ℕ → ℕ → Bool) (n k : ℕ) → Below n (front d n k)
-member-below d n k = under-below n (front d n k) (found d n k .below)
-
-member-inFront : (d : ℕ → ℕ → Bool) (n k q : ℕ) → In q (front d n k) → inFront d n k q ≡ true
-member-inFront d n k = exact-passes (inFront d n k) n (front d n k) (found d n k .below) (found d n k .exact)
-
-inFront-member : (d : ℕ → ℕ → Bool) (n k q : ℕ) → q < n → inFront d n k q ≡ true → In q (front d n k)
-inFront-member d n k = exact-in (inFront d n k) n (front d n k) (found d n k .below) (found d n k .exact)
-
 -- the members of front k are those of the paper's: the undominated once the fronts before are set aside
 pub front-paper : (d : ℕ → ℕ → Bool) (n k q : ℕ) → In q (front d n k) ↔ ((q < n) × (inFront d n k q ≡ true))
-front-paper d n k q = (λ m. (member-below d n k q m, member-inFront d n k q m), λ h. inFront-member d n k q (h .0) (h .1))
+front-paper d n k q = let f = front-exactly d n k in (λ m. (f .below q m, f .passes q m), λ h. f .every q (h .0) (h .1))
 
 -- the same in the paper's words: of the plans that no front before front k holds, front k holds those that none of these dominates
 pub front-undominated : (d : ℕ → ℕ → Bool) (n k q : ℕ)
@@ -42,21 +32,17 @@ pub front-undominated : (d : ℕ → ℕ → Bool) (n k q : ℕ)
 unfolding undominatedOfRest
 front-undominated d n k q =
     let rest : ℕ → Bool = λ p. not (inFirst d n k p) && d p q in (
-      (λ m. let e = member-inFront d n k q m in
+      (λ m. let e = front-exactly d n k .passes q m in
           let none = not-true (anyBelow rest n) (and-not-right (inFirst d n k q) (not (anyBelow rest n)) e) in (
-            member-below d n k q m,
+            front-exactly d n k .below q m,
             inFront-new d n k q e,
             λ p l y. ap (λ b. not b && d p q) (sym y) ∙ anyBelow-each rest n none p l,
           )),
-      λ h. inFront-member d n k q (h .0)
+      λ h. front-exactly d n k .every q (h .0)
           (let none = anyBelow-nowhere rest n (λ p l. by-bool (inFirst d n k p) (λ y. ap (λ b. not b && d p q) y)
           (λ y. ap (λ b. not b && d p q) y ∙ h .2 p l y)) in
           rw (h .1, none)),
     )
-
--- no plan is twice in a front, or in the fronts together
-pub front-distinct : (d : ℕ → ℕ → Bool) (n k : ℕ) → Distinct (front d n k)
-front-distinct d n k = exact-distinct (inFront d n k) n (front d n k) (found d n k .below) (found d n k .exact)
 
 module _ (d : ℕ → ℕ → Bool) (n : ℕ) (s : Strict d n) where
   -- every plan stands once in one front, and in no other
@@ -71,13 +57,13 @@ module _ (d : ℕ → ℕ → Bool) (n : ℕ) (s : Strict d n) where
 
   -- no plan dominates another of its own or an earlier front
   pub none-backwards : (k j q p : ℕ) → k ≤ j → In q (front d n k) → In p (front d n j) → d p q ≡ false
-  none-backwards k j q p h mq mp = not-dominated d n k j q p h (member-below d n j p mp) (member-inFront d n k q mq) (member-inFront d n j p mp)
+  none-backwards k j q p h mq mp = not-dominated d n k j q p h (front-exactly d n j .below p mp) (front-exactly d n k .passes q mq) (front-exactly d n j .passes p mp)
 
   -- every plan of front k + 1 is dominated by one of front k
   pub dominated-from-before : (k q : ℕ) → In q (front d n (suc k)) → (p : ℕ) × In p (front d n k) × (d p q ≡ true)
   dominated-from-before k q m =
-      let t = under-front d n s k q (member-below d n (suc k) q m) (member-inFront d n (suc k) q m) in
-      (t .0, inFront-member d n k (t .0) (t .1) (t .2), t .3)
+      let t = under-front d n s k q (front-exactly d n (suc k) .below q m) (front-exactly d n (suc k) .passes q m) in
+      (t .0, front-exactly d n k .every (t .0) (t .1) (t .2), t .3)
 
   pub listing-length-n : length (listing d n n) ≡ n
   listing-length-n = listing-whole d n s n (ended d n s)
@@ -86,13 +72,13 @@ module _ (d : ℕ → ℕ → Bool) (n : ℕ) (s : Strict d n) where
   pub frontOf-at : (k q : ℕ) → In q (front d n k) → frontOf d n q ≡ k
   unfolding frontOf
   frontOf-at k q m =
-      let l = member-below d n k q m in
-      let e = member-inFront d n k q m in
+      let l = front-exactly d n k .below q m in
+      let e = front-exactly d n k .passes q m in
       let r = inFirst-front d n n q (all-inFirst d n s q l) in
       let same = one-front d n k (r .0) q e (r .2) in
       firstBelow-at _ n k (omega (arith, r .1)) (in-has (front d n k) q m)
       (λ j u. by-bool (has (front d n j) q)
-      (λ v. absurd (omega (arith, one-front d n j k q (member-inFront d n j q (has-in (front d n j) q v)) e))) (λ v. v))
+      (λ v. absurd (omega (arith, one-front d n j k q (front-exactly d n j .passes q (has-in (front d n j) q v)) e))) (λ v. v))
 
   -- the front numbers written front after front are those of every plan, once a front is empty
   pub ranked-frontList : (k : ℕ) (r : List ℕ) → n ≤ length r → front d n k ≡ [] → ranked d n k r ≡ over (frontList d n) r
@@ -100,5 +86,5 @@ module _ (d : ℕ → ℕ → Bool) (n : ℕ) (s : Strict d n) where
   ranked-frontList k r h e =
       over-filled (frontOf d n) n 0 (ranked d n k r) r (omega (arith, ranked-length d n k r))
       (λ q l. let t = inFirst-front d n k q (empty-inFirst d n s k e q l) in
-      ranked-at d n k r (t .0) q h l (t .1) (t .2) ∙ sym (frontOf-at (t .0) q (inFront-member d n (t .0) q l (t .2))))
+      ranked-at d n k r (t .0) q h l (t .1) (t .2) ∙ sym (frontOf-at (t .0) q (front-exactly d n (t .0) .every q l (t .2))))
       (ranked-drop d n k r)

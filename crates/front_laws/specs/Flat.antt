@@ -6,7 +6,7 @@ use mathlib.Core.List.{List}
 use lib.Ieee.{Float, nan, lt}
 use lib.ListN.{length, getD}
 use Rattle.model.specs.Plan.{Plan}
-use Rattle.model.specs.Row.{toMinimize, directionOf, rowOf, dominates, byFeasibility, feasible, violation}
+use Rattle.model.specs.Row.{rowOf, dominates, byFeasibility, feasible, violation}
 use Rattle.front_laws.specs.Strict.{Known}
 
 -- row p, which starts at p * m
@@ -49,7 +49,3 @@ pub record FlatOf (marks : List ℕ) (plans : ℕ → Plan) (n : ℕ) (rows : Li
   pub rowsOf : RowsOf marks plans n rows
   pub flagsOf : (p : ℕ) → p < n → getD flags p false ≡ feasible (plans p .constraints)
   pub sumsOf : (p : ℕ) → p < n → getD sums p nan ≡ violation (plans p .constraints)
-
--- a row of values in minimise-space, which is `rowOf` of a plan that has them
-abbrev pub minimised : List ℕ → List Float → ℕ → Float
-minimised marks values j = toMinimize (directionOf (getD marks j 0)) (getD values j nan)

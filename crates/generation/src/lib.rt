@@ -1,5 +1,6 @@
 // The generation step (Rust: nsga3_generate_offspring of sampler/nsga3.rs; document 01, "Setting and dimension").
-ghost use Rattle.model.specs.Calls.{wordRequest, lent, operators, Steps};
+ghost use Rattle.model.specs.Calls.{wordRequest, lent, Steps};
+ghost use Rattle.model.specs.Setting.{operators};
 use model::DimensionInfo;
 use model::Outcome;
 use model::Rng;

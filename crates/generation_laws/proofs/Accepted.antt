@@ -9,7 +9,7 @@ use Rattle.list_laws.proofs.Bools.{or-left, or-right}
 use Rattle.model.specs.Lists.{allBelow}
 use Rattle.model.specs.Association.{Request}
 use Rattle.model.specs.Setting.{Operators}
-use Rattle.model.specs.Refusal.{Room, firstOf, badParents, breedable, noRoom, noStepRoom, selectRefusal}
+use Rattle.model.specs.Refusal.{Room, firstOf, badParents, breedable, noRoom, noStepRoom, selectRefusal, tooShort}
 use Rattle.demand3_laws.proofs.Passed.{Passed, room-each}
 
 module _ {o : Operators} {r : Request} {room : Room} {offspring : ℕ} (p : Passed o r room offspring) where
@@ -19,11 +19,11 @@ module _ {o : Operators} {r : Request} {room : Room} {offspring : ℕ} (p : Pass
 
   pub offspring-room : r .size * o .dimCount ≤ offspring
   unfolding noStepRoom
-  offspring-room = ltb-false offspring (r .size * o .dimCount) (or-right (leb 2 (r .count) && noRoom r room) (ltb offspring (r .size * o .dimCount)) (p .slices))
+  offspring-room = ltb-false offspring (r .size * o .dimCount) (or-right (leb 2 (r .count) && tooShort room (r .size) (r .count)) (ltb offspring (r .size * o .dimCount)) (p .slices))
 
   -- from two plans on the selection has its room, and so meets no refusal
   select-room : 2 ≤ r .count → noRoom r room ≡ false
-  unfolding noStepRoom
+  unfolding noStepRoom noRoom
   select-room h =
       ap (λ b. b && noRoom r room) (sym (le-leb 2 (r .count) h)) ∙ or-left (leb 2 (r .count) && noRoom r room) (ltb offspring (r .size * o .dimCount)) (p .slices)
 

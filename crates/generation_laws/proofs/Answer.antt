@@ -20,9 +20,9 @@ use Rattle.model.specs.Row.{rowBeats}
 use Rattle.model.specs.Front.{frontOf}
 use Rattle.model.specs.Association.{Request}
 use Rattle.model.specs.Kept.{selected}
-use Rattle.model.specs.Setting.{Operators, Generation, wordsOf, WordsWithin, sampleCandidates, sortByParam, extract, parentsOf, offspringOf, rankOf, generationOf, generationOfOne, byPool, generation}
+use Rattle.model.specs.Setting.{Operators, wordsOf, WordsWithin, sampleCandidates, sortByParam, extract, parentsOf, offspringOf, rankOf, generationOf, generationOfOne, byPool, generation}
 use Rattle.model.specs.Refusal.{badDimensions, stepRefusal}
-use Rattle.model.specs.Calls.{wordRequest, Lent, roomOf, SelectExit, answered, selectAccepted, selectBy, selectOf, Selects, StepExit, stepAccepted, stepBy, stepOf, Steps}
+use Rattle.model.specs.Calls.{wordRequest, Lent, roomOf, SelectExit, answered, selectAccepted, selectBy, selectOf, Selects, StepExit, stepAccepted, stepBy, stepOf, Steps, generationExit}
 use Rattle.demand3_laws.proofs.Passed.{passed, one-to-1024}
 use Rattle.demand3_laws.proofs.Calls.{planAt-row, steps}
 use Rattle.candidate_laws.proofs.Sound.{AllHeld}
@@ -36,10 +36,6 @@ use Rattle.generation_laws.proofs.Breeding.{offspring-same}
 abbrev kept-exit : ℕ → ℕ → List Float → List ℕ → List ℕ → List ℕ → List ℕ → StepExit
 kept-exit n s i k f l out = exit (answered (outcome.Kept n) s) i k f l out
 
--- what an accepted step leaves, from its generation
-abbrev generation-exit : Generation → Lent → List ℕ → StepExit
-generation-exit g at old = kept-exit (length (g .kept)) (g .state) (g .ideal) (over (g .kept) (at .kept)) (over (g .fronts) (at .fronts)) (over (g .lines) (at .lines)) (over (wordsOf (g .offspring)) old)
-
 module _ (o : Operators) (pool directions : List ℕ) (divisions size : ℕ) (g : Rng) (ideal : List Float) (at : Lent) (old : List ℕ) where
   abbrev r : Request
   r = wordRequest pool directions divisions size g ideal
@@ -52,7 +48,7 @@ module _ (o : Operators) (pool directions : List ℕ) (divisions size : ℕ) (g 
   unfolding stepAccepted generation generationOfOne
   one-exit few out h e f =
       ap₂ (λ s w. kept-exit 0 s ideal (at .kept) (at .fronts) (at .lines) w) f e
-      ∙ ap (λ b. generation-exit (byPool b o r) at old) (sym (lt-ltb (planCount pool) 2 few))
+      ∙ ap (λ b. generationExit (byPool b o r) at old) (sym (lt-ltb (planCount pool) 2 few))
 
   -- ---- a pool of two or more
 
@@ -103,7 +99,7 @@ module _ (o : Operators) (pool directions : List ℕ) (divisions size : ℕ) (g 
           ∙ ap (λ (y : SelectExit). kept-exit size (generationOf o r .state) (y .ideal) (y .slices .kept) (y .slices .fronts) (y .slices .lines) (over (wordsOf (generationOf o r .offspring)) old)) e
           ∙ ap (λ n. kept-exit n (generationOf o r .state) (selected r .ideal) (over (selected r .kept) (at .kept)) (over (selected r .fronts) (at .fronts)) (over (selected r .lines) (at .lines))
           (over (wordsOf (generationOf o r .offspring)) old)) (sym (kept-length r))
-          ∙ ap (λ b. generation-exit (byPool b o r) at old) (sym (le-ltb (planCount pool) 2 two))
+          ∙ ap (λ b. generationExit (byPool b o r) at old) (sym (le-ltb (planCount pool) 2 two))
 
   -- ---- the promise
 

@@ -11,7 +11,7 @@ use denote.Struct.Declared as struct
 use Rattle.model.proofs.DimensionInfo as info
 use Rattle.model.specs.declared.DimensionInfo.{DimensionInfo}
 use Rattle.model.specs.Refusal.{badDimensions}
-use Rattle.settings.specs.Candidate.{dimensionsOf}
+use Rattle.model.specs.Setting.{dimensionsOf}
 use Rattle.settings.proofs.Valid.{few}
 use Rattle.typed_laws.proofs.Held.{array-held}
 use Rattle.candidate_laws.proofs.Sound.{AllHeld}

@@ -12,12 +12,11 @@ use Rattle.model.specs.declared.Distribution.{Distribution}
 use Rattle.model.specs.declared.ParamValue.{ParamValue}
 use Rattle.model.specs.Real.{nought, unit, within}
 use Rattle.model.specs.Draw.{Drawn, drawn}
-use Rattle.model.specs.Setting.{children, exponentOf, crossover, mutate, tournament, brood}
+use Rattle.model.specs.Setting.{children, exponentOf, crossover, mutate, tournament, brood, operators}
 use Rattle.model.specs.Refusal.{wholeEta, badOperators}
 use borrow.Author.Tests.{not-false}
 use Rattle.settings.specs.Candidate.{parentAt, parentsIn}
 use Rattle.settings.proofs.Candidates.{winner-below}
-use Rattle.genetic.specs.Parents.{operators}
 
 -- the winner that a draw gives is one of the n
 pub won-below : (ranks : ℕ → ℕ) (n s i t : ℕ) → 0 < n → drawn i t ≡ tournament ranks n s → i < n

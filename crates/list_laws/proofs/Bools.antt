@@ -3,7 +3,9 @@ use Prim.Native.Nat.{_≤_}
 use mathlib.Core.Path.{_≡_, refl, sym, _∙_}
 use mathlib.Core.Logic.{_⊎_, inl, inr}
 use mathlib.Core.Bool.{Bool, true, false, cond, not, _&&_, _||_, false≢true, true≢false}
+use mathlib.Core.Option.{Option, none, some}
 use native.Mathlib.Omega.{arith}
+use borrow.Author.Tests.{not-true}
 use lib.Dec.{T}
 use Rattle.model.specs.Lists.{one}
 
@@ -11,6 +13,11 @@ use Rattle.model.specs.Lists.{one}
 pub by-bool : {C : Type 0} (b : Bool) → (b ≡ true → C) → (b ≡ false → C) → C
 by-bool true f g = f refl
 by-bool false f g = g refl
+
+-- the same of what there is or is not
+pub by-option : {A C : Type 0} (o : Option A) → (o ≡ none → C) → ((a : A) → o ≡ some a → C) → C
+by-option none f g = f refl
+by-option (some a) f g = g a refl
 
 -- what holds of each of two values where a test picks it, holds of the one that it picks
 pub by-cond : {A : Type 0} (P : A → Type 0) (b : Bool) (x y : A) → (b ≡ true → P x) → (b ≡ false → P y) → P (cond b x y)
@@ -63,12 +70,10 @@ and-right false c e = absurd (false≢true e)
 
 -- and of one whose first half is negated
 pub and-not-left : (a c : Bool) → (not a && c) ≡ true → a ≡ false
-and-not-left true c e = absurd (false≢true e)
-and-not-left false c e = refl
+and-not-left a c e = not-true a (and-left (not a) c e)
 
 pub and-not-right : (a c : Bool) → (not a && c) ≡ true → c ≡ true
-and-not-right true c e = absurd (false≢true e)
-and-not-right false c e = e
+and-not-right a c e = and-right (not a) c e
 
 -- a conjunction whose first half passes is its second; one whose halves pass passes; one that fails, and whose one half passes, fails in the other
 pub past : {a b d : Bool} → a ≡ true → b ≡ d → (a && b) ≡ d

@@ -1,13 +1,14 @@
 -- Laws of `listBelow`, `joinBelow` and `over`.
-use Prim.Native.Nat.{ℕ, zero, suc, _+_, _≤_, _<_}
+use Prim.Native.Nat.{ℕ, zero, suc, _+_, _-_, _≤_, _<_}
 use mathlib.Core.Path.{_≡_, refl, ap, ap₂, sym, subst, _∙_}
-use mathlib.Core.List.{List, [], _∷_, _++_, map, append-assoc, append-nil}
+use mathlib.Core.List.{List, [], _∷_, _++_, map, map-append, append-assoc, append-nil}
 use mathlib.Core.Logic.{⊎-elim}
 use native.Mathlib.Nat.{not-suc-le-zero, eq-or-lt-of-le, le-of-suc-le-suc}
 use native.Mathlib.Numerals.{add-one}
 use native.Mathlib.Omega.{arith}
-use lib.ListN.{length, getD, set, take, drop, drop-of-length-le, length-append, length-drop, take-append-drop, List·getD-append}
-use lib.Seq.{drop-cons, take-length, set-at, getD-at, ext-getD, length-take-le, getD-take, take-at, take-all, drop-at}
+use borrow.Rule.Slice.PartMut.{midOf, putMid}
+use lib.ListN.{length, getD, set, take, drop, drop-of-length-le, length-append, length-drop, take-append-drop, List·getD-append, replicate, length-replicate, getD-replicate}
+use lib.Seq.{drop-cons, take-length, getD-at, ext-getD, length-take-le, getD-take, take-at, take-all, drop-at, sets, sets-eq, drop-drop, take-suc, drop-length}
 use Rattle.model.specs.Lists.{listBelow, joinBelow, over}
 use Rattle.list_laws.proofs.Below.{same-below}
 
@@ -88,12 +89,33 @@ module _ {A : Type 0} where
       sym (take-append-drop n l) ∙ ap₂ (λ a b. a ++ b) (listBelow-take f n d l h g) e
       ∙ ap (λ t. listBelow f n ++ drop t old) (sym (listBelow-length f n))
 
-  -- one entry more behind what stands at the front
+  -- what agrees from place a on agrees from any later place on
+  pub drop-later : (a b : ℕ) (x y : List A) → a ≤ b → drop a x ≡ drop a y → drop b x ≡ drop b y
+  drop-later a b x y h e =
+      let s : b ≡ a + (b - a) = omega arith in
+      ap (λ t. drop t x) s ∙ sym (drop-drop (b - a) a x) ∙ ap (drop (b - a)) e ∙ drop-drop (b - a) a y ∙ ap (λ t. drop t y) (sym s)
+
+  -- a run behind what stands at a slice's front
+  pub over-run : (v s old : List A) (i : ℕ) → length v ≡ i → i + length s ≤ length old → sets (over v old) i s ≡ over (v ++ s) old
+  over-run v s old i e h =
+      let n : i + length s ≡ length (v ++ s) = omega (arith, length-append v s) in
+      sets-eq s (over v old) i (omega (arith, over-length v old (omega arith)))
+      ∙ ap₂ (λ a b. a ++ s ++ b) (over-take v old i e)
+      (drop-later i (i + length s) (over v old) old (omega arith) (over-drop v old i e) ∙ ap (λ t. drop t old) n)
+
+  -- one entry more
   pub over-snoc : (v old : List A) (j : ℕ) (r : A) → length v ≡ j → j < length old → set (over v old) j r ≡ over (v ++ (r ∷ [])) old
-  over-snoc v old j r e h =
-      let z : length (v ++ (r ∷ [])) ≡ suc j = length-append v (r ∷ []) ∙ omega (arith, e) in
-      ap (λ t. set (v ++ t) j r) (ap (λ m. drop m old) e ∙ drop-cons old j r h) ∙ set-at v (getD old j r) (drop (suc j) old) r j e
-      ∙ sym (append-assoc v (r ∷ []) (drop (length (v ++ (r ∷ []))) old) ∙ ap (λ m. v ++ (r ∷ drop m old)) z)
+  over-snoc v old j r e h = over-run v (r ∷ []) old j e (omega arith)
+
+  -- what is written into the part of a list that begins behind its new front, and goes to its end, makes that front longer
+  pub written-behind : (a b l l₀ last : List A) (at : ℕ) → length a ≡ at → at ≤ length l → l ≡ over a l₀ → last ≡ over b (midOf at (length l - at) l)
+      → putMid at (length l - at) l last ≡ over (a ++ b) l₀
+  written-behind a b l l₀ last at z h e q =
+      let whole : midOf at (length l - at) l ≡ drop at l = ap (λ k. take k (drop at l)) (sym (length-drop at l)) ∙ take-length (drop at l) in
+      let none : drop (length l - at) (drop at l) ≡ [] = ap (λ k. drop k (drop at l)) (sym (length-drop at l)) ∙ drop-length (drop at l) in
+      let new : last ≡ b ++ drop (length (a ++ b)) l₀ = q ∙ ap (over b) (whole ∙ ap (drop at) e ∙ over-drop a l₀ at z)
+      ∙ ap (λ t. b ++ t) (drop-drop (length b) at l₀ ∙ ap (λ k. drop k l₀) (ap (λ k. k + length b) (sym z) ∙ sym (length-append a b))) in
+      ap₂ (λ s t. s ++ t) (ap (take at) e ∙ over-take a l₀ at z) (ap₂ (λ s t. s ++ t) new none ∙ append-nil _) ∙ sym (append-assoc a b (drop (length (a ++ b)) l₀))
 
   -- the laws by which a loop that fills a slice from its front uses it: place after place is stored
   pub over-none : (f : ℕ → A) (l : List A) → over (listBelow f 0) l ≡ l
@@ -108,6 +130,27 @@ module _ {A : Type 0} where
   -- the step of a loop that fills a slice from its front
   pub over-set : (f : ℕ → A) (l l₀ : List A) (i : ℕ) (x : A) → i < length l₀ → l ≡ over (listBelow f i) l₀ → x ≡ f i → set l i x ≡ over (listBelow f (i + 1)) l₀
   over-set f l l₀ i x h e v = ap₂ (λ t y. set t i y) e v ∙ over-more f i l₀ h
+
+  -- the same values under another name
+  pub over-same : (f g : ℕ → A) (n : ℕ) (l old : List A) → ((t : ℕ) → t < n → f t ≡ g t) → l ≡ over (listBelow f n) old → l ≡ over (listBelow g n) old
+  over-same f g n l old h e = e ∙ ap (λ t. over t old) (listBelow-same f g n h)
+
+  -- one place more of a list's front, and the next of its rest
+  pub take-more : (d : A) (l : List A) (i : ℕ) → i < length l → take (i + 1) l ≡ take i l ++ (getD l i d ∷ [])
+  take-more d l i h = ap (λ k. take k l) (add-one i) ∙ take-suc l i d h
+
+  pub drop-next : (d : A) (l : List A) (i : ℕ) → i < length l → drop i l ≡ getD l i d ∷ drop (i + 1) l
+  drop-next d l i h = drop-cons l i d h ∙ ap (λ k. getD l i d ∷ drop k l) (sym (add-one i))
+
+  -- one value again and again
+  pub repeated : (x : A) (n : ℕ) → listBelow (λ t. x) n ≡ replicate n x
+  repeated x n =
+      sym (listBelow-take (λ t. x) n x (replicate n x) (omega (arith, length-replicate n x)) (λ t l. getD-replicate n t x x l))
+      ∙ take-all n (replicate n x) (omega (arith, length-replicate n x))
+
+  pub take-replicate : (m n : ℕ) (x : A) → m ≤ n → take m (replicate n x) ≡ replicate m x
+  take-replicate m n x h =
+      listBelow-take (λ t. x) m x (replicate n x) (omega (arith, length-replicate n x)) (λ t l. getD-replicate n t x x (omega arith)) ∙ repeated x m
 
   -- the front of a list, place by place
   pub listBelow-copy : (d : A) (from : List A) (n : ℕ) → n ≤ length from → listBelow (λ t. getD from t d) n ≡ take n from
@@ -131,6 +174,11 @@ map-at f [] i z y h = absurd (omega arith)
 map-at f (a ∷ l) zero z y h = refl
 map-at f (a ∷ l) (suc i) z y h = map-at f l i z y (omega arith)
 
+pub map-below : {A B : Type 0} (f : A → B) (g : ℕ → A) (n : ℕ) → map f (listBelow g n) ≡ listBelow (λ i. f (g i)) n
+unfolding listBelow
+map-below f g zero = refl
+map-below f g (suc n) = map-append f (listBelow g n) (g n ∷ []) ∙ ap (λ l. l ++ (f (g n) ∷ [])) (map-below f g n)
+
 -- what is left of it past a place, and what lies before one
 module _ {A : Type 0} (f : ℕ → A) where
   pub listBelow-end : (n : ℕ) → drop n (listBelow f n) ≡ []
@@ -138,7 +186,7 @@ module _ {A : Type 0} (f : ℕ → A) where
 
   pub listBelow-cut : (n j : ℕ) → j < n → drop j (listBelow f n) ≡ f j ∷ drop (j + 1) (listBelow f n)
   listBelow-cut n j h =
-      drop-cons (listBelow f n) j (f j) (omega (arith, listBelow-length f n)) ∙ ap₂ (λ v k. v ∷ drop k (listBelow f n)) (listBelow-at f n (f j) j h) (sym (add-one j))
+      drop-next (f j) (listBelow f n) j (omega (arith, listBelow-length f n)) ∙ ap (λ v. v ∷ drop (j + 1) (listBelow f n)) (listBelow-at f n (f j) j h)
 
   pub listBelow-front : (k n : ℕ) → k ≤ n → take k (listBelow f n) ≡ listBelow f k
   listBelow-front k n h = listBelow-take f k (f 0) (listBelow f n) (omega (arith, listBelow-length f n)) (λ t l. listBelow-at f n (f 0) t (omega arith))

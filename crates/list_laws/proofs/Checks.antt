@@ -1,15 +1,19 @@
 -- The first of some refusals that applies, and what a plan that refusal 8 lets pass keeps.
-use Prim.Native.Nat.{ℕ, _≤_}
+use Prim.Native.Nat.{ℕ, _≤_, _<_}
 use mathlib.Core.Path.{_≡_, refl, ap, _∙_}
 use mathlib.Core.Bool.{Bool, true, false, cond, _&&_}
 use mathlib.Core.List.{List, [], _∷_, List·Memᴰ, List·Memᴰ·head, List·Memᴰ·tail}
 use mathlib.Core.Option.{none, some, Option·some-ne-none}
-use borrow.Author.Tests.{eqb-true, leb-true}
+use borrow.Author.Tests.{eqb-true, leb-true, not-false}
 use lib.Dec.{eqb, leb}
+use lib.Ieee.{Float}
+use lib.ListN.{length}
 use Rattle.model.specs.Lists.{allIn}
 use Rattle.model.specs.Plan.{Plan, maxConstraints}
 use Rattle.model.specs.Reference.{orElse}
-use Rattle.model.specs.Refusal.{Check, firstOf, measurable, goodPlan}
+use Rattle.model.specs.Association.{Request, objectives}
+use Rattle.model.specs.Refusal.{Check, firstOf, measurable, goodPlan, goodPlans, goodIdeal, badPool}
+use Rattle.list_laws.proofs.Tests.{allBelow-each}
 use Rattle.list_laws.proofs.Bools.{by-bool, and-left, and-right}
 
 -- where none applies, each of them does not
@@ -50,6 +54,24 @@ module _ (m : ℕ) (p : Plan) (good : goodPlan m p ≡ true) where
 
   pub good-values : allIn measurable (p .row) ≡ true
   good-values = and-left (allIn measurable (p .row)) _ (and-right (leb (p .constraintCount) maxConstraints) _ after-length)
+
+-- an ideal that it lets pass has as many entries as there are objectives
+pub good-ideal-length : (m : ℕ) (ideal : List Float) → goodIdeal m ideal ≡ true → length ideal ≡ m
+unfolding goodIdeal
+good-ideal-length m ideal e = eqb-true (length ideal) m (and-left (eqb (length ideal) m) _ e)
+
+-- where it does not apply, each plan and the ideal are good
+module _ (r : Request) (e : badPool r ≡ false) where
+  pub pool-plans : goodPlans (objectives r) (r .plans) (r .count) ≡ true
+  unfolding badPool
+  pool-plans = and-left (goodPlans (objectives r) (r .plans) (r .count)) _ (not-false _ e)
+
+  pub pool-ideal : goodIdeal (objectives r) (r .ideal) ≡ true
+  unfolding badPool
+  pool-ideal = and-right (goodPlans (objectives r) (r .plans) (r .count)) _ (not-false _ e)
+
+  pub pool-plan : (p : ℕ) → p < r .count → goodPlan (objectives r) (r .plans p) ≡ true
+  pool-plan = allBelow-each (λ p. goodPlan (objectives r) (r .plans p)) (r .count) pool-plans
 
 -- one that applies is the first
 pub applies-first : (c : Check) (cs : List Check) → c .applies ≡ true → firstOf (c ∷ cs) ≡ some (c .number)

@@ -2,105 +2,15 @@
 use Prim.Native.Nat.{ℕ, zero, suc, _+_, _≤_, _<_}
 use mathlib.Core.Path.{_≡_, refl, ap, sym, _∙_}
 use mathlib.Core.Bool.{Bool, true, false, not, _&&_, or-true, or-false}
-use mathlib.Core.Logic.{⊎-elim}
-use native.Mathlib.Nat.{not-suc-le-zero, add-zero, eq-or-lt-of-le}
+use native.Mathlib.Nat.{not-suc-le-zero, add-zero}
 use native.Mathlib.Numerals.{add-one}
 use native.Mathlib.Omega.{arith}
 use borrow.Author.Tests.{eq-eqb, ne-eqb, not-true}
 use lib.Dec.{eqb}
 use Rattle.model.specs.Lists.{one, anyBelow, countBelow, sumBelow}
-use Rattle.list_laws.proofs.Bools.{by-bool, past, one-le}
-use Rattle.list_laws.proofs.Below.{same-below}
+use Rattle.list_laws.proofs.Bools.{by-bool, past, and-no, one-le}
+use Rattle.list_laws.proofs.Below.{same-below, later, last-or}
 use Rattle.list_laws.proofs.Tests.{anyBelow-some, anyBelow-each, allBelow-any, allBelow-each}
-
--- ---- countBelow
-
-pub countBelow-none : (f : ℕ → Bool) → countBelow f 0 ≡ 0
-unfolding countBelow
-countBelow-none f = refl
-
-pub countBelow-more : (f : ℕ → Bool) (n : ℕ) → countBelow f (n + 1) ≡ countBelow f n + one (f n)
-unfolding countBelow
-countBelow-more f n = ap (countBelow f) (add-one n)
-
-pub countBelow-yes : (f : ℕ → Bool) (n : ℕ) → f n ≡ true → countBelow f (n + 1) ≡ countBelow f n + 1
-countBelow-yes f n e = countBelow-more f n ∙ ap (λ b. countBelow f n + one b) e
-
-pub countBelow-no : (f : ℕ → Bool) (n : ℕ) → f n ≡ false → countBelow f (n + 1) ≡ countBelow f n
-countBelow-no f n e = countBelow-more f n ∙ ap (λ b. countBelow f n + one b) e ∙ add-zero (countBelow f n)
-
-pub countBelow-le : (f : ℕ → Bool) (n : ℕ) → countBelow f n ≤ n
-unfolding countBelow
-countBelow-le f zero = omega arith
-countBelow-le f (suc n) = omega (arith, countBelow-le f n, one-le (f n))
-
--- the count rises with the bound
-pub countBelow-up : (f : ℕ → Bool) (k n : ℕ) → k ≤ n → countBelow f k ≤ countBelow f n
-unfolding countBelow
-countBelow-up f k zero h = let e : k ≡ 0 = omega arith in rw e (omega arith)
-countBelow-up f k (suc n) h =
-    ⊎-elim (λ e. rw e (omega arith)) (λ l. omega (arith, countBelow-up f k n (omega arith))) (eq-or-lt-of-le h)
-
--- some number passes just where the count of those that do is not zero
-pub anyBelow-count : (f : ℕ → Bool) (n : ℕ) → anyBelow f n ≡ not (eqb (countBelow f n) 0)
-unfolding anyBelow countBelow
-anyBelow-count f zero = refl
-anyBelow-count f (suc n) = by-bool (f n)
-    (λ e. rw (e, or-true, ne-eqb (countBelow f n + 1) 0 (λ z. omega arith)))
-    (λ e. rw (e, or-false, anyBelow-count f n, add-zero))
-
--- if what passes f passes g, f's count is at most g's
-pub countBelow-mono : (f g : ℕ → Bool) (n : ℕ) → ((t : ℕ) → t < n → f t ≡ true → g t ≡ true) → countBelow f n ≤ countBelow g n
-unfolding countBelow
-countBelow-mono f g zero h = omega arith
-countBelow-mono f g (suc n) h = by-bool (f n)
-    (λ e. let u : g n ≡ true = h n (omega arith) e in
-    rw (e, u) (omega (arith, countBelow-mono f g n (λ t l. h t (omega arith)))))
-    (λ e. rw e (omega (arith, countBelow-mono f g n (λ t l. h t (omega arith)))))
-
--- those that pass f are those that pass g too, and those that do not
-pub countBelow-split : (f g : ℕ → Bool) (n : ℕ) → countBelow f n ≡ countBelow (λ t. f t && g t) n + countBelow (λ t. f t && not (g t)) n
-unfolding countBelow
-countBelow-split f g zero = refl
-countBelow-split f g (suc n) = omega (arith, countBelow-split f g n, halves (f n) (g n))
-  where
-    halves : (a b : Bool) → one a ≡ one (a && b) + one (a && not b)
-    halves true true = refl
-    halves true false = refl
-    halves false b = refl
-
--- one number that passes makes the count positive
-pub countBelow-at : (f : ℕ → Bool) (n k : ℕ) → k < n → f k ≡ true → 0 < countBelow f n
-countBelow-at f n k h e = omega (arith, countBelow-yes f k e, countBelow-up f (k + 1) n (omega arith))
-
--- if what passes f passes g, and some number passes g alone, f's count is less
-pub countBelow-less : (f g : ℕ → Bool) (n k : ℕ) → ((t : ℕ) → t < n → f t ≡ true → g t ≡ true) → k < n → f k ≡ false → g k ≡ true
-    → countBelow f n < countBelow g n
-countBelow-less f g n k h l a b =
-    let more = countBelow-at (λ t. g t && not (f t)) n k l (past b (ap not a)) in
-    omega (arith, countBelow-split g f n, countBelow-mono f (λ t. g t && f t) n (λ t u e. past (h t u e) e))
-
--- if all pass, the count is n; and conversely
-pub countBelow-all : (f : ℕ → Bool) (n : ℕ) → ((t : ℕ) → t < n → f t ≡ true) → countBelow f n ≡ n
-unfolding countBelow
-countBelow-all f zero h = refl
-countBelow-all f (suc n) h = let e : f n ≡ true = h n (omega arith) in rw (e, countBelow-all f n (λ t u. h t (omega arith))) (omega arith)
-
-pub all-countBelow : (f : ℕ → Bool) (n : ℕ) → n ≤ countBelow f n → (t : ℕ) → t < n → f t ≡ true
-all-countBelow f n h t l = by-bool (f t) (λ e. e) (λ e. absurd (omega (arith, countBelow-less f (λ k. true) n t (λ k u v. refl) l e refl, countBelow-le (λ k. true) n)))
-
--- if the count is not zero, some number passes; if it is, none does
-pub some-countBelow : (f : ℕ → Bool) (n : ℕ) → 0 < countBelow f n → (t : ℕ) × (t < n) × (f t ≡ true)
-some-countBelow f n h = anyBelow-some f n (anyBelow-count f n ∙ ap not (ne-eqb (countBelow f n) 0 (λ e. omega arith)))
-
-pub none-countBelow : (f : ℕ → Bool) (n : ℕ) → countBelow f n ≡ 0 → (t : ℕ) → t < n → f t ≡ false
-none-countBelow f n h = anyBelow-each f n (anyBelow-count f n ∙ ap not (eq-eqb (countBelow f n) 0 h))
-
--- if the count is less than n, some number does not pass
-pub left-countBelow : (f : ℕ → Bool) (n : ℕ) → countBelow f n < n → (t : ℕ) × (t < n) × (f t ≡ false)
-left-countBelow f n h = by-bool (anyBelow (λ t. not (f t)) n)
-    (λ e. let r = anyBelow-some (λ t. not (f t)) n e in (r .0, r .1, not-true (f (r .0)) (r .2)))
-    (λ e. absurd (omega (arith, countBelow-all f n (allBelow-each f n (allBelow-any f n ∙ ap not e)))))
 
 -- ---- sumBelow
 
@@ -128,19 +38,102 @@ pub sumBelow-point : (f : ℕ → ℕ) (n x : ℕ) → x < n → ((t : ℕ) → 
 unfolding sumBelow
 sumBelow-point f zero x l h = absurd (not-suc-le-zero l)
 sumBelow-point f (suc n) x l h =
-    let i : x ≤ n = omega arith in
-    ⊎-elim
+    last-or l
     (λ e. let z : sumBelow f n ≡ 0 = sumBelow-same f (λ t. 0) n (λ t u. h t (omega arith) (λ v. omega arith)) ∙ sumBelow-zero n in
     let p : f x ≡ f n = ap f e in omega arith)
     (λ m. let z : f n ≡ 0 = h n (omega arith) (λ v. omega arith) in
     omega (arith, sumBelow-point f n x m (λ t u. h t (omega arith))))
-    (eq-or-lt-of-le i)
+
+-- ---- countBelow
+
+pub countBelow-none : (f : ℕ → Bool) → countBelow f 0 ≡ 0
+unfolding countBelow sumBelow
+countBelow-none f = refl
+
+pub countBelow-more : (f : ℕ → Bool) (n : ℕ) → countBelow f (n + 1) ≡ countBelow f n + one (f n)
+unfolding countBelow sumBelow
+countBelow-more f n = ap (countBelow f) (add-one n)
+
+pub countBelow-yes : (f : ℕ → Bool) (n : ℕ) → f n ≡ true → countBelow f (n + 1) ≡ countBelow f n + 1
+countBelow-yes f n e = countBelow-more f n ∙ ap (λ b. countBelow f n + one b) e
+
+pub countBelow-no : (f : ℕ → Bool) (n : ℕ) → f n ≡ false → countBelow f (n + 1) ≡ countBelow f n
+countBelow-no f n e = countBelow-more f n ∙ ap (λ b. countBelow f n + one b) e ∙ add-zero (countBelow f n)
+
+pub countBelow-le : (f : ℕ → Bool) (n : ℕ) → countBelow f n ≤ n
+unfolding countBelow sumBelow
+countBelow-le f zero = omega arith
+countBelow-le f (suc n) = omega (arith, countBelow-le f n, one-le (f n))
+
+pub countBelow-same : (f g : ℕ → Bool) (n : ℕ) → ((t : ℕ) → t < n → f t ≡ g t) → countBelow f n ≡ countBelow g n
+unfolding countBelow
+countBelow-same f g n h = sumBelow-same _ _ n (λ t l. ap one (h t l))
 
 -- a count is a sum, so what holds of sums holds of counts
 pub countBelow-sum : (f : ℕ → Bool) (n : ℕ) → countBelow f n ≡ sumBelow (λ t. one (f t)) n
-unfolding countBelow sumBelow
-countBelow-sum f zero = refl
-countBelow-sum f (suc n) = omega (arith, countBelow-sum f n)
+unfolding countBelow
+countBelow-sum f n = refl
 
-pub countBelow-same : (f g : ℕ → Bool) (n : ℕ) → ((t : ℕ) → t < n → f t ≡ g t) → countBelow f n ≡ countBelow g n
-countBelow-same f g n h = countBelow-sum f n ∙ sumBelow-same _ _ n (λ t l. ap one (h t l)) ∙ sym (countBelow-sum g n)
+-- the count rises with the bound
+pub countBelow-up : (f : ℕ → Bool) (k n : ℕ) → k ≤ n → countBelow f k ≤ countBelow f n
+unfolding countBelow sumBelow
+countBelow-up f k n h = later (λ t. countBelow f k ≤ countBelow f t) (λ t u. omega arith) k n h (omega arith)
+
+-- some number passes just where the count of those that do is not zero
+pub anyBelow-count : (f : ℕ → Bool) (n : ℕ) → anyBelow f n ≡ not (eqb (countBelow f n) 0)
+unfolding anyBelow countBelow sumBelow
+anyBelow-count f zero = refl
+anyBelow-count f (suc n) = by-bool (f n)
+    (λ e. rw (e, or-true, ne-eqb (countBelow f n + 1) 0 (λ z. omega arith)))
+    (λ e. rw (e, or-false, anyBelow-count f n, add-zero))
+
+-- those that pass f are those that pass g too, and those that do not
+pub countBelow-split : (f g : ℕ → Bool) (n : ℕ) → countBelow f n ≡ countBelow (λ t. f t && g t) n + countBelow (λ t. f t && not (g t)) n
+unfolding countBelow sumBelow
+countBelow-split f g zero = refl
+countBelow-split f g (suc n) = omega (arith, countBelow-split f g n, halves (f n) (g n))
+  where
+    halves : (a b : Bool) → one a ≡ one (a && b) + one (a && not b)
+    halves true true = refl
+    halves true false = refl
+    halves false b = refl
+
+-- one number that passes makes the count positive
+pub countBelow-at : (f : ℕ → Bool) (n k : ℕ) → k < n → f k ≡ true → 0 < countBelow f n
+countBelow-at f n k h e = omega (arith, countBelow-yes f k e, countBelow-up f (k + 1) n (omega arith))
+
+-- if what passes f passes g, those that pass f are those that pass both
+inside : (f g : ℕ → Bool) (n : ℕ) → ((t : ℕ) → t < n → f t ≡ true → g t ≡ true) → countBelow f n ≡ countBelow (λ t. g t && f t) n
+inside f g n h = countBelow-same f _ n (λ t l. by-bool (f t) (λ e. e ∙ sym (past (h t l e) e)) (λ e. e ∙ sym (and-no (g t) (f t) e)))
+
+-- so f's count is at most g's, and it is less where some number passes g alone
+pub countBelow-mono : (f g : ℕ → Bool) (n : ℕ) → ((t : ℕ) → t < n → f t ≡ true → g t ≡ true) → countBelow f n ≤ countBelow g n
+countBelow-mono f g n h = omega (arith, countBelow-split g f n, inside f g n h)
+
+pub countBelow-less : (f g : ℕ → Bool) (n k : ℕ) → ((t : ℕ) → t < n → f t ≡ true → g t ≡ true) → k < n → f k ≡ false → g k ≡ true
+    → countBelow f n < countBelow g n
+countBelow-less f g n k h l a b =
+    let more = countBelow-at (λ t. g t && not (f t)) n k l (past b (ap not a)) in
+    omega (arith, countBelow-split g f n, inside f g n h)
+
+-- if all pass, the count is n; and conversely
+pub countBelow-all : (f : ℕ → Bool) (n : ℕ) → ((t : ℕ) → t < n → f t ≡ true) → countBelow f n ≡ n
+unfolding countBelow sumBelow
+countBelow-all f zero h = refl
+countBelow-all f (suc n) h = let e : f n ≡ true = h n (omega arith) in rw (e, countBelow-all f n (λ t u. h t (omega arith))) (omega arith)
+
+pub all-countBelow : (f : ℕ → Bool) (n : ℕ) → n ≤ countBelow f n → (t : ℕ) → t < n → f t ≡ true
+all-countBelow f n h t l = by-bool (f t) (λ e. e) (λ e. absurd (omega (arith, countBelow-less f (λ k. true) n t (λ k u v. refl) l e refl, countBelow-le (λ k. true) n)))
+
+-- if the count is not zero, some number passes; if it is, none does
+pub some-countBelow : (f : ℕ → Bool) (n : ℕ) → 0 < countBelow f n → (t : ℕ) × (t < n) × (f t ≡ true)
+some-countBelow f n h = anyBelow-some f n (anyBelow-count f n ∙ ap not (ne-eqb (countBelow f n) 0 (λ e. omega arith)))
+
+pub none-countBelow : (f : ℕ → Bool) (n : ℕ) → countBelow f n ≡ 0 → (t : ℕ) → t < n → f t ≡ false
+none-countBelow f n h = anyBelow-each f n (anyBelow-count f n ∙ ap not (eq-eqb (countBelow f n) 0 h))
+
+-- if the count is less than n, some number does not pass
+pub left-countBelow : (f : ℕ → Bool) (n : ℕ) → countBelow f n < n → (t : ℕ) × (t < n) × (f t ≡ false)
+left-countBelow f n h = by-bool (anyBelow (λ t. not (f t)) n)
+    (λ e. let r = anyBelow-some (λ t. not (f t)) n e in (r .0, r .1, not-true (f (r .0)) (r .2)))
+    (λ e. absurd (omega (arith, countBelow-all f n (allBelow-each f n (allBelow-any f n ∙ ap not e)))))

@@ -1,6 +1,7 @@
 -- Laws of draws in turn: the steps of a loop that draws, how many values there are, and what holds of each.
 use Prim.Native.Nat.{ℕ, zero, suc, _+_, _<_}
 use mathlib.Core.Path.{_≡_, refl, ap, sym, _∙_}
+use mathlib.Core.Bool.{Bool}
 use mathlib.Core.List.{List, [], _∷_, _++_}
 use native.Mathlib.Numerals.{add-one}
 use native.Mathlib.Omega.{arith}
@@ -8,6 +9,21 @@ use lib.ListN.{length, length-append}
 use Rattle.model.specs.Draw.{Drawn, drawn, inTurn, drawAll}
 use Rattle.list_laws.specs.Places.{Places}
 use Rattle.list_laws.proofs.Places.{places-none, places-more}
+
+-- a drawn value and the state after it: what is made of the value, and each of the two
+module _ {A : Type 0} {d : Drawn A} {x : A} {t : ℕ} where
+  pub drawn-by : {B : Type 0} (f : A → B) → drawn x t ≡ d → drawn (f x) t ≡ drawn (f (d .value)) (d .state)
+  drawn-by f e = ap (λ (y : Drawn A). drawn (f (y .value)) (y .state)) e
+
+  -- what is made by a test of the value
+  pub drawn-tested : {C : Type 0} (F : Bool → ℕ → C) (test : A → Bool) {b : Bool} → drawn x t ≡ d → test x ≡ b → F b t ≡ F (test (d .value)) (d .state)
+  drawn-tested F test e h = ap (λ (c : Bool). F c t) (sym h) ∙ ap (λ (y : Drawn A). F (test (y .value)) (y .state)) e
+
+  pub drawn-value : drawn x t ≡ d → x ≡ d .value
+  drawn-value e = ap (λ (y : Drawn A). y .value) e
+
+  pub drawn-state : drawn x t ≡ d → t ≡ d .state
+  drawn-state e = ap (λ (y : Drawn A). y .state) e
 
 -- what is drawn after another draw, and joined to what that handed out: `next` draws it
 pub drawn-more : {A B C : Type 0} (join : A → B → C) (next : Drawn A → Drawn B) {c : Drawn A} {a : A} {t : ℕ} {b : B} {u : ℕ} → drawn a t ≡ c → drawn b u ≡ next (drawn a t)

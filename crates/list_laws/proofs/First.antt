@@ -2,28 +2,20 @@
 use Prim.Native.Nat.{ℕ, zero, suc, _+_, _≤_, _<_}
 use mathlib.Core.Path.{_≡_, refl, ap, sym, _∙_}
 use mathlib.Core.Bool.{Bool, true, false}
-use mathlib.Core.Logic.{⊎-elim}
-use native.Mathlib.Nat.{not-suc-le-zero, eq-or-lt-of-le}
+use mathlib.Core.Logic.{_⊎_, inl, inr, ⊎-elim}
+use native.Mathlib.Nat.{not-suc-le-zero}
 use native.Mathlib.Numerals.{add-one}
 use native.Mathlib.Omega.{arith}
-use borrow.Author.Tests.{lt-ltb, le-ltb, ltb-true, ltb-false}
-use lib.Dec.{ltb}
+use borrow.Author.Tests.{lt-ltb, le-ltb}
 use Rattle.model.specs.Lists.{firstBelow, lastBelow}
 use Rattle.list_laws.proofs.Bools.{by-bool}
-use Rattle.list_laws.proofs.Below.{same-below}
+use Rattle.list_laws.proofs.Below.{same-below, last-or}
 
 -- ---- firstBelow: the first that passes is k just where k passes and none before it does
 
 pub firstBelow-none : (f : ℕ → Bool) → firstBelow f 0 ≡ 0
 unfolding firstBelow
 firstBelow-none f = refl
-
-pub firstBelow-le : (f : ℕ → Bool) (n : ℕ) → firstBelow f n ≤ n
-unfolding firstBelow
-firstBelow-le f zero = omega arith
-firstBelow-le f (suc n) = by-bool (ltb (firstBelow f n) n)
-    (λ e. let h = ltb-true (firstBelow f n) n e in rw e (omega arith))
-    (λ e. by-bool (f n) (λ v. rw (e, v) (omega arith)) (λ v. rw (e, v) (omega arith)))
 
 -- one that is found stays found
 pub firstBelow-still : (f : ℕ → Bool) (n : ℕ) → firstBelow f n < n → firstBelow f (n + 1) ≡ firstBelow f n
@@ -49,36 +41,34 @@ firstBelow-nowhere f (suc n) h =
 pub firstBelow-at : (f : ℕ → Bool) (n k : ℕ) → k < n → f k ≡ true → ((t : ℕ) → t < k → f t ≡ false) → firstBelow f n ≡ k
 firstBelow-at f zero k l e h = absurd (not-suc-le-zero l)
 firstBelow-at f (suc n) k l e h =
-    let i : k ≤ n = omega arith in
-    ⊎-elim
+    last-or l
     (λ v. ap (firstBelow f) (sym (add-one n))
     ∙ firstBelow-yes f n (firstBelow-nowhere f n (λ t u. h t (omega arith))) (ap f (sym v) ∙ e) ∙ sym v)
     (λ m. let r = firstBelow-at f n k m e h in
     ap (firstBelow f) (sym (add-one n)) ∙ firstBelow-still f n (omega arith) ∙ r)
-    (eq-or-lt-of-le i)
 
--- and what it answers below n passes, and none before it does
+-- the numbers below n hold a first that passes, or none does
+scan : (f : ℕ → Bool) (n : ℕ) → ((k : ℕ) × (k < n) × (f k ≡ true) × ((t : ℕ) → t < k → f t ≡ false)) ⊎ ((t : ℕ) → t < n → f t ≡ false)
+scan f zero = inr (λ t h. absurd (not-suc-le-zero h))
+scan f (suc n) = ⊎-elim
+    (λ r. inl (r .0, omega (arith, r .1), r .2, r .3))
+    (λ none. by-bool (f n) (λ e. inl (n, omega arith, e, none)) (λ e. inr (λ t h. last-or h (λ v. ap f v ∙ e) (none t))))
+    (scan f n)
+
+-- so the answer is at most n; below n it passes, and none before it does
+pub firstBelow-le : (f : ℕ → Bool) (n : ℕ) → firstBelow f n ≤ n
+firstBelow-le f n =
+    ⊎-elim (λ r. omega (arith, firstBelow-at f n (r .0) (r .1) (r .2) (r .3), r .1)) (λ none. omega (arith, firstBelow-nowhere f n none)) (scan f n)
+
 pub firstBelow-passes : (f : ℕ → Bool) (n : ℕ) → firstBelow f n < n → f (firstBelow f n) ≡ true
-unfolding firstBelow
-firstBelow-passes f zero h = absurd (not-suc-le-zero h)
-firstBelow-passes f (suc n) h = by-bool (ltb (firstBelow f n) n)
-    (λ e. rw e (firstBelow-passes f n (ltb-true (firstBelow f n) n e)))
-    (λ e. by-bool (f n) (λ v. rw (e, v) v) (λ v. absurd (over (rw (e, v) at h))))
-  where
-    over : suc n < suc n → ⊥
-    over l = omega arith
+firstBelow-passes f n h =
+    ⊎-elim (λ r. ap f (firstBelow-at f n (r .0) (r .1) (r .2) (r .3)) ∙ r .2) (λ none. absurd (omega (arith, firstBelow-nowhere f n none))) (scan f n)
 
 pub firstBelow-before : (f : ℕ → Bool) (n t : ℕ) → t < firstBelow f n → f t ≡ false
-unfolding firstBelow
-firstBelow-before f zero t h = absurd (not-suc-le-zero h)
-firstBelow-before f (suc n) t h = by-bool (ltb (firstBelow f n) n)
-    (λ e. firstBelow-before f n t (rw e at h))
-    (λ e. let all = ltb-false (firstBelow f n) n e in
-    by-bool (f n)
-    (λ v. let l : t < n = rw (e, v) at h in firstBelow-before f n t (omega arith))
-    (λ v. let l : t < suc n = rw (e, v) at h in
-    let i : t ≤ n = omega arith in
-    ⊎-elim (λ w. ap f w ∙ v) (λ m. firstBelow-before f n t (omega arith)) (eq-or-lt-of-le i)))
+firstBelow-before f n t h = ⊎-elim
+    (λ r. r .3 t (omega (arith, firstBelow-at f n (r .0) (r .1) (r .2) (r .3))))
+    (λ none. none t (omega (arith, firstBelow-nowhere f n none)))
+    (scan f n)
 
 pub firstBelow-same : (f g : ℕ → Bool) (n : ℕ) → ((t : ℕ) → t < n → f t ≡ g t) → firstBelow f n ≡ firstBelow g n
 unfolding firstBelow
@@ -116,9 +106,7 @@ lastBelow-nowhere f (suc n) h =
 pub lastBelow-at : (f : ℕ → Bool) (n k : ℕ) → k < n → f k ≡ true → ((t : ℕ) → k < t → t < n → f t ≡ false) → lastBelow f n ≡ k
 lastBelow-at f zero k l e h = absurd (not-suc-le-zero l)
 lastBelow-at f (suc n) k l e h =
-    let i : k ≤ n = omega arith in
-    ⊎-elim
+    last-or l
     (λ v. ap (lastBelow f) (sym (add-one n)) ∙ lastBelow-yes f n (ap f (sym v) ∙ e) ∙ sym v)
     (λ m. let r = lastBelow-at f n k m e (λ t a b. h t a (omega arith)) in
     ap (lastBelow f) (sym (add-one n)) ∙ lastBelow-still f n (h n m (omega arith)) (omega arith) ∙ r)
-    (eq-or-lt-of-le i)

@@ -1,32 +1,50 @@
 -- Laws of `keepBelow`: the numbers below n that pass, rising.
-use Prim.Native.Nat.{ℕ, zero, suc, _+_, _≤_, _<_}
+use Prim.Native.Nat.{ℕ, zero, suc, _+_, _<_}
 use mathlib.Core.Path.{_≡_, refl, ap, sym, _∙_}
-use mathlib.Core.Bool.{Bool, true, false, cond}
-use mathlib.Core.List.{[], _∷_, _++_, append-nil}
-use mathlib.Core.Logic.{⊎-elim}
-use native.Mathlib.Nat.{not-suc-le-zero, eq-or-lt-of-le}
+use mathlib.Core.Bool.{Bool, true, false, cond, _&&_, and-true}
+use mathlib.Core.List.{List, [], _∷_, _++_, append-nil}
 use native.Mathlib.Numerals.{add-one}
 use native.Mathlib.Omega.{arith}
 use borrow.Author.Tests.{eq-eqb, ne-eqb}
 use lib.ListN.{length, length-append}
-use Rattle.model.specs.Lists.{one, countBelow, keepBelow, In}
-use Rattle.list_laws.specs.Occ.{occ, AllUnder}
-use Rattle.list_laws.proofs.Bools.{by-bool, one-le, one-true}
+use lib.Dec.{eqb}
+use Rattle.model.specs.Lists.{one, countBelow, keepBelow, listBelow, keep, In}
+use Rattle.list_laws.specs.Occ.{occ, AllUnder, Exactly}
+use Rattle.list_laws.proofs.Bools.{by-bool, and-no}
 use Rattle.list_laws.proofs.Below.{same-below}
-use Rattle.list_laws.proofs.Counts.{countBelow-none, countBelow-yes, countBelow-no, countBelow-up}
-use Rattle.list_laws.proofs.Members.{occ-nil, occ-cons, occ-append, in-occ, occ-in, under-in}
+use Rattle.list_laws.proofs.Counts.{countBelow-none, countBelow-yes, countBelow-no, countBelow-up, countBelow-sum, sumBelow-same, sumBelow-zero, sumBelow-point}
+use Rattle.list_laws.proofs.Members.{keep-append, keep-length, exactly-of}
 
 pub keepBelow-none : (f : ℕ → Bool) → keepBelow f 0 ≡ []
 unfolding keepBelow
 keepBelow-none f = refl
 
-pub keepBelow-yes : (f : ℕ → Bool) (n : ℕ) → f n ≡ true → keepBelow f (n + 1) ≡ keepBelow f n ++ (n ∷ [])
+pub keepBelow-more : (f : ℕ → Bool) (n : ℕ) {b : Bool} → f n ≡ b → keepBelow f (n + 1) ≡ keepBelow f n ++ cond b (n ∷ []) []
 unfolding keepBelow
-keepBelow-yes f n e = ap (keepBelow f) (add-one n) ∙ ap (λ b. keepBelow f n ++ cond b (n ∷ []) []) e
+keepBelow-more f n e = ap (keepBelow f) (add-one n) ∙ ap (λ b. keepBelow f n ++ cond b (n ∷ []) []) e
+
+pub keepBelow-yes : (f : ℕ → Bool) (n : ℕ) → f n ≡ true → keepBelow f (n + 1) ≡ keepBelow f n ++ (n ∷ [])
+keepBelow-yes f n e = keepBelow-more f n e
 
 pub keepBelow-no : (f : ℕ → Bool) (n : ℕ) → f n ≡ false → keepBelow f (n + 1) ≡ keepBelow f n
-unfolding keepBelow
-keepBelow-no f n e = ap (keepBelow f) (add-one n) ∙ ap (λ b. keepBelow f n ++ cond b (n ∷ []) []) e ∙ append-nil (keepBelow f n)
+keepBelow-no f n e = keepBelow-more f n e ∙ append-nil (keepBelow f n)
+
+-- the numbers below n that pass are what a test keeps of all of them
+pub keepBelow-keep : (f : ℕ → Bool) (n : ℕ) → keepBelow f n ≡ keep f (listBelow (λ i. i) n)
+unfolding keepBelow keep listBelow
+keepBelow-keep f zero = refl
+keepBelow-keep f (suc n) = ap (λ l. l ++ cond (f n) (n ∷ []) []) (keepBelow-keep f n) ∙ sym (keep-append f (listBelow (λ i. i) n) (n ∷ []))
+
+-- what is kept of what is kept passes both tests
+pub keep-keep : (f g : ℕ → Bool) (l : List ℕ) → keep f (keep g l) ≡ keep (λ p. g p && f p) l
+unfolding keep
+keep-keep f g [] = refl
+keep-keep f g (x ∷ l) = by-bool (g x)
+    (λ e. rw e (by-bool (f x) (λ v. rw v (ap (λ t. x ∷ t) (keep-keep f g l))) (λ v. rw v (keep-keep f g l))))
+    (λ e. rw e (keep-keep f g l))
+
+pub keep-keepBelow : (f g : ℕ → Bool) (n : ℕ) → keep f (keepBelow g n) ≡ keepBelow (λ l. g l && f l) n
+keep-keepBelow f g n = ap (keep f) (keepBelow-keep g n) ∙ keep-keep f g _ ∙ sym (keepBelow-keep _ n)
 
 pub keepBelow-same : (f g : ℕ → Bool) (n : ℕ) → ((t : ℕ) → t < n → f t ≡ g t) → keepBelow f n ≡ keepBelow g n
 unfolding keepBelow
@@ -46,39 +64,24 @@ keepBelow-room f n q h e =
     omega (arith, keepBelow-length f q, keepBelow-length f n, countBelow-yes f q e)
 
 -- each number below n that passes is kept once, and no other
+keepBelow-times : (f : ℕ → Bool) (n q : ℕ) → occ q (keepBelow f n) ≡ countBelow (λ t. f t && eqb t q) n
+unfolding occ
+keepBelow-times f n q = sym (keep-length _ _) ∙ ap length (keep-keepBelow (λ t. eqb t q) f n) ∙ keepBelow-length _ n
+
 pub keepBelow-under : (f : ℕ → Bool) (n : ℕ) → AllUnder n (keepBelow f n)
-unfolding keepBelow
-keepBelow-under f zero q h = occ-nil q
-keepBelow-under f (suc n) q h =
-    let i = keepBelow-under f n q (omega arith) in
-    by-bool (f n)
-    (λ e. rw (e, occ-append) (omega (arith, occ-cons q n [], occ-nil q, ap one (ne-eqb n q (λ z. omega arith)))))
-    (λ e. rw (e, append-nil) i)
+keepBelow-under f n q h =
+    keepBelow-times f n q ∙ countBelow-sum _ n ∙ sumBelow-same _ (λ t. 0) n (λ t u. ap one (and-no (f t) _ (ne-eqb t q (λ e. omega arith)))) ∙ sumBelow-zero n
 
 pub keepBelow-occ : (f : ℕ → Bool) (n q : ℕ) → q < n → occ q (keepBelow f n) ≡ one (f q)
-unfolding keepBelow
-keepBelow-occ f zero q h = absurd (not-suc-le-zero h)
-keepBelow-occ f (suc n) q h =
-    let i : q ≤ n = omega arith in
-    let one-more = occ-cons q n [] in
-    let none = occ-nil q in
-    ⊎-elim
-    (λ v. by-bool (f n)
-    (λ e. let u : f q ≡ true = ap f v ∙ e in
-    rw (e, u, occ-append) (omega (arith, ap one (eq-eqb n q (sym v)), keepBelow-under f n q (omega arith))))
-    (λ e. let u : f q ≡ false = ap f v ∙ e in
-    rw (e, u, append-nil) (keepBelow-under f n q (omega arith))))
-    (λ m. by-bool (f n)
-    (λ e. rw (e, occ-append) (omega (arith, ap one (ne-eqb n q (λ z. omega arith)), keepBelow-occ f n q m)))
-    (λ e. rw (e, append-nil) (keepBelow-occ f n q m)))
-    (eq-or-lt-of-le i)
+keepBelow-occ f n q h =
+    keepBelow-times f n q ∙ countBelow-sum _ n ∙ sumBelow-point _ n q h (λ t u v. ap one (and-no (f t) _ (ne-eqb t q v)))
+    ∙ ap one (ap (λ b. f q && b) (eq-eqb q q refl) ∙ and-true (f q))
 
--- the same as membership
+pub keepBelow-exactly : (f : ℕ → Bool) (n : ℕ) → Exactly f n (keepBelow f n)
+keepBelow-exactly f n = exactly-of f n (keepBelow f n) (keepBelow-under f n) (keepBelow-occ f n)
+
 pub keepBelow-in : (f : ℕ → Bool) (n q : ℕ) → q < n → f q ≡ true → In q (keepBelow f n)
-keepBelow-in f n q h e = occ-in q (keepBelow f n) (omega (arith, keepBelow-occ f n q h, ap one e))
+keepBelow-in f n = keepBelow-exactly f n .every
 
 pub in-keepBelow : (f : ℕ → Bool) (n q : ℕ) → In q (keepBelow f n) → (q < n) × (f q ≡ true)
-in-keepBelow f n q m =
-    let o = in-occ q (keepBelow f n) m in
-    let l : q < n = under-in n q (keepBelow f n) (keepBelow-under f n) o in
-    (l, one-true (f q) (omega (arith, keepBelow-occ f n q l, one-le (f q))))
+in-keepBelow f n q m = (keepBelow-exactly f n .below q m, keepBelow-exactly f n .passes q m)

@@ -5,6 +5,7 @@ pub mod Counts
 pub mod First
 pub mod Members
 pub mod Kept
+pub mod Best
 pub mod Built
 pub mod Places
 pub mod Draws

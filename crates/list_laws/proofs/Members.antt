@@ -1,18 +1,20 @@
 -- Laws of `tally`, `occ`, `has`, `In`, `Distinct` and `keep`.
 use Prim.Native.Nat.{ℕ, zero, suc, _+_, _≤_, _<_}
 use mathlib.Core.Path.{_≡_, refl, ap, sym, _∙_}
-use mathlib.Core.Bool.{Bool, true, false, cond, _&&_, _||_, and-true, true≢false}
-use mathlib.Core.List.{List, [], _∷_, _++_, List·Memᴰ, List·Memᴰ·head, List·Memᴰ·tail, List·Memᴰ·not-nil, List·Memᴰ·cases-cons, List·Memᴰ·append-cases, List·Memᴰ·eq-of-singleton, Memᴰ·cast, Pairwise·nil, Pairwise·cons, List·Nodup, nodup-cons, nodup-nil, nodup-append}
+use mathlib.Core.Bool.{Bool, true, false, cond, _&&_, _||_, and-true, or-assoc, true≢false}
+use mathlib.Core.List.{List, [], _∷_, _++_, map, List·Memᴰ, List·Memᴰ·head, List·Memᴰ·tail, List·Memᴰ·not-nil, List·Memᴰ·cases-cons, List·Memᴰ·append-cases, List·Memᴰ·eq-of-singleton, Memᴰ·cast, Pairwise·nil, Pairwise·cons, List·Nodup, nodup-cons, nodup-nil, nodup-append}
 use mathlib.Core.Logic.{_⊎_, inl, inr, ⊎-elim, ∥∥₁-elim}
 use mathlib.Core.HLevel.{⊥-prop}
-use native.Mathlib.Nat.{not-suc-le-zero}
+use native.Mathlib.Nat.{not-suc-le-zero, zero-add}
 use native.Mathlib.Omega.{arith}
-use borrow.Author.Tests.{eq-eqb, ne-eqb, eqb-true, ltb-true, ltb-false}
+use borrow.Author.Tests.{eq-eqb, ne-eqb, eqb-true, lt-ltb, ltb-true}
 use lib.Dec.{eqb, ltb}
 use lib.ListN.{length, getD}
-use Rattle.model.specs.Lists.{one, countBelow, sumBelow, has, keep, tally, In, Distinct}
-use Rattle.list_laws.specs.Occ.{occ, AllUnder, Below}
-use Rattle.list_laws.proofs.Bools.{by-bool, one-le, one-true}
+use Rattle.model.specs.Lists.{one, countBelow, sumBelow, allIn, has, keep, tally, In, Distinct}
+use Rattle.list_laws.specs.Occ.{occ, AllUnder, Below, Exactly}
+use Rattle.list_laws.proofs.Bools.{by-bool, no-pass, one-le, one-true}
+use Rattle.list_laws.proofs.Below.{by-lt}
+use Rattle.list_laws.proofs.Tests.{allIn-each}
 use Rattle.list_laws.proofs.Counts.{countBelow-sum, countBelow-same, sumBelow-same, sumBelow-add, sumBelow-zero, sumBelow-point}
 
 -- ---- tally: how many entries pass
@@ -94,44 +96,33 @@ has-cons x l q = refl
 pub has-occ : (l : List ℕ) (q : ℕ) → has l q ≡ ltb 0 (occ q l)
 has-occ [] q = has-nil q ∙ sym (ap (ltb 0) (occ-nil q))
 has-occ (x ∷ l) q = has-cons x l q ∙ by-bool (eqb x q)
-    (λ e. ap (λ b. b || has l q) e ∙ sym (ap (ltb 0) (occ-cons q x l ∙ ap (λ b. one b + occ q l) e) ∙ yes (occ q l)))
-    (λ e. ap (λ b. b || has l q) e ∙ has-occ l q ∙ sym (ap (ltb 0) (occ-cons q x l ∙ ap (λ b. one b + occ q l) e ∙ none (occ q l))))
-  where
-    yes : (k : ℕ) → ltb 0 (1 + k) ≡ true
-    yes k = by-bool (ltb 0 (1 + k)) (λ e. e) (λ e. absurd (omega (arith, ltb-false 0 (1 + k) e)))
-
-    none : (k : ℕ) → 0 + k ≡ k
-    none k = omega arith
+    (λ e. ap (λ b. b || has l q) e ∙ sym (ap (ltb 0) (occ-cons q x l ∙ ap (λ b. one b + occ q l) e) ∙ lt-ltb 0 (1 + occ q l) (omega arith)))
+    (λ e. ap (λ b. b || has l q) e ∙ has-occ l q ∙ sym (ap (ltb 0) (occ-cons q x l ∙ ap (λ b. one b + occ q l) e ∙ zero-add (occ q l))))
 
 pub has-in : (l : List ℕ) (q : ℕ) → has l q ≡ true → In q l
 has-in l q e = occ-in q l (ltb-true 0 (occ q l) (sym (has-occ l q) ∙ e))
 
 pub in-has : (l : List ℕ) (q : ℕ) → In q l → has l q ≡ true
-in-has l q h = has-occ l q ∙ by-bool (ltb 0 (occ q l)) (λ e. e) (λ e. absurd (omega (arith, in-occ q l h, ltb-false 0 (occ q l) e)))
+in-has l q h = has-occ l q ∙ lt-ltb 0 (occ q l) (in-occ q l h)
+
+-- a test that fails, and a number that is not listed
+pub has-not : (l : List ℕ) (q : ℕ) → has l q ≡ false → In q l → ⊥
+has-not l q e m = true≢false (sym (in-has l q m) ∙ e)
+
+pub not-has : (l : List ℕ) (q : ℕ) → (In q l → ⊥) → has l q ≡ false
+not-has l q h = no-pass (has l q) (λ e. h (has-in l q e))
 
 pub has-append : (s t : List ℕ) (q : ℕ) → has (s ++ t) q ≡ (has s q || has t q)
 unfolding has
 has-append [] t q = refl
-has-append (x ∷ s) t q = ap (λ b. eqb x q || b) (has-append s t q) ∙ regroup (eqb x q) (has s q) (has t q)
-  where
-    regroup : (a b c : Bool) → (a || (b || c)) ≡ ((a || b) || c)
-    regroup true b c = refl
-    regroup false b c = refl
+has-append (x ∷ s) t q = ap (λ b. eqb x q || b) (has-append s t q) ∙ sym (or-assoc (eqb x q) (has s q) (has t q))
 
 -- ---- AllUnder: every entry is below n
 
 pub under-in : (n q : ℕ) (l : List ℕ) → AllUnder n l → 0 < occ q l → q < n
-under-in n q l h m = by-bool (ltb q n) (ltb-true q n) (λ e. absurd (omega (arith, h q (ltb-false q n e))))
+under-in n q l h m = by-lt q n (λ u. u) (λ u. absurd (omega (arith, h q u)))
 
 -- ---- Distinct: no number is listed twice
-
-pub distinct-occ : (l : List ℕ) → Distinct l → (q : ℕ) → occ q l ≤ 1
-distinct-occ [] Pairwise·nil q = omega (arith, occ-nil q)
-distinct-occ (x ∷ l) (Pairwise·cons h d) q = by-bool (eqb x q)
-    (λ e. by-bool (ltb 0 (occ q l))
-    (λ m. absurd (h q ∣ occ-in q l (ltb-true 0 (occ q l) m) ∣₁ (eqb-true x q e)))
-    (λ m. omega (arith, occ-cons q x l, ap one e, ltb-false 0 (occ q l) m)))
-    (λ e. omega (arith, occ-cons q x l, ap one e, distinct-occ l d q))
 
 pub occ-distinct : (l : List ℕ) → ((q : ℕ) → occ q l ≤ 1) → Distinct l
 occ-distinct [] h = Pairwise·nil
@@ -174,17 +165,17 @@ keep-occ f (x ∷ l) q = by-bool (f x)
     (λ e. ap (occ q) (keep-yes f x l e) ∙ occ-cons q x (keep f l) ∙ ap (λ k. one (eqb x q) + k) (keep-occ f l q)
     ∙ by-bool (f q)
     (λ v. rw v (sym (occ-cons q x l)))
-    (λ v. rw v (omega (arith, ap one (ne-eqb x q (λ z. clash z e v))))))
+    (λ v. rw v (omega (arith, ap one (ne-eqb x q (λ z. true≢false (sym e ∙ ap f z ∙ v)))))))
     (λ e. ap (occ q) (keep-no f x l e) ∙ keep-occ f l q
     ∙ by-bool (f q)
-    (λ v. rw v (sym (occ-other q x l (λ z. clash2 z e v))))
+    (λ v. rw v (sym (occ-other q x l (λ z. true≢false (sym v ∙ ap f (sym z) ∙ e)))))
     (λ v. rw v))
-  where
-    clash : x ≡ q → f x ≡ true → f q ≡ false → ⊥
-    clash z e v = let w : true ≡ false = sym e ∙ ap f z ∙ v in true≢false w
 
-    clash2 : x ≡ q → f x ≡ false → f q ≡ true → ⊥
-    clash2 z e v = let w : true ≡ false = sym v ∙ ap f (sym z) ∙ e in true≢false w
+-- what is kept of images are the images of what is kept
+pub keep-map : (f : ℕ → Bool) (h : ℕ → ℕ) (l : List ℕ) → keep f (map h l) ≡ map h (keep (λ i. f (h i)) l)
+unfolding keep
+keep-map f h [] = refl
+keep-map f h (x ∷ l) = by-bool (f (h x)) (λ e. rw e (ap (λ t. h x ∷ t) (keep-map f h l))) (λ e. rw e (keep-map f h l))
 
 -- those kept are the members that pass
 pub keep-in : (f : ℕ → Bool) (l : List ℕ) (q : ℕ) → In q l → f q ≡ true → In q (keep f l)
@@ -224,36 +215,13 @@ tally-labels label n (x ∷ l) h =
 
 -- ---- a list that has the numbers below n as a test says
 
--- the tally of a list is the sum, over the numbers below n that pass, of how often each stands in it
-weight : (ℕ → Bool) → List ℕ → ℕ → ℕ
-weight f l t = cond (f t) (occ t l) 0
-
-cond-add : (b : Bool) (x y : ℕ) → cond b (x + y) 0 ≡ cond b x 0 + cond b y 0
-cond-add true x y = refl
-cond-add false x y = refl
-
-cond-zero : (b : Bool) → _≡_ {A = ℕ} (cond b 0 0) 0
-cond-zero true = refl
-cond-zero false = refl
-
-tally-weight : (f : ℕ → Bool) (n : ℕ) (l : List ℕ) → AllUnder n l → tally f l ≡ sumBelow (weight f l) n
-unfolding tally weight occ
-tally-weight f n [] h = sym (sumBelow-same _ (λ t. 0) n (λ t u. cond-zero (f t)) ∙ sumBelow-zero n)
-tally-weight f n (x ∷ l) h =
-    let below : x < n = under-in n x (x ∷ l) h (omega (arith, occ-here x l)) in
-    let rest : AllUnder n l = λ q u. omega (arith, h q u) in
-    let point : sumBelow (λ t. cond (f t) (one (eqb x t)) 0) n ≡ one (f x) =
-    sumBelow-point _ n x below (λ t u v. ap (λ b. cond (f t) (one b) 0) (ne-eqb x t (λ z. v (sym z))) ∙ cond-zero (f t))
-    ∙ ap (λ b. cond (f x) (one b) 0) (eq-eqb x x refl) in
-    let split = sumBelow-same (λ t. cond (f t) (one (eqb x t) + occ t l) 0) _ n (λ t u. cond-add (f t) (one (eqb x t)) (occ t l)) ∙ sumBelow-add _ _ n in
-    omega (arith, tally-weight f n l rest, point, split)
-
 -- a list with each number below n as often as a test says, and no other: its tally is the count of the numbers below n that pass both
 pub tally-below : (f g : ℕ → Bool) (n : ℕ) (l : List ℕ) → AllUnder n l → ((q : ℕ) → q < n → occ q l ≡ one (g q))
     → tally f l ≡ countBelow (λ t. g t && f t) n
-unfolding weight
+unfolding occ
 tally-below f g n l a h =
-    tally-weight f n l a ∙ sumBelow-same _ _ n (λ t u. ap (λ k. cond (f t) k 0) (h t u) ∙ both (f t) (g t)) ∙ sym (countBelow-sum _ n)
+    sym (keep-length f l) ∙ sym (tally-labels (λ q. q) n (keep f l) (λ q m. under-in n q l a (in-occ q l (in-keep f l q m .0))))
+    ∙ sumBelow-same _ _ n (λ t u. keep-occ f l t ∙ ap (λ k. cond (f t) k 0) (h t u) ∙ both (f t) (g t)) ∙ sym (countBelow-sum (λ t. g t && f t) n)
   where
     both : (x y : Bool) → cond x (one y) 0 ≡ one (y && x)
     both true true = refl
@@ -324,19 +292,15 @@ below-none n q m = absurd (List·Memᴰ·not-nil m)
 pub below-snoc : (n : ℕ) (l : List ℕ) (p : ℕ) → Below n l → p < n → Below n (l ++ (p ∷ []))
 below-snoc n l p h k = below-append n l (p ∷ []) h (λ q m. rw (List·Memᴰ·eq-of-singleton m) k)
 
--- ---- a list with each number below n as often as a test says, and no other, as in `tally-below`: its members are those that pass, each once
+-- ---- Exactly: each number below n that passes, once, and no other
 
-module _ (g : ℕ → Bool) (n : ℕ) (l : List ℕ) (a : AllUnder n l) (h : (q : ℕ) → q < n → occ q l ≡ one (g q)) where
-  pub exact-distinct : Distinct l
-  exact-distinct = occ-distinct l (λ q. by-bool (ltb q n)
-      (λ e. omega (arith, h q (ltb-true q n e), one-le (g q)))
-      (λ e. omega (arith, a q (ltb-false q n e))))
-
-  pub exact-passes : (q : ℕ) → In q l → g q ≡ true
-  exact-passes q m = one-true (g q) (omega (arith, h q (under-below n l a q m), in-occ q l m, one-le (g q)))
-
-  pub exact-in : (q : ℕ) → q < n → g q ≡ true → In q l
-  exact-in q u e = occ-in q l (omega (arith, h q u, ap one e))
+pub exactly-of : (g : ℕ → Bool) (n : ℕ) (l : List ℕ) → AllUnder n l → ((q : ℕ) → q < n → occ q l ≡ one (g q)) → Exactly g n l
+exactly-of g n l a h = record {
+  distinct = occ-distinct l (λ q. by-lt q n (λ u. omega (arith, h q u, one-le (g q))) (λ u. omega (arith, a q u)));
+  below = under-below n l a;
+  passes = λ q m. one-true (g q) (omega (arith, h q (under-below n l a q m), in-occ q l m, one-le (g q)));
+  every = λ q u e. occ-in q l (omega (arith, h q u, ap one e));
+}
 
 -- two lists of different entries that share none
 pub distinct-append : {A : Type 0} (s t : List A) → List·Nodup s → List·Nodup t → ((a : A) → List·Memᴰ a s → List·Memᴰ a t → ⊥) → List·Nodup (s ++ t)
@@ -345,3 +309,7 @@ distinct-append s t d e h = nodup-append .1 (d, e, λ a m k. ∥∥₁-elim m �
 pub distinct-snoc : (l : List ℕ) (p : ℕ) → Distinct l → (In p l → ⊥) → Distinct (l ++ (p ∷ []))
 distinct-snoc l p d h =
     distinct-append l (p ∷ []) d (nodup-cons .1 (λ m. ∥∥₁-elim m ⊥-prop List·Memᴰ·not-nil, nodup-nil)) (λ q m k. h (Memᴰ·cast (sym (List·Memᴰ·eq-of-singleton k)) m))
+
+-- what every entry passes each member does
+pub allIn-member : (f : ℕ → Bool) (l : List ℕ) → allIn f l ≡ true → (q : ℕ) → In q l → f q ≡ true
+allIn-member f l e q m = let r = place-of m in ap f (sym (r .2)) ∙ allIn-each f 0 l e (r .0) (r .1)

@@ -1,14 +1,19 @@
 -- Lists of one length that stand one after the other: how long they are together, and which entry stands where.
 use Prim.Native.Nat.{ℕ, zero, suc, _+_, _*_, _≤_, _<_}
+use mathlib.Core.Bool.{false}
 use mathlib.Core.Path.{_≡_, refl, ap, sym, _∙_}
 use mathlib.Core.List.{List, [], _∷_, _++_, flatten, append-assoc, append-nil}
-use native.Mathlib.Nat.{zero-mul, suc-mul, mul-le-mul-right, mul-le-mul-left}
+use native.Mathlib.Nat.{zero-mul, suc-mul, mul-le-mul, mul-le-mul-right}
 use native.Mathlib.Omega.{arith}
-use lib.ListN.{length, getD, length-append, List·getD-append}
+use borrow.Author.Tests.{ltb-false}
+use lib.Dec.{ltb}
+use lib.ListN.{length, getD, drop, length-append, List·getD-append}
 use lib.Seq.{getD-append-add, sets}
 use Rattle.model.specs.Lists.{listBelow, joinBelow, over}
-use Rattle.list_laws.proofs.Built.{listBelow-length, listBelow-at, joinBelow-more}
-use Rattle.list_laws.proofs.Runs.{over-run}
+use Rattle.list_laws.proofs.Built.{listBelow-length, listBelow-at, joinBelow-more, over-run}
+use Rattle.list_laws.proofs.Runs.{sets-append}
+use Rattle.list_laws.proofs.Below.{later}
+use Rattle.list_laws.specs.Rows.{flatRows}
 
 -- ---- rows of m entries
 
@@ -24,13 +29,9 @@ row-within p n m len h l = omega (arith, row-inside p n m h)
 pub row-lt : (p j n m : ℕ) → p < n → j < m → p * m + j < n * m
 row-lt p j n m h g = omega (arith, row-inside p n m h)
 
--- factors within their limits have a product within the limits' product
-pub product : (a b n m : ℕ) → a ≤ n → b ≤ m → a * b ≤ n * m
-product a b n m h k = omega (arith, mul-le-mul-right b h, mul-le-mul-left n k)
-
 -- at most 1,024 rows of at most 8 entries
 pub few-values : (n m : ℕ) → n ≤ 1024 → m ≤ 8 → n * m ≤ 8192
-few-values n m h k = product n m 1024 8 h k
+few-values n m h k = mul-le-mul h k
 
 -- ---- a list of lists
 
@@ -88,3 +89,50 @@ module _ {A : Type 0} where
     -- one row more stored behind those at a slice's front
     pub joinBelow-run : (old : List A) → n * m + length (f n) ≤ length old → sets (over (joinBelow f n) old) (n * m) (f n) ≡ over (joinBelow f (n + 1)) old
     joinBelow-run old h = over-run (joinBelow f n) (f n) old (n * m) joinBelow-length h ∙ ap (λ l. over l old) (sym (joinBelow-more f n))
+
+  -- one row more of m entries stored behind those from `at` on
+  pub run-join : (f : ℕ → List A) (m : ℕ) → ((i : ℕ) → length (f i) ≡ m) → (at n : ℕ) (l : List A)
+      → sets (sets l at (joinBelow f n)) (at + n * m) (f n) ≡ sets l at (joinBelow f (n + 1))
+  run-join f m each at n l =
+      ap (λ k. sets (sets l at (joinBelow f n)) (at + k) (f n)) (sym (joinBelow-length f m n (λ i u. each i)))
+      ∙ sym (sets-append l at (joinBelow f n) (f n)) ∙ ap (sets l at) (sym (joinBelow-more f n))
+
+  -- a longer join begins with every shorter one
+  module _ (f : ℕ → List A) where
+    pub joinBelow-begins : (k n : ℕ) → k ≤ n → (rest : List A) × (joinBelow f n ≡ joinBelow f k ++ rest)
+    unfolding joinBelow
+    joinBelow-begins k n h =
+        later (λ t. (rest : List A) × (joinBelow f t ≡ joinBelow f k ++ rest)) (λ t r. (r .0 ++ f t, ap (λ l. l ++ f t) (r .1) ∙ append-assoc (joinBelow f k) (r .0) (f t)))
+        k n h ([], sym (append-nil (joinBelow f k)))
+
+    -- so the next behind the first i has room where all n have it
+    pub joinBelow-room : (i n : ℕ) → i < n → length (joinBelow f i) + length (f i) ≤ length (joinBelow f n)
+    joinBelow-room i n h =
+        let r = joinBelow-begins (i + 1) n (omega arith) in
+        omega (arith, ap length (r .1), length-append (joinBelow f (i + 1)) (r .0), ap length (joinBelow-more f i), length-append (joinBelow f i) (f i))
+
+    -- joined lists fit into a size where with each of them they do
+    pub joinBelow-fits : (size k : ℕ) → ((t : ℕ) → t < k → ltb size (length (joinBelow f (suc t))) ≡ false) → length (joinBelow f k) ≤ size
+    unfolding joinBelow
+    joinBelow-fits size zero h = omega arith
+    joinBelow-fits size (suc k) h = ltb-false size (length (joinBelow f (suc k))) (h k (omega arith))
+
+-- ---- n rows of m entries at a slice's front
+
+module _ {A : Type 0} (f : ℕ → ℕ → A) (n m : ℕ) where
+  pub rows-more : (l k l₀ : List A) → n * m + m ≤ length l₀ → l ≡ over (flatRows f n m) l₀ → k ≡ sets l (n * m) (listBelow (f n) m) → k ≡ over (flatRows f (n + 1) m) l₀
+  unfolding flatRows
+  rows-more l k l₀ h e g =
+      g ∙ ap (λ t. sets t (n * m) (listBelow (f n) m)) e
+      ∙ joinBelow-run (λ p. listBelow (f p) m) m n (λ p u. listBelow-length (f p) m) l₀ (omega (arith, listBelow-length (f n) m))
+
+  pub rows-at : (d : A) (l old : List A) (p j : ℕ) → l ≡ over (flatRows f n m) old → p < n → j < m → getD l (p * m + j) d ≡ f p j
+  unfolding flatRows
+  rows-at d l old p j e h k =
+      ap (λ t. getD t (p * m + j) d) e
+      ∙ joinBelow-front (λ i. listBelow (f i) m) m n (λ i u. listBelow-length (f i) m) (drop (length (flatRows f n m)) old) p j d h k
+      ∙ listBelow-at (f p) m d j k
+
+pub rows-none : {A : Type 0} (f : ℕ → ℕ → A) (m : ℕ) (l : List A) → l ≡ over (flatRows f 0 m) l
+unfolding flatRows joinBelow
+rows-none f m l = refl

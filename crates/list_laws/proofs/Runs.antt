@@ -4,10 +4,10 @@ use mathlib.Core.Path.{_≡_, refl, ap, ap₂, sym, _∙_}
 use mathlib.Core.List.{List, [], _∷_, _++_}
 use native.Mathlib.Omega.{arith}
 use native.Mathlib.Nat.{suc-add, add-suc, add-zero}
-use lib.ListN.{length, getD, set, drop, length-set, length-append}
-use lib.Seq.{sets, sets-eq, getD-set-other, getD-set-same, set-getD, getD-append-add, getD-drop, drop-drop}
+use lib.ListN.{length, getD, set, drop, length-set}
+use lib.Seq.{sets, getD-set-other, getD-set-same, set-getD, getD-append-add, getD-drop}
 use Rattle.model.specs.Lists.{listBelow, over}
-use Rattle.list_laws.proofs.Built.{listBelow-none, listBelow-more, listBelow-length, over-length, over-take, over-drop, over-set}
+use Rattle.list_laws.proofs.Built.{listBelow-none, listBelow-more, listBelow-length, over-set}
 
 pub sets-append : {A : Type 0} (l : List A) (i : ℕ) (s t : List A) → sets l i (s ++ t) ≡ sets (sets l i s) (i + length s) t
 sets-append l i [] t = ap (λ (k : ℕ). sets l k t) (sym (add-zero i))
@@ -47,20 +47,6 @@ module _ {A : Type 0} where
       ap₂ (λ t y. set t (at + n) y) e v
       ∙ sets-snoc l₀ at (at + n) (listBelow f n) (f n) (ap (λ k. at + k) (sym (listBelow-length f n)))
       ∙ ap (sets l₀ at) (sym (listBelow-more f n))
-
-  -- what agrees from place a on agrees from any later place on
-  pub drop-later : (a b : ℕ) (x y : List A) → a ≤ b → drop a x ≡ drop a y → drop b x ≡ drop b y
-  drop-later a b x y h e =
-      let s : b ≡ a + (b - a) = omega arith in
-      ap (λ t. drop t x) s ∙ sym (drop-drop (b - a) a x) ∙ ap (drop (b - a)) e ∙ drop-drop (b - a) a y ∙ ap (λ t. drop t y) (sym s)
-
-  -- a run behind what stands at a slice's front
-  pub over-run : (v s old : List A) (i : ℕ) → length v ≡ i → i + length s ≤ length old → sets (over v old) i s ≡ over (v ++ s) old
-  over-run v s old i e h =
-      let n : i + length s ≡ length (v ++ s) = omega (arith, length-append v s) in
-      sets-eq s (over v old) i (omega (arith, over-length v old (omega arith)))
-      ∙ ap₂ (λ a b. a ++ s ++ b) (over-take v old i e)
-      (drop-later i (i + length s) (over v old) old (omega arith) (over-drop v old i e) ∙ ap (λ t. drop t old) n)
 
   -- what lies past the entries at a slice's front is as it was
   pub over-past : (new old : List A) (i : ℕ) (d : A) → length new ≤ i → getD (over new old) i d ≡ getD old i d

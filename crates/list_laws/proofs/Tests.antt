@@ -1,16 +1,15 @@
 -- Laws of `anyBelow`, `allBelow` and `allIn`: at n + 1, by what lies below n alone, and as facts of each number.
-use Prim.Native.Nat.{ℕ, zero, suc, _+_, _≤_, _<_}
+use Prim.Native.Nat.{ℕ, zero, suc, _+_, _<_}
 use mathlib.Core.Path.{_≡_, refl, ap, ap₂, sym, _∙_}
 use mathlib.Core.Bool.{Bool, true, false, not, _&&_, _||_, or-true, or-false, false≢true, true≢false}
-use mathlib.Core.List.{List, [], _∷_, List·Memᴰ·not-nil, List·Memᴰ·cases-cons}
-use mathlib.Core.Logic.{⊎-elim}
-use native.Mathlib.Nat.{not-suc-le-zero, eq-or-lt-of-le}
+use mathlib.Core.List.{List, [], _∷_}
+use native.Mathlib.Nat.{not-suc-le-zero}
 use native.Mathlib.Numerals.{add-one}
 use native.Mathlib.Omega.{arith}
 use lib.ListN.{length, getD}
-use Rattle.model.specs.Lists.{anyBelow, allBelow, allIn, listBelow, In}
+use Rattle.model.specs.Lists.{anyBelow, allBelow, allIn, listBelow}
 use Rattle.list_laws.proofs.Bools.{by-bool, and-left, and-right}
-use Rattle.list_laws.proofs.Below.{same-below}
+use Rattle.list_laws.proofs.Below.{same-below, last-or}
 use Rattle.list_laws.proofs.Built.{listBelow-length, listBelow-at}
 
 -- ---- anyBelow
@@ -38,9 +37,7 @@ pub anyBelow-at : (f : ℕ → Bool) (n k : ℕ) → k < n → f k ≡ true → 
 unfolding anyBelow
 anyBelow-at f zero k h e = absurd (not-suc-le-zero h)
 anyBelow-at f (suc n) k h e =
-    let g : k ≤ n = omega arith in
-    ⊎-elim (λ v. ap (λ b. anyBelow f n || b) (ap f (sym v) ∙ e) ∙ or-true (anyBelow f n))
-    (λ m. ap (λ b. b || f n) (anyBelow-at f n k m e)) (eq-or-lt-of-le g)
+    last-or h (λ v. ap (λ b. anyBelow f n || b) (ap f (sym v) ∙ e) ∙ or-true (anyBelow f n)) (λ m. ap (λ b. b || f n) (anyBelow-at f n k m e))
 
 pub anyBelow-some : (f : ℕ → Bool) (n : ℕ) → anyBelow f n ≡ true → (k : ℕ) × (k < n) × (f k ≡ true)
 unfolding anyBelow
@@ -122,13 +119,6 @@ module _ {A : Type 0} where
       (λ e. e ∙ sym (allBelow-every _ (length l) (allIn-each f d l e)))
       (λ e. e ∙ sym (by-bool (allBelow (λ k. f (getD l k d)) (length l))
       (λ v. absurd (true≢false (sym (allIn-every f d l (allBelow-each _ (length l) v)) ∙ e))) (λ v. v)))
-
--- the same of the members
-pub allIn-member : (f : ℕ → Bool) (l : List ℕ) → allIn f l ≡ true → (q : ℕ) → In q l → f q ≡ true
-unfolding allIn
-allIn-member f [] e q h = absurd (List·Memᴰ·not-nil h)
-allIn-member f (x ∷ l) e q h =
-    ⊎-elim (λ v. ap f v ∙ and-left (f x) (allIn f l) e) (λ m. allIn-member f l (and-right (f x) (allIn f l) e) q m) (List·Memᴰ·cases-cons h)
 
 -- and of a list that is given place by place
 pub allIn-listBelow : {A : Type 0} (test : A → Bool) (f : ℕ → A) (n : ℕ) → allIn test (listBelow f n) ≡ allBelow (λ j. test (f j)) n

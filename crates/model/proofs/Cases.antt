@@ -1,5 +1,6 @@
 -- The tables of `specs/Cases.antt` hold, by computation alone.
 use mathlib.Core.Path.{refl}
+use mathlib.Core.List.{flatten}
 use lib.Ieee.{add, sub, mul, div, lt, le, eq, ofBits, ofInt, neg}
 use Rattle.model.specs.Papers.Deb2002 as Deb
 use Rattle.model.specs.Lists as Lists
@@ -20,15 +21,15 @@ use Rattle.model.specs.Cases as Cases
 
 -- THE P CASES, one theorem
 pub p-cases : Cases.PCases
-unfolding add sub mul div lt le eq ofBits ofInt neg Lists.anyBelow Lists.allBelow Lists.countBelow Lists.sumBelow Lists.firstBelow Lists.lastBelow
+unfolding flatten add sub mul div lt le eq ofBits ofInt neg Lists.anyBelow Lists.allBelow Lists.sumBelow Lists.countBelow Lists.bestFrom Lists.firstBelow Lists.lastBelow
     Lists.keepBelow Lists.listBelow Lists.joinBelow Lists.allIn Lists.has Lists.keep Lists.tally Real.absolute Real.sumTo Draw.step Draw.xorLow Draw.wordOf
     Draw.drawWord Draw.unitOf Draw.drawF64 Draw.drawUsize Draw.drawI64 Draw.f64Range Draw.inTurn Numbers.grown Numbers.rootIn Numbers.wholeRoot Numbers.closer
     Numbers.nearRoot Numbers.rooted Numbers.sqrtOf Numbers.roundOf Numbers.powerUp Numbers.halfBy Numbers.halved Numbers.halvings Numbers.R Plan.planOf
     Row.rowOf Row.dominates Row.feasible Row.violation Row.constrainedDominates Row.rowBeats Row.beats Front.lower Front.freed Front.lowerAll Front.freedAll
-    Front.firstRound Front.nextRound Front.round Front.listing Front.frontOf Front.frontList Reference.tuples Reference.dasDennis Reference.binomial
-    Reference.pointCount Reference.autoDivisions Reference.divisionsOf Reference.populationSize Association.leastFrom Association.greatest Association.idealOf
-    Association.interceptOf Association.normalised Association.coordinate Association.distance Association.distanceTo Association.nearestOf
-    Association.association Kept.drawFrom Kept.nearestFrom Kept.nearest Kept.drawMember Kept.pickOne Kept.wholeFronts Kept.before Kept.isSplit
+    Front.firstRound Front.nextRound Front.round Front.frontOf Front.frontList Reference.tuples Reference.dasDennis Reference.binomial
+    Reference.pointCount Reference.autoDivisions Reference.divisionsOf Reference.populationSize Association.idealOf
+    Association.interceptOf Association.normalised Association.coordinate Association.distance Association.distanceTo 
+    Association.association Kept.drawFrom Kept.nearest Kept.drawMember Kept.pickOne Kept.wholeFronts Kept.before Kept.isSplit
     Kept.splitFront Kept.filled Kept.selectedSplit Kept.selectedWhole Kept.selected Setting.intOfWord Setting.validDimension Setting.inBounds
     Setting.sampleInt Setting.sampleRandom Setting.insert Setting.sortByParam Setting.extractOne
     Setting.spread Setting.crossFloat Setting.crossInt Setting.crossCategorical Setting.crossover Setting.mutationShift
@@ -37,7 +38,7 @@ unfolding add sub mul div lt le eq ofBits ofInt neg Lists.anyBelow Lists.allBelo
     PoolFile.poolFile PoolFile.parse PoolFile.ascii PoolFile.digitsOf PoolFile.lineText PoolFile.placeOf PoolFile.headerText PoolFile.planText
     PoolFile.listingText PoolFile.refusedText Refusal.firstOf Refusal.badDirections Refusal.badDivisions Refusal.badSessionDivisions Refusal.wholeEta
     Refusal.badOperators Refusal.badDimensions Refusal.measurable Refusal.goodPlan Refusal.goodIdeal Refusal.badPool Refusal.namedOnce Refusal.fitsDimension
-    Refusal.breedable Refusal.badParents Refusal.noRoom Refusal.selectRefusal Refusal.noStepRoom Refusal.stepRefusal Refusal.openRefusal Refusal.sampleRefusal
+    Refusal.fitsAt Refusal.breedable Refusal.badParents Refusal.noRoom Refusal.selectRefusal Refusal.noStepRoom Refusal.stepRefusal Refusal.openRefusal Refusal.sampleRefusal
     Refusal.fileRefusal Refusal.chooseRefusal Calls.selectAccepted Calls.selectOf Calls.stepAccepted Calls.stepOf Calls.openOf Calls.sampleOf Calls.chooseOf
     Calls.printed Cases.planWith Cases.requestWith Cases.fileOf Cases.exampleFile Cases.spanOfOne Cases.nearTie Cases.freedLater Cases.betterButInfeasible Cases.example
 p-cases = record {
@@ -63,15 +64,15 @@ p-cases = record {
 
 -- each trap is told from the right reading
 pub traps : Cases.Traps
-unfolding add sub mul div lt le eq ofBits ofInt neg Deb.undominatedOfRest Deb.inFirst Lists.anyBelow Lists.allBelow Lists.countBelow Lists.sumBelow
+unfolding flatten add sub mul div lt le eq ofBits ofInt neg Deb.undominatedOfRest Deb.inFirst Lists.anyBelow Lists.allBelow Lists.sumBelow Lists.countBelow Lists.bestFrom
     Lists.firstBelow Lists.lastBelow Lists.keepBelow Lists.listBelow Lists.joinBelow Lists.allIn Lists.has Lists.keep Lists.tally Real.absolute Real.sumTo
     Draw.step Draw.xorLow Draw.wordOf Draw.drawWord Draw.unitOf Draw.drawF64 Draw.drawUsize Draw.drawI64 Draw.f64Range Draw.inTurn Numbers.grown Numbers.rootIn
     Numbers.wholeRoot Numbers.closer Numbers.nearRoot Numbers.rooted Numbers.sqrtOf Numbers.roundOf Numbers.powerUp Numbers.halfBy Numbers.halved
     Numbers.halvings Numbers.R Plan.planOf Row.rowOf Row.dominates Row.feasible Row.violation Row.constrainedDominates Row.rowBeats Row.beats Front.lower
-    Front.freed Front.lowerAll Front.freedAll Front.firstRound Front.nextRound Front.round Front.listing Front.frontOf Front.frontList Reference.tuples
-    Reference.dasDennis Reference.binomial Reference.pointCount Reference.autoDivisions Reference.divisionsOf Reference.populationSize Association.leastFrom
-    Association.greatest Association.idealOf Association.interceptOf Association.normalised Association.coordinate Association.distance Association.distanceTo
-    Association.nearestOf Association.association Kept.drawFrom Kept.nearestFrom Kept.nearest Kept.drawMember Kept.pickOne Kept.wholeFronts
+    Front.freed Front.lowerAll Front.freedAll Front.firstRound Front.nextRound Front.round Front.frontOf Front.frontList Reference.tuples
+    Reference.dasDennis Reference.binomial Reference.pointCount Reference.autoDivisions Reference.divisionsOf Reference.populationSize 
+    Association.idealOf Association.interceptOf Association.normalised Association.coordinate Association.distance Association.distanceTo
+    Association.association Kept.drawFrom Kept.nearest Kept.drawMember Kept.pickOne Kept.wholeFronts
     Kept.before Kept.isSplit Kept.splitFront Kept.filled Kept.selectedSplit Kept.selectedWhole Kept.selected Setting.intOfWord
     Setting.validDimension Setting.inBounds Setting.sampleInt Setting.sampleRandom Setting.insert Setting.sortByParam
     Setting.extractOne Setting.spread Setting.crossFloat Setting.crossInt Setting.crossCategorical
@@ -80,7 +81,7 @@ unfolding add sub mul div lt le eq ofBits ofInt neg Deb.undominatedOfRest Deb.in
     PoolFile.many PoolFile.plan PoolFile.poolFile PoolFile.parse PoolFile.ascii PoolFile.digitsOf PoolFile.lineText PoolFile.placeOf PoolFile.headerText
     PoolFile.planText PoolFile.listingText PoolFile.refusedText Refusal.firstOf Refusal.badDirections Refusal.badDivisions Refusal.badSessionDivisions
     Refusal.wholeEta Refusal.badOperators Refusal.badDimensions Refusal.measurable Refusal.goodPlan Refusal.goodIdeal Refusal.badPool Refusal.namedOnce
-    Refusal.fitsDimension Refusal.breedable Refusal.badParents Refusal.noRoom Refusal.selectRefusal Refusal.noStepRoom Refusal.stepRefusal Refusal.openRefusal
+    Refusal.fitsDimension Refusal.fitsAt Refusal.breedable Refusal.badParents Refusal.noRoom Refusal.selectRefusal Refusal.noStepRoom Refusal.stepRefusal Refusal.openRefusal
     Refusal.sampleRefusal Refusal.fileRefusal Refusal.chooseRefusal Calls.selectAccepted Calls.selectOf Calls.stepAccepted Calls.stepOf Calls.openOf
     Calls.sampleOf Calls.chooseOf Calls.printed Cases.planWith Cases.requestWith Cases.fileOf Cases.exampleFile Cases.spanOfOne Cases.nearTie Cases.freedLater
     Cases.betterButInfeasible Cases.example

@@ -1,9 +1,10 @@
 -- Document 01, "Association": the ideal, the intercepts, the normalised rows, the distances and the nearest lines of a pool.
-use Prim.Native.Nat.{ℕ, zero, suc}
+use Prim.Native.Nat.{ℕ}
 use mathlib.Core.Bool.{Bool, true, cond}
 use mathlib.Core.List.{List, []}
 use lib.Ieee.{Float, nan, inf, binary64, lt, ofBits}
 use lib.ListN.{length, getD}
+use Rattle.model.specs.Lists.{bestFrom}
 use Rattle.model.specs.Real.{_⊖_, _⊗_, _⊘_, unit, infinity, sumTo}
 use Rattle.model.specs.Numbers.{sqrtOf, square}
 use Rattle.model.specs.Plan.{Plan}
@@ -43,14 +44,12 @@ dominance r = beats (r .marks) (r .plans)
 -- ---- the scale
 
 -- the smaller of b and the least of f 0 .. f (n - 1); b stands where they are equal, and else the first met
-unfoldable pub leastFrom : Float → (ℕ → Float) → ℕ → Float
-leastFrom b f zero = b
-leastFrom b f (suc n) = let l = leastFrom b f n in cond (lt (f n) l) (f n) l
+abbrev pub leastFrom : Float → (ℕ → Float) → ℕ → Float
+leastFrom b f n = bestFrom lt b f n
 
 -- the greatest of f 0 .. f (n - 1)
-unfoldable pub greatest : (ℕ → Float) → ℕ → Float
-greatest f zero = inf true
-greatest f (suc n) = let g = greatest f n in cond (lt g (f n)) (f n) g
+abbrev pub greatest : (ℕ → Float) → ℕ → Float
+greatest f n = bestFrom (λ x g. lt g x) (inf true) f n
 
 -- "the ideal becomes, per objective, the smaller of itself and the pool's least"
 unfoldable pub idealOf : Request → ℕ → Float
@@ -106,9 +105,8 @@ abbrev pub near : ℕ → Float → Near
 near l d = record { line = l; distance = d }
 
 -- "First strictly smaller distance wins, from line 0", among the first n lines
-unfoldable pub nearestOf : (ℕ → Float) → ℕ → Near
-nearestOf d zero = near 0 infinity
-nearestOf d (suc n) = let b = nearestOf d n in let here = d n in cond (lt here (b .distance)) (near n here) b
+abbrev pub nearestOf : (ℕ → Float) → ℕ → Near
+nearestOf d n = bestFrom (λ x y. lt (x .distance) (y .distance)) (near 0 infinity) (λ l. near l (d l)) n
 
 -- the line that plan p is associated with, and its distance from it
 unfoldable pub association : Request → ℕ → Near

@@ -3,11 +3,10 @@
 use Prim.Native.Nat.{ℕ, _≤_}
 use mathlib.Core.Path.{_≡_}
 use mathlib.Core.Bool.{true}
-use mathlib.Core.List.{List}
+use mathlib.Core.List.{List, []}
 use mathlib.Core.Option.{Option, none, some}
 use lib.Ieee.{Float}
-use lib.ListN.{length, getD, take}
-use Rattle.model.specs.declared.DimensionInfo.{DimensionInfo}
+use lib.ListN.{length, take}
 use Rattle.model.specs.declared.Distribution.{Distribution}
 use Rattle.model.specs.declared.OptionUsize.{OptionUsize}
 use Rattle.model.specs.declared.Rng.{Rng}
@@ -15,6 +14,7 @@ use Rattle.model.specs.declared.Outcome.{Outcome}
 use Rattle.model.specs.declared.Outcome.the-variants as outcome
 use Rattle.model.specs.declared.Selection.{Selection}
 use Rattle.model.specs.declared.Session.{Session}
+use Rattle.model.specs.declared.Opening.{Opening}
 use Rattle.model.specs.declared.Opening.the-variants as opening
 use Rattle.model.specs.declared.Opened.{Opened}
 use Rattle.model.specs.declared.Sampling.{Sampling}
@@ -26,9 +26,9 @@ use Rattle.model.specs.Plan.{planAt, planCount}
 use Rattle.model.specs.Association.{Request}
 use Rattle.model.specs.Kept.{selected}
 use Rattle.model.specs.Demand3.{Demand3}
-use Rattle.model.specs.Setting.{Operators, generation, wordsOf, WordsWithin}
-use Rattle.model.specs.Session.{State, Answered, noDimension, given, opened, blank, accepted, state, breeds, requestOf, operatorsOf}
-use Rattle.model.specs.PoolFile.{PoolFile, parse, fileRequest, fileText, refusedText}
+use Rattle.model.specs.Setting.{Operators, Generation, generation, wordsOf, WordsWithin}
+use Rattle.model.specs.Session.{State, Answered, given, opened, blank, accepted, state, breeds, requestOf, operatorsOf}
+use Rattle.model.specs.PoolFile.{PoolFile, parse, fileRequest, listingText, fileText, refusedText}
 use Rattle.model.specs.Refusal.{Room, selectRefusal, stepRefusal, openRefusal, sampleRefusal, chooseRefusal}
 use Rattle.model.specs.Property.{SessionOk}
 
@@ -37,6 +37,10 @@ use Rattle.model.specs.Property.{SessionOk}
 abbrev pub refusedBy : Outcome → Option ℕ
 refusedBy (outcome.Kept n) = none
 refusedBy (outcome.Refused n) = some n
+
+abbrev pub openingRefusedBy : Opening → Option ℕ
+openingRefusedBy opening.Ready = none
+openingRefusedBy (opening.Refused n) = some n
 
 abbrev pub samplingRefusedBy : Sampling → Option ℕ
 samplingRefusedBy (sampling.Setting v) = none
@@ -49,7 +53,12 @@ chosenRefusedBy (chosen.Refused n) = some n
 -- the list that an answer hands out of a lent slice
 abbrev pub handedOut : Outcome → List ℕ → List ℕ
 handedOut (outcome.Kept n) kept = take n kept
-handedOut (outcome.Refused n) kept = take 0 kept
+handedOut (outcome.Refused n) kept = []
+
+-- and the text that an answer of `choose` does
+abbrev pub textHandedOut : Chosen → List ℕ → List ℕ
+textHandedOut (chosen.Written n) out = take n out
+textHandedOut (chosen.Refused n) out = []
 
 -- ---- `nsga3_select`
 
@@ -89,7 +98,7 @@ unfoldable pub selectAccepted : Request → Lent → SelectExit
 selectAccepted r at =
     let sel = selected r in
     record {
-      answer = answered (outcome.Kept (r .size)) (sel .state);
+      answer = answered (outcome.Kept (length (sel .kept))) (sel .state);
       ideal = sel .ideal;
       slices = lent (over (sel .kept) (at .kept)) (over (sel .fronts) (at .fronts)) (over (sel .lines) (at .lines));
     }
@@ -104,18 +113,10 @@ selectOf r at = selectBy (selectRefusal r (roomOf at)) r at
 -- THE PROMISE of `nsga3_select`
 pub record Selects (r : Request) (entry : Lent) (exit : SelectExit) : Type 0 where
   pub whole : exit ≡ selectOf r entry
+  pub refused : refusedBy (exit .answer .outcome) ≡ selectRefusal r (roomOf entry)
   pub demand3 : selectRefusal r (roomOf entry) ≡ none → r .size ≤ r .count → Demand3 r (handedOut (exit .answer .outcome) (exit .slices .kept))
 
 -- ---- `nsga3_generate_offspring`
-
-abbrev pub operators : List DimensionInfo → ℕ → Float → Float → Float → Operators
-operators infos n probability crossoverEta mutationEta = record {
-  dims = λ d. getD infos d noDimension .distribution;
-  dimCount = n;
-  probability = probability;
-  crossoverEta = crossoverEta;
-  mutationEta = mutationEta;
-}
 
 pub record StepExit : Type 0 where
   pub answer : Selection
@@ -123,20 +124,21 @@ pub record StepExit : Type 0 where
   pub slices : Lent
   pub offspring : List ℕ
 
+abbrev pub stepExit : Selection → List Float → Lent → List ℕ → StepExit
+stepExit answer ideal slices offspring = record { answer = answer; ideal = ideal; slices = slices; offspring = offspring }
+
+-- what a generation leaves in the lent slices
+abbrev pub generationExit : Generation → Lent → List ℕ → StepExit
+generationExit g at offspring =
+    stepExit (answered (outcome.Kept (length (g .kept))) (g .state)) (g .ideal)
+    (lent (over (g .kept) (at .kept)) (over (g .fronts) (at .fronts)) (over (g .lines) (at .lines))) (over (wordsOf (g .offspring)) offspring)
+
 unfoldable pub stepAccepted : Operators → Request → Lent → List ℕ → StepExit
-stepAccepted o r at offspring =
-    let g = generation o r in
-    record {
-      answer = answered (outcome.Kept (length (g .kept))) (g .state);
-      ideal = g .ideal;
-      slices = lent (over (g .kept) (at .kept)) (over (g .fronts) (at .fronts)) (over (g .lines) (at .lines));
-      offspring = over (wordsOf (g .offspring)) offspring;
-    }
+stepAccepted o r at offspring = generationExit (generation o r) at offspring
 
 abbrev pub stepBy : Option ℕ → Operators → Request → Lent → List ℕ → StepExit
 stepBy none o r at offspring = stepAccepted o r at offspring
-stepBy (some n) o r at offspring =
-    record { answer = answered (outcome.Refused n) (r .state); ideal = r .ideal; slices = at; offspring = offspring }
+stepBy (some n) o r at offspring = stepExit (answered (outcome.Refused n) (r .state)) (r .ideal) at offspring
 
 unfoldable pub stepOf : Operators → Request → Lent → List ℕ → StepExit
 stepOf o r at offspring = stepBy (stepRefusal o r (roomOf at) (length offspring)) o r at offspring
@@ -144,6 +146,7 @@ stepOf o r at offspring = stepBy (stepRefusal o r (roomOf at) (length offspring)
 -- THE PROMISE of `nsga3_generate_offspring`; it selects from a pool of two plans on, and hands out no setting outside its bounds
 pub record Steps (o : Operators) (r : Request) (entry : Lent) (offspring : List ℕ) (exit : StepExit) : Type 0 where
   pub whole : exit ≡ stepOf o r entry offspring
+  pub refused : refusedBy (exit .answer .outcome) ≡ stepRefusal o r (roomOf entry) (length offspring)
   pub demand3 : stepRefusal o r (roomOf entry) (length offspring) ≡ none → 2 ≤ r .count → r .size ≤ r .count
       → Demand3 r (handedOut (exit .answer .outcome) (exit .slices .kept))
   pub bounds : stepRefusal o r (roomOf entry) (length offspring) ≡ none → WordsWithin (o .dims) (o .dimCount) (r .size) (exit .offspring)
@@ -162,6 +165,7 @@ openOf directions seed size divisions probability crossoverEta mutationEta =
 -- THE PROMISE of `open`: a session that is opened has the session property, whatever the slices hold that are lent with it
 pub record Opens (directions : List ℕ) (seed : ℕ) (size divisions : OptionUsize) (probability crossoverEta mutationEta : Float) (r : Opened) : Type 0 where
   pub whole : r ≡ openOf directions seed size divisions probability crossoverEta mutationEta
+  pub refused : openingRefusedBy (r .outcome) ≡ openRefusal directions (given size) (given divisions) probability crossoverEta mutationEta
   pub gives : openRefusal directions (given size) (given divisions) probability crossoverEta mutationEta ≡ none
       → (candidates plans nextDims : List ℕ) → SessionOk (state (r .session) candidates plans nextDims)
 
@@ -171,8 +175,12 @@ pub record SampleExit : Type 0 where
   pub answer : Sampling
   pub after : State
 
+-- what an accepted call leaves
+abbrev pub settled : Answered → SampleExit
+settled a = record { answer = sampling.Setting (a .setting); after = a .after }
+
 abbrev pub sampleBy : Option ℕ → State → Answered → SampleExit
-sampleBy none st a = record { answer = sampling.Setting (a .setting); after = a .after }
+sampleBy none st a = settled a
 sampleBy (some n) st a = record { answer = sampling.Refused n; after = st }
 
 unfoldable pub sampleOf : State → Distribution → ℕ → List ℕ → SampleExit
@@ -181,6 +189,7 @@ sampleOf st d plan history = sampleBy (sampleRefusal st d plan history) st (acce
 -- THE PROMISE of `sample`, for a state with the session property. Where it breeds, its list is selection's.
 pub record Samples (st : State) (d : Distribution) (plan : ℕ) (history : List ℕ) (exit : SampleExit) : Type 0 where
   pub whole : exit ≡ sampleOf st d plan history
+  pub refused : samplingRefusedBy (exit .answer) ≡ sampleRefusal st d plan history
   pub keeps : SessionOk (exit .after)
   pub demand3 : sampleRefusal st d plan history ≡ none → breeds st history ≡ true
       → Demand3 (requestOf st history) (generation (operatorsOf (st .session)) (requestOf st history) .kept)
@@ -191,9 +200,9 @@ pub record ChooseExit : Type 0 where
   pub answer : Chosen
   pub out : List ℕ
 
--- the text that is printed for a file: the listing, or `refused N`
+-- the listing of a file that is in good form; one that is not is refused and has none
 abbrev pub textOf : Option PoolFile → List ℕ
-textOf none = refusedText 1
+textOf none = []
 textOf (some f) = fileText f
 
 abbrev pub chooseBy : Option ℕ → List ℕ → List ℕ → ChooseExit
@@ -215,8 +224,11 @@ maxText = 20501
 unfoldable pub printed : List ℕ → List ℕ
 printed bytes = printedBy (chooseRefusal bytes maxText) (textOf (parse bytes))
 
--- THE PROMISE of `choose`
+-- THE PROMISE of `choose`: the text that it hands out is the listing of a selection, and that selection's kept list meets demand 3
 pub record Chooses (bytes entry : List ℕ) (exit : ChooseExit) : Type 0 where
   pub whole : exit ≡ chooseOf bytes entry
+  pub refused : chosenRefusedBy (exit .answer) ≡ chooseRefusal bytes (length entry)
+  pub listing : chooseRefusal bytes (length entry) ≡ none → (f : PoolFile) → parse bytes ≡ some f
+      → textHandedOut (exit .answer) (exit .out) ≡ listingText (f .count) (selected (fileRequest f))
   pub demand3 : chooseRefusal bytes (length entry) ≡ none → (f : PoolFile) → parse bytes ≡ some f → f .size ≤ f .count
       → Demand3 (fileRequest f) (selected (fileRequest f) .kept)

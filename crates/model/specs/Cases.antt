@@ -3,7 +3,7 @@
 use Prim.Native.Nat.{ℕ, zero, suc}
 use mathlib.Core.Path.{_≡_}
 use mathlib.Core.Bool.{Bool, true, false, cond}
-use mathlib.Core.List.{List, [], _∷_, _++_}
+use mathlib.Core.List.{List, [], _∷_, map, flatten}
 use lib.Ieee.{Float, binary64, ofBits}
 use lib.ListN.{length, getD}
 use Rattle.model.specs.declared.ParamValue.the-variants as value
@@ -13,7 +13,7 @@ use Rattle.model.specs.Lists.{keepBelow}
 use Rattle.model.specs.Real.{nought, half, unit, infinity, _⊘_}
 use Rattle.model.specs.Draw.{drawn, step, drawWord}
 use Rattle.model.specs.Numbers.{roundOf, R}
-use Rattle.model.specs.Plan.{Plan, Setting}
+use Rattle.model.specs.Plan.{Plan, Setting, measuredPlan}
 use Rattle.model.specs.Row.{dominates, feasible, constrainedDominates}
 use Rattle.model.specs.Front.{front, frontOf}
 use Rattle.model.specs.Papers.Deb2002.{inFront}
@@ -41,15 +41,7 @@ abbrev pub rowFrom : List Float → ℕ → Float
 rowFrom row j = getD row j nought
 
 unfoldable pub planWith : List Float → List Float → Plan
-planWith row constraints = record {
-  number = 0;
-  rowLength = length row;
-  row = row;
-  constraintCount = length constraints;
-  constraints = constraints;
-  settingCount = 0;
-  settings = [];
-}
+planWith row constraints = measuredPlan (length row) row (length constraints) constraints
 
 -- a selection that minimises both of two objectives
 unfoldable pub requestWith : ℕ → ℕ → List Plan → Request
@@ -65,8 +57,7 @@ requestWith divisions size plans = record {
 
 -- the bytes of a file of numbers
 unfoldable pub fileOf : List ℕ → List ℕ
-fileOf [] = []
-fileOf (n ∷ ns) = written n ++ fileOf ns
+fileOf ns = flatten (map written ns)
 
 -- "For m 2, H 1, size 2, three plans, seed 5, both minimised, rows (0,0), (1,3), (4,1), no constraints"
 unfoldable pub exampleFile : List ℕ

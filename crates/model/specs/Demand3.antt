@@ -45,9 +45,12 @@ finalCount r list l = nicheCount (lineOf r) list l
 abbrev pub fillingCount : Request → ℕ → List ℕ → ℕ → ℕ
 fillingCount r k filling l = countBelow (λ p. inFirst r k p && eqb (lineOf r p) l) (r .count) + finalCount r filling l
 
--- "the sum of the squared final niche counts, over all reference lines"
+-- "the sum of the squared final niche counts, over all reference lines"; over the first so many lines
+abbrev pub sumSquares : ℕ → (ℕ → ℕ) → ℕ
+sumSquares lines counts = sumBelow (λ l. counts l * counts l) lines
+
 abbrev pub sumOfSquares : Request → (ℕ → ℕ) → ℕ
-sumOfSquares r counts = sumBelow (λ l. counts l * counts l) (lineCount r)
+sumOfSquares r counts = sumSquares (lineCount r) counts
 
 -- "A line is served if a kept plan of the split front is associated with it, and has a plan waiting if a dropped plan of that front is."
 pub record Served (r : Request) (k : ℕ) (list : List ℕ) (l : ℕ) : Type 0 where

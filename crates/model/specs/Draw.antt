@@ -45,7 +45,7 @@ drawUsize n s = let d = drawWord s in drawn (d .value % n) (d .state)
 unfoldable pub drawI64 : ℤ → ℤ → ℕ → Drawn ℤ
 drawI64 a b s = let d = drawWord s in drawn (a +ℤ pos (d .value % natAbs (b -ℤ a +ℤ pos 1))) (d .state)
 
--- "`f64_range`: low + draw × (high - low), each operation rounded"
+-- "`f64_range` ..: low + draw × (high - low), each operation rounded"
 unfoldable pub f64Range : Float → Float → ℕ → Drawn Float
 f64Range low high s = let d = drawF64 s in drawn (low ⊕ (d .value ⊗ (high ⊖ low))) (d .state)
 

@@ -3,7 +3,7 @@ use Prim.Native.Nat.{ℕ, zero, suc, _-_}
 use mathlib.Core.Bool.{Bool, _&&_}
 use mathlib.Core.List.{List, [], _∷_, _++_}
 use lib.Dec.{eqb}
-use Rattle.model.specs.Lists.{one, countBelow, keepBelow, firstBelow, listBelow, has}
+use Rattle.model.specs.Lists.{one, countBelow, keepBelow, firstBelow, listBelow, joinBelow, has}
 
 -- a front, and for each plan how many of its dominators no front before this one holds
 pub record Round : Type 0 where
@@ -49,9 +49,8 @@ abbrev pub front : (ℕ → ℕ → Bool) → ℕ → ℕ → List ℕ
 front d n k = round d n k .members
 
 -- the first k fronts, one after the other
-unfoldable pub listing : (ℕ → ℕ → Bool) → ℕ → ℕ → List ℕ
-listing d n zero = []
-listing d n (suc k) = listing d n k ++ front d n k
+abbrev pub listing : (ℕ → ℕ → Bool) → ℕ → ℕ → List ℕ
+listing d n k = joinBelow (front d n) k
 
 -- the front that plan p is in, and that of each plan
 unfoldable pub frontOf : (ℕ → ℕ → Bool) → ℕ → ℕ → ℕ

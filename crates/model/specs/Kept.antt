@@ -1,11 +1,11 @@
 -- Document 01, "Kept list".
 use Prim.Native.Nat.{ℕ, zero, suc, _-_, _^_}
-use mathlib.Core.Bool.{Bool, true, false, cond, not, _&&_}
-use mathlib.Core.List.{List, [], _∷_, _++_, map}
+use mathlib.Core.Bool.{Bool, true, false, not, _&&_}
+use mathlib.Core.List.{List, _++_, map}
 use lib.Dec.{eqb, leb, ltb}
 use lib.Ieee.{Float, lt}
 use lib.ListN.{length, getD, replicate}
-use Rattle.model.specs.Lists.{listBelow, keepBelow, firstBelow, allIn, has, keep, tally}
+use Rattle.model.specs.Lists.{bestFrom, listBelow, keepBelow, firstBelow, allIn, has, keep, tally}
 use Rattle.model.specs.Draw.{Drawn, drawn, drawUsize, drawAll}
 use Rattle.model.specs.Front.{front, listing, frontList}
 use Rattle.model.specs.Association.{Request, objectives, lineCount, dominance, idealOf, association, lineOf}
@@ -33,14 +33,9 @@ leastLines counts candidates = keep (λ l. allIn (λ k. leb (counts l) (counts k
 unfoldable pub drawFrom : List ℕ → ℕ → Drawn ℕ
 drawFrom list s = let d = drawUsize (length list) s in drawn (getD list (d .value) 0) (d .state)
 
--- the nearest of `best` and the plans after it, the first listed on a tie
-unfoldable pub nearestFrom : (ℕ → Float) → ℕ → List ℕ → ℕ
-nearestFrom distance best [] = best
-nearestFrom distance best (p ∷ ps) = nearestFrom distance (cond (lt (distance p) (distance best)) p best) ps
-
+-- the nearest of a list, the first listed on a tie
 unfoldable pub nearest : (ℕ → Float) → List ℕ → ℕ
-nearest distance [] = 0
-nearest distance (p ∷ ps) = nearestFrom distance p ps
+nearest distance ps = bestFrom (λ p q. lt (distance p) (distance q)) (getD ps 0 0) (λ i. getD ps i 0) (length ps)
 
 -- "at count 0 take the nearest member, first listed on a tie, else draw a member in listed order"
 unfoldable pub drawMember : (ℕ → Float) → ℕ → List ℕ → ℕ → Drawn ℕ

@@ -3,7 +3,7 @@ use Prim.Native.Nat.{ℕ, zero, suc, _+_}
 use mathlib.Core.Bool.{Bool, true, false, cond, _&&_, _||_}
 use mathlib.Core.List.{List, [], _∷_, _++_, List·Memᴰ, List·Nodup}
 use lib.Dec.{eqb, ltb}
-use lib.ListN.{length, drop}
+use lib.ListN.{length, getD, drop}
 
 -- ---- the numbers below n
 
@@ -21,15 +21,14 @@ unfoldable pub allBelow : (ℕ → Bool) → ℕ → Bool
 allBelow f zero = true
 allBelow f (suc n) = allBelow f n && f n
 
--- how many numbers below n pass
-unfoldable pub countBelow : (ℕ → Bool) → ℕ → ℕ
-countBelow f zero = 0
-countBelow f (suc n) = countBelow f n + one (f n)
-
 -- f 0 + .. + f (n - 1)
 unfoldable pub sumBelow : (ℕ → ℕ) → ℕ → ℕ
 sumBelow f zero = 0
 sumBelow f (suc n) = sumBelow f n + f n
+
+-- how many numbers below n pass
+unfoldable pub countBelow : (ℕ → Bool) → ℕ → ℕ
+countBelow f n = sumBelow (λ t. one (f t)) n
 
 -- the first number below n that passes; n if none does
 unfoldable pub firstBelow : (ℕ → Bool) → ℕ → ℕ
@@ -57,6 +56,11 @@ module _ {A : Type 0} where
   joinBelow f zero = []
   joinBelow f (suc n) = joinBelow f n ++ f n
 
+  -- The best of b and f 0, .., f (n - 1), where `beats x y` says that x takes the place of y: of equals the first met.
+  unfoldable pub bestFrom : (A → A → Bool) → A → (ℕ → A) → ℕ → A
+  bestFrom beats b f zero = b
+  bestFrom beats b f (suc n) = let so-far = bestFrom beats b f n in cond (beats (f n) so-far) (f n) so-far
+
   -- every entry passes
   unfoldable pub allIn : (A → Bool) → List A → Bool
   allIn f [] = true
@@ -75,6 +79,10 @@ In p list = List·Memᴰ p list
 unfoldable pub has : List ℕ → ℕ → Bool
 has [] p = false
 has (q ∷ qs) p = eqb q p || has qs p
+
+-- the first place of p in a list; the list's length where it has none
+abbrev pub placeIn : List ℕ → ℕ → ℕ
+placeIn list p = firstBelow (λ i. eqb (getD list i 0) p) (length list)
 
 -- no number is listed twice
 abbrev pub Distinct : List ℕ → Type 0

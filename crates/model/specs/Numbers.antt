@@ -10,10 +10,11 @@ use Rattle.model.specs.Real.{_⊕_, _⊗_, _⊘_, real, nought, two}
 -- A finite double is a whole number n of units, 2 ^ -1074 each. In units its root is the root of n * 2 ^ 1074, a number of 538 binary digits or more,
 -- of which a double keeps the 53 leading ones.
 
--- The largest q with q * q ≤ n, for an n below 4 ^ i: twice that of n / 4, or one more.
+-- from the root r of n / 4 to that of n: one binary digit more, which is 1 if its square is not beyond n
 unfoldable pub grown : ℕ → ℕ → ℕ
 grown n r = cond (leb ((r + r + 1) * (r + r + 1)) n) (r + r + 1) (r + r)
 
+-- the largest q with q * q ≤ n, for an n below 4 ^ i
 unfoldable pub rootIn : ℕ → ℕ → ℕ
 unfolding grown
 rootIn zero n = 0
@@ -79,7 +80,7 @@ powerUp y (suc j) = powerUp y j ⊗ y
 abbrev pub P : Float → ℕ → Float
 P y k = powerUp y (k - 1)
 
--- ---- "R(0, k) = 0. For other v, R(v, k) is found by halving over bit patterns, lower end 0, upper end 2^52, middle rounded down,
+-- ---- "R(0, k) = 0. For other v, .. R(v, k) is found by halving over bit patterns, lower end 0, upper end 2^52, middle rounded down,
 -- keeping P(lower) <= v < P(upper), until the ends are neighbours; the lower is R."
 
 -- two bit patterns of doubles from 0 on

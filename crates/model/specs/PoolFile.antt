@@ -7,9 +7,9 @@ use mathlib.Core.List.{List, [], _∷_, _++_, map}
 use mathlib.Core.Option.{Option, none, some}
 use lib.Dec.{eqb, leb, ltb}
 use lib.ListN.{length, getD, replicate}
-use Rattle.model.specs.Lists.{firstBelow, listBelow, joinBelow}
+use Rattle.model.specs.Lists.{placeIn, listBelow, joinBelow}
 use Rattle.model.specs.Real.{real, infinity}
-use Rattle.model.specs.Plan.{Plan}
+use Rattle.model.specs.Plan.{Plan, measuredPlan}
 use Rattle.model.specs.Association.{Request}
 use Rattle.model.specs.Kept.{Selected, selected, noLine}
 
@@ -81,15 +81,7 @@ plan m = do
   values ← many m number
   c ← number
   constraints ← many c number
-  pure (record {
-    number = 0;
-    rowLength = m;
-    row = map real values;
-    constraintCount = c;
-    constraints = map real constraints;
-    settingCount = 0;
-    settings = [];
-  })
+  pure (measuredPlan m (map real values) c (map real constraints))
 
 unfoldable pub poolFile : Reader PoolFile
 poolFile = do
@@ -121,7 +113,7 @@ parse bytes = cond (leb (length bytes) maxFile) (wholly (poolFile bytes)) none
 -- ---- the selection that a pool file asks for
 
 abbrev pub noPlan : Plan
-noPlan = record { number = 0; rowLength = 0; row = []; constraintCount = 0; constraints = []; settingCount = 0; settings = [] }
+noPlan = measuredPlan 0 [] 0 []
 
 -- "The ideal starts at infinity."
 abbrev pub fileRequest : PoolFile → Request
@@ -155,9 +147,9 @@ lineText l = cond (eqb l noLine) (ascii "-") (decimal l)
 
 -- "place of first keeping from 1 (0 if dropped)"
 unfoldable pub placeOf : List ℕ → ℕ → ℕ
-placeOf kept p = let i = firstBelow (λ i. eqb (getD kept i 0) p) (length kept) in cond (ltb i (length kept)) (suc i) 0
+placeOf kept p = let i = placeIn kept p in cond (ltb i (length kept)) (suc i) 0
 
--- "a header with the plan count and the kept list's length, then per plan its index, front, line, place"; each line ends in one newline
+-- "a header with the plan count and the kept list's length, then per plan its index, front, line .., place .."; each line ends in one newline
 unfoldable pub headerText : ℕ → ℕ → List ℕ
 headerText count kept = ascii "plans " ++ (decimal count ++ (ascii " kept " ++ (decimal kept ++ ascii "\n")))
 

@@ -9,10 +9,10 @@ use Rattle.model.specs.declared.Phase.{Phase}
 use Rattle.model.specs.declared.Phase.the-variants.{Discovery, Active}
 use Rattle.model.specs.declared.Config.{Config}
 use Rattle.model.specs.declared.Session.{Session}
-use Rattle.model.specs.Plan.{maxSettings}
-use Rattle.model.specs.Setting.{validDimension, WordsWithin}
-use Rattle.model.specs.Session.{State, dimensionOf, longEnough, maxPlans}
-use Rattle.model.specs.Refusal.{badDirections, badDivisions, badOperators, goodIdeal, maxSize}
+use Rattle.model.specs.Lists.{Distinct}
+use Rattle.model.specs.Setting.{WordsWithin}
+use Rattle.model.specs.Session.{State, dimensionOf, plansOf, longEnough, maxCome}
+use Rattle.model.specs.Refusal.{badDirections, badDivisions, badOperators, badDimensions, goodIdeal, maxSize}
 
 -- what opening settled is within document 01's limits
 pub record ConfigOk (c : Config) : Type 0 where
@@ -22,11 +22,6 @@ pub record ConfigOk (c : Config) : Type 0 where
   pub atLeast4 : 4 ≤ c .«population_size»
   pub atMost : c .«population_size» ≤ maxSize
   pub operators : badOperators (c .«crossover_prob») (c .«crossover_eta») (c .«mutation_eta») ≡ false
-
--- at most 32 dimensions are entered, each within its limits
-pub record DimensionsOk (s : Session) : Type 0 where
-  pub few : s .progress .«n_dims» ≤ maxSettings
-  pub valid : (d : ℕ) → d < s .progress .«n_dims» → validDimension (dimensionOf s d) ≡ true
 
 -- in discovery a first plan is known exactly if a dimension is entered, and there is neither a candidate nor a plan
 abbrev pub KnownBy : OptionU64 → ℕ → Type 0
@@ -42,7 +37,7 @@ pub record DiscoveryOk (s : Session) : Type 0 where
 pub record ActiveOk (s : Session) : Type 0 where
   pub someDimension : 1 ≤ s .progress .«n_dims»
   pub candidates : s .progress .«n_candidates» ≡ max (s .config .«population_size») (s .progress .«n_plans»)
-  pub room : s .progress .«n_plans» ≤ maxPlans
+  pub room : s .progress .«n_plans» ≤ maxCome
 
 abbrev pub PhaseOk : Phase → Session → Type 0
 PhaseOk Discovery s = DiscoveryOk s
@@ -50,7 +45,7 @@ PhaseOk Active s = ActiveOk s
 
 -- what the lent slices hold: plan numbers that differ, no plan past the last dimension, and settings within their dimensions' bounds
 pub record LentOk (st : State) : Type 0 where
-  pub different : (i j : ℕ) → i < j → j < st .session .progress .«n_plans» → getD (st .plans) i 0 ≡ getD (st .plans) j 0 → ⊥
+  pub different : Distinct (plansOf st)
   pub next : (i : ℕ) → i < st .session .progress .«n_plans» → getD (st .nextDims) i 0 ≤ st .session .progress .«n_dims»
   pub settings : WordsWithin (dimensionOf (st .session)) (st .session .progress .«n_dims») (st .session .progress .«n_candidates») (st .candidates)
 
@@ -58,7 +53,8 @@ pub record LentOk (st : State) : Type 0 where
 -- leaves all as it was.
 pub record SessionOk (st : State) : Type 0 where
   pub config : ConfigOk (st .session .config)
-  pub dimensions : DimensionsOk (st .session)
+  -- at most 32 dimensions are entered, each within its limits
+  pub dimensions : badDimensions (dimensionOf (st .session)) (st .session .progress .«n_dims») ≡ false
   pub phase : PhaseOk (st .session .phase) (st .session)
   pub ideal : goodIdeal (st .session .config .«n_obj») (take (st .session .config .«n_obj») (st .session .«ideal_point»)) ≡ true
   pub lent : longEnough st ≡ true → LentOk st

@@ -10,11 +10,11 @@ use lib.ListN.{length, getD}
 use Rattle.model.specs.declared.Distribution.{Distribution}
 use Rattle.model.specs.Lists.{allBelow, allIn}
 use Rattle.model.specs.Real.{nought, unit, within}
-use Rattle.model.specs.Plan.{Plan, Setting, planCount, maxConstraints, maxSettings}
+use Rattle.model.specs.Plan.{Plan, Setting, planCount, maxObjectives, maxConstraints, maxSettings}
 use Rattle.model.specs.Reference.{pointCount, divisionsOf}
 use Rattle.model.specs.Association.{Request, objectives}
-use Rattle.model.specs.Setting.{kindOfDimension, ofWord, validDimension, inBounds, sortByParam, noSetting, Operators}
-use Rattle.model.specs.Session.{State, discovers, breeds, longEnough, isNew, maxPlans, requestOf, operatorsOf}
+use Rattle.model.specs.Setting.{kindOfDimension, ofWord, maxDims, validDimension, inBounds, sortByParam, noSetting, Operators}
+use Rattle.model.specs.Session.{State, discovers, breeds, longEnough, isNew, maxCome, requestOf, operatorsOf}
 use Rattle.model.specs.PoolFile.{PoolFile, parse, fileRequest, fileText}
 
 -- ---- the first that applies
@@ -45,7 +45,7 @@ maxHistory = 4096
 
 -- 2. "Objectives are not 1 to 8, or a direction mark is neither 0 nor 1."
 unfoldable pub badDirections : List ℕ → Bool
-badDirections marks = not (leb 1 (length marks) && leb (length marks) 8) || not (allIn (λ k. leb k 1) marks)
+badDirections marks = not (leb 1 (length marks) && leb (length marks) maxObjectives) || not (allIn (λ k. leb k 1) marks)
 
 -- 3. "A session's size is above 1,024, or a selection's or generation step's is 0 or above 1,024."
 abbrev pub badSize : ℕ → Bool
@@ -66,6 +66,7 @@ abbrev pub badGivenDivisions : Option ℕ → Bool
 badGivenDivisions none = false
 badGivenDivisions (some h) = outsideDivisions h
 
+-- automatic divisions are 1 to 199 themselves, so only the number of lines can turn them down
 unfoldable pub badSessionDivisions : ℕ → Option ℕ → Option ℕ → Bool
 badSessionDivisions m size divisions = badGivenDivisions divisions || ltb maxLines (pointCount m (divisionsOf m size divisions))
 
@@ -81,16 +82,30 @@ badOperators probability crossoverEta mutationEta = not (within nought unit prob
 
 -- 6. what `validDimension` asks, ".. or is the 33rd"
 unfoldable pub badDimensions : (ℕ → Distribution) → ℕ → Bool
-badDimensions dims n = ltb maxSettings n || not (allBelow (λ d. validDimension (dims d)) n)
+badDimensions dims n = ltb maxDims n || not (allBelow (λ d. validDimension (dims d)) n)
+
+-- one dimension more, behind n, would be the 33rd or is not as `validDimension` asks
+abbrev pub badNext : ℕ → Distribution → Bool
+badNext n d = leb maxDims n || not (validDimension d)
 
 -- 7. "A pool is empty or above 1,024 plans, or a history is above 4,096."
 abbrev pub badCount : ℕ → Bool
 badCount count = eqb count 0 || ltb maxSize count
 
+abbrev pub badHistory : List ℕ → Bool
+badHistory history = ltb maxHistory (planCount history)
+
 -- 8. "A plan's row length isn't m, it has over 16 constraints, or a value or constraint is NaN or beyond 2^1000 in magnitude; likewise the ideal, where plus
 -- infinity is allowed."
+-- -2^1000 and 2^1000
+abbrev pub leastMeasured : Float
+leastMeasured = ofBits binary64 0xfe70_0000_0000_0000
+
+abbrev pub mostMeasured : Float
+mostMeasured = ofBits binary64 0x7e70_0000_0000_0000
+
 unfoldable pub measurable : Float → Bool
-measurable x = within (ofBits binary64 0xfe70_0000_0000_0000) (ofBits binary64 0x7e70_0000_0000_0000) x
+measurable x = within leastMeasured mostMeasured x
 
 abbrev pub isInfinity : Float → Bool
 isInfinity x = eq x (inf false)
@@ -98,26 +113,38 @@ isInfinity x = eq x (inf false)
 unfoldable pub goodPlan : ℕ → Plan → Bool
 goodPlan m p = eqb (p .rowLength) m && (leb (p .constraintCount) maxConstraints && (allIn measurable (p .row) && allIn measurable (p .constraints)))
 
+abbrev pub goodEntry : Float → Bool
+goodEntry x = measurable x || isInfinity x
+
 unfoldable pub goodIdeal : ℕ → List Float → Bool
-goodIdeal m ideal = eqb (length ideal) m && allIn (λ x. measurable x || isInfinity x) ideal
+goodIdeal m ideal = eqb (length ideal) m && allIn goodEntry ideal
+
+abbrev pub goodPlans : ℕ → (ℕ → Plan) → ℕ → Bool
+goodPlans m plans n = allBelow (λ p. goodPlan m (plans p)) n
 
 unfoldable pub badPool : Request → Bool
-badPool r = not (allBelow (λ p. goodPlan (objectives r) (r .plans p)) (r .count) && goodIdeal (objectives r) (r .ideal))
+badPool r = not (goodPlans (objectives r) (r .plans) (r .count) && goodIdeal (objectives r) (r .ideal))
 
 -- 9. "A plan to be bred from has over 32 settings, a parameter number twice, or a setting of another kind than its dimension or not within its bounds (a NaN
 -- isn't). Settings past the last dimension are looked at for count and repeats only."
+-- the others have other parameter numbers than x
+abbrev pub othersDiffer : Setting → List Setting → Bool
+othersDiffer x xs = allIn (λ y. not (eqb (x .param) (y .param))) xs
+
 unfoldable pub namedOnce : List Setting → Bool
 namedOnce [] = true
-namedOnce (x ∷ xs) = allIn (λ y. not (eqb (x .param) (y .param))) xs && namedOnce xs
+namedOnce (x ∷ xs) = othersDiffer x xs && namedOnce xs
 
 unfoldable pub fitsDimension : Distribution → Setting → Bool
 fitsDimension d x = eqb (x .kind) (kindOfDimension d) && inBounds d (ofWord (x .kind) (x .value))
 
+-- setting i of the sorted ones fits dimension i, or there is none
+unfoldable pub fitsAt : (ℕ → Distribution) → List Setting → ℕ → Bool
+fitsAt dims sorted i = leb (length sorted) i || fitsDimension (dims i) (getD sorted i noSetting)
+
 unfoldable pub breedable : (ℕ → Distribution) → ℕ → Plan → Bool
 breedable dims n p =
-    let sorted = sortByParam (p .settings) in
-    leb (p .settingCount) maxSettings && (namedOnce (p .settings)
-    && allBelow (λ i. leb (length sorted) i || fitsDimension (dims i) (getD sorted i noSetting)) n)
+    leb (p .settingCount) maxSettings && (namedOnce (p .settings) && allBelow (fitsAt dims (sortByParam (p .settings))) n)
 
 unfoldable pub badParents : Operators → Request → Bool
 badParents o r = not (allBelow (λ p. breedable (o .dims) (o .dimCount) (r .plans p)) (r .count))
@@ -131,26 +158,37 @@ pub record Room : Type 0 where
   pub lines : ℕ
 
 -- 10. "A lent slice is shorter than the call's full answer."
-unfoldable pub noRoom : Request → Room → Bool
-noRoom r room = ltb (room .kept) (r .size) || (ltb (room .fronts) (r .count) || ltb (room .lines) (r .count))
+-- for what a selection of a size hands out of n plans
+abbrev pub tooShort : Room → ℕ → ℕ → Bool
+tooShort room size n = ltb (room .kept) size || (ltb (room .fronts) n || ltb (room .lines) n)
 
--- `nsga3_select`
-unfoldable pub selectRefusal : Request → Room → Option ℕ
-selectRefusal r room = firstOf (
+unfoldable pub noRoom : Request → Room → Bool
+noRoom r room = tooShort room (r .size) (r .count)
+
+-- what a selection looks at, with its test of 10
+abbrev pub selectChecks : Request → Bool → List Check
+selectChecks r short =
     check 2 (badDirections (r .marks))
     ∷ check 3 (badSize (r .size))
     ∷ check 4 (badDivisions (objectives r) (r .divisions))
     ∷ check 7 (badCount (r .count))
     ∷ check 8 (badPool r)
-    ∷ check 10 (noRoom r room)
-    ∷ [])
+    ∷ check 10 short
+    ∷ []
+
+-- `nsga3_select`
+unfoldable pub selectRefusal : Request → Room → Option ℕ
+selectRefusal r room = firstOf (selectChecks r (noRoom r room))
 
 -- `nsga3_generate_offspring`: where it selects, it hands out what a selection does; a pool of one has no kept list, no fronts and no lines
-unfoldable pub noStepRoom : Operators → Request → Room → ℕ → Bool
-noStepRoom o r room offspring = (leb 2 (r .count) && noRoom r room) || ltb offspring (r .size * o .dimCount)
+abbrev pub stepTooShort : Room → ℕ → ℕ → ℕ → ℕ → Bool
+stepTooShort room offspring size n dims = (leb 2 n && tooShort room size n) || ltb offspring (size * dims)
 
-unfoldable pub stepRefusal : Operators → Request → Room → ℕ → Option ℕ
-stepRefusal o r room offspring = firstOf (
+unfoldable pub noStepRoom : Operators → Request → Room → ℕ → Bool
+noStepRoom o r room offspring = stepTooShort room offspring (r .size) (r .count) (o .dimCount)
+
+abbrev pub stepChecks : Operators → Request → Room → ℕ → List Check
+stepChecks o r room offspring =
     check 2 (badDirections (r .marks))
     ∷ check 3 (badSize (r .size))
     ∷ check 4 (badDivisions (objectives r) (r .divisions))
@@ -160,7 +198,10 @@ stepRefusal o r room offspring = firstOf (
     ∷ check 8 (badPool r)
     ∷ check 9 (badParents o r)
     ∷ check 10 (noStepRoom o r room offspring)
-    ∷ [])
+    ∷ []
+
+unfoldable pub stepRefusal : Operators → Request → Room → ℕ → Option ℕ
+stepRefusal o r room offspring = firstOf (stepChecks o r room offspring)
 
 -- `open`
 unfoldable pub openRefusal : List ℕ → Option ℕ → Option ℕ → Float → Float → Float → Option ℕ
@@ -177,26 +218,17 @@ unfoldable pub sampleRefusal : State → Distribution → ℕ → List ℕ → O
 sampleRefusal st d plan history =
     let bred = breeds st history in
     firstOf (
-    check 6 (discovers st plan && (leb maxSettings (st .session .progress .«n_dims») || not (validDimension d)))
-    ∷ check 7 (ltb maxHistory (planCount history))
+    check 6 (discovers st plan && badNext (st .session .progress .«n_dims») d)
+    ∷ check 7 (badHistory history)
     ∷ check 8 (bred && badPool (requestOf st history))
     ∷ check 9 (bred && badParents (operatorsOf (st .session)) (requestOf st history))
     ∷ check 10 (not (longEnough st))
-    ∷ check 11 (leb maxPlans (st .session .progress .«n_plans») && (isNew st plan && not bred))
+    ∷ check 11 (leb maxCome (st .session .progress .«n_plans») && (isNew st plan && not bred))
     ∷ [])
 
--- `choose`: "what breaks the form anywhere in the file is refusal 1 before any other number"
+-- `choose`: the whole form is read first, so 1 comes before what any number in the file says
 unfoldable pub fileRefusal : PoolFile → ℕ → Option ℕ
-fileRefusal f out =
-    let r = fileRequest f in
-    firstOf (
-    check 2 (badDirections (r .marks))
-    ∷ check 3 (badSize (r .size))
-    ∷ check 4 (badDivisions (objectives r) (r .divisions))
-    ∷ check 7 (badCount (r .count))
-    ∷ check 8 (badPool r)
-    ∷ check 10 (ltb out (length (fileText f)))
-    ∷ [])
+fileRefusal f out = firstOf (selectChecks (fileRequest f) (ltb out (length (fileText f))))
 
 abbrev pub refusalOfParsed : Option PoolFile → ℕ → Option ℕ
 refusalOfParsed none out = some 1

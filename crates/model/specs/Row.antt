@@ -25,9 +25,12 @@ abbrev pub toMinimize : Direction → Float → Float
 toMinimize Minimize v = v
 toMinimize Maximize v = neg v
 
--- a plan's row in minimise-space, for the directions' marks
+-- values in minimise-space, for the directions' marks, and a plan's row so
+abbrev pub minimised : List ℕ → List Float → ℕ → Float
+minimised marks values j = toMinimize (directionOf (getD marks j 0)) (getD values j nan)
+
 unfoldable pub rowOf : List ℕ → Plan → ℕ → Float
-rowOf marks plan j = toMinimize (directionOf (getD marks j 0)) (getD (plan .row) j nan)
+rowOf marks plan j = minimised marks (plan .row) j
 
 -- "`dominates`: nowhere worse, somewhere better", over m objectives
 unfoldable pub dominates : ℕ → (ℕ → Float) → (ℕ → Float) → Bool
@@ -44,7 +47,7 @@ excess c = cond (lt nought c) c nought
 unfoldable pub violation : List Float → Float
 violation cs = sumTo (λ i. excess (getD cs i nan)) (length cs)
 
--- "`constrained_dominates`: feasible beats infeasible; two infeasible compare the sum, smaller wins; two feasible compare rows"
+-- "`constrained_dominates`: feasible .. beats infeasible; two infeasible compare the .. sum .., smaller wins; two feasible compare rows."
 abbrev pub byFeasibility : Bool → Bool → Bool → Bool → Bool
 byFeasibility true false lessViolation rowDominates = true
 byFeasibility false true lessViolation rowDominates = false

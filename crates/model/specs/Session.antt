@@ -1,15 +1,15 @@
 -- Document 01, "Session": the state, what opening answers, and what an accepted call does.
-use Prim.Native.Nat.{ℕ, suc, _+_, _-_, _*_, _%_, _^_}
+use Prim.Native.Nat.{ℕ, _+_, _-_, _*_, _%_, _^_}
 use mathlib.Core.Bool.{Bool, true, false, cond, not, _&&_}
-use mathlib.Core.List.{List, [], _∷_, _++_, map}
+use mathlib.Core.List.{List, map}
 use mathlib.Core.Option.{Option, none, some}
 use lib.Dec.{eqb, leb, ltb}
-use lib.Ieee.{Float, nan}
-use lib.ListN.{length, getD, set, take, drop, replicate}
+use lib.Ieee.{Float}
+use lib.ListN.{length, getD, set, take, replicate}
+use lib.Seq.{sets}
 use Rattle.model.specs.declared.ParamValue.{ParamValue}
 use Rattle.model.specs.declared.Distribution.{Distribution}
 use Rattle.model.specs.declared.Distribution.the-variants as dist
-use Rattle.model.specs.declared.OptionF64.the-variants as optF64
 use Rattle.model.specs.declared.OptionU64.{OptionU64}
 use Rattle.model.specs.declared.OptionU64.the-variants as optU64
 use Rattle.model.specs.declared.OptionUsize.{OptionUsize}
@@ -20,12 +20,12 @@ use Rattle.model.specs.declared.Phase.the-variants.{Discovery, Active}
 use Rattle.model.specs.declared.Config.{Config}
 use Rattle.model.specs.declared.Progress.{Progress}
 use Rattle.model.specs.declared.Session.{Session}
-use Rattle.model.specs.Lists.{allBelow, lastBelow, listBelow, joinBelow, has, over}
+use Rattle.model.specs.Lists.{allBelow, lastBelow, listBelow, joinBelow, has, placeIn, over}
 use Rattle.model.specs.Real.{nought, infinity}
-use Rattle.model.specs.Plan.{planAt, planCount, planWords, maxValues, maxSettings}
+use Rattle.model.specs.Plan.{planAt, planCount, planWords, maxObjectives}
 use Rattle.model.specs.Reference.{divisionsOf, populationSize}
 use Rattle.model.specs.Association.{Request}
-use Rattle.model.specs.Setting.{kindOfDimension, toWord, ofWord, sampleRandom, sampleAll, sampleCandidates, Operators, generation, wordsOf}
+use Rattle.model.specs.Setting.{toWord, maxDims, dimensionsOf, storedAt, sampleRandom, sampleAll, sampleCandidates, Operators, operators, generation, wordsOf}
 
 -- ---- the state
 
@@ -38,9 +38,9 @@ pub record State : Type 0 where
   pub plans : List ℕ
   pub nextDims : List ℕ
 
--- what the lent slices have to have room for: 2,048 plans, of 32 settings each
-abbrev pub maxPlans : ℕ
-maxPlans = 2048
+-- what the lent slices have to have room for: the 2,048 plans that may come in a generation, of 32 settings each
+abbrev pub maxCome : ℕ
+maxCome = 2048
 
 abbrev pub maxWords : ℕ
 maxWords = 65536
@@ -49,12 +49,9 @@ maxWords = 65536
 abbrev pub blankDimension : DimensionInfo
 blankDimension = record { distribution = dist.Categorical (record { «n_choices» = 1 }) }
 
--- a dimension; `noDimension` is what the logic reads past an array's end, which nothing here does
-abbrev pub noDimension : DimensionInfo
-noDimension = record { distribution = dist.Float (record { low = nan; high = nan; «log_scale» = false; step = optF64.None }) }
-
+-- dimension d of a session
 abbrev pub dimensionOf : Session → ℕ → Distribution
-dimensionOf s d = getD (s .dimensions) d noDimension .distribution
+dimensionOf s = dimensionsOf (s .dimensions)
 
 -- a session with another generator state, and with another progress
 abbrev pub withRng : Session → ℕ → Session
@@ -86,15 +83,27 @@ abbrev pub state : Session → List ℕ → List ℕ → List ℕ → State
 state s cs ps ns = record { session = s; candidates = cs; plans = ps; nextDims = ns }
 
 -- a session in which no plan has come yet, of a configuration and a seed
-abbrev pub begun : Config → ℕ → Session
-begun c seed = record {
+abbrev pub start : Config → ℕ → Session
+start c seed = record {
   config = c;
   phase = Discovery;
   «discovery_trial_id» = optU64.None;
   rng = record { s = seed };
-  dimensions = replicate maxSettings blankDimension;
-  «ideal_point» = replicate maxValues infinity;
+  dimensions = replicate maxDims blankDimension;
+  «ideal_point» = replicate maxObjectives infinity;
   progress = progress 0 0 0 0;
+}
+
+-- a session with a dimension more, entered for a plan, by its generator
+abbrev pub entered : Session → Distribution → ℕ → ℕ → Session
+entered s d plan g = record {
+  config = s .config;
+  phase = Discovery;
+  «discovery_trial_id» = optU64.Some plan;
+  rng = record { s = g };
+  dimensions = set (s .dimensions) (s .progress .«n_dims») (record { distribution = d });
+  «ideal_point» = s .«ideal_point»;
+  progress = progress (s .progress .«n_dims» + 1) (s .progress .«n_candidates») (s .progress .«n_plans») (s .progress .generation);
 }
 
 -- the session of a new generation, by its generator, its ideal and its number: it has as many candidates as the size, and no plan has come yet
@@ -118,9 +127,9 @@ given (optUsize.Some n) = some n
 
 -- The session that an accepted opening answers. "Directions are given at opening (added), with the seed."
 unfoldable pub opened : List ℕ → ℕ → Option ℕ → Option ℕ → Float → Float → Float → Session
-opened marks seed size divisions probability crossoverEta mutationEta = begun (record {
+opened marks seed size divisions probability crossoverEta mutationEta = start (record {
   «n_obj» = length marks;
-  directions = over marks (replicate maxValues 0);
+  directions = over marks (replicate maxObjectives 0);
   divisions = divisionsOf (length marks) size divisions;
   «population_size» = populationSize (length marks) size divisions;
   «crossover_prob» = probability;
@@ -130,9 +139,9 @@ opened marks seed size divisions probability crossoverEta mutationEta = begun (r
 
 -- the session beside a refusal: nothing of what was given is in it
 abbrev pub blank : Session
-blank = begun (record {
+blank = start (record {
   «n_obj» = 0;
-  directions = replicate maxValues 0;
+  directions = replicate maxObjectives 0;
   divisions = 0;
   «population_size» = 0;
   «crossover_prob» = nought;
@@ -152,16 +161,7 @@ unfoldable pub discover : State → Distribution → ℕ → Answered
 discover st d plan =
     let s = st .session in
     let v = sampleRandom d (s .rng .s) in
-    let entered : Session = record {
-      config = s .config;
-      phase = Discovery;
-      «discovery_trial_id» = optU64.Some plan;
-      rng = record { s = v .state };
-      dimensions = set (s .dimensions) (s .progress .«n_dims») (record { distribution = d });
-      «ideal_point» = s .«ideal_point»;
-      progress = progress (s .progress .«n_dims» + 1) (s .progress .«n_candidates») (s .progress .«n_plans») (s .progress .generation);
-    } in
-    record { setting = v .value; after = state entered (st .candidates) (st .plans) (st .nextDims) }
+    record { setting = v .value; after = state (entered s d plan (v .state)) (st .candidates) (st .plans) (st .nextDims) }
 
 -- "another plan number ends discovery": as many candidates as the size are drawn
 unfoldable pub activate : State → State
@@ -171,10 +171,6 @@ activate st =
     let active = renewed s (cs .state) (s .«ideal_point») (s .progress .generation) in
     state active (over (wordsOf (cs .value)) (st .candidates)) (st .plans) (st .nextDims)
 
--- entries put into a list from place `at` on
-abbrev pub overAt : ℕ → List ℕ → List ℕ → List ℕ
-overAt at new old = take at old ++ over new (drop at old)
-
 -- a candidate more, drawn, where every candidate has its plan
 unfoldable pub overflow : State → State
 overflow st =
@@ -183,7 +179,7 @@ overflow st =
     let k = s .progress .«n_candidates» in
     let c = sampleAll (dimensionOf s) n (s .rng .s) in
     let more = progress n (k + 1) (s .progress .«n_plans») (s .progress .generation) in
-    state (withProgress (withRng s (c .state)) more) (overAt (k * n) (map toWord (c .value)) (st .candidates)) (st .plans) (st .nextDims)
+    state (withProgress (withRng s (c .state)) more) (sets (st .candidates) (k * n) (map toWord (c .value))) (st .plans) (st .nextDims)
 
 -- the plan is entered as the generation's next, at its first dimension
 unfoldable pub enter : State → ℕ → State
@@ -203,19 +199,15 @@ answer st i =
     let s = st .session in
     let n = s .progress .«n_dims» in
     let d = getD (st .nextDims) i 0 in
-    let stored = ofWord (kindOfDimension (dimensionOf s d)) (getD (st .candidates) (i * n + d) 0) in
+    let stored = storedAt (dimensionOf s) n (st .candidates) i d in
     let fresh = sampleRandom (dimensionOf s (n - 1)) (s .rng .s) in
     cond (ltb d n)
     (record { setting = stored; after = state s (st .candidates) (st .plans) (set (st .nextDims) i (d + 1)) })
     (record { setting = fresh .value; after = state (withRng s (fresh .state)) (st .candidates) (st .plans) (st .nextDims) })
 
--- the numbers of the generation's plans, and the place of a number among them; it is new where it stands nowhere
+-- the numbers of the generation's plans; a number is new where it is not among them
 abbrev pub plansOf : State → List ℕ
 plansOf st = take (st .session .progress .«n_plans») (st .plans)
-
-unfoldable pub placeIn : List ℕ → ℕ → ℕ
-placeIn [] plan = 0
-placeIn (x ∷ xs) plan = cond (eqb x plan) 0 (suc (placeIn xs plan))
 
 abbrev pub isNew : State → ℕ → Bool
 isNew st plan = not (has (plansOf st) plan)
@@ -231,20 +223,29 @@ sampleFromCandidate st plan =
 unfoldable pub recordOf : List ℕ → ℕ → ℕ
 recordOf history plan = lastBelow (λ k. eqb (planAt history k .number) plan) (planCount history)
 
--- "When the first size plans of the generation all stand in history"; a slice that is too short to hold their numbers shows none of them
+-- plan i of a list of numbers stands in history
+abbrev pub standsIn : List ℕ → List ℕ → ℕ → Bool
+standsIn history plans i = ltb (recordOf history (getD plans i 0)) (planCount history)
+
+-- "When the first size plans of the generation all stand in history", of `come` plans, whose numbers a list has; one that is too short to hold them shows
+-- none of them
+abbrev pub allStand : List ℕ → List ℕ → ℕ → ℕ → Bool
+allStand history plans come size = leb size come && (leb size (length plans) && allBelow (standsIn history plans) size)
+
 unfoldable pub evaluated : State → List ℕ → Bool
-evaluated st history =
-    let size = st .session .config .«population_size» in
-    leb size (st .session .progress .«n_plans»)
-    && (leb size (length (st .plans)) && allBelow (λ i. ltb (recordOf history (getD (st .plans) i 0)) (planCount history)) size)
+evaluated st history = allStand history (st .plans) (st .session .progress .«n_plans») (st .session .config .«population_size»)
 
 -- the words of a record of the history
 abbrev pub blockOf : List ℕ → ℕ → List ℕ
 blockOf history k = listBelow (λ j. getD history (k * planWords + j) 0) planWords
 
--- the plans bred from: the first size plans of the generation, as history has them, record after record
+-- so many plans of a list of numbers, as history has them, record after record
+abbrev pub recordsOf : List ℕ → List ℕ → ℕ → List ℕ
+recordsOf history plans size = joinBelow (λ i. blockOf history (recordOf history (getD plans i 0))) size
+
+-- the plans bred from: the first size plans of the generation
 unfoldable pub bredFrom : State → List ℕ → List ℕ
-bredFrom st history = joinBelow (λ i. blockOf history (recordOf history (getD (st .plans) i 0))) (st .session .config .«population_size»)
+bredFrom st history = recordsOf history (st .plans) (st .session .config .«population_size»)
 
 -- the selection that a session's breeding makes, and its operators
 abbrev pub requestOf : State → List ℕ → Request
@@ -259,13 +260,8 @@ requestOf st history = record {
 }
 
 abbrev pub operatorsOf : Session → Operators
-operatorsOf s = record {
-  dims = dimensionOf s;
-  dimCount = s .progress .«n_dims»;
-  probability = s .config .«crossover_prob»;
-  crossoverEta = s .config .«crossover_eta»;
-  mutationEta = s .config .«mutation_eta»;
-}
+operatorsOf s =
+    operators (s .dimensions) (s .progress .«n_dims») (s .config .«crossover_prob») (s .config .«crossover_eta») (s .config .«mutation_eta»)
 
 -- "a new generation is bred": its candidates take the place of the old ones. The generation's number wraps at 2^64.
 unfoldable pub breed : State → List ℕ → State
@@ -289,13 +285,19 @@ abbrev pub discoversFor : OptionU64 → ℕ → Bool
 discoversFor optU64.None plan = true
 discoversFor (optU64.Some first) plan = eqb first plan
 
--- the call adds a dimension
-unfoldable pub discovers : State → ℕ → Bool
-discovers st plan = not (isActive (st .session)) && discoversFor (st .session .«discovery_trial_id») plan
+-- the call adds a dimension: by the session's phase and the first plan's number, and by its state
+abbrev pub addsFor : Phase → OptionU64 → ℕ → Bool
+addsFor phase first plan = not (pastDiscovery phase) && discoversFor first plan
 
--- the lent slices have room for what they must hold
+unfoldable pub discovers : State → ℕ → Bool
+discovers st plan = addsFor (st .session .phase) (st .session .«discovery_trial_id») plan
+
+-- the lent slices have room for what they must hold: by their lengths, and by what they hold
+abbrev pub roomFor : ℕ → ℕ → ℕ → Bool
+roomFor candidates plans nextDims = leb maxWords candidates && (leb maxCome plans && leb maxCome nextDims)
+
 unfoldable pub longEnough : State → Bool
-longEnough st = leb maxWords (length (st .candidates)) && (leb maxPlans (length (st .plans)) && leb maxPlans (length (st .nextDims)))
+longEnough st = roomFor (length (st .candidates)) (length (st .plans)) (length (st .nextDims))
 
 -- the call breeds
 unfoldable pub breeds : State → List ℕ → Bool

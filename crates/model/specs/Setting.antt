@@ -2,7 +2,7 @@
 use Prim.Native.Nat.{ℕ, zero, suc, _+_, _*_, _/_, _%_, _^_, _<_}
 use mathlib.Core.Path.{_≡_}
 use mathlib.Core.Bool.{Bool, true, false, cond, not, _&&_}
-use mathlib.Core.List.{List, [], _∷_, _++_, map}
+use mathlib.Core.List.{List, [], _∷_, _++_, map, flatten}
 use lib.IntN.{ℤ, pos, negsuc, _+ℤ_, _-ℤ_, _*ℤ_}
 use lib.Signed.{leZ, ltZ, quotZ}
 use lib.Dec.{eqb, leb, ltb}
@@ -10,6 +10,7 @@ use lib.Ieee.{Float, nan, binary64, lt, le, ofBits, ofInt, toSigned, toUnsigned}
 use lib.ListN.{length, getD, take}
 use Rattle.model.specs.declared.ParamValue.{ParamValue}
 use Rattle.model.specs.declared.ParamValue.the-variants as value
+use Rattle.model.specs.declared.DimensionInfo.{DimensionInfo}
 use Rattle.model.specs.declared.Distribution.{Distribution}
 use Rattle.model.specs.declared.Distribution.the-variants as dist
 use Rattle.model.specs.declared.FloatDistribution.{FloatDistribution}
@@ -81,6 +82,17 @@ noStep (optF64.Some x) = false
 abbrev pub stepAbove0 : OptionI64 → Bool
 stepAbove0 optI64.None = true
 stepAbove0 (optI64.Some n) = leZ (pos 1) n
+
+-- at most so many dimensions
+abbrev pub maxDims : ℕ
+maxDims = 32
+
+-- the dimension at each place of an array; `noDimension` is what the logic reads past its end, which nothing here does
+abbrev pub noDimension : DimensionInfo
+noDimension = record { distribution = dist.Float (record { low = nan; high = nan; «log_scale» = false; step = optF64.None }) }
+
+abbrev pub dimensionsOf : List DimensionInfo → ℕ → Distribution
+dimensionsOf infos d = getD infos d noDimension .distribution
 
 -- What refusal 6 asks of a dimension: low not above high, bounds finite and within 2^53 in magnitude, no log scale, no Float step, an Int step from 1 on,
 -- 1 to 65,536 choices.
@@ -173,8 +185,11 @@ abbrev pub drawUnit : ℕ → Drawn Float
 drawUnit s = f64Range nought unit s
 
 -- the spread of `sbx_crossover_f64`: (2u)^(1/k) up to one half, and (1 / (2 (1 - u)))^(1/k) above
+abbrev pub spreadArgument : Float → Float
+spreadArgument u = cond (le u half) (two ⊗ u) (unit ⊘ (two ⊗ (unit ⊖ u)))
+
 unfoldable pub spread : Float → ℕ → Float
-spread u k = R (cond (le u half) (two ⊗ u) (unit ⊘ (two ⊗ (unit ⊖ u)))) k
+spread u k = R (spreadArgument u) k
 
 -- the child nearer to p: the midpoint of (1 + beta) p and (1 - beta) q, held within the bounds
 abbrev pub sbxFirst : Float → Float → Float → Float → Float → Float
@@ -270,11 +285,18 @@ crossover dims n probability k p q s =
 
 -- ---- mutation; k is eta + 1
 
--- how far `polynomial_mutation_f64` moves x, as a share of the range
+-- what `polynomial_mutation_f64` takes a root of, for a draw below one half and for one from there on; `range` is high - low
+abbrev pub belowArgument : Float → Float → Float → ℕ → Float → Float
+belowArgument x low range k u = (two ⊗ u) ⊕ ((unit ⊖ (two ⊗ u)) ⊗ P (unit ⊖ ((x ⊖ low) ⊘ range)) k)
+
+abbrev pub aboveArgument : Float → Float → Float → ℕ → Float → Float
+aboveArgument x high range k u = (two ⊗ (unit ⊖ u)) ⊕ ((two ⊗ (u ⊖ half)) ⊗ P (unit ⊖ ((high ⊖ x) ⊘ range)) k)
+
+-- how far it moves x, as a share of the range
 unfoldable pub mutationShift : Float → Float → Float → Float → ℕ → Float → Float
 mutationShift x low high range k u =
-    let below = R ((two ⊗ u) ⊕ ((unit ⊖ (two ⊗ u)) ⊗ P (unit ⊖ ((x ⊖ low) ⊘ range)) k)) k ⊖ unit in
-    let above = unit ⊖ R ((two ⊗ (unit ⊖ u)) ⊕ ((two ⊗ (u ⊖ half)) ⊗ P (unit ⊖ ((high ⊖ x) ⊘ range)) k)) k in
+    let below = R (belowArgument x low range k u) k ⊖ unit in
+    let above = unit ⊖ R (aboveArgument x high range k u) k in
     cond (lt u half) below above
 
 -- "`polynomial_mutation_f64` draws before it looks at the range."
@@ -330,6 +352,15 @@ pub record Operators : Type 0 where
   pub crossoverEta : Float
   pub mutationEta : Float
 
+abbrev pub operators : List DimensionInfo → ℕ → Float → Float → Float → Operators
+operators infos n probability crossoverEta mutationEta = record {
+  dims = dimensionsOf infos;
+  dimCount = n;
+  probability = probability;
+  crossoverEta = crossoverEta;
+  mutationEta = mutationEta;
+}
+
 -- two parents are drawn, and the one of smaller rank wins, the first on a tie
 unfoldable pub tournament : (ℕ → ℕ) → ℕ → ℕ → Drawn ℕ
 tournament ranks n s =
@@ -364,15 +395,22 @@ pub record Generation : Type 0 where
   pub offspring : List (List ParamValue)
   pub state : ℕ
 
--- "`nsga3_generate_offspring` ranks by rows only": the rank of the i-th kept plan is its front in the pool by rows
+-- "`nsga3_generate_offspring` ranks by rows only": the rank of the i-th kept plan is its front in the pool of n plans by rows
+abbrev pub rankIn : List ℕ → (ℕ → Plan) → ℕ → List ℕ → ℕ → ℕ
+rankIn marks plans n kept i = frontOf (rowBeats marks plans) n (getD kept i 0)
+
 unfoldable pub rankOf : Request → List ℕ → ℕ → ℕ
-rankOf r kept i = frontOf (rowBeats (r .marks) (r .plans)) (r .count) (getD kept i 0)
+rankOf r kept i = rankIn (r .marks) (r .plans) (r .count) kept i
+
+-- the parents of a kept list, by their ranks, and their offspring
+abbrev pub bredOf : Operators → (ℕ → Plan) → (ℕ → ℕ) → List ℕ → ℕ → ℕ → Drawn (List (List ParamValue))
+bredOf o plans ranks kept size s =
+    let parents = parentsOf (o .dims) (o .dimCount) plans kept s in offspringOf o (parents .value) ranks size (parents .state)
 
 unfoldable pub generationOf : Operators → Request → Generation
 generationOf o r =
     let sel = selected r in
-    let parents = parentsOf (o .dims) (o .dimCount) (r .plans) (sel .kept) (sel .state) in
-    let off = offspringOf o (parents .value) (rankOf r (sel .kept)) (r .size) (parents .state) in
+    let off = bredOf o (r .plans) (rankOf r (sel .kept)) (sel .kept) (r .size) (sel .state) in
     record { kept = sel .kept; fronts = sel .fronts; lines = sel .lines; ideal = sel .ideal; offspring = off .value; state = off .state }
 
 -- "A pool of one plan breeds nothing: every setting of the size new candidates is drawn." It selects nothing either.
@@ -391,9 +429,12 @@ generation o r = byPool (ltb (r .count) 2) o r
 
 -- candidates as they lie in a lent slice: candidate after candidate, a word a setting
 unfoldable pub wordsOf : List (List ParamValue) → List ℕ
-wordsOf [] = []
-wordsOf (c ∷ cs) = map toWord c ++ wordsOf cs
+wordsOf cs = flatten (map (map toWord) cs)
+
+-- and read back: setting d of candidate i, of n settings each; its kind is its dimension's
+abbrev pub storedAt : (ℕ → Distribution) → ℕ → List ℕ → ℕ → ℕ → ParamValue
+storedAt dims n words i d = ofWord (kindOfDimension (dims d)) (getD words (i * n + d) 0)
 
 -- every setting of so many candidates that lie so in words is of its dimension's kind and within its bounds
 abbrev pub WordsWithin : (ℕ → Distribution) → ℕ → ℕ → List ℕ → Type 0
-WordsWithin dims n count words = (i d : ℕ) → i < count → d < n → inBounds (dims d) (ofWord (kindOfDimension (dims d)) (getD words (i * n + d) 0)) ≡ true
+WordsWithin dims n count words = (i d : ℕ) → i < count → d < n → inBounds (dims d) (storedAt dims n words i d) ≡ true

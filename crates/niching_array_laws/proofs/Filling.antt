@@ -15,10 +15,10 @@ use Rattle.model.specs.Kept.{nicheCount, waiting, openLines, leastLines, drawFr
 use Rattle.list_laws.proofs.Bools.{by-bool, no-pass}
 use Rattle.list_laws.proofs.Counts.{countBelow-same}
 use Rattle.list_laws.proofs.Members.{tally-le, keep-length, has-nil, has-cons, has-occ, has-append, has-in, different-places, place-of}
-use Rattle.list_laws.proofs.Kept.{keepBelow-same, keepBelow-length}
+use Rattle.list_laws.proofs.Kept.{keepBelow-same, keepBelow-length, keep-keep}
 use Rattle.niching_laws.proofs.Picks.{some-waits}
 use Rattle.niching_array_laws.specs.Niche.{lineIn, distanceIn, planAt, countOf, hasWaiting, waitsOn, places, members, OnLines, Measured, Awaits, Ready, pickAt, Took}
-use Rattle.niching_array_laws.proofs.Places.{replicate-at, keep-places, keep-keep, occ-map, countBelow-drop}
+use Rattle.niching_array_laws.proofs.Places.{replicate-at, keep-places, occ-map, countBelow-drop}
 use Rattle.niching_array_laws.proofs.Counting.{counts-more}
 
 -- what stays: the plans have lines and distances, those of the front are different, and all find room

@@ -14,11 +14,10 @@ use Rattle.model.specs.Lists.{countBelow, keepBelow, allIn}
 use Rattle.model.specs.Kept.{leastLines}
 use Rattle.list_laws.proofs.Bools.{by-bool, and-left}
 use Rattle.list_laws.proofs.Counts.{countBelow-at}
-use Rattle.list_laws.proofs.Tests.{allIn-every, allIn-member}
-use Rattle.list_laws.proofs.Kept.{keepBelow-same, keepBelow-in, in-keepBelow}
-use Rattle.list_laws.proofs.Members.{getD-in}
+use Rattle.list_laws.proofs.Tests.{allIn-every}
+use Rattle.list_laws.proofs.Kept.{keepBelow-same, keepBelow-in, in-keepBelow, keep-keepBelow}
+use Rattle.list_laws.proofs.Members.{getD-in, allIn-member}
 use Rattle.niching_array_laws.specs.Niche.{Open, countOf, hasWaiting, isLeast, lesser, leastBelow}
-use Rattle.niching_array_laws.proofs.Places.{keep-keepBelow}
 
 -- m is the least niche count of the lines below n with waiting members
 pub record IsLeastOf (counts waits : List ℕ) (n m : ℕ) : Type 0 where

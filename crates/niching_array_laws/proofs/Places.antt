@@ -1,24 +1,25 @@
 -- Lists by places: what a list keeps is what stands at the places that pass, and the k-th place that passes is the k-th of those.
 use Prim.Native.Nat.{ℕ, zero, suc, _+_, _-_, _≤_, _<_}
 use mathlib.Core.Path.{_≡_, refl, ap, sym, _∙_}
-use mathlib.Core.Bool.{Bool, true, false, cond, _&&_}
-use mathlib.Core.List.{List, [], _∷_, _++_, map, map-append, append-nil}
+use mathlib.Core.Bool.{Bool, true, false, cond}
+use mathlib.Core.List.{List, [], _∷_, _++_, map}
 use mathlib.Core.Logic.{⊎-elim}
 use native.Mathlib.Nat.{not-suc-le-zero, eq-or-lt-of-le}
-use native.Mathlib.Numerals.{add-one}
 use native.Mathlib.Omega.{arith}
 use borrow.Author.Tests.{eq-eqb, ne-eqb, eqb-true, eqb-false, ltb-true, ltb-false}
 use lib.Dec.{eqb, ltb}
 use lib.Ieee.{Float, lt}
-use lib.ListN.{length, getD, take, replicate, length-replicate, getD-replicate, List·getD-append, List·getD-eq-default}
-use lib.Seq.{take-suc, take-length, getD-at}
-use Rattle.model.specs.Lists.{one, countBelow, sumBelow, keepBelow, keep, tally}
-use Rattle.model.specs.Kept.{nearestFrom, nearest}
+use lib.ListN.{length, getD, replicate, length-replicate, getD-replicate, List·getD-append, List·getD-eq-default, length-append, length-map}
+use lib.Seq.{getD-at}
+use Rattle.model.specs.Lists.{one, countBelow, sumBelow, keepBelow, keep, tally, bestFrom, listBelow}
+use Rattle.model.specs.Kept.{nearest}
+use Rattle.list_laws.proofs.Built.{map-at, listBelow-places, map-below}
+use Rattle.list_laws.proofs.Best.{best-more, best-same, best-all, best-map}
 use Rattle.list_laws.specs.Occ.{occ}
 use Rattle.list_laws.proofs.Bools.{by-bool}
-use Rattle.list_laws.proofs.Counts.{countBelow-none, countBelow-yes, countBelow-no, countBelow-up, countBelow-sum, sumBelow-same, sumBelow-add, sumBelow-point}
-use Rattle.list_laws.proofs.Members.{keep-append, keep-yes, keep-no, keep-nil, empty-of}
-use Rattle.list_laws.proofs.Kept.{keepBelow-none, keepBelow-yes, keepBelow-no, keepBelow-length, keepBelow-room}
+use Rattle.list_laws.proofs.Counts.{countBelow-sum, countBelow-none, countBelow-yes, countBelow-no, countBelow-up, sumBelow-same, sumBelow-add, sumBelow-point}
+use Rattle.list_laws.proofs.Members.{empty-of, keep-map}
+use Rattle.list_laws.proofs.Kept.{keepBelow-yes, keepBelow-length, keepBelow-room, keepBelow-keep}
 use Rattle.niching_array_laws.specs.Niche.{Kth}
 
 -- ---- one value again and again
@@ -31,43 +32,11 @@ replicate-at x n i = by-bool (ltb i n)
 
 -- ---- what is kept
 
--- those of a list's first n entries that pass stand at the places below n whose entry passes
-keep-places-below : (f : ℕ → Bool) (l : List ℕ) (n : ℕ) → n ≤ length l
-    → keep f (take n l) ≡ map (λ i. getD l i 0) (keepBelow (λ i. f (getD l i 0)) n)
-keep-places-below f l zero h = keep-nil f ∙ sym (ap (map (λ i. getD l i 0)) (keepBelow-none (λ i. f (getD l i 0))))
-keep-places-below f l (suc n) h =
-    let g : ℕ → Bool = λ i. f (getD l i 0) in
-    let ih = keep-places-below f l n (omega arith) in
-    ap (keep f) (take-suc l n 0 (omega arith)) ∙ keep-append f (take n l) (getD l n 0 ∷ []) ∙ by-bool (f (getD l n 0))
-    (λ e. ap (λ t. keep f (take n l) ++ t) (keep-yes f (getD l n 0) [] e ∙ ap (λ t. getD l n 0 ∷ t) (keep-nil f))
-    ∙ ap (λ t. t ++ (getD l n 0 ∷ [])) ih
-    ∙ sym (ap (λ k. map (λ i. getD l i 0) (keepBelow g k)) (sym (add-one n))
-    ∙ ap (map (λ i. getD l i 0)) (keepBelow-yes g n e) ∙ map-append (λ i. getD l i 0) (keepBelow g n) (n ∷ [])))
-    (λ e. ap (λ t. keep f (take n l) ++ t) (keep-no f (getD l n 0) [] e ∙ keep-nil f) ∙ append-nil (keep f (take n l)) ∙ ih
-    ∙ sym (ap (λ k. map (λ i. getD l i 0) (keepBelow g k)) (sym (add-one n)) ∙ ap (map (λ i. getD l i 0)) (keepBelow-no g n e)))
-
+-- those of a list that pass stand at the places whose entry passes
 pub keep-places : (f : ℕ → Bool) (l : List ℕ) → keep f l ≡ map (λ i. getD l i 0) (keepBelow (λ i. f (getD l i 0)) (length l))
-keep-places f l = ap (keep f) (sym (take-length l)) ∙ keep-places-below f l (length l) (omega arith)
-
--- what is kept of what is kept passes both tests
-pub keep-keep : (f g : ℕ → Bool) (l : List ℕ) → keep f (keep g l) ≡ keep (λ p. g p && f p) l
-unfolding keep
-keep-keep f g [] = refl
-keep-keep f g (x ∷ l) = by-bool (g x)
-    (λ e. rw e (by-bool (f x) (λ v. rw v (ap (λ t. x ∷ t) (keep-keep f g l))) (λ v. rw v (keep-keep f g l))))
-    (λ e. rw e (keep-keep f g l))
-
-pub keep-keepBelow : (f g : ℕ → Bool) (n : ℕ) → keep f (keepBelow g n) ≡ keepBelow (λ l. g l && f l) n
-unfolding keepBelow
-keep-keepBelow f g zero = keep-nil f
-keep-keepBelow f g (suc n) =
-    keep-append f (keepBelow g n) (cond (g n) (n ∷ []) []) ∙ ap (λ t. t ++ keep f (cond (g n) (n ∷ []) [])) (keep-keepBelow f g n)
-    ∙ ap (λ t. keepBelow (λ l. g l && f l) n ++ t) last
-  where
-    last : keep f (cond (g n) (n ∷ []) []) ≡ cond (g n && f n) (n ∷ []) []
-    last = by-bool (g n)
-        (λ e. rw e (by-bool (f n) (λ v. rw v (keep-yes f n [] v ∙ ap (λ t. n ∷ t) (keep-nil f))) (λ v. rw v (keep-no f n [] v ∙ keep-nil f))))
-        (λ e. rw e (keep-nil f))
+keep-places f l =
+    ap (keep f) (sym (listBelow-places 0 l) ∙ sym (map-below (λ i. getD l i 0) (λ i. i) (length l))) ∙ keep-map f (λ i. getD l i 0) (listBelow (λ i. i) (length l))
+    ∙ ap (map (λ i. getD l i 0)) (sym (keepBelow-keep (λ i. f (getD l i 0)) (length l)))
 
 -- how often a number stands in a list's images is how many entries have it as theirs
 pub occ-map : (f : ℕ → ℕ) (q : ℕ) (l : List ℕ) → occ q (map f l) ≡ tally (λ p. eqb (f p) q) l
@@ -122,38 +91,33 @@ first-only f n r h = keepBelow-yes f r (h .passes) ∙ ap (λ t. t ++ (r ∷ [])
 -- ---- the nearest
 
 module _ (d : ℕ → Float) where
-  -- one more at the end
-  nearestFrom-snoc : (b : ℕ) (l : List ℕ) (p : ℕ)
-      → nearestFrom d b (l ++ (p ∷ [])) ≡ cond (lt (d p) (d (nearestFrom d b l))) p (nearestFrom d b l)
-  unfolding nearestFrom
-  nearestFrom-snoc b [] p = refl
-  nearestFrom-snoc b (x ∷ l) p = nearestFrom-snoc (cond (lt (d x) (d b)) x b) l p
+  abbrev nearer : ℕ → ℕ → Bool
+  nearer p q = lt (d p) (d q)
 
+  -- one more at the end
   pub nearest-snoc : (l : List ℕ) (p : ℕ) → 0 < length l → nearest d (l ++ (p ∷ [])) ≡ cond (lt (d p) (d (nearest d l))) p (nearest d l)
   unfolding nearest
-  nearest-snoc [] p h = absurd (omega arith)
-  nearest-snoc (x ∷ l) p h = nearestFrom-snoc x l p
+  nearest-snoc l p h =
+      let more = l ++ (p ∷ []) in
+      let at : (i : ℕ) → i < length l → getD l i 0 ≡ getD more i 0 = λ i u. sym (List·getD-append l (p ∷ []) 0 i u) in
+      let last : getD more (length l) 0 ≡ p = getD-at l p [] 0 (length l) refl in
+      sym (ap (λ t. cond (lt (d t) (d (nearest d l))) t (nearest d l)) (sym last)
+      ∙ best-more nearer (getD more 0 0) (λ i. getD more i 0) (length l)
+      (ap (λ b. bestFrom nearer b (λ i. getD l i 0) (length l)) (at 0 h) ∙ best-same nearer (getD more 0 0) _ _ (length l) at) refl
+      ∙ ap (bestFrom nearer (getD more 0 0) (λ i. getD more i 0)) (sym (length-append l (p ∷ []))))
 
   pub nearest-one : (p : ℕ) → nearest d (p ∷ []) ≡ p
-  unfolding nearest nearestFrom
-  nearest-one p = refl
-
-module _ (d : ℕ → Float) (h : ℕ → ℕ) where
-  nearestFrom-map : (b : ℕ) (l : List ℕ) → nearestFrom d (h b) (map h l) ≡ h (nearestFrom (λ i. d (h i)) b l)
-  unfolding nearestFrom
-  nearestFrom-map b [] = refl
-  nearestFrom-map b (x ∷ l) =
-      ap (λ t. nearestFrom d t (map h l)) (either (lt (d (h x)) (d (h b)))) ∙ nearestFrom-map (cond (lt (d (h x)) (d (h b))) x b) l
-    where
-      either : (t : Bool) → cond t (h x) (h b) ≡ h (cond t x b)
-      either true = refl
-      either false = refl
-
-  -- the nearest plan stands at the nearest place
-  pub nearest-map : (l : List ℕ) → 0 < length l → nearest d (map h l) ≡ h (nearest (λ i. d (h i)) l)
   unfolding nearest
-  nearest-map [] u = absurd (omega arith)
-  nearest-map (x ∷ l) u = nearestFrom-map x l
+  nearest-one p = best-all nearer (λ q. q ≡ p) p (λ i. getD (p ∷ []) i 0) 1 refl (λ t u. let e : t ≡ 0 = omega arith in ap (λ i. getD (p ∷ []) i 0) e)
+
+-- the nearest plan stands at the nearest place
+pub nearest-map : (d : ℕ → Float) (h : ℕ → ℕ) (l : List ℕ) → 0 < length l → nearest d (map h l) ≡ h (nearest (λ i. d (h i)) l)
+unfolding nearest
+nearest-map d h l u =
+    let at : (i : ℕ) → i < length l → getD (map h l) i 0 ≡ h (getD l i 0) = λ i v. map-at h l i 0 0 v in
+    ap (bestFrom (nearer d) (getD (map h l) 0 0) (λ i. getD (map h l) i 0)) (length-map l h)
+    ∙ ap (λ b. bestFrom (nearer d) b (λ i. getD (map h l) i 0) (length l)) (at 0 u)
+    ∙ best-same (nearer d) (h (getD l 0 0)) _ _ (length l) at ∙ best-map (nearer d) h (getD l 0 0) (λ i. getD l i 0) (length l)
 
 -- ---- one fewer
 

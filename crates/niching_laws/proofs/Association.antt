@@ -1,14 +1,15 @@
 -- The line that a plan is associated with is the paper's: no line is nearer. It is the first such line, and its distance is the one kept beside it.
-use Prim.Native.Nat.{ℕ, zero, suc, _≤_, _<_}
+use Prim.Native.Nat.{ℕ, zero, suc, _<_}
 use mathlib.Core.Path.{_≡_, refl, sym, ap, ap₂, _∙_}
 use mathlib.Core.Logic.{_⊎_, inl, inr}
 use mathlib.Core.Bool.{Bool, true, false, cond, true≢false}
-use native.Mathlib.Nat.{eq-or-lt-of-le}
 use native.Mathlib.Omega.{arith}
 use lib.Ieee.{Float, nan, inf, fin, lt, isNan}
 use Rattle.model.specs.Real.{infinity}
 use Rattle.model.specs.Association.{Request, lineCount, distanceTo, Near, near, nearestOf, association, lineOf}
 use Rattle.model.specs.Papers.DebJain2014.{Associated}
+use Rattle.model.specs.Lists.{bestFrom}
+use Rattle.list_laws.proofs.Best.{best-all, best-least}
 use Rattle.niching_laws.specs.Nearest.{NearestLine}
 use Rattle.float_laws.proofs.Compared.{lt-self, lt-down, lt-past, nan-below, below-nan}
 
@@ -30,45 +31,24 @@ top-or-nan (fin s m e) h k = absurd (true≢false h)
 
 -- ---- the search over n lines with distances d
 
+-- a line with its distance is nearer than another, and each line has its own
+abbrev nearer : Near → Near → Bool
+nearer a b = lt (a .distance) (b .distance)
+
 module _ (d : ℕ → Float) where
-  nearestOf-inside : (n : ℕ) → nearestOf d (suc n) .line ≤ n
-  unfolding nearestOf
-  nearestOf-inside zero = go (lt (d 0) infinity)
-    where
-      go : (b : Bool) → cond b (near 0 (d 0)) (near 0 infinity) .line ≤ 0
-      go true = omega arith
-      go false = omega arith
-  nearestOf-inside (suc n) = go (lt (d (suc n)) (nearestOf d (suc n) .distance)) (nearestOf-inside n)
-    where
-      go : (b : Bool) → nearestOf d (suc n) .line ≤ n → cond b (near (suc n) (d (suc n))) (nearestOf d (suc n)) .line ≤ suc n
-      go true h = omega arith
-      go false h = omega arith
+  abbrev own : ℕ → Near
+  own l = near l (d l)
 
   -- no distance is below the one found
   nearestOf-least : (n j : ℕ) → j < n → lt (d j) (nearestOf d n .distance) ≡ false
-  unfolding nearestOf
-  nearestOf-least zero j h = absurd (omega arith)
-  nearestOf-least (suc n) j h = go (lt (d n) (nearestOf d n .distance)) refl (eq-or-lt-of-le {n = j} {m = n} (omega arith)) (λ k. nearestOf-least n j k)
-    where
-      go : (b : Bool) → lt (d n) (nearestOf d n .distance) ≡ b → (j ≡ n) ⊎ (j < n) → (j < n → lt (d j) (nearestOf d n .distance) ≡ false)
-          → lt (d j) (cond b (near n (d n)) (nearestOf d n) .distance) ≡ false
-      go true e (inl same) ih = ap (λ i. lt (d i) (d n)) same ∙ lt-self (d n)
-      go true e (inr less) ih = lt-down (d j) (nearestOf d n .distance) (d n) (ih less) e
-      go false e (inl same) ih = ap (λ i. lt (d i) (nearestOf d n .distance)) same ∙ e
-      go false e (inr less) ih = ih less
+  nearestOf-least = best-least nearer (λ a. lt-self (a .distance)) (λ a b c. lt-down (a .distance) (b .distance) (c .distance)) (near 0 infinity) own
 
   -- what is found: nothing below infinity, so line 0; or a line with its distance
   abbrev Met : Near → Type 0
   Met a = ((a .line ≡ 0) × (a .distance ≡ infinity)) ⊎ (a .distance ≡ d (a .line))
 
   nearestOf-met : (n : ℕ) → Met (nearestOf d n)
-  unfolding nearestOf
-  nearestOf-met zero = inl (refl, refl)
-  nearestOf-met (suc n) = go (lt (d n) (nearestOf d n .distance)) (nearestOf-met n)
-    where
-      go : (b : Bool) → Met (nearestOf d n) → Met (cond b (near n (d n)) (nearestOf d n))
-      go true t = inr refl
-      go false t = t
+  nearestOf-met n = best-all nearer Met (near 0 infinity) own n (inl (refl, refl)) (λ t l. inr refl)
 
   -- the distance found is that of the line found, unless all are NaN or infinite and line 0's is a NaN
   nearestOf-distance : (n : ℕ) → 0 < n → isNan (d (nearestOf d n .line)) ≡ false → nearestOf d n .distance ≡ d (nearestOf d n .line)
@@ -93,7 +73,7 @@ module _ (d : ℕ → Float) where
 
   -- every earlier line is farther, where its distance is no NaN
   nearestOf-first : (n j : ℕ) → j < nearestOf d n .line → isNan (d j) ≡ false → lt (d (nearestOf d n .line)) (d j) ≡ true
-  unfolding nearestOf
+  unfolding bestFrom
   nearestOf-first zero j h v = absurd (omega arith)
   nearestOf-first (suc n) j h v = go (lt (d n) (nearestOf d n .distance)) refl h (λ k. nearestOf-first n j k v)
     where
@@ -105,15 +85,11 @@ module _ (d : ℕ → Float) where
   nearestOf-line : (n : ℕ) → 0 < n → NearestLine d n (nearestOf d n .line) (nearestOf d n .distance)
   nearestOf-line n h =
       record {
-        inside = inside n h;
+        inside = best-all nearer (λ a. a .line < n) (near 0 infinity) own n h (λ t l. l);
         nearest = nearestOf-nearest n;
         first = nearestOf-first n;
         distance = nearestOf-distance n h;
       }
-    where
-      inside : (n : ℕ) → 0 < n → nearestOf d n .line < n
-      inside zero h = absurd (omega arith)
-      inside (suc n) h = omega (arith, nearestOf-inside n)
 
 -- ---- a request's plans
 

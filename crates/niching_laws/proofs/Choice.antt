@@ -1,21 +1,21 @@
 -- One open place: what is picked is a waiting member of a line with the least count, and the nearest of that line's members at count 0.
 use Prim.Native.Nat.{ℕ, zero, suc, _%_, _≤_, _<_}
 use mathlib.Core.Path.{_≡_, refl, sym, ap, _∙_}
-use mathlib.Core.Logic.{⊎-elim}
-use mathlib.Core.Bool.{Bool, true, false, cond}
-use mathlib.Core.List.{List, [], _∷_, map, List·Memᴰ·head, List·Memᴰ·tail, List·Memᴰ·not-nil, List·Memᴰ·cases-cons, List·Memᴰ·eq-of-singleton, Memᴰ·map, Memᴰ·of-map}
+use mathlib.Core.Bool.{Bool, true, false}
+use mathlib.Core.List.{List, [], _∷_, map, List·Memᴰ·head, List·Memᴰ·not-nil, Memᴰ·map, Memᴰ·of-map}
 use native.Mathlib.Nat.{mod-lt}
 use native.Mathlib.Omega.{arith}
-use lib.Dec.{eqb, leb}
+use lib.Dec.{eqb, leb, ltb}
 use lib.Ieee.{Float, lt}
-use lib.ListN.{length}
-use borrow.Author.Tests.{eqb-true, eq-eqb, leb-true, leb-false, le-leb}
-use Rattle.model.specs.Lists.{In, has, keep, allIn}
+use lib.ListN.{length, getD}
+use borrow.Author.Tests.{eqb-true, eq-eqb, leb-true, le-leb, le-ltb, ltb-true, ltb-false}
+use Rattle.model.specs.Lists.{In, has, keep, allIn, bestFrom}
 use Rattle.model.specs.Draw.{drawWord, drawUsize}
-use Rattle.model.specs.Kept.{openLines, leastLines, drawFrom, nearestFrom, nearest, drawMember}
-use Rattle.list_laws.proofs.Members.{in-has, has-in, keep-in, in-keep, getD-in, place-of}
+use Rattle.model.specs.Kept.{openLines, leastLines, drawFrom, nearest, drawMember}
+use Rattle.list_laws.proofs.Best.{best-all, best-least}
+use Rattle.list_laws.proofs.Members.{in-has, has-in, keep-in, in-keep, getD-in, place-of, allIn-member}
 use Rattle.list_laws.proofs.Kept.{keepBelow-in, in-keepBelow}
-use Rattle.list_laws.proofs.Tests.{allIn-every, allIn-member}
+use Rattle.list_laws.proofs.Tests.{allIn-every}
 use Rattle.float_laws.proofs.Compared.{lt-self, lt-down}
 
 -- ---- what is drawn of a list that is not empty is in it
@@ -28,53 +28,20 @@ drawFrom-in s {p} {ps} m =
 -- ---- the nearest of a list
 
 module _ (distance : ℕ → Float) where
-  pub nearestFrom-in : (best : ℕ) (ps : List ℕ) → In (nearestFrom distance best ps) (best ∷ ps)
-  unfolding nearestFrom
-  nearestFrom-in best [] = List·Memᴰ·head refl
-  nearestFrom-in best (p ∷ ps) = go (lt (distance p) (distance best)) (λ q. nearestFrom-in q ps)
-    where
-      past : {q r : ℕ} → In r (q ∷ ps) → In r (q ∷ p ∷ ps)
-      past (List·Memᴰ·head e) = List·Memᴰ·head e
-      past (List·Memᴰ·tail m) = List·Memᴰ·tail (List·Memᴰ·tail m)
-
-      go : (b : Bool) → ((q : ℕ) → In (nearestFrom distance q ps) (q ∷ ps)) → In (nearestFrom distance (cond b p best) ps) (best ∷ p ∷ ps)
-      go true ih = List·Memᴰ·tail (ih p)
-      go false ih = past (ih best)
-
-  -- what is not below the distance that the search starts from is not below the one that it ends at
-  nearestFrom-down : (x : Float) (best : ℕ) (ps : List ℕ) → lt x (distance best) ≡ false → lt x (distance (nearestFrom distance best ps)) ≡ false
-  unfolding nearestFrom
-  nearestFrom-down x best [] h = h
-  nearestFrom-down x best (p ∷ ps) h = go (lt (distance p) (distance best)) refl (λ q k. nearestFrom-down x q ps k)
-    where
-      go : (b : Bool) → lt (distance p) (distance best) ≡ b → ((q : ℕ) → lt x (distance q) ≡ false → lt x (distance (nearestFrom distance q ps)) ≡ false)
-          → lt x (distance (nearestFrom distance (cond b p best) ps)) ≡ false
-      go true e ih = ih p (lt-down x (distance best) (distance p) h e)
-      go false e ih = ih best h
-
-  nearestFrom-start : (p : ℕ) (ps : List ℕ) (q : ℕ) → q ≡ p → lt (distance q) (distance (nearestFrom distance p ps)) ≡ false
-  nearestFrom-start p ps q same = nearestFrom-down (distance q) p ps (ap (λ r. lt (distance r) (distance p)) same ∙ lt-self (distance p))
-
-  nearestFrom-least : (best : ℕ) (ps : List ℕ) (q : ℕ) → In q ps → lt (distance q) (distance (nearestFrom distance best ps)) ≡ false
-  unfolding nearestFrom
-  nearestFrom-least best [] q m = absurd (List·Memᴰ·not-nil m)
-  nearestFrom-least best (p ∷ ps) q m =
-      ⊎-elim (λ same. go same (lt (distance p) (distance best)) refl) (λ k. nearestFrom-least (cond (lt (distance p) (distance best)) p best) ps q k) (List·Memᴰ·cases-cons m)
-    where
-      go : q ≡ p → (b : Bool) → lt (distance p) (distance best) ≡ b → lt (distance q) (distance (nearestFrom distance (cond b p best) ps)) ≡ false
-      go same true e = nearestFrom-start p ps q same
-      go same false e = nearestFrom-down (distance q) best ps (ap (λ r. lt (distance r) (distance best)) same ∙ e)
+  abbrev nearer : ℕ → ℕ → Bool
+  nearer p q = lt (distance p) (distance q)
 
   pub nearest-in : {p : ℕ} (ps : List ℕ) → In p ps → In (nearest distance ps) ps
   unfolding nearest
-  nearest-in [] m = absurd (List·Memᴰ·not-nil m)
-  nearest-in (q ∷ qs) m = nearestFrom-in q qs
+  nearest-in ps m = let r = place-of m in best-all nearer (λ q. In q ps) (getD ps 0 0) (λ i. getD ps i 0) (length ps) (getD-in ps 0 (omega (arith, r .1))) (λ t l. getD-in ps t l)
 
   -- no member of a list is nearer than its nearest
   pub nearest-least : (ps : List ℕ) (q : ℕ) → In q ps → lt (distance q) (distance (nearest distance ps)) ≡ false
   unfolding nearest
-  nearest-least [] q m = absurd (List·Memᴰ·not-nil m)
-  nearest-least (p ∷ ps) q m = ⊎-elim (nearestFrom-start p ps q) (nearestFrom-least p ps q) (List·Memᴰ·cases-cons m)
+  nearest-least ps q m =
+      let r = place-of m in
+      ap (λ t. lt (distance t) (distance (nearest distance ps))) (sym (r .2))
+      ∙ best-least nearer (λ p. lt-self (distance p)) (λ p q r. lt-down (distance p) (distance q) (distance r)) (getD ps 0 0) (λ i. getD ps i 0) (length ps) (r .0) (r .1)
 
   drawMember-in : (s count : ℕ) {p : ℕ} (ps : List ℕ) → In p ps → In (drawMember distance count ps s .value) ps
   unfolding drawMember
@@ -89,25 +56,19 @@ module _ (distance : ℕ → Float) where
 -- ---- a list that is not empty has a member with the least count
 
 least-met : (f : ℕ → ℕ) (q : ℕ) (ps : List ℕ) → (r : ℕ) × In r (q ∷ ps) × ((t : ℕ) → In t (q ∷ ps) → f r ≤ f t)
-least-met f q [] = (q, List·Memᴰ·head refl, λ t m. let same : f t ≡ f q = ap f (List·Memᴰ·eq-of-singleton m) in omega arith)
-least-met f q (p ∷ ps) = go (least-met f p ps)
+least-met f q ps = (
+  bestFrom less q (λ i. getD (q ∷ ps) i 0) (length (q ∷ ps)),
+  best-all less (λ r. In r (q ∷ ps)) q (λ i. getD (q ∷ ps) i 0) (length (q ∷ ps)) (List·Memᴰ·head refl) (λ t l. getD-in (q ∷ ps) t l),
+  λ t m. let r = place-of m in
+      let k : f (getD (q ∷ ps) (r .0) 0) ≡ f t = ap f (r .2) in
+      omega (arith, ltb-false (f (getD (q ∷ ps) (r .0) 0)) (f (bestFrom less q (λ i. getD (q ∷ ps) i 0) (length (q ∷ ps)))) (best-least less (λ p. le-ltb (f p) (f p) (omega arith)) down q (λ i. getD (q ∷ ps) i 0) (length (q ∷ ps)) (r .0) (r .1))),
+)
   where
-    go : (r : ℕ) × In r (p ∷ ps) × ((t : ℕ) → In t (p ∷ ps) → f r ≤ f t) → (r : ℕ) × In r (q ∷ p ∷ ps) × ((t : ℕ) → In t (q ∷ p ∷ ps) → f r ≤ f t)
-    go u = pick (leb (f q) (f (u .0))) refl
-      where
-        pick : (b : Bool) → leb (f q) (f (u .0)) ≡ b → (r : ℕ) × In r (q ∷ p ∷ ps) × ((t : ℕ) → In t (q ∷ p ∷ ps) → f r ≤ f t)
-        pick true e = (
-          q,
-          List·Memᴰ·head refl,
-          λ t m.
-              ⊎-elim (λ same. let k : f t ≡ f q = ap f same in omega arith) (λ h. omega (arith, leb-true (f q) (f (u .0)) e, u .2 t h)) (List·Memᴰ·cases-cons m),
-        )
-        pick false e = (
-          u .0,
-          List·Memᴰ·tail (u .1),
-          λ t m.
-              ⊎-elim (λ same. let k : f t ≡ f q = ap f same in omega (arith, leb-false (f q) (f (u .0)) e)) (λ h. u .2 t h) (List·Memᴰ·cases-cons m),
-        )
+    less : ℕ → ℕ → Bool
+    less p r = ltb (f p) (f r)
+
+    down : (x y z : ℕ) → less x y ≡ false → less z y ≡ true → less x z ≡ false
+    down x y z e h = le-ltb (f x) (f z) (omega (arith, ltb-false (f x) (f y) e, ltb-true (f z) (f y) h))
 
 pub least-in : (counts : ℕ → ℕ) {p : ℕ} (ps : List ℕ) → In p ps → (l : ℕ) × In l (leastLines counts ps)
 least-in counts [] m = absurd (List·Memᴰ·not-nil m)

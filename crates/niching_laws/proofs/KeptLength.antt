@@ -1,26 +1,20 @@
 -- The kept list of any request has the size wanted, and the fronts handed out are the pool's.
-use Prim.Native.Nat.{ℕ, zero, suc, _<_, _≤_}
+use Prim.Native.Nat.{suc, _≤_}
 use mathlib.Core.Path.{_≡_, refl}
-use mathlib.Core.Bool.{Bool, false}
 use native.Mathlib.Omega.{arith}
-use borrow.Author.Tests.{ltb-false}
 use lib.Dec.{ltb}
 use lib.ListN.{length, length-append}
-use Rattle.model.specs.Front.{listing, frontList}
+use Rattle.model.specs.Front.{listing, frontList, front}
 use Rattle.model.specs.Association.{Request, dominance}
 use Rattle.model.specs.Kept.{Selected, wholeFronts, before, isSplit, filled, selectedSplit, selectedWhole, selected}
+use Rattle.list_laws.proofs.Rows.{joinBelow-fits}
 use Rattle.list_laws.proofs.Bools.{by-bool}
 use Rattle.list_laws.proofs.Draws.{drawAll-length}
 use Rattle.list_laws.proofs.First.{firstBelow-before}
 
-fronts-le : (d : ℕ → ℕ → Bool) (n size k : ℕ) → ((t : ℕ) → t < k → ltb size (length (listing d n (suc t))) ≡ false) → length (listing d n k) ≤ size
-unfolding listing
-fronts-le d n size zero h = omega arith
-fronts-le d n size (suc k) h = ltb-false size (length (listing d n (suc k))) (h k (omega arith))
-
 pub before-le : (r : Request) → length (before r) ≤ r .size
 unfolding before wholeFronts
-before-le r = fronts-le (dominance r) (r .count) (r .size) (wholeFronts r) (firstBelow-before (λ k. ltb (r .size) (length (listing (dominance r) (r .count) (suc k)))) (r .count))
+before-le r = joinBelow-fits (front (dominance r) (r .count)) (r .size) (wholeFronts r) (firstBelow-before (λ k. ltb (r .size) (length (listing (dominance r) (r .count) (suc k)))) (r .count))
 
 -- what holds whether or not a front is split holds of what is selected
 pub by-split : (r : Request) (P : Selected → Type 0) → P (selectedSplit r) → P (selectedWhole r) → P (selected r)

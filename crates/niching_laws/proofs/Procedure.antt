@@ -23,7 +23,7 @@ use Rattle.niching_laws.proofs.Picks.{waiting-in, in-waiting, pickOne-c
 module _ (before front : List ℕ) (line : ℕ → ℕ) (distance : ℕ → Float) (lines : ℕ) where
   -- no line that is set aside has a candidate
   abbrev Barren : List ℕ → List ℕ → Type 0
-  Barren picked excluded = (j : ℕ) → In j excluded → (p : ℕ) → Candidate before front line distance lines picked j p → ⊥
+  Barren picked excluded = (j : ℕ) → In j excluded → (p : ℕ) → Candidate before front line lines picked j p → ⊥
 
   -- the procedure got here, with lines set aside of which none has a candidate, among them all of count below c, and of the first m all of count c
   record Cleared (picked : List ℕ) (c m : ℕ) : Type 0 where
@@ -35,7 +35,7 @@ module _ (before front : List ℕ) (line : ℕ → ℕ) (distance : ℕ → Floa
   module _ (picked : List ℕ) where
     -- where the lines of a count below c are set aside, a line of count c that is not set aside is a least one
     level-least : {c m : ℕ} (t : Cleared picked c m) (j : ℕ) → j < lines → nicheCount line (before ++ picked) j ≡ c → (In j (t .here .excluded) → ⊥)
-        → Least before front line distance lines (t .here .excluded) picked j
+        → Least before front line lines (t .here .excluded) picked j
     level-least {c} t j inside e fresh = record { inside = inside; considered = fresh; least = λ i h k. go i h k (ltb (count i) c) refl }
       where
         count : ℕ → ℕ
@@ -46,7 +46,7 @@ module _ (before front : List ℕ) (line : ℕ → ℕ) (distance : ℕ → Floa
         go i h k false u = omega (arith, ltb-false (count i) c u)
 
     -- one more line of count c, where no line of count c has a candidate
-    clear-line : (c m : ℕ) → m < lines → ((j p : ℕ) → Candidate before front line distance lines picked j p → nicheCount line (before ++ picked) j ≢ c)
+    clear-line : (c m : ℕ) → m < lines → ((j p : ℕ) → Candidate before front line lines picked j p → nicheCount line (before ++ picked) j ≢ c)
         → Cleared picked c m → Cleared picked c (suc m)
     clear-line c m inside none t = go (eqb (nicheCount line (before ++ picked) m) c) refl (has (t .here .excluded) m) refl
       where
@@ -78,13 +78,13 @@ module _ (before front : List ℕ) (line : ℕ → ℕ) (distance : ℕ → Floa
         go true e false k = add (eqb-true (count m) c e) (λ i. true≢false (sym (in-has (t .here .excluded) m i) ∙ k))
 
     -- all lines of count c
-    clear-level : (c : ℕ) → ((j p : ℕ) → Candidate before front line distance lines picked j p → nicheCount line (before ++ picked) j ≢ c)
+    clear-level : (c : ℕ) → ((j p : ℕ) → Candidate before front line lines picked j p → nicheCount line (before ++ picked) j ≢ c)
         → Cleared picked c 0 → (m : ℕ) → m ≤ lines → Cleared picked c m
     clear-level c none t zero h = t
     clear-level c none t (suc m) h = clear-line c m h none (clear-level c none t m (omega arith))
 
     -- all lines of a count below c, where each line with a candidate counts at least c
-    clear-below : Cleared picked 0 0 → (c : ℕ) → ((j p : ℕ) → Candidate before front line distance lines picked j p → c ≤ nicheCount line (before ++ picked) j)
+    clear-below : Cleared picked 0 0 → (c : ℕ) → ((j p : ℕ) → Candidate before front line lines picked j p → c ≤ nicheCount line (before ++ picked) j)
         → Cleared picked c 0
     clear-below t zero least = t
     clear-below t (suc c) least =
@@ -99,18 +99,18 @@ module _ (before front : List ℕ) (line : ℕ → ℕ) (distance : ℕ → Floa
   -- ---- one pick
 
   module _ (picked : List ℕ) (p : ℕ) (chosen : Chosen line distance (nicheCount line (before ++ picked)) (waiting front picked) p) where
-    candidate : Candidate before front line distance lines picked (line p) p
+    candidate : Candidate before front line lines picked (line p) p
     candidate = let w = in-waiting front picked p (chosen .listed) in record { member = w .member; unpicked = w .unpicked; onLine = refl }
 
-    candidate-waits : (j q : ℕ) → Candidate before front line distance lines picked j q → In q (waiting front picked)
+    candidate-waits : (j q : ℕ) → Candidate before front line lines picked j q → In q (waiting front picked)
     candidate-waits j q k = waiting-in front picked q (record { member = k .member; unpicked = k .unpicked })
 
     -- what is a candidate after the pick was one before
-    candidate-before : (j q : ℕ) → Candidate before front line distance lines (picked ++ (p ∷ [])) j q → Candidate before front line distance lines picked j q
+    candidate-before : (j q : ℕ) → Candidate before front line lines (picked ++ (p ∷ [])) j q → Candidate before front line lines picked j q
     candidate-before j q k = record { member = k .member; unpicked = λ i. k .unpicked (Memᴰ·append-left (p ∷ []) i); onLine = k .onLine }
 
     -- once the lines of a lower count are set aside, p's line is a least one
-    chosen-least : line p < lines → (t : Cleared picked (nicheCount line (before ++ picked) (line p)) 0) → Least before front line distance lines (t .here .excluded) picked (line p)
+    chosen-least : line p < lines → (t : Cleared picked (nicheCount line (before ++ picked) (line p)) 0) → Least before front line lines (t .here .excluded) picked (line p)
     chosen-least h t = level-least picked t (line p) h refl (λ i. t .barren (line p) i p candidate)
 
     picked-once : line p < lines → Cleared picked 0 0 → Cleared (picked ++ (p ∷ [])) 0 0
@@ -152,23 +152,15 @@ module _ (distance : ℕ → Float) {before front : List ℕ} {line : ℕ → �
 
 -- ---- other distances
 
--- who is a candidate and which line is a least one does not depend on them
-module _ {before front : List ℕ} {line : ℕ → ℕ} {distance other : ℕ → Float} {lines : ℕ} where
-  candidate-other : {picked : List ℕ} {j p : ℕ} → Candidate before front line distance lines picked j p → Candidate before front line other lines picked j p
-  candidate-other k = record { member = k .member; unpicked = k .unpicked; onLine = k .onLine }
-
-  least-other : {excluded picked : List ℕ} {j : ℕ} → Least before front line distance lines excluded picked j → Least before front line other lines excluded picked j
-  least-other l = record { inside = l .inside; considered = l .considered; least = l .least }
-
--- so distances by which no candidate is nearer that was not nearer before serve as well
+-- distances by which no candidate is nearer that was not nearer before serve as well
 module _ {before front : List ℕ} {line : ℕ → ℕ} {distance : ℕ → Float} {lines : ℕ} (other : ℕ → Float)
     (weaker : (p q : ℕ) → lt (distance q) (distance p) ≡ false → lt (other q) (other p) ≡ false) where
   pub reached-other : {excluded picked : List ℕ} → Reached before front line distance lines excluded picked → Reached before front line other lines excluded picked
   reached-other start = start
-  reached-other (exclude r l none) = exclude (reached-other r) (least-other l) (λ p k. none p (candidate-other k))
+  reached-other (exclude r l none) = exclude (reached-other r) l none
   reached-other (pickNearest {p = p} r l z c nearest) =
-      pickNearest (reached-other r) (least-other l) z (candidate-other c) (λ q k. weaker p q (nearest q (candidate-other k)))
-  reached-other (pickAny r l z c) = pickAny (reached-other r) (least-other l) z (candidate-other c)
+      pickNearest (reached-other r) l z c (λ q k. weaker p q (nearest q k))
+  reached-other (pickAny r l z c) = pickAny (reached-other r) l z c
 
   pub procedure-other : {picked : List ℕ} → ByProcedure before front line distance lines picked → ByProcedure before front line other lines picked
   procedure-other b = record { excluded = b .excluded; reached = reached-other (b .reached) }

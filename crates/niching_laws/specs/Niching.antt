@@ -1,13 +1,14 @@
 -- What is proved of the plans picked for the open places. `before` are the plans already kept (the whole fronts), `front` is the split front, `picked` are
 -- the plans of it that were picked so far, in order, and `line` gives each plan its line.
-use Prim.Native.Nat.{ℕ, zero, suc, _+_, _*_, _≤_, _<_}
+use Prim.Native.Nat.{ℕ, zero, suc, _+_, _≤_, _<_}
 use mathlib.Core.Path.{_≡_}
 use mathlib.Core.List.{List, [], _∷_, _++_}
 use lib.Ieee.{Float}
 use lib.ListN.{length}
-use Rattle.model.specs.Lists.{In, Distinct, sumBelow}
+use Rattle.model.specs.Lists.{In, Distinct}
 use Rattle.model.specs.Kept.{nicheCount}
 use Rattle.model.specs.Papers.DebJain2014.{Reached}
+use Rattle.model.specs.Demand3.{sumSquares}
 
 -- the setting: different plans in the split front, none of them kept before, each on a line below `lines`
 pub record Split (before front : List ℕ) (line : ℕ → ℕ) (lines : ℕ) : Type 0 where
@@ -57,10 +58,6 @@ pub record Filling (front : List ℕ) (n : ℕ) (other : List ℕ) : Type 0 wher
 abbrev pub Balanced : List ℕ → List ℕ → (ℕ → ℕ) → List ℕ → Type 0
 Balanced before front line picked =
     (l w : ℕ) → Served line picked l → Waited line front picked w → nicheCount line (before ++ picked) l ≤ nicheCount line (before ++ picked) w + 1
-
--- the sum of the squares of the counts of all lines
-abbrev pub sumSquares : ℕ → (ℕ → ℕ) → ℕ
-sumSquares lines counts = sumBelow (λ l. counts l * counts l) lines
 
 -- no other filling of the n places has a smaller sum of squared counts
 abbrev pub Least : List ℕ → List ℕ → (ℕ → ℕ) → ℕ → ℕ → List ℕ → Type 0

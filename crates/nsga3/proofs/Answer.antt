@@ -1,5 +1,5 @@
 -- The answer of a selection, from what its steps leave.
-use Prim.Native.Nat.{ℕ, _+_, _*_, _-_, _≤_}
+use Prim.Native.Nat.{ℕ, _*_, _-_, _≤_}
 use mathlib.Core.Path.{_≡_, ap, ap₂, sym, subst, _∙_}
 use mathlib.Core.Bool.{Bool}
 use mathlib.Core.List.{List, _++_}
@@ -14,7 +14,7 @@ use Rattle.refusals.specs.Checked.{checked}
 use Rattle.model.specs.Lists.{over}
 use Rattle.model.specs.Association.{Request, objectives}
 use Rattle.model.specs.Refusal.{selectRefusal}
-use Rattle.niching_laws.proofs.KeptLength.{fronts-all}
+use Rattle.niching_laws.proofs.KeptLength.{kept-length, fronts-all}
 use Rattle.model.specs.Kept.{before, isSplit, bySplit, selectedWhole, selected, padding, noLine}
 use Rattle.model.specs.Calls.{Lent, lent, roomOf, SelectExit, wordRequest, answered, selectAccepted, selectBy, selectOf, Selects}
 use Rattle.demand3_laws.proofs.Calls.{planAt-row, selects}
@@ -64,6 +64,8 @@ accepted-exit r o c i k₀ k f₀ f l₀ l g a h =
     ∙ ap₂ (λ x y. exit (answered (outcome.Kept (r .size)) (selected r .state)) (selected r .ideal) x f y) (h .kept) (h .lines)
     ∙ ap (λ x. exit (answered (outcome.Kept (r .size)) (selected r .state)) (selected r .ideal) (over (selected r .kept) k₀) x (over (selected r .lines) l₀))
     (a .ranks ∙ ap (λ t. over t f₀) (sym (fronts-all r)))
+    ∙ ap (λ n. exit (answered (outcome.Kept n) (selected r .state)) (selected r .ideal) (over (selected r .kept) k₀) (over (selected r .fronts) f₀) (over (selected r .lines) l₀))
+    (sym (kept-length r))
 
 module _ (pool directions : List ℕ) (divisions size : ℕ) (g : Rng) (ideal : List Float) (entry : Lent) where
   abbrev r : Request

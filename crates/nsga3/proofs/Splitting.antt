@@ -1,5 +1,5 @@
 -- A selection that splits a front, step by step: what each call asks, and that what they leave is the model's selection.
-use Prim.Native.Nat.{ℕ, _+_, _-_, _≤_, _<_}
+use Prim.Native.Nat.{ℕ, _-_, _≤_, _<_}
 use mathlib.Core.Path.{_≡_, refl, ap, ap₂, sym, subst, _∙_}
 use mathlib.Core.Bool.{true}
 use mathlib.Core.List.{List, _++_, flatten}
@@ -16,9 +16,8 @@ use Rattle.model.specs.Kept.{wholeFronts, before, isSplit, splitFront, filled, 
 use Rattle.list_laws.specs.Occ.{Below}
 use Rattle.list_laws.proofs.Built.{listBelow-length, over-all, over-below}
 use Rattle.list_laws.proofs.Members.{under-at, under-below}
-use Rattle.front_laws.proofs.Order.{listing-below}
+use Rattle.front_laws.proofs.Order.{listing-below, front-exactly}
 use Rattle.front_laws.proofs.Rounds.{found}
-use Rattle.front_laws.proofs.Theorems.{front-distinct}
 use Rattle.niching_laws.proofs.Association.{lineOf-inside}
 use Rattle.association_laws.specs.Request.{Pool, LinesIn, Associates}
 use Rattle.association_laws.proofs.Request.{lines-at}
@@ -57,7 +56,7 @@ module _ {r : Request} {keptRoom linesRoom : ℕ} {rows : List Float} {order : L
 
   split-distinct : Distinct (splitFront r)
   unfolding splitFront
-  split-distinct = front-distinct (dominance r) (r .count) (wholeFronts r)
+  split-distinct = front-exactly (dominance r) (r .count) (wholeFronts r) .distinct
 
   -- ---- where the cut splits a front
 

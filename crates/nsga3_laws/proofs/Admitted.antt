@@ -7,10 +7,11 @@ use lib.Dec.{eqb}
 use lib.ListN.{length}
 use Rattle.model.specs.Association.{Request, objectives}
 use Rattle.model.specs.Refusal.{Room, goodIdeal, selectRefusal}
+use Rattle.list_laws.proofs.Checks.{pool-plans, pool-ideal}
 use Rattle.list_laws.proofs.Bools.{and-left}
 use Rattle.reference_laws.proofs.Divisions.{allowed}
 use Rattle.reference_laws.proofs.Count.{lines-some}
-use Rattle.demand3_laws.proofs.Passed.{one-to-1024, some-objectives, pool-plans, pool-ideal, room-each, select-passed}
+use Rattle.demand3_laws.proofs.Passed.{one-to-1024, some-objectives, room-each, select-passed}
 use Rattle.nsga3_laws.specs.Admitted.{Admitted}
 
 ideal-length : (r : Request) → goodIdeal (objectives r) (r .ideal) ≡ true → length (r .ideal) ≡ objectives r

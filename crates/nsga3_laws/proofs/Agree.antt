@@ -1,20 +1,19 @@
 -- The picks look at the lines and distances of the pool's plans alone: two lists of them that agree below n give the same picks.
 use Prim.Native.Nat.{ℕ, zero, suc, _<_}
 use mathlib.Core.Path.{_≡_, refl, ap, ap₂, _∙_, fun-ext}
-use mathlib.Core.Bool.{Bool, true, false, cond, not}
+use mathlib.Core.Bool.{Bool, not}
 use mathlib.Core.List.{List, [], _∷_, _++_, map, List·Memᴰ·head, List·Memᴰ·tail}
-use borrow.Author.Tests.{ltb-true, ltb-false}
-use lib.Dec.{eqb, ltb}
+use lib.Dec.{eqb}
 use lib.Ieee.{Float, lt}
 use lib.ListN.{length, getD, List·getD-eq-default}
 use Rattle.model.specs.Lists.{has, keep, keepBelow}
 use Rattle.model.specs.Draw.{Drawn, drawn, drawAll}
-use Rattle.model.specs.Kept.{nicheCount, waiting, openLines, leastLines, drawFrom, nearestFrom, nearest, drawMember, pickOne, picks}
+use Rattle.model.specs.Kept.{nicheCount, waiting, openLines, leastLines, drawFrom, nearest, drawMember, pickOne, picks}
+use Rattle.list_laws.proofs.Below.{by-lt}
+use Rattle.list_laws.proofs.Best.{best-all, best-agree}
 pub use Rattle.list_laws.specs.Occ.{Below}
-use Rattle.list_laws.proofs.Bools.{by-bool}
 use Rattle.list_laws.proofs.Members.{tally-same, keep-same, in-keep, getD-in, below-append, below-none, below-snoc}
 use Rattle.list_laws.proofs.Draws.{inTurn-same, drawAll-keeps}
-use Rattle.niching_laws.proofs.Choice.{nearestFrom-in}
 
 -- a list of draws below n is below n
 pub drawn-below : (n : ℕ) (next : ℕ → List ℕ → ℕ → Drawn ℕ) → ((i : ℕ) (l : List ℕ) (t : ℕ) → next i l t .value < n) → (k s : ℕ) → Below n (drawAll next k s .value)
@@ -27,14 +26,11 @@ module _ (n : ℕ) (some : 0 < n) where
   keep-below f l h q m = h q (in-keep f l q m .0)
 
   at-below : (l : List ℕ) (i : ℕ) → Below n l → getD l i 0 < n
-  at-below l i h = by-bool (ltb i (length l))
-      (λ e. h (getD l i 0) (getD-in l i (ltb-true i (length l) e)))
-      (λ e. rw (List·getD-eq-default l 0 (ltb-false i (length l) e)) some)
+  at-below l i h = by-lt i (length l) (λ u. h (getD l i 0) (getD-in l i u)) (λ u. rw (List·getD-eq-default l 0 u) some)
 
   nearest-below : (far : ℕ → Float) (l : List ℕ) → Below n l → nearest far l < n
   unfolding nearest
-  nearest-below far [] h = some
-  nearest-below far (x ∷ l) h = h (nearestFrom far x l) (nearestFrom-in far x l)
+  nearest-below far l h = best-all (λ p q. lt (far p) (far q)) (λ p. p < n) (getD l 0 0) (λ i. getD l i 0) (length l) (at-below l 0 h) (λ t u. at-below l t h)
 
   member-below : (far : ℕ → Float) (count : ℕ) (l : List ℕ) (s : ℕ) → Below n l → drawMember far count l s .value < n
   unfolding drawMember drawFrom
@@ -62,22 +58,10 @@ module _ (n : ℕ) (some : 0 < n) where
     members-agree : (l : List ℕ) → Below n l → _≡_ {A = ℕ → List ℕ} (λ v. keep (λ p. eqb (line p) v) l) (λ v. keep (λ p. eqb (line′ p) v) l)
     members-agree l h = fun-ext (λ v. keep-same _ _ l (λ q m. ap (λ t. eqb t v) (lines-agree q (h q m))))
 
-    one-below : (b : Bool) (p q : ℕ) → p < n → q < n → cond b p q < n
-    one-below true p q h k = h
-    one-below false p q h k = k
-
-    from-agree : (best : ℕ) (l : List ℕ) → best < n → Below n l → nearestFrom far best l ≡ nearestFrom far′ best l
-    unfolding nearestFrom
-    from-agree best [] b h = refl
-    from-agree best (x ∷ l) b h =
-        let u = h x (List·Memᴰ·head refl) in
-        ap₂ (λ f g. nearestFrom far (cond (lt f g) x best) l) (far-agree x u) (far-agree best b)
-        ∙ from-agree (cond (lt (far′ x) (far′ best)) x best) l (one-below (lt (far′ x) (far′ best)) x best u b) (λ q m. h q (List·Memᴰ·tail m))
-
     nearest-agree : (l : List ℕ) → Below n l → nearest far l ≡ nearest far′ l
     unfolding nearest
-    nearest-agree [] h = refl
-    nearest-agree (x ∷ l) h = from-agree x l (h x (List·Memᴰ·head refl)) (λ q m. h q (List·Memᴰ·tail m))
+    nearest-agree l h = best-agree (λ p q. lt (far p) (far q)) (λ p q. lt (far′ p) (far′ q)) (λ p. p < n) (getD l 0 0) (λ i. getD l i 0) (length l)
+        (at-below l 0 h) (λ t u. at-below l t h) (λ p q u v. ap₂ lt (far-agree p u) (far-agree q v))
 
     member-agree : (count : ℕ) (l : List ℕ) (s : ℕ) → Below n l → drawMember far count l s ≡ drawMember far′ count l s
     unfolding drawMember

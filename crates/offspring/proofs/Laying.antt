@@ -1,44 +1,41 @@
 -- Candidates laid at a slice's front, some after the others, with the generator after them.
-use mathlib.Core.Path.{_≡_, refl, sym, ap, subst, _∙_}
-use mathlib.Core.List.{List, [], _∷_, _++_, map}
+use mathlib.Core.Path.{_≡_, refl, sym, ap, subst, _∙_, ap₂}
+use mathlib.Core.List.{List, [], _∷_, _++_, map, flatten}
 use Prim.Native.Nat.{ℕ, zero, suc, _+_, _-_, _*_, _/_, _≤_, _<_, min}
 use native.Mathlib.Nat.{add-mul, one-mul, mul-le-mul-right}
 use native.Mathlib.Omega.{arith}
 use lib.ListN.{length, getD, take, length-append}
-use lib.Seq.{take-all, take-append-add}
+use lib.Seq.{take-all, take-append-add, sets}
 use Rattle.model.specs.declared.Distribution.{Distribution}
 use Rattle.model.specs.declared.ParamValue.{ParamValue}
 use Rattle.model.specs.Draw.{Drawn, drawn, inTurn}
 use Rattle.list_laws.proofs.Draws.{inTurn-keeps, inTurn-more}
 use Rattle.model.specs.Plan.{Plan}
 use Rattle.model.specs.Setting.{toWord, wordsOf, sortByParam, extract, Operators, Children, children, brood, broods, offspringOf}
-use Rattle.model.specs.Session.{overAt}
-use Rattle.candidates.proofs.Laid.{at-next, words-one, LaidOut, laid-none, laid-more}
+use Rattle.list_laws.proofs.Rows.{row-within}
+use Rattle.list_laws.proofs.Runs.{sets-append}
+use Rattle.candidates.proofs.Laid.{words-one, LaidOut, laid-none, laid-more}
 
 words-two : (a b : List ParamValue) → wordsOf (a ∷ b ∷ []) ≡ map toWord a ++ map toWord b
-unfolding wordsOf
+unfolding wordsOf flatten
 words-two a b = ap (λ t. map toWord a ++ t) (words-one b)
 
 -- ---- two children, or the first where there is room for it only
 
 -- the second fits where there is one
 pub second-fits : (at size n len : ℕ) → at + 1 < size → size * n ≤ len → at * n + n + n ≤ len
-second-fits at size n len h l =
-    let e = add-mul at 2 n in
-    let g = mul-le-mul-right {m = at + 2} {n = size} n (omega arith) in
-    omega arith
+second-fits at size n len h l = omega (arith, row-within (at + 1) size n len h l, add-mul at 1 n, one-mul n)
 
-module _ (a b : List ParamValue) (n at size : ℕ) (l l′ l″ : List ℕ) (first : l′ ≡ overAt (at * n) (map toWord a) l) where
-  pub both : length (map toWord a) ≡ n → at * n ≤ length l → at + 1 < size → l″ ≡ overAt (at * n + n) (map toWord b) l′
-      → l″ ≡ overAt (at * n) (wordsOf (take (size - at) (a ∷ b ∷ []))) l
-  both z h room second =
-      second ∙ ap (overAt (at * n + n) (map toWord b)) first ∙ at-next (at * n) (at * n + n) (map toWord a) (map toWord b) l h (ap (λ k. at * n + k) z)
-      ∙ ap (λ t. overAt (at * n) t l) (sym (words-two a b) ∙ ap wordsOf (sym (take-all (size - at) (a ∷ b ∷ []) (omega arith))))
+module _ (a b : List ParamValue) (n at size : ℕ) (l l′ l″ : List ℕ) (first : l′ ≡ sets l (at * n) (map toWord a)) where
+  pub both : length (map toWord a) ≡ n → at + 1 < size → l″ ≡ sets l′ (at * n + n) (map toWord b) → l″ ≡ sets l (at * n) (wordsOf (take (size - at) (a ∷ b ∷ [])))
+  both z room second =
+      second ∙ ap₂ (λ x k. sets x (at * n + k) (map toWord b)) first (sym z) ∙ sym (sets-append l (at * n) (map toWord a) (map toWord b))
+      ∙ ap (sets l (at * n)) (sym (words-two a b) ∙ ap wordsOf (sym (take-all (size - at) (a ∷ b ∷ []) (omega arith))))
 
-  pub one : at < size → size ≤ at + 1 → l′ ≡ overAt (at * n) (wordsOf (take (size - at) (a ∷ b ∷ []))) l
+  pub one : at < size → size ≤ at + 1 → l′ ≡ sets l (at * n) (wordsOf (take (size - at) (a ∷ b ∷ [])))
   one h room =
       let e : size - at ≡ 1 = omega arith in
-      first ∙ ap (λ t. overAt (at * n) t l) (sym (words-one a)) ∙ ap (λ k. overAt (at * n) (wordsOf (take k (a ∷ b ∷ []))) l) (sym e)
+      first ∙ ap (sets l (at * n)) (sym (words-one a) ∙ ap (λ k. wordsOf (take k (a ∷ b ∷ []))) (sym e))
 
 -- ---- parents: the settings of a kept list's plan i
 
@@ -85,7 +82,7 @@ module _ (o : Operators) (parents : List (List ParamValue)) (ranks : ℕ → ℕ
     module _ (n : ℕ) (a b : List ParamValue) (za : length (map toWord a) ≡ n) (zb : length (map toWord b) ≡ n) where
       -- their words
       room-words : (r : ℕ) → length (wordsOf (take r (a ∷ b ∷ []))) ≡ min r 2 * n
-      unfolding wordsOf
+      unfolding wordsOf flatten
       room-words zero = let e : min 0 2 ≡ 0 = omega arith in omega (arith, ap (λ j. j * n) e)
       room-words (suc zero) =
           let e : min 1 2 ≡ 1 = omega arith in
@@ -96,7 +93,7 @@ module _ (o : Operators) (parents : List (List ParamValue)) (ranks : ℕ → ℕ
           ∙ omega (arith, ap (λ j. j * n) e)
 
       pub bred-more : (old : List ℕ) (k : ℕ) (out : List ℕ) (t : ℕ) → LaidOut old (min (2 * k) size * n) (bredBy k) out t → 2 * k < size → size * n ≤ length old
-          → (u : ℕ) (out′ : List ℕ) → drawn (children a b) u ≡ brood o parents ranks t → out′ ≡ overAt (2 * k * n) (wordsOf (take (size - 2 * k) (a ∷ b ∷ []))) out
+          → (u : ℕ) (out′ : List ℕ) → drawn (children a b) u ≡ brood o parents ranks t → out′ ≡ sets out (2 * k * n) (wordsOf (take (size - 2 * k) (a ∷ b ∷ [])))
           → LaidOut old (min (2 * (k + 1)) size * n) (bredBy (k + 1)) out′ u
       bred-more old k out t h room fits u out′ e put =
           let m : min (2 * k) size ≡ 2 * k = omega arith in

@@ -7,11 +7,10 @@ ghost use Prim.Native.Nat.{ℕ, _*_, _-_, _≤_, _<_};
 ghost use lib.ListN.{length, getD, take};
 ghost use Rattle.model.specs.Lists.{over};
 ghost use Rattle.model.specs.Plan.{planAt, planCount};
-ghost use Rattle.model.specs.Setting.{parentsOf, offspringOf, wordsOf};
-ghost use Rattle.model.specs.Session.{overAt};
+ghost use Rattle.model.specs.Setting.{parentsOf, offspringOf, wordsOf, operators, dimensionsOf};
 ghost use Rattle.model.specs.Refusal.{badDimensions, badOperators};
-ghost use Rattle.settings.specs.Candidate.{dimensionsOf, settingsOf, parentsIn};
-ghost use Rattle.genetic.specs.Parents.{operators};
+ghost use lib.Seq.{sets};
+ghost use Rattle.settings.specs.Candidate.{settingsOf, parentsIn};
 use model::DimensionInfo;
 use model::Rng;
 use settings::Slot;
@@ -56,7 +55,7 @@ fn put_children(
 )
     requires { ⌜ (n ≤ 32) × (at < size) × (size * n ≤ length (now out)) ⌝ }
     ensures { λ _. ⌜ now (out .exit)
-        ≡ overAt (at * n) (wordsOf (take (size - at) (settingsOf first n ∷ settingsOf second n ∷ []))) (now (out .entry)) ⌝ }
+        ≡ sets (now (out .entry)) (at * n) (wordsOf (take (size - at) (settingsOf first n ∷ settingsOf second n ∷ []))) ⌝ }
 {
     candidates::put_candidate(first, n, at * n, out);
     if at + 1 < size {

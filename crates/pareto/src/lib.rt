@@ -7,7 +7,8 @@ ghost use lib.ListN.{length, getD};
 ghost use lib.Seq.{sets};
 ghost use Rattle.model.specs.Lists.{keepBelow, listBelow, over};
 ghost use Rattle.model.specs.Refusal.{maxSize};
-ghost use Rattle.front_laws.specs.Flat.{minimised, flatDominates, flatBeats, Pool, KnownRows};
+ghost use Rattle.model.specs.Row.{minimised};
+ghost use Rattle.front_laws.specs.Flat.{flatDominates, flatBeats, Pool, KnownRows};
 ghost use Rattle.front_laws.specs.Post.{Sorted};
 
 // A row in minimise-space: as many of the values as there are directions.

@@ -7,7 +7,7 @@ use native.Mathlib.Omega.{arith}
 use lib.Ieee.{Float, nan, isNan}
 use lib.ListN.{length}
 use Rattle.model.specs.Lists.{allBelow}
-use Rattle.model.specs.Plan.{Plan, planAt, maxValues, maxConstraints}
+use Rattle.model.specs.Plan.{Plan, planAt, maxObjectives, maxConstraints}
 use Rattle.model.specs.Row.{rowOf, feasible, violation, beats}
 use Rattle.model.specs.Refusal.{goodPlan}
 use Rattle.list_laws.proofs.Built.{over-below}
@@ -34,7 +34,7 @@ module _ (pool marks : List ℕ) (n : ℕ) (good : allBelow (λ p. goodPlan (len
   pool-constraint-counts p l = good-constraints (length marks) (planAt pool p) (good-at p l)
 
   -- no value is a NaN
-  pub pool-known : length marks ≤ maxValues → (p : ℕ) → p < n → Known (length marks) (rowOf marks (planAt pool p))
+  pub pool-known : length marks ≤ maxObjectives → (p : ℕ) → p < n → Known (length marks) (rowOf marks (planAt pool p))
   pool-known h p l =
       accepted-known marks (length marks) (planAt pool p)
       (words-accepted (length marks) _ h (good-at p l))

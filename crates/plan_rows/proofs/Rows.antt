@@ -7,7 +7,7 @@ use lib.Ieee.{Float, nan}
 use lib.ListN.{length, getD}
 use lib.Seq.{sets}
 use Rattle.model.specs.Lists.{listBelow}
-use Rattle.model.specs.Plan.{Plan, maxValues, planOf}
+use Rattle.model.specs.Plan.{Plan, maxObjectives, planOf}
 use Rattle.model.specs.Real.{real}
 use Rattle.model.specs.Row.{directionOf, toMinimize, rowOf}
 use Rattle.list_laws.proofs.Built.{listBelow-length, listBelow-at}
@@ -17,12 +17,12 @@ use Rattle.plans.proofs.Refused.{planFrom, words-row}
 use Rattle.plan_rows.specs.Filled.{RowAt, RowsOf}
 
 -- the plan lies in a slice of words from place `at` on, and has a value at objective j
-module _ (marks words : List ℕ) (at j : ℕ) (h : j < maxValues) (k : j < planFrom words at .rowLength) where
+module _ (marks words : List ℕ) (at j : ℕ) (h : j < maxObjectives) (k : j < planFrom words at .rowLength) where
   pub row-at : rowOf marks (planFrom words at) j ≡ toMinimize (directionOf (getD marks j 0)) (real (getD words (at + 2 + j) 0))
   unfolding rowOf planOf
   row-at =
       ap (toMinimize (directionOf (getD marks j 0)))
-      (ap (λ l. getD l j nan) (words-row words at) ∙ listBelow-at _ (min (getD words (at + 1) 0) maxValues) nan j (omega arith))
+      (ap (λ l. getD l j nan) (words-row words at) ∙ listBelow-at _ (min (getD words (at + 1) 0) maxObjectives) nan j (omega arith))
 
 -- one row more behind those of the first p plans
 pub rows-more : (marks : List ℕ) (plans : ℕ → Plan) (p : ℕ) (old mid new : List Float) → p * length marks + length marks ≤ length old

@@ -10,7 +10,7 @@ use lib.Dec.{eqb, leb}
 use lib.Ieee.{Float, nan, binary64, le, ofBits}
 use lib.ListN.{length, getD}
 use Rattle.model.specs.Lists.{allBelow, allIn, listBelow}
-use Rattle.model.specs.Plan.{Plan, planOf, maxValues, maxConstraints}
+use Rattle.model.specs.Plan.{Plan, planOf, maxObjectives, maxConstraints}
 use Rattle.model.specs.Real.{real}
 use Rattle.model.specs.Refusal.{badDirections, measurable, isInfinity, goodIdeal, goodPlan}
 use Rattle.list_laws.proofs.Bools.{and-no}
@@ -82,7 +82,7 @@ module _ (words : List ℕ) (at : ℕ) where
   moved from n = listBelow-same _ _ n (λ j l. ap (λ t. real (getD words t 0)) (sym (add-assoc at from j)))
 
   -- its values and constraints
-  pub words-row : planFrom .row ≡ listBelow (λ j. real (getD words (at + 2 + j) 0)) (min (getD words (at + 1) 0) maxValues)
+  pub words-row : planFrom .row ≡ listBelow (λ j. real (getD words (at + 2 + j) 0)) (min (getD words (at + 1) 0) maxObjectives)
   unfolding planOf
   words-row = moved 2 _
 
@@ -103,11 +103,11 @@ module _ (words : List ℕ) (at : ℕ) where
     unfolding goodPlan planOf
     plan-constraints h = rw (lt-leb (getD words (at + 10) 0) maxConstraints h) (and-no (eqb (getD words (at + 1) 0) m) false refl)
 
-    pub plan-measured : m ≤ maxValues → getD words (at + 1) 0 ≡ m → getD words (at + 10) 0 ≤ maxConstraints → (b : Bool) → measurableTo words (at + 2) m ≡ b
+    pub plan-measured : m ≤ maxObjectives → getD words (at + 1) 0 ≡ m → getD words (at + 10) 0 ≤ maxConstraints → (b : Bool) → measurableTo words (at + 2) m ≡ b
         → goodPlan m planFrom ≡ (b && measurableTo words (at + 11) (getD words (at + 10) 0))
     unfolding goodPlan planOf
     plan-measured h e k b v =
-        let a : min (getD words (at + 1) 0) maxValues ≡ m = omega arith in
+        let a : min (getD words (at + 1) 0) maxObjectives ≡ m = omega arith in
         rw (eq-eqb (getD words (at + 1) 0) m e, le-leb (getD words (at + 10) 0) maxConstraints k)
         (ap₂ (λ x y. x && y)
         (ap (allIn measurable) (words-row ∙ ap (listBelow _) a) ∙ allIn-listBelow measurable _ m ∙ v)

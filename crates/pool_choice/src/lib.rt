@@ -3,7 +3,7 @@ ghost use mathlib.Core.Path.{_≡_};
 ghost use Prim.Native.Nat.{_≤_};
 ghost use lib.ListN.{length, replicate};
 ghost use Rattle.model.specs.Real.{infinity};
-ghost use Rattle.model.specs.Plan.{maxValues};
+ghost use Rattle.model.specs.Plan.{maxObjectives};
 ghost use Rattle.model.specs.Calls.{wordRequest, Chooses};
 ghost use Rattle.pool_laws.specs.Choice.{exit, listExit};
 use model::Chosen;
@@ -23,7 +23,7 @@ fn choose_words(
     rng: Rng,
     out: &mut [u8],
 ) -> Chosen
-    requires { ⌜ length (now directions) ≤ maxValues ⌝ }
+    requires { ⌜ length (now directions) ≤ maxObjectives ⌝ }
     ensures { λ r. ⌜ exit r (now (out .exit))
         ≡ listExit (wordRequest (now (pool .entry)) (now (directions .entry)) divisions size rng (replicate (length (now (directions .entry))) infinity))
         (now (out .entry)) ⌝ }

@@ -7,8 +7,9 @@ use native.Mathlib.Omega.{arith}
 use borrow.Author.Tests.{le-leb, lt-leb}
 use lib.ListN.{length, take, drop, length-map, drop-of-length-le}
 use lib.Seq.{sets, sets-eq, drop-cons, take-all, take-at}
-use Rattle.model.specs.Plan.{Plan, maxValues}
+use Rattle.model.specs.Plan.{Plan, maxObjectives}
 use Rattle.model.specs.PoolFile.{Parsed, onward, number, many, plan, poolFile, parse, wholly, ifNoneLeft, maxFile}
+use Rattle.list_laws.proofs.Bools.{by-option}
 use Rattle.pool_plans.specs.declared.End.{End}
 use Rattle.pool_plans.specs.declared.End.the-variants as end
 use Rattle.pool_file.specs.declared.Header.{Header}
@@ -17,7 +18,7 @@ use Rattle.pool_file.specs.declared.Heading.the-variants as heading
 use Rattle.pool_number.specs.Reading.{read}
 use Rattle.pool_plans.specs.Blocks.{Words, WordsIs, Plans, PlansIs}
 use Rattle.pool_file.specs.Parsing.{headerOf, fileOf, afterHeader, HeadingIs, Pool, capped}
-use Rattle.pool_number.proofs.Options.{by-option, many-length}
+use Rattle.pool_number.proofs.Options.{many-length}
 use Rattle.pool_plans.proofs.Storing.{stored-plain}
 
 -- ---- the header
@@ -98,16 +99,16 @@ module _ (file : List ℕ) (fits : length file ≤ maxFile) (r : Heading) (k : H
 pub record Marked (file : List ℕ) (h : Header) (l o : List ℕ) (next : ℕ) : Type 0 where
   pub at : ℕ
   pub begun : Begun file h at
-  pub marks : Words capped file at (h .m) maxValues 0 l o next
+  pub marks : Words capped file at (h .m) maxObjectives 0 l o next
 
-module _ (file : List ℕ) (h : Header) (at : ℕ) (b : Begun file h at) (l o : List ℕ) (q : End) (w : WordsIs capped file at (h .m) maxValues 0 l o q) where
+module _ (file : List ℕ) (h : Header) (at : ℕ) (b : Begun file h at) (l o : List ℕ) (q : End) (w : WordsIs capped file at (h .m) maxObjectives 0 l o q) where
   pub parse-no-marks : q ≡ end.Broken → parse file ≡ none
   parse-no-marks g =
       b ∙ ap wholly (after-no-marks h (drop at file)
-      (subst (λ (x : End). WordsIs capped file at (h .m) maxValues 0 l o x) g w))
+      (subst (λ (x : End). WordsIs capped file at (h .m) maxObjectives 0 l o x) g w))
 
   pub parse-marked : (next : ℕ) → q ≡ end.At next → Marked file h l o next
-  parse-marked next g = record { at = at; begun = b; marks = subst (λ (x : End). WordsIs capped file at (h .m) maxValues 0 l o x) g w }
+  parse-marked next g = record { at = at; begun = b; marks = subst (λ (x : End). WordsIs capped file at (h .m) maxObjectives 0 l o x) g w }
 
 module _ (file : List ℕ) (h : Header) (l o : List ℕ) (next : ℕ) (m : Marked file h l o next) (pool : List ℕ) (y : End)
     (v : PlansIs file next (h .m) (h .count) pool y) where

@@ -1,4 +1,5 @@
 -- What the parser answers and stores, in model's words.
+use Rattle.pool_file.specs.declared.Parsed.{Parsed as Answer}
 use Prim.Native.Nat.{ℕ, _≤_, _<_}
 use mathlib.Core.Path.{_≡_}
 use mathlib.Core.Bool.{cond}
@@ -6,14 +7,13 @@ use mathlib.Core.List.{List, map}
 use mathlib.Core.Option.{none, some}
 use lib.Dec.{ltb}
 use lib.ListN.{length, getD, take, drop}
-use Rattle.model.specs.Plan.{Plan, planAt, maxValues}
-use Rattle.model.specs.PoolFile.{Reader, PoolFile, pure, _>>=_, number, many, plan, poolFile, parse, noPlan}
+use Rattle.model.specs.Plan.{Plan, planAt, maxObjectives}
+use Rattle.model.specs.PoolFile.{Reader, PoolFile, pure, number, many, plan, poolFile, parse, noPlan, _>>=_}
 use Rattle.model.specs.Refusal.{maxSize}
 use Rattle.pool_plans.specs.Blocks.{roomed}
 use Rattle.pool_file.specs.declared.Header.{Header}
 use Rattle.pool_file.specs.declared.Heading.{Heading}
 use Rattle.pool_file.specs.declared.Heading.the-variants as heading
-use Rattle.pool_file.specs.declared.Parsed.{Parsed as Answer}
 use Rattle.pool_file.specs.declared.Parsed.the-variants as answer
 
 -- a mark as a byte holds it: 0 and 1 as they are, and 2 for every other
@@ -57,7 +57,7 @@ pub record Pool (file : List ℕ) (h : Header) (directions pool : List ℕ) : Ty
   pub seed : form .seed ≡ h .seed
   pub markCount : length (form .marks) ≡ h .m
   pub planCount : length (form .plans) ≡ h .count
-  pub marks : h .m ≤ maxValues → take (h .m) directions ≡ map capped (form .marks)
+  pub marks : h .m ≤ maxObjectives → take (h .m) directions ≡ map capped (form .marks)
   pub plans : h .count ≤ maxSize → (p : ℕ) → p < h .count → planAt pool p ≡ roomed (getD (form .plans) p noPlan)
 
 -- THE PROMISE of the parser

@@ -7,7 +7,7 @@ use pool_plans::read_words;
 ghost use mathlib.Core.Path.{_≡_};
 ghost use Prim.Native.Nat.{_*_, _≤_};
 ghost use lib.ListN.{length};
-ghost use Rattle.model.specs.Plan.{planWords, maxValues};
+ghost use Rattle.model.specs.Plan.{planWords, maxObjectives};
 ghost use Rattle.model.specs.Refusal.{maxSize};
 ghost use Rattle.pool_plans.specs.Blocks.{WordsIs};
 ghost use Rattle.pool_file.specs.Parsing.{capped, HeadingIs, PoolIs};
@@ -45,8 +45,8 @@ fn capped(v: u64) -> u8
 
 // Reads n direction marks; the first 8 of them are stored at the front.
 fn read_marks(file: &[u8], at: usize, n: usize, directions: &mut [u8]) -> End
-    requires { ⌜ maxValues ≤ length (now directions) ⌝ }
-    ensures { λ r. ⌜ WordsIs capped (now (file .entry)) at n maxValues 0 (now (directions .entry)) (now (directions .exit)) r ⌝ }
+    requires { ⌜ maxObjectives ≤ length (now directions) ⌝ }
+    ensures { λ r. ⌜ WordsIs capped (now (file .entry)) at n maxObjectives 0 (now (directions .entry)) (now (directions .exit)) r ⌝ }
 {
     let mut p = at;
     let mut i: usize = 0;
@@ -84,7 +84,7 @@ fn read_header(file: &[u8]) -> Heading
 // The whole file: its header, its first 8 direction marks, and each plan of a pool that is not too large in its block.
 // What breaks the form anywhere, ends early, runs on or is too long is Broken.
 pub fn parse_pool(file: &[u8], directions: &mut [u8], pool: &mut [u64]) -> Parsed
-    requires { ⌜ (maxValues ≤ length (now directions)) × (maxSize * planWords ≤ length (now pool)) ⌝ }
+    requires { ⌜ (maxObjectives ≤ length (now directions)) × (maxSize * planWords ≤ length (now pool)) ⌝ }
     ensures { λ r. ⌜ PoolIs (now (file .entry)) (now (directions .exit)) (now (pool .exit)) r ⌝ }
 {
     if MAX_FILE < file.len() {

@@ -13,7 +13,7 @@ use lib.ListN.{length, getD, take, replicate, length-map, List·getD-eq-default}
 use lib.Seq.{length-take-le, getD-take, take-all}
 use Rattle.model.specs.Lists.{listBelow, allBelow, allIn}
 use Rattle.model.specs.Real.{infinity}
-use Rattle.model.specs.Plan.{Plan, planOf, planAt, planCount, planWords, maxValues, maxConstraints}
+use Rattle.model.specs.Plan.{Plan, planOf, planAt, planCount, planWords, maxObjectives, maxConstraints}
 use Rattle.model.specs.Association.{Request, objectives}
 use Rattle.model.specs.PoolFile.{PoolFile, noPlan, fileRequest}
 use Rattle.model.specs.Refusal.{Room, maxSize, badDirections, badDivisions, badPool, goodPlan, goodIdeal, noRoom, selectRefusal}
@@ -67,7 +67,7 @@ planOf-zero : planOf (λ j. 0) ≡ noPlan
 unfolding planOf listBelow
 planOf-zero = refl
 
-roomed-same : (m : ℕ) (p : Plan) → m ≤ maxValues → Shape m p → p .constraintCount ≤ maxConstraints → roomed p ≡ p
+roomed-same : (m : ℕ) (p : Plan) → m ≤ maxObjectives → Shape m p → p .constraintCount ≤ maxConstraints → roomed p ≡ p
 roomed-same m p h s c =
     let r = s .row in
     let k = s .constraints in
@@ -77,7 +77,7 @@ roomed-same m p h s c =
         → _≡_ {A = Plan} (record { number = p .number; rowLength = p .rowLength; row = p .row; constraintCount = p .constraintCount; constraints = p .constraints; settingCount = 0; settings = [] }) p
     counts p a b = rw (a, b)
 
-roomed-good : (m : ℕ) (p : Plan) → m ≤ maxValues → Shape m p → goodPlan m (roomed p) ≡ goodPlan m p
+roomed-good : (m : ℕ) (p : Plan) → m ≤ maxObjectives → Shape m p → goodPlan m (roomed p) ≡ goodPlan m p
 unfolding goodPlan
 roomed-good m p h s = by-bool (leb (p .constraintCount) maxConstraints)
     (λ e. ap (goodPlan m) (roomed-same m p h s (leb-true (p .constraintCount) maxConstraints e)))
@@ -130,7 +130,7 @@ abbrev pub stored : Header → List ℕ → List ℕ → Request
 stored h directions pool =
     wordRequest (take (h .count * planWords) pool) (take (h .m) directions) (h .divisions) (h .size) (record { s = h .seed }) (replicate (h .m) infinity)
 
-module _ (file : List ℕ) (h : Header) (directions pool : List ℕ) (w : Pool file h directions pool) (few : h .m ≤ maxValues) (small : h .count ≤ maxSize)
+module _ (file : List ℕ) (h : Header) (directions pool : List ℕ) (w : Pool file h directions pool) (few : h .m ≤ maxObjectives) (small : h .count ≤ maxSize)
     (room : maxSize * planWords ≤ length pool) where
   abbrev f : PoolFile
   f = w .form

@@ -1,4 +1,5 @@
 -- From the parser's answer to the promise of `choose`.
+use Rattle.pool_file.specs.declared.Parsed.{Parsed as Answer}
 use Prim.Native.Nat.{ℕ, _*_, _≤_, _<_}
 use mathlib.Core.Path.{_≡_, ap, sym, _∙_, subst}
 use mathlib.Core.Bool.{true, and-false}
@@ -11,16 +12,15 @@ use lib.ListN.{length, take, replicate, length-map}
 use lib.Seq.{length-take-le}
 use Rattle.model.specs.declared.Chosen.the-variants as chosen
 use Rattle.model.specs.Real.{infinity}
-use Rattle.model.specs.Plan.{planWords, maxValues}
+use Rattle.model.specs.Plan.{planWords, maxObjectives}
 use Rattle.model.specs.Association.{Request}
 use Rattle.model.specs.PoolFile.{PoolFile, parse, fileRequest, fileText}
 use Rattle.model.specs.Refusal.{maxSize, badDirections, selectRefusal, refusalOfParsed, fileRefusal, chooseRefusal}
 use Rattle.model.specs.Calls.{ChooseExit, chooseBy, textOf, chooseOf, Chooses, wordRequest}
+use Rattle.list_laws.proofs.Bools.{by-option}
 use Rattle.pool_file.specs.declared.Header.{Header}
-use Rattle.pool_file.specs.declared.Parsed.{Parsed as Answer}
 use Rattle.pool_file.specs.declared.Parsed.the-variants as answer
 use Rattle.pool_file.specs.Parsing.{PoolIs, Pool, capped}
-use Rattle.pool_number.proofs.Options.{by-option}
 use Rattle.pool_laws.specs.Choice.{exit, roomy, listExit, Crowded}
 use Rattle.pool_laws.proofs.Shapes.{Whole, parse-whole}
 use Rattle.pool_laws.proofs.Carried.{Carried, select-same, carried, stored, directions-same}
@@ -69,7 +69,7 @@ module _ (file directions pool : List ℕ) (a : Answer) (p : PoolIs file directi
   pub many-objectives : 8 < h .m → Chooses file out (exit (chosen.Refused 2) out)
   many-objectives g = refused 2 (directions-first (held .form) (length out) (many-marks g))
 
-  module _ (few : h .m ≤ maxValues) where
+  module _ (few : h .m ≤ maxObjectives) where
     marks : take (h .m) directions ≡ map capped (held .form .marks)
     marks = held .marks few
 

@@ -10,12 +10,12 @@ use lib.ListN.{length, getD, length-map}
 use Rattle.model.specs.Real.{real}
 use Rattle.model.specs.Plan.{Plan}
 use Rattle.model.specs.PoolFile.{Parsed, Reader, PoolFile, number, many, plan, poolFile, parse, ifNoneLeft, maxFile, noPlan}
-use Rattle.list_laws.proofs.Bools.{by-bool}
+use Rattle.list_laws.proofs.Bools.{by-bool, by-option}
 use Rattle.pool_number.specs.Reading.{read}
 use Rattle.pool_file.specs.declared.Header.{Header}
 use Rattle.pool_file.specs.Parsing.{headerOf, afterHeader}
 use Rattle.pool_file.proofs.Whole.{header-first}
-use Rattle.pool_number.proofs.Options.{by-option, both-read, many-parts, many-length}
+use Rattle.pool_number.proofs.Options.{both-read, many-parts, many-length}
 
 -- ---- each of many
 

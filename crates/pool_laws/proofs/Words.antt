@@ -15,12 +15,12 @@ use Rattle.model.specs.Association.{Request}
 use Rattle.model.specs.Kept.{selected}
 use Rattle.model.specs.Refusal.{selectRefusal}
 use Rattle.model.specs.Calls.{Lent, roomOf, SelectExit, selectAccepted, selectBy, selectOf, maxText}
-use Rattle.pool_number.proofs.Options.{by-option}
 use Rattle.nsga3_laws.specs.Admitted.{Admitted}
 use Rattle.nsga3_laws.proofs.Admitted.{admitted}
 use Rattle.pool_laws.proofs.Printed.{selected-short}
 use Rattle.pool_laws.specs.Text.{listed}
 use Rattle.model.specs.PoolFile.{listingText}
+use Rattle.list_laws.proofs.Bools.{by-option}
 use Rattle.pool_laws.specs.Choice.{exit, textExit, requestText, roomy, listExit}
 use Rattle.pool_laws.proofs.Listed.{listing-over}
 use Rattle.pool_laws.proofs.Refusals.{list-refused, list-written}

@@ -7,9 +7,9 @@ use native.Mathlib.Omega.{arith}
 use lib.ListN.{length, drop, length-drop}
 use lib.Seq.{drop-drop}
 use Rattle.model.specs.PoolFile.{Parsed, number}
+use Rattle.list_laws.proofs.Bools.{by-option}
 use Rattle.pool_number.specs.declared.Read.{Read}
 use Rattle.pool_number.specs.Reading.{read, asRead, numberAt, ReadIs}
-use Rattle.pool_number.proofs.Options.{by-option}
 use Rattle.pool_number.proofs.Groups.{number-by}
 
 -- some bytes, and at least one, are taken from the front

@@ -7,12 +7,8 @@ use native.Mathlib.Nat.{zero-add, suc-add}
 use native.Mathlib.Omega.{arith}
 use lib.ListN.{length}
 use Rattle.model.specs.PoolFile.{Parsed, Reader, pure, onward, many}
+use Rattle.list_laws.proofs.Bools.{by-option}
 use Rattle.pool_number.specs.Reading.{read}
-
-module _ {A : Type 0} where
-  pub by-option : {C : Type 0} (o : Option A) → (o ≡ none → C) → ((a : A) → o ≡ some a → C) → C
-  by-option none f g = f refl
-  by-option (some a) f g = g a refl
 
 -- a reader after another: where the two read, the first did, and the second what it left
 module _ {A B : Type 0} where

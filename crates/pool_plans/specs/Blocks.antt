@@ -6,7 +6,7 @@ use mathlib.Core.List.{List, [], map}
 use mathlib.Core.Option.{none}
 use lib.ListN.{getD, take, drop}
 use lib.Seq.{sets}
-use Rattle.model.specs.Plan.{Plan, planOf, planAt, maxValues, maxConstraints, planWords}
+use Rattle.model.specs.Plan.{Plan, planOf, planAt, maxObjectives, maxConstraints, planWords}
 use Rattle.model.specs.PoolFile.{Reader, number, many, plan, noPlan}
 use Rattle.model.specs.Refusal.{maxSize}
 use Rattle.pool_number.specs.Reading.{read}
@@ -39,7 +39,7 @@ abbrev pub roomed : Plan → Plan
 roomed p = record {
   number = p .number;
   rowLength = p .rowLength;
-  row = take maxValues (p .row);
+  row = take maxObjectives (p .row);
   constraintCount = p .constraintCount;
   constraints = take maxConstraints (p .constraints);
   settingCount = 0;

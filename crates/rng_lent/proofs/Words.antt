@@ -2,7 +2,8 @@
 use mathlib.Core.Path.{_≡_, sym, ap, subst, _∙_}
 use Prim.Native.Nat.{ℕ, _<_, _^_}
 use Rattle.model.specs.Draw.{drawn, drawWord}
-use Rattle.rng_util.proofs.Draws.{drawn-value, drawn-state, step-below}
+use Rattle.list_laws.proofs.Draws.{drawn-value, drawn-state}
+use Rattle.rng_util.proofs.Draws.{step-below}
 
 state-below : (n : ℕ) → drawWord n .state < 2 ^ 64
 unfolding drawWord

@@ -1,6 +1,5 @@
 -- What holds of every draw, whatever the state: words are words, a draw below n is below n, a draw from a to b lies there. Assumes nothing.
-use mathlib.Core.Path.{_≡_, sym, ap, _∙_}
-use mathlib.Core.Bool.{Bool}
+use mathlib.Core.Path.{_≡_}
 use Prim.Native.Nat.{ℕ, _/_, _^_, _<_}
 use native.Mathlib.Nat.{mod-lt}
 use native.Mathlib.Omega.{arith}
@@ -15,26 +14,12 @@ use Rattle.float_laws.proofs.Constants.{exp2, minus-exp2, bounded}
 use Rattle.float_laws.proofs.Magnitude.{exp2-mono}
 use Rattle.float_laws.proofs.InRange as in-range
 use Rattle.model.specs.Real.{within}
-use Rattle.model.specs.Draw.{Drawn, drawn, step, wordOf, drawWord, unitOf, drawF64, drawUsize, drawI64, f64Range}
+use Rattle.model.specs.Draw.{drawn, step, wordOf, drawWord, unitOf, drawF64, drawUsize, drawI64, f64Range}
+use Rattle.list_laws.proofs.Draws.{drawn-value}
 use Rattle.list_laws.proofs.Bools.{and-i}
 use Rattle.rng_util.proofs.Xor.{xorLow-below}
 use Rattle.rng_util.proofs.Unit.{upper-below, unit-counts}
 use Rattle.rng_util.proofs.Span.{rest-le, pick-low, pick-high}
-
--- ---- a drawn value and the state after it: what is made of the value, and each of the two
-module _ {A : Type 0} {d : Drawn A} {x : A} {t : ℕ} where
-  pub drawn-by : {B : Type 0} (f : A → B) → drawn x t ≡ d → drawn (f x) t ≡ drawn (f (d .value)) (d .state)
-  drawn-by f e = ap (λ (y : Drawn A). drawn (f (y .value)) (y .state)) e
-
-  -- what is made by a test of the value
-  pub drawn-tested : {C : Type 0} (F : Bool → ℕ → C) (test : A → Bool) {b : Bool} → drawn x t ≡ d → test x ≡ b → F b t ≡ F (test (d .value)) (d .state)
-  drawn-tested F test e h = ap (λ (c : Bool). F c t) (sym h) ∙ ap (λ (y : Drawn A). F (test (y .value)) (y .state)) e
-
-  pub drawn-value : drawn x t ≡ d → x ≡ d .value
-  drawn-value e = ap (λ (y : Drawn A). y .value) e
-
-  pub drawn-state : drawn x t ≡ d → t ≡ d .state
-  drawn-state e = ap (λ (y : Drawn A). y .state) e
 
 -- ---- the draws
 pub step-below : (s : ℕ) → step s < 2 ^ 64

@@ -16,16 +16,16 @@ use Rattle.model.specs.declared.Sampled.{Sampled}
 use Rattle.model.specs.declared.Session.{Session}
 use Rattle.model.specs.Lists.{allBelow}
 use Rattle.model.specs.Plan.{planCount}
-use Rattle.model.specs.Session.{State, Answered, state, discovers, discover, activate, breed, bredFrom, breeds, isActive, pastDiscovery, discoversFor, longEnough, evaluated, accepted, sampleFromCandidate, maxPlans, maxWords, blankDimension}
+use Rattle.model.specs.Session.{State, Answered, state, discovers, discover, activate, breed, bredFrom, breeds, isActive, pastDiscovery, discoversFor, longEnough, evaluated, accepted, sampleFromCandidate, maxCome, maxWords, blankDimension}
 use Rattle.model.specs.Refusal.{sampleRefusal, maxHistory}
-use Rattle.model.specs.Calls.{SampleExit, refusedBy, sampleBy, sampleOf}
+use Rattle.model.specs.Calls.{SampleExit, refusedBy, sampleBy, sampleOf, settled}
 use Rattle.model.specs.Property.{SessionOk, DimensionsOk}
 use Rattle.session_laws.specs.Refused.{shortRefusal}
 use Rattle.session_laws.proofs.Request.{dimensions-good, breeds-active, active-discovers, short-refusal}
 use Rattle.session_laws.proofs.Steps.{short-ok, discovery-ok, active-ok}
 use Rattle.session_laws.proofs.Sample.{discovery-phase}
 use Rattle.session_records.proofs.Records.{stands}
-use Rattle.session_parts.specs.Exits.{exit, settled, Ready}
+use Rattle.session_parts.specs.Exits.{exit, Ready}
 use Rattle.session_breeding.specs.Breeding.{BredExit, bredExit, breedBy}
 use Rattle.session_active.specs.Exits.{refusedWith}
 
@@ -118,7 +118,7 @@ module _ (s : Session) (cs ps ns : List ℕ) (d : Distribution) (plan : ℕ) (hi
 
   no-next : (xs : List ℕ) → longEnough (state s xs ps []) ≡ false
   unfolding longEnough
-  no-next xs = and-no (leb maxWords (length xs)) _ (and-no (leb maxPlans (length ps)) _ refl)
+  no-next xs = and-no (leb maxWords (length xs)) _ (and-no (leb maxCome (length ps)) _ refl)
 
   -- where no next dimensions are lent, the property asks nothing of the slices
   pub without-next : (xs : List ℕ) → SessionOk st → SessionOk (state s xs ps [])
@@ -173,7 +173,7 @@ module _ (s : Session) (cs ps ns : List ℕ) (d : Distribution) (plan : ℕ) (hi
 
   -- ---- the tests of the code
 
-  pub long-by : (b : Bool) → b ≡ (leb maxWords (length cs) && (leb maxPlans (length ps) && leb maxPlans (length ns))) → longEnough st ≡ b
+  pub long-by : (b : Bool) → b ≡ (leb maxWords (length cs) && (leb maxCome (length ps) && leb maxCome (length ns))) → longEnough st ≡ b
   unfolding longEnough
   long-by b e = sym e
 

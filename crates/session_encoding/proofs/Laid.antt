@@ -1,5 +1,5 @@
 -- The words of a session and of a dimension, from their parts.
-use Prim.Native.Nat.{ℕ, _+_}
+use Prim.Native.Nat.{ℕ}
 use mathlib.Core.Path.{_≡_, refl, ap, ap₂, _∙_}
 use mathlib.Core.List.{List, [], _∷_, _++_}
 use lib.ListN.{length, getD}
@@ -10,7 +10,8 @@ use Rattle.model.specs.declared.Distribution.the-variants as dist
 use Rattle.model.specs.declared.Session.{Session}
 use Rattle.model.specs.Lists.{joinBelow, over}
 use Rattle.model.specs.Real.{bits}
-use Rattle.model.specs.Session.{overAt, dimensionOf}
+use Rattle.model.specs.Session.{dimensionOf}
+use lib.Seq.{sets}
 use Rattle.session_words.specs.Coding.{phaseWord, hasFirst, firstWord, dimensionWords, eight, configWords, stateWords, idealWords, sessionWords}
 
 pub dimension-length : (x : Distribution) → length (dimensionWords x) ≡ 6
@@ -34,8 +35,8 @@ pub state-laid : (s : Session) (p has plan : ℕ) → p ≡ phaseWord (s .phase)
 unfolding stateWords
 state-laid s p has plan a b c = rw (a, b, c)
 
-pub session-laid : (s : Session) (w w1 w2 w3 w4 cs ss zs : List ℕ) → cs ≡ configWords (s .config) → w1 ≡ overAt 0 cs w → ss ≡ stateWords s → w2 ≡ overAt 14 ss w1
-    → zs ≡ idealWords (s .«ideal_point») → w3 ≡ overAt 22 zs w2 → w4 ≡ overAt 30 (joinBelow (λ d. dimensionWords (dimensionOf s d)) 32) w3
+pub session-laid : (s : Session) (w w1 w2 w3 w4 cs ss zs : List ℕ) → cs ≡ configWords (s .config) → w1 ≡ sets w 0 cs → ss ≡ stateWords s → w2 ≡ sets w1 14 ss
+    → zs ≡ idealWords (s .«ideal_point») → w3 ≡ sets w2 22 zs → w4 ≡ sets w3 30 (joinBelow (λ d. dimensionWords (dimensionOf s d)) 32)
     → w4 ≡ over (sessionWords s) w
 unfolding configWords stateWords idealWords sessionWords
 session-laid s w w1 w2 w3 w4 cs ss zs p p1 q q2 r r3 t =
@@ -43,7 +44,7 @@ session-laid s w w1 w2 w3 w4 cs ss zs p p1 q q2 r r3 t =
     let u = stateWords s in
     let z = idealWords (s .«ideal_point») in
     let d = joinBelow (λ d. dimensionWords (dimensionOf s d)) 32 in
-    let a1 : w1 ≡ over c w = p1 ∙ ap (λ x. overAt 0 x w) p in
-    let a2 : w2 ≡ over (c ++ u) w = q2 ∙ ap₂ (λ x y. overAt 14 x y) q a1 ∙ over-next c u w 14 refl in
-    let a3 : w3 ≡ over ((c ++ u) ++ z) w = r3 ∙ ap₂ (λ x y. overAt 22 x y) r a2 ∙ over-next (c ++ u) z w 22 refl in
-    t ∙ ap (λ x. overAt 30 d x) a3 ∙ over-next ((c ++ u) ++ z) d w 30 refl
+    let a1 : w1 ≡ over c w = p1 ∙ ap (λ x. sets w 0 x) p in
+    let a2 : w2 ≡ over (c ++ u) w = q2 ∙ ap₂ (λ x y. sets y 14 x) q a1 ∙ over-next c u w 14 refl in
+    let a3 : w3 ≡ over ((c ++ u) ++ z) w = r3 ∙ ap₂ (λ x y. sets y 22 x) r a2 ∙ over-next (c ++ u) z w 22 refl in
+    t ∙ ap (λ x. sets x 30 d) a3 ∙ over-next ((c ++ u) ++ z) d w 30 refl

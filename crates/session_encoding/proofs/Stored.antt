@@ -26,7 +26,8 @@ use Rattle.model.specs.declared.Phase.the-variants.{Discovery, Active}
 use Rattle.model.specs.declared.Session.{Session}
 use Rattle.model.specs.Lists.{one, listBelow, joinBelow, over}
 use Rattle.model.specs.Real.{real, bits}
-use Rattle.model.specs.Session.{dimensionOf, noDimension}
+use Rattle.model.specs.Session.{dimensionOf}
+use Rattle.model.specs.Setting.{noDimension}
 use Rattle.settings.proofs.InBounds.{Held}
 use Rattle.session_words.specs.Coding.{marked, hasStepF64, stepWordF64, hasStepI64, stepWordI64, dimensionWords, stepF64, stepI64, dimensionAt, infoAt, dimensionsAt, phaseWord, phaseOf, hasFirst, firstWord, firstOf, configWords, stateWords, idealWords, sessionWords, marksAt, idealAt, configAt, sessionOf}
 use Rattle.session_words.proofs.Marks.{float-is, int-is, dimension-same, config-same, session-same}

@@ -17,7 +17,7 @@ use Rattle.model.specs.declared.OptionF64.the-variants as optF64
 use Rattle.model.specs.declared.Distribution.{Distribution}
 use Rattle.model.specs.declared.Distribution.the-variants as dist
 use Rattle.model.specs.declared.Session.{Session}
-use Rattle.model.specs.Session.{noDimension}
+use Rattle.model.specs.Setting.{noDimension}
 use Rattle.typed_laws.proofs.Held.{each-field, session-dimensions, session-held, session-ideal, session-directions}
 use Rattle.session_encoding.proofs.Stored.{DoubleSteps, DoubleStep, ConfigStored, Stored}
 

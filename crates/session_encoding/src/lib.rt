@@ -4,7 +4,8 @@ ghost use Prim.Native.Nat.{_+_, _≤_};
 ghost use lib.ListN.{length, getD};
 ghost use Rattle.model.specs.declared.Distribution.the-variants as dist;
 ghost use Rattle.model.specs.Lists.{one, joinBelow, over};
-ghost use Rattle.model.specs.Session.{noDimension, overAt};
+ghost use Rattle.model.specs.Setting.{dimensionsOf};
+ghost use lib.Seq.{sets};
 ghost use Rattle.session_words.specs.Coding.{hasStepF64, stepWordF64, hasStepI64, stepWordI64, dimensionWords, phaseWord, hasFirst, firstWord, configWords, stateWords, idealWords, sessionWords, sessionOf};
 use model::Config;
 use model::DimensionInfo;
@@ -184,7 +185,7 @@ fn state_words(session: Session) -> [u64; 8]
 // Words put into a slice from a place on.
 fn put(block: &[u64], at: usize, words: &mut [u64])
     requires { ⌜ at + length (now block) ≤ length (now words) ⌝ }
-    ensures { λ _. ⌜ now (words .exit) ≡ overAt at (now (block .entry)) (now (words .entry)) ⌝ }
+    ensures { λ _. ⌜ now (words .exit) ≡ sets (now (words .entry)) at (now (block .entry)) ⌝ }
 {
     let mut j = 0;
     while j < block.len() {
@@ -195,7 +196,7 @@ fn put(block: &[u64], at: usize, words: &mut [u64])
 
 fn put_dimensions(dims: [DimensionInfo; 32], words: &mut [u64])
     requires { ⌜ 222 ≤ length (now words) ⌝ }
-    ensures { λ _. ⌜ now (words .exit) ≡ overAt 30 (joinBelow (λ d. dimensionWords (getD dims d noDimension .distribution)) 32) (now (words .entry)) ⌝ }
+    ensures { λ _. ⌜ now (words .exit) ≡ sets (now (words .entry)) 30 (joinBelow (λ d. dimensionWords (dimensionsOf dims d)) 32) ⌝ }
 {
     let mut d = 0;
     while d < 32 {

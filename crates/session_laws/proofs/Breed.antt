@@ -3,13 +3,11 @@ use Prim.Native.Nat.{ℕ, suc, _≤_}
 use mathlib.Core.Path.{_≡_, refl, ap, _∙_}
 use mathlib.Core.Bool.{Bool, false, _&&_}
 use mathlib.Core.List.{List, _++_}
-use native.Mathlib.Nat.{not-suc-le-zero}
 use native.Mathlib.Omega.{arith}
 use lib.Dec.{ltb}
 use lib.Ieee.{Float}
 use lib.ListN.{length, take, drop, take-append-drop}
-use borrow.Author.Tests.{le-ltb, eqb-true}
-use Rattle.list_laws.proofs.Bools.{and-left}
+use borrow.Author.Tests.{le-ltb}
 use Rattle.list_laws.proofs.First.{firstBelow-nowhere}
 use Rattle.front_laws.proofs.Order.{listing-room}
 use Rattle.model.specs.Lists.{over}
@@ -20,11 +18,11 @@ use Rattle.model.specs.Setting.{Operators, generation, generationOf, wordsOf}
 use Rattle.model.specs.Session.{State, dimensionOf, breed, requestOf, operatorsOf}
 use Rattle.model.specs.Refusal.{goodIdeal, badParents}
 use Rattle.model.specs.Property.{SessionOk}
+use Rattle.list_laws.proofs.Checks.{good-ideal-length}
 use Rattle.candidate_laws.proofs.Sound.{AllHeld}
 use Rattle.candidate_laws.proofs.Generations.{generation-words}
-use Rattle.session_laws.proofs.Request.{dimensions-good}
 use Rattle.list_laws.proofs.Built.{over-long}
-use Rattle.session_laws.proofs.Steps.{Long, put-long}
+use Rattle.session_laws.proofs.Steps.{Long, put-long, renewed-ok}
 
 -- ---- a selection of the whole pool
 
@@ -50,16 +48,12 @@ module _ (r : Request) (whole : r .size ≡ r .count) where
 -- ---- breeding
 
 module _ (st : State) (history : List ℕ) (ok : SessionOk st) where
-  ideal-length : length (take (st .session .config .«n_obj») (st .session .«ideal_point»)) ≡ st .session .config .«n_obj»
-  unfolding goodIdeal
-  ideal-length = eqb-true _ _ (and-left _ _ (ok .ideal))
-
   -- the ideal as it was, entry for entry
   pub breed-ideal : breed st history .session .«ideal_point» ≡ st .session .«ideal_point»
   unfolding breed
   breed-ideal =
       ap (λ (l : List Float). over l (st .session .«ideal_point»)) (generation-ideal (requestOf st history) refl (operatorsOf (st .session)) (omega (arith, ok .config .atLeast4)))
-      ∙ ap (λ (n : ℕ). take (st .session .config .«n_obj») (st .session .«ideal_point») ++ drop n (st .session .«ideal_point»)) ideal-length
+      ∙ ap (λ (n : ℕ). take (st .session .config .«n_obj») (st .session .«ideal_point») ++ drop n (st .session .«ideal_point»)) (good-ideal-length (st .session .config .«n_obj») _ (ok .ideal))
       ∙ take-append-drop (st .session .config .«n_obj») (st .session .«ideal_point»)
 
   -- 9 does not apply to the plans bred from
@@ -68,17 +62,10 @@ module _ (st : State) (history : List ℕ) (ok : SessionOk st) where
     pub breed-ok : SessionOk (breed st history)
     unfolding breed
     breed-ok =
-        record {
-          config = ok .config;
-          dimensions = record { few = ok .dimensions .few; valid = ok .dimensions .valid };
-          phase = record { someDimension = some; candidates = omega arith; room = omega arith };
-          ideal = ap (λ (l : List Float). goodIdeal (st .session .config .«n_obj») (take (st .session .config .«n_obj») l)) breed-ideal ∙ ok .ideal;
-          lent = λ e. record {
-            different = λ i j l k same. not-suc-le-zero k;
-            next = λ i l. absurd (not-suc-le-zero l);
-            settings = generation-words (operatorsOf (st .session)) (requestOf st history) held (dimensions-good (st .session) (ok .dimensions)) parents (st .candidates);
-          };
-        }
+        let g = generation (operatorsOf (st .session)) (requestOf st history) in
+        renewed-ok st (g .state) _ _ (wordsOf (g .offspring)) ok some
+        (ap (λ (l : List Float). goodIdeal (st .session .config .«n_obj») (take (st .session .config .«n_obj») l)) breed-ideal ∙ ok .ideal)
+        (generation-words (operatorsOf (st .session)) (requestOf st history) held (ok .dimensions) parents (st .candidates))
 
 pub breed-long : (st : State) (history : List ℕ) → Long st → Long (breed st history)
 unfolding breed

@@ -1,13 +1,22 @@
--- Entries put into a list, and the value that a test picks.
-use Prim.Native.Nat.{ℕ, _≤_}
-use mathlib.Core.List.{List}
-use native.Mathlib.Omega.{arith}
-use lib.ListN.{length, take, drop, length-append, length-take, length-drop}
-use Rattle.list_laws.proofs.Built.{over-long}
-use Rattle.model.specs.Lists.{over}
-use Rattle.model.specs.Session.{overAt}
+-- What the lent slices have to hold where no plan has come.
+use mathlib.Core.Path.{_≡_, sym, ap, subst}
+use mathlib.Core.List.{nodup-nil}
+use native.Mathlib.Nat.{not-suc-le-zero}
+use lib.ListN.{take}
+use Rattle.model.specs.Lists.{Distinct}
+use Rattle.model.specs.Setting.{WordsWithin}
+use Rattle.model.specs.Session.{State, dimensionOf}
+use Rattle.model.specs.Property.{LentOk}
 
--- a list does not get shorter by what is put into it
-pub overAt-long : (at : ℕ) (new old : List ℕ) → length old ≤ length (overAt at new old)
-overAt-long at new old =
-    omega (arith, length-append (take at old) (over new (drop at old)), length-take at old, over-long new (drop at old), length-drop at old)
+pub lent-none : (st : State) → st .session .progress .«n_plans» ≡ 0
+    → WordsWithin (dimensionOf (st .session)) (st .session .progress .«n_dims») (st .session .progress .«n_candidates») (st .candidates) → LentOk st
+unfolding take
+lent-none st e settings = record {
+  different = subst Distinct (sym (ap (λ n. take n (st .plans)) e)) nodup-nil;
+  next = λ i l. absurd (not-suc-le-zero (rw e at l));
+  settings = settings;
+}
+
+-- nor a candidate
+pub lent-empty : (st : State) → st .session .progress .«n_plans» ≡ 0 → st .session .progress .«n_candidates» ≡ 0 → LentOk st
+lent-empty st e f = lent-none st e (λ i d l k. absurd (not-suc-le-zero (rw f at l)))

@@ -1,10 +1,9 @@
 -- What `open` gives: a session that is opened has the session property.
 use Prim.Native.Nat.{ℕ, _≤_}
 use mathlib.Core.Path.{_≡_, refl, ap, _∙_}
-use mathlib.Core.Bool.{true, false, _||_}
+use mathlib.Core.Bool.{true, false}
 use mathlib.Core.List.{List, [], _∷_, List·Memᴰ·head, List·Memᴰ·tail}
 use mathlib.Core.Option.{Option, none, some}
-use native.Mathlib.Nat.{not-suc-le-zero}
 use native.Mathlib.Omega.{arith}
 use lib.Dec.{ltb}
 use lib.Ieee.{Float, binary64, eq, le, lt, ofBits, ofInt, toUnsigned}
@@ -16,33 +15,34 @@ use Rattle.list_laws.proofs.Tests.{allIn-every}
 use Rattle.list_laws.proofs.Built.{over-take}
 use Rattle.list_laws.proofs.Checks.{applies-not}
 use Rattle.demand3_laws.proofs.Accepted.{some-objectives}
-use Rattle.model.specs.Lists.{firstBelow, allIn}
+use Rattle.model.specs.Lists.{firstBelow, allIn, allBelow}
 use Rattle.model.specs.Real.{infinity, unit}
-use Rattle.model.specs.Plan.{maxValues}
+use Rattle.model.specs.Plan.{maxObjectives}
 use Rattle.model.specs.Reference.{binomial, pointCount, autoDivisions, divisionsOf, populationSize, orElse}
 use Rattle.model.specs.declared.Opening.the-variants as opening
 use Rattle.model.specs.declared.OptionUsize.{OptionUsize}
 use Rattle.model.specs.declared.Session.{Session}
 use Rattle.model.specs.Session.{state, given, opened}
-use Rattle.model.specs.Calls.{openBy, openOf, Opens}
-use Rattle.model.specs.Refusal.{firstOf, wholeEta, openRefusal, badDirections, badSessionSize, badSessionDivisions, badGivenDivisions, badDivisions, outsideDivisions, badOperators, measurable, isInfinity, goodIdeal, maxSize, maxLines}
+use Rattle.model.specs.Calls.{openBy, openOf, Opens, openingRefusedBy}
+use Rattle.model.specs.Refusal.{firstOf, wholeEta, openRefusal, badDirections, badSessionSize, badSessionDivisions, badGivenDivisions, badDivisions, outsideDivisions, badOperators, measurable, goodIdeal, maxSize, maxLines, goodEntry, badDimensions}
 use Rattle.model.specs.Property.{ConfigOk, SessionOk}
+use Rattle.session_laws.proofs.Lists.{lent-empty}
 use Rattle.reference_laws.proofs.Divisions.{auto-inside}
 
 -- ---- the ideal that a session starts from: plus infinity everywhere
 
-infinity-good : (measurable infinity || isInfinity infinity) ≡ true
+infinity-good : goodEntry infinity ≡ true
 unfolding measurable eq le ofBits
 infinity-good = refl
 
-pub infinite-ideal : (m : ℕ) → m ≤ maxValues → goodIdeal m (take m (replicate maxValues infinity)) ≡ true
+pub infinite-ideal : (m : ℕ) → m ≤ maxObjectives → goodIdeal m (take m (replicate maxObjectives infinity)) ≡ true
 unfolding goodIdeal
 infinite-ideal m h =
-    let whole : length (take m (replicate maxValues infinity)) ≡ m = omega (arith, length-take m (replicate maxValues infinity), length-replicate maxValues infinity) in
+    let whole : length (take m (replicate maxObjectives infinity)) ≡ m = omega (arith, length-take m (replicate maxObjectives infinity), length-replicate maxObjectives infinity) in
     and-both _ _ (eq-eqb _ m whole)
-    (allIn-every _ infinity (take m (replicate maxValues infinity))
-    (λ k l. ap (λ (x : Float). measurable x || isInfinity x)
-    (getD-take m (replicate maxValues infinity) k infinity (omega arith) ∙ getD-replicate maxValues k infinity infinity (omega arith))
+    (allIn-every _ infinity (take m (replicate maxObjectives infinity))
+    (λ k l. ap goodEntry
+    (getD-take m (replicate maxObjectives infinity) k infinity (omega arith) ∙ getD-replicate maxObjectives k infinity infinity (omega arith))
     ∙ infinity-good))
 
 -- ---- divisions: those given are 1 to 199, and so are automatic ones
@@ -92,8 +92,8 @@ module _ (marks : List ℕ) (seed : ℕ) (size divisions : Option ℕ) (probabil
   unfolding opened badDivisions
   config-good =
       record {
-        directions = ap badDirections (over-take marks (replicate maxValues 0) (length marks) refl) ∙ directions-good;
-        objectives = omega (arith, length-append marks (drop (length marks) (replicate maxValues 0)));
+        directions = ap badDirections (over-take marks (replicate maxObjectives 0) (length marks) refl) ∙ directions-good;
+        objectives = omega (arith, length-append marks (drop (length marks) (replicate maxObjectives 0)));
         divisions = or-both _ _ (divisions-within (length marks) size divisions given-good) few-lines;
         atLeast4 = size-within (length marks) size divisions size-good few-lines .0;
         atMost = size-within (length marks) size divisions size-good few-lines .1;
@@ -102,18 +102,14 @@ module _ (marks : List ℕ) (seed : ℕ) (size divisions : Option ℕ) (probabil
 
   -- THE THEOREM: the field `gives` of `Opens`, whatever slices are lent
   pub opened-ok : (candidates plans nextDims : List ℕ) → SessionOk (state (opened marks seed size divisions probability crossoverEta mutationEta) candidates plans nextDims)
-  unfolding opened
+  unfolding opened badDimensions allBelow
   opened-ok candidates plans nextDims =
       record {
         config = config-good;
-        dimensions = record { few = omega arith; valid = λ d l. absurd (not-suc-le-zero l) };
+        dimensions = refl;
         phase = record { first = refl; noCandidates = refl; noPlans = refl };
         ideal = infinite-ideal (length marks) (some-objectives marks directions-good .1);
-        lent = λ e. record {
-          different = λ i j l k same. not-suc-le-zero k;
-          next = λ i l. absurd (not-suc-le-zero l);
-          settings = λ i d l k. absurd (not-suc-le-zero l);
-        };
+        lent = λ e. lent-empty _ refl refl;
       }
 
 -- ---- an answer tells the refusal
@@ -126,6 +122,10 @@ pub refused-tells : (o : Option ℕ) (s : Session) (n : ℕ) → openBy o s .out
 refused-tells none s n e = absurd (let z : _≡_ {A = ℕ} 0 1 = cc in omega arith)
 refused-tells (some m) s n e = cc
 
+told : (o : Option ℕ) (s : Session) → openingRefusedBy (openBy o s .outcome) ≡ o
+told none s = refl
+told (some n) s = refl
+
 -- the whole promise of `open`, of its definition
 pub opens : (directions : List ℕ) (seed : ℕ) (size divisions : OptionUsize) (probability crossoverEta mutationEta : Float)
     → Opens directions seed size divisions probability crossoverEta mutationEta (openOf directions seed size divisions probability crossoverEta mutationEta)
@@ -133,6 +133,7 @@ unfolding openOf
 opens directions seed size divisions probability crossoverEta mutationEta =
     record {
       whole = refl;
+      refused = told (openRefusal directions (given size) (given divisions) probability crossoverEta mutationEta) _;
       gives = λ e candidates plans nextDims. rw e (opened-ok directions seed (given size) (given divisions) probability crossoverEta mutationEta e candidates plans nextDims);
     }
 

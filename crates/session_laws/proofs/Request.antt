@@ -1,28 +1,27 @@
 -- The selection that a session's breeding makes, as code makes it: from the words bred from, and refused just where the session's call is.
 use Prim.Native.Nat.{ℕ, _*_, _≤_, _<_}
 use mathlib.Core.Path.{_≡_, refl, sym, ap, _∙_}
-use mathlib.Core.Bool.{Bool, true, false, not, _&&_, _||_}
+use mathlib.Core.Bool.{Bool, true, false, not, _&&_}
 use mathlib.Core.List.{List, [], _∷_}
 use mathlib.Core.Option.{Option, none, some}
 use native.Mathlib.Nat.{le-trans, mul-le-mul}
 use native.Mathlib.Omega.{arith}
 use lib.Dec.{leb}
-use lib.ListN.{length, getD, take, length-take}
+use lib.ListN.{length, getD, take}
 use borrow.Author.Tests.{lt-ltb, le-ltb, lt-leb, leb-false, ne-eqb, not-false}
 use Rattle.list_laws.proofs.Bools.{by-bool, and-left, and-right, and-both, and-fails-first, and-not, and-no, or-left, or-right, or-both}
-use Rattle.list_laws.proofs.Tests.{allBelow-every}
 use Rattle.list_laws.proofs.Built.{listBelow-length}
 use Rattle.list_laws.proofs.Checks.{passed-over, applies-first, after-two}
 use Rattle.list_laws.proofs.Rows.{joinBelow-length}
 use Rattle.model.specs.declared.Distribution.{Distribution}
-use Rattle.model.specs.declared.Session.{Session}
-use Rattle.model.specs.Plan.{planWords, planCount, maxSettings}
-use Rattle.model.specs.Association.{objectives}
-use Rattle.model.specs.Setting.{validDimension}
-use Rattle.model.specs.Session.{State, isActive, discovers, longEnough, blockOf, recordOf, bredFrom, breeds, requestOf, operatorsOf, dimensionOf, isNew, maxPlans, maxWords}
-use Rattle.model.specs.Refusal.{Check, check, firstOf, Room, noRoom, noStepRoom, badSize, badDivisions, badDimensions, badPool, badParents, stepRefusal, sampleRefusal, maxSize, maxHistory}
+use Rattle.model.specs.Plan.{planWords, planCount}
+use Rattle.model.specs.Setting.{validDimension, maxDims}
+use Rattle.model.specs.Session.{State, isActive, discovers, longEnough, blockOf, recordOf, bredFrom, breeds, requestOf, operatorsOf, isNew, maxCome, maxWords}
+use Rattle.model.specs.Refusal.{Check, check, firstOf, Room, noRoom, noStepRoom, badSize, badPool, badParents, stepRefusal, sampleRefusal, maxSize, maxHistory, badNext}
 use Rattle.model.specs.Calls.{wordRequest}
-use Rattle.model.specs.Property.{DimensionsOk, SessionOk}
+use Rattle.model.specs.Property.{SessionOk}
+use Rattle.demand3_laws.proofs.Calls.{request-divisions}
+use Rattle.settings.proofs.Valid.{few}
 use Rattle.session_laws.specs.Refused.{bredChecks, breedRefusal, shortRefusal}
 
 -- ---- the plans bred from are as many as the size
@@ -52,32 +51,25 @@ pub active-discovers : (st : State) (plan : ℕ) → isActive (st .session) ≡ 
 unfolding discovers
 active-discovers st plan e = rw e
 
--- 6 applies to no dimension that is entered
-pub dimensions-good : (s : Session) → DimensionsOk s → badDimensions (dimensionOf s) (s .progress .«n_dims») ≡ false
-unfolding badDimensions
-dimensions-good s ok =
-    or-both _ _ (le-ltb maxSettings (s .progress .«n_dims») (ok .few))
-    (ap not (allBelow-every (λ d. validDimension (dimensionOf s d)) (s .progress .«n_dims») (ok .valid)))
-
 -- ---- a session's six checks
 
 -- a dimension that 6 does not apply to
-pub fit-dimension : (n : ℕ) (d : Distribution) → (leb maxSettings n || not (validDimension d)) ≡ false → (n < maxSettings) × (validDimension d ≡ true)
-fit-dimension n d e = (leb-false maxSettings n (or-left _ _ e), not-false _ (or-right (leb maxSettings n) _ e))
+pub fit-dimension : (n : ℕ) (d : Distribution) → badNext n d ≡ false → (n < maxDims) × (validDimension d ≡ true)
+fit-dimension n d e = (leb-false maxDims n (or-left _ _ e), not-false _ (or-right (leb maxDims n) _ e))
 
 -- fewer plans than there may be have come, where one more is asked for and 11 does not apply
-pub room-left : (n : ℕ) (b : Bool) → (leb maxPlans n && b) ≡ false → b ≡ true → n < maxPlans
-room-left n b e h = leb-false maxPlans n (and-fails-first _ _ e h)
+pub room-left : (n : ℕ) (b : Bool) → (leb maxCome n && b) ≡ false → b ≡ true → n < maxCome
+room-left n b e h = leb-false maxCome n (and-fails-first _ _ e h)
 
 module _ (st : State) (d : Distribution) (plan : ℕ) (history : List ℕ) where
   abbrev refusal : Option ℕ
   refusal = sampleRefusal st d plan history
 
   abbrev bad : Bool
-  bad = leb maxSettings (st .session .progress .«n_dims») || not (validDimension d)
+  bad = badNext (st .session .progress .«n_dims») d
 
   abbrev many : Bool
-  many = leb maxPlans (st .session .progress .«n_plans»)
+  many = leb maxCome (st .session .progress .«n_plans»)
 
   abbrev full : Check
   full = check 11 (many && (isNew st plan && not (breeds st history)))
@@ -128,21 +120,15 @@ module _ (st : State) (d : Distribution) (plan : ℕ) (history : List ℕ) where
         pub refused-11 : longEnough st ≡ true → (many && isNew st plan) ≡ true → refusal ≡ some 11
         refused-11 l h = full-left l ∙ applies-first full [] (and-both _ _ (and-left many _ h) (and-both _ _ (and-right many _ h) (ap not b)))
 
-        pub not-refused : longEnough st ≡ true → (isNew st plan ≡ true → st .session .progress .«n_plans» < maxPlans) → refusal ≡ none
+        pub not-refused : longEnough st ≡ true → (isNew st plan ≡ true → st .session .progress .«n_plans» < maxCome) → refusal ≡ none
         unfolding firstOf
         not-refused l h =
             full-left l
-            ∙ passed-over full [] (by-bool (isNew st plan) (λ e. and-not many _ (lt-leb maxPlans _ (h e))) (λ e. and-no many _ (and-not (isNew st plan) _ e)))
+            ∙ passed-over full [] (by-bool (isNew st plan) (λ e. and-not many _ (lt-leb maxCome _ (h e))) (λ e. and-no many _ (and-not (isNew st plan) _ e)))
 
 -- ---- refusals of the generation step that a session makes
 
 module _ (st : State) (history : List ℕ) (ok : SessionOk st) where
-  request-objectives : objectives (requestOf st history) ≡ st .session .config .«n_obj»
-  request-objectives = omega (arith, length-take (st .session .config .«n_obj») (st .session .config .directions), ok .config .objectives)
-
-  request-divisions : badDivisions (objectives (requestOf st history)) (st .session .config .divisions) ≡ false
-  request-divisions = rw request-objectives (ok .config .divisions)
-
   size-not-0 : st .session .config .«population_size» ≡ 0 → ⊥
   size-not-0 e = omega (arith, ok .config .atLeast4)
 
@@ -151,7 +137,7 @@ module _ (st : State) (history : List ℕ) (ok : SessionOk st) where
 
   -- the words of a generation's candidates
   pub offspring-fit : st .session .config .«population_size» * st .session .progress .«n_dims» ≤ maxWords
-  offspring-fit = omega (arith, mul-le-mul (ok .config .atMost) (ok .dimensions .few))
+  offspring-fit = omega (arith, mul-le-mul (ok .config .atMost) (few _ _ (ok .dimensions)))
 
   -- what the room has to be: 1,024 for each list, and 65,536 words for the offspring
   module _ (room : Room) (offspring : ℕ) (kept : maxSize ≤ room .kept) (fronts : maxSize ≤ room .fronts) (lines : maxSize ≤ room .lines)
@@ -168,6 +154,6 @@ module _ (st : State) (history : List ℕ) (ok : SessionOk st) where
     pub step-refusal : stepRefusal (operatorsOf (st .session)) (requestOf st history) room offspring ≡ breedRefusal st history
     unfolding stepRefusal
     step-refusal =
-        passed-over _ _ (ok .config .directions) ∙ passed-over _ _ request-size ∙ passed-over _ _ request-divisions
-        ∙ passed-over _ _ (ok .config .operators) ∙ passed-over _ _ (dimensions-good (st .session) (ok .dimensions)) ∙ passed-over _ _ request-size
+        passed-over _ _ (ok .config .directions) ∙ passed-over _ _ request-size ∙ passed-over _ _ (request-divisions st history ok)
+        ∙ passed-over _ _ (ok .config .operators) ∙ passed-over _ _ (ok .dimensions) ∙ passed-over _ _ request-size
         ∙ after-two _ _ _ _ (passed-over _ _ request-room)

@@ -1,7 +1,7 @@
 -- THE SESSION PROPERTY: every call keeps it, refused or not.
 use Prim.Native.Nat.{ℕ}
-use mathlib.Core.Path.{_≡_, refl, sym, ap, subst}
-use mathlib.Core.Bool.{true, false, not, _&&_, _||_, true≢false, false≢true}
+use mathlib.Core.Path.{_≡_, refl, sym, ap, subst, _∙_}
+use mathlib.Core.Bool.{true, false, not, _&&_, true≢false, false≢true}
 use mathlib.Core.List.{List, List·Memᴰ·head, List·Memᴰ·tail}
 use mathlib.Core.Option.{Option, none, some}
 use native.Mathlib.Omega.{arith}
@@ -11,23 +11,23 @@ use mir.Val.{Val}
 use denote.Laws.{Is}
 use denote.Struct.Declared as struct
 use borrow.Author.Tests.{not-true, not-false}
-use Rattle.list_laws.proofs.Bools.{and-left, and-both, and-fails, by-cond}
+use Rattle.list_laws.proofs.Bools.{and-left, and-both, and-fails, by-cond, by-option}
 use Rattle.list_laws.proofs.Checks.{applies-not}
 use Rattle.demand3_laws.proofs.Calls.{sample-demand3}
 use Rattle.model.specs.declared.Distribution.{Distribution}
 use Rattle.model.specs.declared.Phase.{Phase}
 use Rattle.model.specs.declared.Phase.the-variants.{Discovery, Active}
-use Rattle.model.specs.Plan.{maxSettings}
-use Rattle.model.specs.Setting.{validDimension}
-use Rattle.model.specs.Session.{State, Answered, dimensionOf, longEnough, isActive, pastDiscovery, discovers, isNew, breeds, breed, activate, discover, sampleFromCandidate, accepted, requestOf, operatorsOf, maxPlans}
-use Rattle.model.specs.Refusal.{sampleRefusal, badParents}
+use Rattle.model.specs.Setting.{maxDims}
+use Rattle.model.specs.Session.{State, Answered, dimensionOf, longEnough, isActive, pastDiscovery, discovers, isNew, breeds, breed, activate, discover, sampleFromCandidate, accepted, requestOf, operatorsOf, maxCome}
+use Rattle.model.specs.Refusal.{sampleRefusal, badParents, badNext}
 use Rattle.model.specs.Property.{SessionOk}
-use Rattle.model.specs.Calls.{SampleExit, sampleBy, sampleOf, Samples}
+use Rattle.model.specs.Calls.{SampleExit, sampleBy, sampleOf, Samples, samplingRefusedBy}
 use Rattle.model.proofs.Session as session
+use Rattle.settings.proofs.Valid.{few}
 use Rattle.candidate_laws.proofs.Sound.{AllHeld}
 use Rattle.typed_laws.proofs.Held.{session-dimensions, session-held}
 use Rattle.session_laws.proofs.Request.{breeds-active, fit-dimension, room-left}
-use Rattle.session_laws.proofs.Steps.{long, some-dimension, active-ok, discover-ok, activate-ok, activate-long, sampleFromCandidate-ok}
+use Rattle.session_laws.proofs.Steps.{long, some-dimension, phase-ok, discover-ok, activate-ok, activate-long, sampleFromCandidate-ok}
 use Rattle.session_laws.proofs.Breed.{breed-ok, breed-long}
 
 -- ---- the two phases
@@ -43,7 +43,7 @@ discovery-phase Active e = absurd (true≢false e)
 -- ---- what a call that is not refused rules out
 
 module _ (st : State) (d : Distribution) (plan : ℕ) (history : List ℕ) (e : sampleRefusal st d plan history ≡ none) where
-  not-6 : (discovers st plan && (leb maxSettings (st .session .progress .«n_dims») || not (validDimension d))) ≡ false
+  not-6 : (discovers st plan && badNext (st .session .progress .«n_dims») d) ≡ false
   unfolding sampleRefusal
   not-6 = applies-not (List·Memᴰ·head refl) e
 
@@ -55,7 +55,7 @@ module _ (st : State) (d : Distribution) (plan : ℕ) (history : List ℕ) (e : 
   unfolding sampleRefusal
   not-10 = not-false _ (applies-not (List·Memᴰ·tail (List·Memᴰ·tail (List·Memᴰ·tail (List·Memᴰ·tail (List·Memᴰ·head refl))))) e)
 
-  not-11 : (leb maxPlans (st .session .progress .«n_plans») && (isNew st plan && not (breeds st history))) ≡ false
+  not-11 : (leb maxCome (st .session .progress .«n_plans») && (isNew st plan && not (breeds st history))) ≡ false
   unfolding sampleRefusal
   not-11 = applies-not (List·Memᴰ·tail (List·Memᴰ·tail (List·Memᴰ·tail (List·Memᴰ·tail (List·Memᴰ·tail (List·Memᴰ·head refl)))))) e
 
@@ -63,7 +63,7 @@ module _ (st : State) (d : Distribution) (plan : ℕ) (history : List ℕ) (e : 
 
 -- beside the property, what types promise of code's parameters: numbers of the dimensions that the machine holds, and an array of 32
 module _ (st : State) (d : Distribution) (plan : ℕ) (history : List ℕ) (ok : SessionOk st)
-    (held : AllHeld (dimensionOf (st .session)) (st .session .progress .«n_dims»)) (array : length (st .session .dimensions) ≡ maxSettings) where
+    (held : AllHeld (dimensionOf (st .session)) (st .session .progress .«n_dims»)) (array : length (st .session .dimensions) ≡ maxDims) where
   module _ (e : sampleRefusal st d plan history ≡ none) where
     adds : discovers st plan ≡ true → SessionOk (discover st d plan .after)
     unfolding discovers
@@ -82,7 +82,7 @@ module _ (st : State) (d : Distribution) (plan : ℕ) (history : List ℕ) (ok :
     bred : breeds st history ≡ true → SessionOk (sampleFromCandidate (breed st history) plan .after)
     unfolding breed
     bred h =
-        let some = active-ok st ok (active-phase (st .session .phase) (breeds-active st history h)) .someDimension in
+        let some = phase-ok st Active ok (active-phase (st .session .phase) (breeds-active st history h)) .someDimension in
         let parents = and-fails (breeds st history) _ (not-9 st d plan history e) h in
         sampleFromCandidate-ok (breed st history) plan (breed-ok st history ok some held parents) refl
         (breed-long st history (long st (not-10 st d plan history e))) (λ new. omega arith) held
@@ -102,21 +102,24 @@ module _ (st : State) (d : Distribution) (plan : ℕ) (history : List ℕ) (ok :
   -- THE THEOREM: refused or not, the field `keeps` of `Samples`
   pub sample-ok : SessionOk (sampleOf st d plan history .after)
   unfolding sampleOf
-  sample-ok = by-refusal (sampleRefusal st d plan history) refl
-    where
-      by-refusal : (r : Option ℕ) → sampleRefusal st d plan history ≡ r → SessionOk (sampleBy r st (accepted st d plan history) .after)
-      by-refusal none e = accepted-ok e
-      by-refusal (some n) e = ok
+  sample-ok = by-option (sampleRefusal st d plan history) (λ e. rw e (accepted-ok e)) (λ n e. rw e ok)
+
+-- an answer tells the refusal, or that there is none
+told : (o : Option ℕ) (st : State) (a : Answered) → samplingRefusedBy (sampleBy o st a .answer) ≡ o
+told none st a = refl
+told (some n) st a = refl
 
 -- of a session that code is given the types promise it: `sample` asks the property alone. `good` stands at `c .good` of the code's proof
 module _ (st : State) (d : Distribution) (plan : ℕ) (history : List ℕ) (ok : SessionOk st) (vs : List Val) (good : Is (struct.row session.the-type) (st .session) vs) where
   given-held : AllHeld (dimensionOf (st .session)) (st .session .progress .«n_dims»)
-  given-held k l = session-held (st .session) vs good k (omega (arith, ok .dimensions .few))
+  given-held k l = session-held (st .session) vs good k (omega (arith, few _ _ (ok .dimensions)))
 
   -- the whole promise of `sample`, of an exit that is its definition's
   pub samples : (x : SampleExit) → x ≡ sampleOf st d plan history → Samples st d plan history x
+  unfolding sampleOf
   samples x e = record {
     whole = e;
+    refused = ap (λ (y : SampleExit). samplingRefusedBy (y .answer)) e ∙ told (sampleRefusal st d plan history) st (accepted st d plan history);
     keeps = subst (λ (y : SampleExit). SessionOk (y .after)) (sym e) (sample-ok st d plan history ok given-held (session-dimensions (st .session) vs good));
     demand3 = sample-demand3 st d plan history ok;
   }

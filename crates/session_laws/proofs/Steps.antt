@@ -1,16 +1,16 @@
 -- Each step of a call keeps the session property, where its condition holds.
 use Prim.Native.Nat.{ℕ, _+_, _-_, _*_, _≤_, _<_, max}
 use mathlib.Core.Path.{_≡_, refl, sym, ap, _∙_, subst}
-use mathlib.Core.Bool.{true, false, true≢false}
+use mathlib.Core.Bool.{true, false, true≢false, not}
 use mathlib.Core.List.{List, map}
-use native.Mathlib.Nat.{le-trans, mul-le-mul, not-suc-le-zero}
+use native.Mathlib.Nat.{le-trans, mul-le-mul}
 use native.Mathlib.Omega.{arith}
 use lib.Dec.{eqb, leb, ltb}
-use lib.ListN.{length, getD, set, take, length-take, length-set}
-use lib.Seq.{getD-set-same, getD-set-other, set-out, getD-take}
-use borrow.Author.Tests.{ltb-true, ltb-false, le-leb, leb-true, eqb-true, eqb-false, not-true}
-use Rattle.list_laws.proofs.Bools.{by-bool, and-left, and-right, and-both, by-cond}
-use Rattle.list_laws.proofs.Members.{in-has, getD-in}
+use lib.ListN.{length, getD, set, take, length-set, drop}
+use lib.Seq.{getD-set-same, getD-set-other, set-out, take-suc-set, length-sets}
+use borrow.Author.Tests.{ltb-true, ltb-false, le-leb, leb-true, eqb-true, eqb-false, not-true, le-ltb}
+use Rattle.list_laws.proofs.Bools.{by-bool, and-left, and-right, and-both, by-cond, or-both}
+use Rattle.list_laws.proofs.Members.{distinct-snoc, has-not}
 use Rattle.model.specs.declared.Distribution.{Distribution}
 use Rattle.model.specs.declared.Phase.{Phase}
 use Rattle.model.specs.declared.Phase.the-variants.{Discovery, Active}
@@ -18,26 +18,28 @@ use Rattle.model.specs.declared.Session.{Session}
 use Rattle.model.specs.declared.DimensionInfo.{DimensionInfo}
 use Rattle.model.specs.declared.OptionU64.{OptionU64}
 use Rattle.model.specs.declared.OptionU64.the-variants as optU64
-use Rattle.model.specs.Lists.{has, In}
-use Rattle.model.specs.Plan.{maxSettings}
-use Rattle.model.specs.Setting.{validDimension, sampleRandom, sampleAll, toWord, wordsOf}
-use Rattle.model.specs.Session.{State, state, dimensionOf, noDimension, longEnough, maxPlans, maxWords, discover, activate, overflow, enter, enlist, answer, plansOf, placeIn, isNew, sampleFromCandidate, discoversFor, withRng, Answered}
-use Rattle.model.specs.Refusal.{goodIdeal}
-use Rattle.model.specs.Property.{KnownBy, ConfigOk, DimensionsOk, DiscoveryOk, ActiveOk, PhaseOk, LentOk, SessionOk}
+use Rattle.model.specs.Lists.{has, placeIn, Distinct, over}
+use Rattle.model.specs.Setting.{validDimension, sampleRandom, sampleAll, toWord, wordsOf, noDimension, maxDims, WordsWithin, sampleCandidates}
+use Rattle.model.specs.Session.{State, state, dimensionOf, longEnough, maxCome, maxWords, discover, activate, overflow, enter, enlist, answer, plansOf, isNew, sampleFromCandidate, discoversFor, withRng, Answered, entered, renewed}
+use Rattle.model.specs.Refusal.{goodIdeal, badDimensions}
+use Rattle.model.specs.Property.{KnownBy, ConfigOk, ActiveOk, PhaseOk, LentOk, SessionOk}
+use lib.Ieee.{Float}
+use native.Mathlib.Numerals.{add-one}
+use Rattle.list_laws.proofs.Tests.{allBelow-every}
+use Rattle.settings.proofs.Valid.{few, each}
 use Rattle.candidate_laws.proofs.Sound.{AllHeld}
 use Rattle.candidate_laws.proofs.Sampled.{sampleAll-sound, sampleCandidates-sound}
 use Rattle.candidate_laws.proofs.Words.{words-within, words-put}
 use Rattle.list_laws.proofs.Built.{over-long}
 use Rattle.list_laws.proofs.Stores.{set-each}
-use Rattle.session_laws.proofs.Lists.{overAt-long}
-use Rattle.session_laws.proofs.Request.{dimensions-good}
+use Rattle.session_laws.proofs.Lists.{lent-none, lent-empty}
 
 -- ---- the lengths of the lent slices
 
 pub record Long (st : State) : Type 0 where
   pub words : maxWords ≤ length (st .candidates)
-  pub plans : maxPlans ≤ length (st .plans)
-  pub next : maxPlans ≤ length (st .nextDims)
+  pub plans : maxCome ≤ length (st .plans)
+  pub next : maxCome ≤ length (st .nextDims)
 
 pub long : (st : State) → longEnough st ≡ true → Long st
 unfolding longEnough
@@ -45,13 +47,13 @@ long st e =
     let rest = and-right (leb maxWords (length (st .candidates))) _ e in
     record {
       words = leb-true maxWords _ (and-left _ _ e);
-      plans = leb-true maxPlans _ (and-left _ _ rest);
-      next = leb-true maxPlans _ (and-right (leb maxPlans (length (st .plans))) _ rest);
+      plans = leb-true maxCome _ (and-left _ _ rest);
+      next = leb-true maxCome _ (and-right (leb maxCome (length (st .plans))) _ rest);
     }
 
 pub long-enough : (st : State) → Long st → longEnough st ≡ true
 unfolding longEnough
-long-enough st l = and-both _ _ (le-leb maxWords _ (l .words)) (and-both _ _ (le-leb maxPlans _ (l .plans)) (le-leb maxPlans _ (l .next)))
+long-enough st l = and-both _ _ (le-leb maxWords _ (l .words)) (and-both _ _ (le-leb maxCome _ (l .plans)) (le-leb maxCome _ (l .next)))
 
 -- and stay so where words are put into the candidates
 pub put-long : (st : State) (u : Session) (cs : List ℕ) → length (st .candidates) ≤ length cs → Long st → Long (state u cs (st .plans) (st .nextDims))
@@ -70,30 +72,30 @@ short-ok s cs ps ns cs' ps' ns' ok short = record {
 
 -- ---- discovery
 
-pub discovery-ok : (st : State) → SessionOk st → st .session .phase ≡ Discovery → DiscoveryOk (st .session)
-discovery-ok st ok e = subst (λ (p : Phase). PhaseOk p (st .session)) e (ok .phase)
+pub phase-ok : (st : State) (p : Phase) → SessionOk st → st .session .phase ≡ p → PhaseOk p (st .session)
+phase-ok st p ok e = subst (λ (q : Phase). PhaseOk q (st .session)) e (ok .phase)
 
 -- a dimension more, where there are fewer than 32 and it is valid
 module _ (st : State) (d : Distribution) (plan : ℕ) (ok : SessionOk st) (discovery : st .session .phase ≡ Discovery)
-    (few : st .session .progress .«n_dims» < maxSettings) (valid : validDimension d ≡ true) (array : length (st .session .dimensions) ≡ maxSettings) where
+    (few : st .session .progress .«n_dims» < maxDims) (valid : validDimension d ≡ true) (array : length (st .session .dimensions) ≡ maxDims) where
+  dimensions-more : badDimensions (dimensionOf (entered (st .session) d plan 0)) (st .session .progress .«n_dims» + 1) ≡ false
+  unfolding badDimensions
+  dimensions-more =
+      or-both _ _ (le-ltb maxDims (st .session .progress .«n_dims» + 1) (omega arith))
+      (ap not (allBelow-every _ (st .session .progress .«n_dims» + 1)
+      (set-each (λ k (x : DimensionInfo). validDimension (x .distribution) ≡ true) noDimension (st .session .dimensions) (st .session .progress .«n_dims»)
+      (record { distribution = d }) (omega arith) valid (each _ _ (ok .dimensions)))))
+
   pub discover-ok : SessionOk (discover st d plan .after)
   unfolding discover
   discover-ok =
-      let at = discovery-ok st ok discovery in
+      let at = phase-ok st Discovery ok discovery in
       record {
         config = ok .config;
-        dimensions = record {
-          few = omega arith;
-          valid = set-each (λ k (x : DimensionInfo). validDimension (x .distribution) ≡ true) noDimension (st .session .dimensions) (st .session .progress .«n_dims»)
-              (record { distribution = d }) (omega arith) valid (ok .dimensions .valid);
-        };
+        dimensions = dimensions-more;
         phase = record { first = omega arith; noCandidates = at .noCandidates; noPlans = at .noPlans };
         ideal = ok .ideal;
-        lent = λ e. record {
-          different = λ i j l k same. not-suc-le-zero (rw (at .noPlans) at k);
-          next = λ i l. absurd (not-suc-le-zero (rw (at .noPlans) at l));
-          settings = λ i d l k. absurd (not-suc-le-zero (rw (at .noCandidates) at l));
-        };
+        lent = λ e. lent-empty _ (at .noPlans) (at .noCandidates);
       }
 
 -- ---- the end of discovery
@@ -105,26 +107,31 @@ known (optU64.Some p) plan dims e k = k
 
 pub some-dimension : (st : State) (plan : ℕ) → SessionOk st → st .session .phase ≡ Discovery → discoversFor (st .session .«discovery_trial_id») plan ≡ false
     → 1 ≤ st .session .progress .«n_dims»
-some-dimension st plan ok e f = known (st .session .«discovery_trial_id») plan (st .session .progress .«n_dims») f (discovery-ok st ok e .first)
+some-dimension st plan ok e f = known (st .session .«discovery_trial_id») plan (st .session .progress .«n_dims») f (phase-ok st Discovery ok e .first)
+
+-- a new generation, whose ideal is good and whose candidates lie within their bounds
+pub renewed-ok : (st : State) (g : ℕ) (ideal : List Float) (number : ℕ) (words : List ℕ) → SessionOk st → 1 ≤ st .session .progress .«n_dims»
+    → goodIdeal (st .session .config .«n_obj») (take (st .session .config .«n_obj») ideal) ≡ true
+    → WordsWithin (dimensionOf (st .session)) (st .session .progress .«n_dims») (st .session .config .«population_size») (over words (st .candidates))
+    → SessionOk (state (renewed (st .session) g ideal number) (over words (st .candidates)) (st .plans) (st .nextDims))
+renewed-ok st g ideal number words ok some good settings = record {
+  config = ok .config;
+  dimensions = ok .dimensions;
+  phase = record { someDimension = some; candidates = omega arith; room = omega arith };
+  ideal = good;
+  lent = λ e. lent-none _ refl settings;
+}
 
 module _ (st : State) (ok : SessionOk st) (discovery : st .session .phase ≡ Discovery) (some : 1 ≤ st .session .progress .«n_dims»)
     (held : AllHeld (dimensionOf (st .session)) (st .session .progress .«n_dims»)) where
   pub activate-ok : SessionOk (activate st)
   unfolding activate
   activate-ok =
-      record {
-        config = ok .config;
-        dimensions = record { few = ok .dimensions .few; valid = ok .dimensions .valid };
-        phase = record { someDimension = some; candidates = omega arith; room = omega arith };
-        ideal = ok .ideal;
-        lent = λ e. record {
-          different = λ i j l k same. not-suc-le-zero k;
-          next = λ i l. absurd (not-suc-le-zero l);
-          settings = words-within (dimensionOf (st .session)) (st .session .progress .«n_dims») (st .session .config .«population_size») _
-              (sampleCandidates-sound (dimensionOf (st .session)) (st .session .progress .«n_dims») held (dimensions-good (st .session) (ok .dimensions))
-              (st .session .config .«population_size») (st .session .rng .s)) _;
-        };
-      }
+      let cs = sampleCandidates (dimensionOf (st .session)) (st .session .progress .«n_dims») (st .session .config .«population_size») (st .session .rng .s) in
+      renewed-ok st (cs .state) (st .session .«ideal_point») (st .session .progress .generation) (wordsOf (cs .value)) ok some (ok .ideal)
+      (words-within (dimensionOf (st .session)) (st .session .progress .«n_dims») (st .session .config .«population_size») (cs .value)
+      (sampleCandidates-sound (dimensionOf (st .session)) (st .session .progress .«n_dims») held (ok .dimensions) (st .session .config .«population_size») (st .session .rng .s))
+      (drop (length (wordsOf (cs .value))) (st .candidates)))
 
 pub activate-long : (st : State) → Long st → Long (activate st)
 unfolding activate
@@ -135,27 +142,26 @@ activate-long st l = put-long st _ _ (over-long (wordsOf _) (st .candidates)) l
 -- an active session with a candidate for one plan more
 pub record Waiting (st : State) : Type 0 where
   pub config : ConfigOk (st .session .config)
-  pub dimensions : DimensionsOk (st .session)
+  pub dimensions : badDimensions (dimensionOf (st .session)) (st .session .progress .«n_dims») ≡ false
   pub active : st .session .phase ≡ Active
   pub someDimension : 1 ≤ st .session .progress .«n_dims»
   pub candidates : st .session .progress .«n_candidates» ≡ max (st .session .config .«population_size») (st .session .progress .«n_plans» + 1)
-  pub room : st .session .progress .«n_plans» < maxPlans
+  pub room : st .session .progress .«n_plans» < maxCome
   pub ideal : goodIdeal (st .session .config .«n_obj») (take (st .session .config .«n_obj») (st .session .«ideal_point»)) ≡ true
   pub lent : LentOk st
   pub long : Long st
 
 overflow-long : (st : State) → Long st → Long (overflow st)
 unfolding overflow
-overflow-long st l = put-long st _ _ (overAt-long (st .session .progress .«n_candidates» * st .session .progress .«n_dims»)
-    (map toWord (sampleAll (dimensionOf (st .session)) (st .session .progress .«n_dims») (st .session .rng .s) .value)) (st .candidates)) l
+overflow-long st l =
+    let e = length-sets (st .candidates) (st .session .progress .«n_candidates» * st .session .progress .«n_dims»)
+    (map toWord (sampleAll (dimensionOf (st .session)) (st .session .progress .«n_dims») (st .session .rng .s) .value)) in
+    put-long st _ _ (omega arith) l
 
-pub active-ok : (st : State) → SessionOk st → st .session .phase ≡ Active → ActiveOk (st .session)
-active-ok st ok e = subst (λ (p : Phase). PhaseOk p (st .session)) e (ok .phase)
-
-module _ (st : State) (ok : SessionOk st) (active : st .session .phase ≡ Active) (lengths : Long st) (room : st .session .progress .«n_plans» < maxPlans) where
+module _ (st : State) (ok : SessionOk st) (active : st .session .phase ≡ Active) (lengths : Long st) (room : st .session .progress .«n_plans» < maxCome) where
   waiting : st .session .progress .«n_plans» < st .session .progress .«n_candidates» → Waiting st
   waiting more =
-      let at = active-ok st ok active in
+      let at = phase-ok st Active ok active in
       record {
         config = ok .config;
         dimensions = ok .dimensions;
@@ -173,11 +179,11 @@ module _ (st : State) (ok : SessionOk st) (active : st .session .phase ≡ Activ
       → Waiting (overflow st)
   unfolding overflow
   overflow-waiting all held =
-      let at = active-ok st ok active in
+      let at = phase-ok st Active ok active in
       let lent = ok .lent (long-enough st lengths) in
       record {
         config = ok .config;
-        dimensions = record { few = ok .dimensions .few; valid = ok .dimensions .valid };
+        dimensions = ok .dimensions;
         active = active;
         someDimension = at .someDimension;
         candidates = omega (arith, at .candidates);
@@ -187,34 +193,26 @@ module _ (st : State) (ok : SessionOk st) (active : st .session .phase ≡ Activ
           different = lent .different;
           next = lent .next;
           settings = words-put (dimensionOf (st .session)) (st .session .progress .«n_dims») (st .session .progress .«n_candidates») _ (st .candidates)
-              (sampleAll-sound (dimensionOf (st .session)) (st .session .progress .«n_dims») held (dimensions-good (st .session) (ok .dimensions)) (st .session .rng .s))
+              (sampleAll-sound (dimensionOf (st .session)) (st .session .progress .«n_dims») held (ok .dimensions) (st .session .rng .s))
               (lent .settings) fits;
         };
         long = overflow-long st lengths;
       }
     where
       fits : (st .session .progress .«n_candidates» + 1) * st .session .progress .«n_dims» ≤ length (st .candidates)
-      fits = le-trans (mul-le-mul {n₂ = maxPlans} (omega arith) (ok .dimensions .few)) (lengths .words)
+      fits = le-trans (mul-le-mul {n₂ = maxCome} (omega arith) (few _ _ (ok .dimensions))) (lengths .words)
 
 -- the numbers still differ where a new one is stored
-entered-different : (l : List ℕ) (n plan : ℕ) → n < length l → has (take n l) plan ≡ false
-    → ((i j : ℕ) → i < j → j < n → getD l i 0 ≡ getD l j 0 → ⊥)
-    → (i j : ℕ) → i < j → j < n + 1 → getD (set l n plan) i 0 ≡ getD (set l n plan) j 0 → ⊥
-entered-different l n plan room new h i j below last same =
-    set-each (λ j (x : ℕ). (i : ℕ) → i < j → getD (set l n plan) i 0 ≡ x → ⊥) 0 l n plan room
-    (λ i k e. true≢false (sym (in-has (take n l) plan (subst (λ (x : ℕ). In x (take n l))
-    (getD-take n l i 0 (omega arith) ∙ sym (before i k) ∙ e) (getD-in (take n l) i (omega (arith, length-take n l))))) ∙ new))
-    (λ j m i k e. h i j k m (sym (before i (omega arith)) ∙ e)) j last i below same
-  where
-    before : (i : ℕ) → i < n → getD (set l n plan) i 0 ≡ getD l i 0
-    before i k = getD-set-other l n i plan 0 (λ e. omega arith)
+entered-different : (l : List ℕ) (n plan : ℕ) → n < length l → has (take n l) plan ≡ false → Distinct (take n l) → Distinct (take (n + 1) (set l n plan))
+entered-different l n plan room new h =
+    subst Distinct (sym (ap (λ k. take k (set l n plan)) (add-one n) ∙ take-suc-set l n plan room)) (distinct-snoc (take n l) plan h (has-not (take n l) plan new))
 
 pub enter-ok : (st : State) (plan : ℕ) → Waiting st → isNew st plan ≡ true → SessionOk (enter st plan)
 unfolding enter
 enter-ok st plan ready new =
     record {
       config = ready .config;
-      dimensions = record { few = ready .dimensions .few; valid = ready .dimensions .valid };
+      dimensions = ready .dimensions;
       phase = subst (λ (p : Phase). PhaseOk p (enter st plan .session)) (sym (ready .active))
           (record { someDimension = ready .someDimension; candidates = ready .candidates; room = omega (arith, ready .room) });
       ideal = ready .ideal;
@@ -236,7 +234,7 @@ enter-long st plan l =
       next = omega (arith, length-set (st .nextDims) (st .session .progress .«n_plans») 0, l .next);
     }
 
-module _ (st : State) (ok : SessionOk st) (active : st .session .phase ≡ Active) (lengths : Long st) (room : st .session .progress .«n_plans» < maxPlans)
+module _ (st : State) (ok : SessionOk st) (active : st .session .phase ≡ Active) (lengths : Long st) (room : st .session .progress .«n_plans» < maxCome)
     (held : AllHeld (dimensionOf (st .session)) (st .session .progress .«n_dims»)) (plan : ℕ) (new : isNew st plan ≡ true) where
   pub enlist-ok : SessionOk (enlist st plan)
   unfolding enlist overflow
@@ -266,7 +264,7 @@ moved-next l i at d dims below h = by-bool (eqb i at)
 
 module _ (st : State) (i : ℕ) (ok : SessionOk st) (active : st .session .phase ≡ Active) (lengths : Long st) where
   at-active : ActiveOk (st .session)
-  at-active = active-ok st ok active
+  at-active = phase-ok st Active ok active
 
   at-lent : LentOk st
   at-lent = ok .lent (long-enough st lengths)
@@ -288,7 +286,7 @@ module _ (st : State) (i : ℕ) (ok : SessionOk st) (active : st .session .phase
       })
       (λ e. record {
         config = ok .config;
-        dimensions = record { few = ok .dimensions .few; valid = ok .dimensions .valid };
+        dimensions = ok .dimensions;
         phase = subst (λ (p : Phase). PhaseOk p (withRng (st .session) (sampleRandom (dimensionOf (st .session) (st .session .progress .«n_dims» - 1)) (st .session .rng .s) .state)))
             (sym active)
             (record { someDimension = at-active .someDimension; candidates = at-active .candidates; room = at-active .room });
@@ -299,7 +297,7 @@ module _ (st : State) (i : ℕ) (ok : SessionOk st) (active : st .session .phase
 -- ---- `sample_from_candidate`
 
 module _ (st : State) (plan : ℕ) (ok : SessionOk st) (active : st .session .phase ≡ Active) (lengths : Long st)
-    (room : isNew st plan ≡ true → st .session .progress .«n_plans» < maxPlans) (held : AllHeld (dimensionOf (st .session)) (st .session .progress .«n_dims»)) where
+    (room : isNew st plan ≡ true → st .session .progress .«n_plans» < maxCome) (held : AllHeld (dimensionOf (st .session)) (st .session .progress .«n_dims»)) where
   pub sampleFromCandidate-ok : SessionOk (sampleFromCandidate st plan .after)
   unfolding sampleFromCandidate
   sampleFromCandidate-ok = by-cond (λ (x : Answered). SessionOk (x .after)) (isNew st plan) _ _

@@ -12,13 +12,13 @@ use Rattle.model.specs.declared.Opened.{Opened}
 use Rattle.model.specs.declared.OptionUsize.{OptionUsize}
 use Rattle.model.specs.declared.Session.{Session}
 use Rattle.model.specs.Lists.{over}
-use Rattle.model.specs.Plan.{maxValues}
+use Rattle.model.specs.Plan.{maxObjectives}
 use Rattle.model.specs.Reference.{divisionsOf, populationSize}
-use Rattle.model.specs.Session.{blank, given, opened}
+use Rattle.model.specs.Session.{blank, given, opened, start}
 use Rattle.model.specs.Calls.{openBy, openOf, Opens}
 use Rattle.session_laws.proofs.Opened.{ready-tells, refused-tells, opens}
 use Rattle.model.specs.Refusal.{firstOf, openRefusal, badDirections, badSessionSize, badSessionDivisions, badOperators}
-use Rattle.session_opening.specs.Opening.{openingBy, start}
+use Rattle.session_opening.specs.Opening.{openingBy}
 
 module _ (marks : List ℕ) (size divisions : Option ℕ) (probability crossoverEta mutationEta : Float) where
   abbrev answer : Opening
@@ -80,7 +80,7 @@ module _ (marks : List ℕ) (seed : ℕ) (size divisions : OptionUsize) (probabi
 -- ---- the session that is opened, from its parts
 
 pub opened-is : (marks : List ℕ) (seed : ℕ) (size divisions : Option ℕ) (probability crossoverEta mutationEta : Float) (m : List ℕ) (h n : ℕ)
-    → m ≡ over marks (replicate maxValues 0) → h ≡ divisionsOf (length marks) size divisions → n ≡ populationSize (length marks) size divisions
+    → m ≡ over marks (replicate maxObjectives 0) → h ≡ divisionsOf (length marks) size divisions → n ≡ populationSize (length marks) size divisions
     → start (record { «n_obj» = length marks; directions = m; divisions = h; «population_size» = n; «crossover_prob» = probability; «crossover_eta» = crossoverEta; «mutation_eta» = mutationEta }) seed
     ≡ opened marks seed size divisions probability crossoverEta mutationEta
 unfolding opened

@@ -12,35 +12,24 @@ use Rattle.list_laws.proofs.Rows.{row-within}
 use Rattle.model.specs.declared.Distribution.{Distribution}
 use Rattle.model.specs.declared.ParamValue.{ParamValue}
 use Rattle.model.specs.declared.OptionU64.the-variants as optU64
-use Rattle.model.specs.declared.Phase.the-variants.{Discovery}
 use Rattle.model.specs.declared.Session.{Session}
 use Rattle.model.specs.declared.Sampling.the-variants as sampling
-use Rattle.model.specs.Lists.{over}
+use Rattle.model.specs.Lists.{over, placeIn}
 use Rattle.model.specs.Draw.{Drawn, drawn}
 use Rattle.model.specs.Setting.{kindOfDimension, toWord, ofWord, sampleRandom, sampleAll, sampleCandidates, wordsOf}
-use Rattle.model.specs.Session.{State, Answered, state, progress, dimensionOf, withRng, withProgress, renewed, overAt, discover, activate, overflow, enter, enlist, answer, isNew, placeIn, plansOf, sampleFromCandidate}
-use Rattle.session_parts.specs.Exits.{exit, settled, Ready}
+use Rattle.model.specs.Session.{State, Answered, state, progress, dimensionOf, withRng, withProgress, renewed, discover, activate, overflow, enter, enlist, answer, isNew, plansOf, sampleFromCandidate, entered}
+use Rattle.model.specs.Calls.{settled}
+use lib.Seq.{sets}
+use Rattle.session_parts.specs.Exits.{exit, Ready}
 use Rattle.session_records.proofs.Records.{is-new-by}
 
 -- ---- discovery
 
 module _ (s : Session) (d : Distribution) (plan : ℕ) where
-  -- the session with a dimension more, and a generator
-  abbrev entered : ℕ → Session
-  entered g = record {
-    config = s .config;
-    phase = Discovery;
-    «discovery_trial_id» = optU64.Some plan;
-    rng = record { s = g };
-    dimensions = set (s .dimensions) (s .progress .«n_dims») (record { distribution = d });
-    «ideal_point» = s .«ideal_point»;
-    progress = progress (s .progress .«n_dims» + 1) (s .progress .«n_candidates») (s .progress .«n_plans») (s .progress .generation);
-  }
-
   pub discover-is : (v : ParamValue) (g : ℕ) (cs ps ns : List ℕ) → drawn v g ≡ sampleRandom d (s .rng .s)
-      → exit (record { outcome = sampling.Setting v; session = entered g }) cs ps ns ≡ settled (discover (state s cs ps ns) d plan)
+      → exit (record { outcome = sampling.Setting v; session = entered s d plan g }) cs ps ns ≡ settled (discover (state s cs ps ns) d plan)
   unfolding discover
-  discover-is v g cs ps ns e = ap (λ (x : Drawn ParamValue). exit (record { outcome = sampling.Setting (x .value); session = entered (x .state) }) cs ps ns) e
+  discover-is v g cs ps ns e = ap (λ (x : Drawn ParamValue). exit (record { outcome = sampling.Setting (x .value); session = entered s d plan (x .state) }) cs ps ns) e
 
 module _ (s : Session) where
   abbrev first-ones : Drawn (List (List ParamValue))
@@ -60,7 +49,7 @@ fits-more {k} {n} {len} h i l = row-within k 2048 n len h (omega arith)
 
 pub overflow-is : (s : Session) (c : List ParamValue) (g : ℕ) (cs ps ns after : List ℕ) (t u : Session)
     → drawn c g ≡ sampleAll (dimensionOf s) (s .progress .«n_dims») (s .rng .s)
-    → after ≡ overAt (s .progress .«n_candidates» * s .progress .«n_dims») (map toWord c) cs
+    → after ≡ sets cs (s .progress .«n_candidates» * s .progress .«n_dims») (map toWord c)
     → t ≡ withRng s g → u ≡ withProgress t (progress (s .progress .«n_dims») (s .progress .«n_candidates» + 1) (s .progress .«n_plans») (s .progress .generation))
     → state u after ps ns ≡ overflow (state s cs ps ns)
 unfolding overflow
@@ -68,7 +57,7 @@ overflow-is s c g cs ps ns after t u e f h k =
     let more = progress (s .progress .«n_dims») (s .progress .«n_candidates» + 1) (s .progress .«n_plans») (s .progress .generation) in
     let at = s .progress .«n_candidates» * s .progress .«n_dims» in
     ap₂ (λ (x : Session) (y : List ℕ). state x y ps ns) (k ∙ ap (λ (x : Session). withProgress x more) h) f
-    ∙ ap (λ (x : Drawn (List ParamValue)). state (withProgress (withRng s (x .state)) more) (overAt at (map toWord (x .value)) cs) ps ns) e
+    ∙ ap (λ (x : Drawn (List ParamValue)). state (withProgress (withRng s (x .state)) more) (sets cs at (map toWord (x .value))) ps ns) e
 
 pub enter-is : (s : Session) (plan : ℕ) (cs ps ns : List ℕ) (u : Session)
     → u ≡ withProgress s (progress (s .progress .«n_dims») (s .progress .«n_candidates») (s .progress .«n_plans» + 1) (s .progress .generation))

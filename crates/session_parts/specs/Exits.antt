@@ -6,19 +6,16 @@ use mathlib.Core.List.{List}
 use Rattle.model.specs.declared.Session.{Session}
 use Rattle.model.specs.declared.Sampled.{Sampled}
 use Rattle.model.specs.declared.Sampling.the-variants as sampling
-use Rattle.model.specs.Session.{Answered, state, progress, dimensionOf, maxPlans}
+use Rattle.model.specs.Session.{state, progress, dimensionOf, maxCome}
 use Rattle.model.specs.Refusal.{badDimensions}
 use Rattle.model.specs.Calls.{SampleExit}
 
--- what a call leaves, and what it leaves where it is accepted
+-- what a call leaves
 abbrev pub exit : Sampled → List ℕ → List ℕ → List ℕ → SampleExit
 exit r cs ps ns = record { answer = r .outcome; after = state (r .session) cs ps ns }
-
-abbrev pub settled : Answered → SampleExit
-settled a = record { answer = sampling.Setting (a .setting); after = a .after }
 
 -- what a state past discovery needs to be drawn from
 pub record Ready (s : Session) : Type 0 where
   pub dims : badDimensions (dimensionOf s) (s .progress .«n_dims») ≡ false
   pub some : 1 ≤ s .progress .«n_dims»
-  pub room : s .progress .«n_plans» ≤ maxPlans
+  pub room : s .progress .«n_plans» ≤ maxCome

@@ -10,14 +10,14 @@ use native.Mathlib.Omega.{arith}
 use borrow.Author.Tests.{eq-eqb, ne-eqb, lt-ltb, le-ltb, leb-true, leb-false}
 use lib.Dec.{eqb, leb, ltb, leb·suc-suc}
 use lib.ListN.{length, getD, take, drop, drop-of-length-le}
-use lib.Seq.{drop-cons, length-take-le}
+use lib.Seq.{drop-cons, length-take-le, sets}
 use Rattle.list_laws.proofs.Bools.{by-bool}
 use Rattle.list_laws.proofs.Built.{listBelow-length}
 use Rattle.list_laws.proofs.First.{lastBelow-nowhere, lastBelow-at, lastBelow-same}
 use Rattle.candidates.proofs.Laid.{join-next}
-use Rattle.model.specs.Lists.{lastBelow, joinBelow, has, over}
+use Rattle.model.specs.Lists.{lastBelow, joinBelow, has, over, placeIn}
 use Rattle.model.specs.Plan.{planOf, planAt, planCount, planWords}
-use Rattle.model.specs.Session.{placeIn, recordOf, blockOf, overAt}
+use Rattle.model.specs.Session.{recordOf, blockOf}
 
 -- ---- the last record of a number
 
@@ -86,7 +86,7 @@ is-new-by ps n plan i h e =
 -- ---- the records bred from
 
 pub records-more : (f : ℕ → ℕ) (history old pool : List ℕ) (i k : ℕ) → k ≡ f i → pool ≡ over (joinBelow (λ i. blockOf history (f i)) i) old
-    → overAt (i * planWords) (blockOf history k) pool ≡ over (joinBelow (λ i. blockOf history (f i)) (i + 1)) old
+    → sets pool (i * planWords) (blockOf history k) ≡ over (joinBelow (λ i. blockOf history (f i)) (i + 1)) old
 records-more f history old pool i k e g =
-    ap₂ (λ a b. overAt (i * planWords) (blockOf history a) b) e g
+    ap₂ (λ a b. sets b (i * planWords) (blockOf history a)) e g
     ∙ join-next (λ i. blockOf history (f i)) planWords (λ d. listBelow-length _ planWords) 0 (i * planWords) i old zero-le (zero-add (i * planWords))

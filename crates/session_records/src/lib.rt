@@ -5,10 +5,11 @@ ghost use mathlib.Core.Bool.{true, not, _&&_, _||_};
 ghost use Prim.Native.Nat.{_+_, _-_, _*_, _≤_, _<_};
 ghost use lib.Dec.{leb, ltb};
 ghost use lib.ListN.{length, getD, take};
-ghost use Rattle.model.specs.Lists.{allBelow, joinBelow, has, over};
+ghost use Rattle.model.specs.Lists.{allBelow, joinBelow, has, over, placeIn};
 ghost use Rattle.model.specs.Plan.{planCount};
 ghost use Rattle.model.specs.Setting.{validDimension};
-ghost use Rattle.model.specs.Session.{overAt, placeIn, recordOf, blockOf, pastDiscovery, discoversFor};
+ghost use Rattle.model.specs.Session.{recordOf, blockOf, pastDiscovery, discoversFor};
+ghost use lib.Seq.{sets};
 use model::Distribution;
 use model::MAX_DIMS;
 use model::OptionU64;
@@ -74,7 +75,7 @@ pub fn evaluated(history: &[u64], plans: &[u64], n_plans: usize, size: usize) ->
 // Record k of a history, as plan i of a pool.
 fn copy_record(history: &[u64], k: usize, i: usize, pool: &mut [u64])
     requires { ⌜ (k < planCount (now history)) × (i * 124 + 124 ≤ length (now pool)) ⌝ }
-    ensures { λ _. ⌜ now (pool .exit) ≡ overAt (i * 124) (blockOf (now (history .entry)) k) (now (pool .entry)) ⌝ }
+    ensures { λ _. ⌜ now (pool .exit) ≡ sets (now (pool .entry)) (i * 124) (blockOf (now (history .entry)) k) ⌝ }
 {
     let from = k * PLAN_WORDS;
     let to = i * PLAN_WORDS;

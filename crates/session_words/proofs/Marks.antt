@@ -1,6 +1,6 @@
 -- Words are read as the coding says: a mark that is not 0 is yes, and parts that are a whole's make the whole.
-use Prim.Native.Nat.{ℕ, zero, suc, _+_}
-use mathlib.Core.Path.{_≡_, refl}
+use Prim.Native.Nat.{ℕ, _+_}
+use mathlib.Core.Path.{_≡_}
 use mathlib.Core.Bool.{Bool}
 use mathlib.Core.List.{List, [], _∷_}
 use lib.IntN.{ℤ}
@@ -19,16 +19,6 @@ use Rattle.model.specs.Real.{real}
 use Rattle.model.specs.Setting.{intOfWord}
 use Rattle.model.specs.Session.{progress}
 use Rattle.session_words.specs.Coding.{marked, stepF64, stepI64, distributionOf, dimensionAt, eight}
-
-pub by-suc : {A : Type 0} (f : ℕ → A) (a : A) → ((k : ℕ) → f (suc k) ≡ a) → (w : ℕ) → (w ≡ 0 → ⊥) → f w ≡ a
-by-suc f a h zero n = absurd (n refl)
-by-suc f a h (suc k) n = h k
-
--- a number that is neither 0 nor 1
-pub by-two : {A : Type 0} (f : ℕ → A) (a : A) → ((k : ℕ) → f (suc (suc k)) ≡ a) → (w : ℕ) → (w ≡ 0 → ⊥) → (w ≡ 1 → ⊥) → f w ≡ a
-by-two f a h zero n m = absurd (n refl)
-by-two f a h (suc zero) n m = absurd (m refl)
-by-two f a h (suc (suc k)) n m = h k
 
 module _ (kind low high log has step : ℕ) where
   pub float-is : (a b : Float) (g : Bool) (o : OptionF64) → kind ≡ 0 → a ≡ real low → b ≡ real high → g ≡ marked log → o ≡ stepF64 has step

@@ -10,7 +10,7 @@ use lib.Ieee.{Float, binary64, fits, ofBits}
 use mir.Syntax.{w64}
 use mir.Val.{SFits}
 use Rattle.list_laws.proofs.Bools.{T-true, true-T, and-both}
-use Rattle.rng_util.proofs.Draws.{drawn-value, drawUsize-below, drawI64-within, f64Range-within}
+use Rattle.rng_util.proofs.Draws.{drawUsize-below, drawI64-within, f64Range-within}
 use Rattle.model.specs.declared.Distribution.{Distribution}
 use Rattle.model.specs.declared.Distribution.the-variants as dist
 use Rattle.model.specs.declared.FloatDistribution.{FloatDistribution}
@@ -20,6 +20,7 @@ use Rattle.model.specs.declared.OptionI64.{OptionI64}
 use Rattle.model.specs.declared.OptionI64.the-variants as optI64
 use Rattle.model.specs.Draw.{drawWord}
 use Rattle.model.specs.Setting.{minWhole, maxWhole, stepAbove0, validDimension, inBounds, sampleInt, sampleRandom}
+use Rattle.list_laws.proofs.Draws.{drawn-value}
 use Rattle.settings.proofs.Valid.{FloatBounds, float-bounds, IntBounds, int-bounds, some-choice}
 use Rattle.settings.proofs.Stepped.{Stepping, rise, pick-low, pick-high, stepped-is}
 

@@ -11,9 +11,9 @@ use mir.Val.{SFits, Fits}
 use Rattle.model.specs.declared.OptionI64.the-variants as optI64
 use Rattle.model.specs.Draw.{drawn, drawWord, drawI64}
 use Rattle.model.specs.Setting.{sampleInt}
+use Rattle.list_laws.proofs.Draws.{drawn-by}
 use Rattle.rng_util.proofs.Shifted.{up, up-in, le-up, up-nonNeg, up-abs}
 use Rattle.rng_util.proofs.Span as range
-use Rattle.rng_util.proofs.Draws.{drawn-by}
 
 -- what the definition draws, where high - low is `span` and the step `by`
 value-is : (low : ℤ) (span by w : ℕ) → low +ℤ pos (w % (span / by + 1) * by) ≡ low +ℤ (pos 0 +ℤ pos (w % natAbs (quotZ (pos span) (pos by) -ℤ pos 0 +ℤ pos 1))) *ℤ pos by

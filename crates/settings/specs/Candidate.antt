@@ -1,20 +1,14 @@
--- Dimensions and candidates as arrays hold them.
-use Prim.Native.Nat.{ℕ, _+_, _*_}
+-- Candidates as arrays hold them.
+use Prim.Native.Nat.{ℕ}
 use mathlib.Core.List.{List}
 use lib.Ieee.{nan}
 use lib.ListN.{getD}
-use Rattle.model.specs.declared.DimensionInfo.{DimensionInfo}
 use Rattle.model.specs.declared.Distribution.{Distribution}
 use Rattle.model.specs.declared.ParamValue.{ParamValue}
 use Rattle.model.specs.declared.ParamValue.the-variants as value
 use Rattle.model.specs.Lists.{listBelow}
-use Rattle.model.specs.Setting.{kindOfDimension, ofWord}
-use Rattle.model.specs.Session.{noDimension}
+use Rattle.model.specs.Setting.{storedAt}
 use Rattle.settings.specs.declared.Slot.{Slot}
-
--- the dimension at each place of an array
-abbrev pub dimensionsOf : List DimensionInfo → ℕ → Distribution
-dimensionsOf dims d = getD dims d noDimension .distribution
 
 -- what the logic reads past an array's end
 abbrev pub noSlot : Slot
@@ -31,7 +25,7 @@ settingsOf params n = listBelow (slotOf params) n
 
 -- parent p of n settings
 unfoldable pub parentAt : (ℕ → Distribution) → ℕ → List ℕ → ℕ → List ParamValue
-parentAt dims n words p = listBelow (λ j. ofWord (kindOfDimension (dims j)) (getD words (p * n + j) 0)) n
+parentAt dims n words p = listBelow (storedAt dims n words p) n
 
 -- so many parents
 unfoldable pub parentsIn : (ℕ → Distribution) → ℕ → List ℕ → ℕ → List (List ParamValue)

@@ -23,7 +23,8 @@ use Rattle.model.specs.declared.Distribution.{Distribution}
 use Rattle.model.specs.declared.Distribution.the-variants as dist
 use Rattle.model.specs.declared.DimensionInfo.{DimensionInfo}
 use Rattle.model.specs.declared.Session.{Session}
-use Rattle.model.specs.Session.{noDimension, dimensionOf}
+use Rattle.model.specs.Session.{dimensionOf}
+use Rattle.model.specs.Setting.{noDimension}
 use Rattle.settings.proofs.InBounds.{Held, HeldStep}
 
 -- ---- a dimension

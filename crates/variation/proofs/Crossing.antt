@@ -7,7 +7,6 @@ use borrow.Author.Tests.{leb-true}
 use lib.IntN.{ℤ, pos, negsuc}
 use lib.Signed.{leZ, ≤ℤ-refl}
 use lib.Ieee.{Float, lt}
-use Rattle.rng_util.proofs.Draws.{drawn-tested}
 use Rattle.list_laws.proofs.Bools.{T-true, no-pass, and-left, and-right, and-both}
 use Rattle.model.specs.declared.FloatDistribution.{FloatDistribution}
 use Rattle.model.specs.declared.IntDistribution.{IntDistribution}
@@ -15,6 +14,7 @@ use Rattle.model.specs.declared.ParamValue.the-variants as value
 use Rattle.model.specs.Real.{_⊖_, half, absolute}
 use Rattle.model.specs.Draw.{drawn}
 use Rattle.model.specs.Setting.{pair, smallGap, drawUnit, spread, sbxFirst, sbxSecond, toInt, ofWhole, crossFloat, crossInt, crossCategorical}
+use Rattle.list_laws.proofs.Draws.{drawn-tested}
 
 pub crossFloat-close : (d : FloatDistribution) (p q : Float) (k s : ℕ) → lt (absolute (p ⊖ q)) smallGap ≡ true → drawn (pair (value.Float p) (value.Float q)) s ≡ crossFloat d p q k s
 unfolding crossFloat

@@ -6,8 +6,8 @@ use lib.Ieee.{Float, le}
 use Rattle.model.specs.declared.Distribution.{Distribution}
 use Rattle.model.specs.declared.ParamValue.{ParamValue}
 use Rattle.model.specs.Draw.{Drawn, drawn}
-use Rattle.rng_util.proofs.Draws.{drawn-tested}
 use Rattle.model.specs.Setting.{drawUnit, mutateOne, mutateMaybe}
+use Rattle.list_laws.proofs.Draws.{drawn-tested}
 
 module _ (probability : Float) (d : Distribution) (v : ParamValue) (k s : ℕ) (u : Float) (t : ℕ) (e : drawn u t ≡ drawUnit s) where
   maybe-by : (b : Bool) → le probability u ≡ b → cond b (drawn v t) (mutateOne d v k t) ≡ mutateMaybe probability d v k s

@@ -5,8 +5,7 @@ use native.Mathlib.Omega.{arith}
 use borrow.Author.Needs.{needs}
 use lib.ListN.{length}
 use Rattle.model.specs.Lists.{over}
-use Rattle.model.specs.Setting.{Operators, wordsOf}
-use Rattle.model.specs.Calls.{operators}
+use Rattle.model.specs.Setting.{Operators, wordsOf, operators}
 use Rattle.settings.proofs.Valid.{few}
 use Rattle.list_laws.proofs.Rows.{product}
 use Rattle.generation_laws.proofs.Dimensions.{dimensions-held}

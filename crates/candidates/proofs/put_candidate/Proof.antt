@@ -1,25 +1,26 @@
 -- the first j words are stored
-use Prim.Native.Nat.{ℕ, _+_, _-_, _≤_, _<_}
-use mathlib.Core.Path.{_≡_, refl, sym, ap, ap₂, _∙_}
+use Prim.Native.Nat.{_-_, _≤_}
+use mathlib.Core.Path.{_≡_, refl, sym, ap, _∙_}
 use native.Mathlib.Omega.{arith}
 use borrow.Author.Needs.{needs}
-use lib.ListN.{length, set, length-set}
+use lib.ListN.{length, length-set}
 use Rattle.model.specs.Lists.{listBelow}
 use Rattle.model.specs.Setting.{toWord}
-use Rattle.model.specs.Session.{overAt}
+use lib.Seq.{sets}
 use Rattle.settings.specs.Candidate.{slotOf}
-use Rattle.candidates.proofs.Laid.{at-none, at-more, words-below}
+use Rattle.candidates.proofs.Laid.{words-below}
+use Rattle.list_laws.proofs.Runs.{run-none, run-more}
 use Rattle.candidates.proofs.put_candidate.Statement.{statement}
 use Rattle.candidates.proofs.put_candidate.Tie as tie
 
 abbrev Inv-loop : tie.InvT-loop
-Inv-loop n at out₀ params j₀ out j = (j ≤ n) × (length out ≡ length out₀) × (out ≡ overAt at (listBelow (λ i. toWord (slotOf params i)) j) out₀)
+Inv-loop n at out₀ params j₀ out j = (j ≤ n) × (length out ≡ length out₀) × (out ≡ sets out₀ at (listBelow (λ i. toWord (slotOf params i)) j))
 
 abbrev μ-loop : tie.MeasureT-loop
 μ-loop n at out₀ params j₀ out j = n - j
 
 loop-holds : tie.Need-loop-holds Inv-loop μ-loop
-loop-holds c = (omega arith, refl, at-none (c .before .args .at) (c .before .args .out .now) (λ i. toWord (slotOf (c .before .args .t1) i)))
+loop-holds c = (omega arith, refl, run-none _ _ _)
 
 mul-slot : tie.Need-mul-slot Inv-loop μ-loop
 mul-slot c = omega arith
@@ -50,12 +51,7 @@ loop-again c =
     let l = c .before .before .before .loop in
     let s = c .before .before .before .before .before in
     let a = s .args in
-    let room : a .at + l .j < length (a .out .now) = omega arith in
-    let f : ℕ → ℕ = λ i. toWord (slotOf (a .t1) i) in (
-      omega arith,
-      simp length-set (l .inv .1),
-      ap₂ (λ x y. set x (a .at + l .j) y) (l .inv .2) (c .to-word .ensures) ∙ at-more (a .at) (a .out .now) f (l .j) room,
-    )
+    (omega arith, simp length-set (l .inv .1), run-more (λ i. toWord (slotOf (a .t1) i)) _ _ (a .at) (l .j) _ (l .inv .2) (c .to-word .ensures))
 
 same-length : tie.Need-same-length Inv-loop μ-loop
 same-length c = c .before .loop .inv .1
@@ -65,7 +61,7 @@ returns c =
     let l = c .before .loop in
     let a = c .before .before .before .args in
     let e : l .j ≡ a .n = omega arith in
-    l .inv .2 ∙ ap (λ x. overAt (a .at) x (a .out .now)) (ap (listBelow (λ i. toWord (slotOf (a .t1) i))) e ∙ sym (words-below (a .t1) (a .n)))
+    l .inv .2 ∙ ap (λ x. sets (a .out .now) (a .at) x) (ap (listBelow (λ i. toWord (slotOf (a .t1) i))) e ∙ sym (words-below (a .t1) (a .n)))
 
 pub put-candidate-spec : {M : Type 1} → statement M
 put-candidate-spec =

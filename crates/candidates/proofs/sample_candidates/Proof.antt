@@ -5,8 +5,7 @@ use native.Mathlib.Omega.{arith}
 use borrow.Author.Needs.{needs}
 use lib.ListN.{length}
 use Rattle.model.specs.Lists.{over}
-use Rattle.model.specs.Setting.{wordsOf, sampleCandidates}
-use Rattle.settings.specs.Candidate.{dimensionsOf}
+use Rattle.model.specs.Setting.{wordsOf, sampleCandidates, dimensionsOf}
 use Rattle.settings.proofs.Valid.{few}
 use Rattle.list_laws.proofs.Rows.{row-within}
 use Rattle.candidates.proofs.Laid.{LaidOut, laid-first, laid-next, words-length}

@@ -7,8 +7,7 @@ use borrow.Author.Tests.{lt-ltb, le-ltb}
 use lib.ListN.{getD}
 use Rattle.list_laws.proofs.Tests.{allBelow-none, allBelow-yes, allBelow-no}
 use Rattle.model.specs.Lists.{allBelow}
-use Rattle.model.specs.Setting.{validDimension}
-use Rattle.model.specs.Session.{noDimension}
+use Rattle.model.specs.Setting.{validDimension, noDimension}
 use Rattle.model.specs.Refusal.{badDimensions}
 use Rattle.dimensions.proofs.bad_dimensions.Statement.{statement}
 use Rattle.dimensions.proofs.bad_dimensions.Tie as tie

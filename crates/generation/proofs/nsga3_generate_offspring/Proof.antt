@@ -2,10 +2,9 @@
 use mathlib.Core.Path.{_≡_, ap, sym, _∙_}
 use mathlib.Core.Bool.{false}
 use borrow.Author.Needs.{needs}
-use Rattle.model.specs.Setting.{Operators}
+use Rattle.model.specs.Setting.{Operators, operators, dimensionsOf}
 use Rattle.model.specs.Refusal.{badDimensions}
-use Rattle.model.specs.Calls.{operators, Lent, lent}
-use Rattle.settings.specs.Candidate.{dimensionsOf}
+use Rattle.model.specs.Calls.{Lent, lent}
 use Rattle.refusals.specs.Checked.{checked}
 use Rattle.candidate_laws.proofs.Sound.{AllHeld}
 use Rattle.generation_laws.proofs.Dimensions.{dimensions-held}

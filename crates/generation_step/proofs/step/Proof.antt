@@ -5,10 +5,11 @@ use native.Mathlib.Omega.{arith}
 use borrow.Author.Needs.{needs}
 use lib.ListN.{length}
 use Rattle.model.specs.Association.{Request}
-use Rattle.model.specs.Setting.{Operators}
+use Rattle.model.specs.Setting.{Operators, operators}
 use Rattle.model.specs.Plan.{planCount}
-use Rattle.model.specs.Calls.{wordRequest, operators, Lent, lent, roomOf}
-use Rattle.demand3_laws.proofs.Passed.{Passed, passed, some-objectives, one-to-1024, pool-plans}
+use Rattle.model.specs.Calls.{wordRequest, Lent, lent, roomOf}
+use Rattle.list_laws.proofs.Checks.{pool-plans}
+use Rattle.demand3_laws.proofs.Passed.{Passed, passed, some-objectives, one-to-1024}
 use Rattle.generation_laws.proofs.Accepted.{all-breedable, offspring-room, kept-room}
 use Rattle.generation_laws.proofs.Answer.{one-exit, select-exit, kept-in-pool, bred-exit}
 use Rattle.generation_step.proofs.step.Statement.{statement}

@@ -2,11 +2,11 @@
 use Prim.Native.Nat.{_/_}
 use mathlib.Core.Path.{ap}
 use lib.ListN.{length}
-use Rattle.model.specs.Calls.{operators}
 use Rattle.export_laws.proofs.Export.{step-coded}
 use borrow.Author.Needs.{needs}
 use Rattle.generation_words.proofs.generate_offspring_words.Statement.{statement}
 use Rattle.generation_words.proofs.generate_offspring_words.Tie as tie
+use Rattle.model.specs.Setting.{operators}
 
 dimensions-of-words-requires : tie.Need-dimensions-of-words-requires
 dimensions-of-words-requires c κs = search needs

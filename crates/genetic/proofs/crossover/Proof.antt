@@ -1,9 +1,10 @@
 -- Its draw decides whether it runs.
-use Rattle.settings.specs.Candidate.{dimensionsOf, settingsOf}
+use Rattle.settings.specs.Candidate.{settingsOf}
 use Rattle.genetic.proofs.Steps.{crossover-runs, crossover-not}
 use borrow.Author.Needs.{needs}
 use Rattle.genetic.proofs.crossover.Statement.{statement}
 use Rattle.genetic.proofs.crossover.Tie as tie
+use Rattle.model.specs.Setting.{dimensionsOf}
 
 f64-range-requires : tie.Need-f64-range-requires
 f64-range-requires c κs = search needs

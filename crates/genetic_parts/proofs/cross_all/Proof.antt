@@ -8,8 +8,8 @@ use native.Mathlib.Omega.{arith}
 use borrow.Author.Needs.{needs}
 use Rattle.model.specs.declared.ParamValue.{ParamValue}
 use Rattle.model.specs.Draw.{drawn}
-use Rattle.model.specs.Setting.{children, crossAll}
-use Rattle.settings.specs.Candidate.{dimensionsOf, settingsOf}
+use Rattle.model.specs.Setting.{children, crossAll, dimensionsOf}
+use Rattle.settings.specs.Candidate.{settingsOf}
 use Rattle.settings.proofs.Candidates.{settings-more}
 use Rattle.genetic_parts.proofs.Places.{setting-at, crossAll-none, crossAll-more}
 use Rattle.genetic_parts.proofs.cross_all.Statement.{statement}

@@ -8,8 +8,8 @@ use native.Mathlib.Omega.{arith}
 use borrow.Author.Needs.{needs}
 use Rattle.model.specs.Real.{_⊘_, unit}
 use Rattle.model.specs.Draw.{drawn}
-use Rattle.model.specs.Setting.{mutateFirst}
-use Rattle.settings.specs.Candidate.{dimensionsOf, settingsOf}
+use Rattle.model.specs.Setting.{mutateFirst, dimensionsOf}
+use Rattle.settings.specs.Candidate.{settingsOf}
 use Rattle.settings.proofs.Valid.{few, each}
 use Rattle.settings.proofs.Candidates.{candidate-none, candidate-more}
 use Rattle.genetic_parts.proofs.Places.{setting-at, mutated-as}

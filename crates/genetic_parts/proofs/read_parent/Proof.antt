@@ -7,8 +7,8 @@ use native.Mathlib.Omega.{arith}
 use borrow.Author.Needs.{needs}
 use Rattle.list_laws.proofs.Built.{listBelow-none, listBelow-more}
 use Rattle.model.specs.Lists.{listBelow}
-use Rattle.model.specs.Setting.{kindOfDimension, ofWord}
-use Rattle.settings.specs.Candidate.{dimensionsOf, settingsOf, parentAt}
+use Rattle.model.specs.Setting.{kindOfDimension, ofWord, dimensionsOf}
+use Rattle.settings.specs.Candidate.{settingsOf, parentAt}
 use Rattle.settings.proofs.Candidates.{settings-none, settings-more}
 use Rattle.genetic_parts.proofs.read_parent.Statement.{statement}
 use Rattle.genetic_parts.proofs.read_parent.Tie as tie

@@ -14,9 +14,8 @@ pub record Associated (d : ℕ → ℕ → Float) (lines p l : ℕ) : Type 0 whe
   pub least : (j : ℕ) → j < lines → lt (d p j) (d p l) ≡ false
 
 -- ---- niching
--- `before` are the members accepted from the fronts before, `last` is the front from which the rest is picked, `line` gives each member its line and
--- `distance` its distance from it.
-module _ (before last : List ℕ) (line : ℕ → ℕ) (distance : ℕ → Float) (lines : ℕ) where
+-- `before` are the members accepted from the fronts before, `last` is the front from which the rest is picked, and `line` gives each member its line.
+module _ (before last : List ℕ) (line : ℕ → ℕ) (lines : ℕ) where
   -- a line's niche count, with the members picked so far
   abbrev pub niche : List ℕ → ℕ → ℕ
   niche picked l = tally (λ p. eqb (line p) l) (before ++ picked)
@@ -33,13 +32,15 @@ module _ (before last : List ℕ) (line : ℕ → ℕ) (distance : ℕ → Float
     pub considered : In j excluded → ⊥
     pub least : (i : ℕ) → i < lines → (In i excluded → ⊥) → niche picked j ≤ niche picked i
 
+-- `distance` gives each member its distance from its line.
+module _ (before last : List ℕ) (line : ℕ → ℕ) (distance : ℕ → Float) (lines : ℕ) where
   -- The states that the procedure can reach: the lines that it no longer considers, and the members picked, in order. A line of least niche count is
   -- chosen at random. If it has no candidate, it is not considered further. If its niche count is 0, its nearest candidate is picked, else any.
   pub data Reached : List ℕ → List ℕ → Type 0 where
     start : Reached [] []
-    exclude : {excluded picked : List ℕ} {j : ℕ} → Reached excluded picked → Least excluded picked j
-        → ((p : ℕ) → Candidate picked j p → ⊥) → Reached (j ∷ excluded) picked
-    pickNearest : {excluded picked : List ℕ} {j p : ℕ} → Reached excluded picked → Least excluded picked j → niche picked j ≡ 0
-        → Candidate picked j p → ((q : ℕ) → Candidate picked j q → lt (distance q) (distance p) ≡ false) → Reached excluded (picked ++ (p ∷ []))
-    pickAny : {excluded picked : List ℕ} {j p : ℕ} → Reached excluded picked → Least excluded picked j → 1 ≤ niche picked j
-        → Candidate picked j p → Reached excluded (picked ++ (p ∷ []))
+    exclude : {excluded picked : List ℕ} {j : ℕ} → Reached excluded picked → Least before last line lines excluded picked j
+        → ((p : ℕ) → Candidate before last line lines picked j p → ⊥) → Reached (j ∷ excluded) picked
+    pickNearest : {excluded picked : List ℕ} {j p : ℕ} → Reached excluded picked → Least before last line lines excluded picked j → niche before last line lines picked j ≡ 0
+        → Candidate before last line lines picked j p → ((q : ℕ) → Candidate before last line lines picked j q → lt (distance q) (distance p) ≡ false) → Reached excluded (picked ++ (p ∷ []))
+    pickAny : {excluded picked : List ℕ} {j p : ℕ} → Reached excluded picked → Least before last line lines excluded picked j → 1 ≤ niche before last line lines picked j
+        → Candidate before last line lines picked j p → Reached excluded (picked ++ (p ∷ []))

@@ -7,9 +7,11 @@ use native.Mathlib.Omega.{arith}
 use lib.Ieee.{inf, div, ofBits, neg}
 use Rattle.association_laws.specs.Flat.{column}
 use Rattle.list_laws.proofs.Rows.{row-inside}
-use Rattle.association_laws.proofs.Extremes.{bestFrom, above, best-none, best-yes, best-no, greatest-best}
+use Rattle.list_laws.proofs.Best.{best-none, best-more}
+use Rattle.association_laws.proofs.Extremes.{above}
 use Rattle.normalization.proofs.greatest_of.Statement.{statement}
 use Rattle.normalization.proofs.greatest_of.Tie as tie
+use Rattle.model.specs.Lists.{bestFrom}
 
 abbrev Inv-loop : tie.InvT-loop
 Inv-loop rows n m j best₀ p₀ best p = (p ≤ n) × (best ≡ bestFrom above (inf true) (column rows m j) p)
@@ -48,14 +50,14 @@ loop-again c =
     let l = c .before .before .before .loop in (
       omega arith,
       ⊎-elim
-          (λ w. w .1 ∙ best-yes above _ _ _ _ (l .inv .1) (w .0 .taken))
-          (λ w. w .1 ∙ best-no above _ _ _ _ (l .inv .1) (w .0 .left)) (c .if1 .came),
+          (λ w. w .1 ∙ best-more above _ _ _ (l .inv .1) (w .0 .taken))
+          (λ w. w .1 ∙ best-more above _ _ _ (l .inv .1) (w .0 .left)) (c .if1 .came),
     )
 
 returns : tie.Need-returns Inv-loop μ-loop
 returns c =
     let e : c .before .loop .p ≡ c .before .before .args .n = omega arith in
-    rw e at (c .before .loop .inv .1) ∙ sym (greatest-best _ _)
+    rw e at (c .before .loop .inv .1)
 
 pub greatest-of-spec : {M : Type 1} → statement M
 greatest-of-spec =

@@ -6,9 +6,10 @@ use native.Mathlib.Omega.{arith}
 use lib.Ieee.{lt}
 use Rattle.association_laws.specs.Flat.{column}
 use Rattle.list_laws.proofs.Rows.{row-inside}
-use Rattle.association_laws.proofs.Extremes.{bestFrom, best-none, best-yes, best-no, least-best}
+use Rattle.list_laws.proofs.Best.{best-none, best-more}
 use Rattle.normalization.proofs.least_of.Statement.{statement}
 use Rattle.normalization.proofs.least_of.Tie as tie
+use Rattle.model.specs.Lists.{bestFrom}
 
 abbrev Inv-loop : tie.InvT-loop
 Inv-loop rows n m j start least₀ p₀ least p = (p ≤ n) × (least ≡ bestFrom lt start (column rows m j) p)
@@ -46,14 +47,14 @@ loop-again c =
     let l = c .before .before .before .loop in (
       omega arith,
       ⊎-elim
-          (λ w. w .1 ∙ best-yes lt _ _ _ _ (l .inv .1) (w .0 .taken))
-          (λ w. w .1 ∙ best-no lt _ _ _ _ (l .inv .1) (w .0 .left)) (c .if1 .came),
+          (λ w. w .1 ∙ best-more lt _ _ _ (l .inv .1) (w .0 .taken))
+          (λ w. w .1 ∙ best-more lt _ _ _ (l .inv .1) (w .0 .left)) (c .if1 .came),
     )
 
 returns : tie.Need-returns Inv-loop μ-loop
 returns c =
     let e : c .before .loop .p ≡ c .before .before .args .n = omega arith in
-    rw e at (c .before .loop .inv .1) ∙ sym (least-best _ _ _)
+    rw e at (c .before .loop .inv .1)
 
 pub least-of-spec : {M : Type 1} → statement M
 least-of-spec =

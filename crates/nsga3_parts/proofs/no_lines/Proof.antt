@@ -6,8 +6,7 @@ use native.Mathlib.Omega.{arith}
 use lib.ListN.{length, length-set}
 use Rattle.model.specs.Lists.{listBelow, over}
 use Rattle.model.specs.Kept.{noLine}
-use Rattle.list_laws.proofs.Built.{over-none, over-set}
-use Rattle.nsga3_parts.proofs.Lists.{repeated}
+use Rattle.list_laws.proofs.Built.{over-none, over-set, repeated}
 use Rattle.nsga3_parts.proofs.no_lines.Statement.{statement}
 use Rattle.nsga3_parts.proofs.no_lines.Tie as tie
 

@@ -2,10 +2,10 @@
 use native.Mathlib.Omega.{arith}
 use lib.ListN.{take}
 use lib.Seq.{length-take-le}
-use Rattle.nsga3_parts.proofs.Lists.{written-behind}
 use borrow.Author.Needs.{needs}
 use Rattle.nsga3_parts.proofs.select_whole.Statement.{statement}
 use Rattle.nsga3_parts.proofs.select_whole.Tie as tie
+use Rattle.list_laws.proofs.Built.{written-behind}
 
 copy-first-requires : tie.Need-copy-first-requires
 copy-first-requires c κs = search needs

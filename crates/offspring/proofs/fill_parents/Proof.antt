@@ -10,8 +10,7 @@ use Rattle.model.specs.Lists.{over}
 use Rattle.model.specs.Plan.{planAt}
 use Rattle.model.specs.declared.ParamValue.{ParamValue}
 use Rattle.model.specs.Draw.{Drawn, drawAll}
-use Rattle.model.specs.Setting.{wordsOf, sortByParam, extract}
-use Rattle.settings.specs.Candidate.{dimensionsOf}
+use Rattle.model.specs.Setting.{wordsOf, sortByParam, extract, dimensionsOf}
 use Rattle.settings.proofs.Valid.{few}
 use Rattle.candidates.proofs.Laid.{LaidOut, laid-first, laid-next, words-length}
 use Rattle.list_laws.proofs.Rows.{row-within}

@@ -51,9 +51,8 @@ returns : tie.Need-returns
 returns c =
     let s = c .before .before .before .before .before .before .before .before .before .before in
     let a = s .args in
-    let f = first-fits s in
     both (settingsOf (a .first) (a .n)) (settingsOf (a .second) (a .n)) (a .n) (a .at) (a .size) (a .out .now) _ _ (c .before .before .before .before .before .before .before .put-candidate .ensures)
-    (words-length (a .first) (a .n)) (omega arith) (c .before .before .before .before .if1 .taken) (c .before .before .put-candidate2 .ensures)
+    (words-length (a .first) (a .n)) (c .before .before .before .before .if1 .taken) (c .before .before .put-candidate2 .ensures)
 
 same-length-2 : tie.Need-same-length-2
 same-length-2 c = search needs

@@ -6,10 +6,9 @@ use native.Mathlib.Omega.{arith}
 use lib.ListN.{getD}
 use Rattle.model.specs.declared.ParamValue.{ParamValue}
 use Rattle.model.specs.Lists.{over}
-use Rattle.model.specs.Setting.{Operators, wordsOf}
-use Rattle.settings.specs.Candidate.{dimensionsOf, settingsOf, parentsIn}
+use Rattle.model.specs.Setting.{Operators, wordsOf, operators, dimensionsOf}
+use Rattle.settings.specs.Candidate.{settingsOf, parentsIn}
 use Rattle.settings.proofs.Valid.{few}
-use Rattle.genetic.specs.Parents.{operators}
 use Rattle.candidates.proofs.Laid.{LaidOut, words-length}
 use Rattle.offspring.proofs.Laying.{bredBy, bred-none, bred-more, bred-done}
 use Rattle.offspring.proofs.write_offspring.Statement.{statement}

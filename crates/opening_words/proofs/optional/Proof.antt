@@ -1,10 +1,10 @@
 -- A mark that is not 0 is yes.
 use mathlib.Core.Path.{refl, sym}
-use Rattle.session_words.proofs.Marks.{by-suc}
 use Rattle.export_laws.specs.Coded.{optional}
 use borrow.Author.Needs.{needs}
 use Rattle.opening_words.proofs.optional.Statement.{statement}
 use Rattle.opening_words.proofs.optional.Tie as tie
+use Rattle.list_laws.proofs.Below.{by-suc}
 
 returns : tie.Need-returns
 returns c = search needs

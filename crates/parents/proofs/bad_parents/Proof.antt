@@ -7,8 +7,8 @@ use borrow.Author.Needs.{needs}
 use Rattle.model.specs.Lists.{allBelow}
 use Rattle.model.specs.Plan.{planAt, planCount}
 use Rattle.model.specs.Refusal.{breedable}
+use Rattle.model.specs.Setting.{dimensionsOf}
 use Rattle.list_laws.proofs.Tests.{allBelow-none, allBelow-yes, allBelow-no}
-use Rattle.settings.specs.Candidate.{dimensionsOf}
 use Rattle.parents.proofs.bad_parents.Statement.{statement}
 use Rattle.parents.proofs.bad_parents.Tie as tie
 

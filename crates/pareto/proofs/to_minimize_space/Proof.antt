@@ -5,8 +5,8 @@ use native.Mathlib.Omega.{arith}
 use borrow.Author.Needs.{needs}
 use lib.ListN.{length}
 use Rattle.model.specs.Lists.{listBelow, over}
+use Rattle.model.specs.Row.{minimised}
 use Rattle.list_laws.proofs.Built.{over-none, over-set, over-size}
-use Rattle.front_laws.specs.Flat.{minimised}
 use Rattle.pareto.proofs.to_minimize_space.Statement.{statement}
 use Rattle.pareto.proofs.to_minimize_space.Tie as tie
 

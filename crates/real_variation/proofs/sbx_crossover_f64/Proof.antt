@@ -2,7 +2,7 @@
 use lib.Ieee.{Float}
 use Rattle.model.specs.Real.{_⊕_, _⊖_, _⊗_, unit}
 use Rattle.model.specs.Numbers.{midpoint}
-use Rattle.rng_util.proofs.Draws.{drawn-value, drawn-state}
+use Rattle.list_laws.proofs.Draws.{drawn-value, drawn-state}
 use Rattle.real_variation.proofs.Sbx.{child-is}
 use Rattle.real_variation.proofs.sbx_crossover_f64.Statement.{statement}
 use Rattle.real_variation.proofs.sbx_crossover_f64.Tie as tie

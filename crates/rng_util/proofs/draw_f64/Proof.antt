@@ -6,7 +6,8 @@ use lib.Dec.{le→leb}
 use lib.IntN.{pos}
 use lib.Ieee.{Float, binary64, ofBits, ofInt, inFloat, div}
 use Rattle.model.specs.Draw.{drawn, step, wordOf, drawWord, unitOf, drawF64}
-use Rattle.rng_util.proofs.Draws.{drawn-by, drawn-value, word-below}
+use Rattle.list_laws.proofs.Draws.{drawn-by, drawn-value}
+use Rattle.rng_util.proofs.Draws.{word-below}
 use Rattle.rng_util.proofs.Unit.{quotient, upper-below}
 use Rattle.rng_util.proofs.draw_f64.Statement.{statement}
 use Rattle.rng_util.proofs.draw_f64.Tie as tie

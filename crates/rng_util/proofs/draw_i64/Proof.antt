@@ -6,7 +6,7 @@ use mir.Val.{SFits, toZ, ofZ}
 use mir.ValLaws.{toZ-ofZ}
 use Prim.Native.Nat.{ℕ, _%_}
 use Rattle.model.specs.Draw.{drawI64}
-use Rattle.rng_util.proofs.Draws.{drawn-by}
+use Rattle.list_laws.proofs.Draws.{drawn-by}
 use Rattle.rng_util.proofs.Span as span
 use Rattle.rng_util.proofs.draw_i64.Statement.{statement}
 use Rattle.rng_util.proofs.draw_i64.Tie as tie

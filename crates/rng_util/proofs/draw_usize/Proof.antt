@@ -2,7 +2,7 @@
 use borrow.Author.Needs.{needs}
 use Prim.Native.Nat.{ℕ, _%_}
 use Rattle.model.specs.Draw.{drawUsize}
-use Rattle.rng_util.proofs.Draws.{drawn-by}
+use Rattle.list_laws.proofs.Draws.{drawn-by}
 use Rattle.rng_util.proofs.draw_usize.Statement.{statement}
 use Rattle.rng_util.proofs.draw_usize.Tie as tie
 

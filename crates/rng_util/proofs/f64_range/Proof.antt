@@ -2,7 +2,7 @@
 use lib.Ieee.{Float}
 use Rattle.model.specs.Real.{_⊕_, _⊖_, _⊗_}
 use Rattle.model.specs.Draw.{f64Range}
-use Rattle.rng_util.proofs.Draws.{drawn-by}
+use Rattle.list_laws.proofs.Draws.{drawn-by}
 use Rattle.rng_util.proofs.f64_range.Statement.{statement}
 use Rattle.rng_util.proofs.f64_range.Tie as tie
 

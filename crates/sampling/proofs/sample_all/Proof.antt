@@ -4,8 +4,8 @@ use mathlib.Core.Path.{_≡_, refl}
 use native.Mathlib.Omega.{arith}
 use lib.ListN.{length, length-set}
 use Rattle.model.specs.Draw.{drawn}
-use Rattle.model.specs.Setting.{sampleAll}
-use Rattle.settings.specs.Candidate.{dimensionsOf, settingsOf}
+use Rattle.model.specs.Setting.{sampleAll, dimensionsOf}
+use Rattle.settings.specs.Candidate.{settingsOf}
 use Rattle.settings.proofs.Valid.{few, each}
 use Rattle.settings.proofs.Candidates.{candidate-none, candidate-more}
 use Rattle.sampling.proofs.sample_all.Statement.{statement}

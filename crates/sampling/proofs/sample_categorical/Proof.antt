@@ -1,7 +1,7 @@
 -- A choice's number.
 use Rattle.model.specs.declared.ParamValue.the-variants as value
 use Rattle.model.specs.Setting.{sampleRandom}
-use Rattle.rng_util.proofs.Draws.{drawn-by}
+use Rattle.list_laws.proofs.Draws.{drawn-by}
 use Rattle.settings.proofs.Valid.{some-choice}
 use Rattle.sampling.proofs.sample_categorical.Statement.{statement}
 use Rattle.sampling.proofs.sample_categorical.Tie as tie

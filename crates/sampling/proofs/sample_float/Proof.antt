@@ -1,7 +1,7 @@
 -- The draw of low..high as a Float.
 use Rattle.model.specs.declared.ParamValue.the-variants as value
 use Rattle.model.specs.Setting.{sampleRandom}
-use Rattle.rng_util.proofs.Draws.{drawn-by}
+use Rattle.list_laws.proofs.Draws.{drawn-by}
 use Rattle.sampling.proofs.sample_float.Statement.{statement}
 use Rattle.sampling.proofs.sample_float.Tie as tie
 

@@ -1,7 +1,7 @@
 -- The drawn number as an Int.
 use Rattle.model.specs.declared.ParamValue.the-variants as value
 use Rattle.model.specs.Setting.{sampleRandom}
-use Rattle.rng_util.proofs.Draws.{drawn-by}
+use Rattle.list_laws.proofs.Draws.{drawn-by}
 use Rattle.settings.proofs.Signed.{back}
 use Rattle.settings.proofs.Valid.{int-bounds}
 use Rattle.sampling.proofs.sample_int.Statement.{statement}

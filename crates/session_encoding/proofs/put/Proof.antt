@@ -1,24 +1,24 @@
 -- the first j words are stored
 use mathlib.Core.Path.{_≡_, refl, ap, _∙_}
-use Prim.Native.Nat.{ℕ, _+_, _-_, _≤_, _<_}
+use Prim.Native.Nat.{_-_, _≤_}
 use native.Mathlib.Omega.{arith}
-use lib.ListN.{length, getD, set, length-set}
+use lib.ListN.{length, getD, length-set}
 use Rattle.model.specs.Lists.{listBelow}
-use Rattle.model.specs.Session.{overAt}
-use Rattle.candidates.proofs.Laid.{at-none, at-more}
+use lib.Seq.{sets}
+use Rattle.list_laws.proofs.Runs.{run-none, run-more}
 use Rattle.list_laws.proofs.Built.{listBelow-places}
 use Rattle.session_encoding.proofs.put.Statement.{statement}
 use Rattle.session_encoding.proofs.put.Tie as tie
 
 abbrev Inv-loop : tie.InvT-loop
 Inv-loop block at words₀ j₀ words j =
-    (j ≤ length block) × (length words ≡ length words₀) × (words ≡ overAt at (listBelow (λ i. getD block i 0) j) words₀)
+    (j ≤ length block) × (length words ≡ length words₀) × (words ≡ sets words₀ at (listBelow (λ i. getD block i 0) j))
 
 abbrev μ-loop : tie.MeasureT-loop
 μ-loop block at words₀ j₀ words j = length block - j
 
 loop-holds : tie.Need-loop-holds Inv-loop μ-loop
-loop-holds c = (omega arith, refl, at-none (c .args .at) (c .args .words .now) (λ i. getD (c .args .block .now) i 0))
+loop-holds c = (omega arith, refl, run-none _ _ _)
 
 mul-words : tie.Need-mul-words Inv-loop μ-loop
 mul-words c = omega arith
@@ -45,12 +45,7 @@ loop-again : tie.Need-loop-again Inv-loop μ-loop
 loop-again c =
     let l = c .before .before .loop in
     let a = c .before .before .before .args in
-    let room : a .at + l .j < length (a .words .now) = omega arith in
-    let f : ℕ → ℕ = λ i. getD (a .block .now) i 0 in (
-      omega arith,
-      simp length-set (l .inv .1),
-      ap (λ x. set x (a .at + l .j) (f (l .j))) (l .inv .2) ∙ at-more (a .at) (a .words .now) f (l .j) room,
-    )
+    (omega arith, simp length-set (l .inv .1), run-more (λ i. getD (a .block .now) i 0) _ _ (a .at) (l .j) _ (l .inv .2) refl)
 
 same-length : tie.Need-same-length Inv-loop μ-loop
 same-length c = c .before .loop .inv .1
@@ -60,7 +55,7 @@ returns c =
     let l = c .before .loop in
     let a = c .before .before .args in
     let e : l .j ≡ length (a .block .now) = omega arith in
-    l .inv .2 ∙ ap (λ x. overAt (a .at) x (a .words .now)) (ap (listBelow (λ i. getD (a .block .now) i 0)) e ∙ listBelow-places 0 (a .block .now))
+    l .inv .2 ∙ ap (λ x. sets (a .words .now) (a .at) x) (ap (listBelow (λ i. getD (a .block .now) i 0)) e ∙ listBelow-places 0 (a .block .now))
 
 pub put-spec : {M : Type 1} → statement M
 put-spec =

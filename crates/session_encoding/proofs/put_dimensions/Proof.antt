@@ -3,13 +3,13 @@ use mathlib.Core.Path.{_≡_, refl, sym, ap, ap₂, _∙_}
 use Prim.Native.Nat.{ℕ, _+_, _*_, _-_, _≤_}
 use native.Mathlib.Omega.{arith}
 use borrow.Author.Needs.{needs}
-use lib.ListN.{length, getD, take-append-drop}
+use lib.ListN.{length}
 use mathlib.Core.List.{List}
 use Rattle.model.specs.Lists.{joinBelow}
-use Rattle.model.specs.Session.{overAt, noDimension}
+use Rattle.model.specs.Setting.{dimensionsOf}
+use lib.Seq.{sets, length-sets}
 use Rattle.list_laws.proofs.Built.{joinBelow-none}
-use Rattle.candidates.proofs.Laid.{at-length, join-next}
-use Rattle.list_laws.proofs.Rows.{joinBelow-length}
+use Rattle.list_laws.proofs.Rows.{run-join}
 use Rattle.session_words.specs.Coding.{dimensionWords}
 use Rattle.session_encoding.proofs.Laid.{dimension-length}
 use Rattle.session_encoding.proofs.put_dimensions.Statement.{statement}
@@ -17,7 +17,7 @@ use Rattle.session_encoding.proofs.put_dimensions.Tie as tie
 
 abbrev Inv-loop : tie.InvT-loop
 Inv-loop words₀ dims d₀ words d =
-    (d ≤ 32) × (length words ≡ length words₀) × (words ≡ overAt 30 (joinBelow (λ i. dimensionWords (getD dims i noDimension .distribution)) d) words₀)
+    (d ≤ 32) × (length words ≡ length words₀) × (words ≡ sets words₀ 30 (joinBelow (λ i. dimensionWords (dimensionsOf dims i)) d))
 
 abbrev μ-loop : tie.MeasureT-loop
 μ-loop words₀ dims d₀ words d = 32 - d
@@ -25,7 +25,7 @@ abbrev μ-loop : tie.MeasureT-loop
 loop-holds : tie.Need-loop-holds Inv-loop μ-loop
 loop-holds c =
     let a = c .before .args in
-    (omega arith, refl, sym (ap (λ x. overAt 30 x (a .words .now)) (joinBelow-none _) ∙ take-append-drop 30 (a .words .now)))
+    (omega arith, refl, ap (sets (a .words .now) 30) (sym (joinBelow-none _)))
 
 mul-info : tie.Need-mul-info Inv-loop μ-loop
 mul-info c = omega arith
@@ -48,7 +48,7 @@ add-put c = omega arith
 put-requires : tie.Need-put-requires Inv-loop μ-loop
 put-requires c κs =
     let l = c .before .before .before .before .before .loop in
-    let e = ap length (c .before .before .dimension-words .ensures) ∙ dimension-length (getD (c .before .before .before .before .before .before .before .args .t1) (l .d) noDimension .distribution) in
+    let e = ap length (c .before .before .dimension-words .ensures) ∙ dimension-length (dimensionsOf (c .before .before .before .before .before .before .before .args .t1) (l .d)) in
     omega (arith, e, l .inv .1)
 
 add-d : tie.Need-add-d Inv-loop μ-loop
@@ -61,14 +61,11 @@ loop-again : tie.Need-loop-again Inv-loop μ-loop
 loop-again c =
     let l = c .before .before .before .before .before .before .before .before .loop in
     let a = c .before .before .before .before .before .before .before .before .before .before .args in
-    let f : ℕ → List ℕ = λ i. dimensionWords (getD (a .t1) i noDimension .distribution) in
-    let each : (d : ℕ) → length (f d) ≡ 6 = λ d. dimension-length (getD (a .t1) d noDimension .distribution) in
-    let w = c .before .before .put .ensures ∙ ap₂ (λ x y. overAt (30 + l .d * 6) x y) (c .before .before .before .before .before .dimension-words .ensures) (l .inv .2)
-    ∙ join-next f 6 each 30 (30 + l .d * 6) (l .d) (a .words .now) (omega arith) refl in (
-      omega arith,
-      ap length w ∙ at-length 30 (joinBelow f (l .d + 1)) (a .words .now) (omega (arith, joinBelow-length f 6 (l .d + 1) (λ i u. each i))),
-      w,
-    )
+    let f : ℕ → List ℕ = λ i. dimensionWords (dimensionsOf (a .t1) i) in
+    let each : (d : ℕ) → length (f d) ≡ 6 = λ d. dimension-length (dimensionsOf (a .t1) d) in
+    let w = c .before .before .put .ensures ∙ ap₂ (λ x y. sets y (30 + l .d * 6) x) (c .before .before .before .before .before .dimension-words .ensures) (l .inv .2)
+    ∙ run-join f 6 each 30 (l .d) (a .words .now) in
+    (omega arith, ap length w ∙ length-sets (a .words .now) 30 (joinBelow f (l .d + 1)), w)
 
 same-length : tie.Need-same-length Inv-loop μ-loop
 same-length c = c .before .loop .inv .1
@@ -78,7 +75,7 @@ returns c =
     let l = c .before .loop in
     let a = c .before .before .before .args in
     let e : l .d ≡ 32 = omega arith in
-    l .inv .2 ∙ ap (λ x. overAt 30 (joinBelow (λ i. dimensionWords (getD (a .t1) i noDimension .distribution)) x) (a .words .now)) e
+    l .inv .2 ∙ ap (λ x. sets (a .words .now) 30 (joinBelow (λ i. dimensionWords (dimensionsOf (a .t1) i)) x)) e
 
 pub put-dimensions-spec : {M : Type 1} → statement M
 put-dimensions-spec =

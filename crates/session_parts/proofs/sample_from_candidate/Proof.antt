@@ -1,7 +1,7 @@
 -- a plan's place tells whether it is new
 use mathlib.Core.Path.{ap, _∙_}
 use Rattle.model.specs.Session.{State, state, answer}
-use Rattle.session_parts.specs.Exits.{settled}
+use Rattle.model.specs.Calls.{settled}
 use Rattle.session_parts.proofs.States.{is-new, known-plan, new-plan, enlisted-ready}
 use native.Mathlib.Omega.{arith}
 use borrow.Author.Needs.{needs}

@@ -1,17 +1,17 @@
 -- the first j words are copied
-use Prim.Native.Nat.{ℕ, _+_, _-_, _*_, _≤_, _<_}
+use Prim.Native.Nat.{_+_, _-_, _*_, _≤_}
 use mathlib.Core.Path.{_≡_, refl, ap, _∙_}
-use lib.ListN.{length, getD, set, length-set}
+use lib.ListN.{length, getD, length-set}
 use Rattle.model.specs.Lists.{listBelow}
-use Rattle.model.specs.Session.{overAt}
-use Rattle.candidates.proofs.Laid.{at-none, at-more}
+use lib.Seq.{sets}
+use Rattle.list_laws.proofs.Runs.{run-none, run-more}
 use native.Mathlib.Omega.{arith}
 use Rattle.session_records.proofs.copy_record.Statement.{statement}
 use Rattle.session_records.proofs.copy_record.Tie as tie
 
 abbrev Inv-loop : tie.InvT-loop
 Inv-loop history k i pool₀ from to j₀ pool j =
-    (j ≤ 124) × (length pool ≡ length pool₀) × (pool ≡ overAt (i * 124) (listBelow (λ t. getD history (k * 124 + t) 0) j) pool₀)
+    (j ≤ 124) × (length pool ≡ length pool₀) × (pool ≡ sets pool₀ (i * 124) (listBelow (λ t. getD history (k * 124 + t) 0) j))
 
 abbrev μ-loop : tie.MeasureT-loop
 μ-loop history k i pool₀ from to j₀ pool j = 124 - j
@@ -23,7 +23,7 @@ mul-to : tie.Need-mul-to Inv-loop μ-loop
 mul-to c = omega arith
 
 loop-holds : tie.Need-loop-holds Inv-loop μ-loop
-loop-holds c = (omega arith, refl, at-none (c .args .i * 124) (c .args .pool .now) (λ t. getD (c .args .history .now) (c .args .k * 124 + t) 0))
+loop-holds c = (omega arith, refl, run-none _ _ _)
 
 add-pool : tie.Need-add-pool Inv-loop μ-loop
 add-pool c = omega arith
@@ -53,9 +53,7 @@ loop-again : tie.Need-loop-again Inv-loop μ-loop
 loop-again c =
     let l = c .before .before .loop in
     let a = c .before .before .before .args in
-    let f : ℕ → ℕ = λ t. getD (a .history .now) (a .k * 124 + t) 0 in
-    let room : a .i * 124 + l .j < length (a .pool .now) = omega arith in
-    (omega arith, simp length-set (l .inv .1), ap (λ x. set x (a .i * 124 + l .j) (f (l .j))) (l .inv .2) ∙ at-more (a .i * 124) (a .pool .now) f (l .j) room)
+    (omega arith, simp length-set (l .inv .1), run-more (λ t. getD (a .history .now) (a .k * 124 + t) 0) _ _ (a .i * 124) (l .j) _ (l .inv .2) refl)
 
 same-length : tie.Need-same-length Inv-loop μ-loop
 same-length c = c .before .loop .inv .1
@@ -65,7 +63,7 @@ returns c =
     let l = c .before .loop in
     let a = c .before .before .args in
     let e : l .j ≡ 124 = omega arith in
-    l .inv .2 ∙ ap (λ x. overAt (a .i * 124) (listBelow (λ t. getD (a .history .now) (a .k * 124 + t) 0) x) (a .pool .now)) e
+    l .inv .2 ∙ ap (λ x. sets (a .pool .now) (a .i * 124) (listBelow (λ t. getD (a .history .now) (a .k * 124 + t) 0) x)) e
 
 pub copy-record-spec : {M : Type 1} → statement M
 copy-record-spec =

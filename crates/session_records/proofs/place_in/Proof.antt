@@ -4,11 +4,11 @@ use mathlib.Core.Path.{_≡_, sym, _∙_}
 use lib.ListN.{take, drop}
 use lib.Seq.{length-take-le, getD-take}
 use native.Mathlib.Nat.{zero-add}
-use Rattle.model.specs.Session.{placeIn}
 use Rattle.session_records.proofs.Records.{place-here, place-next, place-end}
 use native.Mathlib.Omega.{arith}
 use Rattle.session_records.proofs.place_in.Statement.{statement}
 use Rattle.session_records.proofs.place_in.Tie as tie
+use Rattle.model.specs.Lists.{placeIn}
 
 abbrev Inv-loop : tie.InvT-loop
 Inv-loop plans n plan i₀ i = (i ≤ n) × (placeIn (take n plans) plan ≡ i + placeIn (drop i (take n plans)) plan)

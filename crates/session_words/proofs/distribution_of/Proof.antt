@@ -1,10 +1,11 @@
 -- By the kind.
 use mathlib.Core.Path.{refl, sym, _∙_}
-use Rattle.session_words.proofs.Marks.{by-two, float-is, int-is}
+use Rattle.session_words.proofs.Marks.{float-is, int-is}
 use Rattle.session_words.specs.Coding.{distributionOf}
 use Rattle.settings.proofs.Signed.{back}
 use Rattle.session_words.proofs.distribution_of.Statement.{statement}
 use Rattle.session_words.proofs.distribution_of.Tie as tie
+use Rattle.list_laws.proofs.Below.{by-two}
 
 marked-requires : tie.Need-marked-requires
 marked-requires c κs = tt

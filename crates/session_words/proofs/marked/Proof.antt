@@ -1,10 +1,10 @@
 -- A mark that is not 0 is yes.
 use mathlib.Core.Path.{refl, sym}
-use Rattle.session_words.proofs.Marks.{by-suc}
 use Rattle.session_words.specs.Coding.{marked}
 use borrow.Author.Needs.{needs}
 use Rattle.session_words.proofs.marked.Statement.{statement}
 use Rattle.session_words.proofs.marked.Tie as tie
+use Rattle.list_laws.proofs.Below.{by-suc}
 
 returns : tie.Need-returns
 returns c = search needs

@@ -1,8 +1,8 @@
 -- A mark that is not 0 is yes.
 use mathlib.Core.Path.{refl, sym, ap, _∙_}
-use Rattle.session_words.proofs.Marks.{by-suc}
 use Rattle.session_words.specs.Coding.{stepF64}
 use Rattle.model.specs.declared.OptionF64.the-variants as optF64
+use Rattle.list_laws.proofs.Below.{by-suc}
 use borrow.Author.Needs.{needs}
 use Rattle.session_words.proofs.step_f64.Statement.{statement}
 use Rattle.session_words.proofs.step_f64.Tie as tie

@@ -1,8 +1,8 @@
 -- A mark that is not 0 is yes.
 use mathlib.Core.Path.{refl, sym, ap, _∙_}
-use Rattle.session_words.proofs.Marks.{by-suc}
 use Rattle.session_words.specs.Coding.{stepI64}
 use Rattle.model.specs.declared.OptionI64.the-variants as optI64
+use Rattle.list_laws.proofs.Below.{by-suc}
 use Rattle.settings.proofs.Signed.{back}
 use borrow.Author.Needs.{needs}
 use Rattle.session_words.proofs.step_i64.Statement.{statement}

@@ -4,11 +4,10 @@ use mathlib.Core.Path.{_≡_, ap, sym, _∙_}
 use mathlib.Core.Bool.{false, _&&_, _||_}
 use borrow.Author.Needs.{needs}
 use lib.Dec.{leb, ltb}
-use Rattle.model.specs.Calls.{wordRequest, operators}
+use Rattle.model.specs.Calls.{wordRequest}
 use Rattle.model.specs.Association.{Request}
-use Rattle.model.specs.Setting.{Operators}
+use Rattle.model.specs.Setting.{Operators, operators, dimensionsOf}
 use Rattle.model.specs.Refusal.{Room, firstOf, badDirections, badSize, badDimensions, badCount, badPool, badParents, noRoom, noStepRoom, stepRefusal}
-use Rattle.settings.specs.Candidate.{dimensionsOf}
 use Rattle.settings.proofs.Valid.{few}
 use Rattle.demand3_laws.proofs.Passed.{some-objectives, one-to-1024}
 use Rattle.list_laws.proofs.Checks.{passed-over, applies-first}

@@ -1,6 +1,6 @@
 -- The moved real as a Float.
 use Rattle.model.specs.declared.ParamValue.the-variants as value
-use Rattle.rng_util.proofs.Draws.{drawn-by}
+use Rattle.list_laws.proofs.Draws.{drawn-by}
 use Rattle.variation.proofs.move_float.Statement.{statement}
 use Rattle.variation.proofs.move_float.Tie as tie
 

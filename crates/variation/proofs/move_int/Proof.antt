@@ -5,7 +5,7 @@ use lib.Ieee.{Float}
 use Rattle.model.specs.declared.ParamValue.the-variants as value
 use Rattle.model.specs.Draw.{drawn}
 use Rattle.model.specs.Setting.{toInt, polynomialMutation}
-use Rattle.rng_util.proofs.Draws.{drawn-by}
+use Rattle.list_laws.proofs.Draws.{drawn-by}
 use Rattle.settings.proofs.Signed.{held, back}
 use Rattle.variation.proofs.move_int.Statement.{statement}
 use Rattle.variation.proofs.move_int.Tie as tie
