@@ -11,7 +11,7 @@ use Rattle.model.specs.Association.{Request, objectives, lineCount, normalised,
 use Rattle.list_laws.proofs.Bools.{T-true, T-false}
 use Rattle.float_laws.proofs.Order.{le-trans, le-not-nan, le-lt-trans}
 use Rattle.float_laws.proofs.Constants.{nought, one, exp2}
-use Rattle.float_laws.proofs.FromZero.{Upto}
+use Rattle.float_laws.proofs.FromZero.{Upto, upto-within}
 use Rattle.float_laws.proofs.Magnitude.{Within, within-number, sub-within, mul-within, div-within, within-wider}
 use Rattle.real_laws.proofs.Roots.Monotone.{sqrt-mono, sqrt-from-zero}
 use Rattle.niching_laws.proofs.Association.{lineOf-inside}
@@ -20,7 +20,7 @@ use Rattle.reference_laws.proofs.Count.{lines-some}
 use Rattle.association_laws.proofs.Search.{distance-long}
 use Rattle.association_laws.proofs.Within.{Measured, normalised-unit}
 use Rattle.association_laws.proofs.Squares.{squares-from-zero}
-use Rattle.float_laws.proofs.Sums.{unit-within, product-unit, sum-within}
+use Rattle.float_laws.proofs.Sums.{product-unit, sum-within}
 use Rattle.association_laws.proofs.Coordinates.{sixtyFourth, usable}
 
 -- ---- one point p and one line r of m coordinates within 0..1, of which the line is not short
@@ -46,7 +46,7 @@ module _ (m : ℕ) (few : m ≤ 8) (p r : ℕ → Float) (P : (j : ℕ) → j < 
   off =
       let t = dot m p r ⊘ dot m r r in
       sum-within 30 _ m 8 few (lit≤ tt)
-      (λ j h. let d = sub-within 14 (p j) (t ⊗ r j) (lit≤ tt) (within-wider 0 14 (p j) (lit≤ tt) (unit-within (p j) (P j h))) (mul-within 14 0 t (r j) (lit≤ tt) projected (unit-within (r j) (R j h))) in
+      (λ j h. let d = sub-within 14 (p j) (t ⊗ r j) (lit≤ tt) (within-wider 0 14 (p j) (lit≤ tt) (upto-within 0 (p j) (P j h))) (mul-within 14 0 t (r j) (lit≤ tt) projected (upto-within 0 (r j) (R j h))) in
       mul-within 15 15 _ _ (lit≤ tt) d d)
 
   distance-bounds : T (le nought (distance m p r)) × T (le (distance m p r) (exp2 19))

@@ -11,30 +11,25 @@ use Rattle.model.specs.Association.{dot, smallNorm}
 use Rattle.list_laws.proofs.Bools.{by-bool}
 use Rattle.float_laws.proofs.Order.{le→nlt, nlt→le}
 use Rattle.float_laws.proofs.Rounding.{unsigned, round-unsigned}
-use Rattle.float_laws.proofs.Constants.{nought, nought-not-nan}
+use Rattle.float_laws.proofs.Constants.{nought, nought-not-nan, unsigned-from}
 use Rattle.float_laws.proofs.Arithmetic.{add-from-zero}
 use Rattle.float_laws.proofs.Magnitude.{Within, within-not-nan}
 use Rattle.float_laws.proofs.Sums.{sum-fits}
-use Rattle.real_laws.proofs.Roots.Nearest.{from-zero}
 use Rattle.association_laws.specs.Flat.{squaresOf}
 use Rattle.association_laws.specs.Search.{Square}
 use Rattle.association_laws.proofs.Search.{squares-short, squares-long, squares-fit}
 
 -- with the sign clear
-clear-low : (x : Float) → T (fits binary64 x) → T (unsigned x) → T (not (lt x nought))
-clear-low nan X u = absurd u
-clear-low (inf true) X u = absurd u
-clear-low (inf false) X u = unfold lt in tt
-clear-low (fin true m e) X u = absurd u
-clear-low (fin false m e) X u = le→nlt nought (fin false m e) (from-zero m e X)
+clear-low : (x : Float) → T (unsigned x) → T (not (lt x nought))
+clear-low x u = le→nlt nought x (unsigned-from x u)
 
 square-low : (x : Float) → T (not (lt (square x) nought))
 unfolding mul lt
 square-low nan = tt
 square-low (inf true) = tt
 square-low (inf false) = tt
-square-low (fin true m e) = clear-low (fin true m e ⊗ fin true m e) (mul-fits binary64 (fin true m e) (fin true m e)) (round-unsigned binary64 (m * up e * (m * up e)) (down e * down e))
-square-low (fin false m e) = clear-low (fin false m e ⊗ fin false m e) (mul-fits binary64 (fin false m e) (fin false m e)) (round-unsigned binary64 (m * up e * (m * up e)) (down e * down e))
+square-low (fin true m e) = clear-low (fin true m e ⊗ fin true m e) (round-unsigned binary64 (m * up e * (m * up e)) (down e * down e))
+square-low (fin false m e) = clear-low (fin false m e ⊗ fin false m e) (round-unsigned binary64 (m * up e * (m * up e)) (down e * down e))
 
 add-low : (x y : Float) → T (fits binary64 x) → T (fits binary64 y) → T (not (lt x nought)) → T (not (lt y nought)) → T (not (lt (x ⊕ y) nought))
 unfolding add lt isNan

@@ -1,10 +1,10 @@
 -- THEOREM: every normalised value lies within 0..1. Assumes nothing.
 use Prim.Native.Nat.{ℕ, _<_}
-use mathlib.Core.Path.{_≡_, ap₂}
+use mathlib.Core.Path.{_≡_, refl, ap₂}
 use mathlib.Core.Bool.{true, not, _&&_}
 use lib.Dec.{T, lit≤}
 use lib.Ieee.{Float, nan, inf, binary64, lt, le, ofBits, fits, isNan}
-use lib.Ieee.Fits.{sub-fits, inf-fits}
+use lib.Ieee.Fits.{inf-fits}
 use lib.ListN.{getD}
 use Rattle.model.specs.Real.{_⊖_, _⊘_, nought, unit, within}
 use Rattle.model.specs.Association.{Request, objectives, valueOf, idealOf, interceptOf, normalised, leastFrom, greatest, smallSpan, interceptFrom}
@@ -12,8 +12,8 @@ use Rattle.list_laws.proofs.Bools.{by-bool, T-true, true-T, false-T}
 use Rattle.float_laws.proofs.Order.{le-trans, lt-trans, le-not-nan, nlt→le}
 use Rattle.float_laws.proofs.Constants.{exp2, minus-exp2, one, one-number, nought-lt-one}
 use Rattle.float_laws.proofs.Constants as constants
-use Rattle.float_laws.proofs.Arithmetic.{sub-from-zero, sub-mono-left}
-use Rattle.float_laws.proofs.FromZero.{Upto, upto-wider, share}
+use Rattle.float_laws.proofs.Arithmetic.{itself}
+use Rattle.float_laws.proofs.FromZero.{Upto, upto-wider, sub-upto, share}
 use Rattle.float_laws.proofs.Magnitude.{Within, within-number, sub-within}
 use Rattle.association_laws.proofs.Extremes.{Known, above, least-le, greatest-ge}
 use Rattle.list_laws.proofs.Best.{best-all}
@@ -62,11 +62,7 @@ module _ (b : Float) (f : ℕ → Float) (n : ℕ) (B : Start b) (F : (t : ℕ) 
   part =
       let X = within-number 1000 (f p) (F p h) in
       let Z = within-number 1000 least least-within in
-      record {
-        held = sub-fits binary64 (f p) least;
-        from = sub-from-zero binary64 (f p) least X Z least-below;
-        to = sub-mono-left binary64 (f p) most least X (within-number 1000 most most-within) Z most-above;
-      }
+      sub-upto (f p) least most least span X Z (within-number 1000 most most-within) Z least-below most-above (itself least Z) refl
 
   -- a span above 1e-10 divides, and any other is replaced by 1.0
   wide : T (lt smallSpan span) → Upto one ((f p ⊖ least) ⊘ span)

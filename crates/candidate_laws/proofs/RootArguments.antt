@@ -2,61 +2,44 @@
 use Prim.Native.Nat.{ℕ, suc, _+_, _-_, _*_, _/_, _^_, _≤_, _<_, zero-le}
 use mathlib.Core.Path.{_≡_, refl, ap, subst}
 use mathlib.Core.Bool.{true, false, cond}
-use native.Mathlib.Nat.{le-of-lt, zero-add, add-zero, one-mul, add-mul, mul-assoc, mul-pos, mul-le-mul-right}
+use native.Mathlib.Nat.{le-of-lt, zero-add, one-mul, add-mul, mul-assoc, mul-pos, mul-le-mul-right}
 use native.Mathlib.Omega.{arith}
-use mathlib.Core.Logic.{inl, inr}
 use lib.Dec.{T, lit<, lit≤, leb→le}
 use lib.IntN.{ℤ, pos, negsuc}
 use lib.Signed.{leZ, _≤ℤ_, leZ-yes}
 use lib.Pow.{pow-pos}
 use lib.Ieee.{Float, binary64, fits, isNan, ofBits, ofInt, add, sub, mul, div, le, lt}
-use lib.Ieee.Fits.{add-fits, sub-fits, mul-fits, ofInt-fits, round-fits}
+use lib.Ieee.Fits.{add-fits, mul-fits, div-fits, ofInt-fits, round-fits}
 use Rattle.list_laws.proofs.Bools.{by-bool, true-T, false-T, and-left, and-right}
-use Rattle.float_laws.proofs.Units.{Number, Counts}
+use Rattle.float_laws.proofs.Units.{Number, Counts, count→le}
 use Rattle.float_laws.proofs.Order as order
 use Rattle.float_laws.proofs.Rounding.{rounded-exact, le-rounded, add-rounded, sub-rounded, round-sle}
 use Rattle.float_laws.proofs.Constants as constants
-use Rattle.float_laws.proofs.Constants.{nought-counts, nought-number, one, one-counts, one-number, exp2, minus-exp2}
-use Rattle.float_laws.proofs.Arithmetic.{sub-from-zero, sub-mono-left, mul-count, mul-mono, div-mono-left, ratio}
+use Rattle.float_laws.proofs.Constants.{L, nought-counts, nought-number, one, one-counts, one-number, exp2, minus-exp2}
+use Rattle.float_laws.proofs.Arithmetic.{itself, scaled, sub-from-zero, mul-count, mul-mono, div-mono-left, ratio}
 use Rattle.float_laws.proofs.Magnitude.{exp2-below, within-number, sub-within, div-within}
-use Rattle.real_laws.proofs.Roots.Units.{count-le}
-use Rattle.real_laws.proofs.Between.{root-under, next-over}
 use Rattle.rng_util.proofs.Draws.{word-below}
 use Rattle.rng_util.proofs.Unit.{upper-below, unit-counts}
 use Rattle.model.specs.declared.Distribution.the-variants as dist
 use Rattle.model.specs.declared.FloatDistribution.{FloatDistribution}
 use Rattle.model.specs.declared.IntDistribution.{IntDistribution}
 use Rattle.model.specs.declared.ParamValue.the-variants as value
-use Rattle.model.specs.Real.{_⊕_, _⊖_, _⊗_, _⊘_, real, nought, half, unit, within}
+use Rattle.model.specs.Real.{_⊕_, _⊖_, _⊗_, _⊘_, nought, half, within}
 use Rattle.model.specs.Draw.{step, wordOf, drawWord, unitOf, drawF64, f64Range}
-use Rattle.model.specs.Numbers.{P, R, halvings}
-use Rattle.model.specs.Setting.{minWhole, maxWhole, validDimension, inBounds, drawUnit, ofWhole, mutationShift, spreadArgument, belowArgument, aboveArgument}
+use Rattle.model.specs.Setting.{minWhole, maxWhole, validDimension, inBounds, drawUnit, ofWhole, spreadArgument, belowArgument, aboveArgument}
 use Rattle.settings.proofs.Valid.{float-bounds, int-bounds}
 use Rattle.settings.proofs.InBounds.{Held}
 use Rattle.variation_laws.proofs.Children.{Inside, inside, float-inside}
-use Rattle.float_laws.proofs.FromZero.{Upto, number, upto-wider, sub-anti, add-upto, mul-upto, one-times-one, rest-upto, share}
+use Rattle.float_laws.proofs.FromZero.{Upto, number, upto-wider, sub-upto, add-upto, mul-upto, one-times-one, rest-upto, share}
 use Rattle.candidate_laws.proofs.FromZero.{power-upto}
 
 -- ---- the arguments
-
--- within 0..2^51
-pub record RootArgument (v : Float) : Type 0 where
-  pub from : T (le constants.nought v)
-  pub to : T (le v (exp2 51))
 
 -- what mutation hands to R for a draw u
 abbrev pub mutationArgument : Float → Float → Float → Float → ℕ → Float → Float
 mutationArgument x low high range k u = cond (lt u half) (belowArgument x low range k u) (aboveArgument x high range k u)
 
-pub shift-is : (x low high range : Float) (k : ℕ) (u : Float)
-    → mutationShift x low high range k u ≡ cond (lt u half) (R (mutationArgument x low high range k u) k ⊖ unit) (unit ⊖ R (mutationArgument x low high range k u) k)
-unfolding mutationShift
-shift-is x low high range k u = by-bool (lt u half) (λ e. rw e) (λ e. rw e)
-
 -- ---- the draw: k / 2^52 for a k below 2^52
-
-abbrev L : ℕ
-L = 2 ^ 1074
 
 record Draw (u : Float) : Type 0 where
   held : T (fits binary64 u)
@@ -139,6 +122,10 @@ known = record {
   one-and-one = refl;
 }
 
+-- twice what lies within 0..b, where 2 b is c
+twice : (b c a : Float) → Number binary64 b → mul binary64 twoOf b ≡ c → Upto b a → Upto c (mul binary64 twoOf a)
+twice b c a B e A = mul-upto twoOf b twoOf a (known .two-number) B (known .two-upto) A c e
+
 -- a draw lies within 0..1, and leaves at least 2^-52 of 1
 below-one : (k : ℕ) → k < 2 ^ 52 → k * 2 ^ 1022 ≤ 2 ^ 52 * 2 ^ 1022
 below-one k h = mul-le-mul-right (2 ^ 1022) (le-of-lt h)
@@ -146,25 +133,20 @@ below-one k h = mul-le-mul-right (2 ^ 1022) (le-of-lt h)
 draw-upto : (u : Float) → Draw u → Upto one u
 draw-upto u d = record {
   held = d .held;
-  from = count-le constants.nought u 0 (d .part * 2 ^ 1022) (nought-counts binary64) (d .counts) zero-le;
-  to = count-le u one (d .part * 2 ^ 1022) L (d .counts) (one-counts binary64) (below-one (d .part) (d .small));
+  from = count→le binary64 constants.nought u 0 (d .part * 2 ^ 1022) (nought-counts binary64) (d .counts) zero-le;
+  to = count→le binary64 u one (d .part * 2 ^ 1022) L (d .counts) (one-counts binary64) (below-one (d .part) (d .small));
 }
 
 step-counts : Counts binary64 (exp2-below 51) (2 ^ 1022) 0
 step-counts = (2 ^ 1022, refl, refl)
 
 left : (k : ℕ) → k < 2 ^ 52 → 2 ^ 1022 * L + (0 + k * 2 ^ 1022) * L ≤ (L + 0) * L + 0 * L
-left k h = over (2 ^ 1022) (k * 2 ^ 1022) L L (next k (2 ^ 1022) L refl h)
+left k h = scaled (2 ^ 1022) (0 + k * 2 ^ 1022) (L + 0) 0 L (next k (2 ^ 1022) L refl h)
   where
-    next : (k q l : ℕ) → l ≡ 2 ^ 52 * q → k < 2 ^ 52 → q + k * q ≤ l
+    next : (k q l : ℕ) → l ≡ 2 ^ 52 * q → k < 2 ^ 52 → q + (0 + k * q) ≤ l + 0 + 0
     next k q l e h =
         let m = mul-le-mul-right {m = k + 1} {n = 2 ^ 52} q (omega arith) in
         omega (arith, add-mul k 1 q, one-mul q)
-
-    over : (a b c l : ℕ) → a + b ≤ c → a * l + (0 + b) * l ≤ (c + 0) * l + 0 * l
-    over a b c l h =
-        let m = mul-le-mul-right l h in
-        omega (arith, add-mul a b l, ap (λ (z : ℕ). z * l) (zero-add b), ap (λ (z : ℕ). z * l) (add-zero c))
 
 draw-leaves : (u : Float) → Draw u → T (le (exp2-below 51) (sub binary64 one u))
 draw-leaves u d =
@@ -173,38 +155,39 @@ draw-leaves u d =
 
 -- ---- crossover
 
-argument : (v : Float) → Upto (exp2 51) v → RootArgument v
-argument v u = record { from = u .from; to = u .to }
-
 module _ (u : Float) (d : Draw u) where
   D : Upto one u
   D = draw-upto u d
 
-  lower-spread : RootArgument (mul binary64 twoOf u)
-  lower-spread = argument _ (upto-wider twoOf (exp2 51) _ (known .two-top) (mul-upto twoOf one twoOf u (known .two-number) (one-number binary64) (known .two-upto) D twoOf (known .two-times-one)))
+  lower-spread : Upto (exp2 51) (mul binary64 twoOf u)
+  lower-spread = upto-wider twoOf (exp2 51) _ (known .two-top) (twice one twoOf u (one-number binary64) (known .two-times-one) D)
 
   abbrev divisor : Float
   divisor = mul binary64 twoOf (sub binary64 one u)
 
   divisor-upto : Upto twoOf divisor
-  divisor-upto = mul-upto twoOf one twoOf (sub binary64 one u) (known .two-number) (one-number binary64) (known .two-upto) (rest-upto u D) twoOf (known .two-times-one)
+  divisor-upto = twice one twoOf (sub binary64 one u) (one-number binary64) (known .two-times-one) (rest-upto u D)
 
   divisor-least : T (le (exp2-below 50) divisor)
   unfolding le
   divisor-least = subst (λ (z : Float). T (le z divisor)) (known .two-steps)
       (mul-mono binary64 twoOf twoOf (exp2-below 51) (sub binary64 one u) (known .two-number) (known .two-number) (known .step-number) (number one _ (one-number binary64) (rest-upto u D)) tt tt tt (draw-leaves u d))
 
-  upper-spread : RootArgument (div binary64 one divisor)
+  upper-spread : Upto (exp2 51) (div binary64 one divisor)
   unfolding le fits
   upper-spread =
       let Y = number twoOf divisor (known .two-number) divisor-upto in
       let p = order.lt-le-trans constants.nought (exp2-below 50) divisor (known .above) divisor-least in
       let w = div-within 0 50 one divisor (lit< tt) (lit≤ tt) (record { held = tt; low = tt; high = tt }) Y divisor-least in
       let r = ratio binary64 constants.nought divisor (nought-number binary64) Y tt (divisor-upto .from) p in
-      record { from = order.le-trans constants.nought (div binary64 constants.nought divisor) (div binary64 one divisor) (r .0) (div-mono-left binary64 constants.nought one divisor (nought-number binary64) (one-number binary64) Y p tt); to = w .high }
+      record {
+        held = div-fits binary64 one divisor;
+        from = order.le-trans constants.nought (div binary64 constants.nought divisor) (div binary64 one divisor) (r .0) (div-mono-left binary64 constants.nought one divisor (nought-number binary64) (one-number binary64) Y p tt);
+        to = w .high;
+      }
 
 -- THEOREM for crossover
-pub spread-argument : (s : ℕ) → RootArgument (spreadArgument (drawUnit s .value))
+pub spread-argument : (s : ℕ) → Upto (exp2 51) (spreadArgument (drawUnit s .value))
 unfolding ofBits
 spread-argument s =
     let u = drawUnit s .value in
@@ -214,13 +197,13 @@ spread-argument s =
 -- ---- mutation
 
 -- a + b × c, all within 0..1
-sum-argument : (a b c : Float) → Upto one a → Upto one b → Upto one c → RootArgument (add binary64 a (mul binary64 b c))
+sum-argument : (a b c : Float) → Upto one a → Upto one b → Upto one c → Upto (exp2 51) (add binary64 a (mul binary64 b c))
 sum-argument a b c A B C =
-    argument _ (upto-wider twoOf (exp2 51) _ (known .two-top)
-    (add-upto one one a (mul binary64 b c) (one-number binary64) (one-number binary64) A (mul-upto one one b c (one-number binary64) (one-number binary64) B C one one-times-one) twoOf (known .one-and-one)))
+    upto-wider twoOf (exp2 51) _ (known .two-top)
+    (add-upto one one a (mul binary64 b c) (one-number binary64) (one-number binary64) A (mul-upto one one b c (one-number binary64) (one-number binary64) B C one one-times-one) twoOf (known .one-and-one))
 
 twice-upto : (a : Float) → Upto halfOf a → Upto one (mul binary64 twoOf a)
-twice-upto a A = mul-upto twoOf halfOf twoOf a (known .two-number) (known .half-number) (known .two-upto) A one (known .two-halves)
+twice-upto a A = twice halfOf one a (known .half-number) (known .two-halves) A
 
 module _ (low high x : Float) (i : Inside low high x) (some : le (high ⊖ low) nought ≡ false) where
   ordered : T (le low high)
@@ -240,44 +223,36 @@ module _ (low high x : Float) (i : Inside low high x) (some : le (high ⊖ low) 
 
   range-above : T (lt constants.nought (high ⊖ low))
   unfolding ofBits
-  range-above = elim (order.lt-or-le constants.nought (high ⊖ low) constants.nought-not-nan
-      (order.le-not-nan constants.nought (high ⊖ low) (sub-from-zero binary64 high low HI LO ordered) .1)) [ inl l ↦ l | inr g ↦ absurd (subst T some g) ]
+  range-above = order.nle→lt constants.nought (high ⊖ low) constants.nought-not-nan
+      (order.le-not-nan constants.nought (high ⊖ low) (sub-from-zero binary64 high low HI LO ordered) .1) (subst T some)
 
   -- how far x lies from each end, as a share of the range
   low-share : Upto one ((x ⊖ low) ⊘ (high ⊖ low))
-  low-share = share (x ⊖ low) (high ⊖ low) range
-      (record { held = sub-fits binary64 x low; from = sub-from-zero binary64 x low X LO (i .above); to = sub-mono-left binary64 x high low X HI LO (i .below) }) range-above
+  low-share = share (x ⊖ low) (high ⊖ low) range (sub-upto x low high low (high ⊖ low) X LO HI LO (i .above) (i .below) (itself low LO) refl) range-above
 
   high-share : Upto one ((high ⊖ x) ⊘ (high ⊖ low))
-  high-share = share (high ⊖ x) (high ⊖ low) range
-      (record { held = sub-fits binary64 high x; from = sub-from-zero binary64 high x HI X (i .below); to = sub-anti high x low HI X LO (i .above) }) range-above
+  high-share = share (high ⊖ x) (high ⊖ low) range (sub-upto high x high low (high ⊖ low) HI X HI LO (i .below) (itself high HI) (i .above) refl) range-above
 
   module _ (k : ℕ) (u : Float) (d : Upto one u) where
-    below-argument : lt u half ≡ true → RootArgument (belowArgument x low (high ⊖ low) k u)
+    below-argument : lt u half ≡ true → Upto (exp2 51) (belowArgument x low (high ⊖ low) k u)
     unfolding ofBits
     below-argument e =
         let t = twice-upto u (record { held = d .held; from = d .from; to = order.lt→le u halfOf (true-T _ e) }) in
         sum-argument _ _ _ t (rest-upto _ t) (power-upto _ (rest-upto _ low-share) (k - 1))
 
-    above-argument : lt u half ≡ false → RootArgument (aboveArgument x high (high ⊖ low) k u)
+    above-argument : lt u half ≡ false → Upto (exp2 51) (aboveArgument x high (high ⊖ low) k u)
     unfolding ofBits isNan
     above-argument e =
         let U = number one u (one-number binary64) d in
         let h = order.nlt→le u halfOf (order.le-not-nan u one (d .to) .0) tt (false-T _ e) in
-        let r : Upto halfOf (sub binary64 one u) = record {
-          held = sub-fits binary64 one u;
-          from = rest-upto u d .from;
-          to = subst (λ (z : Float). T (le (sub binary64 one u) z)) (known .one-less-half) (sub-anti one u halfOf (one-number binary64) U (known .half-number) h);
-        } in
-        let p : Upto halfOf (sub binary64 u halfOf) = record {
-          held = sub-fits binary64 u halfOf;
-          from = sub-from-zero binary64 u halfOf U (known .half-number) h;
-          to = subst (λ (z : Float). T (le (sub binary64 u halfOf) z)) (known .one-less-half) (sub-mono-left binary64 u one halfOf U (one-number binary64) (known .half-number) (d .to));
-        } in
+        let I = one-number binary64 in
+        let H = known .half-number in
+        let r = sub-upto one u one halfOf halfOf I U I H (d .to) (itself one I) h (known .one-less-half) in
+        let p = sub-upto u halfOf one halfOf halfOf U H I H h (d .to) (itself halfOf H) (known .one-less-half) in
         sum-argument _ _ _ (twice-upto _ r) (twice-upto _ p) (power-upto _ (rest-upto _ high-share) (k - 1))
 
   -- THEOREM for mutation; where the range is 0 or less nothing is handed to R
-  pub mutation-argument : (k s : ℕ) → RootArgument (mutationArgument x low high (high ⊖ low) k (drawUnit s .value))
+  pub mutation-argument : (k s : ℕ) → Upto (exp2 51) (mutationArgument x low high (high ⊖ low) k (drawUnit s .value))
   mutation-argument k s =
       let u = drawUnit s .value in
       let d = draw-upto u (unit-draw s) in
@@ -286,7 +261,7 @@ module _ (low high x : Float) (i : Inside low high x) (some : le (high ⊖ low) 
 -- ---- of dimensions
 
 pub float-argument : (d : FloatDistribution) (x : Float) → Held (dist.Float d) → validDimension (dist.Float d) ≡ true → T (fits binary64 x) → inBounds (dist.Float d) (value.Float x) ≡ true
-    → le (d .high ⊖ d .low) nought ≡ false → (k s : ℕ) → RootArgument (mutationArgument x (d .low) (d .high) (d .high ⊖ d .low) k (drawUnit s .value))
+    → le (d .high ⊖ d .low) nought ≡ false → (k s : ℕ) → Upto (exp2 51) (mutationArgument x (d .low) (d .high) (d .high ⊖ d .low) k (drawUnit s .value))
 unfolding inBounds
 float-argument d x h v f b some = mutation-argument (d .low) (d .high) x (float-inside d x h (float-bounds d v) f b) some
 
@@ -303,7 +278,7 @@ unfolding ofInt
 ends = (refl, refl)
 
 pub int-argument : (d : IntDistribution) (n : ℤ) → validDimension (dist.Int d) ≡ true → inBounds (dist.Int d) (value.Int n) ≡ true → le (ofWhole (d .high) ⊖ ofWhole (d .low)) nought ≡ false
-    → (k s : ℕ) → RootArgument (mutationArgument (ofWhole n) (ofWhole (d .low)) (ofWhole (d .high)) (ofWhole (d .high) ⊖ ofWhole (d .low)) k (drawUnit s .value))
+    → (k s : ℕ) → Upto (exp2 51) (mutationArgument (ofWhole n) (ofWhole (d .low)) (ofWhole (d .high)) (ofWhole (d .high) ⊖ ofWhole (d .low)) k (drawUnit s .value))
 unfolding inBounds
 int-argument d n v b some =
     let e = int-bounds d v in
@@ -313,9 +288,3 @@ int-argument d n v b some =
     (subst (λ (z : Float). T (le (ofWhole (d .high)) z)) (ends .1) (whole-mono (d .high) maxWhole (e .high-end)))
     (whole-mono (d .low) n (leZ-yes (true-T _ (and-left (leZ (d .low) n) (leZ n (d .high)) b))))
     (whole-mono n (d .high) (leZ-yes (true-T _ (and-right (leZ (d .low) n) (leZ n (d .high)) b))))) some
-
--- ---- what it is for
-
--- "keeping P(lower) <= v < P(upper)" holds of each such v above 0, to the end
-pub root-keeps : (v : Float) (k : ℕ) → RootArgument v → T (lt constants.nought v) → T (le (P (R v k) k) v) × T (lt v (P (real (suc (halvings v k 63 .lower))) k))
-root-keeps v k a h = (root-under v k h (a .to), next-over v k h (a .to))

@@ -1,18 +1,18 @@
 -- The four operations, each rounded once, and the order: sums and products of numbers from 0 up grow with each part, differences and quotients with the
--- first, and a quotient x / a for 0 ≤ x ≤ a lies within 0..1. Assumes nothing.
+-- first (differences fall with the second), and a quotient x / a for 0 ≤ x ≤ a lies within 0..1. Assumes nothing.
 use mathlib.Core.Path.{_≡_, ap, _∙_}
 use Prim.Native.Nat.{ℕ, _+_, _-_, _*_, _^_, _≤_, _<_, zero-le}
-use native.Mathlib.Nat.{mul-comm, mul-pos, mul-le-mul, mul-le-mul-right, add-mul, mul-add, mul-mul-mul-comm}
+use native.Mathlib.Nat.{mul-comm, mul-assoc, mul-pos, mul-le-mul, mul-le-mul-right, add-mul, mul-add, mul-mul-mul-comm}
 use native.Mathlib.Omega.{arith}
 use mathlib.Core.Bool.{Bool, true, false}
 use lib.Dec.{T}
 use lib.Pow.{pow-pos}
-use lib.Ieee.{Float, nan, inf, fin, Format, low, up, down, le, lt, add, sub, mul, div, neg, unlike}
+use lib.Ieee.{Float, nan, inf, fin, Format, low, up, down, fits, le, lt, add, sub, mul, div, neg, unlike}
 use lib.Ieee.Fits.{down-pos, neg-fits}
 use lib.Ieee.Scale.{finite, round-same}
-use Rattle.float_laws.proofs.Units.{Number, Sgn, Counts, le→counts, le→count, counts→le, lt→counts, counts-of, counts-same, sgn-same}
-use Rattle.float_laws.proofs.Order.{le-trans}
-use Rattle.float_laws.proofs.Rounding.{Rounded, rounded-mono, rounded-le, le-rounded, add-rounded, sub-rounded, div-rounded}
+use Rattle.float_laws.proofs.Units.{Number, Sgn, Counts, le→counts, le→count, counts→le, counts-of, counts-same, sgn-same}
+use Rattle.float_laws.proofs.Order.{le-trans, lt→counts}
+use Rattle.float_laws.proofs.Rounding.{Rounded, le-neg, rounded-mono, rounded-le, le-rounded, add-rounded, sub-rounded, div-rounded}
 use Rattle.float_laws.proofs.Constants.{nought, nought-counts, nought-fits, one, one-counts, one-fits}
 
 pub neg-number : {f : Format} (x : Float) → Number f x → Number f (neg x)
@@ -72,33 +72,24 @@ sub-from-zero f x y X Y h =
     let d = le→counts f y x (b .0) (b .1) (a .0) (a .1) (b .2) (a .2) h in
     rounded-from-zero f (sub f x y) (a .0 + b .1) (a .1 + b .0) (2 ^ low f) (pow-pos (low f)) (sub-rounded f x y (a .0) (a .1) (b .0) (b .1) (a .2) (b .2)) (omega arith)
 
-pub sub-mono-left : (f : Format) (x x' y : Float) → Number f x → Number f x' → Number f y → T (le x x') → T (le (sub f x y) (sub f x' y))
+pub sub-mono : (f : Format) (x x' y y' : Float) → Number f x → Number f x' → Number f y → Number f y' → T (le x x') → T (le y' y) → T (le (sub f x y) (sub f x' y'))
 unfolding sub
-sub-mono-left f x x' y X X' Y h = let Z = neg-number y Y in add-mono f x x' (neg y) (neg y) X X' Z Z h (itself (neg y) Z)
+sub-mono f x x' y y' X X' Y Y' h k = add-mono f x x' (neg y) (neg y') X X' (neg-number y Y) (neg-number y' Y') h (le-neg y' y k)
 
 -- ---- products
 -- (p - n) * (p' - n')
-prod-sgn : (s t : Bool) (g h p n p' n' : ℕ) → Sgn s g p n → Sgn t h p' n' → Sgn (unlike s t) (g * h) (p * p' + n * n') (p * n' + n * p')
-prod-sgn false false g h p n p' n' e d =
+prod : (g h p n p' n' : ℕ) → p ≡ n + g → p' ≡ n' + h → p * p' + n * n' ≡ p * n' + n * p' + g * h
+prod g h p n p' n' e d =
     let a : p * p' ≡ n * p' + g * p' = ap (λ (z : ℕ). z * p') e ∙ add-mul n g p' in
     let b : g * p' ≡ g * n' + g * h = ap (λ (z : ℕ). g * z) d ∙ mul-add g n' h in
     let c : p * n' ≡ n * n' + g * n' = ap (λ (z : ℕ). z * n') e ∙ add-mul n g n' in
     omega arith
-prod-sgn true true g h p n p' n' e d =
-    let a : n * n' ≡ p * n' + g * n' = ap (λ (z : ℕ). z * n') e ∙ add-mul p g n' in
-    let b : g * n' ≡ g * p' + g * h = ap (λ (z : ℕ). g * z) d ∙ mul-add g p' h in
-    let c : n * p' ≡ p * p' + g * p' = ap (λ (z : ℕ). z * p') e ∙ add-mul p g p' in
-    omega arith
-prod-sgn false true g h p n p' n' e d =
-    let a : p * n' ≡ n * n' + g * n' = ap (λ (z : ℕ). z * n') e ∙ add-mul n g n' in
-    let b : g * n' ≡ g * p' + g * h = ap (λ (z : ℕ). g * z) d ∙ mul-add g p' h in
-    let c : p * p' ≡ n * p' + g * p' = ap (λ (z : ℕ). z * p') e ∙ add-mul n g p' in
-    omega arith
-prod-sgn true false g h p n p' n' e d =
-    let a : n * p' ≡ p * p' + g * p' = ap (λ (z : ℕ). z * p') e ∙ add-mul p g p' in
-    let b : g * p' ≡ g * n' + g * h = ap (λ (z : ℕ). g * z) d ∙ mul-add g n' h in
-    let c : n * n' ≡ p * n' + g * n' = ap (λ (z : ℕ). z * n') e ∙ add-mul p g n' in
-    omega arith
+
+prod-sgn : (s t : Bool) (g h p n p' n' : ℕ) → Sgn s g p n → Sgn t h p' n' → Sgn (unlike s t) (g * h) (p * p' + n * n') (p * n' + n * p')
+prod-sgn false false g h p n p' n' e d = prod g h p n p' n' e d
+prod-sgn true true g h p n p' n' e d = let z = prod g h n p n' p' e d in omega arith
+prod-sgn false true g h p n p' n' e d = prod g h p n n' p' e d
+prod-sgn true false g h p n p' n' e d = let z = prod g h n p p' n' e d in omega arith
 
 cross : (A B c d g h L : ℕ) → A * L ≡ g * c → B * L ≡ h * d → A * B * (L * L) ≡ g * h * (c * d)
 cross A B c d g h L p q = mul-mul-mul-comm A B L L ∙ ap (λ (z : ℕ). z * (B * L)) p ∙ ap (λ (z : ℕ). g * c * z) q ∙ mul-mul-mul-comm g c h d
@@ -122,6 +113,18 @@ pub mul-count : (f : Format) (x y : Float) (g h : ℕ) → Counts f x g 0 → Co
 mul-count f x y g h a b =
     let r = mul-rounded f x y g 0 h 0 a b in
     (r .0, r .1, r .2, sgn-same (r .0) (r .1) (g * h + 0 * 0) (g * 0 + 0 * h) (g * h) 0 (r .3) (omega arith))
+
+-- a bound of the exact product that the format holds is one of the rounded
+pub mul-le : (f : Format) (x y z : Float) (g h k : ℕ) → Counts f x g 0 → Counts f y h 0 → T (fits f z) → Counts f z k 0 → g * h ≤ k * 2 ^ low f → T (le (mul f x y) z)
+mul-le f x y z g h k a b Z c l =
+    let L = 2 ^ low f in
+    rounded-le f (mul f x y) z (g * h) 0 (L * L) k 0 (mul-pos (pow-pos (low f)) (pow-pos (low f))) (mul-count f x y g h a b) Z c (most (g * h) k L l)
+  where
+    most : (a c l : ℕ) → a ≤ c * l → a * l + 0 * (l * l) ≤ c * (l * l) + 0 * l
+    most a c l h =
+        let x = mul-le-mul-right l h in
+        let y = mul-assoc c l l in
+        omega arith
 
 pub mul-from-zero : (f : Format) (x y : Float) → Number f x → Number f y → T (le nought x) → T (le nought y) → T (le nought (mul f x y))
 mul-from-zero f x y X Y h k =

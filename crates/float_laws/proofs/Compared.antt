@@ -1,7 +1,8 @@
 -- The order of floats as tests give it: `lt x y ≡ true`, `lt x y ≡ false`.
-use mathlib.Core.Path.{_≡_, refl, sym, _∙_}
-use mathlib.Core.Bool.{true, false, true≢false, false≢true}
-use lib.Ieee.{Float, nan, inf, fin, lt, isNan}
+use mathlib.Core.Path.{_≡_, sym, _∙_}
+use mathlib.Core.Bool.{true, false, true≢false}
+use lib.Dec.{T-not}
+use lib.Ieee.{Float, lt, isNan}
 use Rattle.list_laws.proofs.Bools.{T-true, true-T, false-T, no-pass}
 use Rattle.float_laws.proofs.Order as order
 
@@ -28,17 +29,7 @@ lt-past x y z h k v =
 
 -- a NaN is below nothing, and nothing is below a NaN
 pub nan-below : (x y : Float) → isNan x ≡ true → lt x y ≡ false
-unfolding lt isNan
-nan-below nan y e = refl
-nan-below (inf s) y e = absurd (false≢true e)
-nan-below (fin s m d) y e = absurd (false≢true e)
+nan-below x y e = no-pass (lt x y) (λ l. T-not (isNan x) (order.le-not-nan x y (order.lt→le x y (true-T (lt x y) l)) .0) (true-T (isNan x) e))
 
 pub below-nan : (x y : Float) → isNan y ≡ true → lt x y ≡ false
-unfolding lt isNan
-below-nan nan y e = refl
-below-nan (inf s) nan e = refl
-below-nan (inf s) (inf t) e = absurd (false≢true e)
-below-nan (inf s) (fin t n d) e = absurd (false≢true e)
-below-nan (fin s m d) nan e = refl
-below-nan (fin s m d) (inf t) e = absurd (false≢true e)
-below-nan (fin s m d) (fin t n i) e = absurd (false≢true e)
+below-nan x y e = no-pass (lt x y) (λ l. T-not (isNan y) (order.le-not-nan x y (order.lt→le x y (true-T (lt x y) l)) .1) (true-T (isNan y) e))

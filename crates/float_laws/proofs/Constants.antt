@@ -7,9 +7,10 @@ use native.Mathlib.Omega.{arith}
 use mathlib.Core.Bool.{true, false, not}
 use lib.Dec.{T}
 use lib.IntN.{pos}
-use lib.Ieee.{Float, fin, Format, binary32, binary64, low, fits, le, lt, isNan}
+use lib.Ieee.{Float, fin, Format, binary32, binary64, low, fits, le, lt, neg, isNan}
 use Rattle.float_laws.proofs.Units.{Number, Counts}
-use Rattle.float_laws.proofs.Rounding.{between-finite}
+use Rattle.float_laws.proofs.Order.{le-trans}
+use Rattle.float_laws.proofs.Rounding.{unsigned, minus-below}
 
 abbrev pub nought : Float
 nought = fin false 0 (pos 0)
@@ -65,6 +66,7 @@ pub nought-le-one : T (le nought one)
 unfolding le
 nought-le-one = tt
 
--- what is at most a power of two in magnitude is a number
-pub bounded : (f : Format) (x : Float) (j k : ℕ) → T (fits f x) → T (le (minus-exp2 j) x) → T (le x (exp2 k)) → Number f x
-bounded f x j k X h g = record { held = X; finite = between-finite (minus-exp2 j) x (exp2 k) tt tt h g }
+-- what has the sign clear is from 0 up
+pub unsigned-from : (x : Float) → T (unsigned x) → T (le nought x)
+unfolding le neg
+unsigned-from x u = le-trans nought (neg nought) x tt (minus-below nought x tt u)

@@ -4,19 +4,18 @@
 use mathlib.Core.Path.{_≡_, refl, sym, ap, _∙_, subst}
 use mathlib.Core.Logic.{inl, inr}
 use Prim.Native.Nat.{ℕ, _+_, _-_, _*_, _/_, _^_, _≤_, _<_, zero-le}
-use native.Mathlib.Nat.{le-trans, le-of-eq, le-of-lt, lt-of-le-of-lt, eq-or-lt-of-le, eq-zero-or-pos, zero-add, one-mul, mul-one, mul-comm, mul-assoc, mul-right-comm, mul-pos, mul-le-mul, mul-le-mul-left, mul-le-mul-right, add-mul, mul-add, add-le-add, div-one, div-mul-le-self, le-div-iff-mul-le, div-lt-iff-lt-mul}
+use native.Mathlib.Nat.{le-trans, le-of-eq, le-of-lt, lt-of-le-of-lt, eq-or-lt-of-le, eq-zero-or-pos, zero-add, one-mul, mul-one, mul-comm, mul-assoc, mul-right-comm, mul-pos, mul-le-mul, mul-le-mul-left, mul-le-mul-right, add-mul, mul-add, add-le-add, div-one, div-mul-le-self, div-lt-iff-lt-mul}
 use native.Mathlib.Omega.{arith}
 use mathlib.Core.Bool.{true, false, true≢false}
 use lib.Dec.{T, lit<}
 use lib.Pow.{pow-pos, pow-add}
 use lib.Ieee.{Float, nan, inf, fin, binary64, up, down, size, le, add, sub, mul, round, fits}
-use lib.Ieee.Digits.{size-reaches}
 use lib.Ieee.Fits.{kept-lt, round-fits, mul-fits}
 use lib.Ieee.Exact.{HasValue, round-exact}
-use Rattle.float_laws.proofs.Units.{Number, Counts, le→counts, le→count, counts-of, counts-finite, sgn-same}
-use Rattle.float_laws.proofs.Rounding.{Rounded, rounded-le, le-rounded, add-rounded, sub-rounded, between-finite, value-counts}
+use Rattle.float_laws.proofs.Units.{Number, Counts, top-digits, le→counts, le→count, counts-of, counts-finite, sgn-same}
+use Rattle.float_laws.proofs.Rounding.{Rounded, rounded-le, le-rounded, add-rounded, sub-rounded, between-finite, value-count}
 use Rattle.float_laws.proofs.Constants.{L, nought, exp2, exp2-counts, minus-exp2}
-use Rattle.float_laws.proofs.Arithmetic.{scaled, rounded-from-zero, sub-from-zero, count, mul-count}
+use Rattle.float_laws.proofs.Arithmetic.{scaled, rounded-from-zero, sub-from-zero, count, mul-count, mul-le}
 use Rattle.float_laws.proofs.FromZero.{sub-number}
 
 abbrev Top : ℕ
@@ -29,7 +28,7 @@ Held c = (y : Float) × T (fits binary64 y) × Counts binary64 y c 0
 held-lt : (q j : ℕ) → q < 2 ^ 53 → q * 2 ^ j < Top → Held (q * 2 ^ j)
 held-lt q j h t =
     let y = round binary64 false (q * 2 ^ j) L in
-    (y, round-fits binary64 false (q * 2 ^ j) L, value-counts binary64 y false (q * 2 ^ j) (q * 2 ^ j) 0 (round-exact binary64 false (q * 2 ^ j) L q j (pow-pos 1074) h t refl) (sym (zero-add (q * 2 ^ j))))
+    (y, round-fits binary64 false (q * 2 ^ j) L, value-count binary64 y (q * 2 ^ j) (round-exact binary64 false (q * 2 ^ j) L q j (pow-pos 1074) h t refl))
 
 held : (q j : ℕ) → q ≤ 2 ^ 53 → q * 2 ^ j < Top → Held (q * 2 ^ j)
 held q j h t = elim (eq-or-lt-of-le h) [
@@ -93,15 +92,14 @@ module _ (D dr : ℕ) (x : Float) (r : Rounded binary64 x D 0 L) (i : Counts bin
       (c, le-of-eq same, y, scale-flat k dr c (le-of-lt h) (above c (le-of-eq (sym same)) y))
 
   -- or more, and then its first 53 digits are at least 2 ^ 52
-  steep : (k j : ℕ) → k < 2 ^ 52 → D / 2 ^ j < 2 ^ 53 → 2 ^ 52 * 2 ^ j ≤ D → Floor k
-  steep k j h s b =
+  steep : (k j : ℕ) → k < 2 ^ 52 → D / 2 ^ j < 2 ^ 53 → 2 ^ 52 ≤ D / 2 ^ j → Floor k
+  steep k j h s q-ge =
       let q = D / 2 ^ j in
       let c = q * 2 ^ j in
       let c-le : c ≤ D = div-mul-le-self D (2 ^ j) in
-      let q-ge : 2 ^ 52 ≤ q = le-div-iff-mul-le (pow-pos j) .1 b in
       let lt : D < (q + 1) * 2 ^ j = div-lt-iff-lt-mul (pow-pos j) .0 (more q) in
       let next : (q + 1) * 2 ^ j ≡ c + 2 ^ j = add-mul q 1 (2 ^ j) ∙ ap (λ (z : ℕ). c + z) (one-mul (2 ^ j)) in
-      let j-le : 2 ^ j ≤ D = le-trans (le-of-eq (sym (one-mul (2 ^ j)))) (le-trans (mul-le-mul-right (2 ^ j) (pow-pos 52)) b) in
+      let j-le : 2 ^ j ≤ D = le-trans (le-of-eq (sym (one-mul (2 ^ j)))) (le-trans (mul-le-mul-right (2 ^ j) (le-trans (pow-pos 52) q-ge)) c-le) in
       let e-lt : (q + 1) * 2 ^ j < Top = lt-of-le-of-lt (le-trans (le-of-eq next) (add-le-add c-le j-le)) big in
       let y = held q j (le-of-lt s) (under c c-le) in
       let w = held (q + 1) j (more-le q s) e-lt in
@@ -116,7 +114,7 @@ module _ (D dr : ℕ) (x : Float) (r : Rounded binary64 x D 0 L) (i : Counts bin
   floor : (k : ℕ) → k < 2 ^ 52 → Floor k
   floor k h = elim (eq-zero-or-pos (size D - 53)) [
     | inl z ↦ flat k (size D - 53) h (kept-lt 53 D) z
-    | inr p ↦ steep k (size D - 53) h (kept-lt 53 D) (le-trans (le-of-eq (sym (pow-add 2 52 (size D - 53)))) (size-reaches D (52 + (size D - 53)) (omega arith)))
+    | inr p ↦ steep k (size D - 53) h (kept-lt 53 D) (top-digits D 52 (size D - 53) (omega arith))
   ]
 
 -- ---- the law
@@ -149,10 +147,8 @@ module _ (lo hi d : Float) (k : ℕ) (LO : Number binary64 lo) (HI : Number bina
       let fl = floor D (dr .0) x r (dr .1) big k K in
       let y = fl .2 in
       let t = mul f d x in
-      let tr = mul-count f d x (k * 2 ^ 1022) (dr .0) is-draw (dr .1) in
-      let LL : 0 < L * L = mul-pos (pow-pos 1074) (pow-pos 1074) in
-      let low-t : T (le nought t) = rounded-from-zero f t (k * 2 ^ 1022 * dr .0) 0 (L * L) LL tr zero-le in
-      let high-t : T (le t (y .0)) = rounded-le f t (y .0) (k * 2 ^ 1022 * dr .0) 0 (L * L) (fl .0) 0 LL tr (y .1) (y .2) (most (k * 2 ^ 1022 * dr .0) (fl .0) L (fl .3)) in
+      let low-t : T (le nought t) = rounded-from-zero f t (k * 2 ^ 1022 * dr .0) 0 (L * L) (mul-pos (pow-pos 1074) (pow-pos 1074)) (mul-count f d x (k * 2 ^ 1022) (dr .0) is-draw (dr .1)) zero-le in
+      let high-t : T (le t (y .0)) = mul-le f d x (y .0) (k * 2 ^ 1022) (dr .0) (fl .0) is-draw (dr .1) (y .1) (y .2) (fl .3) in
       let FT = between-finite nought t (y .0) tt (counts-finite f (y .0) (fl .0) 0 (y .2)) low-t high-t in
       let tc = count f t (record { held = mul-fits f d x; finite = FT }) low-t in
       let t-le = le→count f t (y .0) (tc .0) (fl .0) (tc .1) (y .2) high-t in
@@ -163,12 +159,6 @@ module _ (lo hi d : Float) (k : ℕ) (LO : Number binary64 lo) (HI : Number bina
     where
       dif : (pl nl ph nh : ℕ) → pl + nh ≤ ph + nl → ph + nl + 0 ≡ ph + nl - (pl + nh) + (nh + pl)
       dif pl nl ph nh h = omega arith
-
-      most : (a c l : ℕ) → a ≤ c * l → a * l + 0 * (l * l) ≤ c * (l * l) + 0 * l
-      most a c l h =
-          let x = mul-le-mul-right l h in
-          let y = mul-assoc c l l in
-          omega arith
 
       grows : (p n t : ℕ) → p + (n + 0) ≤ p + t + n
       grows p n t = omega arith

@@ -5,17 +5,18 @@ use mathlib.Core.Path.{_≡_, sym, ap, _∙_, subst}
 use mathlib.Core.Logic.{_⊎_, inl, inr, ⊎-elim}
 use mathlib.Core.Bool.{true, false, not}
 use Prim.Native.Nat.{ℕ, suc, _+_, _-_, _*_, _^_, _≤_, _<_}
-use native.Mathlib.Nat.{le-trans, le-of-eq, mul-le-mul, mul-le-mul-left, mul-le-mul-right, add-mul, mul-assoc, mul-right-comm, mul-mul-mul-comm, mul-pos, one-mul, zero-add, pow-suc}
+use native.Mathlib.Nat.{le-trans, le-of-eq, mul-le-mul, mul-le-mul-left, mul-le-mul-right, add-mul, mul-comm, mul-assoc, mul-right-comm, mul-mul-mul-comm, mul-pos, one-mul, zero-add, pow-suc}
 use native.Mathlib.Omega.{arith}
 use lib.Dec.{T, lt→ltb}
 use lib.IntN.{negsuc}
 use lib.Pow.{pow-add, pow-pos, pow-lt, pow-mono}
 use lib.Ieee.{Float, nan, inf, fin, binary64, fits, isNan, le, neg, add, sub, mul, div}
+use lib.Ieee.Digits.{back}
 use lib.Ieee.Fits.{neg-fits}
 use Rattle.float_laws.proofs.Units.{Number, Counts, counts-of, le→counts, counts→le}
 use Rattle.float_laws.proofs.Order.{le-not-nan, le-trans as le-trans-float}
-use Rattle.float_laws.proofs.Rounding.{Rounded, rounded-le, le-rounded, rounded-fits, le-neg, neg-counts, add-rounded, div-rounded}
-use Rattle.float_laws.proofs.Constants.{L, exp2, exp2-counts, minus-exp2, bounded}
+use Rattle.float_laws.proofs.Rounding.{Rounded, rounded-le, le-rounded, rounded-fits, between-finite, le-neg, neg-counts, add-rounded, div-rounded}
+use Rattle.float_laws.proofs.Constants.{L, exp2, exp2-counts, minus-exp2}
 use Rattle.float_laws.proofs.Arithmetic.{mul-rounded}
 
 pub record Within (k : ℕ) (x : Float) : Type 0 where
@@ -24,7 +25,7 @@ pub record Within (k : ℕ) (x : Float) : Type 0 where
   pub high : T (le x (exp2 k))
 
 pub within-number : (k : ℕ) (x : Float) → Within k x → Number binary64 x
-within-number k x w = bounded binary64 x k k (w .held) (w .low) (w .high)
+within-number k x w = record { held = w .held; finite = between-finite (minus-exp2 k) x (exp2 k) tt tt (w .low) (w .high) }
 
 -- ---- the powers of two
 pub exp2-fits : (k : ℕ) → k ≤ 1023 → T (fits binary64 (exp2 k)) × T (fits binary64 (minus-exp2 k))
@@ -59,11 +60,7 @@ upper P N B c l h =
     omega arith
 
 lower : (P N B c l : ℕ) → N ≤ P + B * c → 0 * c + N * l ≤ P * l + B * l * c
-lower P N B c l h =
-    let a = mul-le-mul-right l h in
-    let b = add-mul P (B * c) l in
-    let d = mul-right-comm B c l in
-    omega arith
+lower P N B c l h = let a = upper N P B c l (omega arith) in omega arith
 
 rounded-within : (x : Float) (P N c k : ℕ) → 0 < c → k ≤ 1023 → Rounded binary64 x P N c → P ≤ 2 ^ k * c + N → N ≤ P + 2 ^ k * c → Within k x
 rounded-within x P N c k C K r a b =
@@ -95,22 +92,15 @@ bounds k x p n w i =
 abbrev pub exp2-below : ℕ → Float
 exp2-below i = fin false 1 (negsuc i)
 
+whole : (i : ℕ) → i < 1074 → L ≡ 2 ^ (1074 - suc i) * 2 ^ suc i
+whole i h = ap (λ (z : ℕ). 2 ^ z) (sym (back 1074 (suc i) h)) ∙ pow-add 2 (1074 - suc i) (suc i)
+
 below-counts : (i : ℕ) → i < 1074 → Counts binary64 (exp2-below i) (2 ^ (1074 - suc i)) 0
-below-counts i h =
-    (2 ^ (1074 - suc i), one-mul L ∙ ap (λ (z : ℕ). 2 ^ z) (parts i h) ∙ pow-add 2 (1074 - suc i) (suc i), sym (zero-add (2 ^ (1074 - suc i))))
-  where
-    parts : (i : ℕ) → i < 1074 → 1074 ≡ 1074 - suc i + suc i
-    parts i h = omega arith
+below-counts i h = (2 ^ (1074 - suc i), one-mul L ∙ whole i h, sym (zero-add (2 ^ (1074 - suc i))))
 
 -- at least 2 ^ -(i + 1), so 2 ^ (i + 1) times it is at least 1
 divisor : (i q : ℕ) → i < 1074 → 2 ^ (1074 - suc i) ≤ q → L ≤ 2 ^ suc i * q
-divisor i q h l = le-trans (le-of-eq (whole i h)) (mul-le-mul-left (2 ^ suc i) l)
-  where
-    parts : (i : ℕ) → i < 1074 → 1074 ≡ suc i + (1074 - suc i)
-    parts i h = omega arith
-
-    whole : (i : ℕ) → i < 1074 → L ≡ 2 ^ suc i * 2 ^ (1074 - suc i)
-    whole i h = ap (λ (z : ℕ). 2 ^ z) (parts i h) ∙ pow-add 2 (suc i) (1074 - suc i)
+divisor i q h l = le-trans (le-of-eq (whole i h ∙ mul-comm (2 ^ (1074 - suc i)) (2 ^ suc i))) (mul-le-mul-left (2 ^ suc i) l)
 
 spread : (j i q : ℕ) → L ≤ 2 ^ suc i * q → 2 ^ j * L ≤ 2 ^ (j + suc i) * q
 spread j i q h =
@@ -145,6 +135,11 @@ pub within-wider : (j k : ℕ) (x : Float) → j ≤ k → Within j x → Within
 within-wider j k x h w =
     let e = exp2-mono j k h in
     record { held = w .held; low = le-trans-float (minus-exp2 k) (minus-exp2 j) x (e .0) (w .low); high = le-trans-float x (exp2 j) (exp2 k) (w .high) (e .1) }
+
+-- of two bounds in order, each is within what both are
+pub ends-within : (k : ℕ) (low high : Float) → T (fits binary64 low) → T (fits binary64 high) → T (le low high) → T (le (minus-exp2 k) low) → T (le high (exp2 k)) → Within k low × Within k high
+ends-within k low high L H h a b =
+    (record { held = L; low = a; high = le-trans-float low high (exp2 k) h b }, record { held = H; low = le-trans-float (minus-exp2 k) low high a h; high = b })
 
 pub neg-within : (k : ℕ) (x : Float) → Within k x → Within k (neg x)
 unfolding neg

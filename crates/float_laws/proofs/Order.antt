@@ -2,17 +2,17 @@
 -- not by `≡`, since the two zeros differ as data. A test of the code gives `le x y ≡ true`: `subst T (sym e) tt` makes the fact of it. Assumes nothing.
 use mathlib.Core.Path.{refl}
 use mathlib.Core.Logic.{_⊎_, inl, inr}
-use Prim.Native.Nat.{ℕ, _+_, _*_, _<_}
-use native.Mathlib.Nat.{mul-assoc, mul-comm, mul-left-comm, mul-pos}
+use Prim.Native.Nat.{ℕ, _+_, _*_, _≤_, _<_}
+use native.Mathlib.Nat.{le-of-eq, lt-of-not-le, not-le-of-lt, mul-assoc, mul-comm, mul-left-comm, mul-pos}
 use native.Mathlib.Omega.{arith}
 use mathlib.Core.Bool.{Bool, true, false, not}
 use lib.IntN.{ℤ}
 use lib.Dec.{T, nltb→le}
-use lib.Ieee.{Float, nan, inf, fin, up, down, below, le, lt, eq, isNan}
+use lib.Ieee.{Float, nan, inf, fin, Format, up, down, below, le, lt, eq, isNan}
 use lib.Ieee.Fits.{down-pos}
 use lib.Ieee.Exact.{HasValue}
 use Rattle.list_laws.proofs.Bools.{by-bool, true-T, false-T, or-l, or-r}
-use Rattle.float_laws.proofs.Units.{SLe, SLt, sle→, →sle, →slt, le→sle, sle→le}
+use Rattle.float_laws.proofs.Units.{Counts, SLe, SLt, sle→, →sle, →slt, le→sle, sle→le, le→counts, counts→le}
 
 sle-trans : (s t u : Bool) (a b c : ℕ) → SLe s a t b → SLe t b u c → SLe s a u c
 sle-trans false false false a b c h k = omega arith
@@ -43,16 +43,20 @@ fin-trans s m e t n d u k i h j =
     (le→sle L (fin s m e) (fin t n d) s t (a * (y * z)) (b * (x * z)) P A B h)
     (le→sle L (fin t n d) (fin u k i) t u (b * (x * z)) (c * (x * y)) P B C j))
 
-pub le-nan : (x : Float) → T (le x nan) → ⊥
-unfolding le
-le-nan nan h = h
-le-nan (inf s) h = h
-le-nan (fin s m e) h = h
+pub le-not-nan : (x y : Float) → T (le x y) → T (not (isNan x)) × T (not (isNan y))
+unfolding le isNan
+le-not-nan nan y h = absurd h
+le-not-nan (inf s) nan h = absurd h
+le-not-nan (inf s) (inf t) h = (tt, tt)
+le-not-nan (inf s) (fin t n d) h = (tt, tt)
+le-not-nan (fin s m e) nan h = absurd h
+le-not-nan (fin s m e) (inf t) h = (tt, tt)
+le-not-nan (fin s m e) (fin t n d) h = (tt, tt)
 
 pub le-trans : (x y z : Float) → T (le x y) → T (le y z) → T (le x z)
-unfolding le
+unfolding le isNan
 le-trans nan y z h k = absurd h
-le-trans (inf true) y nan h k = absurd (le-nan y k)
+le-trans (inf true) y nan h k = absurd (le-not-nan y nan k .1)
 le-trans (inf true) y (inf true) h k = tt
 le-trans (inf true) y (inf false) h k = tt
 le-trans (inf true) y (fin u n i) h k = tt
@@ -128,6 +132,9 @@ nlt→le (fin s m e) (fin t n d) p q h = sle→ t (n * up d * down e) s (m * up 
 pub lt-or-le : (x y : Float) → T (not (isNan x)) → T (not (isNan y)) → T (lt x y) ⊎ T (le y x)
 lt-or-le x y p q = by-bool (lt x y) (λ e. inl (true-T (lt x y) e)) (λ e. inr (nlt→le x y p q (false-T (lt x y) e)))
 
+pub nle→lt : (x y : Float) → T (not (isNan x)) → T (not (isNan y)) → (T (le y x) → ⊥) → T (lt x y)
+nle→lt x y p q h = elim (lt-or-le x y p q) [ inl l ↦ l | inr g ↦ absurd (h g) ]
+
 pub le-total : (x y : Float) → T (not (isNan x)) → T (not (isNan y)) → T (le x y) ⊎ T (le y x)
 le-total x y p q = elim (lt-or-le x y p q) [ inl l ↦ inl (lt→le x y l) | inr h ↦ inr h ]
 
@@ -137,21 +144,30 @@ le-refl x p = elim (le-total x x p p) [ inl l ↦ l | inr l ↦ l ]
 pub lt-irrefl : (x : Float) → T (lt x x) → ⊥
 lt-irrefl x h = lt→nle x x h (lt→le x x h)
 
-pub le-not-nan : (x y : Float) → T (le x y) → T (not (isNan x)) × T (not (isNan y))
-unfolding le isNan
-le-not-nan nan y h = absurd h
-le-not-nan (inf s) nan h = absurd h
-le-not-nan (inf s) (inf t) h = (tt, tt)
-le-not-nan (inf s) (fin t n d) h = (tt, tt)
-le-not-nan (fin s m e) nan h = absurd h
-le-not-nan (fin s m e) (inf t) h = (tt, tt)
-le-not-nan (fin s m e) (fin t n d) h = (tt, tt)
-
 pub lt-le-trans : (x y z : Float) → T (lt x y) → T (le y z) → T (lt x z)
-lt-le-trans x y z h k = elim (lt-or-le x z (le-not-nan x y (lt→le x y h) .0) (le-not-nan y z k .1)) [ inl l ↦ l | inr g ↦ absurd (lt→nle x y h (le-trans y z x k g)) ]
+lt-le-trans x y z h k = nle→lt x z (le-not-nan x y (lt→le x y h) .0) (le-not-nan y z k .1) (λ g. lt→nle x y h (le-trans y z x k g))
 
 pub le-lt-trans : (x y z : Float) → T (le x y) → T (lt y z) → T (lt x z)
-le-lt-trans x y z h k = elim (lt-or-le x z (le-not-nan x y h .0) (le-not-nan y z (lt→le y z k) .1)) [ inl l ↦ l | inr g ↦ absurd (lt→nle y z k (le-trans z x y g h)) ]
+le-lt-trans x y z h k = nle→lt x z (le-not-nan x y h .0) (le-not-nan y z (lt→le y z k) .1) (λ g. lt→nle y z k (le-trans z x y g h))
 
 pub lt-trans : (x y z : Float) → T (lt x y) → T (lt y z) → T (lt x z)
 lt-trans x y z h k = lt-le-trans x y z h (lt→le y z k)
+
+-- ---- the strict order of finite floats, in counts
+counts-not-nan : (f : Format) (x : Float) (p n : ℕ) → Counts f x p n → T (not (isNan x))
+counts-not-nan f x p n a = le-not-nan x x (counts→le f x x p n p n a a (le-of-eq refl)) .0
+
+module _ (f : Format) (x y : Float) (p n p' n' : ℕ) (a : Counts f x p n) (b : Counts f y p' n') where
+  pub lt→counts : T (lt x y) → p + n' < p' + n
+  lt→counts l = lt-of-not-le (λ (k : p' + n ≤ p + n'). lt→nle x y l (counts→le f y x p' n' p n b a k))
+
+  pub counts→lt : p + n' < p' + n → T (lt x y)
+  counts→lt l = nle→lt x y (counts-not-nan f x p n a) (counts-not-nan f y p' n' b) (λ g. not-le-of-lt l (le→counts f y x p' n' p n b a g))
+
+-- of numbers from 0 up
+module _ (f : Format) (x y : Float) (p q : ℕ) (a : Counts f x p 0) (b : Counts f y q 0) where
+  pub lt→count : T (lt x y) → p < q
+  lt→count l = let h = lt→counts f x y p 0 q 0 a b l in omega arith
+
+  pub count→lt : p < q → T (lt x y)
+  count→lt l = counts→lt f x y p 0 q 0 a b (omega arith)

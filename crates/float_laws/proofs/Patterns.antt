@@ -1,21 +1,22 @@
--- Bit patterns: floats with the sign clear, no NaN among them, are in the order of their patterns, and two that are level are one. Assumes nothing.
+-- Bit patterns: floats with the sign clear, no NaN among them, are in the order of their patterns. Assumes nothing.
 use mathlib.Core.Path.{_≡_, refl, sym, ap, _∙_, subst}
 use mathlib.Core.Logic.{inl, inr}
 use Prim.Native.Nat.{ℕ, suc, _+_, _-_, _*_, _/_, _^_, _≤_, _<_, zero-le}
-use native.Mathlib.Nat.{le-trans, le-of-eq, le-of-lt, lt-of-le-of-lt, lt-of-lt-of-le, le-antisymm, eq-or-lt-of-le, lt-of-not-le, zero-add, add-mul, mul-le-mul-right, mul-div-cancel, le-div-iff-mul-le, pow-succ'}
+use native.Mathlib.Nat.{le-trans, le-of-eq, le-of-lt, lt-of-le-of-lt, lt-of-lt-of-le, le-antisymm, eq-or-lt-of-le, lt-of-not-le, zero-add, add-mul, mul-le-mul-right, mul-div-cancel, pow-succ'}
 use native.Mathlib.Omega.{arith}
 use mathlib.Core.Bool.{Bool, true, false, not}
 use lib.IntN.{ℤ}
 use lib.Dec.{T}
-use lib.Pow.{pow-pos, pow-add}
+use lib.Pow.{pow-pos}
 use lib.Ieee.{Float, nan, inf, fin, Format, prec, emax, low, up, down, size, le, lt, fits, isNan, hid, ones, toBits, ofBits}
-use lib.Ieee.Digits.{size-lt, size-le, size-reaches}
+use lib.Ieee.Digits.{size-lt, size-le}
 use lib.Ieee.Fits.{down-pos, kept-lt, two, reach}
 use lib.Ieee.Bits.{ofBits-toBits}
 use lib.Ieee.Nearest.{div-mono}
-use Rattle.float_laws.proofs.Units.{le→count, placed}
+use Rattle.float_laws.proofs.Units.{le→count, top-digits, placed}
 use Rattle.float_laws.proofs.Order as total
 use Rattle.float_laws.proofs.Rounding.{unsigned, under}
+use Rattle.float_laws.proofs.Constants.{nought, unsigned-from}
 
 -- the pattern of g units
 abbrev enc : ℕ → ℕ → ℕ
@@ -28,7 +29,7 @@ twice p h = ap (λ (x : ℕ). 2 ^ x) (back p h) ∙ pow-succ' 2 (p - 1)
     back p h = omega arith
 
 full : (p g : ℕ) → 0 < p → 0 < size g - p → 2 ^ (p - 1) ≤ g / 2 ^ (size g - p)
-full p g P h = le-div-iff-mul-le (pow-pos (size g - p)) .1 (le-trans (le-of-eq (sym (pow-add 2 (p - 1) (size g - p)))) (size-reaches g (p - 1 + (size g - p)) (omega arith)))
+full p g P h = top-digits g (p - 1) (size g - p) (omega arith)
 
 -- j < k: j * H + a < k * H + b for a < 2 * H and H ≤ b
 apart : (j k H a b : ℕ) → suc j ≤ k → a < 2 * H → H ≤ b → j * H + a < k * H + b
@@ -108,10 +109,7 @@ le→bits f (fin false m e) (fin false n d) X Y a b h =
     le-trans (le-of-eq (bits-is f m e g (i .1))) (le-trans (enc-mono (prec f) g k (prec-pos f) l) (le-of-eq (sym (bits-is f n d k (j .1)))))
 
 not-nan : (x : Float) → T (unsigned x) → T (not (isNan x))
-unfolding isNan
-not-nan nan h = absurd h
-not-nan (inf s) h = tt
-not-nan (fin s m e) h = tt
+not-nan x h = total.le-not-nan nought x (unsigned-from x h) .1
 
 -- one pattern, one value
 same-bits : (f : Format) (x y : Float) → T (fits f x) → T (fits f y) → toBits f x ≡ toBits f y → x ≡ y
@@ -126,7 +124,3 @@ bits→le f x y X Y a b h = elim (total.le-total x y (not-nan x a) (not-nan y b)
 
 pub lt→bits : (f : Format) (x y : Float) → T (fits f x) → T (fits f y) → T (unsigned x) → T (unsigned y) → T (lt x y) → toBits f x < toBits f y
 lt→bits f x y X Y a b h = lt-of-not-le (λ (g : toBits f y ≤ toBits f x). total.lt→nle x y h (bits→le f y x Y X b a g))
-
--- two values with the sign clear that are level are one
-pub le-antisym : (f : Format) (x y : Float) → T (fits f x) → T (fits f y) → T (unsigned x) → T (unsigned y) → T (le x y) → T (le y x) → x ≡ y
-le-antisym f x y X Y a b h k = same-bits f x y X Y (le-antisymm (le→bits f x y X Y a b h) (le→bits f y x Y X b a k))

@@ -1,14 +1,14 @@
 -- One rounding. `Rounded f x p n c` says that x is what `round` makes of (p - n) / c. Sums, differences and quotients of counted floats are such roundings
 -- (`add-rounded`, `sub-rounded`, `div-rounded`; products in `Arithmetic`). Rounding keeps the order (`rounded-mono`), does not pass a value that the format
 -- holds (`rounded-le`, `le-rounded`) and is exact where it can be (`rounded-exact`). Assumes nothing.
-use mathlib.Core.Path.{_≡_, refl, sym, ap, _∙_, subst}
+use mathlib.Core.Path.{_≡_, refl, sym, ap, _∙_, subst, subst₂}
 use mathlib.Core.Logic.{inl, inr}
 use Prim.Native.Nat.{ℕ, zero, suc, _+_, _-_, _*_, _^_, _≤_, _<_}
-use native.Mathlib.Nat.{le-of-eq, lt-irrefl, eq-zero-or-pos, zero-mul, mul-comm, mul-assoc, mul-left-comm, mul-right-comm, mul-pos, add-mul, mul-lt-mul-of-pos-right, lt-of-mul-lt-mul-right, le-of-mul-le-mul-right, eq-of-mul-eq-mul-right}
+use native.Mathlib.Nat.{le-of-eq, lt-irrefl, eq-zero-or-pos, zero-add, zero-mul, mul-comm, mul-assoc, mul-left-comm, mul-right-comm, mul-pos, add-mul, mul-lt-mul-of-pos-right, lt-of-mul-lt-mul-right, le-of-mul-le-mul-right, eq-of-mul-eq-mul-right}
 use native.Mathlib.Omega.{arith}
 use mathlib.Core.Bool.{Bool, true, false, not, cond}
 use lib.IntN.{ℤ}
-use lib.Dec.{T, ltb, eqb, ltb→lt, nltb→le}
+use lib.Dec.{T, lit<, ltb, eqb, ltb→lt, nltb→le}
 use lib.Pow.{pow-add, pow-pos}
 use lib.Ieee.{Float, nan, inf, fin, Format, prec, emax, low, up, down, fits, le, neg, round, units, odd, sum, add, sub, div}
 use lib.Ieee.Fits.{up-pos, down-pos, round-fits}
@@ -17,7 +17,7 @@ use lib.Ieee.Order.{round-mono}
 use lib.Ieee.Positive.{first-pos}
 use lib.Ieee.Scale.{finite, round-same}
 use Rattle.float_laws.proofs.Order.{le-trans as le-trans-float}
-use Rattle.float_laws.proofs.Units.{Sgn, Counts, SLe, sle→, →sle, dif→sle, le→counts, counts→le, placed, counts-of, counts-finite, counts-same}
+use Rattle.float_laws.proofs.Units.{Sgn, Counts, SLe, no-sum, sle→, →sle, sle→le, dif→sle, le→counts, counts→le, placed, counts-of, counts-finite, counts-same}
 
 -- ---- negation turns the order round
 pub le-neg : (x y : Float) → T (le x y) → T (le (neg y) (neg x))
@@ -68,7 +68,7 @@ unsigned nan = false
 unsigned (inf s) = not s
 unsigned (fin s m e) = not s
 
-odd-unsigned : (d q k l : ℕ) → T (unsigned (odd d false q k l))
+pub odd-unsigned : (d q k l : ℕ) → T (unsigned (odd d false q k l))
 unfolding odd
 odd-unsigned d zero k l = tt
 odd-unsigned d (suc q) k l = tt
@@ -85,7 +85,7 @@ pub round-unsigned : (f : Format) (a b : ℕ) → T (unsigned (round f false a b
 unfolding round
 round-unsigned f a b = units-unsigned f _ _
 
-minus-below : (x y : Float) → T (unsigned x) → T (unsigned y) → T (le (neg x) y)
+pub minus-below : (x y : Float) → T (unsigned x) → T (unsigned y) → T (le (neg x) y)
 unfolding le neg
 minus-below nan y p q = absurd p
 minus-below (inf true) y p q = absurd p
@@ -101,46 +101,23 @@ minus-below (fin false m e) (fin true n d) p q = absurd q
 minus-below (fin false m e) (fin false n d) p q = sle→ true (m * up e * down d) false (n * up d * down e) tt
 
 -- ---- zero, of either sign
-sle-zero : (s t : Bool) (a b : ℕ) → a ≡ 0 → b ≡ 0 → SLe s a t b
-sle-zero false false a b p q = omega arith
-sle-zero false true a b p q = omega arith
-sle-zero true false a b p q = tt
-sle-zero true true a b p q = omega arith
-
-times : (a b : ℕ) → a ≡ 0 → a * b ≡ 0
-times a b e = ap (λ (x : ℕ). x * b) e ∙ zero-mul b
-
-no-num : (a b d : ℕ) → 0 < b → a * b ≡ 0 * d → a ≡ 0
-no-num a b d B h = eq-of-mul-eq-mul-right b B a 0 (h ∙ zero-mul d ∙ sym (zero-mul b))
-
-zero-le-zero : (x y : Float) (s t : Bool) (b d : ℕ) → 0 < b → 0 < d → HasValue x s 0 b → HasValue y t 0 d → T (le x y)
-unfolding le
-zero-le-zero nan y s t b d B D p q = absurd p
-zero-le-zero (inf u) y s t b d B D p q = absurd p
-zero-le-zero (fin u m e) nan s t b d B D p q = absurd q
-zero-le-zero (fin u m e) (inf v) s t b d B D p q = absurd q
-zero-le-zero (fin u m e) (fin v n h) s t b d B D p q =
-    sle→ u (m * up e * down h) v (n * up h * down e)
-    (sle-zero u v (m * up e * down h) (n * up h * down e) (times (m * up e) (down h) (no-num (m * up e) b (down e) B (p .1))) (times (n * up h) (down e) (no-num (n * up h) d (down h) D (q .1))))
-
 round-zero : (f : Format) (s : Bool) (b : ℕ) → 0 < b → HasValue (round f s 0 b) s 0 b
 round-zero f s b B = round-exact f s 0 b 0 0 B (pow-pos (prec f)) (pow-pos (low f + suc (emax f))) (zero-mul (2 ^ low f) ∙ sym (zero-mul b))
 
 -- ---- the signed order of fractions is kept
 zero-left : (a d b : ℕ) → 0 < d → a * d + b ≤ 0 → a ≡ 0
-zero-left a d b D h = elim (eq-zero-or-pos a) [ inl z ↦ z | inr p ↦ absurd (no (a * d) b (mul-pos p D) h) ]
-  where
-    no : (x y : ℕ) → 0 < x → x + y ≤ 0 → ⊥
-    no x y p h = omega arith
+zero-left a d b D h = elim (eq-zero-or-pos a) [ inl z ↦ z | inr p ↦ absurd (no-sum (a * d) b (mul-pos p D) h) ]
 
 pub round-sle : (f : Format) (s : Bool) (a b : ℕ) (t : Bool) (c d : ℕ) → 0 < b → 0 < d → SLe s (a * d) t (c * b) → T (le (round f s a b) (round f t c d))
 round-sle f false a b false c d B D h = round-mono f a b c d B D h
 round-sle f false a b true c d B D h =
     let x : a ≡ 0 = zero-left a d (c * b) D h in
     let y : c ≡ 0 = zero-left c b (a * d) B (omega arith) in
-    subst (λ (z : ℕ). T (le (round f false z b) (round f true c d))) (sym x)
-    (subst (λ (z : ℕ). T (le (round f false 0 b) (round f true z d))) (sym y)
-    (zero-le-zero (round f false 0 b) (round f true 0 d) false true b d B D (round-zero f false b B) (round-zero f true d D)))
+    subst₂ (λ (v w : Float). T (le v w)) (sym (nil false a b B x)) (sym (nil true c d D y))
+    (sle→le 1 (round f false 0 1) (round f true 0 1) false true 0 0 (lit< tt) (round-zero f false 1 (lit< tt)) (round-zero f true 1 (lit< tt)) (le-of-eq refl))
+  where
+    nil : (s : Bool) (a b : ℕ) → 0 < b → a ≡ 0 → round f s a b ≡ round f s 0 1
+    nil s a b B e = round-same f s a b 0 1 B (lit< tt) (ap (λ (z : ℕ). z * 1) e ∙ sym (zero-mul b))
 round-sle f true a b false c d B D h =
     subst (λ (z : Float). T (le z (round f false c d))) (sym (round-neg f a b)) (minus-below (round f false a b) (round f false c d) (round-unsigned f a b) (round-unsigned f c d))
 round-sle f true a b true c d B D h =
@@ -204,17 +181,16 @@ sum-rounded f true a false b c = go (ltb a b) (ltb b a) (ltb→lt a b) (nltb→l
     go false false x y u v = (false, a - b, refl, let z = y tt in let w = v tt in omega arith)
 
 -- an operand, put over the common denominator
-over : (s : Bool) (A L g de dd p n : ℕ) → A * L ≡ g * de → Sgn s g p n → ps s (A * dd) * L + n * (de * dd) ≡ p * (de * dd) + ns s (A * dd) * L
-over false A L g de dd p n h e =
+over-plain : (A L g de dd p n : ℕ) → A * L ≡ g * de → p ≡ n + g → A * dd * L + n * (de * dd) ≡ p * (de * dd) + 0 * L
+over-plain A L g de dd p n h e =
     let x : A * dd * L ≡ g * (de * dd) = mul-right-comm A dd L ∙ ap (λ (z : ℕ). z * dd) h ∙ mul-assoc g de dd in
     let y : p * (de * dd) ≡ n * (de * dd) + g * (de * dd) = ap (λ (z : ℕ). z * (de * dd)) e ∙ add-mul n g (de * dd) in
     let z = zero-mul L in
     omega arith
-over true A L g de dd p n h e =
-    let x : A * dd * L ≡ g * (de * dd) = mul-right-comm A dd L ∙ ap (λ (z : ℕ). z * dd) h ∙ mul-assoc g de dd in
-    let y : n * (de * dd) ≡ p * (de * dd) + g * (de * dd) = ap (λ (z : ℕ). z * (de * dd)) e ∙ add-mul p g (de * dd) in
-    let z = zero-mul L in
-    omega arith
+
+over : (s : Bool) (A L g de dd p n : ℕ) → A * L ≡ g * de → Sgn s g p n → ps s (A * dd) * L + n * (de * dd) ≡ p * (de * dd) + ns s (A * dd) * L
+over false A L g de dd p n h e = over-plain A L g de dd p n h e
+over true A L g de dd p n h e = let z = over-plain A L g de dd n p h e in omega arith
 
 both : (P P' N N' p p' n n' L c : ℕ) → P * L + n * c ≡ p * c + N * L → P' * L + n' * c ≡ p' * c + N' * L → (P + P') * L + (n + n') * c ≡ (p + p') * c + (N + N') * L
 both P P' N N' p p' n n' L c h k =
@@ -294,10 +270,13 @@ div-rounded f (fin s m e) (fin false k d) p n p' n' h (g, u, x) (j, v, y) =
     )
 
 -- ---- a value of the format is its own rounding
-pub value-counts : (f : Format) (x : Float) (s : Bool) (g p n : ℕ) → HasValue x s g (2 ^ low f) → Sgn s g p n → Counts f x p n
+value-counts : (f : Format) (x : Float) (s : Bool) (g p n : ℕ) → HasValue x s g (2 ^ low f) → Sgn s g p n → Counts f x p n
 value-counts f nan s g p n h k = absurd h
 value-counts f (inf t) s g p n h k = absurd h
 value-counts f (fin t m e) s g p n h k = (g, h .1, subst (λ (b : Bool). Sgn b g p n) (sym (h .0)) k)
+
+pub value-count : (f : Format) (x : Float) (g : ℕ) → HasValue x false g (2 ^ low f) → Counts f x g 0
+value-count f x g h = value-counts f x false g g 0 h (sym (zero-add g))
 
 -- m * 2 ^ j units are below the first count that is no float
 pub under : (f : Format) (m : ℕ) (e : ℤ) (j : ℕ) → m * up e * 2 ^ low f ≡ m * 2 ^ j * down e → m * up e < 2 ^ suc (emax f) * down e → m * 2 ^ j < 2 ^ (low f + suc (emax f))

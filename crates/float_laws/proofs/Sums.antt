@@ -8,9 +8,8 @@ use lib.Dec.{T, lit≤}
 use lib.Ieee.{Float, binary64, le, ofBits, fits}
 use lib.Ieee.Fits.{add-fits}
 use Rattle.model.specs.Real.{_⊕_, _⊗_, minusNought, sumTo}
-use Rattle.float_laws.proofs.Order.{le-trans}
-use Rattle.float_laws.proofs.Constants.{nought, one, minus-exp2}
-use Rattle.float_laws.proofs.FromZero.{Upto}
+use Rattle.float_laws.proofs.Constants.{one}
+use Rattle.float_laws.proofs.FromZero.{Upto, upto-within}
 use Rattle.float_laws.proofs.Magnitude.{Within, within-wider, add-within, mul-within}
 
 pub sum-none : (f : ℕ → Float) → sumTo f 0 ≡ minusNought
@@ -34,13 +33,8 @@ sum-fits f (suc n) = add-fits binary64 (sumTo f n) (f n)
 
 -- ---- within powers of two
 
--- what is within 0..1 is at most 2 ^ 0 in magnitude
-pub unit-within : (x : Float) → Upto one x → Within 0 x
-unfolding le
-unit-within x u = record { held = u .held; low = le-trans (minus-exp2 0) nought x tt (u .from); high = u .to }
-
 pub product-unit : (x y : Float) → Upto one x → Upto one y → Within 0 (x ⊗ y)
-product-unit x y u v = mul-within 0 0 x y (lit≤ tt) (unit-within x u) (unit-within y v)
+product-unit x y u v = mul-within 0 0 x y (lit≤ tt) (upto-within 0 x u) (upto-within 0 y v)
 
 nought-within : Within 0 minusNought
 unfolding ofBits fits le

@@ -1,37 +1,38 @@
 -- "keeping P(lower) <= v < P(upper)": true of the ends from the first halving to the last, for 0 < v ≤ 2^51. Assumes nothing.
-use mathlib.Core.Path.{_≡_, refl, sym, ap, subst}
+use mathlib.Core.Path.{_≡_, refl, sym, subst}
 use mathlib.Core.Logic.{inl, inr}
-use mathlib.Core.Bool.{Bool, true, false, not, cond, true≢false}
+use mathlib.Core.Bool.{Bool, true, false, not, cond}
 use Prim.Native.Nat.{ℕ, zero, suc, _+_, _-_, _*_, _/_, _%_, _^_, _≤_, _<_}
-use native.Mathlib.Nat.{mul-pos, zero-add, le-of-eq, le-trans as le-trans-ℕ}
+use native.Mathlib.Nat.{mul-pos, le-of-eq, le-trans as le-trans-ℕ}
 use native.Mathlib.Omega.{arith}
 use borrow.Author.Tests.{leb-true, leb-false, eqb-true, eqb-false}
 use lib.Dec.{T, leb, eqb}
 use lib.Pow.{pow-pos}
-use lib.Ieee.{Float, nan, inf, fin, binary64, le, lt, mul, fits, isNan, eq, ofBits, toBits, odd}
+use lib.Ieee.{Float, binary64, le, lt, mul, fits, isNan, eq, ofBits, toBits, odd}
 use lib.Ieee.Bits.{ofBits-fits, toBits-ofBits}
 use lib.Ieee.Exact.{HasValue, odd-sign}
 use lib.Ieee.Scale.{finite}
-use Rattle.float_laws.proofs.Units.{Number, Counts, counts→le, counts→lt}
-use Rattle.float_laws.proofs.Order.{le-trans, le-not-nan, lt→le, lt→nle, eq→le, lt-or-le, le-lt-trans, lt-le-trans}
-use Rattle.float_laws.proofs.Rounding.{unsigned, value-counts}
+use Rattle.float_laws.proofs.Units.{Number, Counts, counts-finite}
+use Rattle.float_laws.proofs.Order.{le-trans, le-not-nan, lt→le, lt→nle, nle→lt, eq→le, le-lt-trans, lt-le-trans, count→lt}
+use Rattle.float_laws.proofs.Rounding.{unsigned, odd-unsigned, value-count}
 use Rattle.float_laws.proofs.Patterns.{bits→le}
-use Rattle.float_laws.proofs.Constants.{nought, nought-counts, nought-le-one, one, one-number, exp2}
+use Rattle.float_laws.proofs.Constants.{nought, nought-counts, nought-le-one, one, one-number, exp2, unsigned-from}
 use Rattle.float_laws.proofs.Arithmetic.{mul-mono}
+use Rattle.float_laws.proofs.FromZero.{Upto}
 use Rattle.list_laws.proofs.Bools.{by-bool, true-T, no-pass}
 use Rattle.model.specs.Real.{real, nought as origin}
 use Rattle.model.specs.Numbers.{powerUp, P, Ends, ends, halved, halvings, R}
 use Rattle.real_laws.proofs.Roots.Pattern.{read-low, read-normal}
 use Rattle.real_laws.proofs.Powers.{inf-mul, fits-power, above-power, power-mono, same-power}
 use Rattle.real_laws.proofs.Nan.{rise, below-inf}
-use Rattle.real_laws.proofs.Halving.{Top, by-halves, gap, adjacent}
+use Rattle.real_laws.proofs.Halving.{Top, by-halves, gap, adjacent, root-by}
 
 -- ---- the real of a pattern up to that of 2^52
-counted : (q k : ℕ) → (g : ℕ) × HasValue (odd 53 false q k 1074) false g (2 ^ 1074) × (0 < q → 0 < g)
-counted q k = (q * 2 ^ k, odd-sign 53 false q k 1074, λ h. mul-pos h (pow-pos k))
-
 abbrev Counted : ℕ → Float → Type 0
-Counted b x = (g : ℕ) × HasValue x false g (2 ^ 1074) × (0 < b → 0 < g)
+Counted b x = (g : ℕ) × HasValue x false g (2 ^ 1074) × (0 < b → 0 < g) × T (unsigned x)
+
+counted : (q k : ℕ) → Counted q (odd 53 false q k 1074)
+counted q k = (q * 2 ^ k, odd-sign 53 false q k 1074, λ h. mul-pos h (pow-pos k), odd-unsigned 53 q k 1074)
 
 pattern : (b : ℕ) → b ≤ Top → Counted b (real b)
 pattern b t = go (eqb (b / 2 ^ 52) 0) refl
@@ -40,19 +41,11 @@ pattern b t = go (eqb (b / 2 ^ 52) 0) refl
     go true e =
         let f = eqb-true (b / 2 ^ 52) 0 e in
         let c = counted (b % 2 ^ 52) 0 in
-        subst (Counted b) (sym (read-low b f)) (c .0, c .1, λ h. c .2 (omega arith))
+        subst (Counted b) (sym (read-low b f)) (c .0, c .1, λ h. c .2 (omega arith), c .3)
     go false e =
         let f = eqb-false (b / 2 ^ 52) 0 e in
         let c = counted (2 ^ 52 + b % 2 ^ 52) (b / 2 ^ 52 - 1) in
-        subst (Counted b) (sym (read-normal b (b / 2 ^ 52 - 1) (b % 2 ^ 52) (omega arith) refl (omega arith))) (c .0, c .1, λ h. c .2 (omega arith))
-
--- a float with a value that has no sign
-has-sign : (v : Float) (a c : ℕ) → HasValue v false a c → T (unsigned v) × T (not (isNan v)) × T (finite v)
-unfolding isNan
-has-sign nan a c h = absurd h
-has-sign (inf s) a c h = absurd h
-has-sign (fin true m e) a c h = absurd (true≢false (h .0))
-has-sign (fin false m e) a c h = (tt, tt, tt)
+        subst (Counted b) (sym (read-normal b (b / 2 ^ 52 - 1) (b % 2 ^ 52) (omega arith) refl (omega arith))) (c .0, c .1, λ h. c .2 (omega arith), c .3)
 
 pub record FromZero (b : ℕ) : Type 0 where
   pub finite : T (finite (real b))
@@ -64,14 +57,14 @@ pub record FromZero (b : ℕ) : Type 0 where
 pub from-zero : (b : ℕ) → b ≤ Top → FromZero b
 from-zero b t =
     let c = pattern b t in
-    let i : Counts binary64 (real b) (c .0) 0 = value-counts binary64 (real b) false (c .0) (c .0) 0 (c .1) (sym (zero-add (c .0))) in
-    let s = has-sign (real b) (c .0) (2 ^ 1074) (c .1) in
+    let i : Counts binary64 (real b) (c .0) 0 = value-count binary64 (real b) (c .0) (c .1) in
+    let f = unsigned-from (real b) (c .3) in
     record {
-      finite = s .2;
-      clear = s .0;
-      from = counts→le binary64 nought (real b) 0 0 (c .0) 0 (nought-counts binary64) i (omega arith);
-      above = λ h. counts→lt binary64 nought (real b) 0 0 (c .0) 0 (nought-counts binary64) i (let p = c .2 h in omega arith);
-      own = toBits-ofBits binary64 b (omega arith) (s .1);
+      finite = counts-finite binary64 (real b) (c .0) 0 i;
+      clear = c .3;
+      from = f;
+      above = λ h. count→lt binary64 nought (real b) 0 (c .0) (nought-counts binary64) i (c .2 h);
+      own = toBits-ofBits binary64 b (omega arith) (le-not-nan nought (real b) f .1);
     }
 
 -- ---- the first two ends
@@ -103,9 +96,7 @@ top-power (suc j) =
     let p = powerUp (exp2 52) j in
     let h = top-power j in
     elim (rise p (le-trans nought (exp2 52) p (lt→le nought (exp2 52) (orders .nought-top)) h)) [
-      | inl e ↦
-          subst (λ (x : Float). T (le (exp2 52) (mul binary64 x (exp2 52)))) (sym e)
-          (subst (λ (x : Float). T (le (exp2 52) x)) (sym (inf-mul (exp2 52) (orders .nought-top))) (below-inf (exp2 52) (orders .top-real)))
+      | inl e ↦ below-inf (exp2 52) (mul binary64 p (exp2 52)) (orders .top-real) (inf-mul p (exp2 52) e (orders .nought-top))
       | inr G ↦
           subst (λ (x : Float). T (le x (mul binary64 p (exp2 52)))) one-top
           (mul-mono binary64 one p (exp2 52) (exp2 52) (one-number binary64) (record { held = fits-power (exp2 52) (orders .top-fits) j; finite = G }) top-number top-number
@@ -135,7 +126,7 @@ module _ (v : Float) (k : ℕ) (above : T (lt nought v)) (small : T (le v (exp2 
   beyond m h t e =
       let z = from-zero m t in
       let n = above-power (real m) (ofBits-fits binary64 m) (z .finite) (z .above h) (k - 1) in
-      elim (lt-or-le v (P (real m) k) (le-not-nan nought v (lt→le nought v above) .1) (le-not-nan nought (P (real m) k) n .1)) [ inl l ↦ l | inr g ↦ absurd (subst T e g) ]
+      nle→lt v (P (real m) k) (le-not-nan nought v (lt→le nought v above) .1) (le-not-nan nought (P (real m) k) n .1) (subst T e)
 
   step : (l u : ℕ) → u ≤ Top → Kept (ends l u) → Kept (halved v k (ends l u))
   step l u t r = by-halves v k l u Kept
@@ -150,8 +141,7 @@ module _ (v : Float) (k : ℕ) (above : T (lt nought v)) (small : T (le v (exp2 
 
   -- ---- so for R: its power is at most v, and that of the next double is beyond v
   pub lower-is : R v k ≡ real (halvings v k 63 .lower)
-  unfolding R
-  lower-is = ap (λ (b : Bool). cond b origin (real (halvings v k 63 .lower))) (not-zero v above)
+  lower-is = root-by v k false (not-zero v above)
 
   pub root-under : T (le (P (R v k) k) v)
   root-under = subst (λ (x : Float). T (le (P x k) v)) (sym lower-is) (kept 63 .under)
@@ -178,19 +168,16 @@ module _ (v : Float) (k : ℕ) (above : T (lt nought v)) (small : T (le v (exp2 
       (le-trans (P (real (suc l)) k) (P y k) v (power-mono (real (suc l)) y (ofBits-fits binary64 (suc l)) Y (next .from) up (k - 1)) h)))
 
 -- ---- of any v and k: R lies within 0..2^52
-abbrev UpToTop : Float → Type 0
-UpToTop x = T (fits binary64 x) × T (le nought x) × T (le x (exp2 52))
-
-real-within : (b : ℕ) → b ≤ Top → UpToTop (real b)
+real-within : (b : ℕ) → b ≤ Top → Upto (exp2 52) (real b)
 unfolding toBits
 real-within b t =
     let f = from-zero b t in
-    (ofBits-fits binary64 b, f .from, bits→le binary64 (real b) (exp2 52) (ofBits-fits binary64 b) (orders .top-fits) (f .clear) tt (le-trans-ℕ (le-of-eq (f .own)) t))
+    record { held = ofBits-fits binary64 b; from = f .from; to = bits→le binary64 (real b) (exp2 52) (ofBits-fits binary64 b) (orders .top-fits) (f .clear) tt (le-trans-ℕ (le-of-eq (f .own)) t) }
 
-pub root-within : (v : Float) (k : ℕ) → UpToTop (R v k)
+pub root-within : (v : Float) (k : ℕ) → Upto (exp2 52) (R v k)
 unfolding R
 root-within v k = go (eq v origin)
   where
-    go : (b : Bool) → UpToTop (cond b origin (real (halvings v k 63 .lower)))
+    go : (b : Bool) → Upto (exp2 52) (cond b origin (real (halvings v k 63 .lower)))
     go true = real-within 0 (omega arith)
     go false = real-within (halvings v k 63 .lower) (let g = gap v k 63 in let o = g .order in let t = g .top in omega arith)

@@ -1,6 +1,5 @@
 -- Casts: a double beyond the range of 64 bits. Assumes nothing.
 use mathlib.Core.Path.{_≡_, refl, ap, subst}
-use mathlib.Core.Logic.{inl, inr}
 use mathlib.Core.Bool.{Bool, true, false, not}
 use Prim.Native.Nat.{ℕ, _-_, _*_, _/_, _^_, _≤_, _<_, min}
 use native.Mathlib.Nat.{le-div-iff-mul-le}
@@ -10,14 +9,10 @@ use lib.IntN.{ℤ, pos, negsuc, negℤ}
 use lib.Ieee.{Float, nan, inf, fin, up, down, le, lt, isNan, toSigned}
 use lib.Ieee.Fits.{down-pos}
 use Rattle.float_laws.proofs.Units.{→sle, →slt}
-use Rattle.float_laws.proofs.Order.{nlt→le, lt-or-le, le-not-nan}
-use Rattle.float_laws.proofs.Constants.{exp2}
+use Rattle.float_laws.proofs.Order.{nlt→le, nle→lt, le-not-nan}
+use Rattle.float_laws.proofs.Constants.{exp2, minus-exp2}
 use Rattle.list_laws.proofs.Bools.{true-T, false-T}
 use Rattle.real_laws.proofs.Nan.{no-minus}
-
--- 2^63 and -(2^63)
-abbrev pub bottom : Float
-bottom = fin true 1 (pos 63)
 
 whole : (a d : ℕ) → 0 < d → 1 * 2 ^ 63 * d ≤ a * 1 → 2 ^ 63 ≤ a / d
 whole a d D h = le-div-iff-mul-le D .1 (omega arith)
@@ -32,7 +27,7 @@ at-top (fin false m e) h =
     let a = whole (m * up e) (down e) (down-pos e) (→sle false (1 * 2 ^ 63 * down e) false (m * up e * 1) h) in
     ap pos (omega arith)
 
-at-bottom : (x : Float) → T (lt x bottom) → negsuc (2 ^ 63 - 1) ≡ toSigned 63 x
+at-bottom : (x : Float) → T (lt x (minus-exp2 63)) → negsuc (2 ^ 63 - 1) ≡ toSigned 63 x
 unfolding toSigned lt
 at-bottom nan h = absurd h
 at-bottom (inf true) h = refl
@@ -51,8 +46,8 @@ unfolding isNan
 real s m e = tt
 
 -- by the tests that the code makes
-pub above-range : (x : Float) → le bottom x ≡ true → lt x (exp2 63) ≡ false → pos (2 ^ 63 - 1) ≡ toSigned 63 x
-above-range x h k = at-top x (nlt→le x (exp2 63) (le-not-nan bottom x (true-T _ h) .1) (real false 1 (pos 63)) (false-T _ k))
+pub above-range : (x : Float) → le (minus-exp2 63) x ≡ true → lt x (exp2 63) ≡ false → pos (2 ^ 63 - 1) ≡ toSigned 63 x
+above-range x h k = at-top x (nlt→le x (exp2 63) (le-not-nan (minus-exp2 63) x (true-T _ h) .1) (real false 1 (pos 63)) (false-T _ k))
 
-pub below-range : (x : Float) → le bottom x ≡ false → T (not (isNan x)) → negsuc (2 ^ 63 - 1) ≡ toSigned 63 x
-below-range x h k = elim (lt-or-le x bottom k (real true 1 (pos 63))) [ inl l ↦ at-bottom x l | inr g ↦ absurd (subst T h g) ]
+pub below-range : (x : Float) → le (minus-exp2 63) x ≡ false → T (not (isNan x)) → negsuc (2 ^ 63 - 1) ≡ toSigned 63 x
+below-range x h k = at-bottom x (nle→lt x (minus-exp2 63) k (real true 1 (pos 63)) (subst T h))

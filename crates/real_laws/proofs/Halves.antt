@@ -2,7 +2,7 @@
 -- From 2^52 on a double is whole, and is its own rounding. Assumes nothing.
 use mathlib.Core.Path.{_≡_, refl, sym, ap, _∙_, subst}
 use Prim.Native.Nat.{ℕ, zero, suc, _+_, _-_, _*_, _/_, _^_, _≤_, _<_, min}
-use native.Mathlib.Nat.{le-trans, le-of-eq, le-of-lt, le-antisymm, le-of-suc-le-suc, lt-of-le-of-lt, lt-of-not-le, zero-lt-suc, suc-mul, one-mul, mul-one, mul-comm, mul-assoc, mul-left-comm, mul-right-comm, mul-pos, add-mul, mul-le-mul-right, mul-lt-mul-of-pos-right, le-of-mul-le-mul-right, pow-succ', div-lt-iff-lt-mul, le-div-iff-mul-le, div-mul-le-self}
+use native.Mathlib.Nat.{le-trans, le-of-eq, le-of-lt, le-antisymm, le-of-suc-le-suc, lt-of-le-of-lt, lt-of-not-le, zero-lt-suc, suc-mul, one-mul, mul-one, mul-comm, mul-assoc, mul-left-comm, mul-right-comm, mul-pos, add-mul, mul-le-mul-right, le-of-mul-le-mul-right, pow-succ', div-lt-iff-lt-mul, le-div-iff-mul-le, div-mul-le-self}
 use native.Mathlib.Numerals.{add-one}
 use native.Mathlib.Omega.{arith}
 use mathlib.Core.Bool.{Bool, true, false}
@@ -16,10 +16,10 @@ use lib.Ieee.Exact.{HasValue, round-exact}
 use lib.Ieee.Back.{round-whole, whole-unique}
 use lib.Ieee.Order.{le-of-values}
 use lib.Ieee.Positive.{positive-of-value, values-of-le}
-use Rattle.float_laws.proofs.Units.{→sle, →slt, slt→, placed, zero-exponent}
-use Rattle.float_laws.proofs.Order.{lt-le-trans, le-lt-trans}
-use Rattle.float_laws.proofs.Rounding.{round-neg}
-use Rattle.float_laws.proofs.Constants.{nought, exp2}
+use Rattle.float_laws.proofs.Units.{no-sum, →sle, →slt, placed, zero-exponent}
+use Rattle.float_laws.proofs.Order.{le-trans as le-trans-float, le-not-nan, lt→le, lt→nle, nle→lt, lt-le-trans, le-lt-trans}
+use Rattle.float_laws.proofs.Rounding.{le-neg, round-neg, under}
+use Rattle.float_laws.proofs.Constants.{nought, nought-not-nan, exp2}
 use Rattle.model.specs.Numbers.{roundOf}
 use Rattle.real_laws.proofs.Nan.{no-minus}
 
@@ -152,14 +152,11 @@ parted (fin false m e) X h k =
     capped n h = omega arith
 
 -- ---- from 2^52 on
-room : (A q : ℕ) → A * 2 ^ 1074 ≡ q * 1 → A < 2 ^ 1024 * 1 → q < 2 ^ (1074 + 1024)
-room A q e h = subst (λ (z : ℕ). z < 2 ^ (1074 + 1024)) (e ∙ mul-one q) (mul-lt-mul-of-pos-right {k = 2 ^ 1074} h (pow-pos 1074))
-
 whole-own : (m k : ℕ) → T (fits binary64 (fin false m (pos k))) → round binary64 false (m * 2 ^ k) 1 ≡ fin false m (pos k)
 whole-own m k X =
     let j = placed binary64 false m (pos k) X in
     whole-unique binary64 (round binary64 false (m * 2 ^ k) 1) (fin false m (pos k)) false (m * 2 ^ k) (round-fits binary64 false (m * 2 ^ k) 1) X
-    (round-exact binary64 false (m * 2 ^ k) 1 m (j .0) (lit< tt) (j .2) (room (m * 2 ^ k) (m * 2 ^ (j .0)) (j .1) (j .3)) (j .1))
+    (round-exact binary64 false (m * 2 ^ k) 1 m (j .0) (lit< tt) (j .2) (under binary64 m (pos k) (j .0) (j .1) (j .3)) (j .1))
     (refl, refl)
 
 -- a fraction would take more than 53 digits
@@ -207,15 +204,11 @@ round-by-neg x = ap neg (round-of-neg x) ∙ neg-neg (roundOf x)
 
 -- -x is above zero where x is below it
 pub above-zero : (x : Float) → T (lt x nought) → T (lt nought (neg x))
-unfolding lt neg
-above-zero nan h = absurd h
-above-zero (inf true) h = tt
-above-zero (inf false) h = absurd h
-above-zero (fin true m e) h = let l = →slt true (m * up e * 1) false (0 * 1 * down e) h in slt→ false (0 * 1 * down e) false (m * up e * 1) (omega arith)
-above-zero (fin false m e) h = absurd (none (m * up e * 1) (down e) (→slt false (m * up e * 1) false (0 * 1 * down e) h))
-  where
-    none : (a d : ℕ) → a < 0 * 1 * d → ⊥
-    none a d h = omega arith
+unfolding neg le
+above-zero x h =
+    let n = le-neg x nought (lt→le x nought h) in
+    nle→lt nought (neg x) nought-not-nan (le-not-nan (neg nought) (neg x) n .1)
+    (λ g. lt→nle x nought h (le-trans-float nought (neg nought) x tt (subst (λ (z : Float). T (le (neg nought) z)) (neg-neg x) (le-neg (neg x) nought g))))
 
 pub from-whole-neg : (x : Float) → T (fits binary64 (neg x)) → T (le (exp2 52) (neg x)) → x ≡ roundOf x
 from-whole-neg x X h = sym (neg-neg x) ∙ ap neg (from-whole (neg x) X h) ∙ round-by-neg x
@@ -229,10 +222,7 @@ zero-or-nan (fin s zero e) X h k =
     let z = zero-exponent e (eqb→eq (up e * down e) 1 X) in
     subst (λ (d : ℤ). fin s 0 d ≡ roundOf (fin s 0 d)) (sym z) refl
 zero-or-nan (fin true (suc m) e) X h k =
-    absurd (none (suc m * up e * 1) (0 * 1 * down e) (mul-pos (mul-pos (zero-lt-suc m) (up-pos e)) (zero-lt-suc 0)) (ltb-false 0 (suc m * up e * 1 + 0 * 1 * down e) k))
-  where
-    none : (a b : ℕ) → 0 < a → a + b ≤ 0 → ⊥
-    none a b p h = omega arith
+    absurd (no-sum (suc m * up e * 1) (0 * 1 * down e) (mul-pos (mul-pos (zero-lt-suc m) (up-pos e)) (zero-lt-suc 0)) (ltb-false 0 (suc m * up e * 1 + 0 * 1 * down e) k))
 zero-or-nan (fin false (suc m) e) X h k =
     absurd (none (suc m * up e * 1) (down e) (mul-pos (mul-pos (zero-lt-suc m) (up-pos e)) (zero-lt-suc 0)) (ltb-false (0 * 1 * down e) (suc m * up e * 1) h))
   where

@@ -22,17 +22,10 @@ module _ (v : Float) (k : ℕ) where
   unfolding halved
   neighbours l u h = ap (λ (b : Bool). cond b (ends l u) (halfBy v k (ends l u) ((l + u) / 2))) (le-leb u (suc l) h)
 
-  parted : (l u : ℕ) → suc l < u → halved v k (ends l u) ≡ halfBy v k (ends l u) ((l + u) / 2)
-  unfolding halved
-  parted l u h = ap (λ (b : Bool). cond b (ends l u) (halfBy v k (ends l u) ((l + u) / 2))) (lt-leb u (suc l) h)
-
-  pub upper-half : (l u : ℕ) → suc l < u → le (P (real ((l + u) / 2)) k) v ≡ true → halved v k (ends l u) ≡ ends ((l + u) / 2) u
-  unfolding halfBy
-  upper-half l u h t = parted l u h ∙ ap (λ (b : Bool). cond b (ends ((l + u) / 2) u) (ends l ((l + u) / 2))) t
-
-  pub lower-half : (l u : ℕ) → suc l < u → le (P (real ((l + u) / 2)) k) v ≡ false → halved v k (ends l u) ≡ ends l ((l + u) / 2)
-  unfolding halfBy
-  lower-half l u h t = parted l u h ∙ ap (λ (b : Bool). cond b (ends ((l + u) / 2) u) (ends l ((l + u) / 2))) t
+  -- others are parted by the test of their middle
+  half-is : (l u : ℕ) (b : Bool) → suc l < u → le (P (real ((l + u) / 2)) k) v ≡ b → halved v k (ends l u) ≡ cond b (ends ((l + u) / 2) u) (ends l ((l + u) / 2))
+  unfolding halved halfBy
+  half-is l u b h t = rw (lt-leb u (suc l) h, t)
 
   -- what holds of neighbours, and of either half of others, holds after a halving
   pub by-halves : (l u : ℕ) (C : Ends → Type 0) → (u ≤ suc l → C (ends l u)) → (suc l < u → le (P (real ((l + u) / 2)) k) v ≡ true → C (ends ((l + u) / 2) u))
@@ -40,8 +33,8 @@ module _ (v : Float) (k : ℕ) where
   by-halves l u C a b c = by-bool (leb u (suc l))
       (λ e. let h = leb-true u (suc l) e in subst C (sym (neighbours l u h)) (a h))
       (λ e. let h = leb-false u (suc l) e in by-bool (le (P (real ((l + u) / 2)) k) v)
-      (λ t. subst C (sym (upper-half l u h t)) (b h t))
-      (λ t. subst C (sym (lower-half l u h t)) (c h t)))
+      (λ t. subst C (sym (half-is l u true h t)) (b h t))
+      (λ t. subst C (sym (half-is l u false h t)) (c h t)))
 
   -- ---- the numbers between the ends become half as many with each halving
   pub record Gap (n : ℕ) (e : Ends) : Type 0 where
@@ -101,10 +94,10 @@ module _ (v : Float) (k : ℕ) where
   further l u l' u' r h e = record { turns = suc (r .turns); few = some l u r h; are = sym e ∙ ap (halved v k) (r .are) }
 
   pub on-upper : (l u : ℕ) → Reached l u → l + 1 < u → le (P (real ((l + u) / 2)) k) v ≡ true → Reached ((l + u) / 2) u
-  on-upper l u r h t = further l u ((l + u) / 2) u r h (upper-half l u (omega arith) t)
+  on-upper l u r h t = further l u ((l + u) / 2) u r h (half-is l u true (omega arith) t)
 
   pub on-lower : (l u : ℕ) → Reached l u → l + 1 < u → le (P (real ((l + u) / 2)) k) v ≡ false → Reached l ((l + u) / 2)
-  on-lower l u r h t = further l u l ((l + u) / 2) r h (lower-half l u (omega arith) t)
+  on-lower l u r h t = further l u l ((l + u) / 2) r h (half-is l u false (omega arith) t)
 
   -- ---- neighbours stay
   stay : (l u n d : ℕ) → u ≤ suc l → ends l u ≡ halvings v k n → ends l u ≡ halvings v k (n + d)
@@ -119,12 +112,9 @@ module _ (v : Float) (k : ℕ) where
       stay l u (r .turns) (63 - r .turns) (omega arith) (r .are) ∙ ap (halvings v k) (omega arith)
 
   -- ---- R
-  pub root-zero : eq v nought ≡ true → R v k ≡ nought
+  pub root-by : (b : Bool) → eq v nought ≡ b → R v k ≡ cond b nought (real (halvings v k 63 .lower))
   unfolding R
-  root-zero e = ap (λ (b : Bool). cond b nought (real (halvings v k 63 .lower))) e
+  root-by b e = ap (λ (c : Bool). cond c nought (real (halvings v k 63 .lower))) e
 
   pub root-is : (l u : ℕ) → eq v nought ≡ false → Reached l u → u ≤ l + 1 → real l ≡ R v k
-  unfolding R
-  root-is l u e r h =
-      ap (λ (d : Ends). real (d .lower)) (finished l u r h)
-      ∙ sym (ap (λ (b : Bool). cond b nought (real (halvings v k 63 .lower))) e)
+  root-is l u e r h = ap (λ (d : Ends). real (d .lower)) (finished l u r h) ∙ sym (root-by false e)

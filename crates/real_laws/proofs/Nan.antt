@@ -2,9 +2,8 @@
 use mathlib.Core.Path.{_≡_, refl, sym, subst}
 use mathlib.Core.Logic.{_⊎_, inl, inr}
 use mathlib.Core.Bool.{true, false, not, true≢false}
-use Prim.Native.Nat.{ℕ, _+_, _*_, _^_, _≤_, _<_}
+use Prim.Native.Nat.{ℕ, _*_, _^_}
 use native.Mathlib.Nat.{mul-pos}
-use native.Mathlib.Omega.{arith}
 use lib.Dec.{T, lit<}
 use lib.IntN.{ℤ}
 use lib.Pow.{pow-pos}
@@ -12,7 +11,7 @@ use lib.Ieee.{Float, nan, inf, fin, up, down, le, lt, ne, isNan}
 use lib.Ieee.Compare.{differs-from-itself}
 use lib.Ieee.Fits.{down-pos}
 use lib.Ieee.Scale.{finite}
-use Rattle.float_laws.proofs.Units.{→sle}
+use Rattle.float_laws.proofs.Units.{no-sum, →sle}
 use Rattle.float_laws.proofs.Constants.{nought, exp2}
 
 -- ---- a NaN is what differs from itself
@@ -40,12 +39,15 @@ rise (inf false) h = inl refl
 rise (fin s m e) h = inr tt
 
 -- nothing but a NaN is above the infinity, and what is finite is below it
-pub below-inf : (x : Float) → T (not (isNan x)) → T (le x (inf false))
+under-inf : (x : Float) → T (not (isNan x)) → T (le x (inf false))
 unfolding le isNan
-below-inf nan h = absurd h
-below-inf (inf true) h = tt
-below-inf (inf false) h = tt
-below-inf (fin s m e) h = tt
+under-inf nan h = absurd h
+under-inf (inf true) h = tt
+under-inf (inf false) h = tt
+under-inf (fin s m e) h = tt
+
+pub below-inf : (x y : Float) → T (not (isNan x)) → y ≡ inf false → T (le x y)
+below-inf x y h e = subst (λ (z : Float). T (le x z)) (sym e) (under-inf x h)
 
 pub finite-below : (x : Float) → T (finite x) → T (lt x (inf false))
 unfolding lt
@@ -56,7 +58,4 @@ finite-below (fin s m e) F = tt
 -- ---- nothing with the sign set is at least a power of two
 pub no-minus : (k m : ℕ) (e : ℤ) → T (le (exp2 k) (fin true m e)) → ⊥
 unfolding le
-no-minus k m e h = none (1 * 2 ^ k * down e) (m * up e * 1) (mul-pos (mul-pos (lit< tt) (pow-pos k)) (down-pos e)) (→sle false (1 * 2 ^ k * down e) true (m * up e * 1) h)
-  where
-    none : (a b : ℕ) → 0 < a → a + b ≤ 0 → ⊥
-    none a b p h = omega arith
+no-minus k m e h = no-sum (1 * 2 ^ k * down e) (m * up e * 1) (mul-pos (mul-pos (lit< tt) (pow-pos k)) (down-pos e)) (→sle false (1 * 2 ^ k * down e) true (m * up e * 1) h)

@@ -1,6 +1,6 @@
 -- Powers of a double from zero up, by repeated rounded products: they are from zero up, and grow with the double, also where they overflow.
 -- Assumes nothing.
-use mathlib.Core.Path.{_≡_, refl, sym, ap, _∙_, subst}
+use mathlib.Core.Path.{_≡_, refl, ap, _∙_, subst}
 use mathlib.Core.Logic.{inl, inr}
 use mathlib.Core.Bool.{Bool, true, false, cond}
 use Prim.Native.Nat.{ℕ, zero, suc, _*_, _^_, _<_, zero-le}
@@ -12,31 +12,29 @@ use lib.IntN.{ℤ}
 use lib.Ieee.{Float, nan, inf, fin, binary64, up, down, le, lt, mul, fits}
 use lib.Ieee.Fits.{mul-fits}
 use lib.Ieee.Scale.{finite}
-use Rattle.float_laws.proofs.Units.{Counts, counts→le, →slt}
+use Rattle.float_laws.proofs.Units.{Counts, counts→le, le→count, →slt}
 use Rattle.float_laws.proofs.Order.{le-trans, le-not-nan, lt→le, lt-or-le}
 use Rattle.float_laws.proofs.Rounding.{between-finite, rounded-exact}
 use Rattle.float_laws.proofs.Constants.{nought, nought-counts, nought-fits, nought-not-nan}
 use Rattle.float_laws.proofs.Arithmetic.{count, mul-mono, mul-from-zero, mul-rounded}
 use Rattle.model.specs.Numbers.{powerUp}
 use Rattle.real_laws.proofs.Nan.{rise, below-inf}
-use Rattle.real_laws.proofs.Roots.Units.{le-count}
-
-nought-inf : T (le nought (inf false))
-unfolding le
-nought-inf = tt
 
 -- the infinity times what is above zero
-pub inf-mul : (z : Float) → T (lt nought z) → mul binary64 (inf false) z ≡ inf false
+inf-times : (z : Float) → T (lt nought z) → mul binary64 (inf false) z ≡ inf false
 unfolding lt mul
-inf-mul nan h = absurd h
-inf-mul (inf true) h = absurd h
-inf-mul (inf false) h = refl
-inf-mul (fin true n d) h = absurd h
-inf-mul (fin false n d) h =
+inf-times nan h = absurd h
+inf-times (inf true) h = absurd h
+inf-times (inf false) h = refl
+inf-times (fin true n d) h = absurd h
+inf-times (fin false n d) h =
     ap (λ (b : Bool). cond b nan (inf false)) (ne-eqb n 0 (λ e. none n d e (→slt false (0 * 1 * down d) false (n * up d * 1) h)))
   where
     none : (n : ℕ) (d : ℤ) → n ≡ 0 → 0 * 1 * down d < n * up d * 1 → ⊥
     none n d e h = let z = zero-mul (up d) in let y = ap (λ (x : ℕ). x * up d) e in omega arith
+
+pub inf-mul : (p z : Float) → p ≡ inf false → T (lt nought z) → mul binary64 p z ≡ inf false
+inf-mul p z e h = ap (λ (x : Float). mul binary64 x z) e ∙ inf-times z h
 
 pub fits-power : (y : Float) → T (fits binary64 y) → (j : ℕ) → T (fits binary64 (powerUp y j))
 unfolding powerUp
@@ -49,7 +47,7 @@ module _ (z : Float) (Z : T (fits binary64 z)) (F : T (finite z)) (h : T (lt nou
   unfolding powerUp
   above-power zero = lt→le nought z h
   above-power (suc j) = elim (rise (powerUp z j) (above-power j)) [
-    | inl e ↦ subst (λ (p : Float). T (le nought (mul binary64 p z))) (sym e) (subst (λ (x : Float). T (le nought x)) (sym (inf-mul z h)) nought-inf)
+    | inl e ↦ below-inf nought (powerUp z (suc j)) nought-not-nan (inf-mul (powerUp z j) z e h)
     | inr G ↦ mul-from-zero binary64 (powerUp z j) z (record { held = fits-power z Z j; finite = G }) (record { held = Z; finite = F }) (above-power j) (lt→le nought z h)
   ]
 
@@ -57,7 +55,7 @@ module _ (z : Float) (Z : T (fits binary64 z)) (F : T (finite z)) (h : T (lt nou
 level : (y : Float) → T (fits binary64 y) → T (le nought y) → T (le y nought) → Counts binary64 y 0 0
 level y Y h k =
     let c = count binary64 y (record { held = Y; finite = between-finite nought y nought tt tt h k }) h in
-    subst (λ (g : ℕ). Counts binary64 y g 0) (le-antisymm (le-count y nought (c .0) 0 (c .1) (nought-counts binary64) k) zero-le) (c .1)
+    subst (λ (g : ℕ). Counts binary64 y g 0) (le-antisymm (le→count binary64 y nought (c .0) 0 (c .1) (nought-counts binary64) k) zero-le) (c .1)
 
 zero-power : (y : Float) → Counts binary64 y 0 0 → (j : ℕ) → Counts binary64 (powerUp y j) 0 0
 unfolding powerUp
@@ -71,14 +69,14 @@ unfolding powerUp
 same-power y e zero = refl
 same-power y e (suc j) = ap (λ (p : Float). mul binary64 p y) (same-power y e j) ∙ e
 
-inf-power : (j : ℕ) → powerUp (inf false) j ≡ inf false
+inf-power : (y : Float) → y ≡ inf false → (j : ℕ) → powerUp y j ≡ inf false
 unfolding mul
-inf-power j = same-power (inf false) refl j
+inf-power y e j = ap (λ (x : Float). powerUp x j) e ∙ same-power (inf false) refl j
 
 -- ---- a power of what is from zero up is from zero up
 pub power-from : (y : Float) → T (fits binary64 y) → T (le nought y) → (j : ℕ) → T (le nought (powerUp y j))
 power-from y Y h j = elim (rise y h) [
-  | inl e ↦ subst (λ (x : Float). T (le nought (powerUp x j))) (sym e) (subst (λ (x : Float). T (le nought x)) (sym (inf-power j)) nought-inf)
+  | inl e ↦ below-inf nought (powerUp y j) nought-not-nan (inf-power y e j)
   | inr F ↦ elim (lt-or-le nought y nought-not-nan (le-not-nan nought y h .1)) [
     | inl l ↦ above-power y Y F l j
     | inr k ↦ counts→le binary64 nought (powerUp y j) 0 0 0 0 (nought-counts binary64) (zero-power y (level y Y h k) j) (omega arith)
@@ -92,9 +90,7 @@ module _ (y z : Float) (Y : T (fits binary64 y)) (Z : T (fits binary64 z)) (h : 
   unfolding powerUp
   rises F l zero = k
   rises F l (suc j) = elim (rise (powerUp z j) (above-power z Z F l j)) [
-    | inl e ↦
-        subst (λ (p : Float). T (le (powerUp y (suc j)) (mul binary64 p z))) (sym e)
-        (subst (λ (x : Float). T (le (powerUp y (suc j)) x)) (sym (inf-mul z l)) (below-inf (powerUp y (suc j)) (le-not-nan nought (powerUp y (suc j)) (power-from y Y h (suc j)) .1)))
+    | inl e ↦ below-inf (powerUp y (suc j)) (powerUp z (suc j)) (le-not-nan nought (powerUp y (suc j)) (power-from y Y h (suc j)) .1) (inf-mul (powerUp z j) z e l)
     | inr G ↦
         let n = power-from y Y h j in
         let i = rises F l j in
@@ -105,9 +101,7 @@ module _ (y z : Float) (Y : T (fits binary64 y)) (Z : T (fits binary64 z)) (h : 
   -- "P monotone in y"
   pub power-mono : (j : ℕ) → T (le (powerUp y j) (powerUp z j))
   power-mono j = elim (rise z (le-trans nought y z h k)) [
-    | inl e ↦
-        subst (λ (x : Float). T (le (powerUp y j) (powerUp x j))) (sym e)
-        (subst (λ (x : Float). T (le (powerUp y j) x)) (sym (inf-power j)) (below-inf (powerUp y j) (le-not-nan nought (powerUp y j) (power-from y Y h j) .1)))
+    | inl e ↦ below-inf (powerUp y j) (powerUp z j) (le-not-nan nought (powerUp y j) (power-from y Y h j) .1) (inf-power z e j)
     | inr F ↦ elim (lt-or-le nought z nought-not-nan (le-not-nan y z k .1)) [
       | inl l ↦ rises F l j
       | inr m ↦

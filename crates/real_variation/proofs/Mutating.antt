@@ -5,7 +5,8 @@ use Prim.Native.Nat.{ℕ}
 use lib.Ieee.{Float, le, lt}
 use Rattle.model.specs.Real.{_⊕_, _⊖_, _⊗_, _⊘_, nought, half, unit, two, clamp}
 use Rattle.model.specs.Numbers.{P, R}
-use Rattle.model.specs.Draw.{Drawn, drawn}
+use Rattle.model.specs.Draw.{drawn}
+use Rattle.list_laws.proofs.Draws.{drawn-by}
 use Rattle.model.specs.Setting.{drawUnit, mutationShift, polynomialMutation}
 
 module _ (x low high range : Float) (k : ℕ) (u y r : Float) where
@@ -20,11 +21,11 @@ module _ (x low high range : Float) (k : ℕ) (u y r : Float) where
 module _ (x low high : Float) (k s : ℕ) (u : Float) (t : ℕ) (d : drawn u t ≡ drawUnit s) where
   pub stays : le (high ⊖ low) nought ≡ true → drawn x t ≡ polynomialMutation x low high k s
   unfolding polynomialMutation
-  stays h = rw h (ap (λ (r : Drawn Float). drawn x (r .state)) d)
+  stays h = rw h (drawn-by (λ _. x) d)
 
   pub moves : (m v : Float) → le (high ⊖ low) nought ≡ false → m ≡ mutationShift x low high (high ⊖ low) k u → v ≡ clamp low high (x ⊕ (m ⊗ (high ⊖ low)))
       → drawn v t ≡ polynomialMutation x low high k s
   unfolding polynomialMutation
   moves m v h e f =
       rw h (ap (λ (z : Float). drawn z t) (f ∙ ap (λ (z : Float). clamp low high (x ⊕ (z ⊗ (high ⊖ low)))) e)
-      ∙ ap (λ (r : Drawn Float). drawn (clamp low high (x ⊕ (mutationShift x low high (high ⊖ low) k (r .value) ⊗ (high ⊖ low)))) (r .state)) d)
+      ∙ drawn-by (λ (v : Float). clamp low high (x ⊕ (mutationShift x low high (high ⊖ low) k v ⊗ (high ⊖ low)))) d)

@@ -9,13 +9,12 @@ use lib.Dec.{T}
 use lib.Ieee.{Float, binary64, le, fits}
 use mir.Syntax.{w64}
 use mir.Val.{SFits}
-use Rattle.float_laws.proofs.Order.{le-trans}
-use Rattle.float_laws.proofs.Constants.{exp2, minus-exp2, bounded}
-use Rattle.float_laws.proofs.Magnitude.{exp2-mono}
+use Rattle.float_laws.proofs.Constants.{exp2, minus-exp2}
+use Rattle.float_laws.proofs.Magnitude.{within-number, within-wider, ends-within}
 use Rattle.float_laws.proofs.InRange as in-range
 use Rattle.model.specs.Real.{within}
 use Rattle.model.specs.Draw.{drawn, step, wordOf, drawWord, unitOf, drawF64, drawUsize, drawI64, f64Range}
-use Rattle.list_laws.proofs.Draws.{drawn-value}
+use Rattle.list_laws.proofs.Draws.{drawn-value, drawn-state}
 use Rattle.list_laws.proofs.Bools.{and-i}
 use Rattle.rng_util.proofs.Xor.{xorLow-below}
 use Rattle.rng_util.proofs.Unit.{upper-below, unit-counts}
@@ -29,6 +28,11 @@ step-below s = omega arith
 pub word-below : (s : ℕ) → wordOf s < 2 ^ 64
 unfolding wordOf
 word-below s = xorLow-below 64 s (s / 2 ^ 32)
+
+-- what a call of `next` hands out, and the state after it
+pub drawn-word : (s w t : ℕ) → drawn w t ≡ drawWord s → (w < 2 ^ 64) × (t < 2 ^ 64)
+unfolding drawWord
+drawn-word s w t e = (omega (arith, drawn-value e, word-below (step s)), omega (arith, drawn-state e, step-below s))
 
 pub drawUsize-below : (n s : ℕ) → 0 < n → drawUsize n s .value < n
 unfolding drawUsize
@@ -50,9 +54,8 @@ unfolding f64Range drawF64 drawWord unitOf
 f64Range-within low high s fl fh h kl kh =
     let w = wordOf (step s) in
     let b = word-below (step s) in
-    let bottom = minus-exp2 53 in
-    let top = exp2 53 in
-    let d =
-    in-range.drawn low high (unitOf w) (w / 2 ^ 12) (bounded binary64 low 53 53 fl kl (le-trans low high top h kh)) (bounded binary64 high 53 53 fh (le-trans bottom low high kl h) kh) h
-    (le-trans (minus-exp2 1000) bottom low (exp2-mono 53 1000 (omega arith) .0) kl) (le-trans high top (exp2 1000) kh (exp2-mono 53 1000 (omega arith) .1)) (upper-below w b) (unit-counts w b) in
+    let e = ends-within 53 low high fl fh h kl kh in
+    let l = within-wider 53 1000 low (omega arith) (e .0) in
+    let g = within-wider 53 1000 high (omega arith) (e .1) in
+    let d = in-range.drawn low high (unitOf w) (w / 2 ^ 12) (within-number 1000 low l) (within-number 1000 high g) h (l .low) (g .high) (upper-below w b) (unit-counts w b) in
     and-i (le low _) (le _ high) (d .0) (d .1)

@@ -8,7 +8,7 @@ use lib.IntN.{ℤ, pos, negℤ, natAbs, _+ℤ_, _-ℤ_}
 use lib.Signed.{nonNeg, _≤ℤ_}
 use mir.Syntax.{w64}
 use mir.Val.{SFits, Fits}
-use Rattle.rng_util.proofs.Shifted.{up, in-up, le-up, up-le, up-add, up-neg, up-nonNeg, up-abs}
+use Rattle.rng_util.proofs.Shifted.{up, in-up, le-up, up-le, up-add, up-neg, up-from}
 
 module _ (a b : ℤ) (fa : SFits w64 a) (fb : SFits w64 b) (h : (a ≤ℤ b) × (negℤ (pos (2 ^ 53)) ≤ℤ a) × (b ≤ℤ pos (2 ^ 53))) where
   ord : up a ≤ up b
@@ -30,10 +30,10 @@ module _ (a b : ℤ) (fa : SFits w64 a) (fb : SFits w64 b) (h : (a ≤ℤ b) × 
   diff-fits = in-up (b -ℤ a) (omega (arith, diff-up, ord, low, high)) (omega (arith, diff-up, ord, low, high))
 
   pub diff-nonNeg : T (nonNeg (b -ℤ a))
-  diff-nonNeg = up-nonNeg (b -ℤ a) (omega (arith, diff-up, ord))
+  diff-nonNeg = up-from (b -ℤ a) (omega (arith, diff-up, ord)) .0
 
   pub diff-abs : natAbs (b -ℤ a) + up a ≡ up b
-  diff-abs = omega (arith, diff-up, up-abs (b -ℤ a) (omega (arith, diff-up, ord)))
+  diff-abs = omega (arith, diff-up, up-from (b -ℤ a) (omega (arith, diff-up, ord)) .1)
 
   pub diff-abs-below : natAbs (b -ℤ a) ≤ 2 ^ 54
   diff-abs-below = omega (arith, diff-abs, low, high)
@@ -48,11 +48,11 @@ module _ (a b : ℤ) (fa : SFits w64 a) (fb : SFits w64 b) (h : (a ≤ℤ b) × 
   span-pos = omega (arith, span-up, ord)
 
   pub span-nonNeg : T (nonNeg (b -ℤ a +ℤ pos 1))
-  span-nonNeg = up-nonNeg (b -ℤ a +ℤ pos 1) (omega (arith, span-pos))
+  span-nonNeg = up-from (b -ℤ a +ℤ pos 1) (omega (arith, span-pos)) .0
 
   -- as many as there are, and one at least
   pub span-abs : natAbs (b -ℤ a +ℤ pos 1) + up a ≡ up b + 1
-  span-abs = omega (arith, up-abs (b -ℤ a +ℤ pos 1) (omega (arith, span-pos)), span-up)
+  span-abs = omega (arith, up-from (b -ℤ a +ℤ pos 1) (omega (arith, span-pos)) .1, span-up)
 
   pub span-some : 0 < natAbs (b -ℤ a +ℤ pos 1)
   span-some = omega (arith, span-abs, ord)

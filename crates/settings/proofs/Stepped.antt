@@ -12,7 +12,7 @@ use Rattle.model.specs.declared.OptionI64.the-variants as optI64
 use Rattle.model.specs.Draw.{drawn, drawWord, drawI64}
 use Rattle.model.specs.Setting.{sampleInt}
 use Rattle.list_laws.proofs.Draws.{drawn-by}
-use Rattle.rng_util.proofs.Shifted.{up, up-in, le-up, up-nonNeg, up-abs}
+use Rattle.rng_util.proofs.Shifted.{up, up-in, le-up, up-from}
 use Rattle.rng_util.proofs.Span as range
 
 -- what the definition draws, where high - low is `span` and the step `by`
@@ -56,13 +56,13 @@ module _ (low high step : ℤ) (q : Stepping low high step) where
   span-fits = record { fits = omega (arith, span-below) }
 
   pub step-nonNeg : T (nonNeg step)
-  step-nonNeg = up-nonNeg step (omega (arith, le-up (pos 1) step (q .above)))
+  step-nonNeg = up-from step (omega (arith, le-up (pos 1) step (q .above))) .0
 
   abbrev by : ℕ
   by = natAbs step
 
   by-up : by + 2 ^ 64 ≡ up step
-  by-up = up-abs step (omega (arith, le-up (pos 1) step (q .above)))
+  by-up = up-from step (omega (arith, le-up (pos 1) step (q .above))) .1
 
   pub by-some : 0 < by
   by-some = omega (arith, by-up, le-up (pos 1) step (q .above))

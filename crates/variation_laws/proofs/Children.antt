@@ -12,7 +12,8 @@ use lib.Ieee.Fits.{cond-fits, add-fits, div-fits}
 use Rattle.list_laws.proofs.Bools.{by-bool, T-true, true-T, false-T, and-left, and-right}
 use Rattle.float_laws.proofs.Order as order
 use Rattle.float_laws.proofs.Constants.{nought, exp2, minus-exp2}
-use Rattle.float_laws.proofs.Magnitude.{Within, within-not-nan, within-wider, add-within, sub-within, mul-within, div-within}
+use Rattle.float_laws.proofs.Magnitude.{Within, ends-within, within-not-nan, within-wider, add-within, sub-within, mul-within, div-within}
+use Rattle.float_laws.proofs.FromZero.{upto-within}
 use Rattle.real_laws.proofs.Clamped.{clamp-within}
 use Rattle.real_laws.proofs.Between.{root-within}
 use Rattle.rng_util.proofs.Draws.{drawUsize-below}
@@ -38,8 +39,7 @@ unfolding ofBits le fits
 one-within = record { held = tt; low = tt; high = tt }
 
 root-small : (v : Float) (k : ℕ) → Within 52 (R v k)
-unfolding le
-root-small v k = let r = root-within v k in record { held = r .0; low = order.le-trans (minus-exp2 52) nought (R v k) tt (r .1); high = r .2 }
+root-small v k = upto-within 52 (R v k) (root-within v k)
 
 -- x lies within low..high, and all three are at most 2^53 in magnitude
 pub record Inside (low high x : Float) : Type 0 where
@@ -51,13 +51,9 @@ pub record Inside (low high x : Float) : Type 0 where
 
 pub inside : (low high x : Float) → T (fits binary64 low) → T (fits binary64 high) → T (fits binary64 x) → T (le (minus-exp2 53) low) → T (le high (exp2 53)) → T (le low x)
     → T (le x high) → Inside low high x
-inside low high x L H X bottom top a b = record {
-  low-within = record { held = L; low = bottom; high = order.le-trans low x (exp2 53) a (order.le-trans x high (exp2 53) b top) };
-  high-within = record { held = H; low = order.le-trans (minus-exp2 53) x high (order.le-trans (minus-exp2 53) low x bottom a) b; high = top };
-  within = record { held = X; low = order.le-trans (minus-exp2 53) low x bottom a; high = order.le-trans x high (exp2 53) b top };
-  above = a;
-  below = b;
-}
+inside low high x L H X bottom top a b =
+    let w = ends-within 53 low x L X a bottom (order.le-trans x high (exp2 53) b top) in
+    record { low-within = w .0; high-within = ends-within 53 x high X H b (w .1 .low) top .1; within = w .1; above = a; below = b }
 
 -- so a setting of a Float dimension
 pub float-inside : (d : FloatDistribution) (x : Float) → Held (dist.Float d) → FloatBounds d → T (fits binary64 x) → within (d .low) (d .high) x ≡ true → Inside (d .low) (d .high) x

@@ -1,12 +1,12 @@
 -- The invariant: the ends are those that some halvings lead to. The measure is what lies between them. Assumes nothing.
 use mathlib.Core.Path.{_≡_, sym, ap, _∙_}
-use mathlib.Core.Bool.{Bool}
+use mathlib.Core.Bool.{Bool, true}
 use Prim.Native.Nat.{ℕ, _+_, _-_, _/_, _≤_, _<_}
 use native.Mathlib.Omega.{arith}
 use lib.Ieee.{Float, le}
 use Rattle.model.specs.Real.{real}
 use Rattle.model.specs.Numbers.{P}
-use Rattle.real_laws.proofs.Halving.{Top, Reached, shape, start, on-upper, on-lower, root-zero, root-is}
+use Rattle.real_laws.proofs.Halving.{Top, Reached, shape, start, on-upper, on-lower, root-by, root-is}
 use Rattle.powers.proofs.root.Statement.{statement}
 use Rattle.powers.proofs.root.Tie as tie
 
@@ -29,7 +29,7 @@ turn : (c : tie.In-loop Inv-loop μ-loop) → c .before .loop .lower + 1 < c .be
 turn c = omega arith
 
 returns : tie.Need-returns Inv-loop μ-loop
-returns c = sym (root-zero (c .before .args .v) (c .before .args .k) (c .if1 .taken))
+returns c = sym (root-by (c .before .args .v) (c .before .args .k) true (c .if1 .taken))
 
 loop-holds : tie.Need-loop-holds Inv-loop μ-loop
 loop-holds c = start (c .before .args .v) (c .before .args .k)

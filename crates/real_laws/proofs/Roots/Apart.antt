@@ -8,18 +8,18 @@ use native.Mathlib.Omega.{arith}
 use mathlib.Core.Bool.{false}
 use lib.IntN.{negsuc}
 use lib.Dec.{T}
-use lib.Pow.{pow-add, pow-pos, pow-mono}
+use lib.Pow.{pow-pos}
 use lib.Ieee.{Float, fin, binary64, size, fits, le, lt, mul}
 use lib.Ieee.Digits.{size-lt}
-use Rattle.float_laws.proofs.Units.{Counts, counts-finite}
-use Rattle.float_laws.proofs.Order.{lt→nle, lt→le, le-not-nan, le-lt-trans}
-use Rattle.float_laws.proofs.Rounding.{rounded-le}
-use Rattle.float_laws.proofs.Arithmetic.{count, mul-count}
+use Rattle.float_laws.proofs.Units.{Counts, counts-finite, pow-between}
+use Rattle.float_laws.proofs.Order.{lt→nle, lt→le, le-not-nan, le-lt-trans, count→lt}
+use Rattle.float_laws.proofs.Arithmetic.{count, mul-le}
 use Rattle.float_laws.proofs.Constants.{nought}
 use Rattle.model.specs.Numbers.{nearRoot, dropped, sqrtOf}
 use Rattle.real_laws.proofs.Nan.{rise, below-inf, finite-below}
 use Rattle.real_laws.proofs.Roots.Whole.{nearRoot-near, square-mono}
-use Rattle.real_laws.proofs.Roots.Units.{count-lt, rootUnits, rootUnits-zero, root-counts}
+use Rattle.real_laws.proofs.Roots.Scaled.{square-pow}
+use Rattle.real_laws.proofs.Roots.Units.{rootUnits, rootUnits-zero, root-counts}
 use Rattle.real_laws.proofs.Roots.Monotone.{kept-ge}
 
 -- ---- the square of a root in units, beside the number: within one in 2 ^ 40, where digits are dropped
@@ -48,10 +48,7 @@ module _ (n : ℕ) (h : 0 < dropped n) where
   q = nearRoot v
 
   square : rootUnits n * rootUnits n ≡ q * q * U
-  square = mul-mul-mul-comm q (2 ^ k) q (2 ^ k) ∙ ap (λ (x : ℕ). q * q * x) (sym (pow-add 2 k k)) ∙ ap (λ (x : ℕ). q * q * 2 ^ x) (twice k)
-    where
-      twice : (k : ℕ) → k + k ≡ 2 * k
-      twice k = omega arith
+  square = mul-mul-mul-comm q (2 ^ k) q (2 ^ k) ∙ ap (λ (x : ℕ). q * q * x) (sym (square-pow k))
 
   large : 2 ^ 52 * q ≤ q * q
   large = mul-le-mul-right q (kept-ge n h)
@@ -80,11 +77,10 @@ module _ (n : ℕ) (h : 0 < dropped n) where
 
 -- ---- in units: a number that is not 0, times 2 ^ 1074
 drops : (g : ℕ) → 0 < g → 0 < dropped (g * 2 ^ 1074)
-drops g p = lt-of-not-le (λ (l : dropped (g * 2 ^ 1074) ≤ 0).
-    not-le-of-lt (lt-of-lt-of-le (size-lt (g * 2 ^ 1074)) (pow-mono (few (size (g * 2 ^ 1074)) l))) (mul-le-mul-right (2 ^ 1074) p))
+drops g p = many (size (g * 2 ^ 1074)) (pow-between 1074 (size (g * 2 ^ 1074)) (g * 2 ^ 1074) (mul-le-mul-right (2 ^ 1074) p) (size-lt (g * 2 ^ 1074)))
   where
-    few : (z : ℕ) → (z - 105) / 2 ≤ 0 → z ≤ 1074
-    few z h = omega arith
+    many : (z : ℕ) → 1074 < z → 0 < (z - 105) / 2
+    many z h = omega arith
 
 clear : (a b x y : ℕ) → 1099511627775 * x ≤ 1099511627776 * a → 1099511627776 * b ≤ 1099511627777 * y → y ≤ x → 1073741824 * a < 1073741823 * b → ⊥
 clear a b x y h k l m = omega arith
@@ -103,21 +99,18 @@ nearlyOne-counts : Counts binary64 nearlyOne (1073741823 * 2 ^ 1044) 0
 nearlyOne-counts = (1073741823 * 2 ^ 1044, refl, refl)
 
 -- g is at least h * (1 - 2 ^ -30): over the units L, which are 2 ^ 30 times D
-room : (g h D L : ℕ) → L ≡ 1073741824 * D → 1073741823 * h ≤ 1073741824 * g → h * (1073741823 * D) * L + 0 * (L * L) ≤ g * (L * L) + 0 * L
+room : (g h D L : ℕ) → L ≡ 1073741824 * D → 1073741823 * h ≤ 1073741824 * g → h * (1073741823 * D) ≤ g * L
 room g h D L e l =
-    let a : 1073741823 * h * (D * L) ≤ 1073741824 * g * (D * L) = mul-le-mul-right (D * L) l in
-    let b : h * (1073741823 * D) * L ≡ 1073741823 * h * (D * L) = simp (mul-assoc, mul-left-comm) refl in
-    let c : g * (L * L) ≡ g * (1073741824 * D * L) = ap (λ (x : ℕ). g * (x * L)) e in
-    let d : g * (1073741824 * D * L) ≡ 1073741824 * g * (D * L) = simp (mul-assoc, mul-left-comm) refl in
-    let z = zero-mul L in
-    let w = zero-mul (L * L) in
+    let a : 1073741823 * h * D ≤ 1073741824 * g * D = mul-le-mul-right D l in
+    let b : h * (1073741823 * D) ≡ 1073741823 * h * D = simp (mul-assoc, mul-left-comm) refl in
+    let c : g * L ≡ g * (1073741824 * D) = ap (λ (x : ℕ). g * x) e in
+    let d : g * (1073741824 * D) ≡ 1073741824 * g * D = simp (mul-assoc, mul-left-comm) refl in
     omega arith
 
 below : (s b : Float) (g h : ℕ) → T (fits binary64 s) → Counts binary64 s g 0 → Counts binary64 b h 0 → T (lt s (mul binary64 b nearlyOne)) → 1073741824 * g < 1073741823 * h
 below s b g h S a c l = lt-of-not-le (λ (k : 1073741823 * h ≤ 1073741824 * g).
     lt→nle s (mul binary64 b nearlyOne) l
-    (rounded-le binary64 (mul binary64 b nearlyOne) s (h * (1073741823 * 2 ^ 1044)) 0 (2 ^ 1074 * 2 ^ 1074) g 0 (mul-pos (pow-pos 1074) (pow-pos 1074))
-    (mul-count binary64 b nearlyOne h (1073741823 * 2 ^ 1044) c nearlyOne-counts) S a (room g h (2 ^ 1044) (2 ^ 1074) refl k)))
+    (mul-le binary64 b nearlyOne s h (1073741823 * 2 ^ 1044) g c nearlyOne-counts S a (room g h (2 ^ 1044) (2 ^ 1074) refl k)))
 
 scaled : (g h L : ℕ) → 1073741824 * g < 1073741823 * h → 0 < L → 1073741824 * (g * L) < 1073741823 * (h * L)
 scaled g h L l p =
@@ -142,7 +135,7 @@ pub sqrt-apart : (s b : Float) → T (fits binary64 s) → T (fits binary64 b) �
 sqrt-apart s b S B h j l =
     let n = lt→le nought b (le-lt-trans nought s b h j) in
     elim (rise s h) [
-      | inl e ↦ absurd (lt→nle s b j (subst (λ (v : Float). T (le b v)) (sym e) (below-inf b (le-not-nan nought b n .1))))
+      | inl e ↦ absurd (lt→nle s b j (below-inf b s (le-not-nan nought b n .1) e))
       | inr F ↦
           let c = count binary64 s (record { held = S; finite = F }) h in
           let r = root-counts s (c .0) (c .1) in
@@ -150,7 +143,7 @@ sqrt-apart s b S B h j l =
             | inl e ↦ subst (λ (v : Float). T (lt (sqrtOf s) (sqrtOf v))) (sym e) (unfold sqrtOf in finite-below (sqrtOf s) (counts-finite binary64 (sqrtOf s) (rootUnits (c .0 * 2 ^ 1074)) 0 r))
             | inr G ↦
                 let d = count binary64 b (record { held = B; finite = G }) n in
-                count-lt (sqrtOf s) (sqrtOf b) (rootUnits (c .0 * 2 ^ 1074)) (rootUnits (d .0 * 2 ^ 1074)) r (root-counts b (d .0) (d .1))
+                count→lt binary64 (sqrtOf s) (sqrtOf b) (rootUnits (c .0 * 2 ^ 1074)) (rootUnits (d .0 * 2 ^ 1074)) r (root-counts b (d .0) (d .1))
                 (apart-counts (c .0) (d .0) (below s b (c .0) (d .0) S (c .1) (d .1) l))
           ]
     ]

@@ -2,50 +2,37 @@
 -- (`inUnits`), the exact root is the root of X * 2 ^ 1074 units. Where y is above r, the root is not beyond the middle of the two, (R + Y) / 2; where y is below r, it is not
 -- before the middle. Squared and without fractions: 4 * (X * 2 ^ 1074) ≤ (R + Y) * (R + Y), and the other way round. Assumes nothing.
 use mathlib.Core.Path.{_≡_, refl, sym, ap, _∙_, subst}
-use Prim.Native.Nat.{ℕ, zero, suc, _+_, _-_, _*_, _/_, _^_, _≤_, _<_, zero-le}
-use native.Mathlib.Nat.{le-trans, le-of-eq, le-of-lt, mul-pos, zero-lt-suc, lt-of-lt-of-le, lt-of-not-le, lt-of-mul-lt-mul-right, one-mul, mul-assoc, mul-mul-mul-comm, add-mul, mul-le-mul-left, mul-le-mul-right, mul-lt-mul-of-pos-right, pow-suc}
+use Prim.Native.Nat.{ℕ, zero, suc, _+_, _-_, _*_, _/_, _^_, _≤_, _<_}
+use native.Mathlib.Nat.{le-trans, le-of-eq, le-of-lt, mul-pos, lt-of-not-le, lt-of-mul-lt-mul-right, one-mul, mul-assoc, mul-mul-mul-comm, add-mul, mul-le-mul-left, mul-le-mul-right}
 use native.Mathlib.Omega.{arith}
 use mathlib.Core.Bool.{Bool, true, false, not, true≢false}
 use lib.IntN.{ℤ}
 use lib.Dec.{T, leb, leb→le, nleb→lt, ltb→lt, eqb→eq}
-use lib.Pow.{pow-add, pow-pos, pow-mono, shl-lt}
-use lib.Count.{leadingZeros}
+use lib.Pow.{pow-add, pow-pos, shl-lt}
 use lib.Ieee.{Float, nan, inf, fin, binary64, up, down, fits, le, lt}
 use lib.Ieee.Exact.{HasValue}
-use lib.Ieee.Fits.{odd-fits}
-use lib.Ieee.Digits.{back}
 use lib.Ieee.Scale.{finite}
 use lib.Ieee.Positive.{positive}
-use Rattle.float_laws.proofs.Units.{sle→le, zero-exponent}
-use Rattle.float_laws.proofs.Order.{lt→nle}
-use Rattle.float_laws.proofs.Rounding.{unsigned}
-use Rattle.float_laws.proofs.Constants.{nought}
+use Rattle.float_laws.proofs.Units.{pow-between, multiple, zero-exponent}
+use Rattle.float_laws.proofs.Order.{lt→count}
+use Rattle.float_laws.proofs.Rounding.{unsigned, value-count}
+use Rattle.float_laws.proofs.Constants.{nought, unsigned-from}
 use Rattle.model.specs.Numbers.{nearRoot, unitsOf, sqrtOf}
 use Rattle.real_laws.proofs.Roots.Whole.{IsNear, nearRoot-near, square-suc, square-twice, square-mono}
-use Rattle.real_laws.proofs.Roots.Scaled.{parts, exponent, moved, dropped-is, cut-is}
-use Rattle.real_laws.proofs.Roots.Units.{shiftOf, counted, digits-lt, unitsOf-is, rootUnits, shift-lt, sqrtOf-units, root-valued}
+use Rattle.real_laws.proofs.Roots.Scaled.{parts, exponent, moved, dropped-is, cut, cut-is, square-pow}
+use Rattle.real_laws.proofs.Roots.Units.{shiftOf, counted, digits-lt, unitsOf-is, rootUnits, root-valued}
 
 -- ---- a number of at most 53 digits, moved up, that is 2 ^ 52 * 2 ^ k at least is a multiple of 2 ^ k
 reaches : (p j k : ℕ) → p < 2 ^ 53 → 2 ^ 52 * 2 ^ k ≤ p * 2 ^ j → k ≤ j
-reaches p j k h l = go (leb k j) (leb→le k j) (nleb→lt k j)
-  where
-    go : (b : Bool) → (T b → k ≤ j) → (T (not b) → j < k) → k ≤ j
-    go true a b = a tt
-    go false a b =
-        let x : p * 2 ^ j < 2 ^ 53 * 2 ^ j = mul-lt-mul-of-pos-right h (pow-pos j) in
-        let y : 2 ^ suc j ≤ 2 ^ k = pow-mono (b tt) in
-        let z : 2 ^ suc j ≡ 2 ^ j * 2 = pow-suc 2 j in
-        absurd (no (p * 2 ^ j) (2 ^ j) (2 ^ suc j) (2 ^ k) x y z l)
-      where
-        no : (v u w z : ℕ) → v < 2 ^ 53 * u → w ≤ z → w ≡ u * 2 → 2 ^ 52 * z ≤ v → ⊥
-        no v u w z a b c d = omega arith
-
-multiple : (p j k : ℕ) → k ≤ j → p * 2 ^ j ≡ p * 2 ^ (j - k) * 2 ^ k
-multiple p j k h = ap (λ (x : ℕ). p * 2 ^ x) (sym (back j k h)) ∙ ap (λ (x : ℕ). p * x) (pow-add 2 (j - k) k) ∙ sym (mul-assoc p (2 ^ (j - k)) (2 ^ k))
+reaches p j k h l = let z = pow-between (52 + k) (53 + j) (p * 2 ^ j) (le-trans (le-of-eq (pow-add 2 52 k)) l) (shl-lt 53 j h) in omega arith
 
 -- ---- in whole numbers: q is nearest to the root of n, of 105 or 106 digits; u is 2 ^ k; the double y is p * 2 ^ j
 square-mul : (a u : ℕ) → a * u * (a * u) ≡ a * a * (u * u)
 square-mul a u = mul-mul-mul-comm a u a u
+
+-- a bound of a square, in parts of u
+squared : (a n u : ℕ) → a * a ≤ 4 * n → a * u * (a * u) ≤ 4 * (n * (u * u))
+squared a n u h = le-trans (le-of-eq (square-mul a u)) (le-trans (mul-le-mul-right (u * u) h) (le-of-eq (mul-assoc 4 n (u * u))))
 
 -- y above: y is at least one multiple of u further on
 pub above : (n q k p j : ℕ) → IsNear n q → 2 ^ 52 ≤ q → p < 2 ^ 53 → q * 2 ^ k < p * 2 ^ j → 4 * (n * (2 ^ k * 2 ^ k)) ≤ (q * 2 ^ k + p * 2 ^ j) * (q * 2 ^ k + p * 2 ^ j)
@@ -73,9 +60,7 @@ below-by n z u y near N h =
     let a : (z + 1) * u ≡ z * u + u = add-mul z 1 u ∙ ap (λ (x : ℕ). z * u + x) (one-mul u) in
     let b : (z + z + 1) * u ≡ z * u + z * u + u = add-mul (z + z) 1 u ∙ ap (λ (x : ℕ). (z + z) * u + x) (one-mul u) ∙ ap (λ (x : ℕ). x + u) (add-mul z z u) in
     let c : (z + 1) * u + y ≤ (z + z + 1) * u = omega arith in
-    le-trans (square-mono ((z + 1) * u + y) ((z + z + 1) * u) c)
-    (le-trans (le-of-eq (square-mul (z + z + 1) u))
-    (le-trans (mul-le-mul-right (u * u) (squares n z (near .1 N))) (le-of-eq (mul-assoc 4 n (u * u)))))
+    le-trans (square-mono ((z + 1) * u + y) ((z + z + 1) * u) c) (squared (z + z + 1) n u (squares n z (near .1 N)))
   where
     squares : (n z : ℕ) → (z + 1) * (z + 1) < n + (z + 1) → (z + z + 1) * (z + z + 1) ≤ 4 * n
     squares n z h =
@@ -88,9 +73,7 @@ below-by n z u y near N h =
 below-down : (n q u y : ℕ) → q * q ≤ n → y < q * u → (q * u + y) * (q * u + y) ≤ 4 * (n * (u * u))
 below-down n q u y l h =
     let e : (q + q) * u ≡ q * u + q * u = add-mul q q u in
-    le-trans (square-mono (q * u + y) ((q + q) * u) (omega arith))
-    (le-trans (le-of-eq (square-mul (q + q) u ∙ ap (λ (x : ℕ). x * (u * u)) (square-twice q)))
-    (le-trans (mul-le-mul-right (u * u) (mul-le-mul-left 4 l)) (le-of-eq (mul-assoc 4 n (u * u)))))
+    le-trans (square-mono (q * u + y) ((q + q) * u) (omega arith)) (squared (q + q) n u (le-trans (le-of-eq (square-twice q)) (mul-le-mul-left 4 l)))
 
 pub below : (n q k p j : ℕ) → IsNear n q → 2 ^ 104 ≤ n → p < 2 ^ 53 → p * 2 ^ j < q * 2 ^ k → (q * 2 ^ k + p * 2 ^ j) * (q * 2 ^ k + p * 2 ^ j) ≤ 4 * (n * (2 ^ k * 2 ^ k))
 below n q k p j near big few h = go (leb (q * q) n) (leb→le (q * q) n) (nleb→lt (q * q) n)
@@ -134,7 +117,7 @@ shape m j p h =
       a * 2 ^ 52,
       nearRoot (a * 2 ^ 52),
       k,
-      f .whole ∙ ap (λ (x : ℕ). a * 2 ^ x) (split i (f .enough)) ∙ ap (λ (x : ℕ). a * x) (pow-add 2 52 (k + k) ∙ ap (λ (x : ℕ). 2 ^ 52 * x) (pow-add 2 k k)) ∙ sym (mul-assoc a (2 ^ 52) (2 ^ k * 2 ^ k)),
+      f .whole ∙ cut a i (f .enough) ∙ ap (λ (x : ℕ). a * 2 ^ 52 * x) (square-pow k),
       ap rootUnits (f .whole)
           ∙ ap (λ (x : ℕ). nearRoot (a * 2 ^ (2 * i) / 2 ^ (2 * x)) * 2 ^ x) (dropped-is a i lo below54 (f .enough))
           ∙ ap (λ (x : ℕ). nearRoot x * 2 ^ k) (cut-is a i (f .enough)),
@@ -142,9 +125,6 @@ shape m j p h =
       mul-le-mul-right (2 ^ 52) lo,
       f .root-low,
     )
-  where
-    split : (i : ℕ) → 26 ≤ i → 2 * i ≡ 52 + (i - 26 + (i - 26))
-    split i h = omega arith
 
 -- ---- floats
 -- a finite double's size in units; and for one with the sign clear that is its value
@@ -153,25 +133,11 @@ inUnits nan = 0
 inUnits (inf s) = 0
 inUnits (fin s m e) = unitsOf m e
 
-pub inUnits-exact : (v : Float) → T (fits binary64 v) → T (finite v) → T (unsigned v) → HasValue v false (inUnits v) (2 ^ 1074)
-inUnits-exact nan X f h = absurd f
-inUnits-exact (inf s) X f h = absurd f
-inUnits-exact (fin true m e) X f h = absurd h
-inUnits-exact (fin false m e) X f h =
-    let g = m * 2 ^ shiftOf false m e X in
-    subst (λ (x : ℕ). HasValue (fin false m e) false x (2 ^ 1074)) (sym (unitsOf-is false m e g (counted false m e X))) (counted false m e X)
-
 units-of : (v : Float) (g : ℕ) → HasValue v false g (2 ^ 1074) → inUnits v ≡ g
 units-of nan g h = absurd h
 units-of (inf s) g h = absurd h
 units-of (fin true m e) g h = absurd (true≢false (h .0))
 units-of (fin false m e) g h = unitsOf-is false m e g h
-
-pub lt-units : (v w : Float) (g h : ℕ) → HasValue v false g (2 ^ 1074) → HasValue w false h (2 ^ 1074) → T (lt v w) → g < h
-lt-units v w g h a b l = lt-of-not-le (λ (k : h ≤ g). lt→nle v w l (sle→le (2 ^ 1074) w v false false h g (pow-pos 1074) b a k))
-
-pub from-zero : (m : ℕ) (e : ℤ) → T (fits binary64 (fin false m e)) → T (le nought (fin false m e))
-from-zero m e X = sle→le (2 ^ 1074) nought (fin false m e) false false 0 (m * 2 ^ shiftOf false m e X) (pow-pos 1074) (refl, refl) (counted false m e X) zero-le
 
 -- what is not from 0 up has no root
 pub no-root : (x : Float) → T (fits binary64 x) → (T (le nought x) → ⊥) → sqrtOf x ≡ nan
@@ -179,7 +145,7 @@ unfolding sqrtOf fits le
 no-root nan X h = refl
 no-root (inf true) X h = refl
 no-root (inf false) X h = absurd (h tt)
-no-root (fin false m e) X h = absurd (h (from-zero m e X))
+no-root (fin false m e) X h = absurd (h (unsigned-from (fin false m e) tt))
 no-root (fin true zero e) X h = absurd (h (subst (λ (d : ℤ). T (le nought (fin true 0 d))) (sym (zero-exponent e (eqb→eq (up e * down e) 1 X))) tt))
 no-root (fin true (suc m) e) X h = refl
 
@@ -207,36 +173,17 @@ sqrt-nearest (fin false m e) (fin false n d) X P Y F N =
     let k = s .2 in
     let vr : HasValue (sqrtOf (fin false m e)) false (q * 2 ^ k) (2 ^ 1074) = subst (λ (z : ℕ). HasValue (sqrtOf (fin false m e)) false z (2 ^ 1074)) (s .4) (root-valued (fin false m e) g (counted false m e X) (mul-pos (ltb→lt 0 m P) (pow-pos (shiftOf false m e X)))) in
     let vy = counted false n d Y in
+    let cr = value-count binary64 (sqrtOf (fin false m e)) (q * 2 ^ k) vr in
+    let cy = value-count binary64 (fin false n d) y vy in
     let ex : inUnits (fin false m e) ≡ g = units-of (fin false m e) g (counted false m e X) in
     let er : inUnits (sqrtOf (fin false m e)) ≡ q * 2 ^ k = units-of (sqrtOf (fin false m e)) (q * 2 ^ k) vr in
     let ey : inUnits (fin false n d) ≡ y = units-of (fin false n d) y vy in
     let r = sqrtOf (fin false m e) in (
       λ l. exchange Above ex er ey (subst (λ (z : ℕ). 4 * z ≤ (q * 2 ^ k + y) * (q * 2 ^ k + y)) (sym (s .3))
-          (above (s .0) q k n (shiftOf false n d Y) (s .5) (s .7) (digits-lt false n d Y) (lt-units r (fin false n d) (q * 2 ^ k) y vr vy l))),
+          (above (s .0) q k n (shiftOf false n d Y) (s .5) (s .7) (digits-lt false n d Y) (lt→count binary64 r (fin false n d) (q * 2 ^ k) y cr cy l))),
       λ l. exchange Below ex er ey (subst (λ (z : ℕ). (q * 2 ^ k + y) * (q * 2 ^ k + y) ≤ 4 * z) (sym (s .3))
-          (below (s .0) q k n (shiftOf false n d Y) (s .5) (s .6) (digits-lt false n d Y) (lt-units (fin false n d) r y (q * 2 ^ k) vy vr l))),
+          (below (s .0) q k n (shiftOf false n d Y) (s .5) (s .6) (digits-lt false n d Y) (lt→count binary64 (fin false n d) r y (q * 2 ^ k) cy cr l))),
     )
   where
     exchange : (C : ℕ → ℕ → ℕ → Type 0) {a b c a' b' c' : ℕ} → a' ≡ a → b' ≡ b → c' ≡ c → C a b c → C a' b' c'
     exchange C {a} {b} {c} {a'} {b'} {c'} p q r h = subst (λ (z : ℕ). C z b' c') (sym p) (subst (λ (z : ℕ). C a z c') (sym q) (subst (λ (z : ℕ). C a b z) (sym r) h))
-
--- ---- and it is a double
-field-lt : (j z : ℕ) → j < 2098 → 53 + ((j + 1074 - (z - 11)) / 2 - 26) ≤ 2098
-field-lt j z h = omega arith
-
-pub sqrtOf-fits : (x : Float) → T (fits binary64 x) → T (fits binary64 (sqrtOf x))
-unfolding sqrtOf
-sqrtOf-fits nan X = X
-sqrtOf-fits (inf true) X = unfold fits in tt
-sqrtOf-fits (inf false) X = X
-sqrtOf-fits (fin s zero e) X = X
-sqrtOf-fits (fin true (suc m) e) X = unfold fits in tt
-sqrtOf-fits (fin false (suc m) e) X =
-    let j = shiftOf false (suc m) e X in
-    let f = parts (suc m) j (zero-lt-suc m) (digits-lt false (suc m) e X) in
-    let q = nearRoot (suc m * 2 ^ moved (suc m) j * 2 ^ 52) in
-    let k = exponent (suc m) j / 2 - 26 in
-    subst (λ (v : Float). T (fits binary64 v))
-    (sym (sqrtOf-units (fin false (suc m) e) (suc m * 2 ^ j) (counted false (suc m) e X) (mul-pos (zero-lt-suc m) (pow-pos j)) ∙ f .is))
-    (odd-fits binary64 53 false q k (f .root-high) (le-of-lt (f .root-high))
-    (lt-of-lt-of-le (shl-lt 53 k (f .root-high)) (pow-mono (field-lt j (leadingZeros 64 (suc m)) (shift-lt (suc m) e X (zero-lt-suc m))))))

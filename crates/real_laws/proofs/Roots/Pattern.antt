@@ -1,6 +1,6 @@
 -- A double's bit pattern, read and written: the exponent's field above 52 digits. Assumes nothing.
 use mathlib.Core.Path.{_≡_, refl, sym, ap, _∙_, subst}
-use Prim.Native.Nat.{ℕ, zero, suc, _+_, _-_, _*_, _/_, _%_, _^_, _≤_, _<_}
+use Prim.Native.Nat.{ℕ, suc, _+_, _-_, _*_, _/_, _%_, _^_, _≤_, _<_}
 use native.Mathlib.Nat.{mul-pos}
 use native.Mathlib.Omega.{arith}
 use mathlib.Core.Bool.{Bool, false, not, cond}
@@ -10,6 +10,9 @@ use lib.Pow.{pow-pos}
 use lib.Ieee.{nan, inf, binary64, odd, ofFields, ofBits, nanBits, isNan}
 use lib.Ieee.Exact.{odd-sign}
 use lib.Ieee.Bits.{nanBits-is}
+use Rattle.float_laws.proofs.Order.{le-not-nan}
+use Rattle.float_laws.proofs.Rounding.{odd-unsigned}
+use Rattle.float_laws.proofs.Constants.{nought, unsigned-from}
 use Rattle.model.specs.Numbers.{rooted, sqrtOf}
 use Rattle.real_laws.proofs.Roots.Units.{sqrtOf-units}
 
@@ -46,14 +49,10 @@ written k q h lo hi =
     back : (q : ℕ) → 2 ^ 52 ≤ q → 2 ^ 52 + (q - 2 ^ 52) ≡ q
     back q lo = omega arith
 
-odd-no-nan : (q k l : ℕ) → isNan (odd 53 false q k l) ≡ false
-unfolding odd isNan
-odd-no-nan zero k l = refl
-odd-no-nan (suc q) k l = refl
-
 pub written-no-nan : (k q : ℕ) → k < 2046 → 2 ^ 52 ≤ q → q < 2 ^ 53 → T (not (nanBits binary64 (k * 2 ^ 52 + q)))
 written-no-nan k q h lo hi =
-    subst (λ (b : Bool). T (not b)) (sym (nanBits-is binary64 (k * 2 ^ 52 + q) ∙ ap isNan (written k q h lo hi) ∙ odd-no-nan q k 1074)) tt
+    subst (λ (b : Bool). T (not b)) (sym (nanBits-is binary64 (k * 2 ^ 52 + q) ∙ ap isNan (written k q h lo hi)))
+    (le-not-nan nought (odd 53 false q k 1074) (unsigned-from _ (odd-unsigned 53 q k 1074)) .1)
 
 -- ---- the root of what is read
 pub sqrtOf-odd : (q k : ℕ) → 0 < q → sqrtOf (odd 53 false q k 1074) ≡ rooted (q * 2 ^ k * 2 ^ 1074)

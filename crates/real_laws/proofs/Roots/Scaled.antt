@@ -1,14 +1,15 @@
 -- How `root_of_units` finds the digits that the root keeps: m * 2 ^ k * 2 ^ 1074 is a * 2 ^ (2 * h), for an a of 53 or 54 digits, and `rooted` cuts it to a * 2 ^ 52. Assumes nothing.
 use mathlib.Core.Path.{_≡_, sym, ap, _∙_, subst}
 use Prim.Native.Nat.{ℕ, zero, suc, _+_, _-_, _*_, _/_, _%_, _^_, _≤_, _<_}
-use native.Mathlib.Nat.{le-trans, le-of-eq, lt-of-lt-of-le, lt-of-not-le, not-le-of-lt, mul-assoc, mul-le-mul-right, mul-div-cancel}
+use native.Mathlib.Nat.{le-trans, le-of-eq, lt-of-lt-of-le, mul-assoc, mul-le-mul-right, mul-div-cancel}
 use native.Mathlib.Omega.{arith}
 use mathlib.Core.Bool.{false}
 use lib.Dec.{lit≤}
-use lib.Pow.{pow-add, pow-pos, pow-mono, shl-lt}
+use lib.Pow.{pow-add, pow-pos, shl-lt}
 use lib.Count.{leadingZeros, leading-top}
 use lib.Ieee.{size, odd}
 use lib.Ieee.Digits.{size-lt, size-le}
+use Rattle.float_laws.proofs.Units.{pow-between}
 use Rattle.model.specs.Numbers.{nearRoot, dropped, rooted}
 use Rattle.real_laws.proofs.Roots.Whole.{nearRoot-near, near-ge, near-lt}
 
@@ -25,7 +26,7 @@ shift m p h =
     let t = leading-top 64 m p (lt-of-lt-of-le h (lit≤ tt)) in
     let j = t .0 in
     let z = leadingZeros 64 m in
-    let j-lt : j < 53 = lt-of-not-le (λ (g : 53 ≤ j). not-le-of-lt h (le-trans (pow-mono g) (t .2))) in
+    let j-lt : j < 53 = pow-between j 53 m (t .2) h in
     let e : z + suc j ≡ 64 = t .1 in
     record {
       least = omega arith;
@@ -41,27 +42,24 @@ shift m p h =
     sums' z j e l = omega arith
 
 -- ---- the cut
-size-gt : (n j : ℕ) → 2 ^ j ≤ n → j < size n
-size-gt n j h = lt-of-not-le (λ (g : size n ≤ j). not-le-of-lt (lt-of-lt-of-le (size-lt n) (pow-mono g)) h)
-
 half : (z h : ℕ) → 26 ≤ h → 52 + 2 * h < z → z ≤ 54 + 2 * h → (z - 105) / 2 ≡ h - 26
 half z h a b c = omega arith
 
 pub dropped-is : (a h : ℕ) → 2 ^ 52 ≤ a → a < 2 ^ 54 → 26 ≤ h → dropped (a * 2 ^ (2 * h)) ≡ h - 26
 dropped-is a h lo hi l =
     half (size (a * 2 ^ (2 * h))) h l
-    (size-gt (a * 2 ^ (2 * h)) (52 + 2 * h) (le-trans (le-of-eq (pow-add 2 52 (2 * h))) (mul-le-mul-right (2 ^ (2 * h)) lo)))
+    (pow-between (52 + 2 * h) (size (a * 2 ^ (2 * h))) (a * 2 ^ (2 * h)) (le-trans (le-of-eq (pow-add 2 52 (2 * h))) (mul-le-mul-right (2 ^ (2 * h)) lo)) (size-lt (a * 2 ^ (2 * h))))
     (size-le (a * 2 ^ (2 * h)) (54 + 2 * h) (shl-lt 54 (2 * h) hi))
 
+pub cut : (a h : ℕ) → 26 ≤ h → a * 2 ^ (2 * h) ≡ a * 2 ^ 52 * 2 ^ (2 * (h - 26))
+cut a h l = ap (λ (x : ℕ). a * 2 ^ x) (omega arith) ∙ ap (λ (x : ℕ). a * x) (pow-add 2 52 (2 * (h - 26))) ∙ sym (mul-assoc a (2 ^ 52) (2 ^ (2 * (h - 26))))
+
 pub cut-is : (a h : ℕ) → 26 ≤ h → a * 2 ^ (2 * h) / 2 ^ (2 * (h - 26)) ≡ a * 2 ^ 52
-cut-is a h l =
-    ap (λ (x : ℕ). a * 2 ^ x / 2 ^ (2 * (h - 26))) (parts h l)
-    ∙ ap (λ (x : ℕ). a * x / 2 ^ (2 * (h - 26))) (pow-add 2 52 (2 * (h - 26)))
-    ∙ ap (λ (x : ℕ). x / 2 ^ (2 * (h - 26))) (sym (mul-assoc a (2 ^ 52) (2 ^ (2 * (h - 26)))))
-    ∙ mul-div-cancel (a * 2 ^ 52) (pow-pos (2 * (h - 26)))
-  where
-    parts : (h : ℕ) → 26 ≤ h → 2 * h ≡ 52 + 2 * (h - 26)
-    parts h l = omega arith
+cut-is a h l = ap (λ (x : ℕ). x / 2 ^ (2 * (h - 26))) (cut a h l) ∙ mul-div-cancel (a * 2 ^ 52) (pow-pos (2 * (h - 26)))
+
+-- a power of two, squared
+pub square-pow : (k : ℕ) → 2 ^ (2 * k) ≡ 2 ^ k * 2 ^ k
+square-pow k = ap (λ (x : ℕ). 2 ^ x) (omega arith) ∙ pow-add 2 k k
 
 pub rooted-is : (a h : ℕ) → 2 ^ 52 ≤ a → a < 2 ^ 54 → 26 ≤ h → rooted (a * 2 ^ (2 * h)) ≡ odd 53 false (nearRoot (a * 2 ^ 52)) (h - 26) 1074
 unfolding rooted

@@ -1,30 +1,19 @@
 -- `sqrtOf` in units, 2 ^ -1074 each: a double that is finite has a whole number of them (`counted`), and what its root has (`rootUnits`). Assumes nothing.
-use mathlib.Core.Path.{_≡_, refl, sym, ap, _∙_, subst, subst₂}
-use Prim.Native.Nat.{ℕ, zero, suc, _+_, _*_, _/_, _^_, _≤_, _<_}
-use native.Mathlib.Nat.{le-trans, le-of-eq, lt-of-lt-of-le, lt-of-not-le, not-le-of-lt, lt-irrefl, eq-zero-or-pos, lt-of-mul-lt-mul-right, zero-add, add-zero, zero-mul, one-mul, mul-right-comm, mul-div-cancel, mul-pos, mul-le-mul-right, mul-lt-mul-of-pos-right, zero-lt-suc}
+use mathlib.Core.Path.{_≡_, refl, sym, ap, _∙_, subst}
+use Prim.Native.Nat.{ℕ, zero, suc, _+_, _*_, _/_, _^_, _<_}
+use native.Mathlib.Nat.{lt-irrefl, eq-of-mul-eq-mul-right, zero-add, zero-mul, mul-div-cancel, mul-pos, zero-lt-suc}
 use native.Mathlib.Omega.{arith}
-use mathlib.Core.Logic.{inl, inr}
 use mathlib.Core.Bool.{Bool, true, false, true≢false}
 use lib.IntN.{ℤ}
 use lib.Dec.{T}
-use lib.Pow.{pow-pos, pow-mono}
-use lib.Ieee.{Float, nan, inf, fin, binary64, up, down, size, fits, le, lt}
+use lib.Pow.{pow-pos}
+use lib.Ieee.{Float, nan, inf, fin, binary64, up, down, size, fits}
 use lib.Ieee.Fits.{up-pos, down-pos}
 use lib.Ieee.Exact.{HasValue, odd-sign}
 use lib.Ieee.Positive.{first-pos}
-use Rattle.float_laws.proofs.Units.{Sgn, Counts, le→counts, counts→le, counts→lt, placed}
-use Rattle.float_laws.proofs.Rounding.{value-counts}
+use Rattle.float_laws.proofs.Units.{Sgn, Counts, placed}
+use Rattle.float_laws.proofs.Rounding.{value-count}
 use Rattle.model.specs.Numbers.{nearRoot, dropped, rooted, unitsOf, sqrtOf}
-
--- ---- the order of doubles from 0 on is that of their counts
-pub le-count : (x y : Float) (g h : ℕ) → Counts binary64 x g 0 → Counts binary64 y h 0 → T (le x y) → g ≤ h
-le-count x y g h a b l = subst₂ (λ (m n : ℕ). m ≤ n) (add-zero g) (add-zero h) (le→counts binary64 x y g 0 h 0 a b l)
-
-pub count-le : (x y : Float) (g h : ℕ) → Counts binary64 x g 0 → Counts binary64 y h 0 → g ≤ h → T (le x y)
-count-le x y g h a b l = counts→le binary64 x y g 0 h 0 a b (subst₂ (λ (m n : ℕ). m ≤ n) (sym (add-zero g)) (sym (add-zero h)) l)
-
-pub count-lt : (x y : Float) (g h : ℕ) → Counts binary64 x g 0 → Counts binary64 y h 0 → g < h → T (lt x y)
-count-lt x y g h a b l = counts→lt binary64 x y g 0 h 0 a b (subst₂ (λ (m n : ℕ). m < n) (sym (add-zero g)) (sym (add-zero h)) l)
 
 -- ---- the count of a double that is finite: m * 2 ^ j, for a j that its exponent gives
 pub shiftOf : (s : Bool) (m : ℕ) (e : ℤ) → T (fits binary64 (fin s m e)) → ℕ
@@ -36,18 +25,6 @@ counted s m e X = (refl, placed binary64 s m e X .1)
 
 pub digits-lt : (s : Bool) (m : ℕ) (e : ℤ) → T (fits binary64 (fin s m e)) → m < 2 ^ 53
 digits-lt s m e X = placed binary64 s m e X .2
-
--- a double is below 2 ^ 2098 units
-pub shift-lt : (m : ℕ) (e : ℤ) (X : T (fits binary64 (fin false m e))) → 0 < m → shiftOf false m e X < 2098
-unfolding shiftOf
-shift-lt m e X p =
-    let z = placed binary64 false m e X in
-    let j = z .0 in
-    let a : m * 2 ^ j * down e < 2 ^ 2098 * down e =
-    subst (λ (x : ℕ). x < 2 ^ 2098 * down e) (z .1)
-    (lt-of-lt-of-le (mul-lt-mul-of-pos-right (z .3) (pow-pos 1074)) (le-of-eq (mul-right-comm (2 ^ 1024) (down e) (2 ^ 1074)))) in
-    let b : m * 2 ^ j < 2 ^ 2098 = lt-of-mul-lt-mul-right (down e) a in
-    lt-of-not-le (λ (g : 2098 ≤ j). not-le-of-lt b (le-trans (pow-mono g) (le-trans (le-of-eq (sym (one-mul (2 ^ j)))) (mul-le-mul-right (2 ^ j) p))))
 
 -- it is what `unitsOf` works out
 pub unitsOf-is : (s : Bool) (m : ℕ) (e : ℤ) (g : ℕ) → HasValue (fin s m e) s g (2 ^ 1074) → unitsOf m e ≡ g
@@ -65,31 +42,31 @@ pub rootUnits-zero : rootUnits 0 ≡ 0
 unfolding nearRoot size
 rootUnits-zero = refl
 
+-- a zero has no units
+no-units : (e : ℤ) (g : ℕ) → 0 * up e * 2 ^ 1074 ≡ g * down e → g ≡ 0
+no-units e g u = eq-of-mul-eq-mul-right (down e) (down-pos e) g 0 (sym u ∙ ap (λ (x : ℕ). x * 2 ^ 1074) (zero-mul (up e)) ∙ zero-mul (2 ^ 1074) ∙ sym (zero-mul (down e)))
+
 -- ---- `sqrtOf` of g units
 pub sqrtOf-units : (v : Float) (g : ℕ) → HasValue v false g (2 ^ 1074) → 0 < g → sqrtOf v ≡ rooted (g * 2 ^ 1074)
 unfolding sqrtOf
 sqrtOf-units nan g h p = absurd h
 sqrtOf-units (inf s) g h p = absurd h
 sqrtOf-units (fin true m e) g h p = absurd (true≢false (h .0))
-sqrtOf-units (fin false zero e) g h p = absurd (lt-irrefl 0 (subst (λ (x : ℕ). 0 < x) (sym (h .1) ∙ ap (λ (x : ℕ). x * 2 ^ 1074) (zero-mul (up e)) ∙ zero-mul (2 ^ 1074)) (mul-pos p (down-pos e))))
-sqrtOf-units (fin false (suc m) e) g h p = ap (λ (n : ℕ). rooted (n * 2 ^ 1074)) (ap (λ (x : ℕ). x / down e) (h .1) ∙ mul-div-cancel g (down-pos e))
+sqrtOf-units (fin false zero e) g h p = absurd (lt-irrefl 0 (subst (λ (x : ℕ). 0 < x) (no-units e g (h .1)) p))
+sqrtOf-units (fin false (suc m) e) g h p = ap (λ (n : ℕ). rooted (n * 2 ^ 1074)) (unitsOf-is false (suc m) e g h)
 
 pub root-valued : (v : Float) (g : ℕ) → HasValue v false g (2 ^ 1074) → 0 < g → HasValue (sqrtOf v) false (rootUnits (g * 2 ^ 1074)) (2 ^ 1074)
 root-valued v g h p = subst (λ (u : Float). HasValue u false (rootUnits (g * 2 ^ 1074)) (2 ^ 1074)) (sym (sqrtOf-units v g h p)) (rooted-counted (g * 2 ^ 1074))
 
 -- ---- the count of `sqrtOf` of a double from 0 on
--- a zero has none
 zero-count : (s : Bool) (e : ℤ) (g : ℕ) → Counts binary64 (fin s 0 e) g 0 → g ≡ 0
-zero-count s e g (n, u, i) = elim (eq-zero-or-pos n) [
-  | inl z ↦ by s g n i z
-  | inr p ↦ absurd (lt-irrefl 0 (subst (λ (x : ℕ). 0 < x) (sym u ∙ ap (λ (x : ℕ). x * 2 ^ 1074) (zero-mul (up e)) ∙ zero-mul (2 ^ 1074)) (mul-pos p (down-pos e))))
-]
+zero-count s e g (n, u, i) = by s g n i (no-units e n u)
   where
     by : (s : Bool) (g n : ℕ) → Sgn s n g 0 → n ≡ 0 → g ≡ 0
     by true g n i z = omega arith
     by false g n i z = omega arith
 
--- and what is no zero has some
+-- what is no zero has some
 some-count : (m : ℕ) (e : ℤ) (n : ℕ) → suc m * up e * 2 ^ 1074 ≡ n * down e → 0 < n
 some-count m e n u = first-pos n (down e) (subst (λ (k : ℕ). 0 < k) u (mul-pos (mul-pos (zero-lt-suc m) (up-pos e)) (pow-pos 1074)))
 
@@ -103,7 +80,7 @@ root-counts (fin s zero e) g c =
 root-counts (fin false (suc m) e) g (n, u, i) =
     let x = fin false (suc m) e in
     let v : HasValue x false g (2 ^ 1074) = (refl, u ∙ ap (λ (k : ℕ). k * down e) (sym (i ∙ zero-add n))) in
-    value-counts binary64 (sqrtOf x) false (rootUnits (g * 2 ^ 1074)) (rootUnits (g * 2 ^ 1074)) 0 (root-valued x g v (some-count m e g (v .1))) (sym (zero-add (rootUnits (g * 2 ^ 1074))))
+    value-count binary64 (sqrtOf x) (rootUnits (g * 2 ^ 1074)) (root-valued x g v (some-count m e g (v .1)))
 root-counts (fin true (suc m) e) g (n, u, i) = absurd (none g n (some-count m e n u) i)
   where
     none : (g n : ℕ) → 0 < n → 0 ≡ g + n → ⊥

@@ -1,5 +1,5 @@
 -- What `wholeRoot` and `nearRoot` are. Assumes nothing.
-use mathlib.Core.Path.{_≡_, refl, sym, ap, _∙_, subst}
+use mathlib.Core.Path.{_≡_, refl, ap, _∙_, subst}
 use Prim.Native.Nat.{ℕ, zero, suc, _+_, _-_, _*_, _/_, _^_, _≤_, _<_, zero-le}
 use native.Mathlib.Nat.{le-trans, le-of-eq, lt-of-lt-of-le, le-antisymm, le-of-suc-le-suc, lt-of-not-le, not-le-of-lt, mul-le-mul, mul-le-mul-right, mul-comm, add-mul, mul-add, mul-one, one-mul, pow-suc, div-lt-iff-lt-mul, zero-lt-suc}
 use native.Mathlib.Omega.{arith}
@@ -125,12 +125,9 @@ near-ge n q c a h = le-of-suc-le-suc (lt-of-not-le (λ (g : suc q ≤ c). let x 
 
 -- up to (c - 1/2) * (c - 1/2)
 pub near-lt : (n q c : ℕ) → IsNear n q → 0 < n → n + c ≤ c * c → 0 < c → q < c
-near-lt n q c a p h C = lt-of-not-le (λ (g : c ≤ q). let x = a .1 p in let y = up g in omega arith)
-  where
-    up : c ≤ q → c * c + q ≤ q * q + c
-    up g =
-        let d = q - c in
-        let e : q ≡ c + d = omega arith in
-        let s : q * q ≡ c * c + 2 * (c * d) + d * d = ap (λ (x : ℕ). x * x) e ∙ square-add c d in
-        let t : d ≤ c * d = le-trans (le-of-eq (sym (one-mul d))) (mul-le-mul-right d C) in
-        omega arith
+near-lt n q c a p h C = lt-of-not-le (λ (g : c ≤ q).
+    let d = c - 1 in
+    let s : c * c ≡ d * d + 2 * d + 1 = ap (λ (x : ℕ). x * x) (omega arith) ∙ square-suc d in
+    let t = near-step q d (omega arith) in
+    let x = a .1 p in
+    omega arith)
