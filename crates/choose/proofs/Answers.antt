@@ -9,8 +9,7 @@ use Rattle.model.specs.declared.Chosen.the-variants as chosen
 use Rattle.model.specs.Lists.{over}
 use Rattle.model.specs.PoolFile.{parse, refusedText}
 use Rattle.model.specs.Refusal.{chooseRefusal}
-use Rattle.model.specs.Calls.{ChooseExit, textOf, chooseBy, chooseOf, printedBy, printed, maxText, Chooses}
-use Rattle.list_laws.proofs.Bools.{by-option}
+use Rattle.model.specs.Calls.{ChooseExit, textOf, chooseBy, chooseOf, printedBy, printed, maxText, Chooses, chosenRefusedBy}
 use Rattle.pool_laws.proofs.Lengths.{refused-short}
 use Rattle.choose.specs.Printing.{Prints}
 
@@ -29,32 +28,29 @@ module _ (file out : List ℕ) (x : ChooseExit) (p : Chooses file out x) (full :
       p .whole ∙ ap (λ (n : ℕ). chooseBy (chooseRefusal file n) (textOf (parse file)) out) full
       ∙ ap (λ (t : Option ℕ). chooseBy t (textOf (parse file)) out) h
 
-  answer-by : (o : Option ℕ) → chooseRefusal file maxText ≡ o → x .answer ≡ chooseBy o (textOf (parse file)) out .answer
-  answer-by o h = ap (λ (t : ChooseExit). t .answer) (by o h)
-
   print-by : (o : Option ℕ) → chooseRefusal file maxText ≡ o → printed file ≡ printedBy o (textOf (parse file))
   unfolding printed
   print-by o h = ap (λ (t : Option ℕ). printedBy t (textOf (parse file))) h
 
+  -- what the answer tells of the refusal
+  told : chooseRefusal file maxText ≡ chosenRefusedBy (x .answer)
+  told = ap (chooseRefusal file) (sym full) ∙ sym (p .refused)
+
   pub written : (n : ℕ) → x .answer ≡ chosen.Written n → Prints file out (x .out) n
-  written n h = by-option (chooseRefusal file maxText)
-      (λ o. let q : chosen.Written n ≡ chosen.Written (length (textOf (parse file))) = sym h ∙ answer-by none o in
+  written n h =
+      let o = told ∙ ap chosenRefusedBy h in
+      let q : chosen.Written n ≡ chosen.Written (length (textOf (parse file))) = sym h ∙ ap (λ (t : ChooseExit). t .answer) (by none o) in
       let l : n ≡ length (textOf (parse file)) = cc in
       prints file out (x .out) n (l ∙ ap length (sym (print-by none o)))
-      (ap (λ (t : ChooseExit). t .out) (by none o) ∙ ap (λ (t : List ℕ). over t out) (sym (print-by none o))))
-      (λ k o. let q : chosen.Written n ≡ chosen.Refused k = sym h ∙ answer-by (some k) o in
-      let z : _≡_ {A = ℕ} 0 1 = cc in absurd (omega arith))
+      (ap (λ (t : ChooseExit). t .out) (by none o) ∙ ap (λ (t : List ℕ). over t out) (sym (print-by none o)))
 
   pub refused : (n : ℕ) → x .answer ≡ chosen.Refused n → (after : List ℕ) (r : ℕ) → r ≡ length (refusedText n) → after ≡ over (refusedText n) (x .out)
       → Prints file out after r
-  refused n h after r c a = by-option (chooseRefusal file maxText)
-      (λ o. let q : chosen.Written (length (textOf (parse file))) ≡ chosen.Refused n = sym (answer-by none o) ∙ h in
-      let z : _≡_ {A = ℕ} 0 1 = cc in absurd (omega arith))
-      (λ k o. let q : chosen.Refused k ≡ chosen.Refused n = sym (answer-by (some k) o) ∙ h in
-      let e : k ≡ n = cc in
-      let t : printed file ≡ refusedText n = print-by (some k) o ∙ ap refusedText e in
+  refused n h after r c a =
+      let o = told ∙ ap chosenRefusedBy h in
+      let t = print-by (some n) o in
       prints file out after r (c ∙ ap length (sym t))
-      (a ∙ ap (over (refusedText n)) (ap (λ (t : ChooseExit). t .out) (by (some k) o)) ∙ ap (λ (s : List ℕ). over s out) (sym t)))
+      (a ∙ ap (over (refusedText n)) (ap (λ (t : ChooseExit). t .out) (by (some n) o)) ∙ ap (λ (s : List ℕ). over s out) (sym t))
 
 -- a refusal's text has room
 pub refusal-room : (n : ℕ) → n < 256 → length (refusedText n) ≤ maxText

@@ -11,6 +11,7 @@ use Rattle.model.specs.Demand3.{Demand3}
 use Rattle.model.specs.Refusal.{selectRefusal, stepRefusal}
 use Rattle.model.specs.Setting.{Operators, generation}
 use Rattle.model.specs.Calls.{Lent, roomOf, handedOut, SelectExit, Selects, selectOf, selectAccepted, StepExit, Steps, stepOf, stepAccepted, ChooseExit, Chooses}
+use Rattle.niching_laws.proofs.KeptLength.{kept-length}
 use Rattle.export_laws.specs.Coded.{SelectsWords, StepsWords, ListsWords, codeOf, keptOf, selected, stepped, chosenCode, chosenLength, listed}
 
 -- the list that an answer hands out is as long as the answer says
@@ -19,7 +20,7 @@ handed q o n kept e d = subst (λ x. Demand3 q (handedOut x kept)) e d
 
 select-kept : (q : Request) (at : Lent) → selectRefusal q (roomOf at) ≡ none → selectOf q at .answer .outcome ≡ outcome.Kept (q .size)
 unfolding selectOf selectAccepted
-select-kept q at h = rw h refl
+select-kept q at h = rw h (ap outcome.Kept (kept-length q))
 
 step-kept : (o : Operators) (q : Request) (at : Lent) (old : List ℕ) → stepRefusal o q (roomOf at) (length old) ≡ none
     → stepOf o q at old .answer .outcome ≡ outcome.Kept (length (generation o q .kept))

@@ -12,7 +12,7 @@ use Rattle.model.specs.declared.Distribution.{Distribution}
 use Rattle.model.specs.declared.ParamValue.{ParamValue}
 use Rattle.model.specs.Real.{nought, unit, within}
 use Rattle.model.specs.Draw.{Drawn, drawn}
-use Rattle.model.specs.Setting.{children, exponentOf, crossover, mutate, tournament, brood, operators}
+use Rattle.model.specs.Setting.{children, exponentOf, crossover, mutate, tournament, brood}
 use Rattle.model.specs.Refusal.{wholeEta, badOperators}
 use borrow.Author.Tests.{not-false}
 use Rattle.settings.specs.Candidate.{parentAt, parentsIn}
@@ -45,7 +45,7 @@ module _ (dims : ℕ → Distribution) (n : ℕ) (probability crossoverEta mutat
 
   pub brood-is : (s i t j u v w z k m : ℕ) (P Q A B C D : List ParamValue) → drawn i t ≡ tournament ranks count s → drawn j u ≡ tournament ranks count t → P ≡ parentAt dims n words i
       → Q ≡ parentAt dims n words j → k ≡ exponentOf crossoverEta → m ≡ exponentOf mutationEta → drawn (children A B) v ≡ crossover dims n probability k P Q u → drawn C w ≡ mutate dims n A m v
-      → drawn D z ≡ mutate dims n B m w → drawn (children C D) z ≡ brood (operators dims n probability crossoverEta mutationEta) (parentsIn dims n words count) ranks s
+      → drawn D z ≡ mutate dims n B m w → drawn (children C D) z ≡ brood (record { dims = dims; dimCount = n; probability = probability; crossoverEta = crossoverEta; mutationEta = mutationEta }) (parentsIn dims n words count) ranks s
   unfolding brood
   brood-is s i t j u v w z k m P Q A B C D e1 e2 eP eQ ek em e3 e4 e5 =
       let hi = won-below ranks count s i t some e1 in

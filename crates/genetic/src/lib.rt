@@ -73,7 +73,7 @@ pub fn brood(
     requires { ⌜ (0 < count) × (count * n ≤ length (now parents)) × (count ≤ length (now ranks)) × (badDimensions (dimensionsOf dims) n ≡ false)
         × (badOperators probability «crossover_eta» «mutation_eta» ≡ false) ⌝ }
     ensures { λ r. ⌜ drawn (children (settingsOf (r .first) n) (settingsOf (r .second) n)) (r .rng .s)
-        ≡ brood (operators (dimensionsOf dims) n probability «crossover_eta» «mutation_eta»)
+        ≡ brood (operators dims n probability «crossover_eta» «mutation_eta»)
         (parentsIn (dimensionsOf dims) n (now (parents .entry)) count) (λ i. getD (now (ranks .entry)) i 0) (rng .s) ⌝ }
 {
     let a = tournament_select_rank(ranks, count, rng);

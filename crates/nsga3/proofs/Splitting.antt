@@ -24,7 +24,7 @@ use Rattle.association_laws.proofs.Request.{lines-at}
 use Rattle.front_cut.specs.declared.Cut.{Cut}
 use Rattle.niching_array_laws.specs.Niche.{Splits, NichingSelects, picksOf}
 use Rattle.nsga3_laws.proofs.Agree.{picks-agree}
-use Rattle.nsga3_parts.proofs.Lists.{written-behind}
+use Rattle.list_laws.proofs.Built.{written-behind}
 use Rattle.nsga3.specs.Handed.{SortedPool, Hands}
 
 module _ {r : Request} {keptRoom linesRoom : ℕ} {rows : List Float} {order : List ℕ} {c : Cut} (S : SortedPool r keptRoom linesRoom rows order c) where

@@ -80,10 +80,10 @@ pub fn write_offspring(
     requires { ⌜ (0 < count) × (count * n ≤ length (now parents)) × (count ≤ length (now ranks)) × (badDimensions (dimensionsOf dims) n ≡ false)
         × (badOperators probability «crossover_eta» «mutation_eta» ≡ false) × (size * n ≤ length (now offspring)) × (size ≤ 1024) ⌝ }
     ensures words { λ _. ⌜ now (offspring .exit)
-        ≡ over (wordsOf (offspringOf (operators (dimensionsOf dims) n probability «crossover_eta» «mutation_eta»)
+        ≡ over (wordsOf (offspringOf (operators dims n probability «crossover_eta» «mutation_eta»)
         (parentsIn (dimensionsOf dims) n (now (parents .entry)) count) (λ i. getD (now (ranks .entry)) i 0) size (rng .s) .value)) (now (offspring .entry)) ⌝ }
     ensures state { λ r. ⌜ r .s
-        ≡ offspringOf (operators (dimensionsOf dims) n probability «crossover_eta» «mutation_eta»)
+        ≡ offspringOf (operators dims n probability «crossover_eta» «mutation_eta»)
         (parentsIn (dimensionsOf dims) n (now (parents .entry)) count) (λ i. getD (now (ranks .entry)) i 0) size (rng .s) .state ⌝ }
 {
     let mut rng = rng;

@@ -7,7 +7,7 @@ use mathlib.Core.List.{List, [], _∷_, map}
 use native.Mathlib.Nat.{mul-le-mul-right, le-trans}
 use native.Mathlib.Omega.{arith}
 use borrow.Author.Tests.{not-false, lt-ltb, le-ltb, ltb-true, ltb-false, lt-leb, leb-true}
-use lib.Dec.{eqb, leb, ltb}
+use lib.Dec.{leb, ltb}
 use lib.Ieee.{Float}
 use lib.ListN.{length, getD, take, replicate, length-map, List·getD-eq-default}
 use lib.Seq.{length-take-le, getD-take, take-all}
@@ -18,9 +18,9 @@ use Rattle.model.specs.Association.{Request, objectives}
 use Rattle.model.specs.PoolFile.{PoolFile, noPlan, fileRequest}
 use Rattle.model.specs.Refusal.{Room, maxSize, badDirections, badDivisions, badPool, goodPlan, goodIdeal, noRoom, selectRefusal}
 use Rattle.model.specs.Calls.{wordRequest}
+use Rattle.list_laws.proofs.Checks.{pool-plan, good-constraints}
 use Rattle.list_laws.proofs.Bools.{by-bool, and-left, and-right, or-right}
 use Rattle.list_laws.proofs.Tests.{allBelow-same}
-use Rattle.demand3_laws.proofs.Accepted.{pool-plan}
 use Rattle.pool_file.specs.declared.Header.{Header}
 use Rattle.pool_plans.specs.Blocks.{roomed}
 use Rattle.pool_file.specs.Parsing.{Pool, capped}
@@ -118,10 +118,7 @@ pool-same w r a b c d =
 
 -- where 8 does not apply, no plan has over 16 constraints
 pool-good : (r : Request) → badPool r ≡ false → (p : ℕ) → p < r .count → r .plans p .constraintCount ≤ maxConstraints
-unfolding goodPlan
-pool-good r h p l =
-    leb-true (r .plans p .constraintCount) maxConstraints
-    (and-left (leb (r .plans p .constraintCount) maxConstraints) _ (and-right (eqb (r .plans p .rowLength) (objectives r)) _ (pool-plan r h p l)))
+pool-good r h p l = good-constraints (objectives r) (r .plans p) (pool-plan r h p l)
 
 -- ---- the words and the file
 

@@ -1,16 +1,16 @@
 -- DEMAND 3 as `choose` promises it: the plans of a pool file in good form have as many values as there are objectives.
 use Prim.Native.Nat.{ℕ, _≤_}
-use mathlib.Core.Path.{_≡_, refl, sym, subst}
-use mathlib.Core.List.{List, List·Memᴰ·head, List·Memᴰ·tail}
+use mathlib.Core.Path.{_≡_, sym, subst}
+use mathlib.Core.List.{List}
 use mathlib.Core.Option.{Option, none, some}
 use native.Mathlib.Omega.{arith}
 use Rattle.model.specs.Kept.{Selected, selected}
 use Rattle.model.specs.PoolFile.{PoolFile, parse, fileRequest, listingText, fileText}
 use Rattle.model.specs.Refusal.{selectRefusal, fileRefusal, refusalOfParsed, chooseRefusal}
 use Rattle.model.specs.Demand3.{Demand3}
+use Rattle.demand3_laws.proofs.Passed.{select-passed}
 use Rattle.demand3_laws.specs.Facts.{Accepted}
 use Rattle.demand3_laws.proofs.Accepted.{demand3}
-use Rattle.list_laws.proofs.Checks.{applies-not}
 use Rattle.nsga3_laws.proofs.Admitted.{admitted}
 use Rattle.pool_laws.specs.Choice.{roomy}
 use Rattle.pool_laws.proofs.Shapes.{Whole, parse-whole}
@@ -20,12 +20,12 @@ use Rattle.pool_laws.proofs.Refusals.{file-selects}
 use Rattle.pool_laws.proofs.FromText.{text-tells, same-list}
 
 pub file-accepted : (f : PoolFile) → Whole f → selectRefusal (fileRequest f) roomy ≡ none → Accepted (fileRequest f)
-unfolding selectRefusal
 file-accepted f whole e =
+    let q = select-passed (fileRequest f) roomy e in
     record {
-      directions = applies-not (List·Memᴰ·head refl) e;
-      divisions = applies-not (List·Memᴰ·tail (List·Memᴰ·tail (List·Memᴰ·head refl))) e;
-      pool = applies-not (List·Memᴰ·tail (List·Memᴰ·tail (List·Memᴰ·tail (List·Memᴰ·tail (List·Memᴰ·head refl))))) e;
+      directions = q .directions;
+      divisions = q .divisions;
+      pool = q .pool;
       rows = λ p l. omega (arith, whole .marks, whole .plans p l .row);
     }
 

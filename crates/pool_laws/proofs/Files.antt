@@ -1,7 +1,7 @@
 -- From the parser's answer to the promise of `choose`.
 use Rattle.pool_file.specs.declared.Parsed.{Parsed as Answer}
 use Prim.Native.Nat.{ℕ, _*_, _≤_, _<_}
-use mathlib.Core.Path.{_≡_, ap, sym, _∙_, subst}
+use mathlib.Core.Path.{_≡_, ap, sym, _∙_, subst, ap₂, refl}
 use mathlib.Core.Bool.{true, and-false}
 use mathlib.Core.List.{List, map}
 use mathlib.Core.Option.{Option, none, some}
@@ -16,7 +16,8 @@ use Rattle.model.specs.Plan.{planWords, maxObjectives}
 use Rattle.model.specs.Association.{Request}
 use Rattle.model.specs.PoolFile.{PoolFile, parse, fileRequest, fileText}
 use Rattle.model.specs.Refusal.{maxSize, badDirections, selectRefusal, refusalOfParsed, fileRefusal, chooseRefusal}
-use Rattle.model.specs.Calls.{ChooseExit, chooseBy, textOf, chooseOf, Chooses, wordRequest}
+use Rattle.model.specs.Calls.{ChooseExit, chooseBy, textOf, chooseOf, Chooses, wordRequest, chosenRefusedBy, textHandedOut}
+use Rattle.list_laws.proofs.Built.{over-take}
 use Rattle.list_laws.proofs.Bools.{by-option}
 use Rattle.pool_file.specs.declared.Header.{Header}
 use Rattle.pool_file.specs.declared.Parsed.the-variants as answer
@@ -28,8 +29,21 @@ use Rattle.pool_laws.proofs.Refusals.{file-refusal, list-refused}
 use Rattle.pool_laws.proofs.Crowded.{directions-first}
 use Rattle.pool_laws.proofs.Demand3.{file-accepted, choose-demand3}
 
+-- an answer tells the refusal, or that there is none
+told : (o : Option ℕ) (text out : List ℕ) → chosenRefusedBy (chooseBy o text out .answer) ≡ o
+told none text out = refl
+told (some n) text out = refl
+
 promise : (file out : List ℕ) (x : ChooseExit) → x ≡ chooseOf file out → Chooses file out x
-promise file out x e = record { whole = e; demand3 = choose-demand3 file (length out) }
+unfolding chooseOf
+promise file out x e = record {
+  whole = e;
+  refused = ap (λ (t : ChooseExit). chosenRefusedBy (t .answer)) e ∙ told (chooseRefusal file (length out)) (textOf (parse file)) out;
+  listing = λ o f read.
+      ap (λ (t : ChooseExit). textHandedOut (t .answer) (t .out)) (e ∙ ap₂ (λ (n : Option ℕ) (g : Option PoolFile). chooseBy n (textOf g) out) o read)
+      ∙ over-take (fileText f) out (length (fileText f)) refl;
+  demand3 = choose-demand3 file (length out);
+}
 
 -- ---- a file in no form
 

@@ -1,12 +1,10 @@
 -- From a selection's answer to the listing's: 1,024 entries are room for every list that is handed out.
-use Prim.Native.Nat.{ℕ, _+_, _-_, _≤_}
+use Prim.Native.Nat.{ℕ, _≤_}
 use mathlib.Core.Path.{_≡_, ap, sym, _∙_}
 use mathlib.Core.List.{List}
 use mathlib.Core.Option.{Option, none, some}
-use native.Mathlib.Omega.{arith}
 use lib.Ieee.{Float, binary64, div, ofBits}
-use lib.ListN.{length, take, replicate, length-replicate, replicate-append-replicate}
-use lib.Seq.{take-at}
+use lib.ListN.{length, take, replicate}
 use Rattle.model.specs.declared.Chosen.the-variants as chosen
 use Rattle.model.specs.declared.Outcome.the-variants as outcome
 use Rattle.model.specs.Lists.{over}
@@ -14,13 +12,15 @@ use Rattle.model.specs.Real.{infinity}
 use Rattle.model.specs.Association.{Request}
 use Rattle.model.specs.Kept.{selected}
 use Rattle.model.specs.Refusal.{selectRefusal}
-use Rattle.model.specs.Calls.{Lent, roomOf, SelectExit, selectAccepted, selectBy, selectOf, maxText}
+use Rattle.model.specs.Calls.{Lent, roomOf, SelectExit, selectAccepted, selectBy, selectOf, maxText, refusedBy}
 use Rattle.nsga3_laws.specs.Admitted.{Admitted}
 use Rattle.nsga3_laws.proofs.Admitted.{admitted}
 use Rattle.pool_laws.proofs.Printed.{selected-short}
 use Rattle.pool_laws.specs.Text.{listed}
 use Rattle.model.specs.PoolFile.{listingText}
-use Rattle.list_laws.proofs.Bools.{by-option}
+use Rattle.list_laws.proofs.Built.{take-replicate}
+use Rattle.niching_laws.proofs.KeptLength.{kept-length}
+use Rattle.demand3_laws.proofs.Calls.{select-refused}
 use Rattle.pool_laws.specs.Choice.{exit, textExit, requestText, roomy, listExit}
 use Rattle.pool_laws.proofs.Listed.{listing-over}
 use Rattle.pool_laws.proofs.Refusals.{list-refused, list-written}
@@ -32,28 +32,18 @@ start m = take m (replicate 8 (div binary64 (ofBits binary64 4607182418800017408
 
 pub ideal-start : (m : ℕ) → m ≤ 8 → start m ≡ replicate m infinity
 unfolding div ofBits
-ideal-start m h =
-    let e : 8 ≡ m + (8 - m) = omega arith in
-    ap (λ (n : ℕ). take m (replicate n infinity)) e ∙ ap (take m) (sym (replicate-append-replicate m (8 - m) infinity))
-    ∙ take-at (replicate m infinity) (replicate (8 - m) infinity) m (length-replicate m infinity)
+ideal-start m h = take-replicate m 8 infinity h
 
 -- ---- a selection's answer, by cases
 
 module _ (r : Request) (entry : Lent) (x : SelectExit) (e : x ≡ selectOf r entry) where
-  by : (o : Option ℕ) → selectRefusal r (roomOf entry) ≡ o → x ≡ selectBy o r entry
+  -- the answer tells the refusal, or that there is none
+  told : selectRefusal r (roomOf entry) ≡ refusedBy (x .answer .outcome)
   unfolding selectOf
-  by o h = e ∙ ap (λ (t : Option ℕ). selectBy t r entry) h
-
-  outcome-by : (o : Option ℕ) → selectRefusal r (roomOf entry) ≡ o → x .answer .outcome ≡ selectBy o r entry .answer .outcome
-  outcome-by o h = ap (λ (t : SelectExit). t .answer .outcome) (by o h)
+  told = sym (ap (λ (t : SelectExit). refusedBy (t .answer .outcome)) e ∙ select-refused r entry (selectRefusal r (roomOf entry)))
 
   number : (n : ℕ) → x .answer .outcome ≡ outcome.Refused n → selectRefusal r (roomOf entry) ≡ some n
-  unfolding selectAccepted
-  number n h = by-option (selectRefusal r (roomOf entry))
-      (λ o. let k : outcome.Kept (r .size) ≡ outcome.Refused n = sym (outcome-by none o) ∙ h in
-      let z : _≡_ {A = ℕ} 0 1 = cc in absurd (omega arith))
-      (λ k o. let q : outcome.Refused k ≡ outcome.Refused n = sym (outcome-by (some k) o) ∙ h in
-      let z : k ≡ n = cc in o ∙ ap some z)
+  number n h = told ∙ ap refusedBy h
 
   -- a selection that went through
   pub record Through (n : ℕ) : Type 0 where
@@ -64,18 +54,19 @@ module _ (r : Request) (entry : Lent) (x : SelectExit) (e : x ≡ selectOf r ent
     pub lines : x .slices .lines ≡ over (selected r .lines) (entry .lines)
 
   pub through : (n : ℕ) → x .answer .outcome ≡ outcome.Kept n → Through n
-  unfolding selectAccepted
-  through n h = by-option (selectRefusal r (roomOf entry))
-      (λ o. let q : outcome.Kept n ≡ outcome.Kept (r .size) = sym h ∙ outcome-by none o in
+  unfolding selectOf selectAccepted
+  through n h =
+      let o = told ∙ ap refusedBy h in
+      let by : x ≡ selectAccepted r entry = e ∙ ap (λ (t : Option ℕ). selectBy t r entry) o in
+      let q : outcome.Kept n ≡ outcome.Kept (length (selected r .kept)) = sym h ∙ ap (λ (t : SelectExit). t .answer .outcome) by in
+      let c : n ≡ length (selected r .kept) = cc in
       record {
         none = o;
-        size = cc;
-        kept = ap (λ (t : SelectExit). t .slices .kept) (by none o);
-        fronts = ap (λ (t : SelectExit). t .slices .fronts) (by none o);
-        lines = ap (λ (t : SelectExit). t .slices .lines) (by none o);
-      })
-      (λ k o. let q : outcome.Kept n ≡ outcome.Refused k = sym h ∙ outcome-by (some k) o in
-      let z : _≡_ {A = ℕ} 0 1 = cc in absurd (omega arith))
+        size = c ∙ kept-length r;
+        kept = ap (λ (t : SelectExit). t .slices .kept) by;
+        fronts = ap (λ (t : SelectExit). t .slices .fronts) by;
+        lines = ap (λ (t : SelectExit). t .slices .lines) by;
+      }
 
   -- ---- the listing's answer
 

@@ -1,9 +1,8 @@
 -- The words of a session and of a dimension, from their parts.
-use Prim.Native.Nat.{ℕ}
+use Prim.Native.Nat.{ℕ, _≤_}
 use mathlib.Core.Path.{_≡_, refl, ap, ap₂, _∙_}
 use mathlib.Core.List.{List, [], _∷_, _++_}
 use lib.ListN.{length, getD}
-use Rattle.candidates.proofs.Laid.{over-next}
 use Rattle.model.specs.declared.Config.{Config}
 use Rattle.model.specs.declared.Distribution.{Distribution}
 use Rattle.model.specs.declared.Distribution.the-variants as dist
@@ -11,6 +10,9 @@ use Rattle.model.specs.declared.Session.{Session}
 use Rattle.model.specs.Lists.{joinBelow, over}
 use Rattle.model.specs.Real.{bits}
 use Rattle.model.specs.Session.{dimensionOf}
+use native.Mathlib.Omega.{arith}
+use Rattle.list_laws.proofs.Rows.{joinBelow-length}
+use Rattle.list_laws.proofs.Built.{over-run}
 use lib.Seq.{sets}
 use Rattle.session_words.specs.Coding.{phaseWord, hasFirst, firstWord, dimensionWords, eight, configWords, stateWords, idealWords, sessionWords}
 
@@ -37,14 +39,15 @@ state-laid s p has plan a b c = rw (a, b, c)
 
 pub session-laid : (s : Session) (w w1 w2 w3 w4 cs ss zs : List ℕ) → cs ≡ configWords (s .config) → w1 ≡ sets w 0 cs → ss ≡ stateWords s → w2 ≡ sets w1 14 ss
     → zs ≡ idealWords (s .«ideal_point») → w3 ≡ sets w2 22 zs → w4 ≡ sets w3 30 (joinBelow (λ d. dimensionWords (dimensionOf s d)) 32)
-    → w4 ≡ over (sessionWords s) w
+    → 222 ≤ length w → w4 ≡ over (sessionWords s) w
 unfolding configWords stateWords idealWords sessionWords
-session-laid s w w1 w2 w3 w4 cs ss zs p p1 q q2 r r3 t =
+session-laid s w w1 w2 w3 w4 cs ss zs p p1 q q2 r r3 t room =
     let c = configWords (s .config) in
     let u = stateWords s in
     let z = idealWords (s .«ideal_point») in
     let d = joinBelow (λ d. dimensionWords (dimensionOf s d)) 32 in
-    let a1 : w1 ≡ over c w = p1 ∙ ap (λ x. sets w 0 x) p in
-    let a2 : w2 ≡ over (c ++ u) w = q2 ∙ ap₂ (λ x y. sets y 14 x) q a1 ∙ over-next c u w 14 refl in
-    let a3 : w3 ≡ over ((c ++ u) ++ z) w = r3 ∙ ap₂ (λ x y. sets y 22 x) r a2 ∙ over-next (c ++ u) z w 22 refl in
-    t ∙ ap (λ x. sets x 30 d) a3 ∙ over-next ((c ++ u) ++ z) d w 30 refl
+    let n = joinBelow-length (λ d. dimensionWords (dimensionOf s d)) 6 32 (λ i u. dimension-length (dimensionOf s i)) in
+    let a1 : w1 ≡ over c w = p1 ∙ ap (λ x. sets w 0 x) p ∙ over-run [] c w 0 refl (omega arith) in
+    let a2 : w2 ≡ over (c ++ u) w = q2 ∙ ap₂ (λ x y. sets y 14 x) q a1 ∙ over-run c u w 14 refl (omega arith) in
+    let a3 : w3 ≡ over ((c ++ u) ++ z) w = r3 ∙ ap₂ (λ x y. sets y 22 x) r a2 ∙ over-run (c ++ u) z w 22 refl (omega arith) in
+    t ∙ ap (λ x. sets x 30 d) a3 ∙ over-run ((c ++ u) ++ z) d w 30 refl (omega (arith, n))

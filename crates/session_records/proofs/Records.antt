@@ -1,23 +1,24 @@
 -- Plans found by their numbers: the last record of one in a history, its place in a generation, and the records bred from.
-use Prim.Native.Nat.{ℕ, suc, _+_, _-_, _*_, _≤_, _<_, zero-le}
-use mathlib.Core.Path.{_≡_, refl, sym, ap, ap₂, _∙_}
-use mathlib.Core.Bool.{Bool, false, not}
-use mathlib.Core.List.{List, [], _∷_}
+use Prim.Native.Nat.{ℕ, _+_, _-_, _*_, _≤_, _<_}
+use mathlib.Core.Path.{_≡_, sym, ap, ap₂, _∙_, subst}
+use mathlib.Core.Bool.{Bool, false, not, true≢false}
+use mathlib.Core.List.{List}
 use mathlib.Core.Logic.{⊎-elim}
-use native.Mathlib.Nat.{eq-or-lt-of-le, add-zero, zero-add}
-use native.Mathlib.Numerals.{add-one}
+use native.Mathlib.Nat.{eq-or-lt-of-le, add-zero}
 use native.Mathlib.Omega.{arith}
-use borrow.Author.Tests.{eq-eqb, ne-eqb, lt-ltb, le-ltb, leb-true, leb-false}
-use lib.Dec.{eqb, leb, ltb, leb·suc-suc}
-use lib.ListN.{length, getD, take, drop, drop-of-length-le}
-use lib.Seq.{drop-cons, length-take-le, sets}
+use borrow.Author.Tests.{eq-eqb, ne-eqb, lt-ltb, le-ltb, leb-true, leb-false, eqb-true}
+use lib.Dec.{eqb, leb, ltb}
+use lib.ListN.{length, getD, take}
+use lib.Seq.{length-take-le, sets}
 use Rattle.list_laws.proofs.Bools.{by-bool}
 use Rattle.list_laws.proofs.Built.{listBelow-length}
-use Rattle.list_laws.proofs.First.{lastBelow-nowhere, lastBelow-at, lastBelow-same}
-use Rattle.candidates.proofs.Laid.{join-next}
-use Rattle.model.specs.Lists.{lastBelow, joinBelow, has, over, placeIn}
+use Rattle.list_laws.proofs.First.{lastBelow-nowhere, lastBelow-at, lastBelow-same, firstBelow-passes, firstBelow-before}
+use Rattle.model.specs.Lists.{lastBelow, joinBelow, has, over, placeIn, In}
 use Rattle.model.specs.Plan.{planOf, planAt, planCount, planWords}
 use Rattle.model.specs.Session.{recordOf, blockOf}
+use Rattle.list_laws.proofs.Rows.{joinBelow-run}
+use Rattle.list_laws.proofs.Members.{in-has, not-has, getD-in, place-of}
+use Rattle.list_laws.proofs.Below.{by-lt}
 
 -- ---- the last record of a number
 
@@ -49,31 +50,13 @@ others-more history plan n j l e h t a b =
     (λ m. h t (omega arith) b)
     (eq-or-lt-of-le a)
 
--- plan i of a generation stands in history
-abbrev pub stands : List ℕ → List ℕ → ℕ → Bool
-stands history plans i = ltb (recordOf history (getD plans i 0)) (planCount history)
-
--- ---- the place of a number among a generation's plans
-
-pub place-here : (l : List ℕ) (plan i : ℕ) → i < length l → getD l i 0 ≡ plan → placeIn (drop i l) plan ≡ 0
-unfolding placeIn
-place-here l plan i h e = rw (drop-cons l i 0 h, eq-eqb (getD l i 0) plan e)
-
-pub place-next : (l : List ℕ) (plan i : ℕ) → i < length l → (getD l i 0 ≡ plan → ⊥) → placeIn (drop i l) plan ≡ suc (placeIn (drop (i + 1) l) plan)
-unfolding placeIn
-place-next l plan i h e = rw (drop-cons l i 0 h, ne-eqb (getD l i 0) plan e, add-one i)
-
-pub place-end : (l : List ℕ) (plan i : ℕ) → length l ≤ i → placeIn (drop i l) plan ≡ 0
-unfolding placeIn
-place-end l plan i h = rw (drop-of-length-le l {i = i} h)
-
 -- a number is listed just where its place is within the list
 has-place : (l : List ℕ) (plan : ℕ) → has l plan ≡ ltb (placeIn l plan) (length l)
-unfolding has placeIn
-has-place [] plan = refl
-has-place (x ∷ l) plan = by-bool (eqb x plan)
-    (λ e. rw e (sym (lt-ltb 0 (suc (length l)) (omega arith))))
-    (λ e. rw e (has-place l plan ∙ sym (leb·suc-suc (suc (placeIn l plan)) (length l))))
+has-place l plan = by-lt (placeIn l plan) (length l)
+    (λ h. in-has l plan (subst (λ q. In q l) (eqb-true _ plan (firstBelow-passes _ (length l) h)) (getD-in l (placeIn l plan) h)) ∙ sym (lt-ltb _ (length l) h))
+    (λ h. not-has l plan (λ m. let r = place-of m in
+    true≢false (sym (eq-eqb _ plan (r .2)) ∙ firstBelow-before (λ i. eqb (getD l i 0) plan) (length l) (r .0) (omega (arith, r .1))))
+    ∙ sym (le-ltb _ (length l) h))
 
 -- so it is new among the first n where its place is past them
 pub is-new-by : (ps : List ℕ) (n plan i : ℕ) → n ≤ length ps → i ≡ placeIn (take n ps) plan → not (has (take n ps) plan) ≡ leb n i
@@ -85,8 +68,8 @@ is-new-by ps n plan i h e =
 
 -- ---- the records bred from
 
-pub records-more : (f : ℕ → ℕ) (history old pool : List ℕ) (i k : ℕ) → k ≡ f i → pool ≡ over (joinBelow (λ i. blockOf history (f i)) i) old
-    → sets pool (i * planWords) (blockOf history k) ≡ over (joinBelow (λ i. blockOf history (f i)) (i + 1)) old
-records-more f history old pool i k e g =
+pub records-more : (f : ℕ → ℕ) (history old pool : List ℕ) (i k : ℕ) → i * planWords + planWords ≤ length old → k ≡ f i
+    → pool ≡ over (joinBelow (λ i. blockOf history (f i)) i) old → sets pool (i * planWords) (blockOf history k) ≡ over (joinBelow (λ i. blockOf history (f i)) (i + 1)) old
+records-more f history old pool i k room e g =
     ap₂ (λ a b. sets b (i * planWords) (blockOf history a)) e g
-    ∙ join-next (λ i. blockOf history (f i)) planWords (λ d. listBelow-length _ planWords) 0 (i * planWords) i old zero-le (zero-add (i * planWords))
+    ∙ joinBelow-run (λ i. blockOf history (f i)) planWords i (λ t u. listBelow-length _ planWords) old (omega (arith, listBelow-length (λ j. getD history (f i * planWords + j) 0) planWords))

@@ -8,7 +8,8 @@ ghost use lib.ListN.{length, getD, take};
 ghost use Rattle.model.specs.Lists.{allBelow, joinBelow, has, over, placeIn};
 ghost use Rattle.model.specs.Plan.{planCount};
 ghost use Rattle.model.specs.Setting.{validDimension};
-ghost use Rattle.model.specs.Session.{recordOf, blockOf, pastDiscovery, discoversFor};
+ghost use Rattle.model.specs.Session.{recordOf, blockOf, pastDiscovery, discoversFor, allStand, standsIn, recordsOf, addsFor, roomFor};
+ghost use Rattle.model.specs.Refusal.{badNext};
 ghost use lib.Seq.{sets};
 use model::Distribution;
 use model::MAX_DIMS;
@@ -50,8 +51,7 @@ fn record_of(history: &[u64], plan: u64) -> usize
 
 // The first `size` plans of a generation have come, and all stand in history. A slice that is too short to hold their numbers shows none of them.
 pub fn evaluated(history: &[u64], plans: &[u64], n_plans: usize, size: usize) -> bool
-    ensures { λ r. ⌜ r ≡ (leb size «n_plans» && (leb size (length (now (plans .entry)))
-        && allBelow (λ i. ltb (recordOf (now (history .entry)) (getD (now (plans .entry)) i 0)) (planCount (now (history .entry)))) size)) ⌝ }
+    ensures { λ r. ⌜ r ≡ allStand (now (history .entry)) (now (plans .entry)) «n_plans» size ⌝ }
 {
     if n_plans < size {
         return false;
@@ -89,8 +89,8 @@ fn copy_record(history: &[u64], k: usize, i: usize, pool: &mut [u64])
 // The plans bred from: the first `size` plans of the generation as history has them, at the pool's front.
 pub fn gather(history: &[u64], plans: &[u64], size: usize, pool: &mut [u64])
     requires { ⌜ (size ≤ length (now plans)) × (size * 124 ≤ length (now pool))
-        × (allBelow (λ i. ltb (recordOf (now history) (getD (now plans) i 0)) (planCount (now history))) size ≡ true) ⌝ }
-    ensures { λ _. ⌜ now (pool .exit) ≡ over (joinBelow (λ i. blockOf (now (history .entry)) (recordOf (now (history .entry)) (getD (now (plans .entry)) i 0))) size) (now (pool .entry)) ⌝ }
+        × (allBelow (standsIn (now history) (now plans)) size ≡ true) ⌝ }
+    ensures { λ _. ⌜ now (pool .exit) ≡ over (recordsOf (now (history .entry)) (now (plans .entry)) size) (now (pool .entry)) ⌝ }
 {
     let mut i = 0;
     while i < size {
@@ -119,7 +119,7 @@ pub fn place_in(plans: &[u64], n: usize, plan: u64) -> usize
 
 // The call adds a dimension: discovery still lasts, and the plan is the first that came.
 pub fn discovers(phase: Phase, first: OptionU64, plan: u64) -> bool
-    ensures { λ r. ⌜ r ≡ (not (pastDiscovery phase) && discoversFor first plan) ⌝ }
+    ensures { λ r. ⌜ r ≡ addsFor phase first plan ⌝ }
 {
     match phase {
         Phase::Active => false,
@@ -132,7 +132,7 @@ pub fn discovers(phase: Phase, first: OptionU64, plan: u64) -> bool
 
 // The lent slices have room for what they must hold.
 pub fn long_enough(candidates: usize, plans: usize, next_dims: usize) -> bool
-    ensures { λ r. ⌜ r ≡ (leb 65536 candidates && (leb 2048 plans && leb 2048 «next_dims»)) ⌝ }
+    ensures { λ r. ⌜ r ≡ roomFor candidates plans «next_dims» ⌝ }
 {
     if candidates < MAX_WORDS {
         return false;
@@ -145,7 +145,7 @@ pub fn long_enough(candidates: usize, plans: usize, next_dims: usize) -> bool
 
 // Refusal 6 for the dimension that a session of n dimensions would add.
 pub fn bad_dimension(n: usize, distribution: Distribution) -> bool
-    ensures { λ r. ⌜ r ≡ (leb 32 n || not (validDimension distribution)) ⌝ }
+    ensures { λ r. ⌜ r ≡ badNext n distribution ⌝ }
 {
     if MAX_DIMS <= n {
         return true;

@@ -3,7 +3,7 @@ ghost use mathlib.Core.Path.{_≡_};
 ghost use mathlib.Core.Bool.{_&&_, _||_};
 ghost use Prim.Native.Nat.{_*_, _≤_};
 ghost use lib.Dec.{leb, ltb};
-ghost use Rattle.model.specs.Refusal.{stepRefusal};
+ghost use Rattle.model.specs.Refusal.{stepRefusal, stepTooShort};
 ghost use Rattle.model.specs.Calls.{wordRequest};
 ghost use Rattle.model.specs.Setting.{operators};
 ghost use Rattle.refusals.specs.Checked.{checked};
@@ -22,7 +22,7 @@ fn no_step_room(
     offspring: usize,
 ) -> bool
     requires { ⌜ (size ≤ 1024) × («n_dims» ≤ 32) ⌝ }
-    ensures { λ r. ⌜ r ≡ ((leb 2 n && (ltb kept size || (ltb fronts n || ltb lines n))) || ltb offspring (size * «n_dims»)) ⌝ }
+    ensures { λ r. ⌜ r ≡ stepTooShort (record { kept = kept; fronts = fronts; lines = lines }) offspring size n «n_dims» ⌝ }
 {
     if offspring < size * n_dims {
         return true;

@@ -7,7 +7,7 @@ use lib.ListN.{length}
 use Rattle.model.specs.Lists.{over}
 use Rattle.model.specs.Setting.{Operators, wordsOf, operators}
 use Rattle.settings.proofs.Valid.{few}
-use Rattle.list_laws.proofs.Rows.{product}
+use native.Mathlib.Nat.{mul-le-mul}
 use Rattle.generation_laws.proofs.Dimensions.{dimensions-held}
 use Rattle.generation_laws.proofs.Breeding.{bred-is}
 use Rattle.breeding.proofs.breed.Statement.{statement}
@@ -15,7 +15,7 @@ use Rattle.breeding.proofs.breed.Tie as tie
 
 -- the parents' words fit
 fit : (s : tie.Start) → s .args .size * s .args .n-dims ≤ 32768
-fit s = product (s .args .size) (s .args .n-dims) 1024 32 (s .pre .1 .1) (few _ _ (s .pre .0 .4))
+fit s = mul-le-mul (s .pre .1 .1) (few _ _ (s .pre .0 .4))
 
 slice-aggregate-fill-parents : tie.Need-slice-aggregate-fill-parents
 slice-aggregate-fill-parents c = search needs

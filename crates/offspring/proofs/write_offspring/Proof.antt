@@ -18,14 +18,14 @@ abbrev Inv-loop : tie.InvT-loop
 Inv-loop parents count ranks dims n probability crossover-eta mutation-eta size offspring₀ rng₀ k₀ offspring rng k =
     (k ≤ (size + 1) / 2)
     × LaidOut offspring₀ (min (2 * k) size * n)
-    (bredBy (operators (dimensionsOf dims) n probability crossover-eta mutation-eta) (parentsIn (dimensionsOf dims) n parents count) (λ (i : ℕ). getD ranks i 0) (rng₀ .s) size k)
+    (bredBy (operators dims n probability crossover-eta mutation-eta) (parentsIn (dimensionsOf dims) n parents count) (λ (i : ℕ). getD ranks i 0) (rng₀ .s) size k)
     offspring (rng .s)
 
 abbrev μ-loop : tie.MeasureT-loop
 μ-loop parents count ranks dims n probability crossover-eta mutation-eta size offspring₀ rng₀ k₀ offspring rng k = (size + 1) / 2 - k
 
 abbrev o : tie.Start Inv-loop μ-loop → Operators
-o s = operators (dimensionsOf (s .args .dims)) (s .args .n) (s .args .probability) (s .args .crossover-eta) (s .args .mutation-eta)
+o s = operators (s .args .dims) (s .args .n) (s .args .probability) (s .args .crossover-eta) (s .args .mutation-eta)
 
 abbrev ps : tie.Start Inv-loop μ-loop → List (List ParamValue)
 ps s = parentsIn (dimensionsOf (s .args .dims)) (s .args .n) (s .args .parents .now) (s .args .count)

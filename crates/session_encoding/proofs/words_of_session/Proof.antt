@@ -52,7 +52,7 @@ returns c =
     (c .before .before .before .before .before .before .before .before .before .before .before .before .put2 .ensures)
     (c .before .before .before .before .before .before .before .before .before .ideal-words .ensures)
     (c .before .before .before .before .before .before .put3 .ensures)
-    (c .before .before .put-dimensions .ensures) in
+    (c .before .before .put-dimensions .ensures) (s .pre) in
     (e, ap sessionOf e ∙ session-back (s .args .session) (s .args .words .now) (stored (s .args .session) _ (s .good .0)))
 
 pub words-of-session-spec : {M : Type 1} → statement M

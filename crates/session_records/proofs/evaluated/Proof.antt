@@ -6,15 +6,15 @@ use lib.Dec.{ltb}
 use lib.ListN.{length}
 use borrow.Author.Tests.{lt-ltb, le-ltb, le-leb, lt-leb}
 use Rattle.model.specs.Lists.{allBelow}
+use Rattle.model.specs.Session.{standsIn}
 use Rattle.list_laws.proofs.Bools.{and-not, past}
 use Rattle.list_laws.proofs.Tests.{allBelow-none, allBelow-yes, allBelow-no}
-use Rattle.session_records.proofs.Records.{stands}
 use native.Mathlib.Omega.{arith}
 use Rattle.session_records.proofs.evaluated.Statement.{statement}
 use Rattle.session_records.proofs.evaluated.Tie as tie
 
 abbrev Inv-loop : tie.InvT-loop
-Inv-loop history plans n-plans size n i₀ i = (i ≤ size) × (allBelow (stands history plans) i ≡ true)
+Inv-loop history plans n-plans size n i₀ i = (i ≤ size) × (allBelow (standsIn history plans) i ≡ true)
 
 abbrev μ-loop : tie.MeasureT-loop
 μ-loop history plans n-plans size n i₀ i = size - i
@@ -54,7 +54,7 @@ loop-again c =
     let a = c .before .before .before .before .before .before .before .before .before .before .args in
     let e = c .before .record-of .ensures in
     let n = c .before .before .before .before .before .plan-count .ensures in
-    (omega arith, allBelow-yes (stands (a .history .now) (a .plans .now)) (l .i) (l .inv .1) (sym (ap₂ (λ (x y : ℕ). ltb x y) e n) ∙ lt-ltb _ _ (c .if3 .taken)))
+    (omega arith, allBelow-yes (standsIn (a .history .now) (a .plans .now)) (l .i) (l .inv .1) (sym (ap₂ (λ (x y : ℕ). ltb x y) e n) ∙ lt-ltb _ _ (c .if3 .taken)))
 
 returns-3 : tie.Need-returns-3 Inv-loop μ-loop
 returns-3 c =
@@ -65,7 +65,7 @@ returns-3 c =
     let t = c .before .before .before .loop-test .taken in
     sym (past (le-leb (a .size) (a .n-plans) (c .before .before .before .before .before .before .before .if1 .left))
     (past (le-leb (a .size) (length (a .plans .now)) (c .before .before .before .before .before .before .if2 .left))
-    (allBelow-no (stands (a .history .now) (a .plans .now)) (a .size) (l .i) t (sym (ap₂ (λ (x y : ℕ). ltb x y) e n) ∙ le-ltb _ _ (c .if3 .left)))))
+    (allBelow-no (standsIn (a .history .now) (a .plans .now)) (a .size) (l .i) t (sym (ap₂ (λ (x y : ℕ). ltb x y) e n) ∙ le-ltb _ _ (c .if3 .left)))))
 
 returns-4 : tie.Need-returns-4 Inv-loop μ-loop
 returns-4 c =
@@ -74,7 +74,7 @@ returns-4 c =
     let e : l .i ≡ a .size = omega arith in
     sym (past (le-leb (a .size) (a .n-plans) (c .before .before .before .before .if1 .left))
     (past (le-leb (a .size) (length (a .plans .now)) (c .before .before .before .if2 .left))
-    (ap (allBelow (stands (a .history .now) (a .plans .now))) (sym e) ∙ l .inv .1)))
+    (ap (allBelow (standsIn (a .history .now) (a .plans .now))) (sym e) ∙ l .inv .1)))
 
 pub evaluated-spec : {M : Type 1} → statement M
 evaluated-spec =

@@ -1,23 +1,28 @@
 -- the number stands at none of the first i places
-use Prim.Native.Nat.{_+_, _-_, _≤_}
-use mathlib.Core.Path.{_≡_, sym, _∙_}
-use lib.ListN.{take, drop}
+use Prim.Native.Nat.{_-_, _≤_, _<_, ℕ}
+use mathlib.Core.Path.{_≡_, sym, _∙_, ap}
+use lib.ListN.{take, getD, length}
 use lib.Seq.{length-take-le, getD-take}
-use native.Mathlib.Nat.{zero-add}
-use Rattle.session_records.proofs.Records.{place-here, place-next, place-end}
+use native.Mathlib.Nat.{not-suc-le-zero}
 use native.Mathlib.Omega.{arith}
 use Rattle.session_records.proofs.place_in.Statement.{statement}
 use Rattle.session_records.proofs.place_in.Tie as tie
-use Rattle.model.specs.Lists.{placeIn}
+use lib.Dec.{eqb}
+use borrow.Author.Tests.{eq-eqb, ne-eqb}
+use native.Mathlib.Numerals.{add-one}
+use mathlib.Core.List.{List}
+use mathlib.Core.Bool.{false}
+use Rattle.list_laws.proofs.Below.{last-or}
+use Rattle.list_laws.proofs.First.{firstBelow-at, firstBelow-nowhere}
 
 abbrev Inv-loop : tie.InvT-loop
-Inv-loop plans n plan i₀ i = (i ≤ n) × (placeIn (take n plans) plan ≡ i + placeIn (drop i (take n plans)) plan)
+Inv-loop plans n plan i₀ i = (i ≤ n) × ((t : ℕ) → t < i → eqb (getD (take n plans) t 0) plan ≡ false)
 
 abbrev μ-loop : tie.MeasureT-loop
 μ-loop plans n plan i₀ i = n - i
 
 loop-holds : tie.Need-loop-holds Inv-loop μ-loop
-loop-holds c = (omega arith, sym (zero-add _))
+loop-holds c = (omega arith, λ t h. absurd (not-suc-le-zero h))
 
 mul-if1 : tie.Need-mul-if1 Inv-loop μ-loop
 mul-if1 c = omega arith
@@ -25,13 +30,16 @@ mul-if1 c = omega arith
 shared-slice-read-if1 : tie.Need-shared-slice-read-if1 Inv-loop μ-loop
 shared-slice-read-if1 c = omega arith
 
+-- the entry that is looked at
+entry : (plans : List ℕ) (n i : ℕ) → i < n → getD (take n plans) i 0 ≡ getD plans i 0
+entry plans n i h = getD-take n plans i 0 h
+
 returns : tie.Need-returns Inv-loop μ-loop
 returns c =
     let l = c .before .before .before .loop in
     let a = c .before .before .before .before .args in
     let m = length-take-le (a .n) (a .plans .now) (omega arith) in
-    let z = place-here (take (a .n) (a .plans .now)) (a .plan) (l .i) (omega arith) (getD-take (a .n) (a .plans .now) (l .i) 0 (omega arith) ∙ c .if1 .taken) in
-    omega (arith, l .inv .1)
+    sym (firstBelow-at _ (length (take (a .n) (a .plans .now))) (l .i) (omega arith) (eq-eqb _ (a .plan) (entry (a .plans .now) (a .n) (l .i) (omega arith) ∙ c .if1 .taken)) (l .inv .1))
 
 add-i : tie.Need-add-i Inv-loop μ-loop
 add-i c = omega arith
@@ -43,17 +51,15 @@ loop-again : tie.Need-loop-again Inv-loop μ-loop
 loop-again c =
     let l = c .before .before .before .loop in
     let a = c .before .before .before .before .args in
-    let m = length-take-le (a .n) (a .plans .now) (omega arith) in
-    let z = place-next (take (a .n) (a .plans .now)) (a .plan) (l .i) (omega arith) (λ e. c .if1 .left (sym (getD-take (a .n) (a .plans .now) (l .i) 0 (omega arith)) ∙ e)) in
-    (omega arith, omega (arith, l .inv .1))
+    let here = ne-eqb _ (a .plan) (λ e. c .if1 .left (sym (entry (a .plans .now) (a .n) (l .i) (omega arith)) ∙ e)) in
+    (omega arith, λ t h. last-or (rw (add-one (l .i)) at h) (λ v. ap (λ k. eqb (getD (take (a .n) (a .plans .now)) k 0) (a .plan)) v ∙ here) (l .inv .1 t))
 
 returns-2 : tie.Need-returns-2 Inv-loop μ-loop
 returns-2 c =
     let l = c .before .loop in
     let a = c .before .before .args in
     let m = length-take-le (a .n) (a .plans .now) (omega arith) in
-    let z = place-end (take (a .n) (a .plans .now)) (a .plan) (l .i) (omega arith) in
-    omega (arith, l .inv .1)
+    sym (firstBelow-nowhere _ (length (take (a .n) (a .plans .now))) (λ t h. l .inv .1 t (omega arith)) ∙ m)
 
 pub place-in-spec : {M : Type 1} → statement M
 place-in-spec =
