@@ -171,7 +171,7 @@ activate st =
     let active = renewed s (cs .state) (s .«ideal_point») (s .progress .generation) in
     state active (over (wordsOf (cs .value)) (st .candidates)) (st .plans) (st .nextDims)
 
--- a candidate more, drawn, where every candidate has its plan
+-- a candidate more, drawn, where every candidate has its plan: its words are stored behind those of the others
 unfoldable pub overflow : State → State
 overflow st =
     let s = st .session in
