@@ -2,18 +2,13 @@
 use Prim.Native.Nat.{ℕ, _≤_, _<_}
 use mathlib.Core.Path.{_≡_}
 use mathlib.Core.Bool.{true, false}
-use native.Mathlib.Omega.{arith}
-use lib.Ieee.{nan, isNan}
-use lib.ListN.{getD}
-use Rattle.model.specs.Row.{directionOf, rowOf}
+use lib.Ieee.{isNan}
 use Rattle.model.specs.Association.{Request, objectives, lineCount, valueOf, dominance, distanceTo, lineOf}
 use Rattle.model.specs.Kept.{before, isSplit, splitFront, filled, selected}
-use Rattle.model.specs.Refusal.{measurable}
 use Rattle.model.specs.Demand3.{Demand3}
 use Rattle.niching_laws.specs.Niching.{ByProcedure}
-use Rattle.list_laws.proofs.Tests.{allIn-each}
-use Rattle.list_laws.proofs.Checks.{good-values, pool-plan}
-use Rattle.front_laws.proofs.Plans.{known-toMinimize, measurable-known, beats-strict}
+use Rattle.list_laws.proofs.Checks.{pool-plan}
+use Rattle.front_laws.proofs.Plans.{accepted-known, beats-strict}
 use Rattle.reference_laws.proofs.Count.{lines-some}
 use Rattle.demand3_laws.specs.Facts.{Strict, Accepted}
 pub use Rattle.demand3_laws.proofs.Passed.{some-objectives, one-to-1024}
@@ -25,11 +20,8 @@ module _ (r : Request) (accepted : Accepted r) where
   accepted-lines = lines-some (objectives r) (r .divisions) (some-objectives (r .marks) (accepted .directions) .0)
 
   pub values-real : (p j : ℕ) → p < r .count → j < objectives r → isNan (valueOf r p j) ≡ false
-  unfolding rowOf
   values-real p j h k =
-      let values = good-values (objectives r) (r .plans p) (pool-plan r (accepted .pool) p h) in
-      known-toMinimize (directionOf (getD (r .marks) j 0)) (getD (r .plans p .row) j nan)
-      (measurable-known (getD (r .plans p .row) j nan) (allIn-each measurable nan (r .plans p .row) values j (omega (arith, accepted .rows p h))))
+      accepted-known (r .marks) (objectives r) (r .plans p) (record { good = pool-plan r (accepted .pool) p h; whole = accepted .rows p h }) j k
 
   dominance-strict : Strict (dominance r) (r .count)
   dominance-strict = beats-strict (r .marks) (r .plans) (r .count) (λ p h j k. values-real p j h k)

@@ -22,7 +22,8 @@ use Rattle.niching_laws.proofs.Association.{lineOf-inside, kept-distance}
 use Rattle.demand3_laws.specs.Facts.{FrontFacts}
 use Rattle.list_laws.proofs.Bools.{by-bool, no-pass}
 use Rattle.front_laws.proofs.Rounds.{inFirst-more}
-use Rattle.front_laws.proofs.Order.{inFront-new, inFront-first, listing-below, listing-exact}
+use Rattle.front_laws.proofs.Rounds.{inFront-new}
+use Rattle.front_laws.proofs.Order.{inFront-first, listing-below, listing-exact}
 use Rattle.demand3_laws.proofs.Fronts.{dominators-first}
 use Rattle.demand3_laws.proofs.Sizes.{sizeOf-len, split-room, split-short, split-kept, split-only, whole-fill, whole-kept, whole-none}
 

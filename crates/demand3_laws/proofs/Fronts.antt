@@ -1,13 +1,12 @@
 -- The front theorems as demand 3 uses them: the front facts, and that a plan's dominators are in earlier fronts.
 use Prim.Native.Nat.{ℕ, suc, _<_}
-use mathlib.Core.Path.{_≡_}
-use mathlib.Core.Bool.{Bool, true, not, _&&_, true≢false}
+use mathlib.Core.Path.{_≡_, sym, _∙_}
+use mathlib.Core.Bool.{Bool, true, true≢false}
 use native.Mathlib.Omega.{arith}
 use Rattle.model.specs.Papers.Deb2002.{inFirst}
 use Rattle.list_laws.proofs.Bools.{by-bool}
-use Rattle.list_laws.proofs.Counts.{none-countBelow}
-use Rattle.front_laws.proofs.Rounds.{waiting}
-use Rattle.front_laws.proofs.Order.{inFirst-later, inFront-top, inFirst-front, front-exactly, listing-exactly, all-inFirst}
+use Rattle.front_laws.proofs.Rounds.{inFirst-front}
+use Rattle.front_laws.proofs.Order.{inFirst-later, inFront-undominated, front-exactly, listing-exactly, all-inFirst}
 use Rattle.demand3_laws.specs.Facts.{Strict, FrontFacts}
 
 -- where dominance is a strict order, the front facts hold
@@ -21,8 +20,7 @@ front-facts {d} {n} strict =
 
 -- whoever dominates a plan of the first k + 1 fronts is in one of the first k
 pub dominators-first : (d : ℕ → ℕ → Bool) (n k p q : ℕ) → inFirst d n (suc k) p ≡ true → q < n → d q p ≡ true → inFirst d n k q ≡ true
-unfolding waiting
 dominators-first d n k p q e h dom =
     let f = inFirst-front d n (suc k) p e in
-    let none = none-countBelow (λ t. not (inFirst d n (f .0) t) && d t p) n (inFront-top d n (f .0) p (f .2)) q h in
-    by-bool (inFirst d n (f .0) q) (inFirst-later d n (f .0) k q (omega (arith, f .1))) (λ y. absurd (true≢false (rw (y, dom) at none)))
+    by-bool (inFirst d n (f .0) q) (inFirst-later d n (f .0) k q (omega (arith, f .1)))
+    (λ y. absurd (true≢false (sym dom ∙ inFront-undominated d n (f .0) p (f .2) q h y)))

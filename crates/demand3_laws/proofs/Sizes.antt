@@ -1,6 +1,6 @@
 -- How many plans the whole fronts have beside the size wanted, where a front is split and where none is.
 use Prim.Native.Nat.{ℕ, suc, _+_, _-_, _≤_, _<_}
-use mathlib.Core.Path.{_≡_, sym, ap, _∙_}
+use mathlib.Core.Path.{_≡_, sym, ap}
 use mathlib.Core.Bool.{true, false}
 use mathlib.Core.List.{_++_, append-nil}
 use native.Mathlib.Omega.{arith}
@@ -8,17 +8,16 @@ use lib.Dec.{ltb}
 use lib.ListN.{length}
 use borrow.Author.Tests.{ltb-true, ltb-false}
 use Rattle.model.specs.Front.{listing}
-use Rattle.model.specs.Papers.Deb2002.{inFirst}
 use Rattle.model.specs.Association.{Request, dominance}
 use Rattle.model.specs.Draw.{inTurn}
 use Rattle.model.specs.Kept.{wholeFronts, before, isSplit, splitFront, filled, selectedSplit, selectedWhole, selected}
 use Rattle.model.specs.Demand3.{sizeOfFirst, Split}
 use Rattle.demand3_laws.specs.Facts.{FrontFacts}
+use Rattle.list_laws.proofs.Below.{by-lt, neither-below}
 use Rattle.list_laws.proofs.Bools.{by-bool, and-left, and-right}
-use Rattle.list_laws.proofs.Counts.{countBelow-all}
 use Rattle.list_laws.proofs.First.{firstBelow-le, firstBelow-passes}
 use Rattle.front_laws.proofs.Listings.{listing-grows, listing-up}
-use Rattle.front_laws.proofs.Order.{listing-length}
+use Rattle.front_laws.proofs.Order.{listing-length, listing-full}
 use Rattle.niching_laws.proofs.KeptLength.{before-le}
 
 module _ (r : Request) where
@@ -61,18 +60,15 @@ module _ (r : Request) where
     -- and no other front is
     pub split-only : (k : ℕ) → Split r k → k ≡ wholeFronts r
     unfolding before splitFront
-    split-only k s = by-bool (ltb k (wholeFronts r))
-        (λ e. absurd (whole-not k s (ltb-true k (wholeFronts r) e)))
-        (λ e. by-bool (ltb (wholeFronts r) k)
-        (λ v. absurd (omega (
+    split-only k s = neither-below k (wholeFronts r) (whole-not k s)
+        (λ l. omega (
           arith,
           next-exceeds split-inside,
           listing-grows (dominance r) (r .count) (wholeFronts r),
-          listing-up (dominance r) (r .count) (suc (wholeFronts r)) k (ltb-true (wholeFronts r) k v),
+          listing-up (dominance r) (r .count) (suc (wholeFronts r)) k l,
           sizeOf-len k,
           s .fallShort,
-        )))
-        (λ v. omega (arith, ltb-false k (wholeFronts r) e, ltb-false (wholeFronts r) k v)))
+        ))
 
   -- where none is, from a pool of at least the size
   module _ (facts : FrontFacts (dominance r) (r .count)) (enough : r .size ≤ r .count) (whole : isSplit r ≡ false) where
@@ -82,7 +78,7 @@ module _ (r : Request) where
     whole-fill = by-bool (ltb (wholeFronts r) (r .count))
         (λ e. omega (arith, before-le r, ltb-false (len (wholeFronts r)) (r .size) (rw e at whole)))
         (λ e. let last : wholeFronts r ≡ r .count = last-one (ltb-false (wholeFronts r) (r .count) e) in
-        let all : len (r .count) ≡ r .count = listing-length (dominance r) (r .count) (r .count) ∙ countBelow-all (inFirst (dominance r) (r .count) (r .count)) (r .count) (facts .covered) in
+        let all : len (r .count) ≡ r .count = listing-full (dominance r) (r .count) (r .count) (facts .covered) in
         omega (arith, before-le r, ap len last))
       where
         last-one : r .count ≤ wholeFronts r → wholeFronts r ≡ r .count
@@ -97,6 +93,5 @@ module _ (r : Request) where
 
     pub whole-none : (k : ℕ) → Split r k → ⊥
     unfolding before
-    whole-none k s = by-bool (ltb k (wholeFronts r))
-        (λ e. whole-not k s (ltb-true k (wholeFronts r) e))
-        (λ e. omega (arith, whole-fill, sizeOf-len k, s .fallShort, listing-up (dominance r) (r .count) (wholeFronts r) k (ltb-false k (wholeFronts r) e)))
+    whole-none k s = by-lt k (wholeFronts r) (whole-not k s)
+        (λ l. omega (arith, whole-fill, sizeOf-len k, s .fallShort, listing-up (dominance r) (r .count) (wholeFronts r) k l))

@@ -1,6 +1,6 @@
 // Domination of one plan over another (Rust: pareto.rs), over flat rows in minimise-space: row p has m entries and starts at p * m.
 ghost use mathlib.Core.Path.{_≡_};
-ghost use Prim.Native.Nat.{_+_, _*_, _<_, _≤_};
+ghost use Prim.Native.Nat.{_+_, _*_, _≤_};
 ghost use lib.ListN.{length};
 ghost use Rattle.model.specs.Lists.{one};
 ghost use Rattle.model.specs.Row.{directionOf, toMinimize, feasible, violation, dominates};
@@ -79,8 +79,7 @@ pub fn constrained_dominates(
     p: usize,
     q: usize,
 ) -> bool
-    requires { ⌜ (p * m + m ≤ length (now rows)) × (q * m + m ≤ length (now rows))
-        × (p < length (now feasible)) × (q < length (now feasible)) × (p < length (now violations)) × (q < length (now violations)) ⌝ }
+    requires { ⌜ Within (now rows) m (now feasible) (now violations) p q ⌝ }
     ensures { λ r. ⌜ r ≡ flatBeats (now (rows .entry)) m (now (feasible .entry)) (now (violations .entry)) p q ⌝ }
 {
     if feasible[p] {

@@ -1,11 +1,9 @@
 // How many plans dominate each plan of a pool: each pair is compared once, both ways.
-ghost use mathlib.Core.Path.{_≡_};
-ghost use Prim.Native.Nat.{ℕ, _+_, _*_, _<_, _≤_};
+ghost use Prim.Native.Nat.{_+_, _*_, _≤_};
 ghost use mathlib.Core.Bool.{not, _&&_};
-ghost use lib.ListN.{length, getD};
-ghost use Rattle.model.specs.Lists.{countBelow};
+ghost use lib.ListN.{length};
 ghost use Rattle.front_laws.specs.Flat.{flatDominates, flatBeats, Pool, Within};
-ghost use Rattle.front_laws.specs.Post.{Countable, Raised};
+ghost use Rattle.front_laws.specs.Post.{Countable, Raised, Counted};
 ghost use Rattle.dominator_counts.specs.Compared.{Decides};
 
 // Which of two plans dominates the other.
@@ -129,8 +127,7 @@ pub fn count_all(
     counts: &mut [usize],
 )
     requires { ⌜ Pool (now rows) m (now feasible) (now violations) n × (n ≤ length (now counts)) ⌝ }
-    ensures { λ r. ⌜ ((t : ℕ) → t < n → getD (now (counts .exit)) t 0
-        ≡ countBelow (λ p. flatBeats (now (rows .entry)) m (now (feasible .entry)) (now (violations .entry)) p t) n) ⌝ }
+    ensures { λ r. ⌜ Counted (flatBeats (now (rows .entry)) m (now (feasible .entry)) (now (violations .entry))) n (now (counts .exit)) ⌝ }
 {
     let mut q = 0;
     while q < n {

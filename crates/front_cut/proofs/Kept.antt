@@ -15,10 +15,12 @@ use Rattle.model.specs.Front.{front, listing}
 use Rattle.model.specs.Association.{Request, dominance}
 use Rattle.model.specs.Kept.{wholeFronts, before, isSplit, splitFront}
 use Rattle.list_laws.proofs.Rows.{joinBelow-fits}
+use Rattle.list_laws.proofs.Below.{by-lt}
 use Rattle.list_laws.proofs.Bools.{by-bool, and-left, and-right, and-fails, and-no}
 use Rattle.list_laws.proofs.First.{firstBelow-le, firstBelow-nowhere, firstBelow-at, firstBelow-passes, firstBelow-before, firstBelow-same}
 use Rattle.front_laws.specs.Strict.{Strict}
-use Rattle.front_laws.proofs.Order.{ended, listing-room, listing-whole}
+use Rattle.front_laws.proofs.Order.{listing-room, listing-whole}
+use Rattle.front_laws.proofs.Theorems.{listing-length-n}
 use Rattle.front_laws.specs.Post.{Sorted}
 use Rattle.front_laws.proofs.Places.{frontCount-empty, sorted-few, sorted-end, sorted-fronts}
 use Rattle.front_laws.proofs.Listings.{listing-none, listing-more, listing-grows}
@@ -32,8 +34,6 @@ use Rattle.front_cut.proofs.Fitting.{fitting-le, cut-by}
 pub record CutsAt (r : Request) (order : List ℕ) (c : Cut) : Type 0 where
   pub whole : c .whole ≡ length (before r)
   pub split : c .split ≡ isSplit r
-  pub stops : isSplit r ≡ true → c .end ≡ length (before r) + length (splitFront r)
-  pub still : isSplit r ≡ false → c .end ≡ c .whole
   pub listed : take (c .whole) order ≡ before r
   pub waiting : isSplit r ≡ true → take (c .end - c .whole) (drop (c .whole) order) ≡ splitFront r
   -- the whole fronts fit, the split front exceeds the size, and the cut lies within the pool
@@ -100,8 +100,8 @@ module _ (r : Request) (strict : Strict (dominance r) (r .count)) (o₀ o k₀ k
 
   -- where all fit, the listing grows no more and fits too
   all-fit : w ≡ x → (t : ℕ) → t < n → over-size t ≡ false
-  all-fit a t l = by-bool (ltb t x)
-      (λ v. w-before t (omega (arith, ltb-true t x v)))
+  all-fit a t l = by-lt t x
+      (λ v. w-before t (omega arith))
       (λ v. le-ltb size (length (listing d n (suc t)))
       (omega (arith, listing-room d n (suc t), listing-whole d n strict x last-empty, start-fits, start-at x (omega arith), ap (startOf e) a)))
 
@@ -123,7 +123,7 @@ module _ (r : Request) (strict : Strict (dominance r) (r .count)) (o₀ o k₀ k
         ap (λ t. length (listing d n t)) a,
         listing-whole d n strict x last-empty,
         ap (λ t. length (listing d n t)) (whole-all a),
-        listing-whole d n strict n (ended d n strict),
+        listing-length-n d n strict,
       ))
       (λ l. start-at w w-le ∙ ap (λ t. length (listing d n t)) (sym (whole-some l)))
       (eq-or-lt-of-le w-le)
@@ -169,8 +169,6 @@ module _ (r : Request) (strict : Strict (dominance r) (r .count)) (o₀ o k₀ k
     cuts-split = record {
       whole = start-before;
       split = sym is-split;
-      stops = λ v. split-end;
-      still = λ v. absurd (true≢false (sym is-split ∙ v));
       listed = order-listed;
       waiting = λ v. order-waiting;
       fits = start-fits;
@@ -185,8 +183,6 @@ module _ (r : Request) (strict : Strict (dominance r) (r .count)) (o₀ o k₀ k
   not-split v = record {
     whole = start-before;
     split = sym v;
-    stops = λ u. absurd (true≢false (sym u ∙ v));
-    still = λ u. refl;
     listed = order-listed;
     waiting = λ u. absurd (true≢false (sym u ∙ v));
     fits = start-fits;

@@ -7,7 +7,7 @@ use native.Mathlib.Omega.{arith}
 use lib.ListN.{length, getD, set}
 use Rattle.model.specs.Lists.{one, countBelow, listBelow, over}
 use Rattle.list_laws.proofs.Counts.{countBelow-none, countBelow-more, countBelow-yes, countBelow-no, countBelow-le}
-use Rattle.front_laws.specs.Post.{Countable, Raising, Raised}
+use Rattle.front_laws.specs.Post.{Countable, Raising, Raised, Counted}
 use Rattle.list_laws.proofs.Built.{over-none, over-set, over-size, over-below}
 use Rattle.list_laws.proofs.Runs.{over-next, over-keep}
 use Rattle.list_laws.proofs.Stores.{set-each}
@@ -46,9 +46,6 @@ module _ (d : ℕ → ℕ → Bool) (q : ℕ) (cs₀ : List ℕ) (p : ℕ) (cs :
   raising-small n a l = (omega (arith, h .result, countBelow-le (λ s. d s q) p), omega (arith, over-next _ cs cs₀ p 0 (h .counts), a .low p l))
 
 -- ---- the plans below q have been compared with each other
-
-abbrev pub Counted : (ℕ → ℕ → Bool) → ℕ → List ℕ → Type 0
-Counted d q cs = (t : ℕ) → t < q → getD cs t 0 ≡ countBelow (λ s. d s t) q
 
 pub counted-low : (d : ℕ → ℕ → Bool) (q : ℕ) (cs : List ℕ) → Counted d q cs → (t : ℕ) → t < q → getD cs t 0 ≤ q
 counted-low d q cs h t l = omega (arith, h t l, countBelow-le (λ s. d s t) q)

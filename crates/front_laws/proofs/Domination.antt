@@ -1,7 +1,7 @@
 -- Laws of the two dominations: irreflexive, asymmetric, transitive where no value is a NaN, and equal to the paper's.
 use Prim.Native.Nat.{ℕ, _<_}
 use mathlib.Core.Path.{_≡_, refl, ap, sym, _∙_}
-use mathlib.Core.Bool.{Bool, true, false, not-and-self, false≢true, true≢false}
+use mathlib.Core.Bool.{Bool, true, false, false≢true, true≢false}
 use mathlib.Core.Logic.{_↔_}
 use lib.Ieee.{Float, lt}
 use Rattle.model.specs.Lists.{anyBelow}
@@ -50,10 +50,6 @@ dominates-same m a a' b b' h k =
     let y = anyBelow-same (λ j. lt (a j) (b j)) (λ j. lt (a' j) (b' j)) m (λ j l. ap (λ v. lt v (b j)) (h j l) ∙ ap (lt (a' j)) (k j l)) in
     rw (x, y)
 
-pub dominates-irreflexive : (m : ℕ) (a : ℕ → Float) → dominates m a a ≡ false
-unfolding dominates
-dominates-irreflexive m a = not-and-self (anyBelow (λ j. lt (a j) (a j)) m)
-
 pub dominates-asymmetric : (m : ℕ) (a b : ℕ → Float) → dominates m a b ≡ true → dominates m b a ≡ false
 dominates-asymmetric m a b e = let r = dominates-somewhere m a b e in dominates-worse m b a (r .0) (r .1) (r .2)
 
@@ -82,16 +78,15 @@ dominates-paper m a b ka kb = (
 
 -- ---- the constraint rule
 
-pub rule-irreflexive : (m : ℕ) (f : Bool) (v : Float) (a : ℕ → Float) → byFeasibility f f (lt v v) (dominates m a a) ≡ false
-rule-irreflexive m true v a = dominates-irreflexive m a
-rule-irreflexive m false v a = lt-self v
-
 pub rule-asymmetric : (m : ℕ) (fa fb : Bool) (va vb : Float) (a b : ℕ → Float) → byFeasibility fa fb (lt va vb) (dominates m a b) ≡ true
     → byFeasibility fb fa (lt vb va) (dominates m b a) ≡ false
 rule-asymmetric m true true va vb a b e = dominates-asymmetric m a b e
 rule-asymmetric m true false va vb a b e = refl
 rule-asymmetric m false true va vb a b e = absurd (false≢true e)
 rule-asymmetric m false false va vb a b e = lt-down vb vb va (lt-self vb) e
+
+pub rule-irreflexive : (m : ℕ) (f : Bool) (v : Float) (a : ℕ → Float) → byFeasibility f f (lt v v) (dominates m a a) ≡ false
+rule-irreflexive m f v a = no-pass _ (λ e. true≢false (sym e ∙ rule-asymmetric m f f v v a a e))
 
 rule-transitive : (m : ℕ) (fa fb fc : Bool) (va vb vc : Float) (a b c : ℕ → Float) → Known m b → Known m c
     → byFeasibility fa fb (lt va vb) (dominates m a b) ≡ true → byFeasibility fb fc (lt vb vc) (dominates m b c) ≡ true

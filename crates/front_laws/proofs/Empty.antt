@@ -3,11 +3,8 @@ use Prim.Native.Nat.{ℕ, suc, _≤_, _<_}
 use mathlib.Core.Path.{_≡_, refl, ap, sym, _∙_}
 use mathlib.Core.Bool.{Bool}
 use mathlib.Core.List.{[], _++_, append-nil}
-use borrow.Author.Tests.{ltb-true, ltb-false}
-use lib.Dec.{ltb}
 use Rattle.model.specs.Front.{freedAll, firstRound, nextRound, round, front, listing}
-use Rattle.list_laws.proofs.Below.{later}
-use Rattle.list_laws.proofs.Bools.{by-bool}
+use Rattle.list_laws.proofs.Below.{later, by-lt}
 use Rattle.front_laws.specs.Strict.{Strict}
 use Rattle.front_laws.proofs.Listings.{listing-more}
 use Rattle.front_laws.proofs.Order.{ended}
@@ -25,7 +22,7 @@ empty-later d n k j h e =
 module _ (d : ℕ → ℕ → Bool) (n : ℕ) (s : Strict d n) (x : ℕ) (f : (j : ℕ) → j < x → front d n j ≡ [] → ⊥) (e : front d n x ≡ []) where
   -- the first empty front comes within n rounds
   pub first-empty : x ≤ n
-  first-empty = by-bool (ltb n x) (λ v. absurd (f n (ltb-true n x v) (ended d n s))) (ltb-false n x)
+  first-empty = by-lt n x (λ l. absurd (f n l (ended d n s))) (λ l. l)
 
   -- and the fronts before it, joined, are all fronts
   pub listing-all : listing d n x ≡ listing d n n

@@ -1,8 +1,9 @@
 -- What lowering does to a count, and whom it frees: each plan whose count is met exactly, once.
-use Prim.Native.Nat.{ℕ, suc, _+_, _-_, _≤_, _<_}
+use Prim.Native.Nat.{ℕ, _+_, _-_, _≤_, _<_}
 use mathlib.Core.Path.{_≡_, refl, ap, ap₂, sym, _∙_}
-use mathlib.Core.Bool.{Bool, false, _&&_}
+use mathlib.Core.Bool.{Bool, true, false, _&&_}
 use mathlib.Core.List.{List, [], _∷_, _++_, append-assoc, List·Memᴰ·head, List·Memᴰ·tail}
+use native.Mathlib.Nat.{zero-add}
 use native.Mathlib.Omega.{arith}
 use borrow.Author.Tests.{eq-eqb, ne-eqb, eqb-true, eqb-false, lt-ltb, le-ltb}
 use lib.Dec.{eqb, ltb}
@@ -83,9 +84,10 @@ met-zero c = by-bool (eqb c 0)
     (λ e. met-none c 0 (eqb-true c 0 e))
     (λ e. let z = eqb-false c 0 e in rw (lt-ltb 0 c (omega (arith, z)), e))
 
--- one dominator more: the count is met now, or by those that come after
-met-step : (c x : ℕ) → suc x ≤ c → one (eqb (c - 1) 0) + one (met (c - 1) x) ≡ one (met c (1 + x))
-met-step c x h = by-bool (eqb (c - 1) 0)
+-- one member more, a dominator or not: the count is met now, or by those that come after
+met-more : (b : Bool) (c x : ℕ) → one b + x ≤ c → one (b && eqb (c - one b) 0) + one (met (c - one b) x) ≡ one (met c (one b + x))
+met-more false c x h = let e : c - 0 ≡ c = omega arith in rw (e, zero-add x, zero-add (one (met c x)))
+met-more true c x h = by-bool (eqb (c - 1) 0)
     (λ e. let z = eqb-true (c - 1) 0 e in
     rw (met-none (c - 1) x z, e, lt-ltb 0 c (omega arith), eq-eqb c (1 + x) (omega arith)))
     (λ e. let z = eqb-false (c - 1) 0 e in
@@ -104,17 +106,7 @@ occ-freedAll d n (p ∷ ps) counts q u h =
     let g = tally-cons (λ p. d p q) p ps in
     let split = occ-append q (freed d n p counts) (freedAll d n ps (lower d p counts)) in
     let here = occ-freed d n p counts q u in
-    let x = tally (λ p. d p q) ps in
-    by-bool (d p q)
-    (λ e. let low : lower d p counts q ≡ counts q - 1 = ap (λ b. counts q - one b) e in
-    let room : suc x ≤ counts q = omega (arith, ap one e) in
-    let first = here ∙ ap (λ b. one (b && eqb (counts q - one b) 0)) e in
-    let rest = occ-freedAll d n ps (lower d p counts) q u (omega arith) ∙ ap (λ c. one (met c x)) low in
-    let all = ap (λ k. one (met (counts q) k)) (g ∙ ap (λ b. one b + x) e) in
-    omega (arith, met-step (counts q) x room))
-    (λ e. let low : lower d p counts q ≡ counts q = omega (arith, ap one e) in
-    let less : tally (λ p. d p q) (p ∷ ps) ≡ x = omega (arith, ap one e) in
-    let first = here ∙ ap (λ b. one (b && eqb (counts q - one b) 0)) e in
-    let rest = occ-freedAll d n ps (lower d p counts) q u (omega arith) ∙ ap (λ c. one (met c x)) low in
-    let all = ap (λ k. one (met (counts q) k)) less in
-    omega arith)
+    let rest = occ-freedAll d n ps (lower d p counts) q u (omega arith) in
+    let more = met-more (d p q) (counts q) (tally (λ p. d p q) ps) (omega arith) in
+    let all = ap (λ k. one (met (counts q) k)) g in
+    omega arith

@@ -11,7 +11,7 @@ use Rattle.model.specs.Lists.{In}
 use Rattle.model.specs.Papers.Deb2002.{ConstrainedDominates, inFirst}
 use Rattle.model.specs.Plan.{Plan}
 use Rattle.model.specs.Row.{rowBeats, beats}
-use Rattle.list_laws.proofs.Bools.{by-bool}
+use Rattle.list_laws.proofs.Bools.{no-pass}
 use Rattle.front_laws.proofs.Theorems.{front-undominated}
 use Rattle.front_laws.specs.Flat.{flatDominates, flatBeats, RowsOf, FlatOf}
 use Rattle.front_laws.specs.Post.{Sorted}
@@ -34,7 +34,7 @@ module _ (marks : List ℕ) (plans : ℕ → Plan) (n : ℕ) where
     λ h. front-undominated (beats marks plans) n k q .1 (
       h .0,
       h .1,
-      λ p l y. by-bool (beats marks plans p q) (λ e. absurd (h .2 p l y (beats-paper marks plans p q (a p l) (a q (h .0)) .0 e))) (λ e. e),
+      λ p l y. no-pass (beats marks plans p q) (λ e. h .2 p l y (beats-paper marks plans p q (a p l) (a q (h .0)) .0 e)),
     ),
   )
 

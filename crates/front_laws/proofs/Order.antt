@@ -6,19 +6,19 @@ use mathlib.Core.Bool.{Bool, true, false, not, _&&_, _||_, false≢true, true≢
 use mathlib.Core.List.{[]}
 use mathlib.Core.Logic.{_⊎_, inl, inr, ⊎-elim}
 use native.Mathlib.Omega.{arith}
-use borrow.Author.Tests.{eqb-true, eqb-false, ltb-true, ltb-false}
-use lib.Dec.{eqb, ltb}
+use borrow.Author.Tests.{eqb-false}
+use lib.Dec.{eqb}
 use lib.ListN.{length}
 use Rattle.model.specs.Front.{front, listing}
 use Rattle.model.specs.Lists.{one, countBelow, joinBelow}
-use Rattle.model.specs.Papers.Deb2002.{undominatedOfRest, inFirst, inFront}
-use Rattle.list_laws.proofs.Below.{later}
+use Rattle.model.specs.Papers.Deb2002.{inFirst, inFront}
+use Rattle.list_laws.proofs.Below.{later, by-lt, neither-below}
 use Rattle.list_laws.specs.Occ.{occ, AllUnder, Exactly}
-use Rattle.list_laws.proofs.Bools.{by-bool, and-not-left, and-not-right, and-no}
+use Rattle.list_laws.proofs.Bools.{by-bool, no-pass, and-not-left, and-not-right, and-no}
 use Rattle.list_laws.proofs.Counts.{countBelow-le, countBelow-mono, countBelow-less, countBelow-all, all-countBelow, some-countBelow, none-countBelow, left-countBelow}
 use Rattle.list_laws.proofs.Members.{occ-nil, occ-append, occ-empty, length-below, exactly-of}
 use Rattle.front_laws.specs.Strict.{Strict}
-use Rattle.front_laws.proofs.Rounds.{waiting, inFront-count, inFirst-more, found}
+use Rattle.front_laws.proofs.Rounds.{waiting, inFront-count, inFront-new, inFront-top, inFirst-more, found}
 
 -- ---- for any d
 
@@ -26,16 +26,12 @@ use Rattle.front_laws.proofs.Rounds.{waiting, inFront-count, inFirst-mo
 pub inFirst-later : (d : ℕ → ℕ → Bool) (n k j q : ℕ) → k ≤ j → inFirst d n k q ≡ true → inFirst d n j q ≡ true
 inFirst-later d n k j q h e = later (λ t. inFirst d n t q ≡ true) (λ t. inFirst-more d n t q) k j h e
 
--- a member of the paper's front k is of none before, is not dominated by the rest, and is of an earlier front from then on
-pub inFront-new : (d : ℕ → ℕ → Bool) (n k q : ℕ) → inFront d n k q ≡ true → inFirst d n k q ≡ false
-unfolding undominatedOfRest
-inFront-new d n k q e = and-not-left (inFirst d n k q) _ e
+-- none of the rest dominates a member of the paper's front k
+pub inFront-undominated : (d : ℕ → ℕ → Bool) (n k q : ℕ) → inFront d n k q ≡ true → (p : ℕ) → p < n → inFirst d n k p ≡ false → d p q ≡ false
+unfolding waiting
+inFront-undominated d n k q e p l y = rw y at (none-countBelow (λ t. not (inFirst d n k t) && d t q) n (inFront-top d n k q e) p l)
 
-pub inFront-top : (d : ℕ → ℕ → Bool) (n k q : ℕ) → inFront d n k q ≡ true → waiting d n k q ≡ 0
-inFront-top d n k q e =
-    let y = inFront-new d n k q e in
-    eqb-true (waiting d n k q) 0 (rw y at (sym (inFront-count d n k q) ∙ e))
-
+-- and it is of an earlier front from then on
 pub inFront-first : (d : ℕ → ℕ → Bool) (n k q : ℕ) → inFront d n k q ≡ true → inFirst d n (suc k) q ≡ true
 unfolding inFirst
 inFront-first d n k q e = rw (inFront-new d n k q e, e)
@@ -45,18 +41,7 @@ earlier : (d : ℕ → ℕ → Bool) (n k j q : ℕ) → inFront d n k q ≡ tru
 earlier d n k j q a b l = false≢true (sym (inFront-new d n j q b) ∙ inFirst-later d n (suc k) j q l (inFront-first d n k q a))
 
 pub one-front : (d : ℕ → ℕ → Bool) (n k j q : ℕ) → inFront d n k q ≡ true → inFront d n j q ≡ true → k ≡ j
-one-front d n k j q a b =
-    by-bool (ltb k j) (λ e. absurd (earlier d n k j q a b (ltb-true k j e)))
-    (λ e. by-bool (ltb j k) (λ v. absurd (earlier d n j k q b a (ltb-true j k v)))
-    (λ v. let x = ltb-false k j e in let y = ltb-false j k v in omega arith))
-
--- a plan of an earlier front is in one of them
-pub inFirst-front : (d : ℕ → ℕ → Bool) (n k q : ℕ) → inFirst d n k q ≡ true → (j : ℕ) × (j < k) × (inFront d n j q ≡ true)
-unfolding inFirst
-inFirst-front d n zero q e = absurd (false≢true e)
-inFirst-front d n (suc k) q e = by-bool (inFirst d n k q)
-    (λ y. let r = inFirst-front d n k q y in (r .0, omega (arith, r .1), r .2))
-    (λ y. (k, omega arith, rw y at e))
+one-front d n k j q a b = neither-below k j (earlier d n k j q a b) (earlier d n j k q b a)
 
 -- the first k fronts list each plan of theirs once, and no other
 pub listing-below : (d : ℕ → ℕ → Bool) (n k : ℕ) → AllUnder n (listing d n k)
@@ -83,18 +68,17 @@ listing-exact d n (suc k) q l =
 pub listing-length : (d : ℕ → ℕ → Bool) (n k : ℕ) → length (listing d n k) ≡ countBelow (inFirst d n k) n
 listing-length d n k = length-below (inFirst d n k) n (listing d n k) (listing-below d n k) (listing-exact d n k)
 
--- so they are at most n
+-- so they are n where each plan is in one of them, and at most n
+pub listing-full : (d : ℕ → ℕ → Bool) (n k : ℕ) → ((q : ℕ) → q < n → inFirst d n k q ≡ true) → length (listing d n k) ≡ n
+listing-full d n k h = listing-length d n k ∙ countBelow-all (inFirst d n k) n h
+
 pub listing-room : (d : ℕ → ℕ → Bool) (n k : ℕ) → length (listing d n k) ≤ n
 listing-room d n k = omega (arith, listing-length d n k, countBelow-le (inFirst d n k) n)
 
 -- T3. no member of a front is dominated by a member of the same or of a later front
 pub not-dominated : (d : ℕ → ℕ → Bool) (n k j q p : ℕ) → k ≤ j → p < n → inFront d n k q ≡ true → inFront d n j p ≡ true → d p q ≡ false
-unfolding waiting
 not-dominated d n k j q p h l a b =
-    let none = none-countBelow (λ t. not (inFirst d n k t) && d t q) n (inFront-top d n k q a) p l in
-    by-bool (inFirst d n k p)
-    (λ y. absurd (false≢true (sym (inFront-new d n j p b) ∙ inFirst-later d n k j p h y)))
-    (λ y. rw y at none)
+    inFront-undominated d n k q a p l (no-pass (inFirst d n k p) (λ y. false≢true (sym (inFront-new d n j p b) ∙ inFirst-later d n k j p h y)))
 
 -- ---- for a strict order
 
@@ -138,7 +122,7 @@ module _ (d : ℕ → ℕ → Bool) (n : ℕ) (s : Strict d n) where
   pub under-front : (k q : ℕ) → q < n → inFront d n (suc k) q ≡ true → (p : ℕ) × (p < n) × (inFront d n k p ≡ true) × (d p q ≡ true)
   under-front k q l e =
       let new = inFront-new d n (suc k) q e in
-      let y : inFirst d n k q ≡ false = by-bool (inFirst d n k q) (λ v. absurd (false≢true (sym new ∙ inFirst-more d n k q v))) (λ v. v) in
+      let y : inFirst d n k q ≡ false = no-pass (inFirst d n k q) (λ v. false≢true (sym new ∙ inFirst-more d n k q v)) in
       let t = in-or-under k q l y in (
         t .0,
         t .1,
@@ -152,13 +136,13 @@ module _ (d : ℕ → ℕ → Bool) (n : ℕ) (s : Strict d n) where
   grows (suc k) =
       let i = grows k in
       let more = countBelow-mono (inFirst d n k) (inFirst d n (suc k)) n (λ t l. inFirst-more d n k t) in
-      by-bool (ltb (countBelow (inFirst d n k) n) n)
-      (λ e. let r = left-countBelow (inFirst d n k) n (ltb-true (countBelow (inFirst d n k) n) n e) in
+      by-lt (countBelow (inFirst d n k) n) n
+      (λ less. let r = left-countBelow (inFirst d n k) n less in
       let t = in-or-under k (r .0) (r .1) (r .2) in
       let up = countBelow-less (inFirst d n k) (inFirst d n (suc k)) n (t .0) (λ v l. inFirst-more d n k v) (t .1)
       (inFront-new d n k (t .0) (t .2)) (inFront-first d n k (t .0) (t .2)) in
       omega arith)
-      (λ e. let full = ltb-false (countBelow (inFirst d n k) n) n e in omega arith)
+      (λ full. omega arith)
 
   -- T5. after n rounds every plan has its front
   pub all-inFirst : (q : ℕ) → q < n → inFirst d n n q ≡ true
@@ -174,14 +158,12 @@ module _ (d : ℕ → ℕ → Bool) (n : ℕ) (s : Strict d n) where
 
   -- front n is empty
   pub ended : front d n n ≡ []
-  ended = occ-empty (front d n n) (λ q. by-bool (ltb q n)
-      (λ e. let l = ltb-true q n e in
-      found d n n .exact q l ∙ by-bool (inFront d n n q)
-      (λ v. absurd (false≢true (sym (inFront-new d n n q v) ∙ all-inFirst q l))) (λ v. ap one v))
-      (λ e. found d n n .below q (ltb-false q n e)))
+  ended = occ-empty (front d n n) (λ q. by-lt q n
+      (λ l. found d n n .exact q l ∙ ap one (no-pass (inFront d n n q) (λ v. false≢true (sym (inFront-new d n n q v) ∙ all-inFirst q l))))
+      (found d n n .below q))
 
   pub listing-whole : (k : ℕ) → front d n k ≡ [] → length (listing d n k) ≡ n
-  listing-whole k e = listing-length d n k ∙ countBelow-all (inFirst d n k) n (empty-inFirst k e)
+  listing-whole k e = listing-full d n k (empty-inFirst k e)
 
 -- ---- the plans of front k are those of the paper's front k, and the listing's those of its first k fronts: each once, and no other
 

@@ -3,24 +3,24 @@ use Prim.Native.Nat.{ℕ, suc, _+_, _-_, _≤_, _<_}
 use mathlib.Core.Path.{_≡_, refl, ap, sym, _∙_}
 use mathlib.Core.Bool.{Bool}
 use mathlib.Core.List.{List, [], _∷_, _++_, append-nil}
-use native.Mathlib.Numerals.{add-one}
 use native.Mathlib.Omega.{arith}
 use lib.ListN.{length, getD, set, take, drop, length-append, take-append-drop}
-use lib.Seq.{sets, length-sets, slice, slice-empty, slice-cons, length-take-le, take-suc, drop-append-le, take-take}
+use lib.Seq.{slice, slice-empty, slice-cons, length-take-le, drop-append-le, take-take}
 use Rattle.model.specs.Front.{lower, freed, lowerAll, freedAll}
 use Rattle.model.specs.Lists.{one, tally}
-use Rattle.list_laws.proofs.Built.{over-below}
+use Rattle.list_laws.proofs.Built.{over-below, take-more}
 use Rattle.list_laws.proofs.Members.{tally-cons, tally-append}
 use Rattle.front_laws.specs.Ranks.{mark}
 use Rattle.front_laws.proofs.Lowering.{lowerAll-count, lowerAll-append, freedAll-append, freed-same}
 use Rattle.front_laws.proofs.Ranks.{mark-append, mark-length}
 use Rattle.front_laws.specs.Post.{of, freedAt, Released, Passing}
-use Rattle.list_laws.proofs.Runs.{sets-append, before-run}
+use Rattle.list_laws.proofs.Runs.{before-run}
+use Rattle.list_laws.proofs.Stores.{put-nothing, put-then, put-length, put-as}
 
 -- a part one longer
 pub slice-snoc : (f i : ℕ) (l : List ℕ) → f ≤ i → i < length l → slice f (i + 1) l ≡ slice f i l ++ (getD l i 0 ∷ [])
 slice-snoc f i l h k =
-    ap (λ t. drop f (take t l)) (add-one i) ∙ ap (drop f) (take-suc l i 0 k)
+    ap (drop f) (take-more 0 l i k)
     ∙ drop-append-le f (take i l) (getD l i 0 ∷ []) (omega (arith, length-take-le i l (omega arith)))
 
 -- a part as what comes before place i, what stands there, and the rest
@@ -37,8 +37,7 @@ passing-first d n k start end cs₀ o₀ r₀ =
     let e = slice-empty start o₀ in
     record {
       counts = λ t h. rw e;
-      order = rw e;
-      result = rw e (omega arith);
+      order = rw e (put-nothing o₀ end);
       ranks = rw e;
     }
 
@@ -46,14 +45,14 @@ module _ (d : ℕ → ℕ → Bool) (n k start end : ℕ) (cs₀ o₀ r₀ : Lis
     (h : Passing d n k start end cs₀ o₀ r₀ i cs o r len) where
   -- the order and the ranks keep their lengths
   pub order-kept : length o ≡ length o₀
-  order-kept = ap length (h .order) ∙ length-sets o₀ end (freedAll d n (slice start i o₀) (of cs₀))
+  order-kept = put-length o₀ o end len (freedAll d n (slice start i o₀) (of cs₀)) (h .order)
 
   pub ranks-kept : length r ≡ length r₀
   ranks-kept = ap length (h .ranks) ∙ mark-length (slice start i o₀) k r₀
 
   -- the member at place i is the one that stood there at first
   pub member-still : i < end → getD o i 0 ≡ getD o₀ i 0
-  member-still l = ap (λ t. getD t i 0) (h .order) ∙ before-run o₀ end (freedAll d n (slice start i o₀) (of cs₀)) i l
+  member-still l = ap (λ t. getD t i 0) (h .order .stored) ∙ before-run o₀ end (freedAll d n (slice start i o₀) (of cs₀)) i l
 
   -- no count is lowered below zero
   pub passing-fair : start ≤ i → i < end → end ≤ length o₀ → (t : ℕ) → t < n → tally (λ p. d p t) (slice start end o₀) ≤ getD cs₀ t 0
@@ -88,7 +87,7 @@ module _ (d : ℕ → ℕ → Bool) (n k start end : ℕ) (cs₀ o₀ r₀ : Lis
       ∙ ap length (freedAll-append d n x (p ∷ y) (of cs₀))
       ∙ length-append (freedAll d n x (of cs₀)) (freed d n p w ++ freedAll d n y (lower d p w)) in
       let g = length-append (freed d n p w) (freedAll d n y (lower d p w)) in
-      let a = h .result in
+      let a = h .order .ends in
       omega (arith, order-kept)
 
   -- the member's turn
@@ -107,15 +106,7 @@ module _ (d : ℕ → ℕ → Bool) (n k start end : ℕ) (cs₀ o₀ r₀ : Lis
       record {
         counts = λ t v. over-below (lower d (getD o i 0) (of cs)) n cs′ cs t 0 (f .counts) v ∙ ap (λ q. getD cs t 0 - one (d q t)) m ∙ ap (λ c. c - one (d p t)) (h .counts t v)
             ∙ sym (ap (λ q. lowerAll d q (of cs₀) t) e ∙ ap (λ g. g t) (lowerAll-append d xs (p ∷ []) (of cs₀)));
-        order = f .order .stored ∙ ap (sets o len) now ∙ ap (λ q. sets q len (freed d n p w)) (h .order)
-            ∙ ap (λ q. sets (sets o₀ end (freedAll d n xs (of cs₀))) q (freed d n p w)) (h .result)
-            ∙ sym (sets-append o₀ end (freedAll d n xs (of cs₀)) (freed d n p w))
-            ∙ ap (sets o₀ end) (sym all);
-        result = let a = f .order .ends in
-            let b = ap length now in
-            let g = h .result in
-            let j = ap length all ∙ length-append (freedAll d n xs (of cs₀)) (freed d n p w) in
-            omega arith;
+        order = put-as o₀ o′ end x _ _ (sym all) (put-then o₀ o o′ end len x (freedAll d n xs (of cs₀)) (freed d n p w) (h .order) (put-as o o′ len x _ _ now (f .order)));
         ranks = ap (λ q. set r q k) m ∙ ap (λ q. set q p k) (h .ranks)
             ∙ sym (ap (λ q. mark q k r₀) e ∙ mark-append xs (p ∷ []) k r₀);
       }

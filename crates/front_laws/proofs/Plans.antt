@@ -1,19 +1,20 @@
 -- The two dominations of the plans of a pool: strict on accepted plans, the paper's, and what flat lists of the pool give.
-use Prim.Native.Nat.{ℕ, zero, suc, _+_, _≤_, _<_, min}
+use Prim.Native.Nat.{ℕ, _+_, _≤_, _<_, min}
 use mathlib.Core.Path.{_≡_, refl, ap, _∙_}
 use mathlib.Core.Bool.{Bool, true, false, false≢true}
 use mathlib.Core.List.{List, []}
 use mathlib.Core.Logic.{_↔_}
 use native.Mathlib.Omega.{arith}
-use lib.Ieee.{Float, nan, inf, fin, binary64, ofBits, lt, le, neg, isNan}
+use lib.Ieee.{Float, nan, inf, fin, lt, le, neg, isNan}
 use lib.ListN.{length, getD}
 use Rattle.model.specs.declared.Direction.{Direction}
 use Rattle.model.specs.declared.Direction.the-variants.{Minimize, Maximize}
 use Rattle.model.specs.Papers.Deb2002.{Dominates, Solution, ConstrainedDominates, onlyFeasible, lessViolation, bothFeasible}
 use Rattle.model.specs.Plan.{Plan, maxObjectives, planOf}
 use Rattle.model.specs.Real.{real}
-use Rattle.model.specs.Refusal.{measurable, goodPlan}
+use Rattle.model.specs.Refusal.{leastMeasured, mostMeasured, measurable, goodPlan}
 use Rattle.model.specs.Row.{directionOf, toMinimize, rowOf, dominates, feasible, violation, byFeasibility, constrainedDominates, rowBeats, beats}
+use Rattle.list_laws.proofs.Below.{by-suc}
 use Rattle.list_laws.proofs.Bools.{T-true, true-T, T-false, false-T, and-left}
 use Rattle.list_laws.proofs.Built.{listBelow-length}
 use Rattle.list_laws.proofs.Checks.{good-length, good-values}
@@ -64,23 +65,19 @@ neg-known nan e = e
 neg-known (inf s) e = refl
 neg-known (fin s m e') e = refl
 
-pub known-toMinimize : (d : Direction) (x : Float) → isNan x ≡ false → isNan (toMinimize d x) ≡ false
+known-toMinimize : (d : Direction) (x : Float) → isNan x ≡ false → isNan (toMinimize d x) ≡ false
 known-toMinimize Minimize x e = e
 known-toMinimize Maximize x e = neg-known x e
 
 -- a mark that is not 0 stands for maximising
 pub maximised : (k : ℕ) → (k ≡ 0 → ⊥) → directionOf k ≡ Maximize
-maximised zero h = absurd (h refl)
-maximised (suc k) h = refl
+maximised = by-suc directionOf Maximize (λ j. refl)
 
 -- a value that is measured is no NaN
-pub measurable-known : (x : Float) → measurable x ≡ true → isNan x ≡ false
+measurable-known : (x : Float) → measurable x ≡ true → isNan x ≡ false
 unfolding measurable
 measurable-known x e =
-    T-false (isNan x)
-    (le-not-nan (ofBits binary64 0xfe70_0000_0000_0000) x
-    (true-T (le (ofBits binary64 0xfe70_0000_0000_0000) x)
-    (and-left _ (le x (ofBits binary64 0x7e70_0000_0000_0000)) e)) .1)
+    T-false (isNan x) (le-not-nan leastMeasured x (true-T (le leastMeasured x) (and-left _ (le x mostMeasured) e)) .1)
 
 -- A plan that passes refusal 8 and has m values, as every plan of a slice of words has.
 pub record Accepted (m : ℕ) (plan : Plan) : Type 0 where

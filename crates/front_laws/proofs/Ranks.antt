@@ -3,17 +3,17 @@ use Prim.Native.Nat.{ℕ, zero, suc, _≤_, _<_}
 use mathlib.Core.Path.{_≡_, refl, ap, sym, _∙_}
 use mathlib.Core.Bool.{Bool, true}
 use mathlib.Core.List.{List, [], _∷_, _++_}
-use mathlib.Core.Logic.{⊎-elim}
-use native.Mathlib.Nat.{not-suc-le-zero, eq-or-lt-of-le}
+use native.Mathlib.Nat.{not-suc-le-zero}
 use native.Mathlib.Omega.{arith}
-use borrow.Author.Tests.{eq-eqb, eqb-true, ltb-true, ltb-false}
-use lib.Dec.{eqb, ltb}
+use borrow.Author.Tests.{eq-eqb, eqb-true}
+use lib.Dec.{eqb}
 use lib.ListN.{length, getD, set, drop, length-set}
 use lib.Seq.{getD-set-same, getD-set-other, drop-set-lt}
 use Rattle.model.specs.Front.{front}
 use Rattle.model.specs.Lists.{one}
 use Rattle.model.specs.Papers.Deb2002.{inFront}
 use Rattle.list_laws.specs.Occ.{occ, AllUnder}
+use Rattle.list_laws.proofs.Below.{last-or, by-lt}
 use Rattle.list_laws.proofs.Bools.{by-bool}
 use Rattle.list_laws.proofs.Members.{occ-nil, occ-cons, occ-here, under-in}
 use Rattle.front_laws.specs.Ranks.{mark, ranked}
@@ -43,10 +43,9 @@ mark-other (x ∷ l) k r q h =
 mark-same : (l : List ℕ) (k : ℕ) (r : List ℕ) (q : ℕ) → 0 < occ q l → q < length r → getD (mark l k r) q 0 ≡ k
 unfolding mark
 mark-same [] k r q h u = absurd (omega (arith, occ-nil q))
-mark-same (x ∷ l) k r q h u = by-bool (ltb 0 (occ q l))
-    (λ e. mark-same l k (set r x k) q (ltb-true 0 (occ q l) e) (omega (arith, length-set r x k)))
-    (λ e. let z = ltb-false 0 (occ q l) e in
-    mark-other l k (set r x k) q (omega arith) ∙ by-bool (eqb x q)
+mark-same (x ∷ l) k r q h u = by-lt 0 (occ q l)
+    (λ m. mark-same l k (set r x k) q m (omega (arith, length-set r x k)))
+    (λ z. mark-other l k (set r x k) q (omega arith) ∙ by-bool (eqb x q)
     (λ v. let w = eqb-true x q v in ap (λ t. getD (set r t k) q 0) w ∙ getD-set-same r q k 0 u)
     (λ v. absurd (omega (arith, occ-cons q x l, ap one v))))
 
@@ -74,12 +73,10 @@ pub ranked-at : (d : ℕ → ℕ → Bool) (n k : ℕ) (r : List ℕ) (j q : ℕ
 unfolding ranked
 ranked-at d n zero r j q h l u e = absurd (not-suc-le-zero u)
 ranked-at d n (suc k) r j q h l u e =
-    let i : j ≤ k = omega arith in
     let f = found d n k .exact q l in
-    ⊎-elim
+    last-or u
     (λ v. let here = ap (λ t. one (inFront d n t q)) (sym v) ∙ ap one e in
     mark-same (front d n k) k (ranked d n k r) q (omega arith) (omega (arith, ranked-length d n k r)) ∙ sym v)
     (λ m. by-bool (inFront d n k q)
     (λ v. absurd (omega (arith, one-front d n j k q e v)))
     (λ v. mark-other (front d n k) k (ranked d n k r) q (f ∙ ap one v) ∙ ranked-at d n k r j q h l m e))
-    (eq-or-lt-of-le i)

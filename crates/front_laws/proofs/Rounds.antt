@@ -9,7 +9,8 @@ use Rattle.model.specs.Front.{firstRound, nextRound, round, front}
 use Rattle.model.specs.Lists.{one, anyBelow, countBelow, tally}
 use Rattle.model.specs.Papers.Deb2002.{undominatedOfRest, inFirst, inFront}
 use Rattle.list_laws.specs.Occ.{occ, AllUnder}
-use Rattle.list_laws.proofs.Bools.{by-bool}
+use Rattle.list_laws.proofs.Below.{later}
+use Rattle.list_laws.proofs.Bools.{by-bool, and-not-left}
 use Rattle.list_laws.proofs.Counts.{countBelow-sum, anyBelow-count, countBelow-mono, sumBelow-same, sumBelow-add}
 use Rattle.list_laws.proofs.Kept.{keepBelow-under, keepBelow-occ}
 use Rattle.list_laws.proofs.Members.{tally-below}
@@ -26,6 +27,24 @@ inFront-count d n k q =
     let e = anyBelow-count (λ p. not (inFirst d n k p) && d p q) n in
     rw (e, Bool·not-not)
 
+-- so such a plan is of no front before, and none of the rest dominates it
+pub inFront-new : (d : ℕ → ℕ → Bool) (n k q : ℕ) → inFront d n k q ≡ true → inFirst d n k q ≡ false
+unfolding undominatedOfRest
+inFront-new d n k q e = and-not-left (inFirst d n k q) _ e
+
+pub inFront-top : (d : ℕ → ℕ → Bool) (n k q : ℕ) → inFront d n k q ≡ true → waiting d n k q ≡ 0
+inFront-top d n k q e =
+    let y = inFront-new d n k q e in
+    eqb-true (waiting d n k q) 0 (rw y at (sym (inFront-count d n k q) ∙ e))
+
+-- a plan of an earlier front is in one of them
+pub inFirst-front : (d : ℕ → ℕ → Bool) (n k q : ℕ) → inFirst d n k q ≡ true → (j : ℕ) × (j < k) × (inFront d n j q ≡ true)
+unfolding inFirst
+inFirst-front d n zero q e = absurd (false≢true e)
+inFirst-front d n (suc k) q e = by-bool (inFirst d n k q)
+    (λ y. let r = inFirst-front d n k q y in (r .0, omega (arith, r .1), r .2))
+    (λ y. (k, omega arith, rw y at e))
+
 -- a plan of an earlier front stays one
 pub inFirst-more : (d : ℕ → ℕ → Bool) (n k q : ℕ) → inFirst d n k q ≡ true → inFirst d n (suc k) q ≡ true
 unfolding inFirst
@@ -41,14 +60,10 @@ rest-less d n k q = countBelow-mono _ _ n (λ t l. fewer (inFirst d n k t) (undo
     fewer false false c e = e
 
 -- no plan of the rest dominates one of an earlier front
-pub inFirst-none : (d : ℕ → ℕ → Bool) (n k q : ℕ) → inFirst d n k q ≡ true → waiting d n k q ≡ 0
-unfolding inFirst
-inFirst-none d n zero q e = absurd (false≢true e)
-inFirst-none d n (suc k) q e = by-bool (inFirst d n k q)
-    (λ y. omega (arith, rest-less d n k q, inFirst-none d n k q y))
-    (λ y. let top : undominatedOfRest d n (inFirst d n k) q ≡ true = rw y at e in
-    let z : eqb (waiting d n k q) 0 ≡ true = rw y at (sym (inFront-count d n k q) ∙ top) in
-    omega (arith, rest-less d n k q, eqb-true (waiting d n k q) 0 z))
+inFirst-none : (d : ℕ → ℕ → Bool) (n k q : ℕ) → inFirst d n k q ≡ true → waiting d n k q ≡ 0
+inFirst-none d n k q e =
+    let f = inFirst-front d n k q e in
+    later (λ t. waiting d n t q ≡ 0) (λ t z. omega (arith, rest-less d n t q)) (f .0) k (omega (arith, f .1)) (inFront-top d n (f .0) q (f .2))
 
 -- what the listing has as round k begins
 pub record Found (d : ℕ → ℕ → Bool) (n k : ℕ) : Type 0 where

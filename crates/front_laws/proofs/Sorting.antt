@@ -13,7 +13,8 @@ use lib.Dec.{eqb}
 use lib.ListN.{length, getD, set, take, drop}
 use lib.Seq.{sets, slice, drop-at}
 use Rattle.model.specs.Front.{lowerAll, freedAll, firstRound, nextRound, round, front, listing}
-use Rattle.model.specs.Lists.{countBelow, firstBelow, keepBelow, listBelow, over, tally, joinBelow}
+use Rattle.model.specs.Lists.{firstBelow, keepBelow, listBelow, over, tally, joinBelow}
+use Rattle.list_laws.specs.Put.{Picked}
 use Rattle.list_laws.proofs.Built.{listBelow-same, over-length, over-take, over-drop, over-at, over-none, over-size, over-set, over-run, drop-later}
 use Rattle.list_laws.proofs.First.{firstBelow-nowhere, firstBelow-at, firstBelow-same}
 use Rattle.list_laws.proofs.Kept.{keepBelow-same}
@@ -28,7 +29,7 @@ use Rattle.front_laws.proofs.Rounds.{fair}
 use Rattle.front_laws.proofs.Same.{Agree, front-same, listing-same, frontList-same}
 use Rattle.front_laws.proofs.Theorems.{ranked-frontList, listing-length-n}
 use Rattle.front_laws.proofs.Listings.{listing-more, listing-grows}
-use Rattle.front_laws.specs.Post.{of, Ready, Passed, frontCount, frontEnd, Sorted}
+use Rattle.front_laws.specs.Post.{of, Counted, Ready, Passed, frontCount, frontEnd, Sorted}
 
 -- `ends` holds the ends of the fronts before front k; it came as e₀, the order as o₀ and the ranks as r₀
 pub record Sorting (d : ℕ → ℕ → Bool) (n : ℕ) (o₀ r₀ e₀ : List ℕ) (k start end : ℕ) (cs o r ends : List ℕ) : Type 0 where
@@ -42,15 +43,14 @@ pub record Sorting (d : ℕ → ℕ → Bool) (n : ℕ) (o₀ r₀ e₀ : List �
   pub few : k ≤ start
 
 module _ (d : ℕ → ℕ → Bool) (n : ℕ) (o₀ o r₀ e₀ cs : List ℕ) (len : ℕ) (h : n ≤ length o)
-    (c : (t : ℕ) → t < n → getD cs t 0 ≡ countBelow (λ p. d p t) n)
-    (l : len ≡ length (keepBelow (λ q. eqb (getD cs q 0) 0) n)) (e : o₀ ≡ sets o 0 (keepBelow (λ q. eqb (getD cs q 0) 0) n)) where
+    (c : Counted d n cs) (e : Picked (λ q. eqb (getD cs q 0) 0) o 0 n o₀ len) where
   -- the order as the first front leaves it
   first-members : keepBelow (λ q. eqb (getD cs q 0) 0) n ≡ listing d n 1
   unfolding round firstRound nextRound joinBelow
   first-members = keepBelow-same _ _ n (λ t u. ap (λ v. eqb v 0) (c t u))
 
   first-order : o₀ ≡ over (listing d n 1) o
-  first-order = e ∙ ap (sets o 0) first-members ∙ over-run [] (listing d n 1) o 0 refl (omega (arith, listing-room d n 1))
+  first-order = e .stored ∙ ap (sets o 0) first-members ∙ over-run [] (listing d n 1) o 0 refl (omega (arith, listing-room d n 1))
 
   rest-same : drop (length (listing d n 1)) o₀ ≡ drop (length (listing d n 1)) o
   rest-same = ap (drop (length (listing d n 1))) first-order ∙ over-drop (listing d n 1) o (length (listing d n 1)) refl
@@ -61,7 +61,7 @@ module _ (d : ℕ → ℕ → Bool) (n : ℕ) (o₀ o r₀ e₀ cs : List ℕ) (
   sorting-first = record {
     counted = c;
     starts = refl;
-    stops = l ∙ ap length first-members;
+    stops = omega (arith, e .ends, ap length first-members);
     order = first-order ∙ ap (λ t. listing d n 1 ++ t) (sym rest-same);
     ranks = refl;
     ended = sym (over-none (frontEnd d n) e₀);
@@ -124,8 +124,8 @@ module _ (d : ℕ → ℕ → Bool) (n : ℕ) (o₀ r₀ e₀ : List ℕ) (k sta
         counted = λ t u. f .counts t u ∙ ap (λ x. lowerAll d x (of cs) t) current
             ∙ lowerAll-same d d n (front d n k) (of cs) (round d n k .counts) (λ p m t l. refl) (h .counted) t u;
         starts = h .stops;
-        stops = f .result ∙ ap₂ (λ x y. x + length y) (h .stops) next-front ∙ sym grown;
-        order = f .order ∙ ap₂ (λ x y. sets x end y) (h .order) next-front
+        stops = f .order .ends ∙ ap₂ (λ x y. x + length y) (h .stops) next-front ∙ sym grown;
+        order = f .order .stored ∙ ap₂ (λ x y. sets x end y) (h .order) next-front
             ∙ over-run (listing d n (suc k)) g o₀ end (sym (h .stops)) (omega (arith, h .stops, listing-room d n (suc (suc k))))
             ∙ ap (λ x. over x o₀) (sym (listing-more d n (suc k)));
         ranks = f .ranks ∙ ap (λ x. mark x k r) current ∙ ap (mark (front d n k) k) (h .ranks);

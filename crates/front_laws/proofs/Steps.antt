@@ -14,7 +14,7 @@ use Rattle.list_laws.proofs.Kept.{keepBelow-room}
 use Rattle.list_laws.proofs.Runs.{over-next, over-keep}
 use Rattle.front_laws.specs.Post.{of, freedAt, Freed, frees, Releasing}
 use Rattle.list_laws.specs.Put.{Picked}
-use Rattle.list_laws.proofs.Stores.{picked-none, picked-no, picked-length, picked-stored}
+use Rattle.list_laws.proofs.Stores.{picked-none, picked-no, picked-length, picked-more}
 
 abbrev Lowered : (ℕ → ℕ → Bool) → ℕ → List ℕ → ℕ → List ℕ → Type 0
 Lowered d p cs₀ q cs = cs ≡ over (listBelow (lower d p (of cs₀)) q) cs₀
@@ -69,8 +69,7 @@ module _ (d : ℕ → ℕ → Bool) (p : ℕ) (cs₀ o₀ : List ℕ) (at q : �
       → Releasing d p cs₀ o₀ at (q + 1) cs′ o′ r
   releasing-yes cs′ o′ r l e f = record {
     counts = rw (f .counts) (lowered-yes d p cs₀ q cs (h .counts) l e);
-    order = rw (f .order, f .result)
-        (picked-stored (frees d p cs₀) o₀ at q o len (eqb (getD cs q 0 - 1) 0) (frees-now d p cs₀ q cs (h .counts) e) (h .order));
+    order = picked-more (frees d p cs₀) o₀ at q o len (eqb (getD cs q 0 - 1) 0) o′ r (frees-now d p cs₀ q cs (h .counts) e) (h .order) (f .order);
   }
 
   pub releasing-no : q < length cs₀ → d p q ≡ false → Releasing d p cs₀ o₀ at (q + 1) cs o len

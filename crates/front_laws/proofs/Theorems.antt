@@ -5,22 +5,21 @@ use mathlib.Core.Bool.{Bool, true, false, not, _&&_}
 use mathlib.Core.List.{List, []}
 use mathlib.Core.Logic.{_↔_}
 use native.Mathlib.Omega.{arith}
-use borrow.Author.Tests.{not-true}
 use lib.ListN.{length}
 use Rattle.model.specs.Front.{front, listing, frontOf, frontList}
-use Rattle.model.specs.Lists.{one, anyBelow, over, In, has}
+use Rattle.model.specs.Lists.{one, over, In}
 use Rattle.model.specs.Papers.Deb2002.{undominatedOfRest, inFirst, inFront}
 use Rattle.list_laws.specs.Occ.{occ}
-use Rattle.list_laws.proofs.Bools.{by-bool, and-not-right}
+use Rattle.list_laws.proofs.Bools.{by-bool, no-pass}
 use Rattle.list_laws.proofs.Built.{over-filled}
 use Rattle.list_laws.proofs.First.{firstBelow-at}
-use Rattle.list_laws.proofs.Members.{has-in, in-has}
-use Rattle.list_laws.proofs.Tests.{anyBelow-each, anyBelow-nowhere}
+use Rattle.list_laws.proofs.Members.{not-has, in-has}
+use Rattle.list_laws.proofs.Tests.{anyBelow-nowhere}
 use Rattle.front_laws.specs.Ranks.{ranked}
 use Rattle.front_laws.specs.Strict.{Strict}
-use Rattle.front_laws.proofs.Order.{front-exactly, inFront-new, one-front, inFirst-front, not-dominated, under-front, all-inFirst, empty-inFirst, ended, listing-whole}
+use Rattle.front_laws.proofs.Order.{front-exactly, inFront-undominated, one-front, not-dominated, under-front, all-inFirst, empty-inFirst, ended, listing-whole}
 use Rattle.front_laws.proofs.Ranks.{ranked-length, ranked-drop, ranked-at}
-use Rattle.front_laws.proofs.Rounds.{found}
+use Rattle.front_laws.proofs.Rounds.{inFront-new, inFirst-front, found}
 
 -- the members of front k are those of the paper's: the undominated once the fronts before are set aside
 pub front-paper : (d : ℕ → ℕ → Bool) (n k q : ℕ) → In q (front d n k) ↔ ((q < n) × (inFront d n k q ≡ true))
@@ -30,19 +29,13 @@ front-paper d n k q = let f = front-exactly d n k in (λ m. (f .below q m, f .pa
 pub front-undominated : (d : ℕ → ℕ → Bool) (n k q : ℕ)
     → In q (front d n k) ↔ ((q < n) × (inFirst d n k q ≡ false) × ((p : ℕ) → p < n → inFirst d n k p ≡ false → d p q ≡ false))
 unfolding undominatedOfRest
-front-undominated d n k q =
-    let rest : ℕ → Bool = λ p. not (inFirst d n k p) && d p q in (
-      (λ m. let e = front-exactly d n k .passes q m in
-          let none = not-true (anyBelow rest n) (and-not-right (inFirst d n k q) (not (anyBelow rest n)) e) in (
-            front-exactly d n k .below q m,
-            inFront-new d n k q e,
-            λ p l y. ap (λ b. not b && d p q) (sym y) ∙ anyBelow-each rest n none p l,
-          )),
-      λ h. front-exactly d n k .every q (h .0)
-          (let none = anyBelow-nowhere rest n (λ p l. by-bool (inFirst d n k p) (λ y. ap (λ b. not b && d p q) y)
-          (λ y. ap (λ b. not b && d p q) y ∙ h .2 p l y)) in
-          rw (h .1, none)),
-    )
+front-undominated d n k q = (
+  λ m. let e = front-exactly d n k .passes q m in (front-exactly d n k .below q m, inFront-new d n k q e, inFront-undominated d n k q e),
+  λ h. front-exactly d n k .every q (h .0)
+      (let none = anyBelow-nowhere (λ p. not (inFirst d n k p) && d p q) n (λ p l. by-bool (inFirst d n k p) (λ y. ap (λ b. not b && d p q) y)
+      (λ y. ap (λ b. not b && d p q) y ∙ h .2 p l y)) in
+      rw (h .1, none)),
+)
 
 module _ (d : ℕ → ℕ → Bool) (n : ℕ) (s : Strict d n) where
   -- every plan stands once in one front, and in no other
@@ -52,7 +45,7 @@ module _ (d : ℕ → ℕ → Bool) (n : ℕ) (s : Strict d n) where
         r .0,
         r .1,
         found d n (r .0) .exact q l ∙ ap one (r .2),
-        λ j v. found d n j .exact q l ∙ by-bool (inFront d n j q) (λ e. absurd (v (one-front d n j (r .0) q e (r .2)))) (λ e. ap one e),
+        λ j v. found d n j .exact q l ∙ ap one (no-pass (inFront d n j q) (λ e. v (one-front d n j (r .0) q e (r .2)))),
       )
 
   -- no plan dominates another of its own or an earlier front
@@ -77,8 +70,7 @@ module _ (d : ℕ → ℕ → Bool) (n : ℕ) (s : Strict d n) where
       let r = inFirst-front d n n q (all-inFirst d n s q l) in
       let same = one-front d n k (r .0) q e (r .2) in
       firstBelow-at _ n k (omega (arith, r .1)) (in-has (front d n k) q m)
-      (λ j u. by-bool (has (front d n j) q)
-      (λ v. absurd (omega (arith, one-front d n j k q (front-exactly d n j .passes q (has-in (front d n j) q v)) e))) (λ v. v))
+      (λ j u. not-has (front d n j) q (λ v. omega (arith, one-front d n j k q (front-exactly d n j .passes q v) e)))
 
   -- the front numbers written front after front are those of every plan, once a front is empty
   pub ranked-frontList : (k : ℕ) (r : List ℕ) → n ≤ length r → front d n k ≡ [] → ranked d n k r ≡ over (frontList d n) r

@@ -5,10 +5,10 @@ use mathlib.Core.Bool.{Bool, cond, _&&_}
 use mathlib.Core.List.{List, [], _∷_}
 use lib.Dec.{eqb}
 use lib.ListN.{length, getD, set}
-use lib.Seq.{sets, slice}
+use lib.Seq.{slice}
 use Rattle.model.specs.Lists.{one, countBelow, tally, firstBelow, listBelow, over}
 use Rattle.model.specs.Front.{lower, freed, lowerAll, freedAll, front, listing, frontList}
-use Rattle.list_laws.specs.Put.{Picked}
+use Rattle.list_laws.specs.Put.{Put, Picked}
 use Rattle.front_laws.specs.Ranks.{mark}
 
 -- the counts that a list holds
@@ -34,11 +34,14 @@ pub record Raising (d : ℕ → ℕ → Bool) (q : ℕ) (cs₀ : List ℕ) (p : 
 abbrev pub Raised : (ℕ → ℕ → Bool) → ℕ → List ℕ → List ℕ → ℕ → Type 0
 Raised d q cs₀ cs r = Raising d q cs₀ q cs r
 
+-- the plans below q have been compared with each other
+abbrev pub Counted : (ℕ → ℕ → Bool) → ℕ → List ℕ → Type 0
+Counted d q cs = (t : ℕ) → t < q → getD cs t 0 ≡ countBelow (λ s. d s t) q
+
 -- one count lowered: q is listed at `at` if its count is now zero
 pub record Freed (q at : ℕ) (cs₀ cs o₀ o : List ℕ) (r : ℕ) : Type 0 where
   pub counts : cs ≡ set cs₀ q (getD cs₀ q 0 - 1)
-  pub order : o ≡ sets o₀ at (cond (eqb (getD cs₀ q 0 - 1) 0) (q ∷ []) [])
-  pub result : r ≡ at + one (eqb (getD cs₀ q 0 - 1) 0)
+  pub order : Put o₀ at (cond (eqb (getD cs₀ q 0 - 1) 0) (q ∷ []) []) o r
 
 -- p lowers no count below zero, and there is room for whom it frees
 pub record Releasable (d : ℕ → ℕ → Bool) (n p at : ℕ) (cs o : List ℕ) : Type 0 where
@@ -73,8 +76,7 @@ pub record Ready (d : ℕ → ℕ → Bool) (n start end : ℕ) (cs o rank : Lis
 -- that front's members before place i ranked k, the counts lowered by them, and whom they free listed from `end` on
 pub record Passing (d : ℕ → ℕ → Bool) (n k start end : ℕ) (cs₀ o₀ r₀ : List ℕ) (i : ℕ) (cs o r : List ℕ) (x : ℕ) : Type 0 where
   pub counts : (t : ℕ) → t < n → getD cs t 0 ≡ lowerAll d (slice start i o₀) (of cs₀) t
-  pub order : o ≡ sets o₀ end (freedAll d n (slice start i o₀) (of cs₀))
-  pub result : x ≡ end + length (freedAll d n (slice start i o₀) (of cs₀))
+  pub order : Put o₀ end (freedAll d n (slice start i o₀) (of cs₀)) o x
   pub ranks : r ≡ mark (slice start i o₀) k r₀
 
 -- and all its members

@@ -8,7 +8,7 @@ use borrow.Author.Tests.{eqb-true, eqb-false}
 use lib.Dec.{eqb}
 use lib.ListN.{length, getD, set, length-append}
 use lib.Seq.{sets, length-sets, getD-set-other, getD-set-same}
-use Rattle.model.specs.Lists.{one, keepBelow}
+use Rattle.model.specs.Lists.{keepBelow}
 use Rattle.list_laws.proofs.Bools.{by-bool}
 use Rattle.list_laws.proofs.Kept.{keepBelow-none, keepBelow-more}
 use Rattle.list_laws.specs.Put.{Put, Picked}
@@ -51,15 +51,6 @@ picked-no f l at q o len e h = picked-more f l at q o len false o len e h (put-n
 
 pub picked-length : (f : ℕ → Bool) (l : List ℕ) (at q : ℕ) (o : List ℕ) (len : ℕ) → Picked f l at q o len → length o ≡ length l
 picked-length f l at q o len h = put-length l o at len (keepBelow f q) h
-
--- the same by what is stored
-pub picked-stored : (f : ℕ → Bool) (l : List ℕ) (at q : ℕ) (o : List ℕ) (len : ℕ) (b : Bool) → f q ≡ b → Picked f l at q o len
-    → Picked f l at (q + 1) (sets o len (cond b (q ∷ []) [])) (len + one b)
-picked-stored f l at q o len b e h = picked-more f l at q o len b _ _ e h (record { stored = refl; ends = ap (λ k. len + k) (size b) })
-  where
-    size : (c : Bool) → one c ≡ length (cond c (q ∷ []) [])
-    size true = refl
-    size false = refl
 
 -- ---- one entry
 

@@ -4,10 +4,10 @@ ghost use mathlib.Core.Path.{_≡_};
 ghost use Prim.Native.Nat.{_*_, _≤_};
 ghost use lib.Dec.{eqb};
 ghost use lib.ListN.{length, getD};
-ghost use lib.Seq.{sets};
-ghost use Rattle.model.specs.Lists.{keepBelow, listBelow, over};
+ghost use Rattle.model.specs.Lists.{listBelow, over};
 ghost use Rattle.model.specs.Refusal.{maxSize};
 ghost use Rattle.model.specs.Row.{minimised};
+ghost use Rattle.list_laws.specs.Put.{Picked};
 ghost use Rattle.front_laws.specs.Flat.{flatDominates, flatBeats, Pool, KnownRows};
 ghost use Rattle.front_laws.specs.Post.{Sorted};
 
@@ -27,8 +27,7 @@ pub fn to_minimize_space(values: &[f64], directions: &[u8], row: &mut [f64])
 // Front 0: the plans whose count is zero, in rising index.
 fn first_front(n: usize, counts: &[usize], order: &mut [usize]) -> usize
     requires { ⌜ (n ≤ length (now counts)) × (n ≤ length (now order)) ⌝ }
-    ensures { λ r. ⌜ (r ≡ length (keepBelow (λ q. eqb (getD (now (counts .entry)) q 0) 0) n))
-        × (now (order .exit) ≡ sets (now (order .entry)) 0 (keepBelow (λ q. eqb (getD (now (counts .entry)) q 0) 0) n)) ⌝ }
+    ensures { λ r. ⌜ Picked (λ q. eqb (getD (now (counts .entry)) q 0) 0) (now (order .entry)) 0 n (now (order .exit)) r ⌝ }
 {
     let mut len = 0;
     let mut q = 0;

@@ -6,10 +6,9 @@ use mathlib.Core.List.{List}
 use native.Mathlib.Omega.{arith}
 use lib.Ieee.{Float, nan, isNan}
 use lib.ListN.{length}
-use Rattle.model.specs.Lists.{allBelow}
 use Rattle.model.specs.Plan.{Plan, planAt, maxObjectives, maxConstraints}
 use Rattle.model.specs.Row.{rowOf, feasible, violation, beats}
-use Rattle.model.specs.Refusal.{goodPlan}
+use Rattle.model.specs.Refusal.{goodPlan, goodPlans}
 use Rattle.list_laws.proofs.Built.{over-below}
 use Rattle.list_laws.proofs.Checks.{good-length, good-constraints}
 use Rattle.list_laws.proofs.Tests.{allBelow-each}
@@ -22,7 +21,7 @@ use Rattle.plan_rows.specs.Filled.{ConstraintsOf}
 
 -- ---- a pool of words whose first n plans pass refusal 8
 
-module _ (pool marks : List ℕ) (n : ℕ) (good : allBelow (λ p. goodPlan (length marks) (planAt pool p)) n ≡ true) where
+module _ (pool marks : List ℕ) (n : ℕ) (good : goodPlans (length marks) (planAt pool) n ≡ true) where
   good-at : (p : ℕ) → p < n → goodPlan (length marks) (planAt pool p) ≡ true
   good-at p l = allBelow-each (λ q. goodPlan (length marks) (planAt pool q)) n good p l
 

@@ -6,9 +6,10 @@ use mathlib.Core.List.{List}
 use lib.Ieee.{Float}
 use lib.ListN.{length, set}
 use lib.Seq.{sets}
-use Rattle.model.specs.Lists.{listBelow, joinBelow, over}
+use Rattle.model.specs.Lists.{listBelow, over}
 use Rattle.model.specs.Plan.{Plan}
 use Rattle.model.specs.Row.{rowOf, feasible, violation}
+use Rattle.list_laws.specs.Rows.{flatRows}
 
 -- row p is the plan's, in minimise-space, and every other entry is as it was
 abbrev pub RowAt : List ℕ → Plan → ℕ → List Float → List Float → Type 0
@@ -16,7 +17,7 @@ RowAt marks plan p old new = new ≡ sets old (p * length marks) (listBelow (row
 
 -- the rows of n plans one after the other, and what lies past them as it was
 abbrev pub RowsOf : List ℕ → (ℕ → Plan) → ℕ → List Float → List Float → Type 0
-RowsOf marks plans n old new = new ≡ over (joinBelow (λ p. listBelow (rowOf marks (plans p)) (length marks)) n) old
+RowsOf marks plans n old new = new ≡ over (flatRows (λ p. rowOf marks (plans p)) n (length marks)) old
 
 -- whether a plan is feasible, and its violation sum, at its place
 pub record ConstraintsAt (plan : Plan) (p : ℕ) (flags₀ flags : List Bool) (sums₀ sums : List Float) : Type 0 where

@@ -1,18 +1,18 @@
 -- Refusals 2 and 8, test by test: of directions, of a value, of the ideal and of a plan of words.
 use Prim.Native.Nat.{ℕ, _+_, _≤_, _<_, min}
 use mathlib.Core.Path.{_≡_, refl, ap, ap₂, sym, _∙_}
-use mathlib.Core.Bool.{Bool, true, false, not, _&&_, _||_}
+use mathlib.Core.Bool.{Bool, true, false, not, _&&_}
 use mathlib.Core.List.{List}
 use native.Mathlib.Nat.{add-assoc}
 use native.Mathlib.Omega.{arith}
 use borrow.Author.Tests.{lt-leb, le-leb, eq-eqb, ne-eqb}
 use lib.Dec.{eqb, leb}
-use lib.Ieee.{Float, nan, binary64, le, ofBits}
+use lib.Ieee.{Float, nan, le}
 use lib.ListN.{length, getD}
 use Rattle.model.specs.Lists.{allBelow, allIn, listBelow}
-use Rattle.model.specs.Plan.{Plan, planOf, maxObjectives, maxConstraints}
+use Rattle.model.specs.Plan.{planOf, planFrom, maxObjectives, maxConstraints}
 use Rattle.model.specs.Real.{real}
-use Rattle.model.specs.Refusal.{badDirections, measurable, isInfinity, goodIdeal, goodPlan}
+use Rattle.model.specs.Refusal.{badDirections, leastMeasured, mostMeasured, measurable, goodEntry, goodIdeal, goodPlan}
 use Rattle.list_laws.proofs.Bools.{and-no}
 use Rattle.list_laws.proofs.Built.{listBelow-same}
 use Rattle.list_laws.proofs.Tests.{allIn-below, allIn-listBelow}
@@ -38,34 +38,24 @@ directions-marks marks h k =
 
 -- ---- a value
 
-abbrev pub least : Float
-least = ofBits binary64 0xfe70_0000_0000_0000
-
-abbrev pub most : Float
-most = ofBits binary64 0x7e70_0000_0000_0000
-
-pub measurable-low : (x : Float) → le least x ≡ false → measurable x ≡ false
+pub measurable-low : (x : Float) → le leastMeasured x ≡ false → measurable x ≡ false
 unfolding measurable
 measurable-low x e = rw e
 
-pub measurable-high : (x : Float) → le least x ≡ true → measurable x ≡ le x most
+pub measurable-high : (x : Float) → le leastMeasured x ≡ true → measurable x ≡ le x mostMeasured
 unfolding measurable
 measurable-high x e = rw e
 
 -- ---- the ideal
-
--- an entry of an ideal
-abbrev pub idealEntry : Float → Bool
-idealEntry x = measurable x || isInfinity x
 
 pub ideal-length : (m : ℕ) (ideal : List Float) → (length ideal ≡ m → ⊥) → goodIdeal m ideal ≡ false
 unfolding goodIdeal
 ideal-length m ideal h = rw (ne-eqb (length ideal) m h)
 
 pub ideal-entries : (m : ℕ) (ideal : List Float) → length ideal ≡ m
-    → goodIdeal m ideal ≡ allBelow (λ k. idealEntry (getD ideal k nan)) (length ideal)
+    → goodIdeal m ideal ≡ allBelow (λ k. goodEntry (getD ideal k nan)) (length ideal)
 unfolding goodIdeal
-ideal-entries m ideal e = rw (eq-eqb (length ideal) m e) (allIn-below idealEntry nan ideal)
+ideal-entries m ideal e = rw (eq-eqb (length ideal) m e) (allIn-below goodEntry nan ideal)
 
 -- ---- a plan of words
 
@@ -75,19 +65,16 @@ measurableTo words at n = allBelow (λ j. measurable (real (getD words (at + j) 
 
 -- the plan that lies in a slice of words from place `at` on
 module _ (words : List ℕ) (at : ℕ) where
-  abbrev pub planFrom : Plan
-  planFrom = planOf (λ j. getD words (at + j) 0)
-
   moved : (from n : ℕ) → listBelow (λ j. real (getD words (at + (from + j)) 0)) n ≡ listBelow (λ j. real (getD words (at + from + j) 0)) n
   moved from n = listBelow-same _ _ n (λ j l. ap (λ t. real (getD words t 0)) (sym (add-assoc at from j)))
 
   -- its values and constraints
-  pub words-row : planFrom .row ≡ listBelow (λ j. real (getD words (at + 2 + j) 0)) (min (getD words (at + 1) 0) maxObjectives)
+  pub words-row : planFrom words at .row ≡ listBelow (λ j. real (getD words (at + 2 + j) 0)) (min (getD words (at + 1) 0) maxObjectives)
   unfolding planOf
   words-row = moved 2 _
 
   pub words-constraints : getD words (at + 10) 0 ≤ maxConstraints
-      → planFrom .constraints ≡ listBelow (λ j. real (getD words (at + 11 + j) 0)) (getD words (at + 10) 0)
+      → planFrom words at .constraints ≡ listBelow (λ j. real (getD words (at + 11 + j) 0)) (getD words (at + 10) 0)
   unfolding planOf
   words-constraints h =
       let e : min (getD words (at + 10) 0) maxConstraints ≡ getD words (at + 10) 0 = omega arith in
@@ -95,16 +82,16 @@ module _ (words : List ℕ) (at : ℕ) where
 
   -- refusal 8 for it, test by test
   module _ (m : ℕ) where
-    pub plan-row-length : (getD words (at + 1) 0 ≡ m → ⊥) → goodPlan m planFrom ≡ false
+    pub plan-row-length : (getD words (at + 1) 0 ≡ m → ⊥) → goodPlan m (planFrom words at) ≡ false
     unfolding goodPlan planOf
     plan-row-length h = rw (ne-eqb (getD words (at + 1) 0) m h)
 
-    pub plan-constraints : maxConstraints < getD words (at + 10) 0 → goodPlan m planFrom ≡ false
+    pub plan-constraints : maxConstraints < getD words (at + 10) 0 → goodPlan m (planFrom words at) ≡ false
     unfolding goodPlan planOf
     plan-constraints h = rw (lt-leb (getD words (at + 10) 0) maxConstraints h) (and-no (eqb (getD words (at + 1) 0) m) false refl)
 
     pub plan-measured : m ≤ maxObjectives → getD words (at + 1) 0 ≡ m → getD words (at + 10) 0 ≤ maxConstraints → (b : Bool) → measurableTo words (at + 2) m ≡ b
-        → goodPlan m planFrom ≡ (b && measurableTo words (at + 11) (getD words (at + 10) 0))
+        → goodPlan m (planFrom words at) ≡ (b && measurableTo words (at + 11) (getD words (at + 10) 0))
     unfolding goodPlan planOf
     plan-measured h e k b v =
         let a : min (getD words (at + 1) 0) maxObjectives ≡ m = omega arith in

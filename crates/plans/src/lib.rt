@@ -3,12 +3,12 @@ use model::MAX_PLANS;
 use model::PLAN_WORDS;
 ghost use mathlib.Core.Path.{_≡_};
 ghost use Prim.Native.Nat.{_+_, _<_, _≤_};
-ghost use mathlib.Core.Bool.{not, _&&_, _||_};
+ghost use mathlib.Core.Bool.{not, _&&_};
 ghost use lib.ListN.{length, getD};
 ghost use Rattle.model.specs.Lists.{allBelow};
 ghost use Rattle.model.specs.Real.{real};
 ghost use Rattle.model.specs.Plan.{planAt, planCount};
-ghost use Rattle.model.specs.Refusal.{badDirections, measurable, isInfinity, badCount, goodIdeal, goodPlan};
+ghost use Rattle.model.specs.Refusal.{badDirections, measurable, goodEntry, badCount, goodIdeal, goodPlan, goodPlans};
 
 // Where a plan's row length, values, constraint count and constraints stand among its words.
 const ROW_LENGTH: usize = 1;
@@ -58,7 +58,7 @@ fn measurable(x: f64) -> bool
 
 // An entry of an ideal is measurable or plus infinity.
 fn good_entry(x: f64) -> bool
-    ensures { λ r. ⌜ r ≡ (measurable x || isInfinity x) ⌝ }
+    ensures { λ r. ⌜ r ≡ goodEntry x ⌝ }
 {
     if measurable(x) {
         return true;
@@ -125,7 +125,7 @@ fn good_plan(pool: &[u64], i: usize, m: usize) -> bool
 // Refusal 8 for the first n plans of a pool.
 fn good_plans(pool: &[u64], n: usize, m: usize) -> bool
     requires { ⌜ (n ≤ planCount (now pool)) × (m ≤ 8) ⌝ }
-    ensures { λ r. ⌜ r ≡ allBelow (λ p. goodPlan m (planAt (now (pool .entry)) p)) n ⌝ }
+    ensures { λ r. ⌜ r ≡ goodPlans m (planAt (now (pool .entry))) n ⌝ }
 {
     let mut p = 0;
     while p < n {
@@ -151,7 +151,7 @@ pub fn bad_count(n: usize) -> bool
 // Refusal 8 for a pool and its ideal.
 pub fn bad_pool(pool: &[u64], m: usize, ideal: &[f64]) -> bool
     requires { ⌜ m ≤ 8 ⌝ }
-    ensures { λ r. ⌜ r ≡ not (allBelow (λ p. goodPlan m (planAt (now (pool .entry)) p)) (planCount (now (pool .entry))) && goodIdeal m (now (ideal .entry))) ⌝ }
+    ensures { λ r. ⌜ r ≡ not (goodPlans m (planAt (now (pool .entry))) (planCount (now (pool .entry))) && goodIdeal m (now (ideal .entry))) ⌝ }
 {
     let n = plan_count(pool);
     if good_plans(pool, n, m) {

@@ -5,10 +5,9 @@ ghost use mathlib.Core.List.{List};
 ghost use Prim.Native.Nat.{ℕ, _≤_};
 ghost use lib.Ieee.{Float};
 ghost use lib.ListN.{length};
-ghost use Rattle.model.specs.Lists.{allBelow};
 ghost use Rattle.model.specs.Plan.{planAt, planCount};
 ghost use Rattle.model.specs.Calls.{wordRequest};
-ghost use Rattle.model.specs.Refusal.{goodPlan};
+ghost use Rattle.model.specs.Refusal.{goodPlans};
 ghost use Rattle.model.specs.declared.Rng.{Rng};
 ghost use Rattle.pool_sort.specs.Laid.{RowsIn, Sorts};
 use front_cut::Cut;
@@ -24,7 +23,7 @@ pub fn sort_pool(
     fronts: &mut [usize],
 ) -> Cut
     requires { ⌜ (planCount (now pool) ≤ 1024) × (length (now directions) ≤ 8) × (planCount (now pool) ≤ length (now order)) × (planCount (now pool) ≤ length (now fronts))
-        × (allBelow (λ p. goodPlan (length (now directions)) (planAt (now pool) p)) (planCount (now pool)) ≡ true) ⌝ }
+        × (goodPlans (length (now directions)) (planAt (now pool)) (planCount (now pool)) ≡ true) ⌝ }
     requires { ⌜ ((h : ℕ) (g : Rng) (i : List Float) → RowsIn (wordRequest (now pool) (now directions) h size g i) (now rows)) ⌝ }
     ensures { λ r. ⌜ ((h : ℕ) (g : Rng) (i : List Float) → Sorts (wordRequest (now (pool .entry)) (now (directions .entry)) h size g i)
         (now (order .exit)) r (now (fronts .entry)) (now (fronts .exit))) ⌝ }

@@ -4,18 +4,18 @@ ghost use mathlib.Core.Path.{_≡_};
 ghost use mathlib.Core.Bool.{true};
 ghost use Prim.Native.Nat.{ℕ, _≤_, _<_};
 ghost use lib.ListN.{length, getD};
-ghost use Rattle.model.specs.Lists.{allBelow, listBelow, over};
+ghost use Rattle.model.specs.Lists.{listBelow, over};
 ghost use Rattle.model.specs.Plan.{planAt, planCount};
 ghost use Rattle.model.specs.Row.{rowBeats};
 ghost use Rattle.model.specs.Front.{frontOf, frontList};
-ghost use Rattle.model.specs.Refusal.{goodPlan};
+ghost use Rattle.model.specs.Refusal.{goodPlans};
 use model::MAX_PLANS;
 use model::MAX_VALUES;
 
 // Each plan's front in the pool, by rows only.
 fn front_ranks(pool: &[u64], directions: &[u8], fronts: &mut [usize])
     requires { ⌜ (planCount (now pool) ≤ 1024) × (length (now directions) ≤ 8) × (planCount (now pool) ≤ length (now fronts))
-        × (allBelow (λ p. goodPlan (length (now directions)) (planAt (now pool) p)) (planCount (now pool)) ≡ true) ⌝ }
+        × (goodPlans (length (now directions)) (planAt (now pool)) (planCount (now pool)) ≡ true) ⌝ }
     ensures { λ _. ⌜ now (fronts .exit)
         ≡ over (frontList (rowBeats (now (directions .entry)) (planAt (now (pool .entry)))) (planCount (now (pool .entry)))) (now (fronts .entry)) ⌝ }
 {
@@ -50,7 +50,7 @@ pub fn fill_ranks(
     ranks: &mut [usize],
 )
     requires { ⌜ (planCount (now pool) ≤ 1024) × (length (now directions) ≤ 8)
-        × (allBelow (λ p. goodPlan (length (now directions)) (planAt (now pool) p)) (planCount (now pool)) ≡ true)
+        × (goodPlans (length (now directions)) (planAt (now pool)) (planCount (now pool)) ≡ true)
         × (count ≤ length (now kept)) × (count ≤ length (now ranks)) × ((i : ℕ) → i < count → getD (now kept) i 0 < planCount (now pool)) ⌝ }
     ensures { λ _. ⌜ now (ranks .exit)
         ≡ over (listBelow (λ i. frontOf (rowBeats (now (directions .entry)) (planAt (now (pool .entry)))) (planCount (now (pool .entry))) (getD (now (kept .entry)) i 0)) count)

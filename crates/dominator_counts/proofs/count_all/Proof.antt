@@ -4,7 +4,8 @@ use mathlib.Core.Path.{_≡_, refl, _∙_}
 use native.Mathlib.Omega.{arith}
 use lib.ListN.{length, length-set}
 use Rattle.front_laws.specs.Flat.{flatBeats}
-use Rattle.front_laws.proofs.Counting.{Counted, counted-low, counted-more}
+use Rattle.front_laws.specs.Post.{Counted}
+use Rattle.front_laws.proofs.Counting.{counted-low, counted-more}
 use Rattle.front_laws.proofs.Flat.{flatBeats-self}
 use Rattle.dominator_counts.proofs.count_all.Statement.{statement}
 use Rattle.dominator_counts.proofs.count_all.Tie as tie

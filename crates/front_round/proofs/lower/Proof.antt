@@ -45,7 +45,7 @@ same-length-2 c = search needs
 returns : tie.Need-returns
 returns c =
     let e = eq-eqb _ 0 (c .if1 .taken) in
-    record { counts = refl; order = rw e; result = rw e }
+    record { counts = refl; order = rw e (record { stored = refl; ends = refl }) }
 
 same-length-3 : tie.Need-same-length-3
 same-length-3 c = search needs
@@ -53,7 +53,7 @@ same-length-3 c = search needs
 returns-2 : tie.Need-returns-2
 returns-2 c =
     let e = ne-eqb _ 0 (c .if1 .left) in
-    record { counts = refl; order = rw e; result = rw e (omega arith) }
+    record { counts = refl; order = rw e (record { stored = refl; ends = omega arith }) }
 
 pub lower-spec : {M : Type 1} → statement M
 lower-spec =

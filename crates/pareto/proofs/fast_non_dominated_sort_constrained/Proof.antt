@@ -52,7 +52,7 @@ loop-holds : tie.Need-loop-holds Inv-loop μ-loop
 loop-holds c =
     let f = c .before .before .first-front in
     let n = c .before .before .before .before .before .before in
-    (refl, sorting-first _ _ _ _ _ _ _ _ (entry c .pre .3) (n .count-all .ensures) (f .ensures .0) (f .ensures .1))
+    (refl, sorting-first _ _ _ _ _ _ _ _ (entry c .pre .3) (n .count-all .ensures) (f .ensures))
 
 mul-ends : tie.Need-mul-ends Inv-loop μ-loop
 mul-ends c = omega (arith, early c, entry (c .before .before) .pre .2)
@@ -110,7 +110,7 @@ returns c =
     let n = b .before .before .before .before .before .before in
     let a = entry b in
     sorting-done _ _ _ _ _ _ _ _ _ _ _ _ (l .inv .1) (flatBeats-strict _ _ _ _ _ (a .pre .1)) (a .pre .4) _
-    (first-rest _ _ _ (a .args .order .now) (a .args .rank .now) (a .args .ends .now) (n .count-all .last .1 .1 .1 .1 .1 .0) _ (a .pre .3) (n .count-all .ensures) (f .ensures .0) (f .ensures .1))
+    (first-rest _ _ _ (a .args .order .now) (a .args .rank .now) (a .args .ends .now) (n .count-all .last .1 .1 .1 .1 .1 .0) _ (a .pre .3) (n .count-all .ensures) (f .ensures))
     (c .loop-test .left)
 
 pub fast-non-dominated-sort-constrained-spec : {M : Type 1} → statement M

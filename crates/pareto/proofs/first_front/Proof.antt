@@ -1,8 +1,7 @@
 -- front 0: the numbers picked so far stand at the front of the order
 use Prim.Native.Nat.{_-_, _≤_}
-use mathlib.Core.Path.{_≡_, refl, _∙_}
+use mathlib.Core.Path.{_≡_, refl}
 use mathlib.Core.Logic.{⊎-elim}
-use native.Mathlib.Nat.{zero-add}
 use native.Mathlib.Omega.{arith}
 use borrow.Author.Tests.{eq-eqb, ne-eqb}
 use lib.Dec.{eqb}
@@ -60,7 +59,7 @@ returns : tie.Need-returns Inv-loop μ-loop
 returns c =
     let l = c .before .loop in
     let e : l .q ≡ c .before .before .args .n = omega arith in
-    rw (← e) (l .inv .3 .ends ∙ zero-add _, l .inv .3 .stored)
+    rw e at (l .inv .3)
 
 pub first-front-spec : {M : Type 1} → statement M
 first-front-spec =

@@ -4,9 +4,7 @@ use mathlib.Core.Path.{_≡_, refl, _∙_}
 use native.Mathlib.Omega.{arith}
 use lib.ListN.{length}
 use Rattle.model.specs.Plan.{planAt}
-use Rattle.list_laws.proofs.Built.{joinBelow-none}
-use Rattle.list_laws.proofs.Rows.{row-within}
-use Rattle.plan_rows.proofs.Rows.{rows-more}
+use Rattle.list_laws.proofs.Rows.{row-within, rows-none, rows-more}
 use Rattle.plan_rows.specs.Filled.{RowsOf}
 use Rattle.plan_rows.proofs.fill_rows.Statement.{statement}
 use Rattle.plan_rows.proofs.fill_rows.Tie as tie
@@ -22,7 +20,7 @@ row : (s : tie.Start Inv-loop μ-loop) (p : ℕ) → p < s .args .n → p * leng
 row s p u = row-within p (s .args .n) (length (s .args .directions .now)) (length (s .args .rows .now)) u (s .pre .0 .2)
 
 loop-holds : tie.Need-loop-holds Inv-loop μ-loop
-loop-holds c = (omega arith, refl, rw joinBelow-none)
+loop-holds c = (omega arith, refl, rows-none _ _ _)
 
 fill-row-requires : tie.Need-fill-row-requires Inv-loop μ-loop
 fill-row-requires c κs =
@@ -42,7 +40,7 @@ loop-again c =
     let l = c .before .before .before .before .before .loop in
     let f = c .before .before .fill-row in
     let a = c .before .before .before .before .before .before .before .before .before in
-    (omega arith, f .kept .1 .1 .1 .0 ∙ l .inv .1, rows-more _ _ _ (a .args .rows .now) _ _ (row a (l .p) (c .before .before .before .before .loop-test .taken)) (l .inv .2) (f .ensures))
+    (omega arith, f .kept .1 .1 .1 .0 ∙ l .inv .1, rows-more _ _ _ _ _ (a .args .rows .now) (row a (l .p) (c .before .before .before .before .loop-test .taken)) (l .inv .2) (f .ensures))
 
 same-length : tie.Need-same-length Inv-loop μ-loop
 same-length c = c .before .loop .inv .1

@@ -4,13 +4,13 @@ use mathlib.Core.Bool.{not, _&&_}
 use borrow.Author.Needs.{needs}
 use Rattle.model.specs.Lists.{allBelow}
 use Rattle.model.specs.Plan.{planAt, planCount}
-use Rattle.model.specs.Refusal.{goodPlan, goodIdeal}
+use Rattle.model.specs.Refusal.{goodPlans, goodIdeal}
 use Rattle.plans.proofs.bad_pool.Statement.{statement}
 use Rattle.plans.proofs.bad_pool.Tie as tie
 
 -- what `good_plans` says of the pool
 plans-told : (c : tie.After-good-plans)
-    → let a = c .before .before .before .before .args in c .good-plans .result ≡ allBelow (λ p. goodPlan (a .m) (planAt (a .pool .now) p)) (planCount (a .pool .now))
+    → let a = c .before .before .before .before .args in c .good-plans .result ≡ goodPlans (a .m) (planAt (a .pool .now)) (planCount (a .pool .now))
 plans-told c = c .good-plans .ensures ∙ ap (allBelow _) (c .before .plan-count .ensures)
 
 plan-count-requires : tie.Need-plan-count-requires

@@ -7,13 +7,14 @@ use borrow.Author.Needs.{needs}
 use lib.Ieee.{nan}
 use lib.ListN.{length, getD}
 use Rattle.model.specs.Lists.{allBelow}
+use Rattle.model.specs.Refusal.{goodEntry}
 use Rattle.list_laws.proofs.Tests.{allBelow-none, allBelow-yes, allBelow-no}
-use Rattle.plans.proofs.Refused.{idealEntry, ideal-length, ideal-entries}
+use Rattle.plans.proofs.Refused.{ideal-length, ideal-entries}
 use Rattle.plans.proofs.good_ideal.Statement.{statement}
 use Rattle.plans.proofs.good_ideal.Tie as tie
 
 abbrev Inv-loop : tie.InvT-loop
-Inv-loop m ideal j₀ j = (j ≤ length ideal) × (allBelow (λ k. idealEntry (getD ideal k nan)) j ≡ true)
+Inv-loop m ideal j₀ j = (j ≤ length ideal) × (allBelow (λ k. goodEntry (getD ideal k nan)) j ≡ true)
 
 abbrev μ-loop : tie.MeasureT-loop
 μ-loop m ideal j₀ j = length ideal - j

@@ -4,15 +4,14 @@ use mathlib.Core.Path.{_≡_, sym, _∙_}
 use mathlib.Core.Bool.{true}
 use native.Mathlib.Omega.{arith}
 use borrow.Author.Needs.{needs}
-use Rattle.model.specs.Lists.{allBelow}
 use Rattle.model.specs.Plan.{planAt}
-use Rattle.model.specs.Refusal.{goodPlan}
+use Rattle.model.specs.Refusal.{goodPlans}
 use Rattle.list_laws.proofs.Tests.{allBelow-none, allBelow-yes, allBelow-no}
 use Rattle.plans.proofs.good_plans.Statement.{statement}
 use Rattle.plans.proofs.good_plans.Tie as tie
 
 abbrev Inv-loop : tie.InvT-loop
-Inv-loop pool n m p₀ p = (p ≤ n) × (allBelow (λ q. goodPlan m (planAt pool q)) p ≡ true)
+Inv-loop pool n m p₀ p = (p ≤ n) × (goodPlans m (planAt pool) p ≡ true)
 
 abbrev μ-loop : tie.MeasureT-loop
 μ-loop pool n m p₀ p = n - p
