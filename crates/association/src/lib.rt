@@ -8,10 +8,9 @@ ghost use mathlib.Core.Path.{_≡_};
 ghost use Prim.Native.Nat.{ℕ, _+_, _*_, _<_, _≤_};
 ghost use lib.Ieee.{Float};
 ghost use lib.ListN.{length};
-ghost use Rattle.model.specs.Lists.{listBelow, over};
 ghost use Rattle.model.specs.Numbers.{sqrtOf};
 ghost use Rattle.model.specs.Association.{nearestOf, Request, lineCount};
-ghost use Rattle.association_laws.specs.Flat.{NormsIn, distanceAt, nearestAt};
+ghost use Rattle.association_laws.specs.Flat.{NormsIn, distanceAt, NearestAll};
 ghost use Rattle.association_laws.specs.Search.{Square, Found};
 ghost use Rattle.association_laws.specs.Request.{Pool, StartIn, LinesIn, Associates};
 
@@ -103,9 +102,8 @@ fn nearest_lines(
 )
     requires { ⌜ (n * m ≤ length (now normalized)) × («n_lines» * m ≤ length (now table)) × (known ≤ length (now norms))
         × NormsIn (now table) m (now norms) known × (n ≤ length (now lines)) × (n ≤ length (now distances)) ⌝ }
-    ensures { λ _. ⌜ (now (lines .exit) ≡ over (listBelow (λ p. nearestAt (now (normalized .entry)) m (now (table .entry)) «n_lines» p .line) n) (now (lines .entry)))
-        × (now (distances .exit)
-        ≡ over (listBelow (λ p. nearestAt (now (normalized .entry)) m (now (table .entry)) «n_lines» p .distance) n) (now (distances .entry))) ⌝ }
+    ensures { λ _. ⌜ NearestAll (now (normalized .entry)) m (now (table .entry)) «n_lines» n (now (lines .entry)) (now (lines .exit))
+        (now (distances .entry)) (now (distances .exit)) ⌝ }
 {
     let mut p = 0;
     while p < n {
@@ -138,9 +136,8 @@ pub fn associate_to_reference_points(
     distances: &mut [f64],
 )
     requires { ⌜ (n * m ≤ length (now normalized)) × («n_lines» * m ≤ length (now table)) × (n ≤ length (now lines)) × (n ≤ length (now distances)) ⌝ }
-    ensures { λ _. ⌜ (now (lines .exit) ≡ over (listBelow (λ p. nearestAt (now (normalized .entry)) m (now (table .entry)) «n_lines» p .line) n) (now (lines .entry)))
-        × (now (distances .exit)
-        ≡ over (listBelow (λ p. nearestAt (now (normalized .entry)) m (now (table .entry)) «n_lines» p .distance) n) (now (distances .entry))) ⌝ }
+    ensures { λ _. ⌜ NearestAll (now (normalized .entry)) m (now (table .entry)) «n_lines» n (now (lines .entry)) (now (lines .exit))
+        (now (distances .entry)) (now (distances .exit)) ⌝ }
 {
     let known = known_norms(n_lines);
     let mut norms = [0.0; MAX_LINES];

@@ -4,11 +4,9 @@ use Prim.Native.Nat.{ℕ, zero, suc, _+_, _-_, _*_, _/_, _≤_, _<_, zero-le}
 use mathlib.Core.Path.{_≡_, refl, ap, sym, subst, _∙_}
 use mathlib.Core.Bool.{false}
 use mathlib.Core.List.{List, [], _∷_, map}
-use mathlib.Core.Logic.{⊎-elim}
-use native.Mathlib.Nat.{not-suc-le-zero, eq-or-lt-of-le, le-trans, mul-le-mul-right, mul-pos, mul-assoc, mul-comm, sub-zero, suc-mul, zero-mul}
+use native.Mathlib.Nat.{not-suc-le-zero, le-trans, mul-le-mul-right, mul-pos, mul-assoc, mul-comm, sub-zero, suc-mul, zero-mul}
 use native.Mathlib.Omega.{arith}
-use borrow.Author.Tests.{ltb-true, ltb-false}
-use lib.Dec.{T, lit≤, lit<, ltb}
+use lib.Dec.{T, lit≤, lit<}
 use lib.IntN.{pos, negsuc}
 use lib.Pow.{pow-pos}
 use lib.Ieee.{Float, nan, fin, binary64, ofInt, round, add, mul, le, lt, ofBits, fits}
@@ -20,7 +18,8 @@ use Rattle.model.specs.Numbers.{square}
 use Rattle.model.specs.Reference.{ratio, lattice, dasDennis, pointCount}
 use Rattle.model.specs.Association.{dot, smallNorm}
 use Rattle.model.specs.Papers.DasDennis1998.{total, IsPoint}
-use Rattle.list_laws.proofs.Bools.{by-bool, T-false}
+use Rattle.list_laws.proofs.Bools.{T-false}
+use Rattle.list_laws.proofs.Below.{last-or, by-lt}
 use Rattle.list_laws.proofs.Built.{map-at}
 use Rattle.list_laws.proofs.Members.{getD-member}
 use Rattle.reference_laws.proofs.Count.{lattice-count}
@@ -90,11 +89,9 @@ part-most (a ∷ t) (suc j) = let i = part-most t j in omega arith
 large : (t : List ℕ) (q : ℕ) → length t * q < total t → (i : ℕ) × (i < length t) × (q < getD t i 0)
 unfolding total
 large [] q h = absurd (omega (arith, zero-mul q))
-large (x ∷ t) q h = by-bool (ltb q x)
-    (λ e. (0, omega arith, ltb-true q x e))
-    (λ e. let l = ltb-false q x e in
-    let w = large t q (omega (arith, suc-mul (length t) q)) in
-    (suc (w .0), omega (arith, w .1), w .2))
+large (x ∷ t) q h = by-lt q x
+    (λ e. (0, omega arith, e))
+    (λ e. let w = large t q (omega (arith, suc-mul (length t) q)) in (suc (w .0), omega (arith, w .1), w .2))
 
 -- an eighth of it, where there are at most 8
 large-part : (m h : ℕ) (t : List ℕ) → m ≤ 8 → 1 ≤ h → IsPoint m h t → (j : ℕ) × (j < m) × (h ≤ 8 * getD t j 0)
@@ -132,13 +129,11 @@ module _ (f : ℕ → Float) (i : ℕ) (big : T (le sixtyFourth (square (f i))))
       let S-number = within-number 8 S s in
       let B : Number binary64 sixtyFourth = record { held = closed .1; finite = tt } in
       let N = nought-number binary64 in
-      let k : i ≤ n = omega arith in
-      ⊎-elim
+      last-or l
       (λ e. order.le-trans sixtyFourth (nought ⊕ sixtyFourth) (S ⊕ x) (closed .4)
       (add-mono binary64 nought S sixtyFourth x N S-number B X (squares-from-zero 8 f n s) (subst (λ t. T (le sixtyFourth (square (f t)))) e big)))
       (λ e. order.le-trans sixtyFourth (sixtyFourth ⊕ nought) (S ⊕ x) (closed .5)
       (add-mono binary64 sixtyFourth S nought x B S-number N X (squares-least n (omega arith) below e) (square-from-zero 0 (f n) w)))
-      (eq-or-lt-of-le k)
 
 -- ---- the lines
 

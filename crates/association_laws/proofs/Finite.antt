@@ -1,22 +1,18 @@
--- THEOREM: every distance of an accepted pool is a number, so the line and the distance that a plan is given are those of its nearest line. Assumes nothing.
+-- THEOREM: every distance of an accepted pool is a number. Assumes nothing.
 use Prim.Native.Nat.{ℕ, _≤_, _<_}
 use mathlib.Core.Path.{_≡_}
 use mathlib.Core.Bool.{true, false}
-use native.Mathlib.Omega.{arith}
 use lib.Dec.{T, lit≤, lit<}
 use lib.Ieee.{Float, binary64, lt, le, ofBits, fits, isNan}
 use Rattle.model.specs.Real.{_⊗_, _⊘_, infinity}
 use Rattle.model.specs.Numbers.{sqrtOf}
-use Rattle.model.specs.Association.{Request, objectives, lineCount, normalised, coordinate, dot, offSquares, distance, distanceTo, smallNorm, association, lineOf}
+use Rattle.model.specs.Association.{Request, objectives, lineCount, normalised, coordinate, dot, offSquares, distance, distanceTo, smallNorm}
 use Rattle.list_laws.proofs.Bools.{T-true, T-false}
 use Rattle.float_laws.proofs.Order.{le-trans, le-not-nan, le-lt-trans}
 use Rattle.float_laws.proofs.Constants.{nought, one, exp2}
 use Rattle.float_laws.proofs.FromZero.{Upto, upto-within}
 use Rattle.float_laws.proofs.Magnitude.{Within, within-number, sub-within, mul-within, div-within, within-wider}
 use Rattle.real_laws.proofs.Roots.Monotone.{sqrt-mono, sqrt-from-zero}
-use Rattle.niching_laws.proofs.Association.{lineOf-inside}
-use Rattle.niching_laws.proofs.Association as association-laws
-use Rattle.reference_laws.proofs.Count.{lines-some}
 use Rattle.association_laws.proofs.Search.{distance-long}
 use Rattle.association_laws.proofs.Within.{Measured, normalised-unit}
 use Rattle.association_laws.proofs.Squares.{squares-from-zero}
@@ -74,19 +70,3 @@ module _ (r : Request) (M : Measured r) (wide : 1 ≤ objectives r) (narrow : ob
   distanceTo-number l k =
       let u = usable (objectives r) (r .divisions) l wide narrow some few k in
       distance-number (objectives r) narrow (normalised r p) (coordinate r l) (λ j g. normalised-unit r M p j h g) (u .inUnit) (u .norm) (u .notSmall)
-
-  -- so the distance kept is the plan's distance from its line, a number, and every line before it is farther
-  lines : 0 < lineCount r
-  lines = lines-some (objectives r) (r .divisions) wide
-
-  inside : lineOf r p < lineCount r
-  inside = lineOf-inside r p lines
-
-  pub association-own : association r p .distance ≡ distanceTo r p (lineOf r p)
-  association-own = association-laws.association-nearest r p lines .distance (distanceTo-number (lineOf r p) inside .0)
-
-  pub association-number : (isNan (association r p .distance) ≡ false) × (lt (association r p .distance) infinity ≡ true)
-  association-number = rw association-own (distanceTo-number (lineOf r p) inside)
-
-  pub association-nearest : (l : ℕ) → l < lineOf r p → lt (distanceTo r p (lineOf r p)) (distanceTo r p l) ≡ true
-  association-nearest l k = association-laws.association-nearest r p lines .first l k (distanceTo-number l (let i = inside in omega arith) .0)

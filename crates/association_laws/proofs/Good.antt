@@ -1,10 +1,9 @@
 -- A pool that refusal 8 lets pass is measured: its values and its ideal are doubles within 2 ^ 1000.
 use Prim.Native.Nat.{ℕ, _+_, _≤_, _<_, min}
 use mathlib.Core.Path.{_≡_, ap, sym, subst, _∙_}
-use mathlib.Core.Bool.{true, false, _&&_, _||_, true≢false}
+use mathlib.Core.Bool.{true, false, _&&_, true≢false}
 use mathlib.Core.List.{List}
 use native.Mathlib.Omega.{arith}
-use borrow.Author.Tests.{eqb-true, not-false}
 use lib.Dec.{T, eqb}
 use lib.Ieee.{Float, nan, inf, fin, binary64, ofBits, fits, le, eq}
 use lib.Ieee.Bits.{ofBits-fits}
@@ -12,16 +11,16 @@ use lib.Ieee.Fits.{and-l, and-r}
 use lib.ListN.{length, getD}
 use Rattle.model.specs.declared.Direction.{Direction}
 use Rattle.model.specs.declared.Direction.the-variants.{Minimize, Maximize}
-use Rattle.model.specs.Lists.{listBelow, allIn, allBelow}
+use Rattle.model.specs.Lists.{listBelow}
 use Rattle.model.specs.Plan.{maxObjectives, planOf}
 use Rattle.model.specs.Real.{real}
 use Rattle.model.specs.Row.{directionOf, toMinimize, rowOf}
 use Rattle.model.specs.Association.{Request, objectives}
-use Rattle.model.specs.Refusal.{measurable, isInfinity, goodPlan, goodIdeal, badPool}
-use Rattle.list_laws.proofs.Bools.{by-bool, true-T, and-left, and-right}
+use Rattle.model.specs.Refusal.{measurable, isInfinity, goodEntry, goodPlan, goodIdeal, badPool}
+use Rattle.list_laws.proofs.Bools.{by-bool, true-T, and-right}
 use Rattle.list_laws.proofs.Built.{listBelow-length, listBelow-at}
-use Rattle.list_laws.proofs.Tests.{allIn-each, allBelow-each}
-use Rattle.list_laws.proofs.Checks.{good-values}
+use Rattle.list_laws.proofs.Tests.{allIn-each}
+use Rattle.list_laws.proofs.Checks.{good-values, good-ideal-length, pool-plan, pool-ideal}
 use Rattle.front_laws.proofs.Plans.{words-accepted}
 use Rattle.float_laws.proofs.Constants.{exp2, minus-exp2}
 use Rattle.float_laws.proofs.Magnitude.{Within, neg-within}
@@ -50,7 +49,7 @@ infinite-low (inf true) e = absurd (true≢false (sym e))
 infinite-low (inf false) e = tt
 infinite-low (fin s m k) e = absurd (true≢false (sym e))
 
-start-of : (x : Float) → T (fits binary64 x) → (measurable x || isInfinity x) ≡ true → Start x
+start-of : (x : Float) → T (fits binary64 x) → goodEntry x ≡ true → Start x
 start-of x h e = by-bool (measurable x)
     (λ v. record { held = h; low = real-of x h v .low })
     (λ v. let i : isInfinity x ≡ true = rw v at e in record { held = h; low = infinite-low x i })
@@ -72,21 +71,15 @@ good-start : (m : ℕ) (ideal : List Float) → goodIdeal m ideal ≡ true → (
     → (j : ℕ) → j < m → Start (getD ideal j nan)
 unfolding goodIdeal
 good-start m ideal e h j l =
-    let n = eqb-true (length ideal) m (and-left (eqb (length ideal) m) (allIn (λ x. measurable x || isInfinity x) ideal) e) in
-    let all = and-right (eqb (length ideal) m) (allIn (λ x. measurable x || isInfinity x) ideal) e in
-    start-of (getD ideal j nan) (h j l) (allIn-each (λ x. measurable x || isInfinity x) nan ideal all j (omega arith))
+    start-of (getD ideal j nan) (h j l) (allIn-each goodEntry nan ideal (and-right (eqb (length ideal) m) _ e) j (omega (arith, good-ideal-length m ideal e)))
 
 -- THEOREM: a pool of words that refusal 8 lets pass is measured
 pub measured-words : (r : Request) (word : ℕ → ℕ → ℕ) → ((p : ℕ) → r .plans p ≡ planOf (word p)) → objectives r ≤ maxObjectives → badPool r ≡ false
     → ((j : ℕ) → j < objectives r → T (fits binary64 (getD (r .ideal) j nan))) → Measured r
-unfolding badPool
 measured-words r word same few pool held =
     let m = objectives r in
-    let all = allBelow (λ p. goodPlan m (r .plans p)) (r .count) in
-    let e : (all && goodIdeal m (r .ideal)) ≡ true = not-false (all && goodIdeal m (r .ideal)) pool in
-    let good : (p : ℕ) → p < r .count → goodPlan m (planOf (word p)) ≡ true =
-    λ p h. ap (goodPlan m) (sym (same p)) ∙ allBelow-each (λ p. goodPlan m (r .plans p)) (r .count) (and-left all (goodIdeal m (r .ideal)) e) p h in
     record {
-      values = λ p j h k. subst (λ plan. Within 1000 (rowOf (r .marks) plan j)) (sym (same p)) (word-value (r .marks) m (word p) few (good p h) j k);
-      start = good-start m (r .ideal) (and-right all (goodIdeal m (r .ideal)) e) held;
+      values = λ p j h k. subst (λ plan. Within 1000 (rowOf (r .marks) plan j)) (sym (same p))
+          (word-value (r .marks) m (word p) few (ap (goodPlan m) (sym (same p)) ∙ pool-plan r pool p h) j k);
+      start = good-start m (r .ideal) (pool-ideal r pool) held;
     }

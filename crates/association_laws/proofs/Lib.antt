@@ -1,6 +1,5 @@
 pub mod Search
 pub mod Same
-pub mod Places
 pub mod Request
 pub mod Extremes
 pub mod Within

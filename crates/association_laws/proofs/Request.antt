@@ -1,5 +1,5 @@
 -- What the functions of `association` leave is what document 01 says of a request: its ideal, intercepts, normalised rows, lines and distances.
-use Prim.Native.Nat.{ℕ, _≤_, _<_}
+use Prim.Native.Nat.{ℕ, _+_, _*_, _≤_, _<_}
 use mathlib.Core.Path.{_≡_, ap, ap₂, subst, _∙_}
 use mathlib.Core.List.{List, [], flatten}
 use lib.Ieee.{Float, nan}
@@ -7,19 +7,21 @@ use lib.ListN.{getD}
 use Rattle.model.specs.Lists.{listBelow, over}
 use Rattle.model.specs.Real.{_⊖_, _⊘_}
 use Rattle.model.specs.Reference.{dasDennis, pointCount}
-use Rattle.model.specs.Association.{Request, objectives, lineCount, valueOf, idealOf, interceptOf, normalised, coordinate, distanceTo, distance, association, lineOf, leastFrom, greatest, interceptFrom, nearestOf}
-use Rattle.list_laws.proofs.Built.{listBelow-same, over-below}
-use Rattle.association_laws.specs.Flat.{flatRows, leastAt, interceptAt, normalAt, nearestAt}
+use Rattle.model.specs.Association.{Request, objectives, lineCount, valueOf, idealOf, interceptOf, normalised, coordinate, distanceTo, distance, association, leastFrom, greatest, interceptFrom, nearestOf}
+use Rattle.list_laws.specs.Rows.{flatRows}
+use Rattle.list_laws.proofs.Built.{over-same, over-below}
+use Rattle.list_laws.proofs.Rows.{rows-at}
+use Rattle.reference_laws.proofs.Rows.{table-at}
+use Rattle.association_laws.specs.Flat.{leastAt, interceptAt, normalAt, nearestAt, NearestAll}
 use Rattle.association_laws.specs.Request.{Pool, StartIn, IdealIn, InterceptsIn, NormalisedIn, LinesIn, Associates}
 use Rattle.association_laws.proofs.Same.{least-same, greatest-same, distance-same, nearest-same}
-use Rattle.association_laws.proofs.Places.{over-rows, over-lines}
 
 -- ---- what `das_dennis` leaves, of m objectives and h divisions: k lines
 module _ (r : Request) (m h k : ℕ) (width : m ≡ objectives r) (d : h ≡ r .divisions) (c : k ≡ pointCount m h) where
   pub lines-at : 1 ≤ m → (table old : List Float) → table ≡ over (flatten (dasDennis m h)) old → LinesIn r table k m
   unfolding coordinate
   lines-at some table old e l j g i =
-      over-lines m h some table old l j e (subst (λ t. l < t) c g) i
+      ap (λ t. getD t (l * m + j) nan) e ∙ table-at m h l j old some (subst (λ t. l < t) c g) i
       ∙ ap₂ (λ a b. getD (getD (dasDennis a b) l []) j nan) width d
 
 module _ (r : Request) (rows : List Float) (n m : ℕ) (P : Pool r rows n m) where
@@ -31,13 +33,8 @@ module _ (r : Request) (rows : List Float) (n m : ℕ) (P : Pool r rows n m) whe
         least-same _ _ _ n (λ p k. P .values p j k h)
         ∙ ap₂ (λ b k. leastFrom b (λ p. valueOf r p j) k) (start j h) (P .count)
 
-    module _ (ideal : List Float) (e : ideal ≡ over (listBelow (leastAt rows n m old) m) old) where
-      pub ideal-at : IdealIn r ideal m
-      ideal-at j h = over-below (leastAt rows n m old) m ideal old j nan e h ∙ least-is j h
-
-      -- what a slice of other length holds past them stays
-      pub ideal-all : ideal ≡ over (listBelow (idealOf r) m) old
-      ideal-all = e ∙ ap (λ t. over t old) (listBelow-same _ _ m least-is)
+    ideal-at : (ideal : List Float) → ideal ≡ over (listBelow (leastAt rows n m old) m) old → IdealIn r ideal m
+    ideal-at ideal e j h = over-below (leastAt rows n m old) m ideal old j nan e h ∙ least-is j h
 
   -- ---- what `find_intercepts` leaves, from the ideal
   module _ (ideal : List Float) (z : IdealIn r ideal m) where
@@ -46,15 +43,15 @@ module _ (r : Request) (rows : List Float) (n m : ℕ) (P : Pool r rows n m) whe
     intercept-is j h =
         ap₂ (λ g i. interceptFrom (g ⊖ i)) (greatest-same _ _ n (λ p k. P .values p j k h) ∙ ap (greatest (λ p. valueOf r p j)) (P .count)) (z j h)
 
-    pub intercepts-at : (intercepts old : List Float) → intercepts ≡ over (listBelow (interceptAt rows n m ideal) m) old → InterceptsIn r intercepts m
+    intercepts-at : (intercepts old : List Float) → intercepts ≡ over (listBelow (interceptAt rows n m ideal) m) old → InterceptsIn r intercepts m
     intercepts-at intercepts old e j h = over-below (interceptAt rows n m ideal) m intercepts old j nan e h ∙ intercept-is j h
 
     -- ---- what `normalize_objectives` leaves, from both
-    pub normalised-at : (intercepts : List Float) → InterceptsIn r intercepts m → (normalized old : List Float)
+    normalised-at : (intercepts : List Float) → InterceptsIn r intercepts m → (normalized old : List Float)
         → normalized ≡ over (flatRows (normalAt rows m ideal intercepts) n m) old → NormalisedIn r normalized n m
     unfolding normalised
     normalised-at intercepts a normalized old e p j h k =
-        over-rows (normalAt rows m ideal intercepts) n m normalized old p j e h k
+        rows-at (normalAt rows m ideal intercepts) n m nan normalized old p j e h k
         ∙ ap₂ (λ v i. v ⊘ i) (ap₂ (λ v i. v ⊖ i) (P .values p j h k) (z j k)) (a j k)
 
   -- ---- what `associate_to_reference_points` leaves, from the normalised rows and the table
@@ -66,26 +63,19 @@ module _ (r : Request) (rows : List Float) (n m : ℕ) (P : Pool r rows n m) whe
         ∙ ap (λ w. distance w (normalised r p) (coordinate r l)) (P .width))
         ∙ ap (nearestOf (distanceTo r p)) c
 
-    pub lines-all : (lines old : List ℕ) → lines ≡ over (listBelow (λ p. nearestAt normalized m table k p .line) n) old → lines ≡ over (listBelow (lineOf r) n) old
-    lines-all lines old e = e ∙ ap (λ t. over t old) (listBelow-same _ _ n (λ p h. ap (λ x. x .line) (nearest-is p h)))
-
-    pub distances-all : (distances old : List Float) → distances ≡ over (listBelow (λ p. nearestAt normalized m table k p .distance) n) old
-        → distances ≡ over (listBelow (λ p. association r p .distance) n) old
-    distances-all distances old e = e ∙ ap (λ t. over t old) (listBelow-same _ _ n (λ p h. ap (λ x. x .distance) (nearest-is p h)))
-
 -- ---- what `associate` leaves: the four steps one after the other
 module _ (r : Request) (rows : List Float) (n m : ℕ) (P : Pool r rows n m) (table : List Float) (k : ℕ) (T : LinesIn r table k m) (c : k ≡ lineCount r)
     (ideal₀ ideal : List Float) (start : StartIn r ideal₀ m) (e₁ : ideal ≡ over (listBelow (leastAt rows n m ideal₀) m) ideal₀)
     (intercepts₀ intercepts : List Float) (e₂ : intercepts ≡ over (listBelow (interceptAt rows n m ideal) m) intercepts₀)
     (normalized₀ normalized : List Float) (e₃ : normalized ≡ over (flatRows (normalAt rows m ideal intercepts) n m) normalized₀)
-    (lines₀ lines : List ℕ) (e₄ : lines ≡ over (listBelow (λ p. nearestAt normalized m table k p .line) n) lines₀)
-    (distances₀ distances : List Float) (e₅ : distances ≡ over (listBelow (λ p. nearestAt normalized m table k p .distance) n) distances₀) where
+    (lines₀ lines : List ℕ) (distances₀ distances : List Float) (e₄ : NearestAll normalized m table k n lines₀ lines distances₀ distances) where
   pub all-steps : Associates r n m ideal₀ ideal lines₀ lines distances₀ distances
   all-steps =
       let z = ideal-at r rows n m P ideal₀ start ideal e₁ in
       let a = normalised-at r rows n m P ideal z intercepts (intercepts-at r rows n m P ideal z intercepts intercepts₀ e₂) normalized normalized₀ e₃ in
+      let near = nearest-is r rows n m P normalized a table k T c in
       record {
-        moved = ideal-all r rows n m P ideal₀ start ideal e₁;
-        nearest = lines-all r rows n m P normalized a table k T c lines lines₀ e₄;
-        distance = distances-all r rows n m P normalized a table k T c distances distances₀ e₅;
+        moved = over-same _ _ m ideal ideal₀ (least-is r rows n m P ideal₀ start) e₁;
+        nearest = over-same _ _ n lines lines₀ (λ p h. ap (λ x. x .line) (near p h)) (e₄ .line);
+        distance = over-same _ _ n distances distances₀ (λ p h. ap (λ x. x .distance) (near p h)) (e₄ .distance);
       }

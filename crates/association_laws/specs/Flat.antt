@@ -5,7 +5,7 @@ use mathlib.Core.Bool.{cond}
 use mathlib.Core.List.{List}
 use lib.Ieee.{Float, nan, lt}
 use lib.ListN.{getD}
-use Rattle.model.specs.Lists.{listBelow, joinBelow}
+use Rattle.model.specs.Lists.{listBelow, over}
 use Rattle.model.specs.Real.{_⊖_, _⊘_, infinity}
 use Rattle.front_laws.specs.Flat.{rowAt}
 use Rattle.model.specs.Association.{leastFrom, greatest, interceptFrom, dot, offSquares, smallNorm, distance, Near, nearestOf}
@@ -17,10 +17,6 @@ column rows m j p = rowAt rows m p j
 -- the entries of a list from `at` on
 abbrev pub from : List Float → ℕ → ℕ → Float
 from l at j = getD l (at + j) nan
-
--- n rows of m entries, one after the other
-unfoldable pub flatRows : (ℕ → ℕ → Float) → ℕ → ℕ → List Float
-flatRows f n m = joinBelow (λ p. listBelow (f p) m) n
 
 -- the smaller of an ideal's entry j and the least of the n plans
 abbrev pub leastAt : List Float → ℕ → ℕ → List Float → ℕ → Float
@@ -52,3 +48,8 @@ distanceAt points at m table l = distance m (from points at) (from table (l * m)
 -- the line nearest to plan p, and its distance
 abbrev pub nearestAt : List Float → ℕ → List Float → ℕ → ℕ → Near
 nearestAt points m table lines p = nearestOf (distanceAt points (p * m) m table) lines
+
+-- the line and the distance of each of n plans, from k lines, at the front of two slices; what lies past them is as it was
+pub record NearestAll (points : List Float) (m : ℕ) (table : List Float) (k n : ℕ) (lines₀ lines : List ℕ) (distances₀ distances : List Float) : Type 0 where
+  pub line : lines ≡ over (listBelow (λ p. nearestAt points m table k p .line) n) lines₀
+  pub distance : distances ≡ over (listBelow (λ p. nearestAt points m table k p .distance) n) distances₀

@@ -38,7 +38,7 @@ fn das_dennis_recursive(
     requires { ⌜ (depth + left < 8) × (divisions ≤ 199) × (remaining ≤ 199) ⌝ }
     requires { ⌜ length (rowsFrom (take depth current) left remaining divisions) ≤ length (now table) ⌝ }
     ensures count { λ r. ⌜ r ≡ length (rowsFrom (take depth current) left remaining divisions) ⌝ }
-    ensures rows { λ r. ⌜ now (table .exit) ≡ rowsFrom (take depth current) left remaining divisions ++ drop r (now (table .entry)) ⌝ }
+    ensures rows { λ _. ⌜ now (table .exit) ≡ over (rowsFrom (take depth current) left remaining divisions) (now (table .entry)) ⌝ }
 {
     if left == 0 {
         let mut row = current;

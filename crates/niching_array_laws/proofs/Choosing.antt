@@ -4,14 +4,14 @@ use mathlib.Core.Path.{_≡_, refl, ap, sym, _∙_}
 use mathlib.Core.Bool.{Bool}
 use mathlib.Core.List.{List, map}
 use native.Mathlib.Omega.{arith}
-use borrow.Author.Tests.{ltb-true}
 use lib.Ieee.{Float}
 use lib.ListN.{length, getD, length-map}
 use Rattle.model.specs.Lists.{countBelow, keepBelow}
-use Rattle.model.specs.Draw.{Drawn, drawn, drawUsize}
+use Rattle.model.specs.Draw.{drawn, drawUsize}
 use Rattle.model.specs.Kept.{leastLines, drawFrom, nearest, drawMember}
 use Rattle.list_laws.proofs.Bools.{and-left}
 use Rattle.list_laws.proofs.Kept.{keepBelow-length}
+use Rattle.list_laws.proofs.Draws.{drawn-by}
 use Rattle.rng_util.proofs.Draws.{drawn-below}
 use Rattle.niching_array_laws.specs.Niche.{countOf, hasWaiting, isLeast, Open, Kth}
 use Rattle.list_laws.proofs.Built.{map-at}
@@ -21,16 +21,15 @@ use Rattle.niching_array_laws.proofs.Least.{IsLeastOf, leastLines-is}
 -- the k-th of those that pass, k drawn, is drawn from them
 drawn-kth : (f : ℕ → Bool) (n k r s t : ℕ) → drawn k t ≡ drawUsize (countBelow f n) s → Kth f n k r → drawn r t ≡ drawFrom (keepBelow f n) s
 unfolding drawFrom
-drawn-kth f n k r s t e h = sym (
-    ap (λ (d : Drawn ℕ). drawn (getD (keepBelow f n) (d .value) 0) (d .state)) (ap (λ c. drawUsize c s) (keepBelow-length f n) ∙ sym e)
-    ∙ ap (λ v. drawn v t) (kth-is f n k r h))
+drawn-kth f n k r s t e h =
+    ap (λ v. drawn v t) (sym (kth-is f n k r h)) ∙ drawn-by (λ i. getD (keepBelow f n) i 0) (e ∙ ap (λ c. drawUsize c s) (sym (keepBelow-length f n)))
 
 -- and so is what stands at that place from what stands at them
 drawn-map : (h : ℕ → ℕ) (l : List ℕ) (r s t : ℕ) → 0 < length l → drawn r t ≡ drawFrom l s → drawn (h r) t ≡ drawFrom (map h l) s
 unfolding drawFrom
 drawn-map h l r s t u e =
     let d = drawUsize (length l) s in
-    ap (λ (d : Drawn ℕ). drawn (h (d .value)) (d .state)) e
+    drawn-by h e
     ∙ sym (ap (λ c. drawn (getD (map h l) (drawUsize c s .value) 0) (drawUsize c s .state)) (length-map l h)
     ∙ ap (λ v. drawn v (d .state)) (map-at h l (d .value) 0 0 (drawn-below (length l) s (d .value) (d .state) u refl)))
 
@@ -38,7 +37,7 @@ drawn-map h l r s t u e =
 
 module _ (counts waits : List ℕ) (n m k r : ℕ) (o : IsLeastOf counts waits n m) (h : Kth (isLeast counts waits m) n k r) where
   pub chosen-open : Open waits n r
-  chosen-open = record { below = h .below; some = ltb-true 0 (getD waits r 0) (and-left _ _ (h .passes)) }
+  chosen-open = record { below = h .one .below; passes = and-left _ _ (h .one .passes) }
 
   pub chosen-line : (many s t : ℕ) → many ≡ countBelow (isLeast counts waits m) n → drawn k t ≡ drawUsize many s
       → drawn r t ≡ drawFrom (leastLines (countOf counts) (keepBelow (hasWaiting waits) n)) s

@@ -2,14 +2,13 @@
 use Prim.Native.Nat.{ℕ, _+_, _≤_, _<_}
 use mathlib.Core.Path.{_≡_, ap, sym, _∙_}
 use mathlib.Core.List.{List, [], _∷_, _++_}
-use native.Mathlib.Numerals.{add-one}
 use native.Mathlib.Omega.{arith}
-use borrow.Author.Tests.{eqb-true, eqb-false}
 use lib.Dec.{eqb}
 use lib.ListN.{length, getD, set, take}
-use lib.Seq.{take-suc, take-length, length-take-le, getD-set-same, getD-set-other}
+use lib.Seq.{take-length, length-take-le}
 use Rattle.model.specs.Kept.{nicheCount}
-use Rattle.list_laws.proofs.Bools.{by-bool}
+use Rattle.list_laws.proofs.Built.{take-more}
+use Rattle.list_laws.proofs.Stores.{set-cases}
 use Rattle.list_laws.proofs.Members.{tally-nil, tally-le}
 use Rattle.niching_laws.proofs.Run.{count-same, count-other}
 use Rattle.niching_array_laws.specs.Niche.{countOf, Zeros}
@@ -18,13 +17,9 @@ use Rattle.niching_array_laws.specs.Niche.{countOf, Zeros}
 pub counts-more : (line : ℕ → ℕ) (plans : List ℕ) (p : ℕ) (counts : List ℕ) → line p < length counts
     → ((l : ℕ) → countOf counts l ≡ nicheCount line plans l)
     → (l : ℕ) → countOf (set counts (line p) (countOf counts (line p) + 1)) l ≡ nicheCount line (plans ++ (p ∷ [])) l
-counts-more line plans p counts h g l = by-bool (eqb (line p) l)
-    (λ e. let v : line p ≡ l = eqb-true (line p) l e in
-    ap (countOf (set counts (line p) (countOf counts (line p) + 1))) (sym v)
-    ∙ getD-set-same counts (line p) (countOf counts (line p) + 1) 0 h
-    ∙ omega (arith, g l, ap (countOf counts) v, count-same line plans p l v))
-    (λ e. getD-set-other counts (line p) l (countOf counts (line p) + 1) 0 (λ v. eqb-false (line p) l e (sym v))
-    ∙ g l ∙ sym (count-other line plans p l (eqb-false (line p) l e)))
+counts-more line plans p counts h g l = set-cases (λ c. c ≡ nicheCount line (plans ++ (p ∷ [])) l) 0 counts (line p) l (countOf counts (line p) + 1) h
+    (λ v. omega (arith, g l, ap (countOf counts) v, count-same line plans p l v))
+    (λ v. g l ∙ sym (count-other line plans p l v))
 
 -- the counts of the first i plans
 pub record Counted (line : ℕ → ℕ) (plans : List ℕ) (i : ℕ) (counts : List ℕ) : Type 0 where
@@ -37,8 +32,7 @@ module _ {line : ℕ → ℕ} {plans : List ℕ} {i : ℕ} {counts : List ℕ} (
   pub counted-more : i < length plans → line (getD plans i 0) < length counts
       → Counted line plans (i + 1) (set counts (line (getD plans i 0)) (countOf counts (line (getD plans i 0)) + 1))
   counted-more h k = record {
-    at = λ l. counts-more line (take i plans) (getD plans i 0) counts k (g .at) l
-        ∙ ap (λ t. nicheCount line t l) (sym (ap (λ t. take t plans) (add-one i) ∙ take-suc plans i 0 h));
+    at = λ l. counts-more line (take i plans) (getD plans i 0) counts k (g .at) l ∙ ap (λ t. nicheCount line t l) (sym (take-more 0 plans i h));
   }
 
   -- no count is above the number of the plans

@@ -1,23 +1,24 @@
 -- The arrays while the open places are filled: they hold what document 01 says of the plans kept before and those picked so far.
 use Prim.Native.Nat.{ℕ, _+_, _-_, _≤_, _<_}
-use mathlib.Core.Path.{_≡_, ap, ap₂, sym, _∙_, fun-ext}
+use mathlib.Core.Path.{_≡_, refl, ap, ap₂, sym, _∙_, fun-ext}
 use mathlib.Core.Bool.{Bool, true, false, not, _&&_, _||_, or-true, or-false}
 use mathlib.Core.List.{List, [], _∷_, _++_, map, append-nil, append-assoc}
 use native.Mathlib.Omega.{arith}
-use borrow.Author.Tests.{eq-eqb, ne-eqb, eqb-true, eqb-false}
+use borrow.Author.Tests.{eq-eqb, ne-eqb}
 use lib.Dec.{eqb, ltb}
 use lib.Ieee.{Float}
 use lib.ListN.{length, getD, set, replicate, length-append, length-set, length-map, length-replicate}
 use lib.Seq.{getD-set-same, getD-set-other}
 use Rattle.model.specs.Lists.{countBelow, keepBelow, keep, has, Distinct}
-use Rattle.model.specs.Draw.{Drawn}
-use Rattle.model.specs.Kept.{nicheCount, waiting, openLines, leastLines, drawFrom, drawMember, pickOne}
-use Rattle.list_laws.proofs.Bools.{by-bool, no-pass}
+use Rattle.model.specs.Kept.{nicheCount, waiting, openLines, pickOne}
+use Rattle.list_laws.proofs.Bools.{and-no}
+use Rattle.list_laws.proofs.Stores.{set-cases}
 use Rattle.list_laws.proofs.Counts.{countBelow-same}
-use Rattle.list_laws.proofs.Members.{tally-le, keep-length, has-nil, has-cons, has-occ, has-append, has-in, different-places, place-of}
+use Rattle.list_laws.proofs.Members.{tally-le, keep-length, has-nil, has-cons, has-occ, has-append, not-has, different-places, place-of}
 use Rattle.list_laws.proofs.Kept.{keepBelow-same, keepBelow-length, keep-keep}
+use Rattle.niching_laws.specs.Niching.{pickFrom}
 use Rattle.niching_laws.proofs.Picks.{some-waits}
-use Rattle.niching_array_laws.specs.Niche.{lineIn, distanceIn, planAt, countOf, hasWaiting, waitsOn, places, members, OnLines, Measured, Awaits, Ready, pickAt, Took}
+use Rattle.niching_array_laws.specs.Niche.{lineIn, distanceIn, memberAt, countOf, hasWaiting, waitsOn, places, members, OnLines, Measured, Awaits, Ready, pickAt, Took}
 use Rattle.niching_array_laws.proofs.Places.{replicate-at, keep-places, occ-map, countBelow-drop}
 use Rattle.niching_array_laws.proofs.Counting.{counts-more}
 
@@ -33,7 +34,7 @@ pub record Given (before front lines : List ℕ) (distances : List Float) (n : �
 pub record Holds (before front lines picked : List ℕ) (counts waits : List ℕ) (taken : List Bool) : Type 0 where
   pub counted : (l : ℕ) → countOf counts l ≡ nicheCount (lineIn lines) (before ++ picked) l
   pub waiting : Awaits front lines taken waits
-  pub marks : (i : ℕ) → i < length front → getD taken i false ≡ has picked (planAt front i)
+  pub marks : (i : ℕ) → i < length front → getD taken i false ≡ has picked (memberAt front i)
   pub sizes : (length counts ≡ 1024) × (length waits ≡ 1024) × (length taken ≡ 1024)
 
 -- ---- at first
@@ -42,8 +43,8 @@ pub record Holds (before front lines picked : List ℕ) (counts waits : List ℕ
 all-wait : (front lines : List ℕ) (n l : ℕ) → nicheCount (lineIn lines) front l ≡ length (places front lines (replicate n false) l)
 all-wait front lines n l =
     sym (keep-length (λ p. eqb (lineIn lines p) l) front) ∙ ap length (keep-places (λ p. eqb (lineIn lines p) l) front)
-    ∙ length-map (keepBelow (λ i. eqb (lineIn lines (planAt front i)) l) (length front)) (planAt front)
-    ∙ ap length (keepBelow-same _ _ (length front) (λ i u. ap (λ b. not b && eqb (lineIn lines (planAt front i)) l) (sym (replicate-at false n i))))
+    ∙ length-map (keepBelow (λ i. eqb (lineIn lines (memberAt front i)) l) (length front)) (memberAt front)
+    ∙ ap length (keepBelow-same _ _ (length front) (λ i u. ap (λ b. not b && eqb (lineIn lines (memberAt front i)) l) (sym (replicate-at false n i))))
 
 pub holds-first : (before front lines counts waits : List ℕ)
     → ((l : ℕ) → countOf counts l ≡ nicheCount (lineIn lines) before l) → ((l : ℕ) → countOf waits l ≡ nicheCount (lineIn lines) front l)
@@ -51,7 +52,7 @@ pub holds-first : (before front lines counts waits : List ℕ)
 holds-first before front lines counts waits a b c d = record {
   counted = λ l. a l ∙ ap (λ t. nicheCount (lineIn lines) t l) (sym (append-nil before));
   waiting = λ l. b l ∙ all-wait front lines 1024 l;
-  marks = λ i u. replicate-at false 1024 i ∙ sym (has-nil (planAt front i));
+  marks = λ i u. replicate-at false 1024 i ∙ sym (has-nil (memberAt front i));
   sizes = (c, d, length-replicate 1024 false);
 }
 
@@ -63,13 +64,13 @@ module _ {before front lines picked counts waits : List ℕ} {taken : List Bool}
   holds-members l =
       sym (keep-keep (λ p. eqb (lineIn lines p) l) (λ p. not (has picked p)) front
       ∙ keep-places (λ p. not (has picked p) && eqb (lineIn lines p) l) front
-      ∙ ap (map (planAt front)) (keepBelow-same _ _ (length front) (λ i u. ap (λ b. not b && eqb (lineIn lines (planAt front i)) l) (sym (h .marks i u)))))
+      ∙ ap (map (memberAt front)) (keepBelow-same _ _ (length front) (λ i u. ap (λ b. not b && eqb (lineIn lines (memberAt front i)) l) (sym (h .marks i u)))))
 
   -- a line has waiting members just where its number of them is not 0
   holds-open : (l : ℕ) → hasWaiting waits l ≡ has (map (lineIn lines) (waiting front picked)) l
   holds-open l =
       let w = waiting front picked in
-      ap (ltb 0) (h .waiting l ∙ sym (length-map (places front lines taken l) (planAt front)) ∙ ap length (holds-members l)
+      ap (ltb 0) (h .waiting l ∙ sym (length-map (places front lines taken l) (memberAt front)) ∙ ap length (holds-members l)
       ∙ keep-length (λ p. eqb (lineIn lines p) l) w ∙ sym (occ-map (lineIn lines) l w))
       ∙ sym (has-occ (map (lineIn lines) w) l)
 
@@ -78,15 +79,8 @@ module _ {before front lines picked counts waits : List ℕ} {taken : List Bool}
       → pickAt front lines distances n counts waits taken s ≡ pickOne (lineIn lines) (distanceIn distances) n before front picked s
   unfolding pickAt pickOne
   holds-pick distances n s =
-      ap₂ (λ c o. after c (drawFrom (leastLines c (keepBelow o n)) s)) (fun-ext (h .counted)) (fun-ext holds-open)
-      ∙ ap (λ m. finish m (nicheCount (lineIn lines) (before ++ picked))
-      (drawFrom (leastLines (nicheCount (lineIn lines) (before ++ picked)) (openLines (lineIn lines) n (waiting front picked))) s)) (fun-ext holds-members)
-    where
-      finish : (ℕ → List ℕ) → (ℕ → ℕ) → Drawn ℕ → Drawn ℕ
-      finish m c l = drawMember (distanceIn distances) (c (l .value)) (m (l .value)) (l .state)
-
-      after : (ℕ → ℕ) → Drawn ℕ → Drawn ℕ
-      after = finish (members front lines taken)
+      ap₂ (λ c o. pickFrom (distanceIn distances) c (keepBelow o n) (members front lines taken) s) (fun-ext (h .counted)) (fun-ext holds-open)
+      ∙ ap (λ m. pickFrom (distanceIn distances) (nicheCount (lineIn lines) (before ++ picked)) (openLines (lineIn lines) n (waiting front picked)) m s) (fun-ext holds-members)
 
   -- a niche count is at most the number of plans listed
   holds-few : (l : ℕ) → countOf counts l ≤ length before + length picked
@@ -99,7 +93,7 @@ module _ {before front lines picked counts waits : List ℕ} {taken : List Bool}
       let i = place-of (w .1 .member) in (
         i .0,
         i .1,
-        h .marks (i .0) (i .1) ∙ no-pass (has picked (planAt front (i .0))) (λ e. w .1 .unpicked (has-in picked (w .0) (ap (has picked) (sym (i .2)) ∙ e))),
+        h .marks (i .0) (i .1) ∙ ap (has picked) (i .2) ∙ not-has picked (w .0) (w .1 .unpicked),
       )
 
   pub holds-ready : (distances : List Float) (n : ℕ) → Given before front lines distances n → length picked < length front
@@ -130,13 +124,13 @@ module _ {before front lines picked counts waits : List ℕ} {taken : List Bool}
 
     -- a place other than the one taken waits as it did
     elsewhere : (l i : ℕ) → (i ≡ k .place → ⊥) → waitsOn front lines (set taken (k .place) true) l i ≡ waitsOn front lines taken l i
-    elsewhere l i e = ap (λ b. not b && eqb (lineIn lines (planAt front i)) l) (getD-set-other taken (k .place) i true false e)
+    elsewhere l i e = ap (λ b. not b && eqb (lineIn lines (memberAt front i)) l) (getD-set-other taken (k .place) i true false e)
 
     -- the one taken waits no more
     here : (l : ℕ) → waitsOn front lines (set taken (k .place) true) l (k .place) ≡ false
-    here l = ap (λ b. not b && eqb (lineIn lines (planAt front (k .place))) l) (getD-set-same taken (k .place) true false room)
+    here l = ap (λ b. not b && eqb (lineIn lines (memberAt front (k .place))) l) (getD-set-same taken (k .place) true false room)
 
-    line-here : lineIn lines (planAt front (k .place)) ≡ k .line
+    line-here : lineIn lines (memberAt front (k .place)) ≡ k .line
     line-here = ap (lineIn lines) (sym (k .plan)) ∙ k .onLine
 
     -- on its own line one member fewer waits
@@ -149,23 +143,19 @@ module _ {before front lines picked counts waits : List ℕ} {taken : List Bool}
     -- on another as many as before
     same-there : (l : ℕ) → (k .line ≡ l → ⊥) → countBelow (waitsOn front lines taken l) (length front)
         ≡ countBelow (waitsOn front lines (set taken (k .place) true) l) (length front)
-    same-there l e = countBelow-same _ _ (length front) (λ i u. by-bool (eqb i (k .place))
-        (λ v. let q : i ≡ k .place = eqb-true i (k .place) v in
-        ap (waitsOn front lines taken l) q
-        ∙ ap₂ (λ a b. not a && b) (k .waited) (ne-eqb (lineIn lines (planAt front (k .place))) l (λ w. e (sym line-here ∙ w)))
-        ∙ sym (here l) ∙ ap (waitsOn front lines (set taken (k .place) true) l) (sym q))
-        (λ v. sym (elsewhere l i (eqb-false i (k .place) v))))
+    same-there l e = countBelow-same _ _ (length front) (λ i u.
+        set-cases (λ b. waitsOn front lines taken l i ≡ (not b && eqb (lineIn lines (memberAt front i)) l)) false taken (k .place) i true room
+        (λ q. and-no (not (getD taken i false)) _ (ne-eqb (lineIn lines (memberAt front i)) l (λ w. e (sym line-here ∙ ap (λ j. lineIn lines (memberAt front j)) q ∙ w))))
+        (λ q. refl))
 
     more-waiting : Awaits front lines taken′ waits′
     more-waiting l =
-        ap (λ w. countOf w l) (k .awaited) ∙ by-bool (eqb (k .line) l)
-        (λ v. let q : k .line ≡ l = eqb-true (k .line) l v in
-        ap (countOf (set waits (k .line) (countOf waits (k .line) - 1))) (sym q)
-        ∙ getD-set-same waits (k .line) (countOf waits (k .line) - 1) 0 (omega (arith, k .lineInside, g .narrow, h .sizes .1))
-        ∙ omega (arith, h .waiting (k .line), keepBelow-length (waitsOn front lines taken (k .line)) (length front), fewer-here)
+        ap (λ w. countOf w l) (k .awaited)
+        ∙ set-cases (λ c. c ≡ countBelow (waitsOn front lines (set taken (k .place) true) l) (length front)) 0 waits (k .line) l (countOf waits (k .line) - 1)
+        (omega (arith, k .lineInside, g .narrow, h .sizes .1))
+        (λ q. omega (arith, h .waiting (k .line), keepBelow-length (waitsOn front lines taken (k .line)) (length front), fewer-here)
         ∙ ap (λ m. countBelow (waitsOn front lines (set taken (k .place) true) m) (length front)) q)
-        (λ v. getD-set-other waits (k .line) l (countOf waits (k .line) - 1) 0 (λ q. eqb-false (k .line) l v (sym q))
-        ∙ h .waiting l ∙ keepBelow-length (waitsOn front lines taken l) (length front) ∙ same-there l (eqb-false (k .line) l v))
+        (λ q. h .waiting l ∙ keepBelow-length (waitsOn front lines taken l) (length front) ∙ same-there l q)
         ∙ sym (keepBelow-length (waitsOn front lines (set taken (k .place) true) l) (length front))
         ∙ ap (λ m. length (places front lines m l)) (sym (k .marked))
 
@@ -173,17 +163,13 @@ module _ {before front lines picked counts waits : List ℕ} {taken : List Bool}
     more-has : (q : ℕ) → has (picked ++ (r ∷ [])) q ≡ (has picked q || eqb r q)
     more-has q = has-append picked (r ∷ []) q ∙ ap (λ b. has picked q || b) (has-cons r [] q ∙ ap (λ b. eqb r q || b) (has-nil q) ∙ or-false (eqb r q))
 
-    more-marks : (i : ℕ) → i < length front → getD taken′ i false ≡ has (picked ++ (r ∷ [])) (planAt front i)
-    more-marks i u = ap (λ m. getD m i false) (k .marked) ∙ by-bool (eqb i (k .place))
-        (λ v. let q : i ≡ k .place = eqb-true i (k .place) v in
-        ap (λ j. getD (set taken (k .place) true) j false) q ∙ getD-set-same taken (k .place) true false room
-        ∙ sym (more-has (planAt front i) ∙ ap (λ b. has picked (planAt front i) || b) (eq-eqb r (planAt front i) (k .plan ∙ ap (planAt front) (sym q)))
-        ∙ or-true (has picked (planAt front i))))
-        (λ v. getD-set-other taken (k .place) i true false (eqb-false i (k .place) v) ∙ h .marks i u
-        ∙ sym (more-has (planAt front i)
-        ∙ ap (λ b. has picked (planAt front i) || b) (ne-eqb r (planAt front i)
-        (λ e. eqb-false i (k .place) v (different-places front (g .different) i (k .place) u (k .inside) (sym e ∙ k .plan))))
-        ∙ or-false (has picked (planAt front i))))
+    more-marks : (i : ℕ) → i < length front → getD taken′ i false ≡ has (picked ++ (r ∷ [])) (memberAt front i)
+    more-marks i u = ap (λ m. getD m i false) (k .marked)
+        ∙ set-cases (λ b. b ≡ (has picked (memberAt front i) || eqb r (memberAt front i))) false taken (k .place) i true room
+        (λ q. sym (ap (λ b. has picked (memberAt front i) || b) (eq-eqb r (memberAt front i) (k .plan ∙ ap (memberAt front) q)) ∙ or-true (has picked (memberAt front i))))
+        (λ q. h .marks i u ∙ sym (ap (λ b. has picked (memberAt front i) || b) (ne-eqb r (memberAt front i)
+        (λ e. q (different-places front (g .different) (k .place) i (k .inside) u (sym (k .plan) ∙ e)))) ∙ or-false (has picked (memberAt front i))))
+        ∙ sym (more-has (memberAt front i))
 
     pub holds-more : Holds before front lines (picked ++ (r ∷ [])) counts′ waits′ taken′
     holds-more = record {

@@ -8,9 +8,9 @@ use lib.Ieee.{Float, lt}
 use lib.ListN.{length, length-append}
 use Rattle.model.specs.Lists.{keepBelow}
 use Rattle.model.specs.Kept.{nearest}
-use Rattle.list_laws.proofs.Bools.{by-bool, and-no}
+use Rattle.list_laws.proofs.Bools.{by-bool, by-cond, and-no}
 use Rattle.list_laws.proofs.Kept.{keepBelow-yes, keepBelow-no}
-use Rattle.niching_array_laws.specs.Niche.{waitsOn, placeDistance, nearerOf, Kth}
+use Rattle.niching_array_laws.specs.Niche.{waitsOn, placeDistance, nearerOf, Passes, Kth}
 use Rattle.niching_array_laws.proofs.Places.{first-only, nearest-snoc, nearest-one}
 
 -- the three ways out of a turn, where `waits` is the answer of the test
@@ -28,28 +28,26 @@ module _ (front lines : List ℕ) (distances : List Float) (taken : List Bool) (
 
 -- `best` is the nearest of the places below i that pass, of which there are some
 pub record NearestSo (d : ℕ → Float) (f : ℕ → Bool) (n i best : ℕ) : Type 0 where
-  pub below : best < n
-  pub passes : f best ≡ true
+  pub one : Passes f n best
   pub some : 0 < length (keepBelow f i)
   pub least : best ≡ nearest d (keepBelow f i)
 
 pub nearest-first : (d : ℕ → Float) (f : ℕ → Bool) (n r : ℕ) → Kth f n 0 r → NearestSo d f n (r + 1) r
 nearest-first d f n r h =
     let e = first-only f n r h in
-    record { below = h .below; passes = h .passes; some = rw e (omega arith); least = sym (ap (nearest d) e ∙ nearest-one d r) }
+    record { one = h .one; some = rw e (omega arith); least = sym (ap (nearest d) e ∙ nearest-one d r) }
 
 module _ {d : ℕ → Float} {f : ℕ → Bool} {n i best : ℕ} (h : NearestSo d f n i best) (u : i < n) where
   -- a member that does not wait on the line changes nothing
   skipped : f i ≡ false → NearestSo d f n (i + 1) best
   skipped v =
       let k = keepBelow-no f i v in
-      record { below = h .below; passes = h .passes; some = rw k (h .some); least = h .least ∙ sym (ap (nearest d) k) }
+      record { one = h .one; some = rw k (h .some); least = h .least ∙ sym (ap (nearest d) k) }
 
   -- one that does is compared with the best
   compared : f i ≡ true → (b : Bool) → lt (d i) (d best) ≡ b → NearestSo d f n (i + 1) (cond b i best)
   compared v b e = record {
-    below = inside b;
-    passes = passing b;
+    one = by-cond (Passes f n) b i best (λ w. record { below = u; passes = v }) (λ w. h .one);
     some = rw (k, length-append) (omega arith);
     least = ap (λ t. cond t i best) (sym e) ∙ ap (λ t. cond (lt (d i) (d t)) i t) (h .least)
         ∙ sym (ap (nearest d) k ∙ nearest-snoc d (keepBelow f i) i (h .some));
@@ -57,14 +55,6 @@ module _ {d : ℕ → Float} {f : ℕ → Bool} {n i best : ℕ} (h : NearestSo 
     where
       k : keepBelow f (i + 1) ≡ keepBelow f i ++ (i ∷ [])
       k = keepBelow-yes f i v
-
-      inside : (b : Bool) → cond b i best < n
-      inside true = u
-      inside false = h .below
-
-      passing : (b : Bool) → f (cond b i best) ≡ true
-      passing true = v
-      passing false = h .passes
 
   pub nearest-more : (r : ℕ) → r ≡ cond (f i && lt (d i) (d best)) i best → NearestSo d f n (i + 1) r
   nearest-more r e = by-bool (f i)

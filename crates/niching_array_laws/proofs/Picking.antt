@@ -1,10 +1,10 @@
 -- One open place: a line and a member that the arrays give.
-use Prim.Native.Nat.{ℕ, _-_}
+use Prim.Native.Nat.{ℕ, _<_}
 use mathlib.Core.Path.{_≡_, refl, ap, ap₂, _∙_}
 use mathlib.Core.Bool.{Bool, true, false, not, _&&_}
 use mathlib.Core.List.{List}
 use native.Mathlib.Omega.{arith}
-use borrow.Author.Tests.{eq-eqb, eqb-true}
+use borrow.Author.Tests.{eq-eqb, eqb-true, lt-ltb, ltb-true}
 use lib.Dec.{eqb}
 use lib.Ieee.{Float}
 use lib.ListN.{length, getD}
@@ -14,7 +14,7 @@ use Rattle.model.specs.Kept.{leastLines, drawFrom, drawMember}
 use Rattle.list_laws.proofs.Bools.{and-not-left, and-not-right}
 use Rattle.list_laws.proofs.Counts.{countBelow-at}
 use Rattle.list_laws.proofs.Kept.{keepBelow-length}
-use Rattle.niching_array_laws.specs.Niche.{lineIn, distanceIn, planAt, countOf, hasWaiting, waitsOn, members, Open, MemberOf, Ready, pickAt}
+use Rattle.niching_array_laws.specs.Niche.{lineIn, distanceIn, memberAt, countOf, hasWaiting, waitsOn, members, Open, MemberOf, Ready, pickAt}
 
 module _ {front lines : List ℕ} {distances : List Float} {n : ℕ} {counts waits : List ℕ} {taken : List Bool}
     (h : Ready front lines distances n counts waits taken) where
@@ -22,23 +22,23 @@ module _ {front lines : List ℕ} {distances : List Float} {n : ℕ} {counts wai
   pub ready-open : (l : ℕ) × Open waits n l
   ready-open =
       let i = h .some .0 in
-      let l = lineIn lines (planAt front i) in
+      let l = lineIn lines (memberAt front i) in
       let f = waitsOn front lines taken l in
-      let e : f i ≡ true = ap₂ (λ a b. not a && b) (h .some .2) (eq-eqb l l refl) in (
-        l,
-        record {
-          below = h .onLines i (h .some .1) .1;
-          some = omega (arith, h .waiting l, keepBelow-length f (length front), countBelow-at f (length front) i (h .some .1) e);
-        },
-      )
+      let e : f i ≡ true = ap₂ (λ a b. not a && b) (h .some .2) (eq-eqb l l refl) in
+      let w : 0 < countOf waits l = omega (arith, h .waiting l, keepBelow-length f (length front), countBelow-at f (length front) i (h .some .1) e) in
+      (l, record { below = h .onLines i (h .some .1) .1; passes = lt-ltb 0 (countOf waits l) w })
+
+-- some member waits on an open line
+pub open-some : (waits : List ℕ) (n l : ℕ) → Open waits n l → 0 < countOf waits l
+open-some waits n l o = ltb-true 0 (countOf waits l) (o .passes)
 
 -- a member that waits is not taken, and is on the line
-module _ {front lines : List ℕ} {taken : List Bool} {l i : ℕ} (h : MemberOf front lines taken l i) where
+module _ (front lines : List ℕ) (taken : List Bool) (l i : ℕ) (h : MemberOf front lines taken l i) where
   pub member-waited : getD taken i false ≡ false
-  member-waited = and-not-left (getD taken i false) (eqb (lineIn lines (planAt front i)) l) (h .waits)
+  member-waited = and-not-left (getD taken i false) (eqb (lineIn lines (memberAt front i)) l) (h .passes)
 
-  pub member-line : lineIn lines (planAt front i) ≡ l
-  member-line = eqb-true (lineIn lines (planAt front i)) l (and-not-right (getD taken i false) (eqb (lineIn lines (planAt front i)) l) (h .waits))
+  pub member-line : lineIn lines (memberAt front i) ≡ l
+  member-line = eqb-true (lineIn lines (memberAt front i)) l (and-not-right (getD taken i false) (eqb (lineIn lines (memberAt front i)) l) (h .passes))
 
 -- a drawn line and a member chosen of it are the pick
 pub picked-at : (front lines : List ℕ) (distances : List Float) (n : ℕ) (counts waits : List ℕ) (taken : List Bool) (s l u r t : ℕ)

@@ -3,11 +3,10 @@ use Prim.Native.Nat.{ℕ, zero, suc, _+_, _-_, _≤_, _<_}
 use mathlib.Core.Path.{_≡_, refl, ap, sym, _∙_}
 use mathlib.Core.Bool.{Bool, true, false, cond}
 use mathlib.Core.List.{List, [], _∷_, _++_, map}
-use mathlib.Core.Logic.{⊎-elim}
-use native.Mathlib.Nat.{not-suc-le-zero, eq-or-lt-of-le}
+use native.Mathlib.Nat.{not-suc-le-zero}
 use native.Mathlib.Omega.{arith}
-use borrow.Author.Tests.{eq-eqb, ne-eqb, eqb-true, eqb-false, ltb-true, ltb-false}
-use lib.Dec.{eqb, ltb}
+use borrow.Author.Tests.{eq-eqb, ne-eqb, eqb-true, eqb-false}
+use lib.Dec.{eqb}
 use lib.Ieee.{Float, lt}
 use lib.ListN.{length, getD, replicate, length-replicate, getD-replicate, List·getD-append, List·getD-eq-default, length-append, length-map}
 use lib.Seq.{getD-at}
@@ -17,6 +16,7 @@ use Rattle.list_laws.proofs.Built.{map-at, listBelow-places, map-below}
 use Rattle.list_laws.proofs.Best.{best-more, best-same, best-all, best-map}
 use Rattle.list_laws.specs.Occ.{occ}
 use Rattle.list_laws.proofs.Bools.{by-bool}
+use Rattle.list_laws.proofs.Below.{last-or, by-lt}
 use Rattle.list_laws.proofs.Counts.{countBelow-sum, countBelow-none, countBelow-yes, countBelow-no, countBelow-up, sumBelow-same, sumBelow-add, sumBelow-point}
 use Rattle.list_laws.proofs.Members.{empty-of, keep-map}
 use Rattle.list_laws.proofs.Kept.{keepBelow-yes, keepBelow-length, keepBelow-room, keepBelow-keep}
@@ -26,9 +26,7 @@ use Rattle.niching_array_laws.specs.Niche.{Kth}
 
 -- every entry is that value, and so is what a place past the end reads as
 pub replicate-at : {A : Type 0} (x : A) (n i : ℕ) → getD (replicate n x) i x ≡ x
-replicate-at x n i = by-bool (ltb i n)
-    (λ e. getD-replicate n i x x (ltb-true i n e))
-    (λ e. List·getD-eq-default (replicate n x) x (omega (arith, ltb-false i n e, length-replicate n x)))
+replicate-at x n i = by-lt i n (λ u. getD-replicate n i x x u) (λ u. List·getD-eq-default (replicate n x) x (omega (arith, length-replicate n x)))
 
 -- ---- what is kept
 
@@ -50,16 +48,14 @@ pub kth-at : (f : ℕ → Bool) (n r : ℕ) → r < n → f r ≡ true → getD 
 unfolding keepBelow
 kth-at f zero r h e = absurd (not-suc-le-zero h)
 kth-at f (suc n) r h e =
-    let i : r ≤ n = omega arith in
-    ⊎-elim
+    last-or h
     (λ v. let p : f n ≡ true = ap f (sym v) ∙ e in
     rw p (getD-at (keepBelow f n) n [] 0 (countBelow f r) (keepBelow-length f n ∙ ap (countBelow f) (sym v)) ∙ sym v))
     (λ m. List·getD-append (keepBelow f n) (cond (f n) (n ∷ []) []) 0 (countBelow f r)
     (omega (arith, keepBelow-length f r, keepBelow-room f n r m e)) ∙ kth-at f n r m e)
-    (eq-or-lt-of-le i)
 
 pub kth-is : (f : ℕ → Bool) (n k r : ℕ) → Kth f n k r → getD (keepBelow f n) k 0 ≡ r
-kth-is f n k r h = ap (λ t. getD (keepBelow f n) t 0) (sym (h .rank)) ∙ kth-at f n r (h .below) (h .passes)
+kth-is f n k r h = ap (λ t. getD (keepBelow f n) t 0) (sym (h .rank)) ∙ kth-at f n r (h .one .below) (h .one .passes)
 
 -- ---- the search for it, place by place: `left` more that pass are to be passed over before place i
 
@@ -72,7 +68,7 @@ seeks-first f k = record { passed = omega (arith, countBelow-none f) }
 -- where b is the answer of the test at i
 module _ {f : ℕ → Bool} {k left i : ℕ} (h : Seeks f k left i) where
   pub seeks-found : {b : Bool} (n : ℕ) → i < n → b ≡ f i → b ≡ true → left ≡ 0 → Kth f n k i
-  seeks-found n u e v z = record { below = u; passes = sym e ∙ v; rank = omega (arith, h .passed) }
+  seeks-found n u e v z = record { one = record { below = u; passes = sym e ∙ v }; rank = omega (arith, h .passed) }
 
   pub seeks-yes : {b : Bool} → b ≡ f i → b ≡ true → (left ≡ 0 → ⊥) → Seeks f k (left - 1) (i + 1)
   seeks-yes e v z = record { passed = omega (arith, h .passed, z, countBelow-yes f i (sym e ∙ v)) }
@@ -86,7 +82,7 @@ module _ {f : ℕ → Bool} {k left i : ℕ} (h : Seeks f k left i) where
 
 -- the first that passes is the only one up to it
 pub first-only : (f : ℕ → Bool) (n r : ℕ) → Kth f n 0 r → keepBelow f (r + 1) ≡ r ∷ []
-first-only f n r h = keepBelow-yes f r (h .passes) ∙ ap (λ t. t ++ (r ∷ [])) (empty-of (keepBelow f r) (keepBelow-length f r ∙ h .rank))
+first-only f n r h = keepBelow-yes f r (h .one .passes) ∙ ap (λ t. t ++ (r ∷ [])) (empty-of (keepBelow f r) (keepBelow-length f r ∙ h .rank))
 
 -- ---- the nearest
 

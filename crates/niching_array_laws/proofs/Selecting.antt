@@ -12,7 +12,7 @@ use Rattle.model.specs.Draw.{Drawn, drawn, inTurn}
 use Rattle.model.specs.Kept.{nicheCount, pickOne, picks}
 use Rattle.list_laws.proofs.Draws.{drawAll-length}
 use Rattle.niching_laws.proofs.Written.{Written, written-none, written-next, written-more}
-use Rattle.niching_array_laws.specs.Niche.{lineIn, distanceIn, planAt, countOf, Zeros, OnLines, Ready, Took, Splits, picksOf, NichingSelects}
+use Rattle.niching_array_laws.specs.Niche.{lineIn, distanceIn, memberAt, countOf, Zeros, OnLines, Ready, Took, Splits, picksOf, NichingSelects}
 use Rattle.niching_array_laws.proofs.Places.{replicate-at}
 use Rattle.niching_array_laws.proofs.Filling.{Given, Holds, holds-first, holds-pick, holds-ready, holds-more}
 
@@ -60,10 +60,10 @@ module _ {order : List ℕ} {start end : ℕ} {lines : List ℕ} {distances : Li
   front-length = length-take-le (end - start) (drop start order) (omega (arith, length-drop start order, h .inside))
 
   -- place i of the front is place start + i of the order
-  front-at : (i : ℕ) → i < end - start → planAt (take (end - start) (drop start order)) i ≡ planAt order (start + i)
+  front-at : (i : ℕ) → i < end - start → memberAt (take (end - start) (drop start order)) i ≡ memberAt order (start + i)
   front-at i u = getD-take (end - start) (drop start order) i 0 u ∙ getD-drop start order i 0
 
-  before-at : (i : ℕ) → i < start → planAt (take start order) i ≡ planAt order i
+  before-at : (i : ℕ) → i < start → memberAt (take start order) i ≡ memberAt order i
   before-at i u = getD-take start order i 0 u
 
   pub before-length : length (take start order) ≡ start

@@ -9,7 +9,8 @@ use lib.Ieee.{Float, nan, lt}
 use lib.ListN.{length, getD, set, take, drop}
 use Rattle.model.specs.Lists.{keepBelow, countBelow, Distinct, over}
 use Rattle.model.specs.Draw.{Drawn, drawn}
-use Rattle.model.specs.Kept.{leastLines, drawFrom, drawMember, picks}
+use Rattle.model.specs.Kept.{picks}
+use Rattle.niching_laws.specs.Niching.{pickFrom}
 
 -- the line of a plan, and its distance from that line
 abbrev pub lineIn : List ℕ → ℕ → ℕ
@@ -19,8 +20,8 @@ abbrev pub distanceIn : List Float → ℕ → Float
 distanceIn distances p = getD distances p nan
 
 -- the plan at a place of the split front
-abbrev pub planAt : List ℕ → ℕ → ℕ
-planAt front i = getD front i 0
+abbrev pub memberAt : List ℕ → ℕ → ℕ
+memberAt front i = getD front i 0
 
 -- ---- lines
 
@@ -48,7 +49,7 @@ leastBelow top counts waits (suc n) = lesser counts waits n (leastBelow top coun
 
 -- the member at place i waits on line l
 abbrev pub waitsOn : List ℕ → List ℕ → List Bool → ℕ → ℕ → Bool
-waitsOn front lines taken l i = not (getD taken i false) && eqb (lineIn lines (planAt front i)) l
+waitsOn front lines taken l i = not (getD taken i false) && eqb (lineIn lines (memberAt front i)) l
 
 -- the places of the front whose members wait on line l, rising
 abbrev pub places : List ℕ → List ℕ → List Bool → ℕ → List ℕ
@@ -56,51 +57,53 @@ places front lines taken l = keepBelow (waitsOn front lines taken l) (length fro
 
 -- the plans at these places, in listed order
 abbrev pub members : List ℕ → List ℕ → List Bool → ℕ → List ℕ
-members front lines taken l = map (planAt front) (places front lines taken l)
+members front lines taken l = map (memberAt front) (places front lines taken l)
 
 -- the distance of the plan at a place
 abbrev pub placeDistance : List ℕ → List Float → ℕ → Float
-placeDistance front distances i = distanceIn distances (planAt front i)
+placeDistance front distances i = distanceIn distances (memberAt front i)
 
 -- the nearer of two places, if the member at the second waits on line l; the first on a tie
 abbrev pub nearerOf : List ℕ → List ℕ → List Float → List Bool → ℕ → ℕ → ℕ → ℕ
 nearerOf front lines distances taken l best i =
     cond (waitsOn front lines taken l i && lt (placeDistance front distances i) (placeDistance front distances best)) i best
 
--- r is the k-th of the numbers below n that pass, counted from 0
-pub record Kth (f : ℕ → Bool) (n k r : ℕ) : Type 0 where
+-- r is one of the numbers below n that pass
+pub record Passes (f : ℕ → Bool) (n r : ℕ) : Type 0 where
   pub below : r < n
   pub passes : f r ≡ true
+
+-- and the k-th of them, counted from 0
+pub record Kth (f : ℕ → Bool) (n k r : ℕ) : Type 0 where
+  pub one : Passes f n r
   pub rank : countBelow f r ≡ k
 
 -- ---- what is asked and promised
 
 -- every listed plan has a line, which is below n
 abbrev pub OnLines : List ℕ → List ℕ → ℕ → Type 0
-OnLines plans lines n = (i : ℕ) → i < length plans → (planAt plans i < length lines) × (lineIn lines (planAt plans i) < n)
+OnLines plans lines n = (i : ℕ) → i < length plans → (memberAt plans i < length lines) × (lineIn lines (memberAt plans i) < n)
 
 -- a list of zeros
 abbrev pub Zeros : List ℕ → Type 0
 Zeros counts = (l : ℕ) → getD counts l 0 ≡ 0
 
 -- line l is below n and has waiting members
-pub record Open (waits : List ℕ) (n l : ℕ) : Type 0 where
-  pub below : l < n
-  pub some : 0 < getD waits l 0
+abbrev pub Open : List ℕ → ℕ → ℕ → Type 0
+Open waits n l = Passes (hasWaiting waits) n l
 
 -- every listed plan has a line, and every place a mark
 pub record Listed (front lines : List ℕ) (taken : List Bool) : Type 0 where
-  pub plans : (i : ℕ) → i < length front → planAt front i < length lines
+  pub plans : (i : ℕ) → i < length front → memberAt front i < length lines
   pub marks : length front ≤ length taken
 
 -- the place i is one of those whose members wait on line l
-pub record MemberOf (front lines : List ℕ) (taken : List Bool) (l i : ℕ) : Type 0 where
-  pub below : i < length front
-  pub waits : waitsOn front lines taken l i ≡ true
+abbrev pub MemberOf : List ℕ → List ℕ → List Bool → ℕ → ℕ → Type 0
+MemberOf front lines taken l i = Passes (waitsOn front lines taken l) (length front) i
 
 -- every listed plan has a distance
 abbrev pub Measured : List ℕ → List Float → Type 0
-Measured plans distances = (i : ℕ) → i < length plans → planAt plans i < length distances
+Measured plans distances = (i : ℕ) → i < length plans → memberAt plans i < length distances
 
 -- each line's number of waiting members
 abbrev pub Awaits : List ℕ → List ℕ → List Bool → List ℕ → Type 0
@@ -120,8 +123,7 @@ pub record Ready (front lines : List ℕ) (distances : List Float) (n : ℕ) (co
 -- one open place, by what the arrays hold
 unfoldable pub pickAt : List ℕ → List ℕ → List Float → ℕ → List ℕ → List ℕ → List Bool → ℕ → Drawn ℕ
 pickAt front lines distances n counts waits taken s =
-    let l = drawFrom (leastLines (countOf counts) (keepBelow (hasWaiting waits) n)) s in
-    drawMember (distanceIn distances) (countOf counts (l .value)) (members front lines taken (l .value)) (l .state)
+    pickFrom (distanceIn distances) (countOf counts) (keepBelow (hasWaiting waits) n) (members front lines taken) s
 
 -- that place filled: the plan r of a place that waited is taken, its line's niche count is one higher and its number of waiting members one lower
 pub record Took (front lines : List ℕ) (distances : List Float) (n s : ℕ) (counts₀ counts waits₀ waits : List ℕ) (taken₀ taken : List Bool) (r t : ℕ) : Type 0 where
@@ -129,7 +131,7 @@ pub record Took (front lines : List ℕ) (distances : List Float) (n s : ℕ) (c
   pub line : ℕ
   pub inside : place < length front
   pub waited : getD taken₀ place false ≡ false
-  pub plan : r ≡ planAt front place
+  pub plan : r ≡ memberAt front place
   pub onLine : lineIn lines r ≡ line
   pub lineInside : line < n
   pub counted : counts ≡ set counts₀ line (countOf counts₀ line + 1)
@@ -143,7 +145,7 @@ pub record Splits (order : List ℕ) (start end : ℕ) (lines : List ℕ) (dista
   pub inside : end ≤ length order
   pub few : end ≤ 1024
   pub narrow : n ≤ 1024
-  pub plans : (i : ℕ) → i < end → (planAt order i < length lines) × (planAt order i < length distances) × (lineIn lines (planAt order i) < n)
+  pub plans : (i : ℕ) → i < end → (memberAt order i < length lines) × (memberAt order i < length distances) × (lineIn lines (memberAt order i) < n)
   pub different : Distinct (take (end - start) (drop start order))
   pub enough : vacant ≤ end - start
   pub room : vacant ≤ length picked
@@ -151,7 +153,7 @@ pub record Splits (order : List ℕ) (start end : ℕ) (lines : List ℕ) (dista
 -- what document 01 picks of that order
 abbrev pub picksOf : List ℕ → ℕ → ℕ → List ℕ → List Float → ℕ → ℕ → ℕ → Drawn (List ℕ)
 picksOf order start end lines distances n vacant s =
-    picks (λ p. getD lines p 0) (λ p. getD distances p nan) n (take start order) (take (end - start) (drop start order)) vacant s
+    picks (lineIn lines) (distanceIn distances) n (take start order) (take (end - start) (drop start order)) vacant s
 
 -- THE PROMISE of niching_select: those plans stand at the front of the lent slice, and the generator is where the picks leave it
 pub record NichingSelects (order : List ℕ) (start end : ℕ) (lines : List ℕ) (distances : List Float) (n vacant s : ℕ) (picked₀ picked : List ℕ) (t : ℕ) : Type 0 where

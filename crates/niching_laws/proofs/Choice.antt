@@ -17,6 +17,7 @@ use Rattle.list_laws.proofs.Members.{in-has, has-in, keep-in, in-keep, getD-in,
 use Rattle.list_laws.proofs.Kept.{keepBelow-in, in-keepBelow}
 use Rattle.list_laws.proofs.Tests.{allIn-every}
 use Rattle.float_laws.proofs.Compared.{lt-self, lt-down}
+use Rattle.niching_laws.specs.Niching.{pickFrom}
 
 -- ---- what is drawn of a list that is not empty is in it
 
@@ -70,19 +71,21 @@ least-met f q ps = (
     down : (x y z : ℕ) → less x y ≡ false → less z y ≡ true → less x z ≡ false
     down x y z e h = le-ltb (f x) (f z) (omega (arith, ltb-false (f x) (f y) e, ltb-true (f z) (f y) h))
 
+-- no count of a list is below c, as the test of `leastLines` and as a fact
+pub all-least : (counts : ℕ → ℕ) (c : ℕ) (ps : List ℕ) → ((k : ℕ) → In k ps → c ≤ counts k) → allIn (λ k. leb c (counts k)) ps ≡ true
+all-least counts c ps h = allIn-every (λ k. leb c (counts k)) 0 ps (λ i u. le-leb c _ (h _ (getD-in ps i u)))
+
+pub least-all : (counts : ℕ → ℕ) (c : ℕ) (ps : List ℕ) → allIn (λ k. leb c (counts k)) ps ≡ true → (k : ℕ) → In k ps → c ≤ counts k
+least-all counts c ps e k m = leb-true c (counts k) (allIn-member (λ k. leb c (counts k)) ps e k m)
+
 pub least-in : (counts : ℕ → ℕ) {p : ℕ} (ps : List ℕ) → In p ps → (l : ℕ) × In l (leastLines counts ps)
 least-in counts [] m = absurd (List·Memᴰ·not-nil m)
 least-in counts (q ∷ qs) m =
-    let t = least-met counts q qs in (
-      t .0,
-      keep-in (λ l. allIn (λ k. leb (counts l) (counts k)) (q ∷ qs)) (q ∷ qs) (t .0) (t .1)
-          (allIn-every (λ k. leb (counts (t .0)) (counts k)) 0 (q ∷ qs) (λ i h. le-leb (counts (t .0)) _ (t .2 _ (getD-in (q ∷ qs) i h)))),
-    )
+    let t = least-met counts q qs in
+    (t .0, keep-in (λ l. allIn (λ k. leb (counts l) (counts k)) (q ∷ qs)) (q ∷ qs) (t .0) (t .1) (all-least counts (counts (t .0)) (q ∷ qs) (t .2)))
 
 pub least-le : (counts : ℕ → ℕ) (ps : List ℕ) (l : ℕ) → In l (leastLines counts ps) → (k : ℕ) → In k ps → counts l ≤ counts k
-least-le counts ps l m k i =
-    leb-true (counts l) (counts k)
-    (allIn-member (λ k. leb (counts l) (counts k)) ps (in-keep (λ l. allIn (λ k. leb (counts l) (counts k)) ps) ps l m .1) k i)
+least-le counts ps l m = least-all counts (counts l) ps (in-keep (λ l. allIn (λ k. leb (counts l) (counts k)) ps) ps l m .1)
 
 -- ---- the place
 
@@ -120,9 +123,5 @@ module _ (line : ℕ → ℕ) (distance : ℕ → Float) (lines : ℕ) (counts :
       }
 
   pub chosen : (s p : ℕ) → In p waits
-      → Chosen line distance counts waits
-      (let l = drawFrom (leastLines counts (openLines line lines waits)) s in
-      drawMember distance (counts (l .value)) (keep (λ p. eqb (line p) (l .value)) waits) (l .state) .value)
-  chosen s p m =
-      let l = drawFrom (leastLines counts (openLines line lines waits)) s in
-      chosen-on (l .value) (l .state) (drawFrom-in s (least-in counts (openLines line lines waits) (line-open p m) .1))
+      → Chosen line distance counts waits (pickFrom distance counts (openLines line lines waits) (λ l. keep (λ p. eqb (line p) l) waits) s .value)
+  chosen s p m = chosen-on _ _ (drawFrom-in s (least-in counts (openLines line lines waits) (line-open p m) .1))

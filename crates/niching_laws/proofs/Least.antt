@@ -1,15 +1,16 @@
 -- A balanced filling is a least one: no other filling of the same places has a smaller sum of squared counts.
 use Prim.Native.Nat.{ℕ, zero, suc, _+_, _-_, _*_, _≤_, _<_, max}
 use mathlib.Core.Path.{_≡_, refl, ap, _∙_, fun-ext}
-use mathlib.Core.Bool.{Bool, true, false}
+use mathlib.Core.Bool.{true}
 use mathlib.Core.List.{List, [], _∷_, _++_, List·Memᴰ·head, List·Memᴰ·tail, List·Nodup}
 use native.Mathlib.Nat.{mul-le-mul-right, add-sub-of-le, le-of-lt}
 use native.Mathlib.Omega.{arith}
-use lib.Dec.{eqb, ltb}
-use borrow.Author.Tests.{eqb-true, ltb-true, ltb-false}
+use lib.Dec.{eqb}
+use borrow.Author.Tests.{eqb-true}
 use Rattle.model.specs.Lists.{In, sumBelow}
 use Rattle.model.specs.Kept.{nicheCount}
 use Rattle.niching_laws.specs.Niching.{Served, Waited, Filling, Balanced, Least}
+use Rattle.list_laws.proofs.Below.{by-lt}
 use Rattle.list_laws.proofs.Counts.{sumBelow-mono, sumBelow-add}
 use Rattle.list_laws.proofs.Members.{tally-append, tally-labels}
 use Rattle.niching_laws.proofs.Tally.{tally-found, pigeonhole, Extra}
@@ -25,19 +26,11 @@ fewer-there : (K c d : ℕ) → c + d ≤ K + 1 → 1 ≤ d → (c + d) * (c + d
 fewer-there K c d h k = omega (arith, mul-le-mul-right d h, mul-le-mul-right d k)
 
 one-line : (K c c′ : ℕ) → (c < c′ → K ≤ c) → (c′ < c → c ≤ K + 1) → c * c + (2 * K + 1) * c′ ≤ c′ * c′ + (2 * K + 1) * c
-one-line K c c′ up down = go (ltb c c′) refl (ltb c′ c) refl
-  where
-    go : (a : Bool) → ltb c c′ ≡ a → (b : Bool) → ltb c′ c ≡ b → c * c + (2 * K + 1) * c′ ≤ c′ * c′ + (2 * K + 1) * c
-    go true e b k =
-        let h : c < c′ = ltb-true c c′ e in
-        rw (add-sub-of-le (le-of-lt h)) at (more-there K c (c′ - c) (up h) (omega arith))
-    go false e true k =
-        let h : c′ < c = ltb-true c′ c k in
-        let s : c′ + (c - c′) ≡ c = add-sub-of-le (le-of-lt h) in
-        rw s at (fewer-there K c′ (c - c′) (rw s (down h)) (omega arith))
-    go false e false k =
-        let s : c ≡ c′ = omega (arith, ltb-false c c′ e, ltb-false c′ c k) in
-        rw s (omega arith)
+one-line K c c′ up down = by-lt c c′
+    (λ h. rw (add-sub-of-le (le-of-lt h)) at (more-there K c (c′ - c) (up h) (omega arith)))
+    (λ e. by-lt c′ c
+    (λ h. let s : c′ + (c - c′) ≡ c = add-sub-of-le (le-of-lt h) in rw s at (fewer-there K c′ (c - c′) (rw s (down h)) (omega arith)))
+    (λ k. let s : c ≡ c′ = omega arith in rw s (omega arith)))
 
 -- ---- the largest of f over a list
 

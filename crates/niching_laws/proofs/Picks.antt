@@ -1,7 +1,7 @@
 -- `picks` is a run, so all that holds of any run holds of the plans that it picks.
 use Prim.Native.Nat.{ℕ, _≤_, _<_}
-use mathlib.Core.Path.{_≡_, refl, sym, _∙_}
-use mathlib.Core.Bool.{Bool, true, false, not, true≢false}
+use mathlib.Core.Path.{ap}
+use mathlib.Core.Bool.{true, not}
 use mathlib.Core.List.{List, _++_}
 use native.Mathlib.Omega.{arith}
 use lib.Ieee.{Float}
@@ -11,7 +11,7 @@ use Rattle.model.specs.Lists.{In, Distinct, has}
 use Rattle.model.specs.Kept.{nicheCount, waiting, pickOne, picks}
 use Rattle.niching_laws.specs.Niching.{Split, Waiting, Pick, Run, start, next, Niched}
 use Rattle.list_laws.proofs.Draws.{drawAll-keeps}
-use Rattle.list_laws.proofs.Members.{in-has, has-in, keep-in, in-keep, tally-all}
+use Rattle.list_laws.proofs.Members.{has-not, not-has, keep-in, in-keep, tally-all}
 use Rattle.niching_laws.proofs.Tally.{pigeonhole}
 use Rattle.niching_laws.proofs.Niched.{run-niched}
 use Rattle.niching_laws.proofs.Choice.{Chosen, chosen}
@@ -19,16 +19,12 @@ use Rattle.niching_laws.proofs.Choice.{Chosen, chosen}
 -- the list of the waiting holds just those that wait
 module _ (front picked : List ℕ) (p : ℕ) where
   pub waiting-in : Waiting front picked p → In p (waiting front picked)
-  waiting-in w = keep-in (λ q. not (has picked q)) front p (w .member) (go (has picked p) refl)
-    where
-      go : (b : Bool) → has picked p ≡ b → not b ≡ true
-      go true e = absurd (w .unpicked (has-in picked p e))
-      go false e = refl
+  waiting-in w = keep-in (λ q. not (has picked q)) front p (w .member) (ap not (not-has picked p (w .unpicked)))
 
   pub in-waiting : In p (waiting front picked) → Waiting front picked p
   in-waiting m =
       let t = in-keep (λ q. not (has picked q)) front p m in
-      record { member = t .0; unpicked = λ h. true≢false (sym (in-has picked p h) ∙ not-true (has picked p) (t .1)) }
+      record { member = t .0; unpicked = has-not picked p (not-true (has picked p) (t .1)) }
 
 -- while fewer plans are picked than the front has, one waits
 pub some-waits : (front picked : List ℕ) → Distinct front → length picked < length front → (p : ℕ) × Waiting front picked p

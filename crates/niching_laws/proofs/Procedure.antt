@@ -3,20 +3,20 @@
 use Prim.Native.Nat.{ℕ, zero, suc, _≤_, _<_}
 use mathlib.Core.Path.{_≡_, refl, sym, ap, _∙_}
 use mathlib.Core.Logic.{_≢_, ⊎-elim}
-use mathlib.Core.Bool.{Bool, true, false, true≢false}
+use mathlib.Core.Bool.{Bool, true, false}
 use mathlib.Core.List.{List, [], _∷_, _++_, List·Memᴰ·head, List·Memᴰ·tail, List·Memᴰ·not-nil, List·Memᴰ·cases-cons, Memᴰ·append-left, Memᴰ·cast}
-use native.Mathlib.Nat.{eq-or-lt-of-le}
 use native.Mathlib.Omega.{arith}
-use lib.Dec.{eqb, ltb}
+use lib.Dec.{eqb}
 use lib.Ieee.{Float, lt}
 use lib.ListN.{length}
-use borrow.Author.Tests.{eqb-true, eqb-false, ltb-true, ltb-false}
+use borrow.Author.Tests.{eqb-true, eqb-false}
 use Rattle.model.specs.Lists.{In, has}
 use Rattle.model.specs.Kept.{nicheCount, waiting, pickOne, picks}
 use Rattle.model.specs.Papers.DebJain2014.{Candidate, Least, Reached, start, exclude, pickNearest, pickAny}
 use Rattle.niching_laws.specs.Niching.{Split, ByProcedure}
+use Rattle.list_laws.proofs.Below.{last-or, by-lt}
 use Rattle.list_laws.proofs.Draws.{drawAll-keeps}
-use Rattle.list_laws.proofs.Members.{has-in, in-has}
+use Rattle.list_laws.proofs.Members.{has-in, has-not}
 use Rattle.niching_laws.proofs.Choice.{Chosen}
 use Rattle.niching_laws.proofs.Picks.{waiting-in, in-waiting, pickOne-chosen}
 
@@ -32,18 +32,18 @@ module _ (before front : List ℕ) (line : ℕ → ℕ) (distance : ℕ → Floa
     lower : (i : ℕ) → i < lines → nicheCount line (before ++ picked) i < c → In i (here .excluded)
     level : (i : ℕ) → i < m → nicheCount line (before ++ picked) i ≡ c → In i (here .excluded)
 
+  -- at first no count is asked for
+  cleared : {picked : List ℕ} (here : ByProcedure before front line distance lines picked) → Barren picked (here .excluded) → Cleared picked 0 0
+  cleared here barren = record { here = here; barren = barren; lower = λ i l k. absurd (omega arith); level = λ i l k. absurd (omega arith) }
+
   module _ (picked : List ℕ) where
     -- where the lines of a count below c are set aside, a line of count c that is not set aside is a least one
     level-least : {c m : ℕ} (t : Cleared picked c m) (j : ℕ) → j < lines → nicheCount line (before ++ picked) j ≡ c → (In j (t .here .excluded) → ⊥)
         → Least before front line lines (t .here .excluded) picked j
-    level-least {c} t j inside e fresh = record { inside = inside; considered = fresh; least = λ i h k. go i h k (ltb (count i) c) refl }
+    level-least {c} t j inside e fresh = record { inside = inside; considered = fresh; least = least }
       where
-        count : ℕ → ℕ
-        count = nicheCount line (before ++ picked)
-
-        go : (i : ℕ) → i < lines → (In i (t .here .excluded) → ⊥) → (b : Bool) → ltb (count i) c ≡ b → count j ≤ count i
-        go i h k true u = absurd (k (t .lower i h (ltb-true (count i) c u)))
-        go i h k false u = omega (arith, ltb-false (count i) c u)
+        least : (i : ℕ) → i < lines → (In i (t .here .excluded) → ⊥) → nicheCount line (before ++ picked) j ≤ nicheCount line (before ++ picked) i
+        least i h k = by-lt (nicheCount line (before ++ picked) i) c (λ u. absurd (k (t .lower i h u))) (λ u. omega arith)
 
     -- one more line of count c, where no line of count c has a candidate
     clear-line : (c m : ℕ) → m < lines → ((j p : ℕ) → Candidate before front line lines picked j p → nicheCount line (before ++ picked) j ≢ c)
@@ -60,7 +60,7 @@ module _ (before front : List ℕ) (line : ℕ → ℕ) (distance : ℕ → Floa
               here = t .here;
               barren = t .barren;
               lower = t .lower;
-              level = λ i h e. ⊎-elim (λ same. Memᴰ·cast same (there (ap count (sym same) ∙ e))) (λ less. t .level i less e) (eq-or-lt-of-le {n = i} {m = m} (omega arith));
+              level = λ i h e. last-or h (λ same. Memᴰ·cast same (there (ap count (sym same) ∙ e))) (λ less. t .level i less e);
             }
 
         add : count m ≡ c → (In m (t .here .excluded) → ⊥) → Cleared picked c (suc m)
@@ -69,13 +69,13 @@ module _ (before front : List ℕ) (line : ℕ → ℕ) (distance : ℕ → Floa
               here = record { excluded = m ∷ t .here .excluded; reached = exclude (t .here .reached) (level-least t m inside e fresh) (λ p k. none m p k e) };
               barren = λ j i p k. ⊎-elim (λ same. none j p k (ap count same ∙ e)) (λ (h : In j (t .here .excluded)). t .barren j h p k) (List·Memᴰ·cases-cons i);
               lower = λ i h k. List·Memᴰ·tail (t .lower i h k);
-              level = λ i h k. ⊎-elim (λ same. List·Memᴰ·head same) (λ less. List·Memᴰ·tail (t .level i less k)) (eq-or-lt-of-le {n = i} {m = m} (omega arith));
+              level = λ i h k. last-or h (λ same. List·Memᴰ·head same) (λ less. List·Memᴰ·tail (t .level i less k));
             }
 
         go : (a : Bool) → eqb (count m) c ≡ a → (b : Bool) → has (t .here .excluded) m ≡ b → Cleared picked c (suc m)
         go false e b k = stay (λ h. absurd (eqb-false (count m) c e h))
         go true e true k = stay (λ _. has-in (t .here .excluded) m k)
-        go true e false k = add (eqb-true (count m) c e) (λ i. true≢false (sym (in-has (t .here .excluded) m i) ∙ k))
+        go true e false k = add (eqb-true (count m) c e) (has-not (t .here .excluded) m k)
 
     -- all lines of count c
     clear-level : (c : ℕ) → ((j p : ℕ) → Candidate before front line lines picked j p → nicheCount line (before ++ picked) j ≢ c)
@@ -92,7 +92,7 @@ module _ (before front : List ℕ) (line : ℕ → ℕ) (distance : ℕ → Floa
         record {
           here = u .here;
           barren = u .barren;
-          lower = λ i h k. ⊎-elim (λ same. u .level i h same) (λ less. u .lower i h less) (eq-or-lt-of-le {n = nicheCount line (before ++ picked) i} {m = c} (omega arith));
+          lower = λ i h k. last-or k (λ same. u .level i h same) (λ less. u .lower i h less);
           level = λ i h k. absurd (omega arith);
         }
 
@@ -115,12 +115,8 @@ module _ (before front : List ℕ) (line : ℕ → ℕ) (distance : ℕ → Floa
 
     picked-once : line p < lines → Cleared picked 0 0 → Cleared (picked ++ (p ∷ [])) 0 0
     picked-once h begin =
-        record {
-          here = record { excluded = t .here .excluded; reached = go (nicheCount line (before ++ picked) (line p)) refl };
-          barren = λ j i q k. t .barren j i q (candidate-before j q k);
-          lower = λ i l k. absurd (omega arith);
-          level = λ i l k. absurd (omega arith);
-        }
+        cleared (record { excluded = t .here .excluded; reached = go (nicheCount line (before ++ picked) (line p)) refl })
+        (λ j i q k. t .barren j i q (candidate-before j q k))
       where
         t : Cleared picked (nicheCount line (before ++ picked) (line p)) 0
         t =
@@ -137,12 +133,7 @@ module _ (distance : ℕ → Float) {before front : List ℕ} {line : ℕ → �
   picks-cleared : (n s : ℕ) → n ≤ length front → Cleared before front line distance lines (picks line distance lines before front n s .value) 0 0
   picks-cleared n s h =
       drawAll-keeps (λ place picked. pickOne line distance lines before front picked) (λ k picked. Cleared before front line distance lines picked 0 0) s n
-      (record {
-        here = record { excluded = []; reached = start };
-        barren = λ j i. absurd (List·Memᴰ·not-nil i);
-        lower = λ i l k. absurd (omega arith);
-        level = λ i l k. absurd (omega arith);
-      })
+      (cleared before front line distance lines (record { excluded = []; reached = start }) (λ j i. absurd (List·Memᴰ·not-nil i)))
       (λ k picked t u e cleared. let c = pickOne-chosen distance split t picked (omega arith) in
       picked-once before front line distance lines picked _ c (split .inside _ (in-waiting front picked _ (c .listed) .member)) cleared) .1
 

@@ -2,12 +2,12 @@
 use Prim.Native.Nat.{ℕ, _+_, _<_}
 use mathlib.Core.Path.{_≡_, refl, sym, _∙_}
 use mathlib.Core.Logic.{_⊎_, inl, inr}
-use mathlib.Core.Bool.{Bool, true, false, cond, true≢false}
+use mathlib.Core.Bool.{Bool, true, false, cond}
 use mathlib.Core.List.{List, [], _∷_, List·Memᴰ·head, List·Memᴰ·tail, List·Memᴰ·cases-cons, List·Nodup, nodup-cons, Memᴰ·cast}
 use native.Mathlib.Omega.{arith}
 use lib.ListN.{getD}
 use Rattle.model.specs.Lists.{In, has, keep, tally}
-use Rattle.list_laws.proofs.Members.{in-has, has-in, in-keep, keep-length, getD-in, first-apart}
+use Rattle.list_laws.proofs.Members.{has-in, has-not, in-keep, keep-length, getD-in, first-apart}
 
 -- the list ps less one x: no plan but x is lost, and the tally falls by x alone
 record Less (f : ℕ → Bool) (x : ℕ) (ps : List ℕ) : Type 0 where
@@ -68,7 +68,7 @@ module _ (f : ℕ → Bool) where
 
       go : (b : Bool) → f x ≡ b → (k : Bool) → has ys x ≡ k → tally f ys < cond b 1 0 + tally f xs → ((zs : List ℕ) → tally f zs < tally f xs → Extra f xs zs) → Extra f (x ∷ xs) ys
       go false e k i less-than ih = further (ih ys (omega arith))
-      go true e false i less-than ih = record { plan = x; listed = List·Memᴰ·head refl; passes = e; absent = λ m. true≢false (sym (in-has ys x m) ∙ i) }
+      go true e false i less-than ih = record { plan = x; listed = List·Memᴰ·head refl; passes = e; absent = has-not ys x i }
       go true e true i less-than ih =
           let r : Less f x ys = less x ys (has-in ys x i) in
           let drop : tally f ys ≡ 1 + tally f (r .rest) = rw e at (r .falls) in

@@ -5,13 +5,13 @@ ghost use Prim.Native.Nat.{_<_};
 ghost use lib.ListN.{length};
 ghost use Rattle.model.specs.Draw.{drawn};
 ghost use Rattle.model.specs.Kept.{nearest, drawMember};
-ghost use Rattle.niching_array_laws.specs.Niche.{distanceIn, planAt, waitsOn, places, members, placeDistance, nearerOf, Kth, Listed, Measured, MemberOf};
+ghost use Rattle.niching_array_laws.specs.Niche.{distanceIn, memberAt, waitsOn, places, members, placeDistance, nearerOf, Kth, Listed, Measured, MemberOf};
 use model::Rng;
 use rng_util::DrawnUsize;
 
 // The member at place i of the front waits on line l.
 fn waits_on(front: &[usize], lines: &[usize], taken: &[bool], l: usize, i: usize) -> bool
-    requires { ⌜ (i < length (now front)) × (i < length (now taken)) × (planAt (now front) i < length (now lines)) ⌝ }
+    requires { ⌜ (i < length (now front)) × (i < length (now taken)) × (memberAt (now front) i < length (now lines)) ⌝ }
     ensures { λ r. ⌜ r ≡ waitsOn (now (front .entry)) (now (lines .entry)) (now (taken .entry)) l i ⌝ }
 {
     if taken[i] {
@@ -101,7 +101,7 @@ pub fn choose_member(
     requires { ⌜ Listed (now front) (now lines) (now taken) × Measured (now front) (now distances)
         × (waiting ≡ length (places (now front) (now lines) (now taken) l)) × (0 < waiting) ⌝ }
     ensures { λ r. ⌜ MemberOf (now (front .entry)) (now (lines .entry)) (now (taken .entry)) l (r .value)
-        × (drawn (planAt (now (front .entry)) (r .value)) (r .rng .s)
+        × (drawn (memberAt (now (front .entry)) (r .value)) (r .rng .s)
         ≡ drawMember (distanceIn (now (distances .entry))) count (members (now (front .entry)) (now (lines .entry)) (now (taken .entry)) l) (rng .s)) ⌝ }
 {
     if count == 0 {

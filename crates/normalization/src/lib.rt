@@ -6,7 +6,8 @@ ghost use lib.ListN.{length};
 ghost use lib.Seq.{sets};
 ghost use Rattle.model.specs.Lists.{listBelow, over};
 ghost use Rattle.model.specs.Association.{leastFrom, greatest, interceptFrom};
-ghost use Rattle.association_laws.specs.Flat.{column, flatRows, leastAt, interceptAt, normalAt};
+ghost use Rattle.list_laws.specs.Rows.{flatRows};
+ghost use Rattle.association_laws.specs.Flat.{column, leastAt, interceptAt, normalAt};
 
 // The smaller of `start` and the least value of objective j; `start` stands where they are equal.
 fn least_of(rows: &[f64], n: usize, m: usize, j: usize, start: f64) -> f64

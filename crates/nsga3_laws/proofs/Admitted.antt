@@ -1,22 +1,13 @@
 -- Where no refusal is given, each limit is kept.
 use mathlib.Core.Path.{_≡_}
-use mathlib.Core.Bool.{true}
 use mathlib.Core.Option.{none}
-use borrow.Author.Tests.{eqb-true}
-use lib.Dec.{eqb}
-use lib.ListN.{length}
 use Rattle.model.specs.Association.{Request, objectives}
-use Rattle.model.specs.Refusal.{Room, goodIdeal, selectRefusal}
-use Rattle.list_laws.proofs.Checks.{pool-plans, pool-ideal}
-use Rattle.list_laws.proofs.Bools.{and-left}
+use Rattle.model.specs.Refusal.{Room, selectRefusal}
+use Rattle.list_laws.proofs.Checks.{pool-plans, pool-ideal, good-ideal-length}
 use Rattle.reference_laws.proofs.Divisions.{allowed}
 use Rattle.reference_laws.proofs.Count.{lines-some}
 use Rattle.demand3_laws.proofs.Passed.{one-to-1024, some-objectives, room-each, select-passed}
 use Rattle.nsga3_laws.specs.Admitted.{Admitted}
-
-ideal-length : (r : Request) → goodIdeal (objectives r) (r .ideal) ≡ true → length (r .ideal) ≡ objectives r
-unfolding goodIdeal
-ideal-length r e = eqb-true (length (r .ideal)) (objectives r) (and-left (eqb (length (r .ideal)) (objectives r)) _ e)
 
 pub admitted : (r : Request) (room : Room) → selectRefusal r room ≡ none → Admitted r room
 admitted r room e =
@@ -36,7 +27,7 @@ admitted r room e =
       fewPlans = n .1;
       few = one-to-1024 (r .size) (p .size) .1;
       good = pool-plans r (p .pool);
-      ideal = ideal-length r (pool-ideal r (p .pool));
+      ideal = good-ideal-length (objectives r) (r .ideal) (pool-ideal r (p .pool));
       kept = free .0;
       fronts = free .1;
       lines = free .2;

@@ -8,12 +8,13 @@ use lib.Ieee.{Float, lt}
 use lib.ListN.{length, getD, List·getD-eq-default}
 use Rattle.model.specs.Lists.{has, keep, keepBelow}
 use Rattle.model.specs.Draw.{Drawn, drawn, drawAll}
-use Rattle.model.specs.Kept.{nicheCount, waiting, openLines, leastLines, drawFrom, nearest, drawMember, pickOne, picks}
+use Rattle.model.specs.Kept.{nicheCount, waiting, openLines, drawFrom, nearest, drawMember, pickOne, picks}
 use Rattle.list_laws.proofs.Below.{by-lt}
 use Rattle.list_laws.proofs.Best.{best-all, best-agree}
 pub use Rattle.list_laws.specs.Occ.{Below}
 use Rattle.list_laws.proofs.Members.{tally-same, keep-same, in-keep, getD-in, below-append, below-none, below-snoc}
 use Rattle.list_laws.proofs.Draws.{inTurn-same, drawAll-keeps}
+use Rattle.niching_laws.specs.Niching.{pickFrom}
 
 -- a list of draws below n is below n
 pub drawn-below : (n : ℕ) (next : ℕ → List ℕ → ℕ → Drawn ℕ) → ((i : ℕ) (l : List ℕ) (t : ℕ) → next i l t .value < n) → (k s : ℕ) → Below n (drawAll next k s .value)
@@ -68,20 +69,15 @@ module _ (n : ℕ) (some : 0 < n) where
     member-agree zero l s h = ap (λ p. drawn p s) (nearest-agree l h)
     member-agree (suc count) l s h = refl
 
-    -- one pick, from the niche counts, the lines with waiting members, and the members that wait on each
-    abbrev chosen : (ℕ → Float) → ℕ → (ℕ → ℕ) → List ℕ → (ℕ → List ℕ) → Drawn ℕ
-    chosen f s counts lines-open members =
-        let l = drawFrom (leastLines counts lines-open) s in drawMember f (counts (l .value)) (members (l .value)) (l .state)
-
     module _ (lines : ℕ) (before split : List ℕ) (listed : Below n before) (within : Below n split) where
       pick-agree : (picked : List ℕ) (s : ℕ) → Below n picked → pickOne line far lines before split picked s ≡ pickOne line′ far′ lines before split picked s
       unfolding pickOne
       pick-agree picked s h =
           let w = waiting split picked in
           let k = keep-below (λ p. not (has picked p)) split within in
-          ap (λ c. chosen far s c (openLines line lines w) (λ v. keep (λ p. eqb (line p) v) w)) (counts-agree (before ++ picked) (below-append n before picked listed h))
-          ∙ ap (λ o. chosen far s (nicheCount line′ (before ++ picked)) (keepBelow (has o) lines) (λ v. keep (λ p. eqb (line p) v) w)) (map-agree w k)
-          ∙ ap (λ m. chosen far s (nicheCount line′ (before ++ picked)) (openLines line′ lines w) m) (members-agree w k)
+          ap (λ c. pickFrom far c (openLines line lines w) (λ v. keep (λ p. eqb (line p) v) w) s) (counts-agree (before ++ picked) (below-append n before picked listed h))
+          ∙ ap (λ o. pickFrom far (nicheCount line′ (before ++ picked)) (keepBelow (has o) lines) (λ v. keep (λ p. eqb (line p) v) w) s) (map-agree w k)
+          ∙ ap (λ m. pickFrom far (nicheCount line′ (before ++ picked)) (openLines line′ lines w) m s) (members-agree w k)
           ∙ member-agree _ _ _ (keep-below _ w k)
 
       -- THE LAW

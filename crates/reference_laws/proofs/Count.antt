@@ -116,9 +116,7 @@ tuples-some : (d r : ℕ) → 1 ≤ length (tuples d r)
 unfolding tuples joinBelow
 tuples-some zero r = omega arith
 tuples-some (suc d) r =
-    let here = map (λ t. r ∷ t) (tuples d (r - r)) in
-    let before = joinBelow (λ i. map (λ t. i ∷ t) (tuples d (r - i))) r in
-    omega (arith, length-append before here, length-map (tuples d (r - r)) (λ t. r ∷ t), tuples-some d (r - r))
+    omega (arith, length-append (joinBelow (branch d r) r) (branch d r r), length-map (tuples d (r - r)) (λ t. r ∷ t), tuples-some d (r - r))
 
 pub lines-some : (m h : ℕ) → 1 ≤ m → 0 < pointCount m h
 lines-some m h w = omega (arith, lattice-count m h w, tuples-some (m - 1) h)

@@ -1,18 +1,18 @@
 -- Divisions within refusal 4's bounds, and which a session uses. Assumes nothing.
-use Prim.Native.Nat.{ℕ, suc, _*_, _≤_, _<_}
-use mathlib.Core.Path.{_≡_, refl, sym, _∙_}
-use mathlib.Core.Bool.{Bool, true, false, cond}
+use Prim.Native.Nat.{ℕ, _*_, _≤_, _<_}
+use mathlib.Core.Path.{_≡_, refl, ap, sym, _∙_}
+use mathlib.Core.Logic.{⊎-elim}
+use mathlib.Core.Bool.{Bool, true, false}
 use mathlib.Core.Option.{Option, none, some}
 use native.Mathlib.Nat.{max-eq-left, max-eq-right, le-of-lt}
-use borrow.Author.Tests.{le-leb, lt-leb, leb-true, ltb-true, ltb-false, not-false}
+use borrow.Author.Tests.{le-leb, lt-leb, leb-true, ltb-false, not-false}
 use native.Mathlib.Omega.{arith}
 use lib.Dec.{leb, ltb}
-use Rattle.model.specs.Lists.{firstBelow}
 use Rattle.list_laws.proofs.Rows.{few-values}
 use Rattle.list_laws.proofs.Bools.{and-left, and-right, or-left, or-right}
 use Rattle.model.specs.Reference.{pointCount, autoDivisions, divisionsOf, populationSize, orElse}
 use Rattle.model.specs.Refusal.{badDivisions, badSessionDivisions, outsideDivisions, maxLines}
-use Rattle.reference_laws.proofs.First.{reaches}
+use Rattle.reference_laws.proofs.First.{auto-first}
 
 -- ---- refusal 4
 
@@ -36,9 +36,9 @@ allowed m h e =
     let i = inside h (or-left (outsideDivisions h) _ e) in
     record { least = i .0; most = i .1; lines = ltb-false maxLines (pointCount m h) (or-right (outsideDivisions h) _ e) }
 
--- 8,192 entries are room for every table that is allowed
-pub table-room : (m h : ℕ) → m ≤ 8 → Allowed m h → pointCount m h * m ≤ 8192
-table-room m h l a = few-values (pointCount m h) m (a .lines) l
+-- where the test says no, 8,192 entries are room for the table
+pub fits : (m h : ℕ) {b : Bool} → m ≤ 8 → b ≡ badDivisions m h → b ≡ false → (1 ≤ h) × (h ≤ 199) × (pointCount m h * m ≤ 8192)
+fits m h l e f = let w = allowed m h (sym e ∙ f) in (w .least, w .most, few-values (pointCount m h) m (w .lines) l)
 
 -- each way that the test goes
 pub bad-below : (m h : ℕ) → h < 1 → true ≡ badDivisions m h
@@ -56,12 +56,7 @@ bad-by-lines m h p a b e = rw (inside-holds h a b, e)
 -- ---- a session's
 
 pub auto-inside : (m target : ℕ) → outsideDivisions (autoDivisions m target) ≡ false
-unfolding autoDivisions
-auto-inside m target = by-test (firstBelow (reaches m target) 199) (ltb (firstBelow (reaches m target) 199) 199) refl
-  where
-    by-test : (i : ℕ) (b : Bool) → ltb i 199 ≡ b → outsideDivisions (cond b (suc i) 12) ≡ false
-    by-test i true e = inside-holds (suc i) (omega arith) (omega (arith, ltb-true i 199 e))
-    by-test i false e = refl
+auto-inside m target = ⊎-elim (λ f. inside-holds _ (f .least) (f .most)) (λ n. ap outsideDivisions (n .instead)) (auto-first m target)
 
 -- refusal 4 at opening is that of the divisions that the session would use
 pub session-bad : (m : ℕ) (size divisions : Option ℕ) → badDivisions m (divisionsOf m size divisions) ≡ badSessionDivisions m size divisions

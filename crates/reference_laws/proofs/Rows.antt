@@ -1,37 +1,20 @@
--- Laws of the rows that the recursion writes, and of a table whose rest is written. Assumes nothing.
+-- Laws of the rows that the recursion writes, and of the table that they make. Assumes nothing.
 use Prim.Native.Nat.{ℕ, zero, suc, _+_, _-_, _*_, _<_, _≤_}
 use mathlib.Core.Path.{_≡_, refl, sym, ap, _∙_}
 use mathlib.Core.List.{List, [], _∷_, _++_, map, map-append, flatten, append-assoc, append-nil, List·Memᴰ, Memᴰ·of-map}
-use native.Mathlib.Nat.{le-refl, add-zero, add-suc}
 use native.Mathlib.Numerals.{add-one}
 use native.Mathlib.Omega.{arith}
 use lib.Ieee.{Float, nan}
-use lib.ListN.{length, take, drop, getD, set, length-append, length-drop, length-map}
-use lib.Seq.{take-suc-set, take-at, drop-at, drop-drop, take-length, drop-length}
-use borrow.Rule.Slice.PartMut.{putMid}
+use lib.ListN.{length, take, getD, set, length-append, length-map}
+use lib.Seq.{take-suc-set, length-take-le}
 use Rattle.model.specs.Lists.{joinBelow, over}
 use Rattle.model.specs.Reference.{ratio, tuples, lattice, pointCount, dasDennis}
-use Rattle.list_laws.proofs.Built.{joinBelow-more, joinBelow-same, over-at}
+use Rattle.list_laws.proofs.Built.{joinBelow-same, over-at}
 use Rattle.list_laws.proofs.Rows.{row-inside, flatten-append, flatten-length, flatten-at}
 use Rattle.list_laws.proofs.Members.{getD-member}
 use Rattle.reference_laws.specs.Rows.{rowsFrom}
 use Rattle.reference_laws.proofs.Count.{branch, lattice-count}
 use Rattle.reference_laws.proofs.Table.{lattice-table}
-
--- ---- f 0 ++ .. ++ f (n - 1)
-
-module _ {A : Type 0} (f : ℕ → List A) where
-  join-add : (i k : ℕ) → length (joinBelow f i) ≤ length (joinBelow f (i + k))
-  unfolding joinBelow
-  join-add i zero = rw add-zero (le-refl _)
-  join-add i (suc k) = rw (add-suc, length-append) (let h = join-add i k in omega arith)
-
-  join-mono : (i n : ℕ) → i ≤ n → length (joinBelow f i) ≤ length (joinBelow f n)
-  join-mono i n h = let e : i + (n - i) ≡ n = omega arith in rw e at (join-add i (n - i))
-
-  -- where all n fit, there is room for the next behind the first i
-  pub room : (i n k : ℕ) → i < n → length (joinBelow f n) ≤ k → length (joinBelow f i) + length (f i) ≤ k
-  room i n k l h = omega (arith, join-mono (i + 1) n (omega arith), ap length (joinBelow-more f i), length-append (joinBelow f i) (f i))
 
 -- ---- the rows of the recursion
 
@@ -74,28 +57,15 @@ pub rows-none : (before : List Float) (left rest h : ℕ) → left ≡ 0 → row
 unfolding rowsFrom tuples flatten
 rows-none before left rest h e = rw e (append-nil _)
 
+pub rows-none-length : (l : List Float) (d left rest h : ℕ) → d ≤ length l → left ≡ 0 → length (rowsFrom (take d l) left rest h) ≡ d + 1
+rows-none-length l d left rest h k e =
+    ap length (rows-none (take d l) left rest h e) ∙ length-append (take d l) (ratio h rest ∷ []) ∙ omega (arith, length-take-le d l k)
+
 -- ---- the table
 
 -- the next coordinate stored in a row
-pub stored : (l : List Float) (d : ℕ) (x : Float) → d < length l → take (d + 1) (set l d x) ≡ take d l ++ (x ∷ [])
-stored l d x h = rw add-one (take-suc-set l d x h)
-
--- the table after the next part was written behind what stands: the part that was lent goes to the table's end
-module _ (t : List Float) (at : ℕ) (h : at ≤ length t) where
-  pub tail-all : take (length t - at) (drop at t) ≡ drop at t
-  tail-all = ap (λ (n : ℕ). take n (drop at t)) (sym (length-drop at t)) ∙ take-length (drop at t)
-
-  tail-none : drop (length t - at) (drop at t) ≡ []
-  tail-none = ap (λ (n : ℕ). drop n (drop at t)) (sym (length-drop at t)) ∙ drop-length (drop at t)
-
-  pub written : (a b t₀ last : List Float) (k : ℕ) → at ≡ length a → t ≡ a ++ drop at t₀ → last ≡ b ++ drop k (take (length t - at) (drop at t))
-      → putMid at (length t - at) t last ≡ (a ++ b) ++ drop (at + k) t₀
-  written a b t₀ last k e g q =
-      let q₁ : last ≡ b ++ drop (at + k) t₀ =
-      q ∙ ap (λ (l : List Float). b ++ drop k l) (tail-all ∙ ap (drop at) g ∙ drop-at a (drop at t₀) at (sym e))
-      ∙ ap (λ (l : List Float). b ++ l) (drop-drop k at t₀) in
-      let p : take at t ≡ a = ap (take at) g ∙ take-at a (drop at t₀) at (sym e) in
-      rw (tail-none, p, append-nil, q₁, append-assoc)
+pub stored : (l : List Float) (d h i : ℕ) (x : Float) → d < length l → x ≡ ratio h i → take (d + 1) (set l d x) ≡ take d l ++ (ratio h i ∷ [])
+stored l d h i x k e = rw (add-one, e) (take-suc-set l d (ratio h i) k)
 
 -- ---- the whole table
 

@@ -1,12 +1,13 @@
 -- THEOREM (Das and Dennis 1998): the list of lines has every point of the lattice, nothing else, and none twice. Assumes nothing.
-use Prim.Native.Nat.{ℕ, zero, suc, _+_, _-_, _≤_, _<_}
+use Prim.Native.Nat.{ℕ, zero, suc, _-_, _≤_, _<_}
 use mathlib.Core.Path.{_≡_, sym, ap, subst, _∙_}
 use mathlib.Core.Logic.{⊎-elim, _≢_}
 use mathlib.Core.HLevel.{¬-prop}
 use mathlib.Core.List.{List, [], _∷_, List·Memᴰ, List·Memᴰ·head, List·Memᴰ·not-nil, List·Memᴰ·eq-of-singleton, List·Memᴰ·append-cases, Memᴰ·append-left, Memᴰ·append-right, Memᴰ·map, Memᴰ·of-map, head-eq-of-cons-eq, tail-eq-of-cons-eq, List·Nodup, Pairwise·nil, Pairwise·map, pairwise-singleton}
-use native.Mathlib.Nat.{add-zero, add-suc}
+use native.Mathlib.Nat.{add-zero}
 use native.Mathlib.Omega.{arith}
 use lib.ListN.{length}
+use Rattle.list_laws.proofs.Below.{later}
 use Rattle.list_laws.proofs.Members.{distinct-append}
 use Rattle.model.specs.Lists.{joinBelow}
 use Rattle.model.specs.Reference.{tuples, lattice}
@@ -22,13 +23,9 @@ module _ {A : Type 0} (f : ℕ → List A) where
   mem-join (suc n) m =
       ⊎-elim (λ w. let r = mem-join n w in (r .0, omega (arith, r .1), r .2)) (λ w. (n, omega arith, w)) (List·Memᴰ·append-cases (joinBelow f n) m)
 
-  join-after : {a : A} (i k : ℕ) → List·Memᴰ a (f i) → List·Memᴰ a (joinBelow f (suc (i + k)))
-  unfolding joinBelow
-  join-after i zero m = rw add-zero (Memᴰ·append-right (joinBelow f i) m)
-  join-after i (suc k) m = rw add-suc (Memᴰ·append-left (f (suc (i + k))) (join-after i k m))
-
   pub join-mem : {a : A} (i n : ℕ) → i < n → List·Memᴰ a (f i) → List·Memᴰ a (joinBelow f n)
-  join-mem i n h m = let e : suc (i + (n - suc i)) ≡ n = omega arith in rw e at (join-after i (n - suc i) m)
+  unfolding joinBelow
+  join-mem {a} i n h m = later (λ t. List·Memᴰ a (joinBelow f t)) (λ t k. Memᴰ·append-left (f t) k) (suc i) n h (Memᴰ·append-right (joinBelow f i) m)
 
   pub join-once : (n : ℕ) → ((i : ℕ) → i < n → List·Nodup (f i)) → ((i j : ℕ) (a : A) → i < j → List·Memᴰ a (f i) → List·Memᴰ a (f j) → ⊥)
       → List·Nodup (joinBelow f n)

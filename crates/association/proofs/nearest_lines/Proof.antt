@@ -3,18 +3,15 @@ use Prim.Native.Nat.{_*_, _+_, _-_, _≤_}
 use mathlib.Core.Path.{_≡_, refl, sym}
 use native.Mathlib.Omega.{arith}
 use lib.ListN.{length, length-set}
-use Rattle.model.specs.Lists.{listBelow, over}
 use Rattle.list_laws.proofs.Built.{over-none, over-set}
-use Rattle.association_laws.specs.Flat.{nearestAt}
+use Rattle.association_laws.specs.Flat.{NearestAll}
 use Rattle.list_laws.proofs.Rows.{row-inside}
 use Rattle.association.proofs.nearest_lines.Statement.{statement}
 use Rattle.association.proofs.nearest_lines.Tie as tie
 
 abbrev Inv-loop : tie.InvT-loop
 Inv-loop normalized n m table n-lines norms known lines₀ distances₀ p₀ lines distances p =
-    (p ≤ n) × (length lines ≡ length lines₀) × (length distances ≡ length distances₀)
-    × (lines ≡ over (listBelow (λ q. nearestAt normalized m table n-lines q .line) p) lines₀)
-    × (distances ≡ over (listBelow (λ q. nearestAt normalized m table n-lines q .distance) p) distances₀)
+    (p ≤ n) × (length lines ≡ length lines₀) × (length distances ≡ length distances₀) × NearestAll normalized m table n-lines p lines₀ lines distances₀ distances
 
 abbrev μ-loop : tie.MeasureT-loop
 μ-loop normalized n m table n-lines norms known lines₀ distances₀ p₀ lines distances p = n - p
@@ -28,7 +25,7 @@ inside : (c : tie.In-loop Inv-loop μ-loop) → c .before .loop .p * entry c .ar
 inside c = row-inside _ _ _ (c .loop-test .taken)
 
 loop-holds : tie.Need-loop-holds Inv-loop μ-loop
-loop-holds c = (omega arith, refl, refl, sym (over-none _ _), sym (over-none _ _))
+loop-holds c = (omega arith, refl, refl, record { line = sym (over-none _ _); distance = sym (over-none _ _) })
 
 mul-nearest-line : tie.Need-mul-nearest-line Inv-loop μ-loop
 mul-nearest-line c = omega (arith, inside c)
@@ -58,7 +55,10 @@ loop-again : tie.Need-loop-again Inv-loop μ-loop
 loop-again c =
     let l = c .before .before .loop in
     let f = c .nearest-line .ensures in
-    (omega arith, simp length-set (l .inv .1), simp length-set (l .inv .2), over-set _ _ _ _ _ (omega arith) (l .inv .3) (f .0), over-set _ _ _ _ _ (omega arith) (l .inv .4) (f .1))
+    (omega arith, simp length-set (l .inv .1), simp length-set (l .inv .2), record {
+      line = over-set _ _ _ _ _ (omega arith) (l .inv .3 .line) (f .0);
+      distance = over-set _ _ _ _ _ (omega arith) (l .inv .3 .distance) (f .1);
+    })
 
 same-length : tie.Need-same-length Inv-loop μ-loop
 same-length c = c .before .loop .inv .1
@@ -70,7 +70,7 @@ returns : tie.Need-returns Inv-loop μ-loop
 returns c =
     let l = c .before .loop in
     let e : l .p ≡ c .before .before .before .before .before .before .before .args .n = omega arith in
-    (rw e at (l .inv .3), rw e at (l .inv .4))
+    rw e at (l .inv .3)
 
 pub nearest-lines-spec : {M : Type 1} → statement M
 nearest-lines-spec =

@@ -1,21 +1,22 @@
 -- `das_dennis_recursive`: the measure is how many coordinates are left. After i branches the table has their rows at its front, and `at` is where they end.
 -- Assumes nothing.
 use Prim.Native.Nat.{ℕ, _+_, _-_, _<_, _≤_}
-use mathlib.Core.Path.{_≡_, refl, sym, ap, _∙_}
+use mathlib.Core.Path.{_≡_, refl, sym, ap, ap₂, _∙_}
 use mathlib.Core.List.{List, [], _∷_, _++_}
 use native.Mathlib.Omega.{arith}
 use borrow.Author.Needs.{needs}
 use borrow.Fn.Kinds.{In}
 use borrow.Fn.PlainCycle.{Measures, is, falls, and}
-use borrow.Rule.Slice.PartMut.{same-len-mid}
+use borrow.Rule.Slice.PartMut.{midOf, same-len-mid}
 use lib.Ieee.{Float}
 use lib.ListN.{length, take, drop, set, length-append, length-drop}
 use lib.Seq.{length-take-le}
-use Rattle.model.specs.Lists.{joinBelow}
+use Rattle.model.specs.Lists.{joinBelow, over}
 use Rattle.model.specs.Reference.{ratio}
 use Rattle.reference_laws.specs.Rows.{rowsFrom}
-use Rattle.list_laws.proofs.Built.{joinBelow-more}
-use Rattle.reference_laws.proofs.Rows.{part, rows-some, rows-none, room, stored, tail-all, written}
+use Rattle.list_laws.proofs.Built.{joinBelow-more, written-behind}
+use Rattle.list_laws.proofs.Rows.{joinBelow-room}
+use Rattle.reference_laws.proofs.Rows.{part, rows-some, rows-none, rows-none-length, stored}
 use Rattle.das_dennis.proofs.das_dennis_recursive.Reads as own
 use Rattle.das_dennis.proofs.das_dennis_recursive.Kinds as kinds
 use Rattle.das_dennis.proofs.+das_dennis_recursive.Lts-das_dennis_recursive as lts
@@ -38,7 +39,7 @@ record Filled (before : List Float) (left divisions remaining n : ℕ) (t₀ t :
   count : n ≡ remaining + 1
   same : length t ≡ length t₀
   place : at ≡ length (joinBelow (part before left remaining divisions) i)
-  body : t ≡ joinBelow (part before left remaining divisions) i ++ drop at t₀
+  body : t ≡ over (joinBelow (part before left remaining divisions) i) t₀
 
 abbrev Inv-loop : lts.InvT-loop
 Inv-loop left divisions depth remaining current table₀ at₀ n i₀ table at i = Filled (take depth current) left divisions remaining n table₀ table at i
@@ -63,16 +64,7 @@ module _ (t : ℕ) where
   need-put-row-requires c κs =
       let s = c .before .before .before .before in
       let a = s .args in
-      let before = take (a .depth) (a .current) in (
-        omega arith,
-        omega (
-          arith,
-          s .pre .1 .1,
-          ap length (rows-none before (a .left) (a .remaining) (a .divisions) (c .before .before .if1 .taken)),
-          length-append before (ratio (a .divisions) (a .remaining) ∷ []),
-          length-take-le (a .depth) (a .current) (omega arith),
-        ),
-      )
+      (omega arith, omega (arith, s .pre .1 .1, rows-none-length (a .current) (a .depth) (a .left) (a .remaining) (a .divisions) (omega arith) (c .before .before .if1 .taken)))
 
   need-add-result : lts.Need-add-result (coordinate.Asked, coordinate.Learnt, put-row.Asked, put-row.Learnt, below t, own.Post) (at-measure t) own.Post Inv-loop μ-loop
   need-add-result c = omega arith
@@ -85,12 +77,12 @@ module _ (t : ℕ) where
       let s = c .before .before .before .before .before .before .before in
       let a = s .args in
       let before = take (a .depth) (a .current) in
-      let e = rows-none before (a .left) (a .remaining) (a .divisions) (c .before .before .before .before .before .if1 .taken) in
-      let f = stored (a .current) (a .depth) (c .before .before .before .before .coordinate .result) (omega arith)
-      ∙ ap (λ (x : Float). before ++ (x ∷ [])) (c .before .before .before .before .coordinate .ensures) in (
-        omega (arith, ap length e, length-append before (ratio (a .divisions) (a .remaining) ∷ []), length-take-le (a .depth) (a .current) (omega arith)),
-        c .before .before .put-row .ensures ∙ ap (λ (l : List Float). l ++ drop (a .depth + 1) (a .table .now)) (f ∙ sym e),
-      )
+      let last = c .before .before .before .before .before .if1 .taken in
+      let x = c .before .before .before .before .coordinate in
+      let n = sym (rows-none-length (a .current) (a .depth) (a .left) (a .remaining) (a .divisions) (omega arith) last) in
+      let f = stored (a .current) (a .depth) (a .divisions) (a .remaining) (x .result) (omega arith) (x .ensures)
+      ∙ sym (rows-none before (a .left) (a .remaining) (a .divisions) last) in
+      (n, c .before .before .put-row .ensures ∙ ap₂ (λ (l : List Float) (k : ℕ). l ++ drop k (a .table .now)) f n)
 
   need-add-n : lts.Need-add-n (coordinate.Asked, coordinate.Learnt, put-row.Asked, put-row.Learnt, below t, own.Post) (at-measure t) own.Post Inv-loop μ-loop
   need-add-n c = omega arith
@@ -113,7 +105,9 @@ module _ (t : ℕ) where
         arith,
         l .inv .place,
         l .inv .same,
-        room (part before (a .left) (a .remaining) (a .divisions)) (l .i) (a .remaining + 1) (length (a .table .now)) (c .loop-test .taken) (rw e at (s .pre .1 .1)),
+        s .pre .1 .1,
+        ap length e,
+        joinBelow-room (part before (a .left) (a .remaining) (a .divisions)) (l .i) (a .remaining + 1) (c .loop-test .taken),
       )
 
   -- the row that the turn hands on
@@ -122,7 +116,7 @@ module _ (t : ℕ) where
       take (a .depth + 1) (set (a .current) (a .depth) (c .coordinate2 .result)) ≡ take (a .depth) (a .current) ++ (ratio (a .divisions) (c .before .before .loop .i) ∷ [])
   begun c =
       let a = c .before .before .before .before .before .args in
-      stored (a .current) (a .depth) (c .coordinate2 .result) (omega arith) ∙ ap (λ (x : Float). take (a .depth) (a .current) ++ (x ∷ [])) (c .coordinate2 .ensures)
+      stored (a .current) (a .depth) (a .divisions) (c .before .before .loop .i) (c .coordinate2 .result) (omega arith) (c .coordinate2 .ensures)
 
   need-coordinate-requires-2 : lts.Need-coordinate-requires-2 (coordinate.Asked, coordinate.Learnt, put-row.Asked, put-row.Learnt, below t, own.Post) (at-measure t) own.Post Inv-loop μ-loop
   need-coordinate-requires-2 c κs = omega arith
@@ -160,8 +154,8 @@ module _ (t : ℕ) where
       let l = c .before .before .before .loop in
       let m = more (c .before .before) in
       let e = begun (c .before) in
-      let w = tail-all (l .table) (l .at) (omega arith) in
-      (omega arith, ((omega arith, omega arith, omega arith), rw (e, w, length-drop) (omega arith)))
+      let w = length-take-le (length (l .table) - l .at) (drop (l .at) (l .table)) (omega (arith, length-drop (l .at) (l .table))) in
+      (omega arith, ((omega arith, omega arith, omega arith), rw (e, w) (omega arith)))
 
   -- how many entries the deeper call wrote
   got : (c : lts.After-das-dennis-recursive (coordinate.Asked, coordinate.Learnt, put-row.Asked, put-row.Learnt, below t, own.Post) (at-measure t) own.Post Inv-loop μ-loop) →
@@ -189,17 +183,16 @@ module _ (t : ℕ) where
       let F = part (take (a .depth) (a .current)) (a .left) (a .remaining) (a .divisions) in
       let m = more (c .before .before .before .before .before) in
       let g = got (c .before .before) in
-      let rest = drop (call .result) (take (length (l .table) - l .at) (drop (l .at) (l .table))) in
+      let lent = midOf (l .at) (length (l .table) - l .at) (l .table) in
       let q = call .ensures .1
-      ∙ ap (λ (p : List Float). rowsFrom p (a .left - 1) (a .remaining - l .i) (a .divisions) ++ rest) (begun (c .before .before .before .before)) in
+      ∙ ap (λ (p : List Float). over (rowsFrom p (a .left - 1) (a .remaining - l .i) (a .divisions)) lent) (begun (c .before .before .before .before)) in
       record {
         most = omega arith;
         count = refl;
         same = same-len-mid (l .at) (length (l .table) - l .at) (l .table) (call .last .1 .1 .1 .1 .1 .0) (call .kept .1 .1 .1 .1 .1 .0) ∙ l .inv .same;
         place = omega (arith, g, l .inv .place, ap length (joinBelow-more F (l .i)), length-append (joinBelow F (l .i)) (F (l .i)));
-        body = written (l .table) (l .at) (omega arith) (joinBelow F (l .i)) (F (l .i)) (a .table .now) (call .last .1 .1 .1 .1 .1 .0) (call .result)
-            (l .inv .place) (l .inv .body) q
-            ∙ ap (λ (x : List Float). x ++ drop (l .at + call .result) (a .table .now)) (sym (joinBelow-more F (l .i)));
+        body = written-behind (joinBelow F (l .i)) (F (l .i)) (l .table) (a .table .now) (call .last .1 .1 .1 .1 .1 .0) (l .at) (sym (l .inv .place)) (omega arith) (l .inv .body) q
+            ∙ ap (λ (x : List Float). over x (a .table .now)) (sym (joinBelow-more F (l .i)));
       }
 
   need-same-length-2 : lts.Need-same-length-2 (coordinate.Asked, coordinate.Learnt, put-row.Asked, put-row.Learnt, below t, own.Post) (at-measure t) own.Post Inv-loop μ-loop
@@ -214,7 +207,7 @@ module _ (t : ℕ) where
       let e : l .i ≡ a .remaining + 1 = omega (arith, l .inv .most, l .inv .count) in
       let w : joinBelow F (l .i) ≡ rowsFrom before (a .left) (a .remaining) (a .divisions) =
       ap (joinBelow F) e ∙ sym (rows-some before (a .left) (a .remaining) (a .divisions) (c .before .before .if1 .left)) in
-      (l .inv .place ∙ ap length w, l .inv .body ∙ ap (λ (x : List Float). x ++ drop (l .at) (a .table .now)) w)
+      (l .inv .place ∙ ap length w, l .inv .body ∙ ap (λ (x : List Float). over x (a .table .now)) w)
 
 pub +das-dennis-recursive-spec : {M : Type 1} → statement M
 +das-dennis-recursive-spec = close μ λ t. lts.spec (

@@ -1,14 +1,12 @@
 -- `das_dennis`: the recursion's rows from nothing are the whole table, m entries a line. Assumes nothing.
-use Prim.Native.Nat.{ℕ, _+_, _-_, _/_}
+use Prim.Native.Nat.{ℕ, _/_}
 use mathlib.Core.Path.{ap, _∙_}
-use mathlib.Core.List.{List, [], _++_}
+use mathlib.Core.List.{List}
 use native.Mathlib.Nat.{mul-div-cancel}
 use native.Mathlib.Omega.{arith}
 use lib.Ieee.{Float}
-use lib.ListN.{drop}
 use Rattle.model.specs.Lists.{over}
 use Rattle.model.specs.Reference.{pointCount}
-use Rattle.reference_laws.specs.Rows.{rowsFrom}
 use Rattle.reference_laws.proofs.Rows.{whole-rows, whole-length}
 use borrow.Author.Needs.{needs}
 use Rattle.das_dennis.proofs.das_dennis.Statement.{statement}
@@ -31,12 +29,9 @@ same-length c = search needs
 returns : tie.Need-returns
 returns c =
     let a = c .before .before .before .before .before .args in
-    let call = c .before .before .das-dennis-recursive in
-    let rows = rowsFrom [] (a .m - 1) (a .h) (a .h) in (
+    let call = c .before .before .das-dennis-recursive in (
       ap (λ (n : ℕ). n / a .m) (call .ensures .0 ∙ whole-length (a .m) (a .h) (omega arith)) ∙ mul-div-cancel (pointCount (a .m) (a .h)) (omega arith),
-      call .ensures .1
-          ∙ ap (λ (n : ℕ). rows ++ drop n (a .table .now)) (call .ensures .0)
-          ∙ ap (λ (l : List Float). over l (a .table .now)) (whole-rows (a .m) (a .h)),
+      call .ensures .1 ∙ ap (λ (l : List Float). over l (a .table .now)) (whole-rows (a .m) (a .h)),
     )
 
 pub das-dennis-spec : {M : Type 1} → statement M

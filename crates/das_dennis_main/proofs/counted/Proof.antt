@@ -1,7 +1,7 @@
 -- `counted`: where refusal 4 does not apply, 8,192 entries are room enough. Assumes nothing.
-use mathlib.Core.Path.{refl, sym, _∙_}
+use mathlib.Core.Path.{refl}
 use native.Mathlib.Omega.{arith}
-use Rattle.reference_laws.proofs.Divisions.{allowed, table-room}
+use Rattle.reference_laws.proofs.Divisions.{fits}
 use borrow.Author.Needs.{needs}
 use Rattle.das_dennis_main.proofs.counted.Statement.{statement}
 use Rattle.das_dennis_main.proofs.counted.Tie as tie
@@ -36,8 +36,8 @@ slice-aggregate-das-dennis c = refl
 das-dennis-requires : tie.Need-das-dennis-requires
 das-dennis-requires c κs =
     let a = c .before .before .before .before .before .before .before .args in
-    let w = allowed (a .m) (a .h) (sym (c .before .before .bad-divisions .ensures) ∙ c .before .if1 .left) in
-    ((omega arith, omega arith, omega arith, omega arith), table-room (a .m) (a .h) (omega arith) w)
+    let w = fits (a .m) (a .h) (omega arith) (c .before .before .bad-divisions .ensures) (c .before .if1 .left) in
+    ((omega arith, omega arith, w .0, w .1), w .2)
 
 slice-aggregate-number-3 : tie.Need-slice-aggregate-number-3
 slice-aggregate-number-3 c = refl
@@ -45,7 +45,7 @@ slice-aggregate-number-3 c = refl
 point-count-requires : tie.Need-point-count-requires
 point-count-requires c κs =
     let a = c .before .before .before .before .before .before .before .before .before .before .args in
-    let w = allowed (a .m) (a .h) (sym (c .before .before .before .before .before .bad-divisions .ensures) ∙ c .before .before .before .before .if1 .left) in
+    let w = fits (a .m) (a .h) (omega arith) (c .before .before .before .before .before .bad-divisions .ensures) (c .before .before .before .before .if1 .left) in
     omega arith
 
 number-requires-3 : tie.Need-number-requires-3

@@ -1,7 +1,7 @@
 -- a line is drawn, a member of it chosen, and the three arrays are moved on
 use mathlib.Core.Path.{refl}
 use lib.ListN.{length-set}
-use Rattle.niching_array_laws.proofs.Picking.{ready-open, member-waited, member-line, picked-at}
+use Rattle.niching_array_laws.proofs.Picking.{ready-open, open-some, member-waited, member-line, picked-at}
 use native.Mathlib.Omega.{arith}
 use Rattle.niching.proofs.pick.Statement.{statement}
 use Rattle.niching.proofs.pick.Tie as tie
@@ -23,9 +23,10 @@ slice-read-waiting c = omega arith
 
 choose-member-requires : tie.Need-choose-member-requires
 choose-member-requires c κs =
-    let h = c .before .before .before .before .before .before .before .before .before .before .before .before .before .pre in
+    let s = c .before .before .before .before .before .before .before .before .before .before .before .before .before in
+    let h = s .pre in
     let l = c .before .before .before .before .choose-line in
-    (h .listed, h .measured, h .waiting (l .result .value), l .ensures .0 .some)
+    (h .listed, h .measured, h .waiting (l .result .value), open-some (s .args .waits .now) (s .args .n) (l .result .value) (l .ensures .0))
 
 -- the function's entry and the call that chose the line, seen from where the arrays are written
 abbrev entry : tie.After-rng2 → tie.Start
@@ -44,7 +45,7 @@ slice-write-counts : tie.Need-slice-write-counts
 slice-write-counts c = omega arith
 
 sub-waits : tie.Need-sub-waits
-sub-waits c = omega arith
+sub-waits c = let l = line c .choose-line in omega (arith, open-some (entry c .args .waits .now) (entry c .args .n) (l .result .value) (l .ensures .0))
 
 mul-waits : tie.Need-mul-waits
 mul-waits c = omega (arith, line c .choose-line .ensures .0 .below, entry c .pre .counted, entry c .good)
@@ -79,9 +80,9 @@ returns c =
       place = m .result .value;
       line = l .result .value;
       inside = m .ensures .0 .below;
-      waited = member-waited (m .ensures .0);
+      waited = member-waited (a .front .now) (a .lines .now) (a .taken .now) (l .result .value) (m .result .value) (m .ensures .0);
       plan = refl;
-      onLine = member-line (m .ensures .0);
+      onLine = member-line (a .front .now) (a .lines .now) (a .taken .now) (l .result .value) (m .result .value) (m .ensures .0);
       lineInside = l .ensures .0 .below;
       counted = refl;
       awaited = refl;

@@ -1,6 +1,6 @@
 -- at count 0 the nearest, else the k-th, k drawn
 use lib.ListN.{length}
-use Rattle.niching_array_laws.specs.Niche.{planAt, distanceIn, waitsOn, places}
+use Rattle.niching_array_laws.specs.Niche.{memberAt, distanceIn, waitsOn, places}
 use Rattle.rng_util.proofs.Draws.{drawn-below}
 use Rattle.niching_array_laws.proofs.Choosing.{member-nearest, member-drawn}
 use borrow.Author.Needs.{needs}
@@ -19,7 +19,7 @@ returns c =
     let a = c .before .before .before .before .before .before .before in
     let p = places (a .args .front .now) (a .args .lines .now) (a .args .taken .now) (a .args .l) in (
       c .nearest-member .ensures .0,
-      member-nearest (distanceIn (a .args .distances .now)) (planAt (a .args .front .now)) p (a .args .count) (c .nearest-member .result) (a .args .rng .s)
+      member-nearest (distanceIn (a .args .distances .now)) (memberAt (a .args .front .now)) p (a .args .count) (c .nearest-member .result) (a .args .rng .s)
           (c .before .before .if1 .taken) (omega (arith, a .pre .2, a .pre .3)) (c .nearest-member .ensures .1),
     )
 
@@ -37,8 +37,8 @@ returns-2 c =
     let f = waitsOn (a .args .front .now) (a .args .lines .now) (a .args .taken .now) (a .args .l) in
     let d = c .before .before .draw-usize in
     let h = c .nth-member2 .ensures in (
-      record { below = h .below; waits = h .passes },
-      member-drawn (distanceIn (a .args .distances .now)) (planAt (a .args .front .now)) f (length (a .args .front .now)) (a .args .count) (a .args .waiting)
+      h .one,
+      member-drawn (distanceIn (a .args .distances .now)) (memberAt (a .args .front .now)) f (length (a .args .front .now)) (a .args .count) (a .args .waiting)
           (d .result .value) (c .nth-member2 .result) (a .args .rng .s) (d .result .rng .s) (c .before .before .before .if1 .left)
           (a .pre .2) (a .pre .3) (d .ensures) h,
     )

@@ -18,13 +18,13 @@ abbrev μ-loop : tie.MeasureT-loop
 μ-loop front lines distances taken l first best₀ i₀ best i = length front - i
 
 add-i : tie.Need-add-i Inv-loop μ-loop
-add-i c = let a = c .before .before .before .before in omega (arith, a .pre .2 .below, a .good)
+add-i c = let a = c .before .before .before .before in omega (arith, a .pre .2 .one .below, a .good)
 
 loop-holds : tie.Need-loop-holds Inv-loop μ-loop
-loop-holds c = let a = c .before .before .before .before in (omega (arith, a .pre .2 .below), nearest-first _ _ _ _ (a .pre .2))
+loop-holds c = let a = c .before .before .before .before in (omega (arith, a .pre .2 .one .below), nearest-first _ _ _ _ (a .pre .2))
 
 nearer-requires : tie.Need-nearer-requires Inv-loop μ-loop
-nearer-requires c κs = let a = c .before .before .before .before .before .before in (a .pre .0, a .pre .1, c .before .loop .inv .1 .below, c .loop-test .taken)
+nearer-requires c κs = let a = c .before .before .before .before .before .before in (a .pre .0, a .pre .1, c .before .loop .inv .1 .one .below, c .loop-test .taken)
 
 add-i-2 : tie.Need-add-i-2 Inv-loop μ-loop
 add-i-2 c = let a = c .before .before .before .before .before .before .before in omega (arith, a .good)
@@ -43,10 +43,8 @@ returns c =
     let l = c .before .loop in
     let a = c .before .before .before .before .before .before .args in
     let e : l .i ≡ length (a .front .now) = omega arith in
-    let f = waitsOn (a .front .now) (a .lines .now) (a .taken .now) (a .l) in (
-      record { below = l .inv .1 .below; waits = l .inv .1 .passes },
-      l .inv .1 .least ∙ ap (λ t. nearest (placeDistance (a .front .now) (a .distances .now)) (keepBelow f t)) e,
-    )
+    let f = waitsOn (a .front .now) (a .lines .now) (a .taken .now) (a .l) in
+    (l .inv .1 .one, l .inv .1 .least ∙ ap (λ t. nearest (placeDistance (a .front .now) (a .distances .now)) (keepBelow f t)) e)
 
 pub nearest-member-spec : {M : Type 1} → statement M
 nearest-member-spec =

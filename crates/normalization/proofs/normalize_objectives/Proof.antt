@@ -4,9 +4,9 @@ use mathlib.Core.Path.{_≡_, refl, _∙_}
 use native.Mathlib.Omega.{arith}
 use lib.ListN.{length}
 use Rattle.model.specs.Lists.{over}
-use Rattle.association_laws.specs.Flat.{normalAt, flatRows}
-use Rattle.list_laws.proofs.Rows.{row-inside, row-within}
-use Rattle.association_laws.proofs.Places.{rows-none, rows-more}
+use Rattle.list_laws.specs.Rows.{flatRows}
+use Rattle.list_laws.proofs.Rows.{row-inside, row-within, rows-none, rows-more}
+use Rattle.association_laws.specs.Flat.{normalAt}
 use Rattle.normalization.proofs.normalize_objectives.Statement.{statement}
 use Rattle.normalization.proofs.normalize_objectives.Tie as tie
 

@@ -9,7 +9,7 @@ use Rattle.model.specs.Lists.{listBelow, over}
 use Rattle.model.specs.Association.{leastFrom}
 use Rattle.list_laws.proofs.Built.{over-none, over-set}
 use Rattle.association_laws.specs.Flat.{column, leastAt}
-use Rattle.association_laws.proofs.Places.{over-next}
+use Rattle.list_laws.proofs.Runs.{over-next}
 use Rattle.normalization.proofs.update_ideal_point.Statement.{statement}
 use Rattle.normalization.proofs.update_ideal_point.Tie as tie
 
