@@ -9,7 +9,6 @@ include!("common.rs");
 use std::hint::black_box;
 use std::ops::Range;
 
-use answers::Step;
 use mix::Mix;
 use multi_objective::MultiObjectiveSampler;
 use param::ParamValue;
@@ -17,6 +16,7 @@ use plans::{choices, float, int, setting_words};
 use sampler::nsga3::Nsga3Sampler;
 use sampler::{genetic, nsga3};
 use session::Session;
+use words::bits;
 
 const STEP_ROUNDS: usize = 40;
 const SESSION_ROUNDS: usize = 20;
@@ -53,8 +53,8 @@ fn pool(n: usize, m: usize, mix: &mut Mix) -> Vec<Plan> {
 
 /// Where both hand out the same kept list, offspring, ideal and state: the
 /// number of fronts, and whether one is split.
-fn agree(call: &Step) -> Option<(usize, bool)> {
-    let mut ours = Proved::of(&call.selection, &call.dimensions, OPERATORS);
+fn agree(call: &Call) -> Option<(usize, bool)> {
+    let mut ours = Proved::of(call);
     let code = ours.step();
     let theirs = answers::step(call);
     let settings = theirs.offspring.iter().flatten();
@@ -69,22 +69,9 @@ fn agree(call: &Step) -> Option<(usize, bool)> {
 
 /// Times a step and prints its row; answers whether the two agree.
 fn compared(pool: &[Plan], size: usize, divisions: usize) -> bool {
-    let [probability, crossover_eta, mutation_eta] = OPERATORS;
-    let call = Step {
-        selection: Selection {
-            short: false,
-            marks: vec![0, 1, 0],
-            divisions: divisions as u64,
-            size: size as u64,
-            state: 7,
-            ideal: vec![f64::INFINITY; 3],
-            pool: pool.to_vec(),
-        },
-        probability,
-        crossover_eta,
-        mutation_eta,
-        dimensions: dimensions(),
-    };
+    let mut call = Call::new(3, divisions as u64, size as u64, 7, pool.to_vec());
+    call.marks = vec![0, 1, 0];
+    call.dimensions = dimensions();
     let (n, split) = (pool.len(), size < pool.len());
     let fronts = match agree(&call) {
         Some((fronts, found)) if found == split => fronts,
@@ -96,7 +83,7 @@ fn compared(pool: &[Plan], size: usize, divisions: usize) -> bool {
     let proved = |ours: &mut Proved| {
         black_box(ours.step());
     };
-    let [ours, theirs] = timed(&call.selection, &call.dimensions, STEP_ROUNDS, proved, |state, population, directions| {
+    let [ours, theirs] = timed(&call, STEP_ROUNDS, proved, |state, population, directions| {
         black_box(nsga3::nsga3_generate_offspring(state, population, directions));
     });
     let lines = genetic::das_dennis(3, divisions).len();
@@ -135,7 +122,7 @@ enum Work {
 }
 
 /// One call: the plan, its dimension, and which records are handed in.
-struct Call {
+struct Asked {
     plan: u64,
     dimension: usize,
     history: Range<usize>,
@@ -145,7 +132,7 @@ struct Call {
 /// Plan 0 finds the dimensions. The others ask for all their settings one
 /// plan after the other; a plan's record is there once it has them. The
 /// history has all records so far, or those of the generation.
-fn calls(whole: bool) -> Vec<Call> {
+fn calls(whole: bool) -> Vec<Asked> {
     let count = dimensions().len();
     let mut calls = vec![];
     for plan in 0..=GENERATIONS * SIZE {
@@ -160,7 +147,7 @@ fn calls(whole: bool) -> Vec<Call> {
             // A call that breeds needs the generation before.
             let needed = plan.saturating_sub(1) / SIZE - first as u64;
             let from = if whole || plan == 0 { 0 } else { needed * SIZE + 1 };
-            calls.push(Call {
+            calls.push(Asked {
                 plan,
                 dimension,
                 history: from as usize..plan as usize,
@@ -196,14 +183,14 @@ fn row(m: usize, shares: &[f64]) -> Vec<f64> {
 }
 
 /// A call of the static library: kind and word of the setting.
-fn sample(session: &mut raw::Session, dimensions: &[[u64; 6]], call: &Call, history: &[u64]) -> Result<[u64; 2], u64> {
+fn sample(session: &mut raw::Session, dimensions: &[[u64; 6]], call: &Asked, history: &[u64]) -> Result<[u64; 2], u64> {
     let history = &history[call.history.start * raw::PLAN_WORDS..call.history.end * raw::PLAN_WORDS];
     session.sample(&dimensions[call.dimension], call.plan, history, raw::CANDIDATE_WORDS)
 }
 
 /// The records that a session's plans get, where after every call answer,
 /// generator, generation and number of plans are the same.
-fn records(opening: &Opening, calls: &[Call]) -> Option<Vec<Plan>> {
+fn records(opening: &Opening, calls: &[Asked]) -> Option<Vec<Plan>> {
     let dimensions = dimensions();
     let words: Vec<[u64; 6]> = dimensions.iter().map(dimension_words).collect();
     let mut ours = open(opening, raw::SESSION_WORDS).ok()?;
@@ -237,7 +224,7 @@ fn records(opening: &Opening, calls: &[Call]) -> Option<Vec<Plan>> {
 }
 
 /// One round: ns of each stretch of calls with the same work, kept where it is the least so far.
-fn round(stretches: &[&[Call]], least: &mut [f64], mut sample: impl FnMut(&Call)) {
+fn round(stretches: &[&[Asked]], least: &mut [f64], mut sample: impl FnMut(&Asked)) {
     for (stretch, least) in stretches.iter().zip(least) {
         *least = least.min(ns(|| stretch.iter().for_each(&mut sample)));
     }
@@ -252,7 +239,7 @@ fn rust_session(opening: &Opening) -> (Nsga3Sampler, Vec<Direction>) {
 
 /// Times a session whose answers agreed. Both sides' ns for each stretch, or
 /// none where a timed round ends elsewhere than the other side's.
-fn timed_session(opening: &Opening, stretches: &[&[Call]], records: &[Plan]) -> Option<[Vec<f64>; 2]> {
+fn timed_session(opening: &Opening, stretches: &[&[Asked]], records: &[Plan]) -> Option<[Vec<f64>; 2]> {
     let dimensions = dimensions();
     let trials: Vec<MultiObjectiveTrial> = records.iter().map(Plan::trial).collect();
     let history = laid_out(records);
@@ -278,8 +265,8 @@ fn timed_session(opening: &Opening, stretches: &[&[Call]], records: &[Plan]) -> 
 }
 
 /// Prints the average of the calls with one of these works.
-fn averages(name: String, stretches: &[&[Call]], least: &[Vec<f64>; 2], works: &[Work]) {
-    let chosen = |s: &&[Call]| works.contains(&s[0].work);
+fn averages(name: String, stretches: &[&[Asked]], least: &[Vec<f64>; 2], works: &[Work]) {
+    let chosen = |s: &&[Asked]| works.contains(&s[0].work);
     let calls: usize = stretches.iter().filter(|s| chosen(s)).map(|s| s.len()).sum();
     let [ours, theirs] = least.each_ref().map(|times| {
         let times = stretches.iter().zip(times).filter(|(s, _)| chosen(s));
@@ -290,19 +277,9 @@ fn averages(name: String, stretches: &[&[Call]], least: &[Vec<f64>; 2], works: &
 
 /// Times a session and prints its rows; answers whether the two agree.
 fn compared_session(m: usize, whole: bool) -> bool {
-    let [probability, crossover_eta, mutation_eta] = OPERATORS;
-    let opening = Opening {
-        short: false,
-        marks: vec![0; m],
-        size: Some(SIZE),
-        divisions: None,
-        probability,
-        crossover_eta,
-        mutation_eta,
-        seed: 7,
-    };
+    let opening = Opening::new(m, Some(SIZE), None, 7);
     let calls = calls(whole);
-    let stretches: Vec<&[Call]> = calls.chunk_by(|a, b| a.work == b.work).collect();
+    let stretches: Vec<&[Asked]> = calls.chunk_by(|a, b| a.work == b.work).collect();
     let agreed = records(&opening, &calls);
     let timed = agreed.and_then(|records| timed_session(&opening, &stretches, &records));
     let history = if whole { "all records" } else { "its generation" };

@@ -38,7 +38,7 @@ mod types;
 #[path = "../target/oracle/src/words.rs"]
 mod words;
 
-use answers::Selection;
+use answers::Call;
 use distribution::Distribution;
 use multi_objective::MultiObjectiveTrial;
 use plans::Plan;
@@ -47,9 +47,6 @@ use session::Opening;
 use timing::ns;
 use types::Direction;
 use words::{of_int, of_real};
-
-/// The sampler's own defaults: the probability of crossover, its eta and that of mutation.
-const OPERATORS: raw::Operators = [1.0, 30.0, 20.0];
 
 fn laid_out(plans: &[Plan]) -> Vec<u64> {
     let words = |plan: &Plan| {
@@ -71,10 +68,6 @@ fn dimension_words(dimension: &Distribution) -> [u64; raw::DIMENSION_WORDS] {
         }
         Distribution::Categorical(d) => [2, d.n_choices as u64, 0, 0, 0, 0],
     }
-}
-
-fn bits(reals: &[f64]) -> Vec<u64> {
-    reals.iter().map(|x| x.to_bits()).collect()
 }
 
 fn direction_bytes(marks: &[u64]) -> Vec<u8> {
@@ -99,7 +92,7 @@ struct Proved {
 }
 
 impl Proved {
-    fn of(call: &Selection, dimensions: &[Distribution], operators: raw::Operators) -> Self {
+    fn of(call: &Call) -> Self {
         let n = call.pool.len();
         // A greater size is refused.
         let room = call.size.min(2048) as usize;
@@ -108,14 +101,14 @@ impl Proved {
             directions: direction_bytes(&call.marks),
             divisions: call.divisions as usize,
             size: call.size as usize,
-            dimensions: dimensions.iter().flat_map(dimension_words).collect(),
-            operators,
+            dimensions: call.dimensions.iter().flat_map(dimension_words).collect(),
+            operators: [call.probability, call.crossover_eta, call.mutation_eta],
             state: call.state,
             ideal: call.ideal.clone(),
             kept: vec![0; room],
             fronts: vec![0; n],
             lines: vec![0; n],
-            offspring: vec![0; room * dimensions.len()],
+            offspring: vec![0; room * call.dimensions.len()],
             n_kept: 0,
         }
     }
@@ -163,26 +156,24 @@ fn report(session: &raw::Session) -> [u64; 3] {
 /// The Rust's state before a selection or step, with its population and directions, and that of the static library.
 type Both<'a> = (&'a mut Nsga3State, &'a [&'a MultiObjectiveTrial], &'a [Direction], &'a mut Proved);
 
-fn with_both<T>(call: &Selection, dimensions: &[Distribution], run: impl FnOnce(Both) -> T) -> T {
+fn with_both<T>(call: &Call, run: impl FnOnce(Both) -> T) -> T {
     let trials: Vec<MultiObjectiveTrial> = call.pool.iter().map(Plan::trial).collect();
     let population: Vec<&MultiObjectiveTrial> = trials.iter().collect();
-    let [probability, crossover_eta, mutation_eta] = OPERATORS;
-    let sampler = session::sampler(None, None, probability, crossover_eta, mutation_eta, call.state);
+    let sampler = session::sampler(None, None, call.probability, call.crossover_eta, call.mutation_eta, call.state);
     let mut state = sampler.state.lock();
-    answers::prepare(&mut state, call, dimensions);
-    let mut proved = Proved::of(call, dimensions, OPERATORS);
+    answers::prepare(&mut state, call);
+    let mut proved = Proved::of(call);
     run((&mut state, &population, &plans::directions(&call.marks), &mut proved))
 }
 
 /// ns of the static library's call and of the Rust's, which are made by turns: each the least of the rounds.
 fn timed(
-    call: &Selection,
-    dimensions: &[Distribution],
+    call: &Call,
     rounds: usize,
     proved: impl Fn(&mut Proved),
     rust: impl Fn(&mut Nsga3State, &[&MultiObjectiveTrial], &[Direction]),
 ) -> [f64; 2] {
-    with_both(call, dimensions, |(state, population, directions, ours)| {
+    with_both(call, |(state, population, directions, ours)| {
         let mut least = [f64::INFINITY; 2];
         for _ in 0..rounds {
             ours.state = call.state;

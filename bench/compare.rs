@@ -10,15 +10,16 @@ include!("common.rs");
 #[path = "../target/oracle/src/inputs/mod.rs"]
 mod inputs;
 
-use answers::Step;
-use words::Reader;
+use answers::{SELECT, STEP};
+use words::{Reader, push_reals};
 
 /// The static library's answer, or none where the command is another.
 fn answer(input: &[u64]) -> Result<Option<Vec<u64>>, String> {
     let mut reader = Reader::new(input);
-    Ok(match reader.number()? {
-        70 => Some(select(&Selection::read(&mut reader)?)),
-        87 => Some(step(&Step::read(&mut reader)?)),
+    let command = reader.number()?;
+    Ok(match command {
+        SELECT => Some(select(&Call::read(command, &mut reader)?)),
+        STEP => Some(step(&Call::read(command, &mut reader)?)),
         90 => Some(session(&mut reader)?),
         _ => None,
     })
@@ -28,8 +29,16 @@ fn push_all(out: &mut Vec<u64>, list: &[usize]) {
     out.extend(list.iter().map(|&k| k as u64));
 }
 
-fn select(call: &Selection) -> Vec<u64> {
-    let mut ours = Proved::of(call, &[], OPERATORS);
+/// A word a setting, plan after plan: each with the kind of its dimension in front.
+fn push_settings(out: &mut Vec<u64>, dimensions: &[u64], settings: &[u64]) {
+    let kinds = dimensions.iter().step_by(raw::DIMENSION_WORDS).cycle();
+    for (&kind, &word) in kinds.zip(settings) {
+        out.extend([kind, word]);
+    }
+}
+
+fn select(call: &Call) -> Vec<u64> {
+    let mut ours = Proved::of(call);
     if call.short {
         ours.kept.pop();
     }
@@ -41,15 +50,14 @@ fn select(call: &Selection) -> Vec<u64> {
     push_all(&mut out, &ours.kept);
     push_all(&mut out, &ours.fronts);
     push_all(&mut out, &ours.lines);
-    out.extend(ours.ideal.iter().map(|&z| of_real(z)));
+    push_reals(&mut out, &ours.ideal);
     out.push(ours.state);
     out
 }
 
-fn step(call: &Step) -> Vec<u64> {
-    let operators = [call.probability, call.crossover_eta, call.mutation_eta];
-    let mut ours = Proved::of(&call.selection, &call.dimensions, operators);
-    if call.selection.short {
+fn step(call: &Call) -> Vec<u64> {
+    let mut ours = Proved::of(call);
+    if call.short {
         // A step without dimensions hands out no setting: its kept list is what is cut short.
         if ours.offspring.pop().is_none() {
             ours.kept.pop();
@@ -61,12 +69,9 @@ fn step(call: &Step) -> Vec<u64> {
     }
     let mut out = vec![0, ours.n_kept as u64];
     push_all(&mut out, &ours.kept[..ours.n_kept]);
-    out.extend(ours.ideal.iter().map(|&z| of_real(z)));
+    push_reals(&mut out, &ours.ideal);
     out.push(ours.size as u64);
-    let kinds = ours.dimensions.iter().step_by(raw::DIMENSION_WORDS).cycle();
-    for (&kind, &word) in kinds.zip(&ours.offspring) {
-        out.extend([kind, word]);
-    }
+    push_settings(&mut out, &ours.dimensions, &ours.offspring);
     out.push(ours.state);
     out
 }
@@ -123,10 +128,7 @@ fn push_whole(out: &mut Vec<u64>, session: &raw::Session) {
     }
     let candidates = words[raw::SESSION_CANDIDATE_COUNT];
     out.push(candidates);
-    let kinds = dimensions.iter().step_by(raw::DIMENSION_WORDS).cycle();
-    for (&kind, &word) in kinds.zip(&session.candidates()[..candidates as usize * n]) {
-        out.extend([kind, word]);
-    }
+    push_settings(out, dimensions, &session.candidates()[..candidates as usize * n]);
     let m = if active { words[raw::SESSION_OBJECTIVES] } else { 0 };
     out.push(m);
     out.extend(&words[raw::SESSION_IDEAL..][..m as usize]);

@@ -12,6 +12,7 @@ use std::hint::black_box;
 
 use mix::Mix;
 use sampler::{genetic, nsga3};
+use words::bits;
 
 const ROUNDS: usize = 60;
 /// Plans of a front, where there are many.
@@ -31,24 +32,17 @@ fn pool(n: usize, m: usize, many: bool, mix: &mut Mix) -> Vec<Plan> {
 }
 
 /// A selection of some more than half of the pool, so that a front is split.
-fn selection(n: usize, m: usize, many: bool, mix: &mut Mix) -> Selection {
+fn selection(n: usize, m: usize, many: bool, mix: &mut Mix) -> Call {
     let size = n / 2 + FRONT / 2;
-    Selection {
-        short: false,
-        marks: vec![0; m],
-        divisions: genetic::auto_divisions(m, size) as u64,
-        size: size as u64,
-        state: 7,
-        ideal: vec![f64::INFINITY; m],
-        pool: pool(n, m, many, mix),
-    }
+    let divisions = genetic::auto_divisions(m, size) as u64;
+    Call::new(m, divisions, size as u64, 7, pool(n, m, many, mix))
 }
 
 /// Whether both hand out the same kept list, fronts, lines, ideal and state.
-fn agree(call: &Selection) -> bool {
-    let mut ours = Proved::of(call, &[], OPERATORS);
+fn agree(call: &Call) -> bool {
+    let mut ours = Proved::of(call);
     let code = ours.select();
-    let theirs = answers::select(call, &[]);
+    let theirs = answers::select(call);
     let lines: Vec<u64> = ours.lines.iter().map(|&line| line as u64).collect();
     code == 0
         && ours.kept == theirs.list
@@ -69,11 +63,11 @@ fn rust_select(state: &mut Nsga3State, population: &[&MultiObjectiveTrial], dire
 /// Times a selection and prints its row; answers whether the two agree.
 fn compared(n: usize, m: usize, many: bool, mix: &mut Mix) -> bool {
     let call = selection(n, m, many, mix);
-    if call.refused().is_some() || !agree(&call) {
+    if call.refused(answers::SELECT).is_some() || !agree(&call) {
         println!("N {n}, m {m}, many fronts {many}: the answers differ");
         return false;
     }
-    let [ours, theirs] = timed(&call, &[], ROUNDS, proved_select, rust_select);
+    let [ours, theirs] = timed(&call, ROUNDS, proved_select, rust_select);
     let divisions = call.divisions as usize;
     let table = || drop(black_box(genetic::das_dennis(m, black_box(divisions))));
     let table = (0..ROUNDS).map(|_| ns(table)).fold(f64::INFINITY, f64::min);
@@ -88,7 +82,7 @@ fn compared(n: usize, m: usize, many: bool, mix: &mut Mix) -> bool {
 /// One selection by one side.
 fn one(side: &str, n: usize, m: usize) {
     let call = selection(n, m, true, &mut Mix(1));
-    with_both(&call, &[], |(state, population, directions, ours)| match side {
+    with_both(&call, |(state, population, directions, ours)| match side {
         "proved" => proved_select(ours),
         "rust" => rust_select(state, population, directions),
         _ => panic!("the sides are proved and rust"),

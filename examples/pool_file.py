@@ -1,4 +1,4 @@
-"""The form of a pool file, for scripts that write some."""
+"""The form of a pool file, for scripts that write some, and document 01's pool."""
 
 import struct
 
@@ -13,8 +13,13 @@ def number(n):
     return bytes(out)
 
 
+def bits(x):
+    """A real as the number that its bits form."""
+    return struct.unpack("<Q", struct.pack("<d", x))[0]
+
+
 def real(x):
-    return number(struct.unpack("<Q", struct.pack("<d", x))[0])
+    return number(bits(x))
 
 
 def pool(divisions, size, seed, marks, plans):
@@ -23,3 +28,8 @@ def pool(divisions, size, seed, marks, plans):
     for row, constraints in plans:
         out += b"".join(map(real, row)) + number(len(constraints)) + b"".join(map(real, constraints))
     return out
+
+
+# document 01's three plans
+ROWS = [(0.0, 0.0), (1.0, 3.0), (4.0, 1.0)]
+PAPER = pool(1, 2, 5, [0, 0], [(row, []) for row in ROWS])

@@ -1,13 +1,15 @@
 /* Locustdomino: which plans of a pool to keep (NSGA-III), the next plans to try, and sessions that ask for settings one by one.
  *
  * Link with the archive that `rt staticlib locustdomino` writes. Each call is proved to do what its definition says
- * (crates/model/specs/Calls.antt). A slice is a pointer and a number of entries.
+ * (crates/model/specs/Calls.antt). A slice is a pointer and a number of entries. size_t must have 64 bits.
  *
  * What every call asks of its caller:
  *   - a pointer is aligned and points to as many entries as its length says, and is not null, also where that length is 0;
  *   - what is lent for writing overlaps nothing else that is passed;
- *   - about 2 MB of stack are free. Measured on x86-64: locustdomino_sample that breeds 1.66 MB (the words of the plans bred from
- *     are 1,015,808 bytes of it), locustdomino_choose 1.3, locustdomino_generate_offspring 0.61, locustdomino_select 0.24.
+ *   - about 2 MB of stack are free. Measured on x86-64: locustdomino_sample 1.66 MB where it breeds and 1.05 elsewhere (the words
+ *     of the plans bred from are 1,015,808 bytes of it), locustdomino_choose 1.3, locustdomino_generate_offspring 0.61,
+ *     locustdomino_select 0.24. The pages are touched one by one, so that a call with too little left meets the stack's guard
+ *     page, where there is one.
  * What every call answers: LOCUSTDOMINO_ACCEPTED, or the number of the first refusal that applies. A refused call writes
  * nothing, and leaves the generator where it was.
  *
@@ -17,6 +19,9 @@
 
 #include <stddef.h>
 #include <stdint.h>
+
+/* An array of a negative length where size_t has not 64 bits. */
+typedef char locustdomino_size_t_has_64_bits[sizeof(size_t) == sizeof(uint64_t) ? 1 : -1];
 
 #ifdef __cplusplus
 extern "C" {
@@ -31,7 +36,8 @@ enum {
     LOCUSTDOMINO_BAD_OPERATORS = 5,  /* an eta is no whole number 0 to 99, or the probability is not within 0..1 */
     LOCUSTDOMINO_BAD_DIMENSION = 6,  /* a dimension is not valid, or is the 33rd */
     LOCUSTDOMINO_BAD_COUNT = 7,      /* a pool is empty or above 1,024 plans, or a history is above 4,096 */
-    LOCUSTDOMINO_BAD_PLAN = 8,       /* a plan's row, constraints or the ideal: a wrong length, a NaN, or beyond 2^1000 */
+    LOCUSTDOMINO_BAD_PLAN = 8,       /* a plan's row, constraints or the ideal: a wrong length, a NaN, or beyond 2^1000 (but the
+                                        ideal's plus infinity, which passes) */
     LOCUSTDOMINO_BAD_PARENT = 9,     /* a plan to be bred from has settings that do not fit its dimensions */
     LOCUSTDOMINO_NO_ROOM = 10,       /* a lent slice is shorter than the call's full answer */
     LOCUSTDOMINO_FULL = 11           /* a new plan number, and the generation has 2,048 plans */
@@ -70,7 +76,9 @@ enum {
 #define LOCUSTDOMINO_MAX_HISTORY 4096
 
 /* The plans to keep: `kept` gets `size` places in the pool, `fronts` each plan's front and `lines` each plan's reference line.
- * `state` is the generator's, `ideal` the ideal point; both move on. Refusals: 2, 3, 4, 7, 8, 10. */
+ * `state` is the generator's and moves on. `ideal` has as many entries as there are objectives: the least values met so far, as
+ * minimised, and plus infinity where none was met, so at the start; it moves on where a front is split.
+ * Refusals: 2, 3, 4, 7, 8, 10. */
 uint64_t locustdomino_select(
     const uint64_t *pool, size_t pool_words,
     const uint8_t *directions, size_t objectives, /* 0 minimise, 1 maximise */
@@ -82,9 +90,9 @@ uint64_t locustdomino_select(
     size_t *lines, size_t lines_length);
 
 /* A generation step: selects, breeds from what is kept and writes the settings of `size` new plans to `offspring`, plan after
- * plan, a word a setting, of the kind of its dimension. `dimensions` has six words a dimension. `n_kept` gets the length of the
- * kept list: the size; or 0 for a pool of one plan, whose step selects nothing and writes neither kept, fronts nor lines.
- * Refusals: 2 to 10. */
+ * plan, a word a setting, of the kind of its dimension. `dimensions` has six words a dimension; words after the last whole one are
+ * not looked at. `n_kept` gets the length of the kept list: the size; or 0 for a pool of one plan, whose step selects nothing,
+ * leaves the ideal alone and writes neither kept, fronts nor lines. Refusals: 2 to 10. */
 uint64_t locustdomino_generate_offspring(
     const uint64_t *pool, size_t pool_words,
     const uint8_t *directions, size_t objectives,

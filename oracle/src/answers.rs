@@ -11,11 +11,15 @@ use crate::refusals;
 use crate::rng_util;
 use crate::sampler::{common, genetic, nsga3};
 use crate::types::Direction;
-use crate::words::{Reader, of_int, of_real};
+use crate::words::{Reader, bits, of_int, of_real, push_counted_reals, push_reals};
 use crate::{pool_file, session};
 
 /// The mark of a plan without a line.
 pub const NO_LINE: u64 = u64::MAX;
+
+/// The commands of a selection and of a generation step.
+pub const SELECT: u64 = 70;
+pub const STEP: u64 = 87;
 
 pub fn answer(input: &[u64]) -> Result<Vec<u64>, String> {
     let mut reader = Reader::new(input);
@@ -98,10 +102,8 @@ pub fn answer(input: &[u64]) -> Result<Vec<u64>, String> {
         31 => {
             let directions = plans::read_directions(r)?;
             let (x, y) = (r.reals(directions.len())?, r.reals(directions.len())?);
-            let count = r.count()?;
-            let x_constraints = r.reals(count)?;
-            let count = r.count()?;
-            let y_constraints = r.reals(count)?;
+            let x_constraints = r.counted(Reader::real)?;
+            let y_constraints = r.counted(Reader::real)?;
             let (x, y) = (minimize(&x, &directions), minimize(&y, &directions));
             let answer = pareto::constrained_dominates(
                 &x,
@@ -126,8 +128,7 @@ pub fn answer(input: &[u64]) -> Result<Vec<u64>, String> {
             for _ in 0..r.count()? {
                 rows.push(minimize(&r.reals(m)?, &directions));
                 if command == 41 {
-                    let count = r.count()?;
-                    constraints.push(r.reals(count)?);
+                    constraints.push(r.counted(Reader::real)?);
                 }
             }
             let fronts = if command == 40 {
@@ -161,7 +162,9 @@ pub fn answer(input: &[u64]) -> Result<Vec<u64>, String> {
             let points = genetic::das_dennis(m, h);
             // Every coordinate in its place goes into one number.
             let digest = points.iter().flatten().fold(0_u64, |digest, &x| {
-                digest.wrapping_mul(6364136223846793005).wrapping_add(of_real(x))
+                digest
+                    .wrapping_mul(6364136223846793005)
+                    .wrapping_add(of_real(x))
             });
             a.extend([points.len() as u64, digest]);
         }
@@ -175,15 +178,8 @@ pub fn answer(input: &[u64]) -> Result<Vec<u64>, String> {
         }
         53 => {
             let marks = plans::read_marks(r)?;
-            let (size, divisions) = (optional(r)?, optional(r)?);
-            let refused = refusals::lowest(&[
-                (2, refusals::bad_marks(&marks)),
-                (3, size.is_some_and(|s| s > 1024)),
-                (
-                    4,
-                    refusals::bad_opening_divisions(marks.len(), size, divisions),
-                ),
-            ]);
+            let (size, divisions) = (r.optional()?, r.optional()?);
+            let refused = refusals::lowest(&refusals::opening(&marks, size, divisions));
             a.push(refused.unwrap_or(0));
             if refused.is_none() {
                 let sampler = session::sampler(size, divisions, 1.0, 30.0, 20.0, 0);
@@ -217,8 +213,7 @@ pub fn answer(input: &[u64]) -> Result<Vec<u64>, String> {
             if refusals::bad_divisions(m, h as u64) || m > 8 {
                 return Err("too many lines".to_string());
             }
-            let count = r.count()?;
-            let rows = r.list(count, |r| r.reals(m))?;
+            let rows = r.counted(|r| r.reals(m))?;
             let table = genetic::das_dennis(m, h);
             for (line, distance) in nsga3::associate_to_reference_points(&rows, &table) {
                 a.extend([line as u64, of_real(distance)]);
@@ -231,12 +226,12 @@ pub fn answer(input: &[u64]) -> Result<Vec<u64>, String> {
         }
 
         // Kept list
-        70 => {
-            let call = Selection::read(r)?;
-            match call.refused() {
+        SELECT => {
+            let call = Call::read(command, r)?;
+            match call.refused(command) {
                 Some(number) => a.push(number),
                 None => {
-                    let kept = select(&call, &[]);
+                    let kept = select(&call);
                     a.push(0);
                     push_list(&mut a, &kept.list);
                     a.extend(kept.fronts.iter().map(|&front| front as u64));
@@ -309,9 +304,9 @@ pub fn answer(input: &[u64]) -> Result<Vec<u64>, String> {
             let winner = nsga3::tournament_select_rank(&mut rng, &ranks, ranks.len());
             a.extend([winner as u64, rng.s]);
         }
-        87 => {
-            let call = Step::read(r)?;
-            match call.refused() {
+        STEP => {
+            let call = Call::read(command, r)?;
+            match call.refused(command) {
                 Some(number) => a.push(number),
                 None => {
                     let bred = step(&call);
@@ -330,8 +325,7 @@ pub fn answer(input: &[u64]) -> Result<Vec<u64>, String> {
         90 => a = session::answer(r)?,
 
         95 => {
-            let count = r.count()?;
-            let bytes = r.list(count, |r| {
+            let bytes = r.counted(|r| {
                 u8::try_from(r.number()?).map_err(|_| "a byte is above 255".to_string())
             })?;
             let text = pool_file::choose(&bytes);
@@ -352,13 +346,6 @@ fn positive(r: &mut Reader) -> Result<usize, String> {
     }
 }
 
-/// A mark and a number: mark 0 for none.
-pub fn optional(r: &mut Reader) -> Result<Option<u64>, String> {
-    let given = r.flag()?;
-    let number = r.number()?;
-    Ok(given.then_some(number))
-}
-
 fn fit_dimension(r: &mut Reader) -> Result<Distribution, String> {
     let dimension = plans::read_dimension(r)?;
     if refusals::bad_dimension(&dimension) {
@@ -368,12 +355,7 @@ fn fit_dimension(r: &mut Reader) -> Result<Distribution, String> {
 }
 
 fn fit_dimensions(r: &mut Reader) -> Result<Vec<Distribution>, String> {
-    let count = r.count()?;
-    r.list(count, fit_dimension)
-}
-
-fn push_reals(answer: &mut Vec<u64>, reals: &[f64]) {
-    answer.extend(reals.iter().map(|&x| of_real(x)));
+    r.counted(fit_dimension)
 }
 
 fn push_list(answer: &mut Vec<u64>, list: &[usize]) {
@@ -403,8 +385,10 @@ fn normalize(ideal: &mut [f64], rows: &[Vec<f64>]) -> (Vec<f64>, Vec<Vec<f64>>) 
     (intercepts, normalized)
 }
 
-/// The input of a selection.
-pub struct Selection {
+/// The input of a selection or a generation step. A selection has the sampler's
+/// own operators, and no dimensions.
+#[derive(Clone)]
+pub struct Call {
     pub short: bool,
     pub marks: Vec<u64>,
     pub divisions: u64,
@@ -412,53 +396,93 @@ pub struct Selection {
     pub state: u64,
     pub ideal: Vec<f64>,
     pub pool: Vec<Plan>,
+    pub probability: f64,
+    pub crossover_eta: f64,
+    pub mutation_eta: f64,
+    pub dimensions: Vec<Distribution>,
 }
 
-impl Selection {
-    pub fn read(r: &mut Reader) -> Result<Self, String> {
-        let mut call = Self::read_head(r)?;
-        call.read_pool(r)?;
-        Ok(call)
-    }
-
-    fn read_head(r: &mut Reader) -> Result<Self, String> {
-        let short = r.flag()?;
-        let marks = plans::read_marks(r)?;
-        let (divisions, size, state) = (r.number()?, r.number()?, r.number()?);
-        let count = r.count()?;
-        let ideal = r.reals(count)?;
-        Ok(Selection {
-            short,
-            marks,
+impl Call {
+    /// All objectives minimised, the ideal unknown.
+    pub fn new(m: usize, divisions: u64, size: u64, state: u64, pool: Vec<Plan>) -> Self {
+        Call {
+            short: false,
+            marks: vec![0; m],
             divisions,
             size,
             state,
-            ideal,
-            pool: Vec::new(),
-        })
+            ideal: vec![f64::INFINITY; m],
+            pool,
+            probability: 1.0,
+            crossover_eta: 30.0,
+            mutation_eta: 20.0,
+            dimensions: Vec::new(),
+        }
     }
 
-    fn read_pool(&mut self, r: &mut Reader) -> Result<(), String> {
-        let count = r.count()?;
-        self.pool = r.list(count, Plan::read)?;
-        Ok(())
+    pub fn read(command: u64, r: &mut Reader) -> Result<Self, String> {
+        let mut call = Call::new(0, 0, 0, 0, Vec::new());
+        call.short = r.flag()?;
+        call.marks = plans::read_marks(r)?;
+        (call.divisions, call.size, call.state) = (r.number()?, r.number()?, r.number()?);
+        call.ideal = r.counted(Reader::real)?;
+        if command == STEP {
+            call.probability = r.real()?;
+            (call.crossover_eta, call.mutation_eta) = (r.real()?, r.real()?);
+            call.dimensions = plans::read_dimensions(r)?;
+        }
+        call.pool = r.counted(Plan::read)?;
+        Ok(call)
     }
 
-    pub fn conditions(&self) -> Vec<(u64, bool)> {
+    /// The line, with the command in front.
+    pub fn write(&self, command: u64) -> Vec<u64> {
+        let mut line = vec![command, self.short as u64];
+        plans::write_marks(&mut line, &self.marks);
+        line.extend([self.divisions, self.size, self.state]);
+        push_counted_reals(&mut line, &self.ideal);
+        if command == STEP {
+            push_reals(
+                &mut line,
+                &[self.probability, self.crossover_eta, self.mutation_eta],
+            );
+            plans::write_dimensions(&mut line, &self.dimensions);
+        }
+        plans::write_plans(&mut line, &self.pool);
+        line
+    }
+
+    pub fn refused(&self, command: u64) -> Option<u64> {
         let m = self.marks.len();
         let bad_plan = self.pool.iter().any(|plan| refusals::bad_row(plan, m));
-        vec![
+        let mut conditions = vec![
             (2, refusals::bad_marks(&self.marks)),
             (3, refusals::bad_size(self.size)),
             (4, refusals::bad_divisions(m, self.divisions)),
             (7, self.pool.is_empty() || self.pool.len() > 1024),
             (8, bad_plan || refusals::bad_ideal(&self.ideal, m)),
             (10, self.short),
-        ]
-    }
-
-    pub fn refused(&self) -> Option<u64> {
-        refusals::lowest(&self.conditions())
+        ];
+        if command == STEP {
+            let Call {
+                probability,
+                crossover_eta,
+                mutation_eta,
+                ..
+            } = *self;
+            let dimensions = plans::infos(&self.dimensions);
+            let bad_dimension = self.dimensions.iter().any(refusals::bad_dimension);
+            let bad_parent = |plan: &Plan| refusals::bad_settings(plan, &dimensions);
+            conditions.extend([
+                (
+                    5,
+                    refusals::bad_operators(probability, crossover_eta, mutation_eta),
+                ),
+                (6, dimensions.len() > 32 || bad_dimension),
+                (9, self.pool.iter().any(bad_parent)),
+            ]);
+        }
+        refusals::lowest(&conditions)
     }
 }
 
@@ -473,7 +497,7 @@ pub struct Kept {
 
 /// Runs `nsga3_select`. Fronts and lines are not among its answers: the same
 /// functions of the Rust give them for the same pool.
-pub fn select(call: &Selection, dimensions: &[Distribution]) -> Kept {
+pub fn select(call: &Call) -> Kept {
     let directions = plans::directions(&call.marks);
     let m = directions.len();
     let size = call.size as usize;
@@ -482,7 +506,7 @@ pub fn select(call: &Selection, dimensions: &[Distribution]) -> Kept {
 
     let sampler = session::sampler(None, None, 1.0, 30.0, 20.0, call.state);
     let mut state = sampler.state.lock();
-    prepare(&mut state, call, dimensions);
+    prepare(&mut state, call);
     let (_, list) = nsga3::nsga3_select(&mut state, &population, &directions);
 
     let rows: Vec<Vec<f64>> = trials
@@ -520,7 +544,6 @@ pub fn select(call: &Selection, dimensions: &[Distribution]) -> Kept {
             lines[at] = line as u64;
         }
     }
-    let bits = |reals: &[f64]| -> Vec<u64> { reals.iter().map(|x| x.to_bits()).collect() };
     assert_eq!(
         bits(&ideal),
         bits(&state.ideal_point),
@@ -536,62 +559,13 @@ pub fn select(call: &Selection, dimensions: &[Distribution]) -> Kept {
 }
 
 /// Sets a sampler's state up for a selection or generation step; the generator stays.
-pub fn prepare(state: &mut nsga3::Nsga3State, call: &Selection, dimensions: &[Distribution]) {
+pub fn prepare(state: &mut nsga3::Nsga3State, call: &Call) {
     state.evo.population_size = call.size as usize;
     state.evo.phase = genetic::Phase::Active;
-    state.evo.dimensions = plans::infos(dimensions);
+    state.evo.dimensions = plans::infos(&call.dimensions);
     state.reference_points = genetic::das_dennis(call.marks.len(), call.divisions as usize);
     state.ideal_point = call.ideal.clone();
     state.initialized = true;
-}
-
-/// The input of a generation step.
-pub struct Step {
-    pub selection: Selection,
-    pub probability: f64,
-    pub crossover_eta: f64,
-    pub mutation_eta: f64,
-    pub dimensions: Vec<Distribution>,
-}
-
-impl Step {
-    pub fn read(r: &mut Reader) -> Result<Self, String> {
-        let mut selection = Selection::read_head(r)?;
-        let (probability, crossover_eta, mutation_eta) = (r.real()?, r.real()?, r.real()?);
-        let dimensions = plans::read_dimensions(r)?;
-        selection.read_pool(r)?;
-        Ok(Step {
-            selection,
-            probability,
-            crossover_eta,
-            mutation_eta,
-            dimensions,
-        })
-    }
-
-    pub fn refused(&self) -> Option<u64> {
-        let dimensions = plans::infos(&self.dimensions);
-        let pool = &self.selection.pool;
-        let mut conditions = self.selection.conditions();
-        conditions.extend([
-            (
-                5,
-                refusals::bad_eta(self.crossover_eta)
-                    || refusals::bad_eta(self.mutation_eta)
-                    || refusals::bad_probability(self.probability),
-            ),
-            (
-                6,
-                self.dimensions.len() > 32 || self.dimensions.iter().any(refusals::bad_dimension),
-            ),
-            (
-                9,
-                pool.iter()
-                    .any(|plan| refusals::bad_settings(plan, &dimensions)),
-            ),
-        ]);
-        refusals::lowest(&conditions)
-    }
 }
 
 /// What a generation step hands out; a pool of one keeps nothing.
@@ -602,10 +576,9 @@ pub struct Bred {
     pub state: u64,
 }
 
-pub fn step(call: &Step) -> Bred {
-    let selection = &call.selection;
-    let directions = plans::directions(&selection.marks);
-    let trials: Vec<MultiObjectiveTrial> = selection.pool.iter().map(Plan::trial).collect();
+pub fn step(call: &Call) -> Bred {
+    let directions = plans::directions(&call.marks);
+    let trials: Vec<MultiObjectiveTrial> = call.pool.iter().map(Plan::trial).collect();
     let population: Vec<&MultiObjectiveTrial> = trials.iter().collect();
     let sampler = session::sampler(
         None,
@@ -613,16 +586,16 @@ pub fn step(call: &Step) -> Bred {
         call.probability,
         call.crossover_eta,
         call.mutation_eta,
-        selection.state,
+        call.state,
     );
     let mut state = sampler.state.lock();
-    prepare(&mut state, selection, &call.dimensions);
+    prepare(&mut state, call);
     let offspring = nsga3::nsga3_generate_offspring(&mut state, &population, &directions);
     // The step keeps its list to itself: selection from the same pool has it.
     let kept = if population.len() < 2 {
         Vec::new()
     } else {
-        select(selection, &call.dimensions).list
+        select(call).list
     };
     Bred {
         kept,

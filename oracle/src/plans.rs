@@ -11,7 +11,7 @@ use crate::param::ParamValue;
 use crate::parameter::ParamId;
 use crate::sampler::genetic::DimensionInfo;
 use crate::types::{Direction, TrialState};
-use crate::words::{Reader, of_int, of_real, to_int, to_real};
+use crate::words::{Reader, of_int, of_real, push_counted_reals, to_int, to_real};
 
 /// A plan: number, row, constraints, settings (parameter number, kind, value).
 #[derive(Clone, Debug)]
@@ -24,27 +24,18 @@ pub struct Plan {
 
 impl Plan {
     pub fn read(reader: &mut Reader) -> Result<Self, String> {
-        let number = reader.number()?;
-        let count = reader.count()?;
-        let values = reader.reals(count)?;
-        let count = reader.count()?;
-        let constraints = reader.reals(count)?;
-        let count = reader.count()?;
-        let settings = reader.list(count, |r| Ok((r.number()?, r.number()?, r.number()?)))?;
         Ok(Plan {
-            number,
-            values,
-            constraints,
-            settings,
+            number: reader.number()?,
+            values: reader.counted(Reader::real)?,
+            constraints: reader.counted(Reader::real)?,
+            settings: reader.counted(|r| Ok((r.number()?, r.number()?, r.number()?)))?,
         })
     }
 
     pub fn write(&self, line: &mut Vec<u64>) {
         line.push(self.number);
-        line.push(self.values.len() as u64);
-        line.extend(self.values.iter().map(|&v| of_real(v)));
-        line.push(self.constraints.len() as u64);
-        line.extend(self.constraints.iter().map(|&c| of_real(c)));
+        push_counted_reals(line, &self.values);
+        push_counted_reals(line, &self.constraints);
         line.push(self.settings.len() as u64);
         for &(parameter, kind, value) in &self.settings {
             line.extend([parameter, kind, value]);
@@ -79,6 +70,13 @@ impl Plan {
             user_attrs: HashMap::new(),
             constraints: self.constraints.clone(),
         }
+    }
+}
+
+pub fn write_plans(line: &mut Vec<u64>, plans: &[Plan]) {
+    line.push(plans.len() as u64);
+    for plan in plans {
+        plan.write(line);
     }
 }
 
@@ -206,8 +204,14 @@ pub fn choices(n_choices: usize) -> Distribution {
 }
 
 pub fn read_dimensions(reader: &mut Reader) -> Result<Vec<Distribution>, String> {
-    let count = reader.count()?;
-    reader.list(count, read_dimension)
+    reader.counted(read_dimension)
+}
+
+pub fn write_dimensions(line: &mut Vec<u64>, dimensions: &[Distribution]) {
+    line.push(dimensions.len() as u64);
+    for dimension in dimensions {
+        write_dimension(line, dimension);
+    }
 }
 
 pub fn infos(dimensions: &[Distribution]) -> Vec<DimensionInfo> {
@@ -221,8 +225,12 @@ pub fn infos(dimensions: &[Distribution]) -> Vec<DimensionInfo> {
 
 /// m and its direction marks, as they stand.
 pub fn read_marks(reader: &mut Reader) -> Result<Vec<u64>, String> {
-    let m = reader.count()?;
-    reader.list(m, Reader::number)
+    reader.counted(Reader::number)
+}
+
+pub fn write_marks(line: &mut Vec<u64>, marks: &[u64]) {
+    line.push(marks.len() as u64);
+    line.extend(marks);
 }
 
 /// For commands that look at no refusal: the marks have to be 0 or 1.

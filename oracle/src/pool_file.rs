@@ -1,7 +1,7 @@
 //! The pool file and `choose`, read off document 01, around the Rust's
 //! `nsga3_select`.
 
-use crate::answers::{self, NO_LINE, Selection};
+use crate::answers::{self, Call, NO_LINE, SELECT};
 use crate::plans::Plan;
 use crate::words::to_real;
 
@@ -41,7 +41,7 @@ impl Bytes<'_> {
 }
 
 /// The whole form first; what the numbers mean comes later.
-fn parse(file: &[u8]) -> Option<Selection> {
+fn parse(file: &[u8]) -> Option<Call> {
     if file.len() > 65_536 {
         return None;
     }
@@ -68,16 +68,8 @@ fn parse(file: &[u8]) -> Option<Selection> {
     if !bytes.rest.is_empty() {
         return None;
     }
-    let ideal = vec![f64::INFINITY; m as usize];
-    Some(Selection {
-        short: false,
-        marks,
-        divisions,
-        size,
-        state,
-        ideal,
-        pool,
-    })
+    let call = Call::new(marks.len(), divisions, size, state, pool);
+    Some(Call { marks, ..call })
 }
 
 /// The text that `choose` prints for a file.
@@ -85,10 +77,10 @@ pub fn choose(file: &[u8]) -> String {
     let Some(call) = parse(file) else {
         return "refused 1\n".to_string();
     };
-    if let Some(number) = call.refused() {
+    if let Some(number) = call.refused(SELECT) {
         return format!("refused {number}\n");
     }
-    let kept = answers::select(&call, &[]);
+    let kept = answers::select(&call);
     let mut text = format!("plans {} kept {}\n", call.pool.len(), kept.list.len());
     for plan in 0..call.pool.len() {
         let line = match kept.lines[plan] {

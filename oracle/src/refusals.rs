@@ -40,6 +40,11 @@ pub fn automatic(m: usize, target: u64) -> u64 {
         .unwrap_or(12)
 }
 
+/// The most divisions with at most so many lines; 199 at most, and 0 for none.
+pub fn most_divisions(m: usize, most: u128) -> u64 {
+    (1..200).take_while(|&h| lines(m, h) <= most).count() as u64
+}
+
 /// 4: divisions given not 1 to 199, or over 1,024 lines. Only asked of 1 to
 /// 8 objectives, as refusal 2 comes first.
 pub fn bad_divisions(m: usize, divisions: u64) -> bool {
@@ -47,21 +52,30 @@ pub fn bad_divisions(m: usize, divisions: u64) -> bool {
 }
 
 /// 4 at the opening of a session, where size and divisions may be left open.
-pub fn bad_opening_divisions(m: usize, size: Option<u64>, divisions: Option<u64>) -> bool {
+fn bad_opening_divisions(m: usize, size: Option<u64>, divisions: Option<u64>) -> bool {
     match divisions {
         Some(given) => bad_divisions(m, given),
         None => (1..=8).contains(&m) && bad_divisions(m, automatic(m, size.unwrap_or(100))),
     }
 }
 
+/// 2, 3 and 4 at the opening of a session.
+pub fn opening(marks: &[u64], size: Option<u64>, divisions: Option<u64>) -> [(u64, bool); 3] {
+    [
+        (2, bad_marks(marks)),
+        (3, size.is_some_and(|size| size > 1024)),
+        (4, bad_opening_divisions(marks.len(), size, divisions)),
+    ]
+}
+
 /// 5, for one eta.
-pub fn bad_eta(eta: f64) -> bool {
+fn bad_eta(eta: f64) -> bool {
     !(eta >= 0.0 && eta <= 99.0 && eta.floor() == eta)
 }
 
-/// 5, for the crossover probability.
-pub fn bad_probability(probability: f64) -> bool {
-    !(probability >= 0.0 && probability <= 1.0)
+/// 5: an eta or the crossover probability.
+pub fn bad_operators(probability: f64, crossover_eta: f64, mutation_eta: f64) -> bool {
+    bad_eta(crossover_eta) || bad_eta(mutation_eta) || !(probability >= 0.0 && probability <= 1.0)
 }
 
 const TWO_53: f64 = 9007199254740992.0;

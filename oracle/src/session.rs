@@ -1,6 +1,6 @@
 //! Sessions: the sampler's own calls, with document 01's refusals in front.
 
-use crate::answers::{optional, push_settings};
+use crate::answers::push_settings;
 use crate::distribution::Distribution;
 use crate::multi_objective::{MultiObjectiveSampler, MultiObjectiveTrial};
 use crate::param::ParamValue;
@@ -9,7 +9,7 @@ use crate::refusals;
 use crate::sampler::genetic::Phase;
 use crate::sampler::nsga3::Nsga3Sampler;
 use crate::types::Direction;
-use crate::words::{Reader, of_real};
+use crate::words::{Reader, push_counted_reals, push_optional, push_reals};
 
 /// A sampler made by the Rust's own builder.
 pub fn sampler(
@@ -48,12 +48,26 @@ pub struct Opening {
 }
 
 impl Opening {
+    /// All objectives minimised, the sampler's own operators.
+    pub fn new(m: usize, size: Option<u64>, divisions: Option<u64>, seed: u64) -> Self {
+        Opening {
+            short: false,
+            marks: vec![0; m],
+            size,
+            divisions,
+            probability: 1.0,
+            crossover_eta: 30.0,
+            mutation_eta: 20.0,
+            seed,
+        }
+    }
+
     pub fn read(r: &mut Reader) -> Result<Self, String> {
         Ok(Opening {
             short: r.flag()?,
             marks: plans::read_marks(r)?,
-            size: optional(r)?,
-            divisions: optional(r)?,
+            size: r.optional()?,
+            divisions: r.optional()?,
             probability: r.real()?,
             crossover_eta: r.real()?,
             mutation_eta: r.real()?,
@@ -63,14 +77,13 @@ impl Opening {
 
     pub fn write(&self, line: &mut Vec<u64>) {
         line.push(self.short as u64);
-        line.push(self.marks.len() as u64);
-        line.extend(&self.marks);
-        for given in [self.size, self.divisions] {
-            line.extend([given.is_some() as u64, given.unwrap_or(0)]);
-        }
-        for x in [self.probability, self.crossover_eta, self.mutation_eta] {
-            line.push(of_real(x));
-        }
+        plans::write_marks(line, &self.marks);
+        push_optional(line, self.size);
+        push_optional(line, self.divisions);
+        push_reals(
+            line,
+            &[self.probability, self.crossover_eta, self.mutation_eta],
+        );
         line.push(self.seed);
     }
 }
@@ -87,33 +100,29 @@ pub struct Session {
 impl Session {
     /// Opens a session, or gives the refusal.
     pub fn open(opening: &Opening) -> Result<Self, u64> {
-        let m = opening.marks.len();
-        let refused = refusals::lowest(&[
-            (2, refusals::bad_marks(&opening.marks)),
-            (3, opening.size.is_some_and(|size| size > 1024)),
-            (
-                4,
-                refusals::bad_opening_divisions(m, opening.size, opening.divisions),
-            ),
-            (
-                5,
-                refusals::bad_eta(opening.crossover_eta)
-                    || refusals::bad_eta(opening.mutation_eta)
-                    || refusals::bad_probability(opening.probability),
-            ),
-            (10, opening.short),
-        ]);
-        if let Some(number) = refused {
+        let Opening {
+            size,
+            divisions,
+            probability,
+            crossover_eta,
+            mutation_eta,
+            seed,
+            ..
+        } = *opening;
+        let bad_operators = refusals::bad_operators(probability, crossover_eta, mutation_eta);
+        let mut conditions = refusals::opening(&opening.marks, size, divisions).to_vec();
+        conditions.extend([(5, bad_operators), (10, opening.short)]);
+        if let Some(number) = refusals::lowest(&conditions) {
             return Err(number);
         }
         Ok(Session {
             sampler: sampler(
-                opening.size,
-                opening.divisions,
-                opening.probability,
-                opening.crossover_eta,
-                opening.mutation_eta,
-                opening.seed,
+                size,
+                divisions,
+                probability,
+                crossover_eta,
+                mutation_eta,
+                seed,
             ),
             directions: plans::directions(&opening.marks),
             history: Vec::new(),
@@ -168,6 +177,17 @@ impl Session {
             "breeding as document 01 tells it"
         );
         Ok(value)
+    }
+
+    /// A call of a line, as often as it is made, the plan number rising: the
+    /// last one's answer.
+    pub fn calls(&mut self, call: &Call) -> Result<Result<ParamValue, u64>, String> {
+        self.set_history(call.keep, call.copies, &call.records)?;
+        let mut last = Err(0);
+        for at in 0..call.times {
+            last = self.call(&call.distribution, call.plan.wrapping_add(at), call.short);
+        }
+        Ok(last)
     }
 
     /// The refusal, whether the call breeds, and the generation so far.
@@ -234,8 +254,7 @@ impl Session {
         }
         let active = matches!(evo.phase, Phase::Active);
         a.push(active as u64);
-        a.push(evo.discovery_trial_id.is_some() as u64);
-        a.push(evo.discovery_trial_id.unwrap_or(0));
+        push_optional(a, evo.discovery_trial_id);
         a.push(evo.dimensions.len() as u64);
         for dimension in &evo.dimensions {
             plans::write_dimension(a, &dimension.distribution);
@@ -266,8 +285,7 @@ impl Session {
         for candidate in &evo.candidates {
             push_settings(a, &candidate.params);
         }
-        a.push(state.ideal_point.len() as u64);
-        a.extend(state.ideal_point.iter().map(|&z| of_real(z)));
+        push_counted_reals(a, &state.ideal_point);
     }
 }
 
@@ -290,19 +308,24 @@ impl Call {
         if times == 0 {
             return Err("a call is made at least once".to_string());
         }
-        let distribution = plans::read_dimension(r)?;
-        let short = r.flag()?;
-        let (keep, copies, count) = (r.count()?, r.count()?, r.count()?);
         Ok(Call {
             times,
             plan,
-            distribution,
-            short,
-            keep,
-            copies,
-            records: r.list(count, Plan::read)?,
+            distribution: plans::read_dimension(r)?,
+            short: r.flag()?,
+            keep: r.count()?,
+            copies: r.count()?,
+            records: r.counted(Plan::read)?,
             full: r.flag()?,
         })
+    }
+
+    pub fn write(&self, line: &mut Vec<u64>) {
+        line.extend([self.times, self.plan]);
+        plans::write_dimension(line, &self.distribution);
+        line.extend([self.short as u64, self.keep as u64, self.copies as u64]);
+        plans::write_plans(line, &self.records);
+        line.push(self.full as u64);
     }
 }
 
@@ -326,12 +349,7 @@ pub fn answer(r: &mut Reader) -> Result<Vec<u64>, String> {
         let Some(session) = session.as_mut() else {
             continue;
         };
-        session.set_history(call.keep, call.copies, &call.records)?;
-        let mut last = Err(0);
-        for at in 0..call.times {
-            last = session.call(&call.distribution, call.plan.wrapping_add(at), call.short);
-        }
-        match last {
+        match session.calls(&call)? {
             Err(number) => a.push(number),
             Ok(value) => {
                 a.push(0);

@@ -74,6 +74,26 @@ pub fn of_real(x: f64) -> u64 {
     if x.is_nan() { NAN } else { x.to_bits() }
 }
 
+pub fn push_reals(line: &mut Vec<u64>, reals: &[f64]) {
+    line.extend(reals.iter().map(|&x| of_real(x)));
+}
+
+/// The reals after their count.
+pub fn push_counted_reals(line: &mut Vec<u64>, reals: &[f64]) {
+    line.push(reals.len() as u64);
+    push_reals(line, reals);
+}
+
+/// A mark and a number: mark 0 for none.
+pub fn push_optional(line: &mut Vec<u64>, given: Option<u64>) {
+    line.extend([given.is_some() as u64, given.unwrap_or(0)]);
+}
+
+/// The bits of reals, to compare them: a NaN as it is.
+pub fn bits(reals: &[f64]) -> Vec<u64> {
+    reals.iter().map(|x| x.to_bits()).collect()
+}
+
 pub fn to_real(bits: u64) -> f64 {
     let x = f64::from_bits(bits);
     if x.is_nan() { f64::from_bits(NAN) } else { x }
@@ -130,6 +150,13 @@ impl<'a> Reader<'a> {
         }
     }
 
+    /// A mark and a number: mark 0 for none.
+    pub fn optional(&mut self) -> Result<Option<u64>, String> {
+        let given = self.flag()?;
+        let number = self.number()?;
+        Ok(given.then_some(number))
+    }
+
     /// So many items; no memory is set aside before they are there.
     pub fn list<T>(
         &mut self,
@@ -141,6 +168,15 @@ impl<'a> Reader<'a> {
             items.push(item(self)?);
         }
         Ok(items)
+    }
+
+    /// A count and so many items.
+    pub fn counted<T>(
+        &mut self,
+        item: impl Fn(&mut Self) -> Result<T, String>,
+    ) -> Result<Vec<T>, String> {
+        let count = self.count()?;
+        self.list(count, item)
     }
 
     pub fn reals(&mut self, count: usize) -> Result<Vec<f64>, String> {

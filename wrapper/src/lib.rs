@@ -2,6 +2,11 @@
 //! one. The calls themselves are proved; this crate keeps what they ask of a caller.
 //!
 //! A session's words are private here. Only the library writes them, so that they are always such as it asks for.
+//!
+//! A call takes stack: measured on x86-64, [`Session::sample`] 1.66 MB where it breeds and 1.05 elsewhere, [`choose`] 1.3,
+//! [`generate_offspring`] 0.61 and [`select`] 0.24. A thread that Rust starts has 2 MB in all, unless it is given more
+//! ([`std::thread::Builder::stack_size`]). Where too little is left, the process ends, as at any overflow of a stack: the library's
+//! code touches the pages that it takes one by one, so that it meets the guard page.
 
 use std::fmt;
 
@@ -11,8 +16,9 @@ mod raw;
 
 use raw::{DIMENSION_WORDS, PLAN_WORDS, Selecting};
 
-/// The most plans of a selection, of a pool, and the most dimensions.
+/// The most plans of a selection and of a pool.
 pub const MAX_SIZE: usize = 1024;
+/// The most dimensions, and settings of a plan.
 pub const MAX_DIMENSIONS: usize = raw::MAX_SETTINGS;
 /// The most plans of a history.
 pub const MAX_HISTORY: usize = 4096;
@@ -269,17 +275,17 @@ impl fmt::Debug for Plan {
     }
 }
 
-/// The words of plans and of dimensions, one after the other.
-fn plan_words(plans: &[Plan]) -> &[u64] {
-    // SAFETY: `Plan` is a transparent array of words.
-    unsafe { std::slice::from_raw_parts(plans.as_ptr().cast(), plans.len() * PLAN_WORDS) }
-}
+/// What is a transparent array of words, and nothing else.
+trait OfWords {}
 
-fn dimension_words(dimensions: &[Dimension]) -> &[u64] {
-    // SAFETY: `Dimension` is a transparent array of words.
-    unsafe {
-        std::slice::from_raw_parts(dimensions.as_ptr().cast(), dimensions.len() * DIMENSION_WORDS)
-    }
+impl OfWords for Plan {}
+
+impl OfWords for Dimension {}
+
+/// The words of plans or of dimensions, one after the other.
+fn words<T: OfWords>(list: &[T]) -> &[u64] {
+    // SAFETY: the list is arrays of words one after the other: so many words in all.
+    unsafe { std::slice::from_raw_parts(list.as_ptr().cast(), size_of_val(list) / size_of::<u64>()) }
 }
 
 /// The generator: any seed will do.
@@ -382,7 +388,7 @@ impl Room {
         ideal: &'a mut Ideal,
     ) -> Selecting<'a> {
         Selecting {
-            pool: plan_words(pool),
+            pool: words(pool),
             directions: &directions.0,
             divisions,
             size,
@@ -436,7 +442,7 @@ pub fn generate_offspring(
     let mut n_kept = 0;
     Refusal::of(raw::generate_offspring(
         room.lend(pool, directions, divisions, size, rng, ideal),
-        dimension_words(dimensions),
+        words(dimensions),
         operators.raw(),
         &mut offspring,
         &mut n_kept,
@@ -480,7 +486,7 @@ impl Session {
     /// The next setting of a plan. While the first plan asks, each call adds its dimension; afterwards the dimension passed is
     /// ignored. Once the history has the present generation's plans, the next generation is bred.
     pub fn sample(&mut self, dimension: &Dimension, plan: u64, history: &[Plan]) -> Result<Setting, Refusal> {
-        let sampled = self.0.sample(&dimension.0, plan, plan_words(history), raw::CANDIDATE_WORDS);
+        let sampled = self.0.sample(&dimension.0, plan, words(history), raw::CANDIDATE_WORDS);
         sampled.map(|[kind, word]| Setting::of(kind, word)).map_err(Refusal::from_code)
     }
 

@@ -1,5 +1,5 @@
-//! The static library's calls over slices of words, and the sizes and places of `include/locustdomino.h`. A call answers 0 or the
-//! number of the refusal.
+//! The static library's calls over slices of words. A call answers 0 or the number of the refusal. Sizes and places are those of
+//! `include/locustdomino.h`; a session's, which are to be read only, those of `crates/session_words/specs/Coding.antt`.
 
 // bench/ uses what the crate does not.
 #![allow(dead_code)]
@@ -21,7 +21,6 @@ pub const NO_LINE: usize = usize::MAX;
 pub const SESSION_WORDS: usize = 222;
 pub const CANDIDATE_WORDS: usize = 65536;
 pub const MAX_PLANS: usize = 2048;
-/// Places of a session's words, to be read only.
 pub const SESSION_OBJECTIVES: usize = 0;
 pub const SESSION_SIZE: usize = 10;
 pub const SESSION_ACTIVE: usize = 14;
@@ -53,8 +52,8 @@ unsafe extern "C" {
     fn locustdomino_choose(file: *const u8, file_length: usize, out: *mut u8, out_length: usize, length: *mut usize) -> u64;
 }
 
-// A slice is handed on with its own length, and what is written overlaps nothing else: that is all that the library asks, but of
-// a session.
+// A slice is handed on with its own length, and what is written overlaps nothing else. Beside that the library asks what `Session`
+// keeps, and for stack; where too little is left, it meets the guard page and the process ends.
 
 /// The pool and the directions of a selection or step, what is wanted of it, and what it is lent.
 pub struct Selecting<'a> {

@@ -91,6 +91,31 @@ fn limits() {
     assert_eq!(Refusal::Full.number(), 11);
 }
 
+/// A session that breeds, in a thread with so much stack.
+fn breed_within(megabytes: usize) {
+    let thread = std::thread::Builder::new().stack_size(megabytes << 20);
+    thread.spawn(session).unwrap().join().unwrap();
+}
+
+#[test]
+fn enough_stack() {
+    breed_within(4);
+}
+
+#[test]
+#[ignore = "ends the process"]
+fn too_little_stack() {
+    breed_within(1);
+}
+
+#[test]
+fn too_little_stack_is_told() {
+    let this = std::env::current_exe().unwrap();
+    let ended = std::process::Command::new(this).args(["--ignored", "--exact", "too_little_stack"]).output().unwrap();
+    let told = String::from_utf8_lossy(&ended.stderr);
+    assert!(!ended.status.success() && told.contains("overflowed its stack"), "{told}");
+}
+
 #[test]
 fn file() {
     assert_eq!(choose(b"no pool"), Err(Refusal::Form));

@@ -16,7 +16,7 @@ pub(super) fn extract(
     settings: &[(u64, u64, u64)],
 ) -> Line {
     let mut line = vec![81, state];
-    push_dimensions(&mut line, dimensions);
+    write_dimensions(&mut line, dimensions);
     let mut plan = plan(&[], &[]);
     plan.settings = settings.to_vec();
     plan.write(&mut line);
@@ -32,7 +32,7 @@ pub(super) fn crossover(
     second: &[ParamValue],
 ) -> Line {
     let mut line = vec![82, state, of_real(probability), of_real(eta)];
-    push_dimensions(&mut line, dimensions);
+    write_dimensions(&mut line, dimensions);
     for value in first.iter().chain(second) {
         plans::write_setting(&mut line, value);
     }
@@ -46,7 +46,7 @@ pub(super) fn mutate(
     settings: &[ParamValue],
 ) -> Line {
     let mut line = vec![84, state, of_real(eta)];
-    push_dimensions(&mut line, dimensions);
+    write_dimensions(&mut line, dimensions);
     for value in settings {
         plans::write_setting(&mut line, value);
     }

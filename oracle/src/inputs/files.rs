@@ -103,9 +103,7 @@ pub(super) fn large_cases() -> Vec<Line> {
     let mut lines = Vec::new();
     // Full pools, full tables, full sizes.
     for m in 1..=8 {
-        let most = (1..200)
-            .take_while(|&h| refusals::lines(m, h) <= 1024)
-            .count() as u64;
+        let most = refusals::most_divisions(m, 1024);
         let rows = mix.pick(&[1, 9, 5]);
         let mut plans: Vec<Plan> = (0..1024)
             .map(|at| plan(&row(&mut mix, rows, m, at, 1024), &constraints(&mut mix, 2)))
@@ -140,7 +138,7 @@ pub(super) fn large_cases() -> Vec<Line> {
     assert_eq!(full.file().len(), 65_536);
     lines.push(full.choose());
     // A session of 1,024 plans that breeds, and a history of 4,096.
-    let mut script = Script::new(opening(2, Some(1024), Some(99), 3));
+    let mut script = Script::new(Opening::new(2, Some(1024), Some(99), 3));
     script.discover(0, &[float(0.0, 1.0), choices(4)]);
     let _ = script.calls(1024, 1, &any_dimension(), false, true);
     let mut records: Vec<Plan> = (0..4096)

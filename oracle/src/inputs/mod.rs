@@ -8,15 +8,16 @@ mod numbers;
 mod rows;
 mod sessions;
 
+use crate::answers::{Call, SELECT, STEP};
 use crate::distribution::{Distribution, FloatDistribution, IntDistribution};
 use crate::mix::Mix;
 use crate::param::ParamValue;
 use crate::pareto;
-use crate::plans::{self, Plan, choices, float, int};
+use crate::plans::{self, Plan, choices, float, int, write_dimensions, write_marks};
 use crate::pool_file;
 use crate::refusals;
-use crate::session::{Opening, Session};
-use crate::words::{of_int, of_real};
+use crate::session::{self, Opening, Session};
+use crate::words::{of_int, of_real, push_counted_reals, push_optional, push_reals};
 
 type Line = Vec<u64>;
 
@@ -226,10 +227,7 @@ fn marks(mix: &mut Mix, m: usize) -> Vec<u64> {
 
 /// Divisions with at most `most` lines.
 fn divisions(mix: &mut Mix, m: usize, most: u128) -> u64 {
-    let fits = (1..200)
-        .take_while(|&h| refusals::lines(m, h) <= most)
-        .count() as u64;
-    mix.within(1, fits.max(1))
+    mix.within(1, refusals::most_divisions(m, most).max(1))
 }
 
 /// Sizes below, at and above the pool.
@@ -345,29 +343,6 @@ fn probability(mix: &mut Mix) -> f64 {
 // Writing lines
 // ---------------------------------------------------------------------------
 
-fn push_reals(line: &mut Line, reals: &[f64]) {
-    line.extend(reals.iter().map(|&x| of_real(x)));
-}
-
-fn push_marks(line: &mut Line, marks: &[u64]) {
-    line.push(marks.len() as u64);
-    line.extend(marks);
-}
-
-fn push_dimensions(line: &mut Line, dimensions: &[Distribution]) {
-    line.push(dimensions.len() as u64);
-    for dimension in dimensions {
-        plans::write_dimension(line, dimension);
-    }
-}
-
-fn push_pool(line: &mut Line, pool: &[Plan]) {
-    line.push(pool.len() as u64);
-    for plan in pool {
-        plan.write(line);
-    }
-}
-
 fn plan(values: &[f64], constraints: &[f64]) -> Plan {
     Plan {
         number: 0,
@@ -385,69 +360,20 @@ fn pool_of(rows: &[&[f64]]) -> Vec<Plan> {
     plans
 }
 
-/// A selection or generation step, to be varied one field at a time.
-#[derive(Clone)]
-struct Call {
-    short: bool,
-    marks: Vec<u64>,
-    divisions: u64,
-    size: u64,
-    state: u64,
-    ideal: Vec<f64>,
-    pool: Vec<Plan>,
-    probability: f64,
-    crossover_eta: f64,
-    mutation_eta: f64,
-    dimensions: Vec<Distribution>,
-}
-
+/// Selections and generation steps are varied one field at a time.
 impl Call {
-    fn new(m: usize, divisions: u64, size: u64, state: u64, pool: Vec<Plan>) -> Self {
-        Call {
-            short: false,
-            marks: vec![0; m],
-            divisions,
-            size,
-            state,
-            ideal: vec![f64::INFINITY; m],
-            pool,
-            probability: 1.0,
-            crossover_eta: 30.0,
-            mutation_eta: 20.0,
-            dimensions: Vec::new(),
-        }
-    }
-
     fn but(&self, change: impl Fn(&mut Self)) -> Self {
         let mut call = self.clone();
         change(&mut call);
         call
     }
 
-    fn head(&self, command: u64) -> Line {
-        let mut line = vec![command, self.short as u64];
-        push_marks(&mut line, &self.marks);
-        line.extend([self.divisions, self.size, self.state]);
-        line.push(self.ideal.len() as u64);
-        push_reals(&mut line, &self.ideal);
-        line
-    }
-
     fn select(&self) -> Line {
-        let mut line = self.head(70);
-        push_pool(&mut line, &self.pool);
-        line
+        self.write(SELECT)
     }
 
     fn step(&self) -> Line {
-        let mut line = self.head(87);
-        push_reals(
-            &mut line,
-            &[self.probability, self.crossover_eta, self.mutation_eta],
-        );
-        push_dimensions(&mut line, &self.dimensions);
-        push_pool(&mut line, &self.pool);
-        line
+        self.write(STEP)
     }
 
     /// As a pool file; the ideal is not part of it.

@@ -9,7 +9,7 @@ use super::*;
 
 pub(super) fn dominates(marks: &[u64], x: &[f64], y: &[f64]) -> Line {
     let mut line = vec![30];
-    push_marks(&mut line, marks);
+    write_marks(&mut line, marks);
     push_reals(&mut line, x);
     push_reals(&mut line, y);
     line
@@ -19,8 +19,7 @@ pub(super) fn constrained(marks: &[u64], x: &[f64], y: &[f64], cx: &[f64], cy: &
     let mut line = dominates(marks, x, y);
     line[0] = 31;
     for constraints in [cx, cy] {
-        line.push(constraints.len() as u64);
-        push_reals(&mut line, constraints);
+        push_counted_reals(&mut line, constraints);
     }
     line
 }
@@ -82,7 +81,7 @@ pub(super) fn dominance_input(mix: &mut Mix, at: u64) -> Line {
         }
         _ => {
             let mut line = vec![32];
-            push_marks(&mut line, &marks);
+            write_marks(&mut line, &marks);
             push_reals(&mut line, &x);
             line
         }
@@ -95,13 +94,12 @@ pub(super) fn dominance_input(mix: &mut Mix, at: u64) -> Line {
 
 pub(super) fn fronts(command: u64, marks: &[u64], pool: &[Plan]) -> Line {
     let mut line = vec![command];
-    push_marks(&mut line, marks);
+    write_marks(&mut line, marks);
     line.push(pool.len() as u64);
     for plan in pool {
         push_reals(&mut line, &plan.values);
         if command == 41 {
-            line.push(plan.constraints.len() as u64);
-            push_reals(&mut line, &plan.constraints);
+            push_counted_reals(&mut line, &plan.constraints);
         }
     }
     line
@@ -178,10 +176,9 @@ pub(super) fn front_input(mix: &mut Mix, at: u64) -> Line {
 
 pub(super) fn population(m: usize, size: Option<u64>, divisions: Option<u64>) -> Line {
     let mut line = vec![53];
-    push_marks(&mut line, &vec![0; m]);
-    for given in [size, divisions] {
-        line.extend([given.is_some() as u64, given.unwrap_or(0)]);
-    }
+    write_marks(&mut line, &vec![0; m]);
+    push_optional(&mut line, size);
+    push_optional(&mut line, divisions);
     line
 }
 
@@ -282,7 +279,7 @@ pub(super) fn reference_input(mix: &mut Mix, at: u64) -> Line {
 
 pub(super) fn normalize(marks: &[u64], ideal: &[f64], rows: &[Vec<f64>]) -> Line {
     let mut line = vec![60];
-    push_marks(&mut line, marks);
+    write_marks(&mut line, marks);
     push_reals(&mut line, ideal);
     line.push(rows.len() as u64);
     for row in rows {

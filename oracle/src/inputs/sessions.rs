@@ -3,25 +3,12 @@
 use super::breeding::*;
 use super::*;
 
-pub(super) fn opening(m: usize, size: Option<u64>, divisions: Option<u64>, seed: u64) -> Opening {
-    Opening {
-        short: false,
-        marks: vec![0; m],
-        size,
-        divisions,
-        probability: 1.0,
-        crossover_eta: 30.0,
-        mutation_eta: 20.0,
-        seed,
-    }
-}
-
 /// A session as it is written down; its calls run on the way, so that later
 /// calls can use what the earlier ones answered.
 pub(super) struct Script {
     pub(super) opening: Opening,
     pub(super) session: Option<Session>,
-    pub(super) calls: Vec<Line>,
+    pub(super) calls: Vec<session::Call>,
     pub(super) dimensions: Vec<Distribution>,
     /// Records that the next call hands in beside the history so far.
     pub(super) fresh: Vec<Plan>,
@@ -50,36 +37,26 @@ impl Script {
     ) -> Result<ParamValue, u64> {
         let keep = self.session.as_ref().map_or(0, |s| s.history().len());
         let records = std::mem::take(&mut self.fresh);
-        self.raw(times, plan, dimension, short, (keep, 1, &records), full)
+        self.raw(session::Call {
+            times,
+            plan,
+            distribution: dimension.clone(),
+            short,
+            keep,
+            copies: 1,
+            records,
+            full,
+        })
     }
 
-    /// The same with its own history: how many to keep, copies, records.
-    pub(super) fn raw(
-        &mut self,
-        times: u64,
-        plan: u64,
-        dimension: &Distribution,
-        short: bool,
-        (keep, copies, records): (usize, usize, &[Plan]),
-        full: bool,
-    ) -> Result<ParamValue, u64> {
-        let mut line = vec![times, plan];
-        plans::write_dimension(&mut line, dimension);
-        line.extend([short as u64, keep as u64, copies as u64]);
-        push_pool(&mut line, records);
-        line.push(full as u64);
-        self.calls.push(line);
-        let Some(session) = self.session.as_mut() else {
-            return Err(0);
+    /// The same with its own history.
+    pub(super) fn raw(&mut self, call: session::Call) -> Result<ParamValue, u64> {
+        let answer = match self.session.as_mut() {
+            Some(session) => session.calls(&call).expect("the history is that long"),
+            None => Err(0),
         };
-        session
-            .set_history(keep, copies, records)
-            .expect("the history is that long");
-        let mut last = Err(0);
-        for at in 0..times {
-            last = session.call(dimension, plan.wrapping_add(at), short);
-        }
-        last
+        self.calls.push(call);
+        answer
     }
 
     pub(super) fn call(&mut self, plan: u64, full: bool) -> Result<ParamValue, u64> {
@@ -105,7 +82,9 @@ impl Script {
         let mut line = vec![90];
         self.opening.write(&mut line);
         line.push(self.calls.len() as u64);
-        line.extend(self.calls.iter().flatten());
+        for call in &self.calls {
+            call.write(&mut line);
+        }
         line
     }
 }
@@ -115,7 +94,7 @@ pub(super) fn session_cases() -> Vec<Line> {
     let mut lines = Vec::new();
 
     // Openings that are turned down, and some that just are not.
-    let good = opening(2, Some(4), Some(3), 1);
+    let good = Opening::new(2, Some(4), Some(3), 1);
     let openings = [
         Opening {
             marks: Vec::new(),
@@ -200,7 +179,7 @@ pub(super) fn session_cases() -> Vec<Line> {
 
     // Size 0 is accepted: 4 plans. Beyond the last dimension the last one is
     // drawn from, and next_dim stops.
-    let mut script = Script::new(opening(2, Some(0), None, 9));
+    let mut script = Script::new(Opening::new(2, Some(0), None, 9));
     script.discover(0, &[unit.clone(), int(0, 20, Some(5))]);
     for _ in 0..4 {
         let _ = script.call(1, true);
@@ -257,20 +236,29 @@ pub(super) fn session_cases() -> Vec<Line> {
     // records pass.
     let mut script = Script::new(good.clone());
     let any = [Plan::record(1, &[], &[])];
-    for (plan, history, full) in [
-        (0, (0, 4097, &any[..]), true),
-        (0, (4096, 0, &[]), true),
-        (1, (4096, 1, &any), false),
-        (1, (0, 0, &[]), true),
+    for (plan, keep, copies, records, full) in [
+        (0, 0, 4097, &any[..], true),
+        (0, 4096, 0, &[], true),
+        (1, 4096, 1, &any, false),
+        (1, 0, 0, &[], true),
     ] {
-        let _ = script.raw(1, plan, &choices(3), false, history, full);
+        let _ = script.raw(session::Call {
+            times: 1,
+            plan,
+            distribution: choices(3),
+            short: false,
+            keep,
+            copies,
+            records: records.to_vec(),
+            full,
+        });
     }
     lines.push(script.line());
 
     // Three generations by hand: records out of order and repeated, the last
     // of a number counting; a bad plan refuses every call until a later
     // record corrects it; a known plan's call breeds and starts it over.
-    let mut script = Script::new(opening(2, Some(4), Some(3), 42));
+    let mut script = Script::new(Opening::new(2, Some(4), Some(3), 42));
     script.discover(10, &[unit.clone(), int(0, 9, None), choices(3)]);
     let fit = [
         ParamValue::Float(0.5),
@@ -327,7 +315,7 @@ pub(super) fn session_input(mix: &mut Mix, at: u64) -> Line {
         _ if many => Some(4),
         _ => Some(mix.below(7)),
     };
-    let mut opening = opening(m, size, divisions, mix.word());
+    let mut opening = Opening::new(m, size, divisions, mix.word());
     opening.marks = marks(mix, m);
     opening.probability = probability(mix);
     opening.crossover_eta = eta(mix);
