@@ -55,10 +55,12 @@ loop-again : tie.Need-loop-again Inv-loop μ-loop
 loop-again c =
     let l = c .before .before .loop in
     let f = c .nearest-line .ensures in
-    (omega arith, simp length-set (l .inv .1), simp length-set (l .inv .2), record {
-      line = over-set _ _ _ _ _ (omega arith) (l .inv .3 .line) (f .0);
-      distance = over-set _ _ _ _ _ (omega arith) (l .inv .3 .distance) (f .1);
-    })
+    let near = l .inv .3 in (
+      omega arith,
+      simp length-set (l .inv .1),
+      simp length-set (l .inv .2),
+      record { line = over-set _ _ _ _ _ (omega arith) (near .line) (f .0); distance = over-set _ _ _ _ _ (omega arith) (near .distance) (f .1) },
+    )
 
 same-length : tie.Need-same-length Inv-loop μ-loop
 same-length c = c .before .loop .inv .1
