@@ -2,22 +2,9 @@
 use libc::STDERR_FILENO;
 use libc::STDIN_FILENO;
 use libc::STDOUT_FILENO;
-use model::Chosen;
 use model::MAX_TEXT;
 ghost use Prim.Native.Nat.{_≤_};
 ghost use lib.ListN.{length};
-ghost use Rattle.choose.specs.Printing.{Prints};
-
-// The text for a file's bytes, at the front of the array lent, which has room for the longest; answers its length.
-fn answer(file: &[u8], out: &mut [u8; MAX_TEXT]) -> usize
-    ensures { λ r. ⌜ Prints (now (file .entry)) (now (out .entry)) (now (out .exit)) r ⌝ }
-{
-    let chosen = pool_choice::choose(file, out);
-    match chosen {
-        Chosen::Written(n) => n,
-        Chosen::Refused(number) => pool_text::write_refused(number as usize, out),
-    }
-}
 
 // Reads standard input to its end, or until the buffer is full; answers how many bytes it held. Where a read fails the file has not come to its end:
 // it counts as empty, which ends early (refusal 1).
@@ -45,7 +32,7 @@ fn main() {
     let mut buffer = [0u8; 65537];
     let mut out = [0u8; MAX_TEXT];
     let n = read_input(&mut buffer);
-    let length = answer(&buffer[..n], &mut out);
+    let length = pool_print::printed(&buffer[..n], &mut out);
     if !io::write_all(STDOUT_FILENO, &out[..length]) {
         io::write_all(
             STDERR_FILENO,

@@ -1,25 +1,12 @@
--- The first refusal of a generation step, test by test.
+-- Refusal 10 of a generation step, slice by slice.
 use Prim.Native.Nat.{ℕ, _*_, _≤_, _<_}
-use mathlib.Core.Path.{_≡_, refl, sym, _∙_}
+use mathlib.Core.Path.{_≡_, sym, _∙_}
 use mathlib.Core.Bool.{Bool, true, false, _&&_, or-true, or-false}
-use mathlib.Core.Option.{Option}
 use borrow.Author.Tests.{lt-ltb, le-ltb, lt-leb, le-leb}
 use lib.Dec.{leb}
-use lib.ListN.{drop}
-use Rattle.model.specs.Association.{Request}
-use Rattle.model.specs.Setting.{Operators}
-use Rattle.model.specs.Refusal.{Room, firstOf, stepRefusal, stepChecks, tooShort, stepTooShort}
+use Rattle.model.specs.Refusal.{Room, tooShort, stepTooShort}
 
-module _ (o : Operators) (r : Request) (room : Room) (offspring : ℕ) where
-  -- the first that applies of its tests from the k-th on
-  abbrev pub from : ℕ → Option ℕ
-  from k = firstOf (drop k (stepChecks o r room offspring))
-
-  pub from-all : stepRefusal o r room offspring ≡ from 0
-  unfolding stepRefusal
-  from-all = refl
-
--- ---- a slice is too short: for the offspring, or for what a selection hands out from n plans and a size
+-- a slice is too short: for the offspring, or for what a selection hands out from n plans and a size
 
 module _ (size n dims : ℕ) (room : Room) (offspring : ℕ) where
   abbrev short : Bool

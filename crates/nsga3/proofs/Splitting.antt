@@ -13,16 +13,15 @@ use Rattle.model.specs.Reference.{dasDennis}
 use Rattle.model.specs.Front.{listing}
 use Rattle.model.specs.Association.{Request, objectives, lineCount, dominance, idealOf, association, lineOf}
 use Rattle.model.specs.Kept.{wholeFronts, before, isSplit, splitFront, filled, selectedSplit, picks}
-use Rattle.list_laws.specs.Occ.{Below}
 use Rattle.list_laws.proofs.Built.{listBelow-length, over-all, over-below}
-use Rattle.list_laws.proofs.Members.{under-at, under-below}
+use Rattle.list_laws.proofs.Members.{under-at}
 use Rattle.front_laws.proofs.Order.{listing-below, front-exactly}
-use Rattle.front_laws.proofs.Rounds.{found}
 use Rattle.niching_laws.proofs.Association.{lineOf-inside}
 use Rattle.association_laws.specs.Request.{Pool, LinesIn, Associates}
 use Rattle.association_laws.proofs.Request.{lines-at}
 use Rattle.front_cut.specs.declared.Cut.{Cut}
 use Rattle.niching_array_laws.specs.Niche.{Splits, NichingSelects, picksOf}
+use Rattle.demand3_laws.proofs.Cut.{before-below, split-below}
 use Rattle.nsga3_laws.proofs.Agree.{picks-agree}
 use Rattle.list_laws.proofs.Built.{written-behind}
 use Rattle.nsga3.specs.Handed.{SortedPool, Hands}
@@ -45,14 +44,6 @@ module _ {r : Request} {keptRoom linesRoom : ℕ} {rows : List Float} {order : L
       subst (λ x. x < r .count) (ap (λ l. getD l i 0) (sym (S .listed .listed)) ∙ getD-take (r .count) order i 0 h)
       (under-at (r .count) (listing (dominance r) (r .count) (r .count)) i (listing-below (dominance r) (r .count) (r .count))
       (omega (arith, ap length (S .listed .listed), length-take-le (r .count) order (S .listed .places))))
-
-  before-below : Below (r .count) (before r)
-  unfolding before
-  before-below = under-below (r .count) _ (listing-below (dominance r) (r .count) (wholeFronts r))
-
-  split-below : Below (r .count) (splitFront r)
-  unfolding splitFront
-  split-below = under-below (r .count) _ (found (dominance r) (r .count) (wholeFronts r) .below)
 
   split-distinct : Distinct (splitFront r)
   unfolding splitFront
@@ -93,7 +84,7 @@ module _ {r : Request} {keptRoom linesRoom : ℕ} {rows : List Float} {order : L
       picks-are =
           ap₂ (λ s t. picks (λ p. getD lines p 0) (λ p. getD distances p nan) k s t (r .size - c .whole) (r .state)) (S .listed .cut .listed) (S .listed .cut .waiting split)
           ∙ picks-agree (r .count) (S .limits .somePlans) (λ p. getD lines p 0) (lineOf r) (λ p. getD distances p nan) (λ p. association r p .distance) line-of distance-of k
-          (before r) (splitFront r) before-below split-below (r .size - c .whole) (r .state)
+          (before r) (splitFront r) (before-below r) (split-below r) (r .size - c .whole) (r .state)
           ∙ ap₂ (λ l w. picks (lineOf r) (λ p. association r p .distance) l (before r) (splitFront r) (r .size - w) (r .state)) g (S .listed .cut .whole)
 
       -- THE LAW: what the calls leave is handed out

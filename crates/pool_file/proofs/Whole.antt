@@ -1,25 +1,24 @@
 -- The whole file: its header, its marks and its plans, by how far the reader gets.
-use Prim.Native.Nat.{ℕ, _+_, _≤_, _<_}
-use mathlib.Core.Path.{_≡_, refl, ap, sym, _∙_, subst}
-use mathlib.Core.List.{List, _++_, append-nil, map}
+use Prim.Native.Nat.{ℕ, _≤_, _<_}
+use mathlib.Core.Path.{_≡_, refl, ap, sym, _∙_}
+use mathlib.Core.List.{List, [], map}
 use mathlib.Core.Option.{Option, none}
 use native.Mathlib.Omega.{arith}
 use borrow.Author.Tests.{le-leb, lt-leb}
 use lib.ListN.{length, take, drop, length-map, drop-of-length-le}
-use lib.Seq.{sets, sets-eq, drop-cons, take-all, take-at}
+use lib.Seq.{sets, drop-cons, take-all}
 use Rattle.model.specs.Plan.{Plan, maxObjectives}
-use Rattle.model.specs.PoolFile.{Parsed, onward, number, many, plan, poolFile, parse, wholly, ifNoneLeft, maxFile}
+use Rattle.model.specs.PoolFile.{Parsed, pure, onward, number, many, plan, poolFile, parse, wholly, ifNoneLeft, maxFile}
 use Rattle.list_laws.proofs.Bools.{by-option}
+use Rattle.list_laws.proofs.Built.{over-run, over-all, over-take}
 use Rattle.pool_plans.specs.declared.End.{End}
 use Rattle.pool_plans.specs.declared.End.the-variants as end
 use Rattle.pool_file.specs.declared.Header.{Header}
 use Rattle.pool_file.specs.declared.Heading.{Heading}
 use Rattle.pool_file.specs.declared.Heading.the-variants as heading
-use Rattle.pool_number.specs.Reading.{read}
 use Rattle.pool_plans.specs.Blocks.{Words, WordsIs, Plans, PlansIs}
-use Rattle.pool_file.specs.Parsing.{headerOf, fileOf, afterHeader, HeadingIs, Pool, capped}
-use Rattle.pool_number.proofs.Options.{many-length}
-use Rattle.pool_plans.proofs.Storing.{stored-plain}
+use Rattle.pool_file.specs.Parsing.{headerOf, fileOf, afterHeader, headed, HeadingIs, Pool, capped}
+use Rattle.pool_plans.proofs.Storing.{as-told, reads-count, stored-plain}
 
 -- ---- the header
 
@@ -42,18 +41,18 @@ module _ (file l o : List ℕ) (r : End) (w : WordsIs (λ v. v) file 0 5 5 0 l o
   pub header-none : r ≡ end.Broken → poolFile file ≡ none
   header-none e =
       header-first file ∙ ap (λ (t : Option (Parsed (List ℕ))). onward t (λ k. afterHeader (headerOf k)))
-      (subst (λ (x : End). WordsIs (λ v. v) file 0 5 5 0 l o x) e w)
+      (as-told (many 5 number) _ file 0 e w)
 
   module _ (next : ℕ) (e : r ≡ end.At next) (room : length l ≡ 5) where
     five : Words (λ v. v) file 0 5 5 0 l o next
-    five = subst (λ (x : End). WordsIs (λ v. v) file 0 5 5 0 l o x) e w
+    five = as-told (many 5 number) _ file 0 e w
 
     -- the words hold what was read
     in-words : o ≡ five .value
     in-words =
-        let c = many-length number 5 (drop 0 file) (five .value) (drop next file) (five .reads) in
-        stored-plain 5 0 l o (five .value) (five .stored) ∙ ap (sets l 0) (take-all 5 (five .value) (omega arith)) ∙ sets-eq (five .value) l 0 (omega arith)
-        ∙ ap (λ (t : List ℕ). five .value ++ t) (drop-of-length-le l {i = 0 + length (five .value)} (omega arith)) ∙ append-nil (five .value)
+        let c = reads-count number file 0 _ 5 next five in
+        stored-plain 5 0 l o (five .value) (five .stored) ∙ ap (sets l 0) (take-all 5 (five .value) (omega arith)) ∙ over-run [] (five .value) l 0 refl (omega arith)
+        ∙ over-all (five .value) l (omega arith)
 
     pub header-good : poolFile file ≡ afterHeader (headerOf o) (drop next file)
     header-good =
@@ -67,12 +66,12 @@ module _ (h : Header) (b₀ : List ℕ) where
   unfolding afterHeader
   after-no-marks e = rw e
 
-  module _ (marks b₁ : List ℕ) (e : many (h .m) number b₀ ≡ read marks b₁) where
+  module _ (marks b₁ : List ℕ) (e : many (h .m) number b₀ ≡ pure marks b₁) where
     after-no-plans : many (h .count) (plan (h .m)) b₁ ≡ none → afterHeader h b₀ ≡ none
     unfolding afterHeader
     after-no-plans f = rw (e, f)
 
-    after-good : (plans : List Plan) (b₂ : List ℕ) → many (h .count) (plan (h .m)) b₁ ≡ read plans b₂ → afterHeader h b₀ ≡ read (fileOf h marks plans) b₂
+    after-good : (plans : List Plan) (b₂ : List ℕ) → many (h .count) (plan (h .m)) b₁ ≡ pure plans b₂ → afterHeader h b₀ ≡ pure (fileOf h marks plans) b₂
     unfolding afterHeader
     after-good plans b₂ f = rw (e, f)
 
@@ -88,12 +87,8 @@ parse-short file h = rw (le-leb (length file) maxFile h)
 abbrev pub Begun : List ℕ → Header → ℕ → Type 0
 Begun file h at = parse file ≡ wholly (afterHeader h (drop at file))
 
-module _ (file : List ℕ) (fits : length file ≤ maxFile) (r : Heading) (k : HeadingIs file r) where
-  pub parse-no-header : r ≡ heading.Broken → parse file ≡ none
-  parse-no-header e = parse-short file fits ∙ ap wholly (subst (λ (x : Heading). HeadingIs file x) e k)
-
-  pub parse-begun : (h : Header) (at : ℕ) → r ≡ heading.Good h at → Begun file h at
-  parse-begun h at e = parse-short file fits ∙ ap wholly (subst (λ (x : Heading). HeadingIs file x) e k)
+pub parse-headed : (file : List ℕ) → length file ≤ maxFile → (r x : Heading) → HeadingIs file r → r ≡ x → parse file ≡ wholly (headed file x)
+parse-headed file fits r x k e = parse-short file fits ∙ ap wholly (k ∙ ap (headed file) e)
 
 -- the marks are read too, up to `next`
 pub record Marked (file : List ℕ) (h : Header) (l o : List ℕ) (next : ℕ) : Type 0 where
@@ -105,10 +100,10 @@ module _ (file : List ℕ) (h : Header) (at : ℕ) (b : Begun file h at) (l o : 
   pub parse-no-marks : q ≡ end.Broken → parse file ≡ none
   parse-no-marks g =
       b ∙ ap wholly (after-no-marks h (drop at file)
-      (subst (λ (x : End). WordsIs capped file at (h .m) maxObjectives 0 l o x) g w))
+      (as-told (many (h .m) number) _ file at g w))
 
   pub parse-marked : (next : ℕ) → q ≡ end.At next → Marked file h l o next
-  parse-marked next g = record { at = at; begun = b; marks = subst (λ (x : End). WordsIs capped file at (h .m) maxObjectives 0 l o x) g w }
+  parse-marked next g = record { at = at; begun = b; marks = as-told (many (h .m) number) _ file at g w }
 
 module _ (file : List ℕ) (h : Header) (l o : List ℕ) (next : ℕ) (m : Marked file h l o next) (pool : List ℕ) (y : End)
     (v : PlansIs file next (h .m) (h .count) pool y) where
@@ -118,11 +113,11 @@ module _ (file : List ℕ) (h : Header) (l o : List ℕ) (next : ℕ) (m : Marke
   pub parse-no-plans : y ≡ end.Broken → parse file ≡ none
   parse-no-plans z =
       m .begun ∙ ap wholly (after-no-plans h (drop (m .at) file) values (drop next file) (m .marks .reads)
-      (subst (λ (x : End). PlansIs file next (h .m) (h .count) pool x) z v))
+      (as-told (many (h .count) (plan (h .m))) _ file next z v))
 
   module _ (stop : ℕ) (z : y ≡ end.At stop) where
     plans : Plans file next (h .m) (h .count) pool stop
-    plans = subst (λ (x : End). PlansIs file next (h .m) (h .count) pool x) z v
+    plans = as-told (many (h .count) (plan (h .m))) _ file next z v
 
     whole : parse file ≡ ifNoneLeft (drop stop file) (fileOf h values (plans .value))
     whole = m .begun ∙ ap wholly (after-good h (drop (m .at) file) values (drop next file) (m .marks .reads) (plans .value) (drop stop file) (plans .reads))
@@ -131,26 +126,22 @@ module _ (file : List ℕ) (h : Header) (l o : List ℕ) (next : ℕ) (m : Marke
     parse-runs-on u = whole ∙ ap (λ (t : List ℕ). ifNoneLeft t (fileOf h values (plans .value))) (drop-cons file stop 0 u)
 
     counted : length values ≡ h .m
-    counted = many-length number (h .m) (drop (m .at) file) values (drop next file) (m .marks .reads)
+    counted = reads-count number file (m .at) _ (h .m) next (m .marks)
 
     shown : 8 ≤ length l → h .m ≤ 8 → take (h .m) o ≡ map capped values
     shown room u =
         let a : take 8 values ≡ values = take-all 8 values (omega (arith, counted)) in
         let s : length (map capped values) ≡ h .m = length-map values capped ∙ counted in
-        ap (take (h .m)) (m .marks .stored ∙ ap (λ (t : List ℕ). sets l 0 (map capped t)) a ∙ sets-eq (map capped values) l 0 (omega arith))
-        ∙ take-at (map capped values) (drop (0 + length (map capped values)) l) (h .m) s
+        ap (take (h .m)) (m .marks .stored ∙ ap (λ (t : List ℕ). sets l 0 (map capped t)) a ∙ over-run [] (map capped values) l 0 refl (omega arith))
+        ∙ over-take (map capped values) l (h .m) s
 
     pub parse-good : 8 ≤ length l → length file ≤ stop → Pool file h o pool
     parse-good room u = record {
-      form = fileOf h values (plans .value);
+      values = values;
+      read = plans .value;
       parsed = whole ∙ ap (λ (t : List ℕ). ifNoneLeft t (fileOf h values (plans .value))) (drop-of-length-le file u);
-      objectives = refl;
-      divisions = refl;
-      size = refl;
-      count = refl;
-      seed = refl;
       markCount = counted;
-      planCount = many-length (plan (h .m)) (h .count) (drop next file) (plans .value) (drop stop file) (plans .reads);
+      planCount = reads-count (plan (h .m)) file next _ (h .count) stop plans;
       marks = shown room;
       plans = plans .stored;
     }

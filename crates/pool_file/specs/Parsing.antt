@@ -1,16 +1,15 @@
 -- What the parser answers and stores, in model's words.
 use Rattle.pool_file.specs.declared.Parsed.{Parsed as Answer}
-use Prim.Native.Nat.{ℕ, _≤_, _<_}
+use Prim.Native.Nat.{ℕ, _≤_}
 use mathlib.Core.Path.{_≡_}
 use mathlib.Core.Bool.{cond}
 use mathlib.Core.List.{List, map}
-use mathlib.Core.Option.{none, some}
+use mathlib.Core.Option.{Option, none, some}
 use lib.Dec.{ltb}
 use lib.ListN.{length, getD, take, drop}
-use Rattle.model.specs.Plan.{Plan, planAt, maxObjectives}
-use Rattle.model.specs.PoolFile.{Reader, PoolFile, pure, number, many, plan, poolFile, parse, noPlan, _>>=_}
-use Rattle.model.specs.Refusal.{maxSize}
-use Rattle.pool_plans.specs.Blocks.{roomed}
+use Rattle.model.specs.Plan.{Plan, maxObjectives}
+use Rattle.model.specs.PoolFile.{Parsed, Reader, PoolFile, pure, number, many, plan, poolFile, parse, _>>=_}
+use Rattle.pool_plans.specs.Blocks.{Blocks}
 use Rattle.pool_file.specs.declared.Header.{Header}
 use Rattle.pool_file.specs.declared.Heading.{Heading}
 use Rattle.pool_file.specs.declared.Heading.the-variants as heading
@@ -42,23 +41,23 @@ afterHeader h = do
   plans ← many (h .count) (plan (h .m))
   pure (fileOf h marks plans)
 
-abbrev pub HeadingIs : List ℕ → Heading → Type 0
-HeadingIs file (heading.Good h at) = poolFile file ≡ afterHeader h (drop at file)
-HeadingIs file heading.Broken = poolFile file ≡ none
+-- what is read after a heading, where there is one
+abbrev pub headed : List ℕ → Heading → Option (Parsed PoolFile)
+headed file (heading.Good h at) = afterHeader h (drop at file)
+headed file heading.Broken = none
 
--- a file in good form: the header's numbers, the marks and the plans as they are stored
+abbrev pub HeadingIs : List ℕ → Heading → Type 0
+HeadingIs file r = poolFile file ≡ headed file r
+
+-- a file in good form: its header, its marks and its plans, the marks and the plans as they are stored
 pub record Pool (file : List ℕ) (h : Header) (directions pool : List ℕ) : Type 0 where
-  pub form : PoolFile
-  pub parsed : parse file ≡ some form
-  pub objectives : form .objectives ≡ h .m
-  pub divisions : form .divisions ≡ h .divisions
-  pub size : form .size ≡ h .size
-  pub count : form .count ≡ h .count
-  pub seed : form .seed ≡ h .seed
-  pub markCount : length (form .marks) ≡ h .m
-  pub planCount : length (form .plans) ≡ h .count
-  pub marks : h .m ≤ maxObjectives → take (h .m) directions ≡ map capped (form .marks)
-  pub plans : h .count ≤ maxSize → (p : ℕ) → p < h .count → planAt pool p ≡ roomed (getD (form .plans) p noPlan)
+  pub values : List ℕ
+  pub read : List Plan
+  pub parsed : parse file ≡ some (fileOf h values read)
+  pub markCount : length values ≡ h .m
+  pub planCount : length read ≡ h .count
+  pub marks : h .m ≤ maxObjectives → take (h .m) directions ≡ map capped values
+  pub plans : Blocks (h .count) pool read
 
 -- THE PROMISE of the parser
 abbrev pub PoolIs : List ℕ → List ℕ → List ℕ → Answer → Type 0

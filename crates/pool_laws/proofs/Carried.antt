@@ -1,13 +1,13 @@
 -- THE SELECTION THAT THE WORDS ASK FOR IS THE FILE'S. The parser's words and marks, as a request of `nsga3_select`, and the request that the file is: the
 -- refusals 2, 3, 4, 7 and 8 are the same, and where neither 2 nor 8 applies the two are one request.
 use Prim.Native.Nat.{ℕ, _+_, _*_, _≤_, _<_}
-use mathlib.Core.Path.{_≡_, refl, ap, sym, _∙_, subst, fun-ext}
+use mathlib.Core.Path.{_≡_, refl, ap, sym, _∙_, fun-ext}
 use mathlib.Core.Bool.{Bool, true, false, not, _&&_}
 use mathlib.Core.List.{List, [], _∷_, map}
 use native.Mathlib.Nat.{mul-le-mul-right, le-trans}
 use native.Mathlib.Omega.{arith}
-use borrow.Author.Tests.{not-false, lt-ltb, le-ltb, ltb-true, ltb-false, lt-leb, leb-true}
-use lib.Dec.{leb, ltb}
+use borrow.Author.Tests.{not-false, lt-ltb, le-ltb, lt-leb, leb-true}
+use lib.Dec.{leb}
 use lib.Ieee.{Float}
 use lib.ListN.{length, getD, take, replicate, length-map, List·getD-eq-default}
 use lib.Seq.{length-take-le, getD-take, take-all}
@@ -20,10 +20,11 @@ use Rattle.model.specs.Refusal.{Room, maxSize, badDirections, badDivisions, bad
 use Rattle.model.specs.Calls.{wordRequest}
 use Rattle.list_laws.proofs.Checks.{pool-plan, good-constraints}
 use Rattle.list_laws.proofs.Bools.{by-bool, and-left, and-right, or-right}
+use Rattle.list_laws.proofs.Below.{by-lt}
 use Rattle.list_laws.proofs.Tests.{allBelow-same}
 use Rattle.pool_file.specs.declared.Header.{Header}
 use Rattle.pool_plans.specs.Blocks.{roomed}
-use Rattle.pool_file.specs.Parsing.{Pool, capped}
+use Rattle.pool_file.specs.Parsing.{fileOf, Pool, capped}
 use Rattle.pool_plans.proofs.Blocks.{planOf-same}
 use Rattle.pool_laws.proofs.Shapes.{Shape, Whole, parse-whole}
 
@@ -36,9 +37,9 @@ capped-high : (k : ℕ) → 2 ≤ k → capped k ≡ 2
 capped-high k h = rw (le-ltb k 2 h)
 
 capped-good : (k : ℕ) → leb (capped k) 1 ≡ leb k 1
-capped-good k = by-bool (ltb k 2)
-    (λ e. let h = ltb-true k 2 e in ap (λ (x : ℕ). leb x 1) (capped-low k (omega arith)))
-    (λ e. let h = ltb-false k 2 e in ap (λ (x : ℕ). leb x 1) (capped-high k h) ∙ sym (lt-leb k 1 (omega arith)))
+capped-good k = by-lt k 2
+    (λ h. ap (λ (x : ℕ). leb x 1) (capped-low k (omega arith)))
+    (λ h. ap (λ (x : ℕ). leb x 1) (capped-high k h) ∙ sym (lt-leb k 1 (omega arith)))
 
 marks-good : (l : List ℕ) → allIn (λ k. leb k 1) (map capped l) ≡ allIn (λ k. leb k 1) l
 unfolding allIn
@@ -130,7 +131,7 @@ stored h directions pool =
 module _ (file : List ℕ) (h : Header) (directions pool : List ℕ) (w : Pool file h directions pool) (few : h .m ≤ maxObjectives) (small : h .count ≤ maxSize)
     (room : maxSize * planWords ≤ length pool) where
   abbrev f : PoolFile
-  f = w .form
+  f = fileOf h (w .values) (w .read)
 
   whole : Whole f
   whole = parse-whole file f (w .parsed)
@@ -160,51 +161,38 @@ module _ (file : List ℕ) (h : Header) (directions pool : List ℕ) (w : Pool f
       ∙ planOf-zero ∙ sym (List·getD-eq-default (f .plans) noPlan (omega arith))
 
   shape : (p : ℕ) → p < h .count → Shape (h .m) (getD (f .plans) p noPlan)
-  shape p l =
-      let c = w .count in
-      subst (λ (m : ℕ). Shape m (getD (f .plans) p noPlan)) (w .objectives) (whole .plans p (omega arith))
+  shape p l = whole .plans p l
 
   -- a plan with at most 16 constraints is stored as it is
   plan-same : (p : ℕ) → p < h .count → getD (f .plans) p noPlan .constraintCount ≤ maxConstraints → planAt words p ≡ getD (f .plans) p noPlan
   plan-same p l c = plan-in p l ∙ roomed-same (h .m) (getD (f .plans) p noPlan) few (shape p l) c
 
   -- in the pool or past it
-  module _ {C : Type 0} (p : ℕ) where
-    either : (p < h .count → C) → (h .count ≤ p → C) → C
-    either a b = by-bool (ltb p (h .count)) (λ e. a (ltb-true p (h .count) e)) (λ e. b (ltb-false p (h .count) e))
-
   good-same : (p : ℕ) → goodPlan (h .m) (planAt words p) ≡ goodPlan (h .m) (getD (f .plans) p noPlan)
-  good-same p = either p
+  good-same p = by-lt p (h .count)
       (λ l. ap (goodPlan (h .m)) (plan-in p l) ∙ roomed-good (h .m) (getD (f .plans) p noPlan) few (shape p l))
       (λ l. ap (goodPlan (h .m)) (plan-past p l))
 
-  objectives-file : length (f .marks) ≡ h .m
-  objectives-file = w .markCount
-
   objectives-words : length (take (h .m) directions) ≡ h .m
-  objectives-words = ap length marks ∙ length-map (f .marks) capped ∙ objectives-file
+  objectives-words = ap length marks ∙ length-map (f .marks) capped ∙ w .markCount
 
   count-words : planCount words ≡ h .count
   count-words = let n = words-length in omega arith
 
-  pub carried : Carried (stored h directions pool) (fileRequest (w .form))
+  pub carried : Carried (stored h directions pool) (fileRequest f)
   carried =
-      let o : length (take (h .m) directions) ≡ length (f .marks) = objectives-words ∙ sym objectives-file in
-      let n : planCount words ≡ f .count = count-words ∙ sym (w .count) in
-      let i : replicate (h .m) infinity ≡ replicate (f .objectives) infinity = ap (λ (k : ℕ). replicate k infinity) (sym (w .objectives)) in
+      let o : length (take (h .m) directions) ≡ length (f .marks) = objectives-words ∙ sym (w .markCount) in
       let g : (p : ℕ) → goodPlan (length (take (h .m) directions)) (planAt words p) ≡ goodPlan (length (f .marks)) (getD (f .plans) p noPlan) =
       λ p. ap (λ (k : ℕ). goodPlan k (planAt words p)) objectives-words ∙ good-same p
-      ∙ ap (λ (k : ℕ). goodPlan k (getD (f .plans) p noPlan)) (sym objectives-file) in
+      ∙ ap (λ (k : ℕ). goodPlan k (getD (f .plans) p noPlan)) (sym (w .markCount)) in
       record {
         two = ap badDirections marks ∙ directions-same (f .marks);
-        size = sym (w .size);
-        four = ap (λ (k : ℕ). badDivisions k (h .divisions)) o ∙ ap (badDivisions (length (f .marks))) (sym (w .divisions));
-        count = n;
-        eight = pool-same (stored h directions pool) (fileRequest f) o n g i;
+        size = refl;
+        four = ap (λ (k : ℕ). badDivisions k (h .divisions)) o;
+        count = count-words;
+        eight = pool-same (stored h directions pool) (fileRequest f) o count-words g refl;
         same = λ a b. request-same
-            (marks ∙ marks-same (f .marks) (directions-good (f .marks) a)) (sym (w .divisions)) (sym (w .size)) n
-            (fun-ext (λ p. either p
-            (λ l. plan-same p l (pool-good (fileRequest f) b p (subst (λ (k : ℕ). p < k) (sym (w .count)) l)))
-            (λ l. plan-past p l)))
-            i (sym (w .seed));
+            (marks ∙ marks-same (f .marks) (directions-good (f .marks) a)) refl refl count-words
+            (fun-ext (λ p. by-lt p (h .count) (λ l. plan-same p l (pool-good (fileRequest f) b p l)) (plan-past p)))
+            refl refl;
       }

@@ -53,7 +53,7 @@ pub text-kept : (f : PoolFile) (out : ℕ) → Whole f → fileRefusal f out ≡
 text-kept f out whole e enough n s small t =
     let d = demand3 (fileRequest f) (file-accepted f whole (file-selects f out e)) enough in
     let told = text-tells (f .count) n (selected (fileRequest f)) s (file-small f out e) small (sym t) in
-    sym (same-list (f .count) (selected (fileRequest f) .kept) (s .kept) (d .distinct) (d .inPool) (told .size) (told .places))
+    sym (same-list (f .count) (selected (fileRequest f) .kept) (s .kept) (d .distinct) (d .inPool) (told .size) (λ p h. told .plans p h .place))
 
 -- so two files with one text have one kept list
 pub one-list : (f g : PoolFile) (out room : ℕ) → Whole f → fileRefusal f out ≡ none → fileRefusal g room ≡ none → f .size ≤ f .count → fileText g ≡ fileText f

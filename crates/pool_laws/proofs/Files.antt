@@ -2,12 +2,9 @@
 use Rattle.pool_file.specs.declared.Parsed.{Parsed as Answer}
 use Prim.Native.Nat.{ℕ, _*_, _≤_, _<_}
 use mathlib.Core.Path.{_≡_, ap, sym, _∙_, subst, ap₂, refl}
-use mathlib.Core.Bool.{true, and-false}
 use mathlib.Core.List.{List, map}
 use mathlib.Core.Option.{Option, none, some}
 use native.Mathlib.Omega.{arith}
-use borrow.Author.Tests.{lt-leb}
-use lib.Dec.{leb}
 use lib.ListN.{length, take, replicate, length-map}
 use lib.Seq.{length-take-le}
 use Rattle.model.specs.declared.Chosen.the-variants as chosen
@@ -19,9 +16,10 @@ use Rattle.model.specs.Refusal.{maxSize, badDirections, selectRefusal, refusalO
 use Rattle.model.specs.Calls.{ChooseExit, chooseBy, textOf, chooseOf, Chooses, wordRequest, chosenRefusedBy, textHandedOut}
 use Rattle.list_laws.proofs.Built.{over-take}
 use Rattle.list_laws.proofs.Bools.{by-option}
+use Rattle.plans.proofs.Refused.{directions-many}
 use Rattle.pool_file.specs.declared.Header.{Header}
 use Rattle.pool_file.specs.declared.Parsed.the-variants as answer
-use Rattle.pool_file.specs.Parsing.{PoolIs, Pool, capped}
+use Rattle.pool_file.specs.Parsing.{fileOf, PoolIs, Pool, capped}
 use Rattle.pool_laws.specs.Choice.{exit, roomy, listExit, Crowded}
 use Rattle.pool_laws.proofs.Shapes.{Whole, parse-whole}
 use Rattle.pool_laws.proofs.Carried.{Carried, select-same, carried, stored, directions-same}
@@ -45,14 +43,17 @@ promise file out x e = record {
   demand3 = choose-demand3 file (length out);
 }
 
+-- what a file answers, by what it is read as
+by-parse : (file out : List ℕ) (o : Option PoolFile) → parse file ≡ o → (x : ChooseExit) → x ≡ chooseBy (refusalOfParsed o (length out)) (textOf o) out
+    → Chooses file out x
+unfolding chooseOf chooseRefusal
+by-parse file out o n x g = promise file out x (g ∙ sym (ap (λ (t : Option PoolFile). chooseBy (refusalOfParsed t (length out)) (textOf t) out) n))
+
 -- ---- a file in no form
 
 pub broken : (file directions pool : List ℕ) (a : Answer) → PoolIs file directions pool a → a ≡ answer.Broken → (out : List ℕ)
     → Chooses file out (exit (chosen.Refused 1) out)
-unfolding chooseOf chooseRefusal
-broken file directions pool a p e out =
-    let n : parse file ≡ none = subst (λ (t : Answer). PoolIs file directions pool t) e p in
-    promise file out _ (sym (ap (λ (o : Option PoolFile). chooseBy (refusalOfParsed o (length out)) (textOf o) out) n))
+broken file directions pool a p e out = by-parse file out none (subst (λ (t : Answer). PoolIs file directions pool t) e p) _ refl
 
 -- ---- the words' request and the file's
 
@@ -67,38 +68,31 @@ module _ (file directions pool : List ℕ) (a : Answer) (p : PoolIs file directi
   held : Pool file h directions pool
   held = subst (λ (t : Answer). PoolIs file directions pool t) e p
 
-  -- what its request answers
-  file-exit : (x : ChooseExit) → x ≡ chooseBy (fileRefusal (held .form) (length out)) (fileText (held .form)) out → Chooses file out x
-  unfolding chooseOf chooseRefusal
-  file-exit x g =
-      promise file out x (g ∙ sym (ap (λ (o : Option PoolFile). chooseBy (refusalOfParsed o (length out)) (textOf o) out) (held .parsed)))
+  abbrev form : PoolFile
+  form = fileOf h (held .values) (held .read)
 
-  refused : (n : ℕ) → fileRefusal (held .form) (length out) ≡ some n → Chooses file out (exit (chosen.Refused n) out)
-  refused n g = file-exit _ (sym (ap (λ (o : Option ℕ). chooseBy o (fileText (held .form)) out) g))
-
-  many-marks : 8 < h .m → badDirections (held .form .marks) ≡ true
-  unfolding badDirections
-  many-marks g = rw (lt-leb (length (held .form .marks)) 8 (omega (arith, held .markCount)), and-false (leb 1 (length (held .form .marks))))
+  refused : (n : ℕ) → fileRefusal form (length out) ≡ some n → Chooses file out (exit (chosen.Refused n) out)
+  refused n g = by-parse file out (some form) (held .parsed) _ (sym (ap (λ (o : Option ℕ). chooseBy o (fileText form) out) g))
 
   pub many-objectives : 8 < h .m → Chooses file out (exit (chosen.Refused 2) out)
-  many-objectives g = refused 2 (directions-first (held .form) (length out) (many-marks g))
+  many-objectives g = refused 2 (directions-first form (length out) (directions-many (held .values) (omega (arith, held .markCount))))
 
   module _ (few : h .m ≤ maxObjectives) where
-    marks : take (h .m) directions ≡ map capped (held .form .marks)
+    marks : take (h .m) directions ≡ map capped (held .values)
     marks = held .marks few
 
     pub crowded-pool : maxSize < h .count → (n : ℕ) → Crowded (take (h .m) directions) (h .divisions) (h .size) n → Chooses file out (exit (chosen.Refused n) out)
     crowded-pool g n c =
-        refused n (c (held .form) (length out) (sym (ap badDirections marks ∙ directions-same (held .form .marks)))
-        (sym (ap length marks ∙ length-map (held .form .marks) capped)) (held .divisions) (held .size) (omega (arith, held .count)))
+        refused n (c form (length out) (sym (ap badDirections marks ∙ directions-same (held .values)))
+        (sym (ap length marks ∙ length-map (held .values) capped)) refl refl g)
 
     pub chosen-words : h .count ≤ maxSize → maxSize * planWords ≤ length pool → h .m ≤ length directions → (x : ChooseExit)
         → x ≡ listExit (wordRequest (take (h .count * planWords) pool) (take (h .m) directions) (h .divisions) (h .size) (record { s = h .seed })
         (replicate (length (take (h .m) directions)) infinity)) out
         → Chooses file out x
     chosen-words small room within x g =
-        file-exit x (g
+        by-parse file out (some form) (held .parsed) x (g
         ∙ ap (λ (k : ℕ). listExit (wordRequest (take (h .count * planWords) pool) (take (h .m) directions) (h .divisions) (h .size) (record { s = h .seed }) (replicate k infinity)) out)
         (length-take-le (h .m) directions within)
-        ∙ alike-exit (held .form) (parse-whole file (held .form) (held .parsed)) (stored h directions pool) (carried file h directions pool held few small room) out
-        ∙ sym (ap (λ (o : Option ℕ). chooseBy o (fileText (held .form)) out) (file-refusal (held .form) (length out))))
+        ∙ alike-exit form (parse-whole file form (held .parsed)) (stored h directions pool) (carried file h directions pool held few small room) out
+        ∙ sym (ap (λ (o : Option ℕ). chooseBy o (fileText form) out) (file-refusal form (length out))))

@@ -107,7 +107,7 @@ line-same l m h g e = by-bool (eqb l noLine)
 -- ---- a plan's line
 
 -- what two lines of a plan that are one text have in common
-record Line (a b : Selected) (p : ℕ) : Type 0 where
+pub record Line (a b : Selected) (p : ℕ) : Type 0 where
   pub front : getD (a .fronts) p 0 ≡ getD (b .fronts) p 0
   pub line : getD (a .lines) p 0 ≡ getD (b .lines) p 0
   pub place : placeOf (a .kept) p ≡ placeOf (b .kept) p
@@ -155,9 +155,7 @@ each (suc n) f g Told c e (suc p) h =
 pub record Told (n m : ℕ) (a b : Selected) : Type 0 where
   pub count : n ≡ m
   pub size : length (a .kept) ≡ length (b .kept)
-  pub fronts : (p : ℕ) → p < n → getD (a .fronts) p 0 ≡ getD (b .fronts) p 0
-  pub lines : (p : ℕ) → p < n → getD (a .lines) p 0 ≡ getD (b .lines) p 0
-  pub places : (p : ℕ) → p < n → placeOf (a .kept) p ≡ placeOf (b .kept) p
+  pub plans : (p : ℕ) → p < n → Line a b p
 
 -- a listing as the header's words and the lines after them
 listing-words : (n : ℕ) (a : Selected) → listingText n a
@@ -170,13 +168,10 @@ text-tells n m a b x y e =
     let c = numbers n m 32 _ _ (omega arith) (append-cancel-left plansWord _ _ (sym (listing-words n a) ∙ e ∙ listing-words m b)) in
     let k = numbers (length (a .kept)) (length (b .kept)) 10 _ _ (omega arith) (append-cancel-left keptWord _ _ (c .rest)) in
     let o : n ≡ m = decimal-same n m (omega (arith, x .plans)) (omega (arith, y .plans)) (c .word) in
-    let l = each n (planText a) (planText b) (Line a b) (λ p h s t v. line-told n m a b x y p h (omega arith) s t v) (k .rest ∙ ap (joinBelow (planText b)) (sym o)) in
     record {
       count = o;
       size = decimal-same _ _ (omega (arith, x .kept)) (omega (arith, y .kept)) (k .word);
-      fronts = λ p h. l p h .front;
-      lines = λ p h. l p h .line;
-      places = λ p h. l p h .place;
+      plans = each n (planText a) (planText b) (Line a b) (λ p h s t v. line-told n m a b x y p h (omega arith) s t v) (k .rest ∙ ap (joinBelow (planText b)) (sym o));
     }
 
 -- ---- the kept list

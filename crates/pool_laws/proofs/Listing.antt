@@ -1,11 +1,9 @@
 -- The listing as the code puts it together.
-use Prim.Native.Nat.{ℕ, zero, suc, _+_, _≤_, _<_}
+use Prim.Native.Nat.{ℕ, _+_, _≤_, _<_}
 use mathlib.Core.Path.{_≡_, refl, ap, sym, _∙_}
-use mathlib.Core.Logic.{⊎-elim}
 use mathlib.Core.List.{List, _++_, append-assoc}
-use native.Mathlib.Nat.{not-suc-le-zero, eq-or-lt-of-le}
 use native.Mathlib.Omega.{arith}
-use lib.ListN.{length, getD, length-append}
+use lib.ListN.{length, getD}
 use Rattle.model.specs.Lists.{listBelow, joinBelow}
 use Rattle.model.specs.Kept.{Selected}
 use Rattle.model.specs.PoolFile.{ascii, decimal, headerText, planText, placeOf, listingText, refusedText}
@@ -30,19 +28,6 @@ unfolding refusedText ascii listBelow
 refused-text n = refl
 
 -- ---- the lines
-
--- a line that is still to come has room
-pub join-room : (f : ℕ → List ℕ) (p n : ℕ) → p < n → length (joinBelow f p) + length (f p) ≤ length (joinBelow f n)
-unfolding joinBelow
-join-room f p zero h = absurd (not-suc-le-zero h)
-join-room f p (suc n) h =
-    let g : p ≤ n = omega arith in
-    let l = length-append (joinBelow f n) (f n) in
-    ⊎-elim
-    (λ e. let u : length (joinBelow f p) ≡ length (joinBelow f n) = ap (λ (k : ℕ). length (joinBelow f k)) e in
-    let v : length (f p) ≡ length (f n) = ap (λ (k : ℕ). length (f k)) e in omega arith)
-    (λ m. omega (arith, join-room f p n m))
-    (eq-or-lt-of-le g)
 
 pub listing-text : (count : ℕ) (kept fronts lines places : List ℕ) → ((p : ℕ) → p < count → getD places p 0 ≡ placeOf kept p)
     → listingText count (listed kept fronts lines) ≡ headerText count (length kept) ++ joinBelow (fieldsOf fronts lines places) count

@@ -11,32 +11,28 @@ use borrow.Author.Tests.{lt-ltb, le-ltb, eq-eqb, ne-eqb, eqb-true, eqb-false}
 use lib.Dec.{eqb}
 use lib.ListN.{length, getD, take, length-append, List·getD-append}
 use lib.Seq.{length-take-le, getD-append-seam}
-use Rattle.model.specs.Lists.{firstBelow, Distinct}
+use Rattle.model.specs.Lists.{firstBelow, placeIn, Distinct}
 use Rattle.model.specs.PoolFile.{placeOf}
 use Rattle.list_laws.proofs.Bools.{by-bool}
+use Rattle.list_laws.proofs.Built.{take-more}
 use Rattle.list_laws.proofs.First.{firstBelow-none, firstBelow-le, firstBelow-still, firstBelow-yes, firstBelow-no, firstBelow-at, firstBelow-passes, firstBelow-same}
 use Rattle.list_laws.proofs.Members.{different-places}
 use Rattle.pool_laws.specs.Text.{Marked}
-use Rattle.pool_laws.proofs.Puts.{take-more}
 
 module _ (l : List ℕ) (p : ℕ) where
   abbrev test : ℕ → Bool
   test i = eqb (getD l i 0) p
 
-  -- the first entry that is plan p
-  abbrev first : ℕ
-  first = firstBelow test (length l)
-
-  found : first < length l → placeOf l p ≡ suc first
+  found : placeIn l p < length l → placeOf l p ≡ suc (placeIn l p)
   unfolding placeOf
-  found h = rw (lt-ltb first (length l) h)
+  found h = rw (lt-ltb (placeIn l p) (length l) h)
 
-  not-found : first ≡ length l → placeOf l p ≡ 0
+  not-found : placeIn l p ≡ length l → placeOf l p ≡ 0
   unfolding placeOf
-  not-found h = rw (le-ltb first (length l) (omega arith))
+  not-found h = rw (le-ltb (placeIn l p) (length l) (omega arith))
 
   -- found, or not
-  where-first : (first ≡ length l) ⊎ (first < length l)
+  where-first : (placeIn l p ≡ length l) ⊎ (placeIn l p < length l)
   where-first = eq-or-lt-of-le (firstBelow-le test (length l))
 
   pub place-le : placeOf l p ≤ length l
@@ -46,8 +42,8 @@ module _ (l : List ℕ) (p : ℕ) where
   pub kept-there : (i : ℕ) → placeOf l p ≡ suc i → getD l i 0 ≡ p
   kept-there i e = ⊎-elim
       (λ h. absurd (omega (arith, not-found h)))
-      (λ h. let w : first ≡ i = omega (arith, found h) in
-      ap (λ (j : ℕ). getD l j 0) (sym w) ∙ eqb-true (getD l first 0) p (firstBelow-passes test (length l) h))
+      (λ h. let w : placeIn l p ≡ i = omega (arith, found h) in
+      ap (λ (j : ℕ). getD l j 0) (sym w) ∙ eqb-true (getD l (placeIn l p) 0) p (firstBelow-passes test (length l) h))
       where-first
 
 -- a plan's place is where it is kept, if it is kept once
@@ -69,15 +65,15 @@ module _ (l : List ℕ) (x p : ℕ) where
   size : length longer ≡ length l + 1
   size = length-append l (x ∷ [])
 
-  old : firstBelow (test longer p) (length l) ≡ first l p
+  old : firstBelow (test longer p) (length l) ≡ placeIn l p
   old = firstBelow-same (test longer p) (test l p) (length l) (λ t h. ap (λ (y : ℕ). eqb y p) (List·getD-append l (x ∷ []) 0 t h))
 
   last : test longer p (length l) ≡ eqb x p
   last = ap (λ (y : ℕ). eqb y p) (getD-append-seam l x [] 0)
 
-  stays : first l p < length l → placeOf longer p ≡ placeOf l p
+  stays : placeIn l p < length l → placeOf longer p ≡ placeOf l p
   stays h =
-      let e : first longer p ≡ first l p = ap (firstBelow (test longer p)) size ∙ firstBelow-still (test longer p) (length l) (omega (arith, old)) ∙ old in
+      let e : placeIn longer p ≡ placeIn l p = ap (firstBelow (test longer p)) size ∙ firstBelow-still (test longer p) (length l) (omega (arith, old)) ∙ old in
       found longer p (omega (arith, size)) ∙ ap suc e ∙ sym (found l p h)
 
   -- it is another plan
@@ -91,16 +87,16 @@ module _ (l : List ℕ) (x p : ℕ) where
   -- it is this plan: its place is the last unless it has one
   place-here : x ≡ p → placeOf longer p ≡ cond (eqb (placeOf l p) 0) (length l + 1) (placeOf l p)
   place-here z = ⊎-elim
-      (λ h. let e : first longer p ≡ length l = ap (firstBelow (test longer p)) size ∙ firstBelow-yes (test longer p) (length l) (old ∙ h) (last ∙ eq-eqb x p z) in
+      (λ h. let e : placeIn longer p ≡ length l = ap (firstBelow (test longer p)) size ∙ firstBelow-yes (test longer p) (length l) (old ∙ h) (last ∙ eq-eqb x p z) in
       found longer p (omega (arith, size)) ∙ ap suc e ∙ rw (not-found l p h) (sym (add-one (length l))))
-      (λ h. stays h ∙ rw (found l p h, ne-eqb (suc (first l p)) 0 (λ v. omega arith)))
+      (λ h. stays h ∙ rw (found l p h, ne-eqb (suc (placeIn l p)) 0 (λ v. omega arith)))
       (where-first l p)
 
 -- entry i marked: the place of every plan among the first i + 1 is right
 pub marked-more : (kept before after : List ℕ) (i p n : ℕ) → n ≡ length before → i < length kept → p ≡ getD kept i 0 → Marked before p i after
     → ((q : ℕ) → q < n → getD before q 0 ≡ placeOf (take i kept) q) → (q : ℕ) → q < n → getD after q 0 ≡ placeOf (take (i + 1) kept) q
 marked-more kept before after i p n s l e m f q h =
-    marked ∙ sym (ap (λ (t : List ℕ). placeOf t q) (take-more kept i 0 l))
+    marked ∙ sym (ap (λ (t : List ℕ). placeOf t q) (take-more 0 kept i l))
   where
     marked : getD after q 0 ≡ placeOf (take i kept ++ (getD kept i 0 ∷ [])) q
     marked = by-bool (eqb p q)

@@ -1,9 +1,8 @@
 -- The listing of a selection that is accepted is at most 20,501 bytes long, so a slice of that length has room for it.
 use Prim.Native.Nat.{ℕ, _≤_, _<_}
-use mathlib.Core.Path.{_≡_}
+use mathlib.Core.Path.{_≡_, ap}
 use mathlib.Core.Bool.{Bool}
 use mathlib.Core.Logic.{_⊎_, inl, inr}
-use native.Mathlib.Nat.{le-trans}
 use native.Mathlib.Omega.{arith}
 use lib.ListN.{length, getD, getD-replicate}
 use Rattle.model.specs.Lists.{has}
@@ -16,8 +15,7 @@ use Rattle.model.specs.Calls.{maxText}
 use Rattle.list_laws.proofs.First.{firstBelow-le}
 use Rattle.list_laws.proofs.Built.{listBelow-at}
 use Rattle.niching_laws.proofs.Association.{lineOf-inside}
-use Rattle.niching_laws.proofs.KeptLength.{kept-length}
-use Rattle.niching_laws.proofs.KeptLength.{by-split}
+use Rattle.niching_laws.proofs.KeptLength.{kept-length, by-split, fronts-all}
 use Rattle.pool_laws.proofs.Lengths.{Small, listing-short}
 
 front-le : (d : ℕ → ℕ → Bool) (n p : ℕ) → p < n → getD (frontList d n) p 0 ≤ n
@@ -28,10 +26,7 @@ front-le d n p h = rw (listBelow-at (frontOf d n) n 0 p h) (firstBelow-le (λ k.
 
 module _ (r : Request) (size : r .size ≤ maxSize) (count : r .count ≤ maxSize) (some : 0 < lineCount r) (lines : lineCount r ≤ maxSize) where
   fronts-small : (p : ℕ) → p < r .count → getD (selected r .fronts) p 0 ≤ maxSize
-  unfolding selectedSplit selectedWhole
-  fronts-small p h =
-      let f = le-trans (front-le (dominance r) (r .count) p h) count in
-      by-split r (λ s. getD (s .fronts) p 0 ≤ maxSize) f f
+  fronts-small p h = omega (arith, ap (λ l. getD l p 0) (fronts-all r), front-le (dominance r) (r .count) p h)
 
   lines-small : (p : ℕ) → p < r .count → (getD (selected r .lines) p 0 ≤ maxSize) ⊎ (getD (selected r .lines) p 0 ≡ noLine)
   unfolding selectedSplit selectedWhole

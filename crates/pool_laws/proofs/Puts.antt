@@ -1,13 +1,11 @@
 -- Laws of texts put one after the other.
 use Prim.Native.Nat.{ℕ, _+_, _≤_, _<_}
-use mathlib.Core.Path.{_≡_, refl, ap, sym, _∙_}
+use mathlib.Core.Path.{_≡_, refl, sym, _∙_}
 use mathlib.Core.List.{List, [], _∷_, _++_}
-use native.Mathlib.Nat.{zero-add}
-use native.Mathlib.Numerals.{add-one}
 use native.Mathlib.Omega.{arith}
-use lib.ListN.{length, getD, take, drop, set, length-append}
-use lib.Seq.{sets-eq, take-suc}
+use lib.ListN.{length, getD, take, set, length-append}
 use Rattle.model.specs.Lists.{over}
+use Rattle.list_laws.proofs.Built.{over-run, take-more}
 use Rattle.list_laws.proofs.Stores.{put-then, put-length, put-as}
 use Rattle.list_laws.specs.Put.{Put}
 use Rattle.pool_laws.specs.Text.{Four, joined}
@@ -20,19 +18,15 @@ pub room-rest : (o₀ o₁ : List ℕ) (at r : ℕ) (a b : List ℕ) → at + le
 room-rest o₀ o₁ at r a b h p = omega (arith, length-append a b, p .ends, put-length o₀ o₁ at r a p)
 
 -- a text put byte by byte: one more
-pub take-more : {A : Type 0} (l : List A) (i : ℕ) (d : A) → i < length l → take (i + 1) l ≡ take i l ++ (getD l i d ∷ [])
-take-more l i d h = rw add-one (take-suc l i d h)
-
 pub put-more : (o₀ o₁ text : List ℕ) (at i : ℕ) → i < length text → Put o₀ at (take i text) o₁ (at + i)
     → Put o₀ at (take (i + 1) text) (set o₁ (at + i) (getD text i 0)) (at + (i + 1))
 put-more o₀ o₁ text at i h p =
-    put-as o₀ _ at (at + (i + 1)) _ _ (sym (take-more text i 0 h))
+    put-as o₀ _ at (at + (i + 1)) _ _ (sym (take-more 0 text i h))
     (put-then o₀ o₁ _ at (at + i) (at + (i + 1)) (take i text) (getD text i 0 ∷ []) p (record { stored = refl; ends = omega arith }))
 
 -- at the front: what lies past the text is as it was
 pub put-over : (o₀ o₁ : List ℕ) (r : ℕ) (a : List ℕ) → length a ≤ length o₀ → Put o₀ 0 a o₁ r → o₁ ≡ over a o₀
-put-over o₀ o₁ r a h p =
-    p .stored ∙ sets-eq a o₀ 0 (omega arith) ∙ ap (λ (k : ℕ). a ++ drop k o₀) (zero-add (length a))
+put-over o₀ o₁ r a h p = p .stored ∙ over-run [] a o₀ 0 refl (omega arith)
 
 -- ---- four texts, one after the other
 

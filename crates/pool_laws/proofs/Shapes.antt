@@ -9,9 +9,8 @@ use lib.Dec.{leb}
 use lib.ListN.{length, getD, length-map}
 use Rattle.model.specs.Real.{real}
 use Rattle.model.specs.Plan.{Plan}
-use Rattle.model.specs.PoolFile.{Parsed, Reader, PoolFile, number, many, plan, poolFile, parse, ifNoneLeft, maxFile, noPlan}
+use Rattle.model.specs.PoolFile.{Parsed, Reader, PoolFile, pure, number, many, plan, poolFile, parse, ifNoneLeft, maxFile, noPlan}
 use Rattle.list_laws.proofs.Bools.{by-bool, by-option}
-use Rattle.pool_number.specs.Reading.{read}
 use Rattle.pool_file.specs.declared.Header.{Header}
 use Rattle.pool_file.specs.Parsing.{headerOf, afterHeader}
 use Rattle.pool_file.proofs.Whole.{header-first}
@@ -20,7 +19,7 @@ use Rattle.pool_number.proofs.Options.{both-read, many-parts, many-length}
 -- ---- each of many
 
 module _ {A : Type 0} (r : Reader A) (Q : A → Type 0) (each : (bytes : List ℕ) (p : Parsed A) → r bytes ≡ some p → Q (p .value)) (d : A) where
-  many-each : (n : ℕ) (bytes : List ℕ) (l : List A) (rest : List ℕ) → many n r bytes ≡ read l rest → (i : ℕ) → i < n → Q (getD l i d)
+  many-each : (n : ℕ) (bytes : List ℕ) (l : List A) (rest : List ℕ) → many n r bytes ≡ pure l rest → (i : ℕ) → i < n → Q (getD l i d)
   many-each zero bytes l rest e i h = absurd (not-suc-le-zero h)
   many-each (suc n) bytes l rest e zero h =
       let p = many-parts r n bytes l rest e in

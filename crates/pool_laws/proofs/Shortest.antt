@@ -7,13 +7,13 @@ use mathlib.Core.List.{List, [], _∷_, _++_}
 use mathlib.Core.Option.{some}
 use native.Mathlib.Nat.{add-mul, mul-assoc, mul-comm}
 use native.Mathlib.Omega.{arith}
-use borrow.Author.Tests.{lt-ltb, le-ltb, leb-true, ltb-true, ltb-false, eqb-true}
+use borrow.Author.Tests.{lt-ltb, le-ltb, leb-true, ltb-true, eqb-true}
 use lib.Dec.{eqb, leb, ltb}
 use lib.Pow.{shr-lt, pow-add}
 use lib.ListN.{length, getD}
-use Rattle.model.specs.PoolFile.{Parsed, numberFrom, number, groupsOf, written}
+use Rattle.model.specs.PoolFile.{Parsed, pure, numberFrom, number, groupsOf, written}
 use Rattle.list_laws.proofs.Bools.{by-bool, and-left, and-right}
-use Rattle.pool_number.specs.Reading.{read}
+use Rattle.list_laws.proofs.Below.{by-lt}
 use Rattle.pool_number.proofs.Groups.{good-last, from-last, from-more, number-by}
 
 -- how many bits g + 1 groups hold
@@ -43,19 +43,18 @@ groups-more g n h = rw (le-ltb n 128 h)
 
 -- one group, as many as there may be
 back-one : (g k acc n : ℕ) (rest : List ℕ) → n < 128 → acc + n * 2 ^ k < 2 ^ 64 → (1 ≤ n) ⊎ (k ≡ 0)
-    → numberFrom k acc (groupsOf (suc g) n ++ rest) ≡ read (acc + n * 2 ^ k) rest
+    → numberFrom k acc (groupsOf (suc g) n ++ rest) ≡ pure (acc + n * 2 ^ k) rest
 back-one g k acc n rest l f s =
     let e : n % 128 ≡ n = omega arith in
     ap (λ (t : List ℕ). numberFrom k acc (t ++ rest)) (groups-one g n l) ∙ rw e at (from-last k acc n rest l (rw e f) s)
 
 back : (g k acc n : ℕ) (rest : List ℕ) → n < 2 ^ width g → acc + n * 2 ^ k < 2 ^ 64 → (1 ≤ n) ⊎ (k ≡ 0)
-    → numberFrom k acc (groupsOf (suc g) n ++ rest) ≡ read (acc + n * 2 ^ k) rest
+    → numberFrom k acc (groupsOf (suc g) n ++ rest) ≡ pure (acc + n * 2 ^ k) rest
 unfolding width
 back zero k acc n rest h f s = back-one 0 k acc n rest h f s
-back (suc g) k acc n rest h f s = by-bool (ltb n 128)
-    (λ e. back-one (suc g) k acc n rest (ltb-true n 128 e) f s)
-    (λ e. let l : 128 ≤ n = ltb-false n 128 e in
-    let q : n / 128 < 2 ^ width g = shr-lt (width g) 7 h in
+back (suc g) k acc n rest h f s = by-lt n 128
+    (λ l. back-one (suc g) k acc n rest l f s)
+    (λ l. let q : n / 128 < 2 ^ width g = shr-lt (width g) 7 h in
     let z = shifted acc n k in
     let m : (n % 128 + 128) % 128 ≡ n % 128 = omega arith in
     let o : 1 ≤ n / 128 = omega arith in
@@ -63,13 +62,13 @@ back (suc g) k acc n rest h f s = by-bool (ltb n 128)
     ∙ from-more k acc (n % 128 + 128) (groupsOf (suc g) (n / 128) ++ rest) (omega arith)
     ∙ ap (λ (x : ℕ). numberFrom (k + 7) (acc + x * 2 ^ k) (groupsOf (suc g) (n / 128) ++ rest)) m
     ∙ back g (k + 7) (acc + n % 128 * 2 ^ k) (n / 128) rest q (omega arith) (inl o)
-    ∙ ap (λ (x : ℕ). read x rest) z)
+    ∙ ap (λ (x : ℕ). pure x rest) z)
 
-pub read-back : (n : ℕ) (rest : List ℕ) → n < 2 ^ 64 → number (written n ++ rest) ≡ read n rest
+pub read-back : (n : ℕ) (rest : List ℕ) → n < 2 ^ 64 → number (written n ++ rest) ≡ pure n rest
 unfolding width
 read-back n rest h =
     let e : 0 + n * 2 ^ 0 ≡ n = omega arith in
-    back 9 0 0 n rest (omega arith) (omega arith) (inr refl) ∙ ap (λ (x : ℕ). read x rest) e
+    back 9 0 0 n rest (omega arith) (omega arith) (inr refl) ∙ ap (λ (x : ℕ). pure x rest) e
 
 -- ---- what is read is written so
 
@@ -134,7 +133,7 @@ pub record Written (bytes : List ℕ) (v : ℕ) (rest : List ℕ) : Type 0 where
   pub word : v < 2 ^ 64
   pub form : bytes ≡ written v ++ rest
 
-pub read-written : (bytes : List ℕ) (v : ℕ) (rest : List ℕ) → Bytes bytes → number bytes ≡ read v rest → Written bytes v rest
+pub read-written : (bytes : List ℕ) (v : ℕ) (rest : List ℕ) → Bytes bytes → number bytes ≡ pure v rest → Written bytes v rest
 unfolding width
 read-written bytes v rest y e =
     let p : Parsed ℕ = record { value = v; rest = rest } in
@@ -144,5 +143,5 @@ read-written bytes v rest y e =
     record { word = w; form = f .form 9 (omega arith) ∙ ap (λ (x : ℕ). groupsOf 10 x ++ rest) u }
 
 -- so no two forms are one number's
-pub one-form : (a b : List ℕ) (v : ℕ) (rest : List ℕ) → Bytes a → Bytes b → number a ≡ read v rest → number b ≡ read v rest → a ≡ b
+pub one-form : (a b : List ℕ) (v : ℕ) (rest : List ℕ) → Bytes a → Bytes b → number a ≡ pure v rest → number b ≡ pure v rest → a ≡ b
 one-form a b v rest x y e f = read-written a v rest x e .form ∙ sym (read-written b v rest y f .form)

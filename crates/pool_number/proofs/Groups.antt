@@ -6,18 +6,17 @@ use mathlib.Core.Logic.{_⊎_, ⊎-elim}
 use mathlib.Core.List.{List, [], _∷_}
 use mathlib.Core.Option.{none, some, Option·none-ne-some, Option·some-injective}
 use native.Mathlib.Nat.{lt-of-lt-of-le, add-comm, mul-le-mul-right}
-use native.Mathlib.Numerals.{add-one}
 use native.Mathlib.Omega.{arith}
 use borrow.Author.Tests.{eq-eqb, ne-eqb, lt-ltb, le-ltb, le-leb, lt-leb, leb-true, leb-false}
 use lib.Dec.{eqb, leb, ltb}
 use lib.Arith.{digits-lt}
 use lib.Pow.{shl-exact, pow-mono, pow-add}
 use lib.ListN.{length, drop, getD, length-drop, drop-of-length-le}
-use lib.Seq.{drop-cons}
-use Rattle.model.specs.PoolFile.{Parsed, numberFrom}
+use Rattle.model.specs.PoolFile.{Parsed, pure, numberFrom}
 use Rattle.list_laws.proofs.Bools.{by-bool}
+use Rattle.list_laws.proofs.Built.{drop-next}
 use Rattle.pool_number.specs.declared.Read.the-variants.{Number}
-use Rattle.pool_number.specs.Reading.{read, asRead}
+use Rattle.pool_number.specs.Reading.{asRead}
 
 -- a last byte ends a number below 2^64 in its shortest form
 abbrev pub good-last : ℕ → ℕ → ℕ → Bool
@@ -31,11 +30,11 @@ module _ (k n b : ℕ) (rest : List ℕ) where
   from-more l = rw (le-leb 128 b l)
 
   -- the last
-  from-ended : b < 128 → (t : Bool) → good-last k n b ≡ t → numberFrom k n (b ∷ rest) ≡ cond t (read (n + b % 128 * 2 ^ k) rest) none
+  from-ended : b < 128 → (t : Bool) → good-last k n b ≡ t → numberFrom k n (b ∷ rest) ≡ cond t (pure (n + b % 128 * 2 ^ k) rest) none
   unfolding numberFrom
   from-ended l t e = rw (lt-leb 128 b l, e)
 
-  pub from-last : b < 128 → n + b % 128 * 2 ^ k < 2 ^ 64 → (1 ≤ b) ⊎ (k ≡ 0) → numberFrom k n (b ∷ rest) ≡ read (n + b % 128 * 2 ^ k) rest
+  pub from-last : b < 128 → n + b % 128 * 2 ^ k < 2 ^ 64 → (1 ≤ b) ⊎ (k ≡ 0) → numberFrom k n (b ∷ rest) ≡ pure (n + b % 128 * 2 ^ k) rest
   from-last l f s =
       let t : (leb 1 b || eqb k 0) ≡ true = ⊎-elim (λ g. rw (le-leb 1 b g)) (λ z. rw (eq-eqb k 0 z, or-true)) s in
       from-ended l true (rw (lt-ltb (n + b % 128 * 2 ^ k) (2 ^ 64) f, t))
@@ -75,7 +74,7 @@ from-end s k n p h = rw (drop-of-length-le s h)
 
 -- the bytes from a place on, the first before the others
 pub opened : (s : List ℕ) (p b : ℕ) → b ≡ getD s p 0 → p < length s → drop p s ≡ b ∷ drop (p + 1) s
-opened s p b e h = rw (e, add-one, drop-cons s p 0)
+opened s p b e h = rw e (drop-next 0 s p h)
 
 -- ---- all bytes of a number
 
@@ -120,5 +119,5 @@ taken n k b h l d w = ⊎-elim
 
 -- ---- the answer as the code's enum
 
-pub as-number : (s : List ℕ) (v q : ℕ) → q ≤ length s → Number v q ≡ asRead (length s) (read v (drop q s))
+pub as-number : (s : List ℕ) (v q : ℕ) → q ≤ length s → Number v q ≡ asRead (length s) (pure v (drop q s))
 as-number s v q h = ap (λ (t : ℕ). Number v t) (omega (arith, length-drop q s))

@@ -6,10 +6,10 @@ use mathlib.Core.Option.{Option, some}
 use native.Mathlib.Omega.{arith}
 use lib.ListN.{length, drop, length-drop}
 use lib.Seq.{drop-drop}
-use Rattle.model.specs.PoolFile.{Parsed, number}
+use Rattle.model.specs.PoolFile.{Parsed, pure, number}
 use Rattle.list_laws.proofs.Bools.{by-option}
 use Rattle.pool_number.specs.declared.Read.{Read}
-use Rattle.pool_number.specs.Reading.{read, asRead, numberAt, ReadIs}
+use Rattle.pool_number.specs.Reading.{asRead, numberAt, ReadIs}
 use Rattle.pool_number.proofs.Groups.{number-by}
 
 -- some bytes, and at least one, are taken from the front
@@ -26,13 +26,13 @@ front bytes p e = number-by (λ k n bytes p. Front bytes p)
     bytes 0 0 p e
 
 ends-at : (bytes : List ℕ) (at : ℕ) (p : Parsed ℕ) → number (drop at bytes) ≡ some p
-    → number (drop at bytes) ≡ read (p .value) (drop (length bytes - length (p .rest)) bytes)
+    → number (drop at bytes) ≡ pure (p .value) (drop (length bytes - length (p .rest)) bytes)
 ends-at bytes at p e =
     let f = front (drop at bytes) p e in
     let l = length-drop at bytes in
     let t : length (p .rest) ≡ length bytes - at - f .taken = ap length (f .ends) ∙ length-drop (f .taken) (drop at bytes) ∙ omega arith in
     let n : at + f .taken ≡ length bytes - length (p .rest) = omega (arith, f .one, f .there) in
-    e ∙ ap (λ (s : List ℕ). read (p .value) s) (f .ends ∙ drop-drop (f .taken) at bytes ∙ ap (λ (i : ℕ). drop i bytes) n)
+    e ∙ ap (λ (s : List ℕ). pure (p .value) s) (f .ends ∙ drop-drop (f .taken) at bytes ∙ ap (λ (i : ℕ). drop i bytes) n)
 
 -- the answer by cases
 numberAt-is : (bytes : List ℕ) (at : ℕ) → ReadIs bytes at (numberAt bytes at)

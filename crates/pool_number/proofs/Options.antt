@@ -8,7 +8,6 @@ use native.Mathlib.Omega.{arith}
 use lib.ListN.{length}
 use Rattle.model.specs.PoolFile.{Parsed, Reader, pure, onward, many}
 use Rattle.list_laws.proofs.Bools.{by-option}
-use Rattle.pool_number.specs.Reading.{read}
 
 -- a reader after another: where the two read, the first did, and the second what it left
 module _ {A B : Type 0} where
@@ -20,7 +19,7 @@ module _ {A B : Type 0} where
 -- ---- so many of the same
 
 module _ {A : Type 0} (r : Reader A) where
-  pub many-zero : (bytes : List ℕ) → many 0 r bytes ≡ read [] bytes
+  pub many-zero : (bytes : List ℕ) → many 0 r bytes ≡ pure [] bytes
   unfolding many
   many-zero bytes = refl
 
@@ -33,7 +32,7 @@ module _ {A : Type 0} (r : Reader A) where
     pub values : l ≡ head .value ∷ tail .value
     pub ends : rest ≡ tail .rest
 
-  pub many-parts : (i : ℕ) (bytes : List ℕ) (l : List A) (rest : List ℕ) → many (suc i) r bytes ≡ read l rest → Parts i bytes l rest
+  pub many-parts : (i : ℕ) (bytes : List ℕ) (l : List A) (rest : List ℕ) → many (suc i) r bytes ≡ pure l rest → Parts i bytes l rest
   unfolding many
   many-parts i bytes l rest e =
       let a = both-read (r bytes) _ _ e in
@@ -41,14 +40,14 @@ module _ {A : Type 0} (r : Reader A) where
       let s = Option·some-injective _ _ (sym (b .2)) in
       record { head = a .0; tail = b .0; first = a .1; later = b .1; values = ap (λ (p : Parsed (List A)). p .value) s; ends = ap (λ (p : Parsed (List A)). p .rest) s }
 
-  pub many-length : (i : ℕ) (bytes : List ℕ) (l : List A) (rest : List ℕ) → many i r bytes ≡ read l rest → length l ≡ i
+  pub many-length : (i : ℕ) (bytes : List ℕ) (l : List A) (rest : List ℕ) → many i r bytes ≡ pure l rest → length l ≡ i
   many-length zero bytes l rest e = ap (λ (p : Parsed (List A)). length (p .value)) (Option·some-injective _ _ (sym e ∙ many-zero bytes))
   many-length (suc i) bytes l rest e =
       let p = many-parts i bytes l rest e in
       ap length (p .values) ∙ ap suc (many-length i (p .head .rest) (p .tail .value) (p .tail .rest) (p .later))
 
   -- after i that are read, n more
-  many-then : (i n : ℕ) (bytes : List ℕ) (l : List A) (rest : List ℕ) → many i r bytes ≡ read l rest
+  many-then : (i n : ℕ) (bytes : List ℕ) (l : List A) (rest : List ℕ) → many i r bytes ≡ pure l rest
       → many (i + n) r bytes ≡ onward (many n r rest) (λ t. pure (l ++ t))
   unfolding many
   many-then zero n bytes l rest e =
@@ -64,13 +63,13 @@ module _ {A : Type 0} (r : Reader A) where
       q ∙ sym (ap₂ (λ k s. onward (many n r s) (λ t. pure (k ++ t))) (p .values) (p .ends))
 
   -- one more after those read
-  pub many-more : (i : ℕ) (bytes : List ℕ) (l : List A) (rest : List ℕ) (a : A) (rest′ : List ℕ) → many i r bytes ≡ read l rest → r rest ≡ read a rest′
-      → many (i + 1) r bytes ≡ read (l ++ (a ∷ [])) rest′
+  pub many-more : (i : ℕ) (bytes : List ℕ) (l : List A) (rest : List ℕ) (a : A) (rest′ : List ℕ) → many i r bytes ≡ pure l rest → r rest ≡ pure a rest′
+      → many (i + 1) r bytes ≡ pure (l ++ (a ∷ [])) rest′
   unfolding many
   many-more i bytes l rest a rest′ e f = many-then i 1 bytes l rest e ∙ rw f
 
   -- where the next is none, there are not so many
-  pub many-stop : (i n : ℕ) (bytes : List ℕ) (l : List A) (rest : List ℕ) → i < n → many i r bytes ≡ read l rest → r rest ≡ none → many n r bytes ≡ none
+  pub many-stop : (i n : ℕ) (bytes : List ℕ) (l : List A) (rest : List ℕ) → i < n → many i r bytes ≡ pure l rest → r rest ≡ none → many n r bytes ≡ none
   unfolding many
   many-stop i n bytes l rest h e f =
       let k : n ≡ i + suc (n - suc i) = omega arith in

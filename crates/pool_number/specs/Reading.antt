@@ -4,14 +4,9 @@ use mathlib.Core.Path.{_≡_}
 use mathlib.Core.List.{List}
 use mathlib.Core.Option.{Option, none, some}
 use lib.ListN.{length, drop}
-use Rattle.model.specs.PoolFile.{Parsed, number}
+use Rattle.model.specs.PoolFile.{Parsed, pure, number}
 use Rattle.pool_number.specs.declared.Read.{Read}
 use Rattle.pool_number.specs.declared.Read.the-variants.{Number, Broken}
-
--- a reader's answer
-module _ {A : Type 0} where
-  abbrev pub read : A → List ℕ → Option (Parsed A)
-  read a bytes = some (record { value = a; rest = bytes })
 
 -- model's answer as the code's: of n bytes, the number ends where so many are left
 abbrev pub asRead : ℕ → Option (Parsed ℕ) → Read
@@ -24,5 +19,5 @@ numberAt bytes at = asRead (length bytes) (number (drop at bytes))
 
 -- the same by cases: the bytes left are those from the place answered on
 abbrev pub ReadIs : List ℕ → ℕ → Read → Type 0
-ReadIs bytes at (Number v next) = number (drop at bytes) ≡ read v (drop next bytes)
+ReadIs bytes at (Number v next) = number (drop at bytes) ≡ pure v (drop next bytes)
 ReadIs bytes at Broken = number (drop at bytes) ≡ none

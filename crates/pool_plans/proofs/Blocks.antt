@@ -1,24 +1,22 @@
 -- A plan in its block of words.
 use Prim.Native.Nat.{ℕ, suc, _+_, _*_, _≤_, _<_, min}
-use mathlib.Core.Path.{_≡_, ap, sym, _∙_, subst}
+use mathlib.Core.Path.{_≡_, ap, sym, _∙_}
 use mathlib.Core.Logic.{_⊎_, ⊎-elim}
-use mathlib.Core.List.{List, [], map}
+use mathlib.Core.List.{List, map}
 use mathlib.Core.Option.{none}
 use native.Mathlib.Nat.{add-zero, min-comm, min-le-left, min-le-right, le-min}
 use native.Mathlib.Omega.{arith}
 use lib.ListN.{length, getD, take, drop, set, length-take, length-map, length-set, List·getD-map}
-use lib.Seq.{sets, length-sets, take-all, getD-take, getD-set-same, getD-set-other}
+use lib.Seq.{sets, length-sets, getD-take, getD-set-same, getD-set-other}
 use Rattle.model.specs.Lists.{listBelow}
 use Rattle.model.specs.Real.{real}
-use Rattle.model.specs.Plan.{Plan, Setting, planOf, planWords}
-use Rattle.model.specs.PoolFile.{number, many, plan}
-use Rattle.list_laws.proofs.Built.{listBelow-same, listBelow-take}
-use Rattle.pool_number.specs.Reading.{read}
+use Rattle.model.specs.Plan.{Plan, measuredPlan, settingIn, planOf, planFrom, planWords}
+use Rattle.model.specs.PoolFile.{pure, number, many, plan}
+use Rattle.list_laws.proofs.Built.{listBelow-same, listBelow-whole}
 use Rattle.pool_plans.specs.declared.End.{End}
 use Rattle.pool_plans.specs.declared.End.the-variants as end
-use Rattle.pool_plans.specs.Blocks.{Reads, Words, WordsIs, Block, roomed}
-use Rattle.pool_number.proofs.Options.{many-length}
-use Rattle.pool_plans.proofs.Storing.{stored-plain}
+use Rattle.pool_plans.specs.Blocks.{Reads, Held, Words, WordsIs, counted, Block, roomed}
+use Rattle.pool_plans.proofs.Storing.{as-told, reads-count, stored-plain}
 use Rattle.list_laws.proofs.Runs.{before-run, sets-past, in-run}
 
 -- ---- the plan that words form
@@ -27,25 +25,15 @@ use Rattle.list_laws.proofs.Runs.{before-run, sets-past, in-run}
 values-of : (word : ℕ → ℕ) (vs : List ℕ) (n room : ℕ) → length vs ≡ n → ((j : ℕ) → j < n → j < room → word j ≡ getD vs j 0)
     → listBelow (λ j. real (word j)) (min n room) ≡ take room (map real vs)
 values-of word vs n room e h =
-    let l = take room (map real vs) in
-    let s : length l ≡ min n room = length-take room (map real vs) ∙ ap (min room) (length-map vs real ∙ e) ∙ min-comm room n in
     let a = min-le-left n room in
     let b = min-le-right n room in
-    sym (listBelow-take (λ j. real (word j)) (min n room) (real 0) l (omega arith)
-    (λ t u. getD-take room (map real vs) t (real 0) (omega arith) ∙ List·getD-map real vs t 0 ∙ ap real (sym (h t (omega arith) (omega arith)))))
-    ∙ take-all (min n room) l (omega arith)
+    listBelow-whole (λ j. real (word j)) (min n room) (real 0) (take room (map real vs))
+    (length-take room (map real vs) ∙ ap (min room) (length-map vs real ∙ e) ∙ min-comm room n)
+    (λ t u. ap real (h t (omega arith) (omega arith)) ∙ sym (getD-take room (map real vs) t (real 0) (omega arith) ∙ List·getD-map real vs t 0))
 
--- a plan of m values and c constraints
-abbrev pub made : ℕ → List ℕ → ℕ → List ℕ → Plan
-made m vs c cs = record {
-  number = 0;
-  rowLength = m;
-  row = map real vs;
-  constraintCount = c;
-  constraints = map real cs;
-  settingCount = 0;
-  settings = [];
-}
+-- a plan of m values and c constraints, as a file has it
+abbrev made : ℕ → List ℕ → ℕ → List ℕ → Plan
+made m vs c cs = measuredPlan m (map real vs) c (map real cs)
 
 planOf-made : (word : ℕ → ℕ) (m c : ℕ) (vs cs : List ℕ) → length vs ≡ m → length cs ≡ c
     → word 0 ≡ 0 → word 1 ≡ m → ((j : ℕ) → j < m → j < 8 → word (2 + j) ≡ getD vs j 0)
@@ -56,9 +44,6 @@ planOf-made word m c vs cs a b w0 w1 w2 w10 w11 w27 =
     rw (w0, w1, w10, w27, values-of (λ j. word (2 + j)) vs m 8 a w2, values-of (λ j. word (11 + j)) cs c 16 b w11)
 
 -- only the words of the block matter
-abbrev setting : (ℕ → ℕ) → ℕ → Setting
-setting word j = record { param = word (28 + 3 * j); kind = word (29 + 3 * j); value = word (30 + 3 * j) }
-
 pub planOf-same : (f g : ℕ → ℕ) → ((j : ℕ) → j < planWords → f j ≡ g j) → planOf f ≡ planOf g
 unfolding planOf
 planOf-same f g h =
@@ -72,15 +57,12 @@ planOf-same f g h =
       h 27 (omega arith),
       listBelow-same (λ j. real (f (2 + j))) (λ j. real (g (2 + j))) (min (g 1) 8) (λ t l. ap real (h (2 + t) (omega arith))),
       listBelow-same (λ j. real (f (11 + j))) (λ j. real (g (11 + j))) (min (g 10) 16) (λ t l. ap real (h (11 + t) (omega arith))),
-      listBelow-same (setting f) (setting g) (min (g 27) 32) (λ t l. rw (h (28 + 3 * t) (omega arith), h (29 + 3 * t) (omega arith), h (30 + 3 * t) (omega arith))),
+      listBelow-same (settingIn f) (settingIn g) (min (g 27) 32) (λ t l. rw (h (28 + 3 * t) (omega arith), h (29 + 3 * t) (omega arith), h (30 + 3 * t) (omega arith))),
     )
 
 -- ---- what is stored
 
 -- the counts stand at their four places, and the other words stay
-counted : List ℕ → ℕ → ℕ → ℕ → List ℕ
-counted l base m c = set (set (set (set l base 0) (base + 1) m) (base + 10) c) (base + 27) 0
-
 module _ (l : List ℕ) (base m c : ℕ) (room : base + 124 ≤ length l) where
   abbrev first-two : List ℕ
   first-two = set (set l base 0) (base + 1) m
@@ -157,7 +139,7 @@ module _ (l : List ℕ) (base m c : ℕ) (vs cs : List ℕ) (a : length vs ≡ m
       ∙ in-run rows (base + 11) (take 16 cs) j (taken-lt 16 c j cs b h g) (omega (arith, rows-length))
       ∙ getD-take 16 cs j 0 g
 
-  block-plan : planOf (λ j. getD block (base + j) 0) ≡ roomed (made m vs c cs)
+  block-plan : planFrom block base ≡ roomed (made m vs c cs)
   unfolding block
   block-plan =
       planOf-made (λ j. getD block (base + j) 0) m c vs cs a b (counted-0 filled base m c space) (counted-1 filled base m c space) value-at
@@ -181,17 +163,17 @@ plan-none : (m : ℕ) (bytes : List ℕ) → many m number bytes ≡ none → pl
 unfolding plan
 plan-none m bytes e = rw e
 
-plan-no-count : (m : ℕ) (bytes : List ℕ) (vs rest : List ℕ) → many m number bytes ≡ read vs rest → number rest ≡ none → plan m bytes ≡ none
+plan-no-count : (m : ℕ) (bytes : List ℕ) (vs rest : List ℕ) → many m number bytes ≡ pure vs rest → number rest ≡ none → plan m bytes ≡ none
 unfolding plan
 plan-no-count m bytes vs rest e f = rw (e, f)
 
-plan-short : (m : ℕ) (bytes : List ℕ) (vs rest : List ℕ) (c : ℕ) (rest′ : List ℕ) → many m number bytes ≡ read vs rest → number rest ≡ read c rest′
+plan-short : (m : ℕ) (bytes : List ℕ) (vs rest : List ℕ) (c : ℕ) (rest′ : List ℕ) → many m number bytes ≡ pure vs rest → number rest ≡ pure c rest′
     → many c number rest′ ≡ none → plan m bytes ≡ none
 unfolding plan
 plan-short m bytes vs rest c rest′ e f g = rw (e, f, g)
 
-plan-good : (m : ℕ) (bytes : List ℕ) (vs rest : List ℕ) (c : ℕ) (rest′ cs rest″ : List ℕ) → many m number bytes ≡ read vs rest → number rest ≡ read c rest′
-    → many c number rest′ ≡ read cs rest″ → plan m bytes ≡ read (made m vs c cs) rest″
+plan-good : (m : ℕ) (bytes : List ℕ) (vs rest : List ℕ) (c : ℕ) (rest′ cs rest″ : List ℕ) → many m number bytes ≡ pure vs rest → number rest ≡ pure c rest′
+    → many c number rest′ ≡ pure cs rest″ → plan m bytes ≡ pure (made m vs c cs) rest″
 unfolding plan
 plan-good m bytes vs rest c rest′ cs rest″ e f g = rw (e, f, g)
 
@@ -199,30 +181,30 @@ plan-good m bytes vs rest c rest′ cs rest″ e f g = rw (e, f, g)
 
 module _ (file : List ℕ) (at m base : ℕ) (l : List ℕ) where
   pub block-none : (o : List ℕ) (r : End) → WordsIs (λ v. v) file at m 8 (base + 2) l o r → r ≡ end.Broken → plan m (drop at file) ≡ none
-  block-none o r w e = plan-none m (drop at file) (subst (λ (x : End). WordsIs (λ v. v) file at m 8 (base + 2) l o x) e w)
+  block-none o r w e = plan-none m (drop at file) (as-told (many m number) _ file at e w)
 
   module _ (o₁ : List ℕ) (r : End) (p : ℕ) (w : WordsIs (λ v. v) file at m 8 (base + 2) l o₁ r) (e : r ≡ end.At p) where
     first : Words (λ v. v) file at m 8 (base + 2) l o₁ p
-    first = subst (λ (x : End). WordsIs (λ v. v) file at m 8 (base + 2) l o₁ x) e w
+    first = as-told (many m number) _ file at e w
 
     pub block-no-count : number (drop p file) ≡ none → plan m (drop at file) ≡ none
     block-no-count f = plan-no-count m (drop at file) (first .value) (drop p file) (first .reads) f
 
-    module _ (c q : ℕ) (f : number (drop p file) ≡ read c (drop q file)) (o₂ : List ℕ) (r′ : End) where
+    module _ (c q : ℕ) (f : number (drop p file) ≡ pure c (drop q file)) (o₂ : List ℕ) (r′ : End) where
       -- wherever the constraints were to stand
       pub block-short : (place : ℕ) → WordsIs (λ v. v) file q c 16 place o₁ o₂ r′ → r′ ≡ end.Broken → plan m (drop at file) ≡ none
       block-short place w′ g = plan-short m (drop at file) (first .value) (drop p file) c (drop q file) (first .reads) f
-          (subst (λ (x : End). WordsIs (λ v. v) file q c 16 place o₁ o₂ x) g w′)
+          (as-told (many c number) _ file q g w′)
 
       pub block-good : WordsIs (λ v. v) file q c 16 (base + 11) o₁ o₂ r′ → (next : ℕ) (o : List ℕ) → r′ ≡ end.At next → base + planWords ≤ length l
-          → o ≡ set (set (set (set o₂ base 0) (base + 1) m) (base + 10) c) (base + 27) 0 → Reads (plan m) (Block base l o) file at next
-      unfolding block filled rows counted
+          → o ≡ counted o₂ base m c → Reads (plan m) (Block base l o) file at next
+      unfolding block filled rows
       block-good w′ next o g room k =
-          let second = subst (λ (x : End). WordsIs (λ v. v) file q c 16 (base + 11) o₁ o₂ x) g w′ in
+          let second = as-told (many c number) (Held (λ v. v) 16 (base + 11) o₁ o₂) file q g w′ in
           let vs = first .value in
           let cs = second .value in
-          let a = many-length number m (drop at file) vs (drop p file) (first .reads) in
-          let b = many-length number c (drop q file) cs (drop next file) (second .reads) in
+          let a = reads-count number file at _ m p first in
+          let b = reads-count number file q _ c next second in
           let z : o ≡ block l base m c vs cs a b room =
           k ∙ ap (λ (t : List ℕ). counted t base m c) (stored-plain 16 (base + 11) o₁ o₂ cs (second .stored)
           ∙ ap (λ (t : List ℕ). sets t (base + 11) (take 16 cs)) (stored-plain 8 (base + 2) l o₁ vs (first .stored))) in
@@ -230,7 +212,7 @@ module _ (file : List ℕ) (at m base : ℕ) (l : List ℕ) where
             value = made m vs c cs;
             reads = plan-good m (drop at file) vs (drop p file) c (drop q file) cs (drop next file) (first .reads) f (second .reads);
             stored = record {
-              stored = ap (λ (t : List ℕ). planOf (λ j. getD t (base + j) 0)) z ∙ block-plan l base m c vs cs a b room;
+              stored = ap (λ (t : List ℕ). planFrom t base) z ∙ block-plan l base m c vs cs a b room;
               others = λ i h. ap (λ (t : List ℕ). getD t i 0) z ∙ block-others l base m c vs cs a b room i h;
             };
           }

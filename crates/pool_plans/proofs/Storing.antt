@@ -1,16 +1,20 @@
 -- What is read one after the other: one more, and none; numbers are stored as far as there is room.
 use Prim.Native.Nat.{ℕ, _+_, _≤_, _<_}
-use mathlib.Core.Path.{_≡_, ap, sym, _∙_}
+use mathlib.Core.Path.{_≡_, ap, sym, _∙_, subst}
 use mathlib.Core.List.{List, [], _∷_, _++_, map, map-append, map-id}
 use mathlib.Core.Option.{none}
 use native.Mathlib.Omega.{arith}
 use lib.ListN.{length, take, drop, set, length-append, length-map}
 use lib.Seq.{sets, take-all, take-nil, take-append-le}
-use Rattle.model.specs.PoolFile.{Reader, number, many}
-use Rattle.pool_number.specs.Reading.{read}
+use Rattle.model.specs.PoolFile.{Reader, pure, number, many}
 use Rattle.pool_number.proofs.Options.{many-zero, many-more, many-stop, many-length}
-use Rattle.pool_plans.specs.Blocks.{Reads, Held, Words}
+use Rattle.pool_plans.specs.declared.End.{End}
+use Rattle.pool_plans.specs.Blocks.{Reads, ReadsIs, Held, Words}
 use Rattle.list_laws.proofs.Runs.{sets-snoc}
+
+-- a reader's answer, by the case that was told
+pub as-told : {A : Type 0} (r : Reader A) (Q : A → Type 0) (file : List ℕ) (at : ℕ) {x y : End} → x ≡ y → ReadsIs r Q file at x → ReadsIs r Q file at y
+as-told r Q file at e w = subst (ReadsIs r Q file at) e w
 
 module _ {A : Type 0} (r : Reader A) (file : List ℕ) (at : ℕ) where
   pub reads-none : (Q : List A → Type 0) → Q [] → Reads (many 0 r) Q file at at
@@ -20,7 +24,7 @@ module _ {A : Type 0} (r : Reader A) (file : List ℕ) (at : ℕ) where
     pub reads-count : length (w .value) ≡ i
     reads-count = many-length r i (drop at file) (w .value) (drop p file) (w .reads)
 
-    pub reads-more : (a : A) (next : ℕ) → r (drop p file) ≡ read a (drop next file) → (S : List A → Type 0) → S (w .value ++ (a ∷ []))
+    pub reads-more : (a : A) (next : ℕ) → r (drop p file) ≡ pure a (drop next file) → (S : List A → Type 0) → S (w .value ++ (a ∷ []))
         → Reads (many (i + 1) r) S file at next
     reads-more a next e S s = record {
       value = w .value ++ (a ∷ []);
@@ -37,7 +41,7 @@ module _ (h : ℕ → ℕ) (file : List ℕ) (at keep base : ℕ) (l : List ℕ)
   pub words-none : Words h file at 0 keep base l l at
   words-none = reads-none number file at (Held h keep base l l) (ap (λ (t : List ℕ). sets l base (map h t)) (sym (take-nil keep)))
 
-  module _ (i p v next : ℕ) (o : List ℕ) (e : number (drop p file) ≡ read v (drop next file)) (w : Words h file at i keep base l o p) where
+  module _ (i p v next : ℕ) (o : List ℕ) (e : number (drop p file) ≡ pure v (drop next file)) (w : Words h file at i keep base l o p) where
     count : length (w .value) ≡ i
     count = reads-count number file at (Held h keep base l o) i p w
 

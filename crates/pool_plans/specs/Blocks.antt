@@ -4,19 +4,18 @@ use mathlib.Core.Path.{_≡_}
 use mathlib.Core.Logic.{_⊎_}
 use mathlib.Core.List.{List, [], map}
 use mathlib.Core.Option.{none}
-use lib.ListN.{getD, take, drop}
+use lib.ListN.{getD, set, take, drop}
 use lib.Seq.{sets}
-use Rattle.model.specs.Plan.{Plan, planOf, planAt, maxObjectives, maxConstraints, planWords}
-use Rattle.model.specs.PoolFile.{Reader, number, many, plan, noPlan}
+use Rattle.model.specs.Plan.{Plan, planFrom, planAt, maxObjectives, maxConstraints, planWords}
+use Rattle.model.specs.PoolFile.{Reader, pure, number, many, plan, noPlan}
 use Rattle.model.specs.Refusal.{maxSize}
-use Rattle.pool_number.specs.Reading.{read}
 use Rattle.pool_plans.specs.declared.End.{End}
 use Rattle.pool_plans.specs.declared.End.the-variants as end
 
 -- what a reader reads from `at` on ends at `next`, and Q holds of it
 pub record Reads {A : Type 0} (r : Reader A) (Q : A → Type 0) (file : List ℕ) (at next : ℕ) : Type 0 where
   pub value : A
-  pub reads : r (drop at file) ≡ read value (drop next file)
+  pub reads : r (drop at file) ≡ pure value (drop next file)
   pub stored : Q value
 
 module _ {A : Type 0} where
@@ -46,9 +45,13 @@ roomed p = record {
   settings = [];
 }
 
+-- the words of a plan beside its values and constraints, stored at their four places: its number, its row length and its two other counts
+unfoldable pub counted : List ℕ → ℕ → ℕ → ℕ → List ℕ
+counted l base m c = set (set (set (set l base 0) (base + 1) m) (base + 10) c) (base + 27) 0
+
 -- a plan stands in the block of words at `base`; the other words are as they were
 pub record Block (base : ℕ) (before after : List ℕ) (held : Plan) : Type 0 where
-  pub stored : planOf (λ j. getD after (base + j) 0) ≡ roomed held
+  pub stored : planFrom after base ≡ roomed held
   pub others : (i : ℕ) → (i < base) ⊎ (base + planWords ≤ i) → getD after i 0 ≡ getD before i 0
 
 abbrev pub BlockIs : List ℕ → ℕ → ℕ → ℕ → List ℕ → List ℕ → End → Type 0

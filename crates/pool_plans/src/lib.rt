@@ -5,10 +5,10 @@ use pool_number::Read;
 use pool_number::read_number;
 ghost use mathlib.Core.Path.{_≡_};
 ghost use Prim.Native.Nat.{_+_, _*_, _<_, _≤_};
-ghost use lib.ListN.{length, set};
+ghost use lib.ListN.{length};
 ghost use Rattle.model.specs.Plan.{planWords};
 ghost use Rattle.model.specs.Refusal.{maxSize};
-ghost use Rattle.pool_plans.specs.Blocks.{WordsIs, BlockIs, PlansIs};
+ghost use Rattle.pool_plans.specs.Blocks.{WordsIs, counted, BlockIs, PlansIs};
 
 // The place after what was read, or bytes that break the form or end early.
 pub enum End {
@@ -46,7 +46,7 @@ pub fn read_words(
 // The words of a plan beside its values and constraints: its number, its row length and its two other counts.
 fn put_counts(pool: &mut [u64], base: usize, m: u64, c: u64)
     requires { ⌜ base + planWords ≤ length (now pool) ⌝ }
-    ensures { λ _. ⌜ now (pool .exit) ≡ set (set (set (set (now (pool .entry)) base 0) (base + 1) m) (base + 10) c) (base + 27) 0 ⌝ }
+    ensures { λ _. ⌜ now (pool .exit) ≡ counted (now (pool .entry)) base m c ⌝ }
 {
     pool[base] = 0;
     pool[base + 1] = m;

@@ -1,9 +1,7 @@
 // The refusals of a selection (document 01, "Refusals"). `refusal` is what `nsga3` calls; `no_room` is its part and a generation step's.
 ghost use mathlib.Core.Path.{_≡_};
-ghost use mathlib.Core.Bool.{_||_};
-ghost use lib.Dec.{ltb};
 ghost use Rattle.model.specs.Calls.{wordRequest};
-ghost use Rattle.model.specs.Refusal.{selectRefusal};
+ghost use Rattle.model.specs.Refusal.{tooShort, selectRefusal};
 ghost use Rattle.refusals.specs.Checked.{checked};
 use model::Rng;
 
@@ -15,7 +13,7 @@ pub enum Check {
 
 // Refusal 10: a lent slice is shorter than the answer that it is for.
 pub fn no_room(size: usize, n: usize, kept: usize, fronts: usize, lines: usize) -> bool
-    ensures { λ r. ⌜ r ≡ (ltb kept size || (ltb fronts n || ltb lines n)) ⌝ }
+    ensures { λ r. ⌜ r ≡ tooShort (record { kept = kept; fronts = fronts; lines = lines }) size n ⌝ }
 {
     if kept < size {
         return true;

@@ -1,5 +1,4 @@
 // The answers to the oracle's lines of pool files, good and damaged, through the public call.
-use model::Chosen;
 use replay::Words;
 ghost use Prim.Native.Nat.{_≤_};
 ghost use lib.ListN.{length};
@@ -40,14 +39,8 @@ fn put_text(text: &[u8; 20501], n: usize, out: &mut Words) -> usize {
 // The text of a file.
 fn text_of(file: &[u8], out: &mut Words) -> usize {
     let mut text = [0u8; 20501];
-    let chosen = pool_choice::choose(file, &mut text);
-    match chosen {
-        Chosen::Written(n) => put_text(&text, n, out),
-        Chosen::Refused(number) => {
-            let n = pool_text::write_refused(number as usize, &mut text);
-            put_text(&text, n, out)
-        }
-    }
+    let n = pool_print::printed(file, &mut text);
+    put_text(&text, n, out)
 }
 
 // 95. The answer to an input line of n numbers; how many numbers it has, 0 for a case passed over.

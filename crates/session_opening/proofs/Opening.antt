@@ -1,8 +1,8 @@
 -- The refusals of an opening, one after the other.
 use Prim.Native.Nat.{ℕ}
 use mathlib.Core.Path.{_≡_, sym, ap, ap₂, _∙_, subst}
-use mathlib.Core.Bool.{Bool, true, false}
-use mathlib.Core.List.{List}
+use mathlib.Core.Bool.{true, false}
+use mathlib.Core.List.{List, []}
 use mathlib.Core.Option.{Option, none, some}
 use lib.Ieee.{Float}
 use lib.ListN.{length, replicate}
@@ -16,6 +16,7 @@ use Rattle.model.specs.Plan.{maxObjectives}
 use Rattle.model.specs.Reference.{divisionsOf, populationSize}
 use Rattle.model.specs.Session.{blank, given, opened, start}
 use Rattle.model.specs.Calls.{openBy, openOf, Opens}
+use Rattle.list_laws.proofs.Checks.{passed-over, applies-first}
 use Rattle.session_laws.proofs.Opened.{ready-tells, refused-tells, opens}
 use Rattle.model.specs.Refusal.{firstOf, openRefusal, badDirections, badSessionSize, badSessionDivisions, badOperators}
 use Rattle.session_opening.specs.Opening.{openingBy}
@@ -24,30 +25,32 @@ module _ (marks : List ℕ) (size divisions : Option ℕ) (probability crossover
   abbrev answer : Opening
   answer = openingBy (openRefusal marks size divisions probability crossoverEta mutationEta)
 
-  abbrev lines : Bool
-  lines = badSessionDivisions (length marks) size divisions
-
   pub refused-2 : badDirections marks ≡ true → opening.Refused 2 ≡ answer
-  unfolding openRefusal firstOf
-  refused-2 a = rw a
+  unfolding openRefusal
+  refused-2 a = ap openingBy (sym (applies-first _ _ a))
 
-  pub refused-3 : badDirections marks ≡ false → badSessionSize size ≡ true → opening.Refused 3 ≡ answer
-  unfolding openRefusal firstOf
-  refused-3 a b = rw (a, b)
+  module _ (a : badDirections marks ≡ false) where
+    pub refused-3 : badSessionSize size ≡ true → opening.Refused 3 ≡ answer
+    unfolding openRefusal
+    refused-3 b = ap openingBy (sym (passed-over _ _ a ∙ applies-first _ _ b))
 
-  pub refused-4 : badDirections marks ≡ false → badSessionSize size ≡ false → lines ≡ true → opening.Refused 4 ≡ answer
-  unfolding openRefusal firstOf
-  refused-4 a b c = rw (a, b, c)
+    module _ (b : badSessionSize size ≡ false) where
+      pub refused-4 : badSessionDivisions (length marks) size divisions ≡ true → opening.Refused 4 ≡ answer
+      unfolding openRefusal
+      refused-4 c = ap openingBy (sym (passed-over _ _ a ∙ passed-over _ _ b ∙ applies-first _ _ c))
 
-  pub refused-5 : badDirections marks ≡ false → badSessionSize size ≡ false → lines ≡ false → badOperators probability crossoverEta mutationEta ≡ true
-      → opening.Refused 5 ≡ answer
-  unfolding openRefusal firstOf
-  refused-5 a b c d = rw (a, b, c, d)
+      module _ (c : badSessionDivisions (length marks) size divisions ≡ false) where
+        pub refused-5 : badOperators probability crossoverEta mutationEta ≡ true → opening.Refused 5 ≡ answer
+        unfolding openRefusal
+        refused-5 d = ap openingBy (sym (passed-over _ _ a ∙ passed-over _ _ b ∙ passed-over _ _ c ∙ applies-first _ _ d))
 
-  pub ready : badDirections marks ≡ false → badSessionSize size ≡ false → lines ≡ false → badOperators probability crossoverEta mutationEta ≡ false
-      → opening.Ready ≡ answer
-  unfolding openRefusal firstOf
-  ready a b c d = rw (a, b, c, d)
+        none-applies : badOperators probability crossoverEta mutationEta ≡ false → openRefusal marks size divisions probability crossoverEta mutationEta ≡ firstOf []
+        unfolding openRefusal
+        none-applies d = passed-over _ _ a ∙ passed-over _ _ b ∙ passed-over _ _ c ∙ passed-over _ _ d
+
+        pub ready : badOperators probability crossoverEta mutationEta ≡ false → opening.Ready ≡ answer
+        unfolding firstOf
+        ready d = ap openingBy (sym (none-applies d))
 
 -- ---- the promise, by the answer
 

@@ -1,8 +1,6 @@
 // The refusals of a generation step (document 01, "Refusals"; Rust: nsga3_generate_offspring of sampler/nsga3.rs).
 ghost use mathlib.Core.Path.{_≡_};
-ghost use mathlib.Core.Bool.{_&&_, _||_};
-ghost use Prim.Native.Nat.{_*_, _≤_};
-ghost use lib.Dec.{leb, ltb};
+ghost use Prim.Native.Nat.{_≤_};
 ghost use Rattle.model.specs.Refusal.{stepRefusal, stepTooShort};
 ghost use Rattle.model.specs.Calls.{wordRequest};
 ghost use Rattle.model.specs.Setting.{operators};

@@ -16,17 +16,17 @@ read-input-requires c κs = tt
 array-share-prefix-buffer : tie.Need-array-share-prefix-buffer
 array-share-prefix-buffer c = c .before .read-input .ensures
 
-slice-aggregate-answer : tie.Need-slice-aggregate-answer
-slice-aggregate-answer c = let r = c .before .before .read-input in sym (length-take-le (r .result) (r .last .0) (r .ensures))
+slice-aggregate-printed : tie.Need-slice-aggregate-printed
+slice-aggregate-printed c = let r = c .before .before .read-input in sym (length-take-le (r .result) (r .last .0) (r .ensures))
 
-answer-requires : tie.Need-answer-requires
-answer-requires c κs = tt
+printed-requires : tie.Need-printed-requires
+printed-requires c κs = tt
 
 array-share-prefix-out : tie.Need-array-share-prefix-out
-array-share-prefix-out c = c .answer .ensures .within
+array-share-prefix-out c = c .printed .ensures .within
 
 slice-aggregate-write-all : tie.Need-slice-aggregate-write-all
-slice-aggregate-write-all c = let a = c .before .answer in sym (length-take-le (a .result) (a .last .1 .0) (a .ensures .within))
+slice-aggregate-write-all c = let a = c .before .printed in sym (length-take-le (a .result) (a .last .1 .0) (a .ensures .within))
 
 write-all-requires : tie.Need-write-all-requires
 write-all-requires c κs = search needs
@@ -50,8 +50,8 @@ main-spec =
     slice-aggregate-read-input
     read-input-requires
     array-share-prefix-buffer
-    slice-aggregate-answer
-    answer-requires
+    slice-aggregate-printed
+    printed-requires
     array-share-prefix-out
     slice-aggregate-write-all
     write-all-requires

@@ -1,7 +1,7 @@
 -- `parse_pool`: header, marks, plans and end, each where the one before it leaves off.
 use native.Mathlib.Omega.{arith}
 use borrow.Author.Needs.{needs}
-use Rattle.pool_file.proofs.Whole.{Begun, Marked, parse-long, parse-no-header, parse-begun, parse-no-marks, parse-marked, parse-no-plans, parse-runs-on, parse-good}
+use Rattle.pool_file.proofs.Whole.{Begun, Marked, parse-long, parse-headed, parse-no-marks, parse-marked, parse-no-plans, parse-runs-on, parse-good}
 use Rattle.pool_file.proofs.parse_pool.Statement.{statement}
 use Rattle.pool_file.proofs.parse_pool.Tie as tie
 
@@ -20,11 +20,11 @@ enum-told c = search needs
 returns-2 : tie.Need-returns-2
 returns-2 c =
     let r = c .before .before in
-    parse-no-header _ (r .before .if1 .left) _ (r .read-header .ensures) (c .enum-told .given .1)
+    parse-headed _ (r .before .if1 .left) _ _ (r .read-header .ensures) (c .enum-told .given .1)
 
 -- the header is read
 begun : (c : tie.After-header) → Begun (c .before .before .before .before .before .before .before .args .file .now) (c .header .given .0 .0) (c .header .given .0 .1 .0)
-begun c = let r = c .before .before in parse-begun _ (r .before .if1 .left) _ (r .read-header .ensures) _ _ (c .header .given .1)
+begun c = let r = c .before .before in parse-headed _ (r .before .if1 .left) _ _ (r .read-header .ensures) (c .header .given .1)
 
 read-marks-requires : tie.Need-read-marks-requires
 read-marks-requires c κs = search needs

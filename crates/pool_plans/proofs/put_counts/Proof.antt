@@ -1,6 +1,7 @@
 use borrow.Author.Needs.{needs}
 use native.Mathlib.Omega.{arith}
 use lib.ListN.{length-set}
+use Rattle.pool_plans.specs.Blocks.{counted}
 use Rattle.pool_plans.proofs.put_counts.Statement.{statement}
 use Rattle.pool_plans.proofs.put_counts.Tie as tie
 
@@ -41,6 +42,7 @@ same-length : tie.Need-same-length
 same-length c = simp length-set
 
 returns : tie.Need-returns
+unfolding counted
 returns c = search needs
 
 pub put-counts-spec : {M : Type 1} → statement M

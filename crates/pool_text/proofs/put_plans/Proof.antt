@@ -8,7 +8,7 @@ use Rattle.list_laws.proofs.Built.{joinBelow-none, joinBelow-more}
 use Rattle.list_laws.specs.Put.{Put}
 use Rattle.pool_laws.specs.Text.{fieldsOf}
 use Rattle.list_laws.proofs.Stores.{put-nothing, put-then, put-as, put-length}
-use Rattle.pool_laws.proofs.Listing.{join-room}
+use Rattle.list_laws.proofs.Rows.{joinBelow-room}
 use Rattle.pool_text.proofs.put_plans.Statement.{statement}
 use Rattle.pool_text.proofs.put_plans.Tie as tie
 
@@ -51,7 +51,7 @@ put-plan-requires c κs =
       s .pre .1,
       l .inv .1,
       l .inv .2 .ends,
-      join-room (fieldsOf (a .fronts .now) (a .lines .now) (a .places .now)) (l .p) (a .count) (i .loop-test .taken),
+      joinBelow-room (fieldsOf (a .fronts .now) (a .lines .now) (a .places .now)) (l .p) (a .count) (i .loop-test .taken),
     )
 
 add-p : tie.Need-add-p Inv-loop μ-loop

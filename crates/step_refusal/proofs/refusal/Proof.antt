@@ -1,17 +1,16 @@
 -- `refusal`: each test in turn
-use Prim.Native.Nat.{ℕ, _*_}
+use Prim.Native.Nat.{ℕ}
 use mathlib.Core.Path.{_≡_, ap, sym, _∙_}
-use mathlib.Core.Bool.{false, _&&_, _||_}
+use mathlib.Core.Bool.{false}
 use borrow.Author.Needs.{needs}
-use lib.Dec.{leb, ltb}
+use lib.ListN.{drop}
 use Rattle.model.specs.Calls.{wordRequest}
 use Rattle.model.specs.Association.{Request}
 use Rattle.model.specs.Setting.{Operators, operators, dimensionsOf}
-use Rattle.model.specs.Refusal.{Room, firstOf, badDirections, badSize, badDimensions, badCount, badPool, badParents, noRoom, noStepRoom, stepRefusal}
+use Rattle.model.specs.Refusal.{Room, firstOf, badDirections, badSize, badDimensions, badCount, badPool, badParents, stepTooShort, noStepRoom, stepChecks, stepRefusal}
 use Rattle.settings.proofs.Valid.{few}
 use Rattle.demand3_laws.proofs.Passed.{some-objectives, one-to-1024}
 use Rattle.list_laws.proofs.Checks.{passed-over, applies-first}
-use Rattle.generation_laws.proofs.Refusals.{from, from-all}
 use Rattle.step_refusal.proofs.refusal.Statement.{statement}
 use Rattle.step_refusal.proofs.refusal.Tie as tie
 
@@ -28,13 +27,14 @@ room s = record { kept = s .args .kept; fronts = s .args .fronts; lines = s .arg
 
 -- no test before the k-th applies
 abbrev Past : tie.Start → ℕ → Type 0
-Past s k = stepRefusal (ops s) (request s) (room s) (s .args .offspring) ≡ from (ops s) (request s) (room s) (s .args .offspring) k
+Past s k = stepRefusal (ops s) (request s) (room s) (s .args .offspring) ≡ firstOf (drop k (stepChecks (ops s) (request s) (room s) (s .args .offspring)))
 
 good-directions : (c : tie.Else1) → badDirections (c .before .before .before .before .before .args .directions .now) ≡ false
 good-directions c = sym (c .before .bad-directions .ensures) ∙ c .if1 .left
 
 past-1 : (c : tie.Else1) → Past (c .before .before .before .before .before) 1
-past-1 c = from-all _ _ _ _ ∙ passed-over _ _ (good-directions c)
+unfolding stepRefusal
+past-1 c = passed-over _ _ (good-directions c)
 
 good-size : (c : tie.Else2) → badSize (c .before .before .before .before .before .before .before .args .size) ≡ false
 good-size c = sym (c .before .bad-count .ensures) ∙ c .if2 .left
@@ -66,11 +66,10 @@ unfolding badParents
 past-8 c = past-7 (c .before .before) ∙ passed-over _ _ (sym (c .before .bad-parents .ensures) ∙ c .if8 .left)
 
 slices : (c : tie.After-no-step-room) → c .no-step-room .result ≡ noStepRoom (ops (c .before .before .before .before .before .before .before .before .before .before .before .before .before .before .before .before .before .before .before .before .before)) (request (c .before .before .before .before .before .before .before .before .before .before .before .before .before .before .before .before .before .before .before .before .before)) (room (c .before .before .before .before .before .before .before .before .before .before .before .before .before .before .before .before .before .before .before .before .before)) (c .before .before .before .before .before .before .before .before .before .before .before .before .before .before .before .before .before .before .before .before .before .args .offspring)
-unfolding noStepRoom noRoom
+unfolding noStepRoom
 slices c =
-    let s = c .before .before .before .before .before .before .before .before .before .before .before .before .before .before .before .before .before .before .before .before .before .args in
-    c .no-step-room .ensures
-    ∙ ap (λ n. (leb 2 n && (ltb (s .kept) (s .size) || (ltb (s .fronts) n || ltb (s .lines) n))) || ltb (s .offspring) (s .size * s .n-dims)) (c .before .before .before .before .before .before .before .plan-count .ensures)
+    let s = c .before .before .before .before .before .before .before .before .before .before .before .before .before .before .before .before .before .before .before .before .before in
+    c .no-step-room .ensures ∙ ap (λ n. stepTooShort (room s) (s .args .offspring) (s .args .size) n (s .args .n-dims)) (c .before .before .before .before .before .before .before .plan-count .ensures)
 
 past-9 : (c : tie.Else9) → Past (c .before .before .before .before .before .before .before .before .before .before .before .before .before .before .before .before .before .before .before .before .before .before) 9
 past-9 c = past-8 (c .before .before) ∙ passed-over _ _ (sym (slices (c .before)) ∙ c .if9 .left)
@@ -81,8 +80,8 @@ bad-directions-requires : tie.Need-bad-directions-requires
 bad-directions-requires c κs = search needs
 
 returns : tie.Need-returns
-returns c =
-    sym (from-all _ _ _ _ ∙ applies-first _ _ (sym (c .before .bad-directions .ensures) ∙ c .if1 .taken))
+unfolding stepRefusal
+returns c = sym (applies-first _ _ (sym (c .before .bad-directions .ensures) ∙ c .if1 .taken))
 
 bad-count-requires : tie.Need-bad-count-requires
 bad-count-requires c κs = search needs

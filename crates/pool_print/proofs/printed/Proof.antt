@@ -1,9 +1,9 @@
--- `answer`: the listing, or the refusal's text
-use Rattle.choose.proofs.Answers.{written, refused, refusal-room}
+-- `printed`: the listing, or the refusal's text
+use Rattle.pool_print.proofs.Answers.{written, refused, refusal-room}
 use native.Mathlib.Omega.{arith}
 use borrow.Author.Needs.{needs}
-use Rattle.choose.proofs.answer.Statement.{statement}
-use Rattle.choose.proofs.answer.Tie as tie
+use Rattle.pool_print.proofs.printed.Statement.{statement}
+use Rattle.pool_print.proofs.printed.Tie as tie
 
 choose-requires : tie.Need-choose-requires
 choose-requires c κs = search needs
@@ -36,8 +36,8 @@ returns-2 c =
     let a = s .before .before .before .args in
     refused (a .file .now) (a .out .now) _ (s .choose .ensures) (s .before .choose-arg .given .0 .1) _ (o .chosen2 .given .1) _ _ (c .write-refused .ensures .0) (c .write-refused .ensures .1)
 
-pub answer-spec : {M : Type 1} → statement M
-answer-spec =
+pub printed-spec : {M : Type 1} → statement M
+printed-spec =
     tie.close
     (tie.spec
     choose-requires

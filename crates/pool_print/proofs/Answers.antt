@@ -11,7 +11,7 @@ use Rattle.model.specs.PoolFile.{parse, refusedText}
 use Rattle.model.specs.Refusal.{chooseRefusal}
 use Rattle.model.specs.Calls.{ChooseExit, textOf, chooseBy, chooseOf, printedBy, printed, maxText, Chooses, chosenRefusedBy}
 use Rattle.pool_laws.proofs.Lengths.{refused-short}
-use Rattle.choose.specs.Printing.{Prints}
+use Rattle.pool_print.specs.Printing.{Prints}
 
 prints : (file out after : List ℕ) (r : ℕ) → r ≡ length (printed file) → after ≡ over (printed file) out → Prints file out after r
 prints file out after r c a =
