@@ -10,10 +10,10 @@ use lib.ListN.{length}
 use Rattle.list_laws.proofs.Bools.{by-bool}
 use Rattle.list_laws.proofs.Tests.{allBelow-each}
 use Rattle.list_laws.proofs.Places.{places-none}
-use Rattle.model.specs.Lists.{over}
+use Rattle.model.specs.Lists.{allBelow, over}
 use Rattle.model.specs.Association.{Request}
 use Rattle.model.specs.Kept.{selected}
-use Rattle.model.specs.Setting.{parentsOf, Operators, offspringOf, rankOf, generationOf, generationOfOne, generation, wordsOf, WordsWithin}
+use Rattle.model.specs.Setting.{parentsOf, Operators, offspringOf, rankOf, bredOf, generationOf, generationOfOne, generation, wordsOf, WordsWithin}
 use Rattle.model.specs.Refusal.{badDimensions, breedable, badParents}
 use Rattle.candidate_laws.specs.Bounds.{AllWithin}
 use Rattle.candidate_laws.proofs.Sound.{AllHeld, AllSound, all-within}
@@ -23,20 +23,23 @@ use Rattle.candidate_laws.proofs.Bred.{offspringOf-sound}
 use Rattle.candidate_laws.proofs.Words.{words-within}
 use Rattle.candidate_laws.proofs.KeptPlans.{kept-length, kept-below}
 
-module _ (o : Operators) (r : Request) (h : AllHeld (o .dims) (o .dimCount)) (b : badDimensions (o .dims) (o .dimCount) ≡ false) (g : badParents o r ≡ false) where
-  -- every plan of the pool may be bred from
-  pub all-breedable : (p : ℕ) → p < r .count → breedable (o .dims) (o .dimCount) (r .plans p) ≡ true
+-- where refusal 9 does not apply, every plan of the pool may be bred from
+module _ (o : Operators) (r : Request) (g : badParents o r ≡ false) where
+  pub plans-breedable : allBelow (λ p. breedable (o .dims) (o .dimCount) (r .plans p)) (r .count) ≡ true
   unfolding badParents
-  all-breedable = allBelow-each (λ p. breedable (o .dims) (o .dimCount) (r .plans p)) (r .count) (not-false _ g)
+  plans-breedable = not-false _ g
 
+  plan-breedable : (p : ℕ) → p < r .count → breedable (o .dims) (o .dimCount) (r .plans p) ≡ true
+  plan-breedable = allBelow-each (λ p. breedable (o .dims) (o .dimCount) (r .plans p)) (r .count) plans-breedable
+
+module _ (o : Operators) (r : Request) (h : AllHeld (o .dims) (o .dimCount)) (b : badDimensions (o .dims) (o .dimCount) ≡ false) (g : badParents o r ≡ false) where
   -- the parents
   pub kept-sound : 0 < r .count → (s : ℕ) → AllSound (o .dims) (o .dimCount) (length (selected r .kept)) (parentsOf (o .dims) (o .dimCount) (r .plans) (selected r .kept) s .value)
-  kept-sound some s = parentsOf-sound (o .dims) (o .dimCount) h b (r .plans) (selected r .kept) s (λ i l. all-breedable _ (kept-below r some i l))
+  kept-sound some s = parentsOf-sound (o .dims) (o .dimCount) h b (r .plans) (selected r .kept) s (λ i l. plan-breedable o r g _ (kept-below r some i l))
 
   -- a size of none has no offspring; any other has parents
   bred : (size : ℕ) → r .size ≡ size → 0 < r .count → AllSound (o .dims) (o .dimCount) size
-      (offspringOf o (parentsOf (o .dims) (o .dimCount) (r .plans) (selected r .kept) (selected r .state) .value) (rankOf r (selected r .kept)) size
-      (parentsOf (o .dims) (o .dimCount) (r .plans) (selected r .kept) (selected r .state) .state) .value)
+      (bredOf o (r .plans) (rankOf r (selected r .kept)) (selected r .kept) size (selected r .state) .value)
   unfolding offspringOf
   bred zero e some = places-none _ []
   bred (suc size) e some =

@@ -10,7 +10,7 @@ use lib.Signed.{leZ, _≤ℤ_, leZ-yes}
 use lib.Pow.{pow-pos}
 use lib.Ieee.{Float, binary64, fits, isNan, ofBits, ofInt, add, sub, mul, div, le, lt}
 use lib.Ieee.Fits.{add-fits, mul-fits, div-fits, ofInt-fits, round-fits}
-use Rattle.list_laws.proofs.Bools.{by-bool, true-T, false-T, and-left, and-right}
+use Rattle.list_laws.proofs.Bools.{by-bool, true-T, false-T, and-T}
 use Rattle.float_laws.proofs.Units.{Number, Counts, count→le}
 use Rattle.float_laws.proofs.Order as order
 use Rattle.float_laws.proofs.Rounding.{rounded-exact, le-rounded, add-rounded, sub-rounded, round-sle}
@@ -282,9 +282,10 @@ pub int-argument : (d : IntDistribution) (n : ℤ) → validDimension (dist.Int 
 unfolding inBounds
 int-argument d n v b some =
     let e = int-bounds d v in
+    let p = and-T (leZ (d .low) n) (leZ n (d .high)) b in
     mutation-argument (ofWhole (d .low)) (ofWhole (d .high)) (ofWhole n)
     (inside (ofWhole (d .low)) (ofWhole (d .high)) (ofWhole n) (ofInt-fits binary64 (d .low)) (ofInt-fits binary64 (d .high)) (ofInt-fits binary64 n)
     (subst (λ (z : Float). T (le z (ofWhole (d .low)))) (ends .0) (whole-mono minWhole (d .low) (e .low-end)))
     (subst (λ (z : Float). T (le (ofWhole (d .high)) z)) (ends .1) (whole-mono (d .high) maxWhole (e .high-end)))
-    (whole-mono (d .low) n (leZ-yes (true-T _ (and-left (leZ (d .low) n) (leZ n (d .high)) b))))
-    (whole-mono n (d .high) (leZ-yes (true-T _ (and-right (leZ (d .low) n) (leZ n (d .high)) b))))) some
+    (whole-mono (d .low) n (leZ-yes (p .0)))
+    (whole-mono n (d .high) (leZ-yes (p .1)))) some

@@ -1,11 +1,11 @@
 -- Candidates as words: where a setting lies, that it is read back, and that words of candidates within their bounds are within them.
 use Prim.Native.Nat.{ℕ, _+_, _*_, _<_, _≤_}
 use mathlib.Core.Path.{_≡_, refl, sym, ap, _∙_}
-use mathlib.Core.Bool.{true, false, true≢false}
+use mathlib.Core.Bool.{Bool, true, false, true≢false}
 use mathlib.Core.List.{List, [], _++_, map}
-use mathlib.Core.Logic.{⊎-elim}
-use native.Mathlib.Nat.{eq-or-lt-of-le, add-mul, one-mul}
+use native.Mathlib.Nat.{add-mul, one-mul}
 use native.Mathlib.Omega.{arith}
+use borrow.Author.Count.{below-more}
 use lib.ListN.{length, getD, length-map, List·getD-append}
 use lib.Seq.{sets}
 use lib.Ieee.{binary64}
@@ -17,7 +17,7 @@ use Rattle.model.specs.declared.Distribution.{Distribution}
 use Rattle.model.specs.declared.Distribution.the-variants as dist
 use Rattle.model.specs.declared.ParamValue.{ParamValue}
 use Rattle.model.specs.declared.ParamValue.the-variants as value
-use Rattle.model.specs.Setting.{kindOfDimension, toWord, ofWord, inBounds, noValue, settingOf, wordsOf, WordsWithin}
+use Rattle.model.specs.Setting.{kindOfDimension, toWord, ofWord, inBounds, noValue, settingOf, wordsOf, storedAt, WordsWithin}
 use Rattle.list_laws.proofs.Runs.{before-run, in-run}
 use Rattle.variation_laws.proofs.Children.{Fit}
 use Rattle.settings.specs.Candidate.{parentAt, parentsIn}
@@ -88,7 +88,7 @@ module _ (dims : ℕ → Distribution) (n count : ℕ) (cs : List (List ParamVal
   within : AllWithin dims n count cs
   within = all-within dims n count cs a
 
-  read-back : (i d : ℕ) → i < count → d < n → ofWord (kindOfDimension (dims d)) (getD (wordsOf cs ++ rest) (i * n + d) 0) ≡ settingOf (getD cs i []) d
+  read-back : (i d : ℕ) → i < count → d < n → storedAt dims n (wordsOf cs ++ rest) i d ≡ settingOf (getD cs i []) d
   read-back i d h k =
       ap (ofWord (kindOfDimension (dims d))) (words-front dims n count cs within rest i d h k)
       ∙ word-back (dims d) (settingOf (getD cs i []) d) (a .each i h .each d k)
@@ -121,10 +121,7 @@ module _ (dims : ℕ → Distribution) (n k : ℕ) (c : List ParamValue) (old : 
 
   pub words-put : WordsWithin dims n (k + 1) (sets old (k * n) (map toWord c))
   words-put i d h l =
-      let g : i ≤ k = omega arith in
-      ⊎-elim
-      (λ e. ap (λ (x : ℕ). inBounds (dims d) (ofWord (kindOfDimension (dims d)) (getD (sets old (k * n) (map toWord c)) (x * n + d) 0))) e
-      ∙ ap (λ (x : ℕ). inBounds (dims d) (ofWord (kindOfDimension (dims d)) x)) (put-at d l)
-      ∙ ap (inBounds (dims d)) (word-back (dims d) (settingOf c d) (s .each d l)) ∙ s .each d l .0)
-      (λ m. ap (λ (x : ℕ). inBounds (dims d) (ofWord (kindOfDimension (dims d)) x)) (put-before i d m l) ∙ w i d m l)
-      (eq-or-lt-of-le g)
+      let read : ℕ → Bool = λ (x : ℕ). inBounds (dims d) (ofWord (kindOfDimension (dims d)) x) in
+      below-more (λ (j : ℕ). inBounds (dims d) (storedAt dims n (sets old (k * n) (map toWord c)) j d) ≡ true) k
+      (λ j m. ap read (put-before j d m l) ∙ w j d m l)
+      (ap read (put-at d l) ∙ ap (inBounds (dims d)) (word-back (dims d) (settingOf c d) (s .each d l)) ∙ s .each d l .0) i h

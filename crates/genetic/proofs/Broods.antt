@@ -1,5 +1,5 @@
 -- A brood from its parts.
-use mathlib.Core.Path.{_≡_, ap}
+use mathlib.Core.Path.{_≡_}
 use mathlib.Core.Bool.{true, false, _&&_}
 use mathlib.Core.List.{List, []}
 use Prim.Native.Nat.{ℕ, _<_}
@@ -8,10 +8,11 @@ use lib.Ieee.{Float}
 use lib.ListN.{length, getD}
 use Rattle.list_laws.proofs.Bools.{and-left, and-right}
 use Rattle.list_laws.proofs.Built.{listBelow-length, listBelow-at}
+use Rattle.list_laws.proofs.Draws.{drawn-value}
 use Rattle.model.specs.declared.Distribution.{Distribution}
 use Rattle.model.specs.declared.ParamValue.{ParamValue}
 use Rattle.model.specs.Real.{nought, unit, within}
-use Rattle.model.specs.Draw.{Drawn, drawn}
+use Rattle.model.specs.Draw.{drawn}
 use Rattle.model.specs.Setting.{children, exponentOf, crossover, mutate, tournament, brood}
 use Rattle.model.specs.Refusal.{wholeEta, badOperators}
 use borrow.Author.Tests.{not-false}
@@ -20,7 +21,7 @@ use Rattle.settings.proofs.Candidates.{winner-below}
 
 -- the winner that a draw gives is one of the n
 pub won-below : (ranks : ℕ → ℕ) (n s i t : ℕ) → 0 < n → drawn i t ≡ tournament ranks n s → i < n
-won-below ranks n s i t h e = omega (arith, ap (λ (d : Drawn ℕ). d .value) e, winner-below ranks n s h)
+won-below ranks n s i t h e = omega (arith, drawn-value e, winner-below ranks n s h)
 
 -- operators that are not bad have etas that can be cast
 module _ (probability crossoverEta mutationEta : Float) (h : badOperators probability crossoverEta mutationEta ≡ false) where

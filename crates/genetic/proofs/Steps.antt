@@ -1,6 +1,6 @@
 -- The steps' outcomes as the definitions have them.
 use mathlib.Core.Path.{_≡_, sym, ap, _∙_}
-use mathlib.Core.Bool.{Bool, true, false, cond, not}
+use mathlib.Core.Bool.{Bool, cond, not}
 use mathlib.Core.List.{List}
 use Prim.Native.Nat.{ℕ}
 use lib.Dec.{leb}
@@ -8,23 +8,15 @@ use lib.Ieee.{Float, lt}
 use Rattle.model.specs.declared.Distribution.{Distribution}
 use Rattle.model.specs.declared.ParamValue.{ParamValue}
 use Rattle.model.specs.Draw.{Drawn, drawn, drawUsize}
-use Rattle.list_laws.proofs.Draws.{drawn-more}
-use Rattle.model.specs.Setting.{Children, children, drawUnit, crossAll, crossover, tournament}
+use Rattle.list_laws.proofs.Draws.{drawn-tested, drawn-more}
+use Rattle.model.specs.Setting.{children, drawUnit, crossAll, crossover, tournament}
 
 -- ---- crossover
 
 module _ (dims : ℕ → Distribution) (n : ℕ) (probability : Float) (k : ℕ) (p q : List ParamValue) (s : ℕ) (u : Float) (t : ℕ) (d : drawn u t ≡ drawUnit s) where
-  crossover-by : (b : Bool) → lt probability u ≡ b → cond (not b) (crossAll dims n p q k t) (drawn (children p q) t) ≡ crossover dims n probability k p q s
+  pub crossover-by : (b : Bool) → lt probability u ≡ b → cond (not b) (crossAll dims n p q k t) (drawn (children p q) t) ≡ crossover dims n probability k p q s
   unfolding crossover
-  crossover-by b h =
-      sym (ap (λ (c : Bool). cond (not c) (crossAll dims n p q k t) (drawn (children p q) t)) h)
-      ∙ ap (λ (x : Drawn Float). cond (not (lt probability (x .value))) (crossAll dims n p q k (x .state)) (drawn (children p q) (x .state))) d
-
-  pub crossover-runs : (r : Drawn Children) → lt probability u ≡ false → r ≡ crossAll dims n p q k t → r ≡ crossover dims n probability k p q s
-  crossover-runs r h e = e ∙ crossover-by false h
-
-  pub crossover-not : lt probability u ≡ true → drawn (children p q) t ≡ crossover dims n probability k p q s
-  crossover-not h = crossover-by true h
+  crossover-by b h = drawn-tested (λ (c : Bool) (r : ℕ). cond (not c) (crossAll dims n p q k r) (drawn (children p q) r)) (lt probability) d h
 
 -- ---- the tournament
 

@@ -68,6 +68,9 @@ pub and-right : (a c : Bool) → (a && c) ≡ true → c ≡ true
 and-right true c e = e
 and-right false c e = absurd (false≢true e)
 
+pub and-T : (a c : Bool) → (a && c) ≡ true → T a × T c
+and-T a c e = (true-T a (and-left a c e), true-T c (and-right a c e))
+
 -- and of one whose first half is negated
 pub and-not-left : (a c : Bool) → (not a && c) ≡ true → a ≡ false
 and-not-left a c e = not-true a (and-left (not a) c e)

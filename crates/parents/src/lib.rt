@@ -3,11 +3,10 @@
 ghost use mathlib.Core.Path.{_≡_};
 ghost use mathlib.Core.Bool.{not};
 ghost use Prim.Native.Nat.{_+_, _≤_, _<_};
-ghost use lib.Dec.{eqb};
 ghost use lib.ListN.{length, drop};
-ghost use Rattle.model.specs.Lists.{allIn, allBelow, listBelow};
+ghost use Rattle.model.specs.Lists.{allBelow, listBelow};
 ghost use Rattle.model.specs.Plan.{planAt, planCount};
-ghost use Rattle.model.specs.Refusal.{namedOnce, fitsDimension, breedable, fitsAt};
+ghost use Rattle.model.specs.Refusal.{othersDiffer, namedOnce, fitsDimension, breedable, fitsAt};
 ghost use Rattle.model.specs.Setting.{dimensionsOf};
 ghost use Rattle.extraction.specs.Entries.{settingAt, asSetting, entriesOf};
 use extraction::Entry;
@@ -18,7 +17,7 @@ use model::PLAN_WORDS;
 // A setting after setting j has its parameter number.
 fn repeated(pool: &[u64], at: usize, j: usize, count: usize) -> bool
     requires { ⌜ (at + 124 ≤ length (now pool)) × (j < count) × (count ≤ 32) ⌝ }
-    ensures { λ r. ⌜ r ≡ not (allIn (λ y. not (eqb (settingAt (now (pool .entry)) at j .param) (y .param))) (drop (j + 1) (listBelow (settingAt (now (pool .entry)) at) count))) ⌝ }
+    ensures { λ r. ⌜ r ≡ not (othersDiffer (settingAt (now (pool .entry)) at j) (drop (j + 1) (listBelow (settingAt (now (pool .entry)) at) count))) ⌝ }
 {
     let x = pool[at + (28 + 3 * j)];
     let mut t = j + 1;

@@ -7,7 +7,8 @@ ghost use lib.ListN.{length, getD};
 ghost use Rattle.model.specs.Lists.{listBelow, over};
 ghost use Rattle.model.specs.Plan.{planAt, planCount};
 ghost use Rattle.model.specs.Row.{rowBeats};
-ghost use Rattle.model.specs.Front.{frontOf, frontList};
+ghost use Rattle.model.specs.Front.{frontList};
+ghost use Rattle.model.specs.Setting.{rankIn};
 ghost use Rattle.model.specs.Refusal.{goodPlans};
 use model::MAX_PLANS;
 use model::MAX_VALUES;
@@ -53,7 +54,7 @@ pub fn fill_ranks(
         × (goodPlans (length (now directions)) (planAt (now pool)) (planCount (now pool)) ≡ true)
         × (count ≤ length (now kept)) × (count ≤ length (now ranks)) × ((i : ℕ) → i < count → getD (now kept) i 0 < planCount (now pool)) ⌝ }
     ensures { λ _. ⌜ now (ranks .exit)
-        ≡ over (listBelow (λ i. frontOf (rowBeats (now (directions .entry)) (planAt (now (pool .entry)))) (planCount (now (pool .entry))) (getD (now (kept .entry)) i 0)) count)
+        ≡ over (listBelow (rankIn (now (directions .entry)) (planAt (now (pool .entry))) (planCount (now (pool .entry))) (now (kept .entry))) count)
         (now (ranks .entry)) ⌝ }
 {
     let mut fronts: [usize; MAX_PLANS] = [0; MAX_PLANS];

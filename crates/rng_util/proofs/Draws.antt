@@ -3,7 +3,7 @@ use mathlib.Core.Path.{_≡_}
 use Prim.Native.Nat.{ℕ, _/_, _^_, _<_}
 use native.Mathlib.Nat.{mod-lt}
 use native.Mathlib.Omega.{arith}
-use lib.IntN.{ℤ, pos, negℤ}
+use lib.IntN.{ℤ}
 use lib.Signed.{_≤ℤ_}
 use lib.Dec.{T}
 use lib.Ieee.{Float, binary64, le, fits}
@@ -16,6 +16,7 @@ use Rattle.model.specs.Real.{within}
 use Rattle.model.specs.Draw.{drawn, step, wordOf, drawWord, unitOf, drawF64, drawUsize, drawI64, f64Range}
 use Rattle.list_laws.proofs.Draws.{drawn-value, drawn-state}
 use Rattle.list_laws.proofs.Bools.{and-i}
+use Rattle.rng_util.specs.Span.{Spanned}
 use Rattle.rng_util.proofs.Xor.{xorLow-below}
 use Rattle.rng_util.proofs.Unit.{upper-below, unit-counts}
 use Rattle.rng_util.proofs.Span.{rest-le, pick-low, pick-high}
@@ -42,8 +43,7 @@ drawUsize-below n s h = mod-lt (drawWord s .value) h
 pub drawn-below : (n s k t : ℕ) → 0 < n → drawn k t ≡ drawUsize n s → k < n
 drawn-below n s k t h e = omega (arith, drawn-value e, drawUsize-below n s h)
 
-pub drawI64-within : (a b : ℤ) (s : ℕ) → SFits w64 a → SFits w64 b → (a ≤ℤ b) × (negℤ (pos (2 ^ 53)) ≤ℤ a) × (b ≤ℤ pos (2 ^ 53))
-    → (a ≤ℤ drawI64 a b s .value) × (drawI64 a b s .value ≤ℤ b)
+pub drawI64-within : (a b : ℤ) (s : ℕ) → SFits w64 a → SFits w64 b → Spanned a b → (a ≤ℤ drawI64 a b s .value) × (drawI64 a b s .value ≤ℤ b)
 unfolding drawI64
 drawI64-within a b s fa fb h = let l = rest-le a b fa fb h (drawWord s .value) in (pick-low a b fa fb h _ l, pick-high a b fa fb h _ l)
 

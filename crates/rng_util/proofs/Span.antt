@@ -8,9 +8,10 @@ use lib.IntN.{ℤ, pos, negℤ, natAbs, _+ℤ_, _-ℤ_}
 use lib.Signed.{nonNeg, _≤ℤ_}
 use mir.Syntax.{w64}
 use mir.Val.{SFits, Fits}
+use Rattle.rng_util.specs.Span.{Spanned}
 use Rattle.rng_util.proofs.Shifted.{up, in-up, le-up, up-le, up-add, up-neg, up-from}
 
-module _ (a b : ℤ) (fa : SFits w64 a) (fb : SFits w64 b) (h : (a ≤ℤ b) × (negℤ (pos (2 ^ 53)) ≤ℤ a) × (b ≤ℤ pos (2 ^ 53))) where
+module _ (a b : ℤ) (fa : SFits w64 a) (fb : SFits w64 b) (h : Spanned a b) where
   ord : up a ≤ up b
   ord = le-up a b (h .0)
 

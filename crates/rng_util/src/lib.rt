@@ -1,9 +1,8 @@
 // The generator and its draws (document 01, "Draw"), by value: each takes the generator and answers the value with the generator moved on.
 ghost use mathlib.Core.Path.{_≡_};
 ghost use Prim.Native.Nat.{_*_, _%_, _^_, _<_};
-ghost use lib.IntN.{pos, negℤ};
-ghost use lib.Signed.{_≤ℤ_};
 ghost use Rattle.model.specs.Draw.{drawn, step, drawWord, drawF64, drawUsize, drawI64, f64Range};
+ghost use Rattle.rng_util.specs.Span.{Spanned};
 use model::Rng;
 
 pub struct DrawnU64 {
@@ -88,7 +87,7 @@ pub fn draw_usize(rng: Rng, n: usize) -> DrawnUsize
 
 // A number of a..=b.
 pub fn draw_i64(rng: Rng, a: i64, b: i64) -> DrawnI64
-    requires { ⌜ (a ≤ℤ b) × (negℤ (pos (2 ^ 53)) ≤ℤ a) × (b ≤ℤ pos (2 ^ 53)) ⌝ }
+    requires { ⌜ Spanned a b ⌝ }
     ensures { λ r. ⌜ drawn (r .value) (r .rng .s) ≡ drawI64 a b (rng .s) ⌝ }
 {
     let d = next(rng);

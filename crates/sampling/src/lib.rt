@@ -1,14 +1,14 @@
 // Draws of settings (document 01, "Setting and dimension"; Rust: sampler/common.rs).
 ghost use mathlib.Core.Path.{_≡_};
 ghost use mathlib.Core.Bool.{true, false};
-ghost use Prim.Native.Nat.{_^_};
-ghost use lib.IntN.{pos, negℤ};
+ghost use lib.IntN.{pos};
 ghost use lib.Signed.{_≤ℤ_};
 ghost use Rattle.model.specs.Draw.{drawn};
 ghost use Rattle.model.specs.Setting.{stepAbove0, validDimension, sampleInt, sampleRandom, sampleAll, dimensionsOf};
 ghost use Rattle.model.specs.Refusal.{badDimensions};
 ghost use Rattle.model.specs.declared.Distribution.the-variants as dist;
 ghost use Rattle.model.specs.declared.OptionI64.the-variants as optI64;
+ghost use Rattle.rng_util.specs.Span.{Spanned};
 ghost use Rattle.settings.specs.Candidate.{settingsOf};
 use model::CategoricalDistribution;
 use model::DimensionInfo;
@@ -34,7 +34,7 @@ fn sample_float(d: FloatDistribution, rng: Rng) -> DrawnValue
 
 // low + k × step, k drawn from 0..=(high - low) / step.
 fn sample_stepped(low: i64, high: i64, step: i64, rng: Rng) -> DrawnI64
-    requires { ⌜ (low ≤ℤ high) × (negℤ (pos (2 ^ 53)) ≤ℤ low) × (high ≤ℤ pos (2 ^ 53)) × (pos 1 ≤ℤ step) ⌝ }
+    requires { ⌜ Spanned low high × (pos 1 ≤ℤ step) ⌝ }
     ensures { λ r. ⌜ drawn (r .value) (r .rng .s) ≡ sampleInt low high (optI64.Some step) (rng .s) ⌝ }
 {
     let span = (high - low) as u64;
@@ -51,7 +51,7 @@ fn sample_stepped(low: i64, high: i64, step: i64, rng: Rng) -> DrawnI64
 
 // A whole number of low..=high, by the step where there is one.
 fn sample_whole(low: i64, high: i64, step: OptionI64, rng: Rng) -> DrawnI64
-    requires { ⌜ (low ≤ℤ high) × (negℤ (pos (2 ^ 53)) ≤ℤ low) × (high ≤ℤ pos (2 ^ 53)) × (stepAbove0 step ≡ true) ⌝ }
+    requires { ⌜ Spanned low high × (stepAbove0 step ≡ true) ⌝ }
     ensures { λ r. ⌜ drawn (r .value) (r .rng .s) ≡ sampleInt low high step (rng .s) ⌝ }
 {
     match step {

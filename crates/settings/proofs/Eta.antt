@@ -6,12 +6,11 @@ use lib.IntN.{pos}
 use lib.Ieee.{Float, fin, ofBits, le, lt}
 use Rattle.float_laws.proofs.Order.{le-trans}
 use Rattle.float_laws.proofs.Constants.{exp2}
-use Rattle.list_laws.proofs.Bools.{and-left, and-right, true-T}
+use Rattle.list_laws.proofs.Bools.{and-T}
 use Rattle.real_laws.proofs.Halves as halves
 use Rattle.model.specs.Real.{nought, within}
 use Rattle.model.specs.Refusal.{ninetyNine}
 
 pub castable : (x : Float) → within nought ninetyNine x ≡ true → T (lt (fin true 1 (pos 0)) x) × T (lt x (fin false 1 (pos 64)))
 unfolding ofBits le
-castable x h =
-    halves.castable x (true-T _ (and-left (le nought x) (le x ninetyNine) h)) (le-trans x ninetyNine (exp2 52) (true-T _ (and-right (le nought x) (le x ninetyNine) h)) tt)
+castable x h = let p = and-T (le nought x) (le x ninetyNine) h in halves.castable x (p .0) (le-trans x ninetyNine (exp2 52) (p .1) tt)

@@ -10,6 +10,7 @@ use lib.Ieee.{Float, binary64, fits, ofBits}
 use mir.Syntax.{w64}
 use mir.Val.{SFits}
 use Rattle.list_laws.proofs.Bools.{T-true, true-T, and-both}
+use Rattle.rng_util.specs.Span.{Spanned}
 use Rattle.rng_util.proofs.Draws.{drawUsize-below, drawI64-within, f64Range-within}
 use Rattle.model.specs.declared.Distribution.{Distribution}
 use Rattle.model.specs.declared.Distribution.the-variants as dist
@@ -19,7 +20,7 @@ use Rattle.model.specs.declared.CategoricalDistribution.{CategoricalDistributio
 use Rattle.model.specs.declared.OptionI64.{OptionI64}
 use Rattle.model.specs.declared.OptionI64.the-variants as optI64
 use Rattle.model.specs.Draw.{drawWord}
-use Rattle.model.specs.Setting.{minWhole, maxWhole, stepAbove0, validDimension, inBounds, sampleInt, sampleRandom}
+use Rattle.model.specs.Setting.{stepAbove0, validDimension, inBounds, sampleInt, sampleRandom}
 use Rattle.list_laws.proofs.Draws.{drawn-value}
 use Rattle.settings.proofs.Valid.{FloatBounds, float-bounds, IntBounds, int-bounds, some-choice}
 use Rattle.settings.proofs.Stepped.{Stepping, rise, pick-low, pick-high, stepped-is}
@@ -41,19 +42,19 @@ float-in : (d : FloatDistribution) (s : ℕ) → Held (dist.Float d) → FloatBo
 unfolding inBounds sampleRandom ofBits
 float-in d s h b = T-true _ (f64Range-within (d .low) (d .high) s (h .0) (h .1) (b .ordered) (b .low-end) (b .high-end))
 
-whole-in : (low high : ℤ) (step : OptionI64) (s : ℕ) → SFits w64 low → SFits w64 high → HeldStep step → (low ≤ℤ high) → (minWhole ≤ℤ low)
-    → (high ≤ℤ maxWhole) → stepAbove0 step ≡ true → (leZ low (sampleInt low high step s .value) && leZ (sampleInt low high step s .value) high) ≡ true
+whole-in : (low high : ℤ) (step : OptionI64) (s : ℕ) → SFits w64 low → SFits w64 high → HeldStep step → Spanned low high
+    → stepAbove0 step ≡ true → (leZ low (sampleInt low high step s .value) && leZ (sampleInt low high step s .value) high) ≡ true
 unfolding sampleInt
-whole-in low high optI64.None s fl fh fs o l h p = let w = drawI64-within low high s fl fh (o, l, h) in between low high _ (w .0) (w .1)
-whole-in low high (optI64.Some n) s fl fh fs o l h p =
-    let q : Stepping low high n = record { low-fits = fl; high-fits = fh; step-fits = fs; ordered = o; low-end = l; high-end = h; above = leZ-yes (true-T (leZ (pos 1) n) p) } in
+whole-in low high optI64.None s fl fh fs b p = let w = drawI64-within low high s fl fh b in between low high _ (w .0) (w .1)
+whole-in low high (optI64.Some n) s fl fh fs b p =
+    let q : Stepping low high n = record { low-fits = fl; high-fits = fh; step-fits = fs; bounds = b; above = leZ-yes (true-T (leZ (pos 1) n) p) } in
     let w = drawWord s .value in
     let e = drawn-value (stepped-is low high n q s w (drawWord s .state) refl) in
     sym (ap (λ (z : ℤ). leZ low z && leZ z high) e) ∙ between low high (low +ℤ pos (rise low high n w)) (pick-low low high n q w) (pick-high low high n q w)
 
 int-in : (d : IntDistribution) (s : ℕ) → Held (dist.Int d) → IntBounds d → inBounds (dist.Int d) (sampleRandom (dist.Int d) s .value) ≡ true
 unfolding inBounds sampleRandom
-int-in d s h b = whole-in (d .low) (d .high) (d .step) s (h .0) (h .1) (h .2) (b .ordered) (b .low-end) (b .high-end) (b .step)
+int-in d s h b = whole-in (d .low) (d .high) (d .step) s (h .0) (h .1) (h .2) (b .ordered, b .low-end, b .high-end) (b .step)
 
 choice-in : (d : CategoricalDistribution) (s : ℕ) → 0 < d .«n_choices» → inBounds (dist.Categorical d) (sampleRandom (dist.Categorical d) s .value) ≡ true
 unfolding inBounds sampleRandom

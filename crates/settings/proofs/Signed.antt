@@ -1,5 +1,5 @@
 -- A signed number that 64 bits hold is read back from its bits. Assumes nothing.
-use mathlib.Core.Path.{_≡_}
+use mathlib.Core.Path.{_≡_, sym, ap₂, _∙_}
 use Prim.Native.Nat.{_^_, _<_}
 use lib.IntN.{ℤ}
 use lib.Signed.{mag}
@@ -13,3 +13,7 @@ held {z} f = toZ-ofZ w64 z f
 
 pub back : (z : ℤ) → mag z < 2 ^ 63 → toZ w64 (ofZ w64 z) ≡ z
 back z h = held (record { sfits = h })
+
+-- and what is told of two numbers as their bits hold them
+pub told : {A : Type 0} (f : ℤ → ℤ → A) {x y : ℤ} {b : A} → SFits w64 x → SFits w64 y → f (toZ w64 (ofZ w64 x)) (toZ w64 (ofZ w64 y)) ≡ b → f x y ≡ b
+told f p q h = sym (ap₂ f (held p) (held q)) ∙ h

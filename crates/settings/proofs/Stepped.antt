@@ -4,7 +4,7 @@ use Prim.Native.Nat.{ℕ, _+_, _*_, _/_, _%_, _^_, _<_, _≤_}
 use native.Mathlib.Nat.{mod-lt, div-mul-le-self, div-le-self, mul-le-mul-right, le-trans, zero-add, add-zero}
 use native.Mathlib.Omega.{arith}
 use lib.Dec.{T}
-use lib.IntN.{ℤ, pos, negℤ, natAbs, _+ℤ_, _-ℤ_, _*ℤ_}
+use lib.IntN.{ℤ, pos, natAbs, _+ℤ_, _-ℤ_, _*ℤ_}
 use lib.Signed.{nonNeg, quotZ, _≤ℤ_, pos-natAbs}
 use mir.Syntax.{w64}
 use mir.Val.{SFits, Fits}
@@ -12,6 +12,7 @@ use Rattle.model.specs.declared.OptionI64.the-variants as optI64
 use Rattle.model.specs.Draw.{drawn, drawWord, drawI64}
 use Rattle.model.specs.Setting.{sampleInt}
 use Rattle.list_laws.proofs.Draws.{drawn-by}
+use Rattle.rng_util.specs.Span.{Spanned}
 use Rattle.rng_util.proofs.Shifted.{up, up-in, le-up, up-from}
 use Rattle.rng_util.proofs.Span as range
 
@@ -21,14 +22,12 @@ value-is low span by w =
     ap (λ (x : ℕ). low +ℤ pos (w % (x + 1) * by)) (sym (add-zero (span / by)))
     ∙ ap (λ (x : ℕ). low +ℤ pos (x * by)) (sym (zero-add (w % (span / by + 0 + 1))))
 
--- what is asked of the bounds and the step
+-- what is (q .bounds) of the bounds and the step
 pub record Stepping (low high step : ℤ) : Type 0 where
   pub low-fits : SFits w64 low
   pub high-fits : SFits w64 high
   pub step-fits : SFits w64 step
-  pub ordered : low ≤ℤ high
-  pub low-end : negℤ (pos (2 ^ 53)) ≤ℤ low
-  pub high-end : high ≤ℤ pos (2 ^ 53)
+  pub bounds : Spanned low high
   pub above : pos 1 ≤ℤ step
 
 -- how far above low the drawn value lies, for a word
@@ -36,21 +35,17 @@ abbrev pub rise : ℤ → ℤ → ℤ → ℕ → ℕ
 rise low high step w = w % (natAbs (high -ℤ low) / natAbs step + 1) * natAbs step
 
 module _ (low high step : ℤ) (q : Stepping low high step) where
-  -- what is asked of the bounds, so that the laws of the numbers from low to high hold
-  abbrev asked : (low ≤ℤ high) × (negℤ (pos (2 ^ 53)) ≤ℤ low) × (high ≤ℤ pos (2 ^ 53))
-  asked = (q .ordered, q .low-end, q .high-end)
-
   abbrev span : ℕ
   span = natAbs (high -ℤ low)
 
   span-below : span ≤ 2 ^ 54
-  span-below = range.diff-abs-below low high (q .low-fits) (q .high-fits) asked
+  span-below = range.diff-abs-below low high (q .low-fits) (q .high-fits) (q .bounds)
 
   pub diff-fits : SFits w64 (high -ℤ low)
-  diff-fits = range.diff-fits low high (q .low-fits) (q .high-fits) asked
+  diff-fits = range.diff-fits low high (q .low-fits) (q .high-fits) (q .bounds)
 
   pub diff-nonNeg : T (nonNeg (high -ℤ low))
-  diff-nonNeg = range.diff-nonNeg low high (q .low-fits) (q .high-fits) asked
+  diff-nonNeg = range.diff-nonNeg low high (q .low-fits) (q .high-fits) (q .bounds)
 
   pub span-fits : Fits w64 span
   span-fits = record { fits = omega (arith, span-below) }
@@ -86,16 +81,16 @@ module _ (low high step : ℤ) (q : Stepping low high step) where
     rise-fits = record { fits = omega (arith, rise-le, span-below) }
 
     pub rise-signed : SFits w64 (pos up-by)
-    rise-signed = range.above-fits low high (q .low-fits) (q .high-fits) asked up-by rise-le
+    rise-signed = range.above-fits low high (q .low-fits) (q .high-fits) (q .bounds) up-by rise-le
 
     pub pick-fits : SFits w64 (low +ℤ pos up-by)
-    pick-fits = range.pick-fits low high (q .low-fits) (q .high-fits) asked up-by rise-le
+    pick-fits = range.pick-fits low high (q .low-fits) (q .high-fits) (q .bounds) up-by rise-le
 
     pub pick-low : low ≤ℤ (low +ℤ pos up-by)
-    pick-low = range.pick-low low high (q .low-fits) (q .high-fits) asked up-by rise-le
+    pick-low = range.pick-low low high (q .low-fits) (q .high-fits) (q .bounds) up-by rise-le
 
     pub pick-high : (low +ℤ pos up-by) ≤ℤ high
-    pick-high = range.pick-high low high (q .low-fits) (q .high-fits) asked up-by rise-le
+    pick-high = range.pick-high low high (q .low-fits) (q .high-fits) (q .bounds) up-by rise-le
 
   -- the definition's value
   pub stepped-is : (s w t : ℕ) → drawn w t ≡ drawWord s → drawn (low +ℤ pos (rise low high step w)) t ≡ sampleInt low high (optI64.Some step) s

@@ -6,7 +6,7 @@ use borrow.Author.Tests.{leb-true, ltb-false, not-false}
 use lib.Dec.{T, leb, ltb}
 use lib.Signed.{leZ, _≤ℤ_, leZ-yes}
 use lib.Ieee.{le}
-use Rattle.list_laws.proofs.Bools.{and-left, and-right, true-T, or-left, or-right}
+use Rattle.list_laws.proofs.Bools.{and-left, and-right, and-T, true-T, or-left, or-right}
 use Rattle.list_laws.proofs.Tests.{allBelow-each}
 use Rattle.model.specs.declared.Distribution.{Distribution}
 use Rattle.model.specs.declared.Distribution.the-variants as dist
@@ -33,8 +33,8 @@ float-bounds d h =
     let t = and-right a (b && (e && f)) h in
     record {
       ordered = true-T a (and-left a (b && (e && f)) h);
-      low-end = true-T _ (and-left (le minBound (d .low)) (le (d .low) maxBound) (and-left b (e && f) t));
-      high-end = true-T _ (and-right (le minBound (d .high)) (le (d .high) maxBound) (and-left e f (and-right b (e && f) t)));
+      low-end = and-T (le minBound (d .low)) (le (d .low) maxBound) (and-left b (e && f) t) .0;
+      high-end = and-T (le minBound (d .high)) (le (d .high) maxBound) (and-left e f (and-right b (e && f) t)) .1;
     }
 
 pub record IntBounds (d : IntDistribution) : Type 0 where

@@ -3,7 +3,7 @@ ghost use mathlib.Core.Path.{_≡_};
 ghost use mathlib.Core.Bool.{_&&_};
 ghost use lib.Signed.{leZ};
 ghost use Rattle.model.specs.Real.{within};
-ghost use Rattle.model.specs.Setting.{kindOfDimension, inBounds, toWord, ofWord};
+ghost use Rattle.model.specs.Setting.{kindOf, kindOfDimension, inBounds, toWord, ofWord};
 use model::Distribution;
 use model::ParamValue;
 use model::Rng;
@@ -53,6 +53,17 @@ pub fn kind_of_dimension(d: Distribution) -> u64
         Distribution::Float(_) => 0,
         Distribution::Int(_) => 1,
         Distribution::Categorical(_) => 2,
+    }
+}
+
+// The number of a setting's kind.
+pub fn kind_of(v: ParamValue) -> u64
+    ensures { λ r. ⌜ r ≡ kindOf v ⌝ }
+{
+    match v {
+        ParamValue::Float(_) => 0,
+        ParamValue::Int(_) => 1,
+        ParamValue::Categorical(_) => 2,
     }
 }
 

@@ -8,7 +8,7 @@ use lib.Dec.{T}
 use lib.IntN.{pos}
 use lib.Ieee.{Float, nan, inf, fin, up, down, ofBits, toUnsigned, eq, le, lt}
 use Rattle.float_laws.proofs.Units.{→sle}
-use Rattle.list_laws.proofs.Bools.{and-left, and-right, true-T}
+use Rattle.list_laws.proofs.Bools.{and-left, and-T}
 use Rattle.model.specs.Real.{nought, within}
 use Rattle.model.specs.Refusal.{ninetyNine, wholeEta}
 use Rattle.settings.proofs.Eta.{castable}
@@ -19,7 +19,7 @@ module _ (x : Float) (h : wholeEta x ≡ true) where
   inside = and-left (within nought ninetyNine x) _ h
 
   to : T (le x ninetyNine)
-  to = true-T _ (and-right (le nought x) (le x ninetyNine) inside)
+  to = and-T (le nought x) (le x ninetyNine) inside .1
 
   pub eta-castable : T (lt (fin true 1 (pos 0)) x) × T (lt x (fin false 1 (pos 64)))
   eta-castable = castable x inside

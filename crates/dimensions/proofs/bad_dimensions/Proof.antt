@@ -4,16 +4,15 @@ use mathlib.Core.Path.{_≡_, sym, _∙_}
 use mathlib.Core.Bool.{true}
 use native.Mathlib.Omega.{arith}
 use borrow.Author.Tests.{lt-ltb, le-ltb}
-use lib.ListN.{getD}
 use Rattle.list_laws.proofs.Tests.{allBelow-none, allBelow-yes, allBelow-no}
 use Rattle.model.specs.Lists.{allBelow}
-use Rattle.model.specs.Setting.{validDimension, noDimension}
+use Rattle.model.specs.Setting.{validDimension, dimensionsOf}
 use Rattle.model.specs.Refusal.{badDimensions}
 use Rattle.dimensions.proofs.bad_dimensions.Statement.{statement}
 use Rattle.dimensions.proofs.bad_dimensions.Tie as tie
 
 abbrev Inv-loop : tie.InvT-loop
-Inv-loop n dims i₀ i = (i ≤ n) × (n ≤ 32) × (allBelow (λ d. validDimension (getD dims d noDimension .distribution)) i ≡ true)
+Inv-loop n dims i₀ i = (i ≤ n) × (n ≤ 32) × (allBelow (λ d. validDimension (dimensionsOf dims d)) i ≡ true)
 
 abbrev μ-loop : tie.MeasureT-loop
 μ-loop n dims i₀ i = n - i

@@ -1,6 +1,8 @@
 -- Its draw decides whether it runs.
+use mathlib.Core.Path.{_∙_}
+use mathlib.Core.Bool.{true, false}
 use Rattle.settings.specs.Candidate.{settingsOf}
-use Rattle.genetic.proofs.Steps.{crossover-runs, crossover-not}
+use Rattle.genetic.proofs.Steps.{crossover-by}
 use borrow.Author.Needs.{needs}
 use Rattle.genetic.proofs.crossover.Statement.{statement}
 use Rattle.genetic.proofs.crossover.Tie as tie
@@ -12,7 +14,7 @@ f64-range-requires c κs = search needs
 returns : tie.Need-returns
 returns c =
     let a = c .before .before .before .args in
-    crossover-not (dimensionsOf (a .dims)) (a .n) (a .probability) (a .k) (settingsOf (a .p) (a .n)) (settingsOf (a .q) (a .n)) (a .rng .s) _ _ (c .before .before .f64-range .ensures) (c .if1 .taken)
+    crossover-by (dimensionsOf (a .dims)) (a .n) (a .probability) (a .k) (settingsOf (a .p) (a .n)) (settingsOf (a .q) (a .n)) (a .rng .s) _ _ (c .before .before .f64-range .ensures) true (c .if1 .taken)
 
 cross-all-requires : tie.Need-cross-all-requires
 cross-all-requires c κs = search needs
@@ -20,8 +22,9 @@ cross-all-requires c κs = search needs
 returns-2 : tie.Need-returns-2
 returns-2 c =
     let a = c .before .before .before .before .args in
-    crossover-runs (dimensionsOf (a .dims)) (a .n) (a .probability) (a .k) (settingsOf (a .p) (a .n)) (settingsOf (a .q) (a .n)) (a .rng .s) _ _ (c .before .before .before .f64-range .ensures) _
-    (c .before .if1 .left) (c .cross-all .ensures)
+    c .cross-all .ensures
+    ∙ crossover-by (dimensionsOf (a .dims)) (a .n) (a .probability) (a .k) (settingsOf (a .p) (a .n)) (settingsOf (a .q) (a .n)) (a .rng .s) _ _ (c .before .before .before .f64-range .ensures) false
+    (c .before .if1 .left)
 
 pub crossover-spec : {M : Type 1} → statement M
 crossover-spec = tie.close (tie.spec f64-range-requires returns cross-all-requires returns-2)

@@ -7,7 +7,7 @@ use native.Mathlib.Omega.{arith}
 use borrow.Author.Needs.{needs}
 use Rattle.list_laws.proofs.Built.{listBelow-none, listBelow-more}
 use Rattle.model.specs.Lists.{listBelow}
-use Rattle.model.specs.Setting.{kindOfDimension, ofWord, dimensionsOf}
+use Rattle.model.specs.Setting.{ofWord, dimensionsOf, storedAt}
 use Rattle.settings.specs.Candidate.{settingsOf, parentAt}
 use Rattle.settings.proofs.Candidates.{settings-none, settings-more}
 use Rattle.genetic_parts.proofs.read_parent.Statement.{statement}
@@ -16,7 +16,7 @@ use Rattle.genetic_parts.proofs.read_parent.Tie as tie
 abbrev Inv-loop : tie.InvT-loop
 Inv-loop parents n p dims at params₀ j₀ params j =
     (j ≤ n) × (n ≤ 32) × (length params ≡ 32) × (p * n + n ≤ length parents)
-    × (settingsOf params j ≡ listBelow (λ (i : ℕ). ofWord (kindOfDimension (dimensionsOf dims i)) (getD parents (p * n + i) 0)) j)
+    × (settingsOf params j ≡ listBelow (storedAt (dimensionsOf dims) n parents p) j)
 
 abbrev μ-loop : tie.MeasureT-loop
 μ-loop parents n p dims at params₀ j₀ params j = n - j
@@ -81,7 +81,7 @@ returns c =
     let l = c .before .loop in
     let a = c .before .before .before .args in
     let e : l .j ≡ a .n = omega arith in
-    sym (ap (settingsOf (l .params)) e) ∙ l .inv .4 ∙ ap (listBelow (λ (i : ℕ). ofWord (kindOfDimension (dimensionsOf (a .t2) i)) (getD (a .parents .now) (a .p * a .n + i) 0))) e
+    sym (ap (settingsOf (l .params)) e) ∙ l .inv .4 ∙ ap (listBelow (storedAt (dimensionsOf (a .t2)) (a .n) (a .parents .now) (a .p))) e
 
 pub read-parent-spec : {M : Type 1} → statement M
 read-parent-spec =

@@ -26,10 +26,8 @@ module _ (c : tie.Start) where
     low-fits = c .fits .low;
     high-fits = c .fits .high;
     step-fits = c .fits .step;
-    ordered = c .pre .0;
-    low-end = c .pre .1;
-    high-end = c .pre .2;
-    above = c .pre .3;
+    bounds = c .pre .0;
+    above = c .pre .1;
   }
 
   el : toZ w64 (ofZ w64 L) ≡ L

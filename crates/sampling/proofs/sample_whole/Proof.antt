@@ -34,7 +34,7 @@ sample-stepped-requires : tie.Need-sample-stepped-requires
 sample-stepped-requires c κs =
     let s = c .before .before .before in
     rw (held (s .fits .low), held (s .fits .high), back (c .before .step .given .0 .0) (c .known-told .given .0 .1))
-    (s .pre .0, s .pre .1, s .pre .2, above (s .args .step) (c .before .step .given .0 .0) (c .before .step .given .1) (s .pre .3))
+    (s .pre .0, above (s .args .step) (c .before .step .given .0 .0) (c .before .step .given .1) (s .pre .1))
 
 returns : tie.Need-returns
 returns c =

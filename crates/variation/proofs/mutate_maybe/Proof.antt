@@ -1,5 +1,7 @@
 -- The draw decides.
-use Rattle.variation.proofs.Maybe.{maybe-not, maybe-moved}
+use mathlib.Core.Path.{_∙_}
+use mathlib.Core.Bool.{true, false}
+use Rattle.variation.proofs.Maybe.{maybe-by}
 use Rattle.variation.proofs.mutate_maybe.Statement.{statement}
 use Rattle.variation.proofs.mutate_maybe.Tie as tie
 
@@ -9,7 +11,7 @@ f64-range-requires c κs = tt
 returns : tie.Need-returns
 returns c =
     let a = c .before .before .before .args in
-    maybe-not (a .probability) (a .d) (a .v) (a .k) (a .rng .s) _ _ (c .before .before .f64-range .ensures) (c .if1 .taken)
+    maybe-by (a .probability) (a .d) (a .v) (a .k) (a .rng .s) _ _ (c .before .before .f64-range .ensures) true (c .if1 .taken)
 
 mutate-one-requires : tie.Need-mutate-one-requires
 mutate-one-requires c κs = c .before .before .before .pre
@@ -17,7 +19,7 @@ mutate-one-requires c κs = c .before .before .before .pre
 returns-2 : tie.Need-returns-2
 returns-2 c =
     let a = c .before .before .before .before .args in
-    maybe-moved (a .probability) (a .d) (a .v) (a .k) (a .rng .s) _ _ (c .before .before .before .f64-range .ensures) _ (c .before .if1 .left) (c .mutate-one .ensures)
+    c .mutate-one .ensures ∙ maybe-by (a .probability) (a .d) (a .v) (a .k) (a .rng .s) _ _ (c .before .before .before .f64-range .ensures) false (c .before .if1 .left)
 
 pub mutate-maybe-spec : {M : Type 1} → statement M
 mutate-maybe-spec = tie.close (tie.spec f64-range-requires returns mutate-one-requires returns-2)
