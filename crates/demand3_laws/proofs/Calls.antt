@@ -2,7 +2,7 @@
 use Prim.Native.Nat.{ℕ, _≤_, min}
 use mathlib.Core.Path.{_≡_, refl, sym, subst}
 use mathlib.Core.Bool.{true, false}
-use mathlib.Core.List.{List, List·Memᴰ·head, List·Memᴰ·tail}
+use mathlib.Core.List.{List}
 use mathlib.Core.Option.{Option, none, some}
 use native.Mathlib.Omega.{arith}
 use lib.ListN.{length, length-take}
@@ -18,9 +18,9 @@ use Rattle.model.specs.Refusal.{Room, badDirections, badDivisions, badPool, sel
 use Rattle.model.specs.Demand3.{Demand3}
 use Rattle.model.specs.Calls.{refusedBy, Lent, roomOf, handedOut, selectAccepted, selectBy, selectOf, Selects, stepAccepted, stepBy, stepOf, Steps}
 use Rattle.list_laws.proofs.Built.{listBelow-length, over-take}
-use Rattle.list_laws.proofs.Checks.{applies-not, good-length, pool-plan}
+use Rattle.list_laws.proofs.Checks.{good-length, pool-plan}
 use Rattle.demand3_laws.specs.Facts.{Accepted}
-use Rattle.demand3_laws.proofs.Passed.{some-objectives, select-passed, passed}
+use Rattle.demand3_laws.proofs.Passed.{some-objectives, select-passed, passed, sample-passed}
 use Rattle.demand3_laws.proofs.Accepted.{demand3}
 
 -- ---- plans that lie in a slice of words have as many values as they claim, up to 8
@@ -114,7 +114,6 @@ module _ (st : State) (history : List ℕ) (ok : SessionOk st) where
 
 pub sample-demand3 : (st : State) (d : Distribution) (plan : ℕ) (history : List ℕ) → SessionOk st → sampleRefusal st d plan history ≡ none → breeds st history ≡ true
     → Demand3 (requestOf st history) (generation (operatorsOf (st .session)) (requestOf st history) .kept)
-unfolding sampleRefusal
 sample-demand3 st d plan history ok e bred =
     subst (Demand3 r) (sym (generation-kept r words (operatorsOf (st .session)) (omega (arith, ok .config .atLeast4))))
     (demand3 r (word-accepted r words (ok .config .directions) (request-divisions st history ok) pool) (omega arith))
@@ -126,4 +125,4 @@ sample-demand3 st d plan history ok e bred =
     words p = planAt-row (bredFrom st history) p
 
     pool : badPool r ≡ false
-    pool = rw bred at (applies-not (List·Memᴰ·tail (List·Memᴰ·tail (List·Memᴰ·head refl))) e)
+    pool = rw bred at (sample-passed st d plan history e .pool)

@@ -1,16 +1,18 @@
 -- A call that meets no refusal passes each test, and what each test rules out.
 use Prim.Native.Nat.{ℕ, _≤_, _<_}
 use mathlib.Core.Path.{_≡_, refl}
-use mathlib.Core.Bool.{false}
+use mathlib.Core.Bool.{true, false, not, _&&_}
 use mathlib.Core.List.{List, List·Memᴰ·head, List·Memᴰ·tail}
 use mathlib.Core.Option.{none}
 use native.Mathlib.Omega.{arith}
 use lib.Dec.{eqb, leb, ltb}
 use lib.ListN.{length}
 use borrow.Author.Tests.{eqb-false, leb-true, ltb-false, not-false}
+use Rattle.model.specs.declared.Distribution.{Distribution}
 use Rattle.model.specs.Association.{Request, objectives}
 use Rattle.model.specs.Setting.{Operators}
-use Rattle.model.specs.Refusal.{Room, badDirections, badSize, badDivisions, badOperators, badDimensions, badCount, badPool, badParents, noRoom, noStepRoom, selectRefusal, stepRefusal}
+use Rattle.model.specs.Session.{State, discovers, breeds, isNew, longEnough, requestOf, operatorsOf, maxCome}
+use Rattle.model.specs.Refusal.{Room, badDirections, badSize, badDivisions, badOperators, badDimensions, badCount, badPool, badParents, noRoom, noStepRoom, badNext, badHistory, selectRefusal, stepRefusal, sampleRefusal}
 use Rattle.list_laws.proofs.Bools.{or-left, or-right, and-left, and-right}
 use Rattle.list_laws.proofs.Checks.{applies-not}
 
@@ -84,4 +86,25 @@ passed o r room offspring e = record {
   pool = applies-not (List·Memᴰ·tail (List·Memᴰ·tail (List·Memᴰ·tail (List·Memᴰ·tail (List·Memᴰ·tail (List·Memᴰ·tail (List·Memᴰ·head refl))))))) e;
   parents = applies-not (List·Memᴰ·tail (List·Memᴰ·tail (List·Memᴰ·tail (List·Memᴰ·tail (List·Memᴰ·tail (List·Memᴰ·tail (List·Memᴰ·tail (List·Memᴰ·head refl)))))))) e;
   slices = applies-not (List·Memᴰ·tail (List·Memᴰ·tail (List·Memᴰ·tail (List·Memᴰ·tail (List·Memᴰ·tail (List·Memᴰ·tail (List·Memᴰ·tail (List·Memᴰ·tail (List·Memᴰ·head refl))))))))) e;
+}
+
+-- ---- a session call
+
+pub record SamplePassed (st : State) (d : Distribution) (plan : ℕ) (history : List ℕ) : Type 0 where
+  pub dimension : (discovers st plan && badNext (st .session .progress .«n_dims») d) ≡ false
+  pub records : badHistory history ≡ false
+  pub pool : (breeds st history && badPool (requestOf st history)) ≡ false
+  pub parents : (breeds st history && badParents (operatorsOf (st .session)) (requestOf st history)) ≡ false
+  pub slices : longEnough st ≡ true
+  pub come : (leb maxCome (st .session .progress .«n_plans») && (isNew st plan && not (breeds st history))) ≡ false
+
+pub sample-passed : (st : State) (d : Distribution) (plan : ℕ) (history : List ℕ) → sampleRefusal st d plan history ≡ none → SamplePassed st d plan history
+unfolding sampleRefusal
+sample-passed st d plan history e = record {
+  dimension = applies-not (List·Memᴰ·head refl) e;
+  records = applies-not (List·Memᴰ·tail (List·Memᴰ·head refl)) e;
+  pool = applies-not (List·Memᴰ·tail (List·Memᴰ·tail (List·Memᴰ·head refl))) e;
+  parents = applies-not (List·Memᴰ·tail (List·Memᴰ·tail (List·Memᴰ·tail (List·Memᴰ·head refl)))) e;
+  slices = not-false _ (applies-not (List·Memᴰ·tail (List·Memᴰ·tail (List·Memᴰ·tail (List·Memᴰ·tail (List·Memᴰ·head refl))))) e);
+  come = applies-not (List·Memᴰ·tail (List·Memᴰ·tail (List·Memᴰ·tail (List·Memᴰ·tail (List·Memᴰ·tail (List·Memᴰ·head refl)))))) e;
 }

@@ -12,7 +12,7 @@ use Rattle.model.specs.Refusal.{selectRefusal, stepRefusal}
 use Rattle.model.specs.Setting.{Operators, generation}
 use Rattle.model.specs.Calls.{Lent, roomOf, handedOut, SelectExit, Selects, selectOf, selectAccepted, StepExit, Steps, stepOf, stepAccepted, ChooseExit, Chooses}
 use Rattle.niching_laws.proofs.KeptLength.{kept-length}
-use Rattle.export_laws.specs.Coded.{SelectsWords, StepsWords, ListsWords, codeOf, keptOf, selected, stepped, chosenCode, chosenLength, listed}
+use Rattle.export_laws.specs.Coded.{SelectsWords, StepsWords, ListsWords, codeOf, keptOf, selectedAs, selected, steppedAs, stepped, chosenCode, chosenLength, listedAs, listed}
 
 -- the list that an answer hands out is as long as the answer says
 handed : (q : Request) (o : Outcome) (n : ℕ) (kept : List ℕ) → o ≡ outcome.Kept n → Demand3 q (handedOut o kept) → Demand3 q (take n kept)
@@ -28,10 +28,10 @@ unfolding stepOf stepAccepted
 step-kept o q at old h = rw h refl
 
 pub select-coded : (q : Request) (at : Lent) (e : SelectExit) (n : ℕ) → Selects q at e → n ≡ codeOf (e .answer .outcome)
-    → SelectsWords q at (record { code = n; state = e .answer .rng .s; ideal = e .ideal; slices = e .slices })
+    → SelectsWords q at (selectedAs n e)
 select-coded q at e n s h =
     record {
-      whole = ap (λ k. record { code = k; state = e .answer .rng .s; ideal = e .ideal; slices = e .slices }) h ∙ ap selected (s .whole);
+      whole = ap (λ k. selectedAs k e) h ∙ ap selected (s .whole);
       demand3 = λ a enough.
           handed q (e .answer .outcome) (q .size) (e .slices .kept) (ap (λ (x : SelectExit). x .answer .outcome) (s .whole) ∙ select-kept q at a)
           (s .demand3 a enough);
@@ -45,12 +45,10 @@ module _ (p : Operators) (q : Request) (at : Lent) (old : List ℕ) (e : StepExi
   length-kept : stepRefusal p q (roomOf at) (length old) ≡ none → length (generation p q .kept) ≡ k
   length-kept a = sym (i ∙ ap (λ x. keptOf x before) (outcome-kept a))
 
-  step-promise : StepsWords p q at old before
-      (record { code = n; kept = k; state = e .answer .rng .s; ideal = e .ideal; slices = e .slices; offspring = e .offspring })
+  step-promise : StepsWords p q at old before (steppedAs n k e)
   step-promise =
       record {
-        whole = ap₂ (λ x y. record { code = x; kept = y; state = e .answer .rng .s; ideal = e .ideal; slices = e .slices; offspring = e .offspring }) h i
-            ∙ ap (stepped before) (s .whole);
+        whole = ap₂ (λ x y. steppedAs x y e) h i ∙ ap (stepped before) (s .whole);
         demand3 = λ a two enough.
             subst (λ x. Demand3 q (take x (e .slices .kept))) (length-kept a)
             (handed q (e .answer .outcome) _ (e .slices .kept) (outcome-kept a) (s .demand3 a two enough));
@@ -59,13 +57,13 @@ module _ (p : Operators) (q : Request) (at : Lent) (old : List ℕ) (e : StepExi
 
 pub step-coded : (o p : Operators) (q : Request) (at : Lent) (old : List ℕ) (e : StepExit) (n k before : ℕ) → o ≡ p → Steps o q at old e
     → k ≡ keptOf (e .answer .outcome) before → n ≡ codeOf (e .answer .outcome)
-    → StepsWords p q at old before (record { code = n; kept = k; state = e .answer .rng .s; ideal = e .ideal; slices = e .slices; offspring = e .offspring })
+    → StepsWords p q at old before (steppedAs n k e)
 step-coded o p q at old e n k before g s i h = step-promise p q at old e n k before (subst (λ x. Steps x q at old e) g s) i h
 
 pub choose-coded : (file old : List ℕ) (e : ChooseExit) (n k before : ℕ) → Chooses file old e → k ≡ chosenLength (e .answer) before → n ≡ chosenCode (e .answer)
-    → ListsWords file old before (record { code = n; length = k; out = e .out })
+    → ListsWords file old before (listedAs n k e)
 choose-coded file old e n k before s i h =
     record {
-      whole = ap₂ (λ x y. record { code = x; length = y; out = e .out }) h i ∙ ap (listed before) (s .whole);
+      whole = ap₂ (λ x y. listedAs x y e) h i ∙ ap (listed before) (s .whole);
       demand3 = s .demand3;
     }

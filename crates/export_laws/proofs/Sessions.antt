@@ -125,23 +125,23 @@ module _ (ws ds : List ℕ) (plan : ℕ) (history cs ps ns : List ℕ) (k v : �
         ∙ refused-keeps (sampleRefusal before (dimensionAt ds 0) plan history) before (accepted before (dimensionAt ds 0) plan history) n
         (sym (ap (λ (x : SampleExit). x .answer) (promise' .whole)) ∙ e)
 
+    -- the promise, of words that stand for the session left
+    kept-promise : (c kind value : ℕ) (exit : List ℕ) → sessionOf exit ≡ r .session
+        → sampledWords c kind value exit (state (sessionOf exit) xs ys zs) ≡ sampleWords ws ds plan history cs ps ns k v
+        → SamplesWords ws ds plan history cs ps ns k v (sampledWords c kind value exit (state (sessionOf exit) xs ys zs))
+    kept-promise c kind value exit b e =
+        record { whole = e; keeps = λ z. subst (λ y. SessionOk (state y xs ys zs)) (sym b) (promise' .keeps); demand3 = λ z. promise' .demand3 }
+
     pub sample-refused : (n c : ℕ) → r .outcome ≡ sampling.Refused n → c ≡ n
         → SamplesWords ws ds plan history cs ps ns k v (sampledWords c k v ws (state (sessionOf ws) xs ys zs))
     sample-refused n c e h =
         let b : sessionOf ws ≡ r .session = sym (ap (λ (x : State). x .session) (same n e)) in
-        record {
-          whole = ap₂ (λ x y. sampledWords x k v ws (state y xs ys zs)) h b ∙ is (sampling.Refused n) e;
-          keeps = λ z. subst (λ y. SessionOk (state y xs ys zs)) (sym b) (promise' .keeps);
-          demand3 = λ z. promise' .demand3;
-        }
+        kept-promise c k v ws b (ap₂ (λ x y. sampledWords x k v ws (state y xs ys zs)) h b ∙ is (sampling.Refused n) e)
 
     pub sample-set : (x : ParamValue) (kind value : ℕ) (exit : List ℕ) → r .outcome ≡ sampling.Setting x → kind ≡ kindOf x → value ≡ toWord x
         → exit ≡ over (sessionWords (r .session)) ws → sessionOf exit ≡ r .session
         → SamplesWords ws ds plan history cs ps ns k v (sampledWords 0 kind value exit (state (sessionOf exit) xs ys zs))
     sample-set x kind value exit e hk hv hx b =
-        record {
-          whole = ap₂ (λ p q. sampledWords 0 p q exit (state (sessionOf exit) xs ys zs)) hk hv
-              ∙ ap₂ (λ p q. sampledWords 0 (kindOf x) (toWord x) p (state q xs ys zs)) hx b ∙ is (sampling.Setting x) e;
-          keeps = λ z. subst (λ y. SessionOk (state y xs ys zs)) (sym b) (promise' .keeps);
-          demand3 = λ z. promise' .demand3;
-        }
+        kept-promise 0 kind value exit b
+        (ap₂ (λ p q. sampledWords 0 p q exit (state (sessionOf exit) xs ys zs)) hk hv
+        ∙ ap₂ (λ p q. sampledWords 0 (kindOf x) (toWord x) p (state q xs ys zs)) hx b ∙ is (sampling.Setting x) e)

@@ -52,8 +52,11 @@ pub record Selected : Type 0 where
   pub ideal : List Float
   pub slices : Lent
 
+abbrev pub selectedAs : ℕ → SelectExit → Selected
+selectedAs code e = record { code = code; state = e .answer .rng .s; ideal = e .ideal; slices = e .slices }
+
 abbrev pub selected : SelectExit → Selected
-selected e = record { code = codeOf (e .answer .outcome); state = e .answer .rng .s; ideal = e .ideal; slices = e .slices }
+selected e = selectedAs (codeOf (e .answer .outcome)) e
 
 -- THE PROMISE of `locustdomino_select`. The list that it hands out is the first `size` entries of `kept`
 pub record SelectsWords (r : Request) (entry : Lent) (exit : Selected) : Type 0 where
@@ -68,15 +71,18 @@ pub record Stepped : Type 0 where
   pub slices : Lent
   pub offspring : List ℕ
 
-abbrev pub stepped : ℕ → StepExit → Stepped
-stepped old e = record {
-  code = codeOf (e .answer .outcome);
-  kept = keptOf (e .answer .outcome) old;
+abbrev pub steppedAs : ℕ → ℕ → StepExit → Stepped
+steppedAs code kept e = record {
+  code = code;
+  kept = kept;
   state = e .answer .rng .s;
   ideal = e .ideal;
   slices = e .slices;
   offspring = e .offspring;
 }
+
+abbrev pub stepped : ℕ → StepExit → Stepped
+stepped old e = steppedAs (codeOf (e .answer .outcome)) (keptOf (e .answer .outcome) old) e
 
 -- THE PROMISE of `locustdomino_generate_offspring`; `old` is the number that `n_kept` had. The list that it hands out is the first `n_kept` entries of `kept`;
 -- it selects from a pool of two plans on, and hands out no setting outside its bounds
@@ -173,8 +179,11 @@ pub record Listed : Type 0 where
   pub length : ℕ
   pub out : List ℕ
 
+abbrev pub listedAs : ℕ → ℕ → ChooseExit → Listed
+listedAs code length e = record { code = code; length = length; out = e .out }
+
 abbrev pub listed : ℕ → ChooseExit → Listed
-listed old e = record { code = chosenCode (e .answer); length = chosenLength (e .answer) old; out = e .out }
+listed old e = listedAs (chosenCode (e .answer)) (chosenLength (e .answer) old) e
 
 -- THE PROMISE of `locustdomino_choose`; `old` is the number that `length` had
 pub record ListsWords (bytes entry : List ℕ) (old : ℕ) (exit : Listed) : Type 0 where

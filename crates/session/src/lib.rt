@@ -1,12 +1,12 @@
 // The session call (document 01, "Session"; Rust: sampler/nsga3.rs): a plan asks for a setting, and where the generation's plans all stand in history a new
 // generation is bred first.
 ghost use mathlib.Core.Path.{_≡_};
-ghost use mathlib.Core.Bool.{true, false, not, _&&_};
+ghost use mathlib.Core.Bool.{true, false};
 ghost use mathlib.Core.List.{List, []};
 ghost use mathlib.Core.Option.{some};
 ghost use Prim.Native.Nat.{ℕ, _≤_};
 ghost use Rattle.model.specs.Plan.{planCount};
-ghost use Rattle.model.specs.Session.{state, pastDiscovery, discoversFor, discovers, longEnough};
+ghost use Rattle.model.specs.Session.{state, addsFor, discovers, longEnough};
 ghost use Rattle.model.specs.Refusal.{sampleRefusal};
 ghost use Rattle.model.specs.Calls.{sampleOf, Samples};
 ghost use Rattle.model.specs.Property.{SessionOk};
@@ -30,7 +30,7 @@ fn sample_discovering(
     history: &[u64],
     long: bool,
 ) -> Sampled
-    requires { ⌜ ((not (pastDiscovery (session .phase)) && discoversFor (session .«discovery_trial_id») plan) ≡ true) × (session .progress .«n_plans» ≡ 0) ⌝ }
+    requires { ⌜ (addsFor (session .phase) (session .«discovery_trial_id») plan ≡ true) × (session .progress .«n_plans» ≡ 0) ⌝ }
     ensures { λ r. ⌜ ((cs ps ns : List ℕ) → longEnough (state session cs ps ns) ≡ long
         → exit r cs ps ns ≡ sampleOf (state session cs ps ns) distribution plan (now (history .entry))) ⌝ }
 {

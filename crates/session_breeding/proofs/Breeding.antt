@@ -6,21 +6,21 @@ use mathlib.Core.List.{List, [], _++_}
 use mathlib.Core.Option.{Option, none, some, Option·some-ne-none}
 use native.Mathlib.Omega.{arith}
 use native.Mathlib.Nat.{le-refl}
-use borrow.Author.Tests.{eqb-true, leb-true}
+use borrow.Author.Tests.{leb-true}
 use lib.Dec.{leb}
 use lib.Ieee.{Float}
-use lib.ListN.{length, getD, take, drop, length-take, length-replicate}
+use lib.ListN.{length, take, drop, length-take, length-replicate}
 use Rattle.list_laws.proofs.Bools.{and-left, and-right}
 use Rattle.list_laws.proofs.Built.{over-take}
 use Rattle.model.specs.declared.Outcome.{Outcome}
 use Rattle.model.specs.declared.Outcome.the-variants as outcome
 use Rattle.model.specs.declared.Selection.{Selection}
 use Rattle.model.specs.declared.Session.{Session}
-use Rattle.model.specs.Lists.{allBelow, joinBelow, over}
+use Rattle.model.specs.Lists.{allBelow, over}
 use Rattle.model.specs.Plan.{planWords}
 use Rattle.model.specs.Reference.{orElse}
 use Rattle.model.specs.Association.{Request}
-use Rattle.model.specs.Session.{State, state, evaluated, recordOf, blockOf, bredFrom, requestOf, operatorsOf, breed, maxWords}
+use Rattle.model.specs.Session.{State, state, evaluated, standsIn, recordsOf, bredFrom, requestOf, operatorsOf, breed, maxWords}
 use Rattle.model.specs.Refusal.{Room, goodIdeal, stepRefusal, maxSize}
 use Rattle.model.specs.Calls.{refusedBy, roomOf, wordRequest, stepAccepted, stepBy, stepOf}
 use Rattle.model.specs.Property.{SessionOk}
@@ -28,29 +28,21 @@ use Rattle.refusals.specs.declared.Check.{Check}
 use Rattle.refusals.specs.Checked.{checked}
 use Rattle.session_laws.specs.Refused.{breedRefusal, shortRefusal}
 use Rattle.session_laws.proofs.Request.{bred-length, bred-request, step-refusal}
-use Rattle.list_laws.proofs.Checks.{then-last}
-use Rattle.session_records.proofs.Records.{stands}
+use Rattle.list_laws.proofs.Checks.{then-last, good-ideal-length}
 use Rattle.session_breeding.specs.Breeding.{bredSession, Stepped, stepped, takenOf, blankLent, stepOn, bredExit, breedBy, breedOf}
 
 -- an ideal that is good has its m entries
 pub ideal-room : (m : ℕ) (ideal : List Float) → goodIdeal m (take m ideal) ≡ true → m ≤ length ideal
-unfolding goodIdeal
-ideal-room m ideal e = omega (arith, eqb-true (length (take m ideal)) m (and-left _ _ e), length-take m ideal)
+ideal-room m ideal e = omega (arith, good-ideal-length m (take m ideal) e, length-take m ideal)
 
--- what comes before the others in a test that the generation is evaluated
-pub evaluated-stand : (st : State) (history : List ℕ) → evaluated st history ≡ true
-    → allBelow (stands history (st .plans)) (st .session .config .«population_size») ≡ true
+-- where the generation is evaluated, the slice holds the numbers of its plans, and they all stand in history
+pub evaluated-tells : (st : State) (history : List ℕ) → evaluated st history ≡ true
+    → (st .session .config .«population_size» ≤ length (st .plans)) × (allBelow (standsIn history (st .plans)) (st .session .config .«population_size») ≡ true)
 unfolding evaluated
-evaluated-stand st history e =
-    and-right (leb (st .session .config .«population_size») (length (st .plans))) _
-    (and-right (leb (st .session .config .«population_size») (st .session .progress .«n_plans»)) _ e)
-
--- and that the slice holds their numbers
-pub evaluated-plans : (st : State) (history : List ℕ) → evaluated st history ≡ true → st .session .config .«population_size» ≤ length (st .plans)
-unfolding evaluated
-evaluated-plans st history e =
-    leb-true _ _ (and-left (leb (st .session .config .«population_size») (length (st .plans))) _
-    (and-right (leb (st .session .config .«population_size») (st .session .progress .«n_plans»)) _ e))
+evaluated-tells st history e =
+    let held = leb (st .session .config .«population_size») (length (st .plans)) in
+    let h = and-right (leb (st .session .config .«population_size») (st .session .progress .«n_plans»)) _ e in
+    (leb-true _ _ (and-left held _ h), and-right held _ h)
 
 -- each list lent for the selection has room
 pub rooms : maxSize ≤ length (blankLent .kept)
@@ -69,11 +61,14 @@ module _ (s : Session) (cs ps : List ℕ) (history : List ℕ) where
   abbrev ideal : List Float
   ideal = take m (s .«ideal_point»)
 
-  -- the words before the last record are the plans bred from
-  pool-part : (pool after : List ℕ) → after ≡ over (joinBelow (λ i. blockOf history (recordOf history (getD ps i 0))) size) pool
-      → take (size * planWords) after ≡ bredFrom (at []) history
+  -- the request that code makes of the words it gathered is the session's
+  gathered-request : (pool gathered : List ℕ) → gathered ≡ over (recordsOf history ps size) pool
+      → wordRequest (take (size * planWords) gathered) (take m (s .config .directions)) (s .config .divisions) size (s .rng) ideal ≡ requestOf (at []) history
   unfolding bredFrom
-  pool-part pool after e = ap (take (size * planWords)) e ∙ over-take _ pool (size * planWords) (bred-length (at []) history)
+  gathered-request pool gathered e =
+      ap (λ (p : List ℕ). wordRequest p (take m (s .config .directions)) (s .config .divisions) size (s .rng) ideal)
+      (ap (take (size * planWords)) e ∙ over-take (recordsOf history ps size) pool (size * planWords) (bred-length (at []) history))
+      ∙ bred-request (at []) history
 
   -- no next dimensions matter to its refusals
   same-left : (ns : List ℕ) → breedRefusal (at []) history ≡ breedRefusal (at ns) history
@@ -84,17 +79,9 @@ module _ (s : Session) (cs ps : List ℕ) (history : List ℕ) where
     step-is-refused : stepRefusal (operatorsOf s) (requestOf (at []) history) (roomOf blankLent) (length cs) ≡ breedRefusal (at []) history
     step-is-refused = step-refusal (at []) history ok (roomOf blankLent) (length cs) rooms rooms rooms long
 
-    -- what the step on those words answers
-    step-is : stepOn s (bredFrom (at []) history) ideal cs ≡ takenOf (stepBy (breedRefusal (at []) history) (operatorsOf s) (requestOf (at []) history) blankLent cs)
-    unfolding stepOf
-    step-is =
-        ap (λ (r : Request). takenOf (stepOf (operatorsOf s) r blankLent cs)) (bred-request (at []) history)
-        ∙ ap (λ (o : Option ℕ). takenOf (stepBy o (operatorsOf s) (requestOf (at []) history) blankLent cs)) step-is-refused
-
   -- ---- a check of the step alone, with room for what it would hand out
 
-  module _ (ok : SessionOk (at [])) (pool gathered : List ℕ) (g : gathered ≡ over (joinBelow (λ i. blockOf history (recordOf history (getD ps i 0))) size) pool)
-      (c : Check)
+  module _ (ok : SessionOk (at [])) (pool gathered : List ℕ) (g : gathered ≡ over (recordsOf history ps size) pool) (c : Check)
       (e : checked c ≡ stepRefusal (operatorsOf s)
       (wordRequest (take (size * planWords) gathered) (take m (s .config .directions)) (s .config .divisions) size (s .rng) ideal)
       (record { kept = maxSize; fronts = maxSize; lines = maxSize }) maxWords) where
@@ -104,9 +91,7 @@ module _ (s : Session) (cs ps : List ℕ) (history : List ℕ) where
     check-is : checked c ≡ breedRefusal (at []) history
     check-is =
         e
-        ∙ ap (λ (p : List ℕ). stepRefusal (operatorsOf s) (wordRequest p (take m (s .config .directions)) (s .config .divisions) size (s .rng) ideal) room maxWords)
-        (pool-part pool gathered g)
-        ∙ ap (λ (r : Request). stepRefusal (operatorsOf s) r room maxWords) (bred-request (at []) history)
+        ∙ ap (λ (r : Request). stepRefusal (operatorsOf s) r room maxWords) (gathered-request pool gathered g)
         ∙ step-refusal (at []) history ok room maxWords (le-refl maxSize) (le-refl maxSize) (le-refl maxSize) (le-refl maxWords)
 
     -- 10 comes after 8 and 9
@@ -144,10 +129,14 @@ module _ (s : Session) (cs ps : List ℕ) (history : List ℕ) where
       ap (λ (o : Option ℕ). breedBy o (at ns) history) (same-left ns)
 
   module _ (ok : SessionOk (at [])) (long : maxWords ≤ length cs) (pool gathered : List ℕ)
-      (g : gathered ≡ over (joinBelow (λ i. blockOf history (recordOf history (getD ps i 0))) size) pool)
+      (g : gathered ≡ over (recordsOf history ps size) pool)
       (r : Selection) (after : List Float) (words ns : List ℕ) (e : stepped r after words ≡ stepOn s (take (size * planWords) gathered) ideal cs) where
     answer-is : stepped r after words ≡ takenOf (stepBy (breedRefusal (at []) history) (operatorsOf s) (requestOf (at []) history) blankLent cs)
-    answer-is = e ∙ ap (λ (p : List ℕ). stepOn s p ideal cs) (pool-part pool gathered g) ∙ step-is ok long
+    unfolding stepOf
+    answer-is =
+        e
+        ∙ ap (λ (r : Request). takenOf (stepOf (operatorsOf s) r blankLent cs)) (gathered-request pool gathered g)
+        ∙ ap (λ (o : Option ℕ). takenOf (stepBy o (operatorsOf s) (requestOf (at []) history) blankLent cs)) (step-is-refused ok long)
 
     pub breed-refused : (n : ℕ) → r .outcome ≡ outcome.Refused n → bredExit (refusedBy (r .outcome)) (state s words ps ns) ≡ breedOf (at ns) history
     breed-refused n f = refused-by r after words ns (breedRefusal (at []) history) n answer-is f ∙ same-refusal ns

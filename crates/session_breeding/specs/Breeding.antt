@@ -47,9 +47,13 @@ pub record BredExit : Type 0 where
 abbrev pub bredExit : Option ℕ → State → BredExit
 bredExit o st = record { refusal = o; after = st }
 
+-- the state that it leaves, by its refusal
+abbrev pub bredTo : Option ℕ → State → List ℕ → State
+bredTo none st history = breed st history
+bredTo (some n) st history = st
+
 abbrev pub breedBy : Option ℕ → State → List ℕ → BredExit
-breedBy none st history = bredExit none (breed st history)
-breedBy (some n) st history = bredExit (some n) st
+breedBy o st history = bredExit o (bredTo o st history)
 
 abbrev pub breedOf : State → List ℕ → BredExit
 breedOf st history = breedBy (breedRefusal st history) st history

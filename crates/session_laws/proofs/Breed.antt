@@ -21,8 +21,7 @@ use Rattle.model.specs.Property.{SessionOk}
 use Rattle.list_laws.proofs.Checks.{good-ideal-length}
 use Rattle.candidate_laws.proofs.Sound.{AllHeld}
 use Rattle.candidate_laws.proofs.Generations.{generation-words}
-use Rattle.list_laws.proofs.Built.{over-long}
-use Rattle.session_laws.proofs.Steps.{Long, put-long, renewed-ok}
+use Rattle.session_laws.proofs.Steps.{renewed-ok}
 
 -- ---- a selection of the whole pool
 
@@ -66,7 +65,3 @@ module _ (st : State) (history : List ℕ) (ok : SessionOk st) where
         renewed-ok st (g .state) _ _ (wordsOf (g .offspring)) ok some
         (ap (λ (l : List Float). goodIdeal (st .session .config .«n_obj») (take (st .session .config .«n_obj») l)) breed-ideal ∙ ok .ideal)
         (generation-words (operatorsOf (st .session)) (requestOf st history) held (ok .dimensions) parents (st .candidates))
-
-pub breed-long : (st : State) (history : List ℕ) → Long st → Long (breed st history)
-unfolding breed
-breed-long st history l = put-long st _ _ (over-long (wordsOf _) (st .candidates)) l

@@ -7,27 +7,26 @@ use mathlib.Core.Option.{Option, none, some}
 use native.Mathlib.Omega.{arith}
 use lib.Dec.{ltb}
 use lib.Ieee.{Float, binary64, eq, le, lt, ofBits, ofInt, toUnsigned}
-use lib.ListN.{length, take, drop, replicate, length-append, length-take, length-replicate, getD-replicate}
-use lib.Seq.{getD-take}
+use lib.ListN.{length, take, drop, replicate, length-append, length-replicate, getD-replicate}
 use borrow.Author.Tests.{ltb-false, eq-eqb}
-use Rattle.list_laws.proofs.Bools.{or-left, or-right, or-both, and-both}
+use Rattle.list_laws.proofs.Bools.{or-right, and-both}
 use Rattle.list_laws.proofs.Tests.{allIn-every}
-use Rattle.list_laws.proofs.Built.{over-take}
+use Rattle.list_laws.proofs.Built.{over-take, take-replicate}
 use Rattle.list_laws.proofs.Checks.{applies-not}
 use Rattle.demand3_laws.proofs.Accepted.{some-objectives}
 use Rattle.model.specs.Lists.{firstBelow, allIn, allBelow}
 use Rattle.model.specs.Real.{infinity, unit}
 use Rattle.model.specs.Plan.{maxObjectives}
-use Rattle.model.specs.Reference.{binomial, pointCount, autoDivisions, divisionsOf, populationSize, orElse}
+use Rattle.model.specs.Reference.{binomial, pointCount, autoDivisions, divisionsOf, populationSize}
 use Rattle.model.specs.declared.Opening.the-variants as opening
 use Rattle.model.specs.declared.OptionUsize.{OptionUsize}
 use Rattle.model.specs.declared.Session.{Session}
 use Rattle.model.specs.Session.{state, given, opened}
 use Rattle.model.specs.Calls.{openBy, openOf, Opens, openingRefusedBy}
-use Rattle.model.specs.Refusal.{firstOf, wholeEta, openRefusal, badDirections, badSessionSize, badSessionDivisions, badGivenDivisions, badDivisions, outsideDivisions, badOperators, measurable, goodIdeal, maxSize, maxLines, goodEntry, badDimensions}
+use Rattle.model.specs.Refusal.{firstOf, wholeEta, openRefusal, badDirections, badSessionSize, badSessionDivisions, badGivenDivisions, badOperators, measurable, goodIdeal, maxSize, maxLines, goodEntry, badDimensions}
 use Rattle.model.specs.Property.{ConfigOk, SessionOk}
 use Rattle.session_laws.proofs.Lists.{lent-empty}
-use Rattle.reference_laws.proofs.Divisions.{auto-inside}
+use Rattle.reference_laws.proofs.Divisions.{session-bad}
 
 -- ---- the ideal that a session starts from: plus infinity everywhere
 
@@ -38,19 +37,9 @@ infinity-good = refl
 pub infinite-ideal : (m : ℕ) → m ≤ maxObjectives → goodIdeal m (take m (replicate maxObjectives infinity)) ≡ true
 unfolding goodIdeal
 infinite-ideal m h =
-    let whole : length (take m (replicate maxObjectives infinity)) ≡ m = omega (arith, length-take m (replicate maxObjectives infinity), length-replicate maxObjectives infinity) in
-    and-both _ _ (eq-eqb _ m whole)
-    (allIn-every _ infinity (take m (replicate maxObjectives infinity))
-    (λ k l. ap goodEntry
-    (getD-take m (replicate maxObjectives infinity) k infinity (omega arith) ∙ getD-replicate maxObjectives k infinity infinity (omega arith))
-    ∙ infinity-good))
-
--- ---- divisions: those given are 1 to 199, and so are automatic ones
-
-divisions-within : (m : ℕ) (size divisions : Option ℕ) → badGivenDivisions divisions ≡ false → outsideDivisions (divisionsOf m size divisions) ≡ false
-unfolding divisionsOf
-divisions-within m size none e = auto-inside m (orElse size 100)
-divisions-within m size (some h) e = e
+    ap (goodIdeal m) (take-replicate m maxObjectives infinity h)
+    ∙ and-both _ _ (eq-eqb _ m (length-replicate m infinity))
+    (allIn-every _ infinity (replicate m infinity) (λ k l. ap goodEntry (getD-replicate m k infinity infinity (omega (arith, length-replicate m infinity))) ∙ infinity-good))
 
 -- ---- the size: what is given, or the point count, and never under 4
 
@@ -80,21 +69,17 @@ module _ (marks : List ℕ) (seed : ℕ) (size divisions : Option ℕ) (probabil
   unfolding openRefusal
   operators-good = applies-not (List·Memᴰ·tail (List·Memᴰ·tail (List·Memᴰ·tail (List·Memᴰ·head refl)))) accepted
 
-  given-good : badGivenDivisions divisions ≡ false
-  unfolding badSessionDivisions
-  given-good = or-left _ _ divisions-good
-
   few-lines : ltb maxLines (pointCount (length marks) (divisionsOf (length marks) size divisions)) ≡ false
   unfolding badSessionDivisions
   few-lines = or-right (badGivenDivisions divisions) _ divisions-good
 
   config-good : ConfigOk (opened marks seed size divisions probability crossoverEta mutationEta .config)
-  unfolding opened badDivisions
+  unfolding opened
   config-good =
       record {
         directions = ap badDirections (over-take marks (replicate maxObjectives 0) (length marks) refl) ∙ directions-good;
         objectives = omega (arith, length-append marks (drop (length marks) (replicate maxObjectives 0)));
-        divisions = or-both _ _ (divisions-within (length marks) size divisions given-good) few-lines;
+        divisions = session-bad (length marks) size divisions ∙ divisions-good;
         atLeast4 = size-within (length marks) size divisions size-good few-lines .0;
         atMost = size-within (length marks) size divisions size-good few-lines .1;
         operators = operators-good;

@@ -7,7 +7,7 @@ use mathlib.Core.Option.{Option, none, some}
 use native.Mathlib.Nat.{le-trans, mul-le-mul}
 use native.Mathlib.Omega.{arith}
 use lib.Dec.{leb}
-use lib.ListN.{length, getD, take}
+use lib.ListN.{length, take}
 use borrow.Author.Tests.{lt-ltb, le-ltb, lt-leb, leb-false, ne-eqb, not-false}
 use Rattle.list_laws.proofs.Bools.{by-bool, and-left, and-right, and-both, and-fails-first, and-not, and-no, or-left, or-right, or-both}
 use Rattle.list_laws.proofs.Built.{listBelow-length}
@@ -16,7 +16,7 @@ use Rattle.list_laws.proofs.Rows.{joinBelow-length}
 use Rattle.model.specs.declared.Distribution.{Distribution}
 use Rattle.model.specs.Plan.{planWords, planCount}
 use Rattle.model.specs.Setting.{validDimension, maxDims}
-use Rattle.model.specs.Session.{State, isActive, discovers, longEnough, blockOf, recordOf, bredFrom, breeds, requestOf, operatorsOf, isNew, maxCome, maxWords}
+use Rattle.model.specs.Session.{State, isActive, discovers, longEnough, bredFrom, breeds, requestOf, operatorsOf, isNew, maxCome, maxWords}
 use Rattle.model.specs.Refusal.{Check, check, firstOf, Room, noRoom, noStepRoom, badSize, badPool, badParents, stepRefusal, sampleRefusal, maxSize, maxHistory, badNext}
 use Rattle.model.specs.Calls.{wordRequest}
 use Rattle.model.specs.Property.{SessionOk}
@@ -29,8 +29,7 @@ use Rattle.session_laws.specs.Refused.{bredChecks, breedRefusal, shortRe
 pub bred-length : (st : State) (history : List ℕ) → length (bredFrom st history) ≡ st .session .config .«population_size» * planWords
 unfolding bredFrom
 bred-length st history =
-    joinBelow-length (λ i. blockOf history (recordOf history (getD (st .plans) i 0))) planWords (st .session .config .«population_size»)
-    (λ i u. listBelow-length _ planWords)
+    joinBelow-length _ planWords (st .session .config .«population_size») (λ i u. listBelow-length _ planWords)
 
 bred-count : (st : State) (history : List ℕ) → planCount (bredFrom st history) ≡ st .session .config .«population_size»
 bred-count st history = omega (arith, bred-length st history)
@@ -50,6 +49,10 @@ breeds-active st history e = and-left _ _ e
 pub active-discovers : (st : State) (plan : ℕ) → isActive (st .session) ≡ true → discovers st plan ≡ false
 unfolding discovers
 active-discovers st plan e = rw e
+
+-- so 6 does not apply to it
+pub active-good : (st : State) (plan : ℕ) (bad : Bool) → isActive (st .session) ≡ true → (discovers st plan && bad) ≡ false
+active-good st plan bad e = and-not _ bad (active-discovers st plan e)
 
 -- ---- a session's six checks
 

@@ -1,25 +1,24 @@
 -- THE SESSION PROPERTY: every call keeps it, refused or not.
 use Prim.Native.Nat.{ℕ}
 use mathlib.Core.Path.{_≡_, refl, sym, ap, subst, _∙_}
-use mathlib.Core.Bool.{true, false, not, _&&_, true≢false, false≢true}
-use mathlib.Core.List.{List, List·Memᴰ·head, List·Memᴰ·tail}
+use mathlib.Core.Bool.{true, false, not, true≢false, false≢true}
+use mathlib.Core.List.{List}
 use mathlib.Core.Option.{Option, none, some}
 use native.Mathlib.Omega.{arith}
-use lib.Dec.{leb}
 use lib.ListN.{length}
 use mir.Val.{Val}
 use denote.Laws.{Is}
 use denote.Struct.Declared as struct
-use borrow.Author.Tests.{not-true, not-false}
+use borrow.Author.Tests.{not-true}
 use Rattle.list_laws.proofs.Bools.{and-left, and-both, and-fails, by-cond, by-option}
-use Rattle.list_laws.proofs.Checks.{applies-not}
+use Rattle.demand3_laws.proofs.Passed.{sample-passed}
 use Rattle.demand3_laws.proofs.Calls.{sample-demand3}
 use Rattle.model.specs.declared.Distribution.{Distribution}
 use Rattle.model.specs.declared.Phase.{Phase}
 use Rattle.model.specs.declared.Phase.the-variants.{Discovery, Active}
-use Rattle.model.specs.Setting.{maxDims}
-use Rattle.model.specs.Session.{State, Answered, dimensionOf, longEnough, isActive, pastDiscovery, discovers, isNew, breeds, breed, activate, discover, sampleFromCandidate, accepted, requestOf, operatorsOf, maxCome}
-use Rattle.model.specs.Refusal.{sampleRefusal, badParents, badNext}
+use Rattle.model.specs.Setting.{maxDims, wordsOf}
+use Rattle.model.specs.Session.{State, Answered, dimensionOf, isActive, pastDiscovery, discovers, breeds, breed, activate, discover, sampleFromCandidate, accepted}
+use Rattle.model.specs.Refusal.{sampleRefusal}
 use Rattle.model.specs.Property.{SessionOk}
 use Rattle.model.specs.Calls.{SampleExit, sampleBy, sampleOf, Samples, samplingRefusedBy}
 use Rattle.model.proofs.Session as session
@@ -27,8 +26,8 @@ use Rattle.settings.proofs.Valid.{few}
 use Rattle.candidate_laws.proofs.Sound.{AllHeld}
 use Rattle.typed_laws.proofs.Held.{session-dimensions, session-held}
 use Rattle.session_laws.proofs.Request.{breeds-active, fit-dimension, room-left}
-use Rattle.session_laws.proofs.Steps.{long, some-dimension, phase-ok, discover-ok, activate-ok, activate-long, sampleFromCandidate-ok}
-use Rattle.session_laws.proofs.Breed.{breed-ok, breed-long}
+use Rattle.session_laws.proofs.Steps.{long, some-dimension, phase-ok, discover-ok, activate-ok, renewed-long, sampleFromCandidate-ok}
+use Rattle.session_laws.proofs.Breed.{breed-ok}
 
 -- ---- the two phases
 
@@ -40,25 +39,6 @@ pub discovery-phase : (p : Phase) → pastDiscovery p ≡ false → p ≡ Discov
 discovery-phase Discovery e = refl
 discovery-phase Active e = absurd (true≢false e)
 
--- ---- what a call that is not refused rules out
-
-module _ (st : State) (d : Distribution) (plan : ℕ) (history : List ℕ) (e : sampleRefusal st d plan history ≡ none) where
-  not-6 : (discovers st plan && badNext (st .session .progress .«n_dims») d) ≡ false
-  unfolding sampleRefusal
-  not-6 = applies-not (List·Memᴰ·head refl) e
-
-  not-9 : (breeds st history && badParents (operatorsOf (st .session)) (requestOf st history)) ≡ false
-  unfolding sampleRefusal
-  not-9 = applies-not (List·Memᴰ·tail (List·Memᴰ·tail (List·Memᴰ·tail (List·Memᴰ·head refl)))) e
-
-  not-10 : longEnough st ≡ true
-  unfolding sampleRefusal
-  not-10 = not-false _ (applies-not (List·Memᴰ·tail (List·Memᴰ·tail (List·Memᴰ·tail (List·Memᴰ·tail (List·Memᴰ·head refl))))) e)
-
-  not-11 : (leb maxCome (st .session .progress .«n_plans») && (isNew st plan && not (breeds st history))) ≡ false
-  unfolding sampleRefusal
-  not-11 = applies-not (List·Memᴰ·tail (List·Memᴰ·tail (List·Memᴰ·tail (List·Memᴰ·tail (List·Memᴰ·tail (List·Memᴰ·head refl)))))) e
-
 -- ---- an accepted call
 
 -- beside the property, what types promise of code's parameters: numbers of the dimensions that the machine holds, and an array of 32
@@ -68,7 +48,7 @@ module _ (st : State) (d : Distribution) (plan : ℕ) (history : List ℕ) (ok :
     adds : discovers st plan ≡ true → SessionOk (discover st d plan .after)
     unfolding discovers
     adds h =
-        let good = fit-dimension _ _ (and-fails (discovers st plan) _ (not-6 st d plan history e) h) in
+        let good = fit-dimension _ _ (and-fails (discovers st plan) _ (sample-passed st d plan history e .dimension) h) in
         discover-ok st d plan ok (discovery-phase (st .session .phase) (not-true _ (and-left _ _ h))) (good .0) (good .1) array
 
     after-discovery : discovers st plan ≡ false → isActive (st .session) ≡ false → SessionOk (sampleFromCandidate (activate st) plan .after)
@@ -76,21 +56,21 @@ module _ (st : State) (d : Distribution) (plan : ℕ) (history : List ℕ) (ok :
     after-discovery h inactive =
         let first = discovery-phase (st .session .phase) inactive in
         let some = some-dimension st plan ok first (and-fails (not (isActive (st .session))) _ h (ap not inactive)) in
-        sampleFromCandidate-ok (activate st) plan (activate-ok st ok first some held) refl (activate-long st (long st (not-10 st d plan history e)))
+        sampleFromCandidate-ok (activate st) plan (activate-ok st ok first some held) refl (renewed-long st _ (wordsOf _) (long st (sample-passed st d plan history e .slices)))
         (λ new. omega arith) held
 
     bred : breeds st history ≡ true → SessionOk (sampleFromCandidate (breed st history) plan .after)
     unfolding breed
     bred h =
         let some = phase-ok st Active ok (active-phase (st .session .phase) (breeds-active st history h)) .someDimension in
-        let parents = and-fails (breeds st history) _ (not-9 st d plan history e) h in
+        let parents = and-fails (breeds st history) _ (sample-passed st d plan history e .parents) h in
         sampleFromCandidate-ok (breed st history) plan (breed-ok st history ok some held parents) refl
-        (breed-long st history (long st (not-10 st d plan history e))) (λ new. omega arith) held
+        (renewed-long st _ (wordsOf _) (long st (sample-passed st d plan history e .slices))) (λ new. omega arith) held
 
     goes-on : isActive (st .session) ≡ true → breeds st history ≡ false → SessionOk (sampleFromCandidate st plan .after)
     goes-on a h =
-        sampleFromCandidate-ok st plan ok (active-phase (st .session .phase) a) (long st (not-10 st d plan history e))
-        (λ new. room-left _ _ (not-11 st d plan history e) (and-both _ _ new (ap not h))) held
+        sampleFromCandidate-ok st plan ok (active-phase (st .session .phase) a) (long st (sample-passed st d plan history e .slices))
+        (λ new. room-left _ _ (sample-passed st d plan history e .come) (and-both _ _ new (ap not h))) held
 
     pub accepted-ok : SessionOk (accepted st d plan history .after)
     unfolding accepted

@@ -133,9 +133,8 @@ module _ (st : State) (ok : SessionOk st) (discovery : st .session .phase ≡ Di
       (sampleCandidates-sound (dimensionOf (st .session)) (st .session .progress .«n_dims») held (ok .dimensions) (st .session .config .«population_size») (st .session .rng .s))
       (drop (length (wordsOf (cs .value))) (st .candidates)))
 
-pub activate-long : (st : State) → Long st → Long (activate st)
-unfolding activate
-activate-long st l = put-long st _ _ (over-long (wordsOf _) (st .candidates)) l
+pub renewed-long : (st : State) (u : Session) (words : List ℕ) → Long st → Long (state u (over words (st .candidates)) (st .plans) (st .nextDims))
+renewed-long st u words l = put-long st u _ (over-long words (st .candidates)) l
 
 -- ---- a plan more
 
@@ -234,24 +233,27 @@ enter-long st plan l =
       next = omega (arith, length-set (st .nextDims) (st .session .progress .«n_plans») 0, l .next);
     }
 
+-- a new plan takes a candidate that stands, or one more is drawn for it
+pub enlist-by : (P : State → Type 0) (st : State) (plan : ℕ) → (st .session .progress .«n_plans» < st .session .progress .«n_candidates» → P (enter st plan))
+    → (st .session .progress .«n_candidates» ≤ st .session .progress .«n_plans» → P (enter (overflow st) plan)) → P (enlist st plan)
+unfolding enlist
+enlist-by P st plan next more = by-cond (λ (x : State). P (enter x plan)) (ltb (st .session .progress .«n_plans») (st .session .progress .«n_candidates»)) st (overflow st)
+    (λ e. next (ltb-true _ _ e)) (λ e. more (ltb-false _ _ e))
+
 module _ (st : State) (ok : SessionOk st) (active : st .session .phase ≡ Active) (lengths : Long st) (room : st .session .progress .«n_plans» < maxCome)
     (held : AllHeld (dimensionOf (st .session)) (st .session .progress .«n_dims»)) (plan : ℕ) (new : isNew st plan ≡ true) where
   pub enlist-ok : SessionOk (enlist st plan)
-  unfolding enlist overflow
-  enlist-ok = by-cond (λ (x : State). SessionOk (enter x plan)) (ltb (st .session .progress .«n_plans») (st .session .progress .«n_candidates»)) st (overflow st)
-      (λ e. enter-ok st plan (waiting st ok active lengths room (ltb-true _ _ e)) new)
-      (λ e. enter-ok (overflow st) plan (overflow-waiting st ok active lengths room (ltb-false _ _ e) held) new)
+  unfolding overflow
+  enlist-ok = enlist-by SessionOk st plan
+      (λ h. enter-ok st plan (waiting st ok active lengths room h) new)
+      (λ h. enter-ok (overflow st) plan (overflow-waiting st ok active lengths room h held) new)
 
 pub enlist-long : (st : State) (plan : ℕ) → Long st → Long (enlist st plan)
-unfolding enlist
-enlist-long st plan l = by-cond (λ (x : State). Long (enter x plan)) (ltb (st .session .progress .«n_plans») (st .session .progress .«n_candidates»)) st (overflow st)
-    (λ e. enter-long st plan l)
-    (λ e. enter-long (overflow st) plan (overflow-long st l))
+enlist-long st plan l = enlist-by Long st plan (λ h. enter-long st plan l) (λ h. enter-long (overflow st) plan (overflow-long st l))
 
 pub enlist-phase : (st : State) (plan : ℕ) → enlist st plan .session .phase ≡ st .session .phase
-unfolding enlist enter overflow
-enlist-phase st plan = by-cond (λ (x : State). x .session .phase ≡ st .session .phase) (ltb (st .session .progress .«n_plans») (st .session .progress .«n_candidates»))
-    st (overflow st) (λ e. refl) (λ e. refl)
+unfolding enter overflow
+enlist-phase st plan = enlist-by (λ (x : State). x .session .phase ≡ st .session .phase) st plan (λ h. refl) (λ h. refl)
 
 -- ---- a setting is answered
 

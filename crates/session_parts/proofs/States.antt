@@ -4,10 +4,10 @@ use mathlib.Core.Path.{_≡_, refl, sym, ap, ap₂, _∙_, subst}
 use mathlib.Core.Bool.{Bool, true, cond}
 use mathlib.Core.List.{List, map}
 use native.Mathlib.Omega.{arith}
-use borrow.Author.Tests.{lt-ltb, le-ltb, ltb-true, ltb-false, le-leb, lt-leb}
-use lib.Dec.{leb, ltb}
+use borrow.Author.Tests.{lt-ltb, le-ltb, le-leb, lt-leb}
+use lib.Dec.{leb}
 use lib.ListN.{length, getD, set}
-use Rattle.list_laws.proofs.Bools.{by-bool}
+use Rattle.list_laws.proofs.Below.{by-lt}
 use Rattle.list_laws.proofs.Rows.{row-within}
 use Rattle.model.specs.declared.Distribution.{Distribution}
 use Rattle.model.specs.declared.ParamValue.{ParamValue}
@@ -90,9 +90,9 @@ unfolding overflow
 overflow-ready st r = record { dims = r .dims; some = r .some; room = r .room }
 
 enlist-ready : (st : State) (plan : ℕ) → Ready (st .session) → st .session .progress .«n_plans» < 2048 → Ready (enlist st plan .session)
-enlist-ready st plan r h = by-bool (ltb (st .session .progress .«n_plans») (st .session .progress .«n_candidates»))
-    (λ b. subst (λ (x : State). Ready (x .session)) (enlist-next st plan (ltb-true _ _ b)) (entered-ready st plan r h))
-    (λ b. subst (λ (x : State). Ready (x .session)) (enlist-over st plan (ltb-false _ _ b))
+enlist-ready st plan r h = by-lt (st .session .progress .«n_plans») (st .session .progress .«n_candidates»)
+    (λ b. subst (λ (x : State). Ready (x .session)) (enlist-next st plan b) (entered-ready st plan r h))
+    (λ b. subst (λ (x : State). Ready (x .session)) (enlist-over st plan b)
     (entered-ready (overflow st) plan (overflow-ready st r) (subst (λ (n : ℕ). n < 2048) (sym (overflow-plans st)) h)))
 
 pub enlisted-ready : (st : State) (plan : ℕ) (u : Session) (cs ps ns : List ℕ) → Ready (st .session) → st .session .progress .«n_plans» < 2048

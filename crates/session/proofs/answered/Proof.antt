@@ -6,13 +6,17 @@ use mathlib.Core.List.{[]}
 use Rattle.model.specs.Plan.{planCount}
 use Rattle.list_laws.proofs.Bools.{and-not, and-fails}
 use Rattle.model.specs.declared.Phase.{Phase}
-use Rattle.model.specs.Session.{state, pastDiscovery}
+use Rattle.model.specs.Session.{State, state, pastDiscovery}
 use Rattle.session_laws.proofs.Request.{refused-7}
 use Rattle.session_active.proofs.Ways.{leaves-refused, adds-by, long-by, without-next, discovery-plans}
 use native.Mathlib.Omega.{arith}
 use borrow.Author.Needs.{needs}
 use Rattle.session.proofs.answered.Statement.{statement}
 use Rattle.session.proofs.answered.Tie as tie
+
+-- the state that the call is given
+abbrev before : tie.Start → State
+before s = state (s .args .session) (s .args .candidates .now) (s .args .plans .now) (s .args .next-dims .now)
 
 long-enough-requires : tie.Need-long-enough-requires
 long-enough-requires c κs = tt
@@ -25,12 +29,14 @@ sample-discovering-requires c κs =
     let s = c .before .before .before .before .before .before .before in
     let a = s .args in
     let e = sym (c .before .discovers .ensures) ∙ c .if1 .taken in
-    (e, discovery-plans (a .session) (a .candidates .now) (a .plans .now) (a .next-dims .now) (a .distribution) (a .plan) (a .history .now) (s .pre) e)
+    (e, discovery-plans (before s) (a .plan) (s .pre) e)
 
 returns : tie.Need-returns
 returns c =
-    let a = c .before .before .before .before .before .before .before .before .args in
-    c .sample-discovering .ensures (a .candidates .now) (a .plans .now) (a .next-dims .now) (long-by (a .session) (a .candidates .now) (a .plans .now) (a .next-dims .now) (a .distribution) (a .plan) (a .history .now) _ (c .before .before .before .long-enough .ensures))
+    let s = c .before .before .before .before .before .before .before .before in
+    let a = s .args in
+    let st = before s in
+    c .sample-discovering .ensures (a .candidates .now) (a .plans .now) (a .next-dims .now) (long-by st _ (c .before .before .before .long-enough .ensures))
 
 plan-count-requires : tie.Need-plan-count-requires
 plan-count-requires c κs = tt
@@ -40,10 +46,12 @@ refused-requires c κs = tt
 
 returns-2 : tie.Need-returns-2
 returns-2 c =
-    let a = c .before .before .before .before .before .before .before .before .before .before .args in
+    let s = c .before .before .before .before .before .before .before .before .before .before in
+    let a = s .args in
+    let st = before s in
     let many : 4096 < planCount (a .history .now) = omega (arith, c .before .if2 .taken, c .before .before .plan-count .ensures) in
-    leaves-refused (a .session) (a .candidates .now) (a .plans .now) (a .next-dims .now) (a .distribution) (a .plan) (a .history .now) 7 (a .session) (a .candidates .now) _ (c .refused .ensures) refl
-    (refused-7 (state (a .session) (a .candidates .now) (a .plans .now) (a .next-dims .now)) (a .distribution) (a .plan) (a .history .now) (and-not _ _ (adds-by (a .session) (a .candidates .now) (a .plans .now) (a .next-dims .now) (a .distribution) (a .plan) (a .history .now) false (sym (c .before .before .before .before .discovers .ensures) ∙ c .before .before .before .if1 .left))) many)
+    leaves-refused st (a .distribution) (a .plan) (a .history .now) 7 (a .session) (a .candidates .now) _ (c .refused .ensures) refl
+    (refused-7 st (a .distribution) (a .plan) (a .history .now) (and-not _ _ (adds-by st (a .plan) false (sym (c .before .before .before .before .discovers .ensures) ∙ c .before .before .before .if1 .left))) many)
 
 enum-told : tie.Need-enum-told
 enum-told c = search needs
@@ -54,7 +62,7 @@ sample-first-requires c κs =
     let a = s .args in
     let few : planCount (a .history .now) ≤ 4096 = omega (arith, c .before .before .before .before .before .before .if2 .left, c .before .before .before .before .before .before .before .plan-count .ensures) in
     let p = c .before .before .before .enum-told .given .1 in
-    (record { ok = s .pre; room = long-by (a .session) (a .candidates .now) (a .plans .now) (a .next-dims .now) (a .distribution) (a .plan) (a .history .now) _ (c .before .before .before .before .before .before .before .before .before .before .long-enough .ensures) ∙ c .before .before .before .before .before .if3 .taken; few = few }, p, and-fails _ _ (sym (c .before .before .before .before .before .before .before .before .before .discovers .ensures) ∙ c .before .before .before .before .before .before .before .before .if1 .left) (ap (λ (x : Phase). not (pastDiscovery x)) p))
+    (record { ok = s .pre; room = long-by (before s) _ (c .before .before .before .before .before .before .before .before .before .before .long-enough .ensures) ∙ c .before .before .before .before .before .if3 .taken; few = few }, p, and-fails _ _ (sym (c .before .before .before .before .before .before .before .before .before .discovers .ensures) ∙ c .before .before .before .before .before .before .before .before .if1 .left) (ap (λ (x : Phase). not (pastDiscovery x)) p))
 
 enum-told-2 : tie.Need-enum-told-2
 enum-told-2 c = search needs
@@ -64,7 +72,7 @@ sample-active-requires c κs =
     let s = c .before .before .before .before .before .before .before .before .before .before .before .before .before .before .before in
     let a = s .args in
     let few : planCount (a .history .now) ≤ 4096 = omega (arith, c .before .before .before .before .before .before .if2 .left, c .before .before .before .before .before .before .before .plan-count .ensures) in
-    (record { ok = s .pre; room = long-by (a .session) (a .candidates .now) (a .plans .now) (a .next-dims .now) (a .distribution) (a .plan) (a .history .now) _ (c .before .before .before .before .before .before .before .before .before .before .long-enough .ensures) ∙ c .before .before .before .before .before .if3 .taken; few = few }, c .before .before .before .enum-told2 .given .1)
+    (record { ok = s .pre; room = long-by (before s) _ (c .before .before .before .before .before .before .before .before .before .before .long-enough .ensures) ∙ c .before .before .before .before .before .if3 .taken; few = few }, c .before .before .before .enum-told2 .given .1)
 
 same-length : tie.Need-same-length
 same-length c = c .before .before .before .before .before .before .sample-first .kept .1 .1 .1 .0
@@ -95,7 +103,7 @@ short-refusal-requires c κs =
     let s = c .before .before .before .before .before .before .before .before .before .before .before in
     let a = s .args in
     let few : planCount (a .history .now) ≤ 4096 = omega (arith, c .before .before .if2 .left, c .before .before .before .plan-count .ensures) in
-    (without-next (a .session) (a .candidates .now) (a .plans .now) (a .next-dims .now) (a .distribution) (a .plan) (a .history .now) [] (s .pre), few)
+    (without-next (before s) [] (s .pre), few)
 
 refused-requires-2 : tie.Need-refused-requires-2
 refused-requires-2 c κs = tt
@@ -105,11 +113,13 @@ same-length-7 c = refl
 
 returns-5 : tie.Need-returns-5
 returns-5 c =
-    let a = c .before .before .before .before .before .before .before .before .before .before .before .before .before .args in
-    leaves-refused (a .session) (a .candidates .now) (a .plans .now) (a .next-dims .now) (a .distribution) (a .plan) (a .history .now) _ (a .session) (a .candidates .now) _ (c .refused2 .ensures) refl
+    let s = c .before .before .before .before .before .before .before .before .before .before .before .before .before in
+    let a = s .args in
+    let st = before s in
+    leaves-refused st (a .distribution) (a .plan) (a .history .now) _ (a .session) (a .candidates .now) _ (c .refused2 .ensures) refl
     (c .before .short-refusal .ensures (a .candidates .now) (a .next-dims .now) (a .distribution) (a .plan)
-    (adds-by (a .session) (a .candidates .now) (a .plans .now) (a .next-dims .now) (a .distribution) (a .plan) (a .history .now) false (sym (c .before .before .before .before .before .before .before .discovers .ensures) ∙ c .before .before .before .before .before .before .if1 .left))
-    (long-by (a .session) (a .candidates .now) (a .plans .now) (a .next-dims .now) (a .distribution) (a .plan) (a .history .now) _ (c .before .before .before .before .before .before .before .before .long-enough .ensures) ∙ c .before .before .before .if3 .left))
+    (adds-by st (a .plan) false (sym (c .before .before .before .before .before .before .before .discovers .ensures) ∙ c .before .before .before .before .before .before .if1 .left))
+    (long-by st _ (c .before .before .before .before .before .before .before .before .long-enough .ensures) ∙ c .before .before .before .if3 .left))
 
 pub answered-spec : {M : Type 1} → statement M
 answered-spec =

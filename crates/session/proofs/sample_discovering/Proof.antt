@@ -22,8 +22,8 @@ returns c cs ps ns l =
     let s = c .before .before .before .before .before in
     let a = s .args in
     let st = state (a .session) cs ps ns in
-    leaves-refused _ cs ps ns _ _ _ 6 (a .session) cs _ (c .refused .ensures) refl
-    (refused-6 st _ _ _ (adds-by _ cs ps ns (a .distribution) _ (a .history .now) true (s .pre .0)) (sym (c .before .before .bad-dimension .ensures) ∙ c .before .if1 .taken))
+    leaves-refused st _ _ _ 6 (a .session) cs _ (c .refused .ensures) refl
+    (refused-6 st _ _ _ (adds-by st _ true (s .pre .0)) (sym (c .before .before .bad-dimension .ensures) ∙ c .before .if1 .taken))
 
 plan-count-requires : tie.Need-plan-count-requires
 plan-count-requires c κs = tt
@@ -37,7 +37,7 @@ returns-2 c cs ps ns l =
     let a = s .args in
     let st = state (a .session) cs ps ns in
     let many : 4096 < planCount (a .history .now) = omega (arith, c .before .if2 .taken, c .before .before .plan-count .ensures) in
-    leaves-refused _ cs ps ns _ _ _ 7 (a .session) cs _ (c .refused2 .ensures) refl
+    leaves-refused st _ _ _ 7 (a .session) cs _ (c .refused2 .ensures) refl
     (refused-7 st _ _ _ (and-no (discovers st (a .plan)) _ (sym (c .before .before .before .before .bad-dimension .ensures) ∙ c .before .before .before .if1 .left)) many)
 
 discover-requires : tie.Need-discover-requires
@@ -50,10 +50,10 @@ returns-3 c cs ps ns l =
     let a = s .args in
     let st = state (a .session) cs ps ns in
     let few : planCount (a .history .now) ≤ 4096 = omega (arith, c .before .before .if2 .left, c .before .before .before .plan-count .ensures) in
-    leaves-accepted _ cs ps ns _ _ _ _ _ (c .discover .ensures cs ps ns)
-    (not-refused st _ _ _ (and-no (discovers st (a .plan)) _ (sym (c .before .before .before .before .before .bad-dimension .ensures) ∙ c .before .before .before .before .if1 .left)) few (adds-unbred _ cs ps ns (a .distribution) _ _ (s .pre .0))
+    leaves-accepted st _ _ _ _ _ (c .discover .ensures cs ps ns)
+    (not-refused st _ _ _ (and-no (discovers st (a .plan)) _ (sym (c .before .before .before .before .before .bad-dimension .ensures) ∙ c .before .before .before .before .if1 .left)) few (adds-unbred st _ (a .plan) (s .pre .0))
     (l ∙ c .before .if3 .taken) (λ new. omega (arith, s .pre .1)))
-    (adds-accepted _ cs ps ns _ _ _ (adds-by _ cs ps ns (a .distribution) _ (a .history .now) true (s .pre .0)))
+    (adds-accepted st _ _ _ (adds-by st _ true (s .pre .0)))
 
 refused-requires-3 : tie.Need-refused-requires-3
 refused-requires-3 c κs = tt
@@ -64,8 +64,8 @@ returns-4 c cs ps ns l =
     let a = s .args in
     let st = state (a .session) cs ps ns in
     let few : planCount (a .history .now) ≤ 4096 = omega (arith, c .before .before .if2 .left, c .before .before .before .plan-count .ensures) in
-    leaves-refused _ cs ps ns _ _ _ 10 (a .session) cs _ (c .refused3 .ensures) refl
-    (refused-10 st _ _ _ (and-no (discovers st (a .plan)) _ (sym (c .before .before .before .before .before .bad-dimension .ensures) ∙ c .before .before .before .before .if1 .left)) few (adds-unbred _ cs ps ns (a .distribution) _ _ (s .pre .0))
+    leaves-refused st _ _ _ 10 (a .session) cs _ (c .refused3 .ensures) refl
+    (refused-10 st _ _ _ (and-no (discovers st (a .plan)) _ (sym (c .before .before .before .before .before .bad-dimension .ensures) ∙ c .before .before .before .before .if1 .left)) few (adds-unbred st _ (a .plan) (s .pre .0))
     (l ∙ c .before .if3 .left))
 
 pub sample-discovering-spec : {M : Type 1} → statement M

@@ -5,7 +5,7 @@ use mathlib.Core.Path.{ap}
 use Rattle.list_laws.proofs.Bools.{and-not}
 use Rattle.model.specs.Session.{state, pastDiscovery}
 use Rattle.session_laws.proofs.Request.{refused-10}
-use Rattle.session_active.proofs.Ways.{unused, first-unbred, breeds-by, evaluated-short, short-bred}
+use Rattle.session_active.proofs.Ways.{first-unbred, breeds-by, evaluated-by, short-bred}
 use borrow.Author.Needs.{needs}
 use Rattle.session.proofs.short_refusal.Statement.{statement}
 use Rattle.session.proofs.short_refusal.Tie as tie
@@ -21,7 +21,7 @@ returns c cs ns d plan other short =
     let s = c .before .before .before .before .before .before in
     let a = s .args in
     refused-10 (state (a .session) cs (a .plans .now) ns) d plan (a .history .now) (and-not _ _ other) (s .pre .1)
-    (first-unbred (a .session) cs (a .plans .now) ns d plan (a .history .now) (ap pastDiscovery (c .enum-told2 .given .1))) short
+    (first-unbred (state (a .session) cs (a .plans .now) ns) (a .history .now) (ap pastDiscovery (c .enum-told2 .given .1))) short
 
 evaluated-requires : tie.Need-evaluated-requires
 evaluated-requires c κs = tt
@@ -30,14 +30,14 @@ bred-refusal-requires : tie.Need-bred-refusal-requires
 bred-refusal-requires c κs =
     let s = c .before .before .before .before .before .before .before .before in
     let a = s .args in
-    (s .pre .0, evaluated-short (a .session) [] (a .plans .now) [] unused 0 (a .history .now) _ (c .before .evaluated .ensures) (c .if1 .taken))
+    (s .pre .0, evaluated-by (state (a .session) [] (a .plans .now) []) (a .history .now) _ true (c .before .evaluated .ensures) (c .if1 .taken))
 
 returns-2 : tie.Need-returns-2
 returns-2 c cs ns d plan other short =
     let s = c .before .before .before .before .before .before .before .before .before in
     let a = s .args in
-    short-bred (a .session) cs (a .plans .now) ns d plan (a .history .now) _
-    (breeds-by (a .session) cs (a .plans .now) ns d plan (a .history .now) _ true (ap pastDiscovery (c .before .before .before .enum-told .given .1))
+    short-bred (state (a .session) cs (a .plans .now) ns) d plan (a .history .now) _
+    (breeds-by (state (a .session) cs (a .plans .now) ns) (a .history .now) _ true (ap pastDiscovery (c .before .before .before .enum-told .given .1))
     (c .before .before .evaluated .ensures) (c .before .if1 .taken))
     short (s .pre .1) (c .bred-refusal .ensures)
 
@@ -46,7 +46,7 @@ returns-3 c cs ns d plan other short =
     let s = c .before .before .before .before .before .before .before .before in
     let a = s .args in
     refused-10 (state (a .session) cs (a .plans .now) ns) d plan (a .history .now) (and-not _ _ other) (s .pre .1)
-    (breeds-by (a .session) cs (a .plans .now) ns d plan (a .history .now) _ false (ap pastDiscovery (c .before .before .enum-told .given .1))
+    (breeds-by (state (a .session) cs (a .plans .now) ns) (a .history .now) _ false (ap pastDiscovery (c .before .before .enum-told .given .1))
     (c .before .evaluated .ensures) (c .if1 .left)) short
 
 pub short-refusal-spec : {M : Type 1} → statement M

@@ -1,15 +1,18 @@
 -- breeding comes first, then refusal 11
 use mathlib.Core.Path.{refl, sym, ap, _∙_}
 use mathlib.Core.Bool.{true, false}
-use Rattle.model.specs.Session.{state, pastDiscovery}
-use mathlib.Core.List.{[]}
-use Rattle.list_laws.proofs.Bools.{and-not}
-use Rattle.session_laws.proofs.Request.{active-discovers, room-left, refused-11, not-refused}
-use Rattle.session_laws.proofs.Steps.{long, active-ok}
-use Rattle.session_active.proofs.Ways.{unused, ready-active, breeds-by, active-accepted, leaves-refused, leaves-accepted}
+use Rattle.model.specs.declared.Phase.the-variants.{Active}
+use Rattle.model.specs.Session.{State, state, pastDiscovery}
+use Rattle.session_laws.proofs.Request.{active-discovers, active-good, room-left, refused-11, not-refused}
+use Rattle.session_laws.proofs.Steps.{long, phase-ok}
+use Rattle.session_active.proofs.Ways.{ready-active, breeds-by, active-accepted, leaves-refused, leaves-accepted}
 use native.Mathlib.Omega.{arith}
 use Rattle.session_active.proofs.sample_active.Statement.{statement}
 use Rattle.session_active.proofs.sample_active.Tie as tie
+
+-- the state that the call is given
+abbrev before : tie.Start → State
+before s = state (s .args .session) (s .args .candidates .now) (s .args .plans .now) (s .args .next-dims .now)
 
 evaluated-requires : tie.Need-evaluated-requires
 evaluated-requires c κs = tt
@@ -18,7 +21,7 @@ sample-bred-requires : tie.Need-sample-bred-requires
 sample-bred-requires c κs =
     let s = c .before .before .before .before .before .before .before .before .before .before .before .before in
     let a = s .args in
-    (s .pre .0, breeds-by (a .session) (a .candidates .now) (a .plans .now) (a .next-dims .now) unused 0 (a .history .now) _ true (ap pastDiscovery (s .pre .1)) (c .before .before .before .before .evaluated .ensures) (c .before .before .before .if1 .taken))
+    (s .pre .0, breeds-by (before s) (a .history .now) _ true (ap pastDiscovery (s .pre .1)) (c .before .before .before .before .evaluated .ensures) (c .before .before .before .if1 .taken))
 
 same-length : tie.Need-same-length
 same-length c = c .before .before .before .before .before .before .sample-bred .kept .1 .1 .1 .0
@@ -36,8 +39,8 @@ full-requires : tie.Need-full-requires
 full-requires c κs =
     let s = c .before .before .before .before .before .before .before .before .before .before in
     let a = s .args in
-    let st = state (a .session) (a .candidates .now) (a .plans .now) (a .next-dims .now) in
-    omega (arith, active-ok st (s .pre .0 .ok) (s .pre .1) .room, long st (s .pre .0 .room) .plans)
+    let st = before s in
+    omega (arith, phase-ok st Active (s .pre .0 .ok) (s .pre .1) .room, long st (s .pre .0 .room) .plans)
 
 refused-requires : tie.Need-refused-requires
 refused-requires c κs = tt
@@ -49,19 +52,19 @@ returns-2 : tie.Need-returns-2
 returns-2 c d =
     let s = c .before .before .before .before .before .before .before .before .before .before .before .before .before in
     let a = s .args in
+    let st = before s in
     let i = ap pastDiscovery (s .pre .1) in
-    let b = breeds-by (a .session) (a .candidates .now) (a .plans .now) (a .next-dims .now) d (a .plan) (a .history .now) _ false i (c .before .before .before .before .before .evaluated .ensures) (c .before .before .before .before .if1 .left) in
-    let st = state (a .session) (a .candidates .now) (a .plans .now) (a .next-dims .now) in
-    leaves-refused (a .session) (a .candidates .now) (a .plans .now) (a .next-dims .now) d (a .plan) (a .history .now) 11 (a .session) (a .candidates .now) _ (c .refused .ensures) refl
-    (refused-11 st d (a .plan) (a .history .now) (and-not _ _ (active-discovers st (a .plan) i)) (s .pre .0 .few) b (s .pre .0 .room) (sym (c .before .before .full .ensures) ∙ c .before .if2 .taken))
+    let b = breeds-by st (a .history .now) _ false i (c .before .before .before .before .before .evaluated .ensures) (c .before .before .before .before .if1 .left) in
+    leaves-refused st d (a .plan) (a .history .now) 11 (a .session) (a .candidates .now) _ (c .refused .ensures) refl
+    (refused-11 st d (a .plan) (a .history .now) (active-good st (a .plan) _ i) (s .pre .0 .few) b (s .pre .0 .room) (sym (c .before .before .full .ensures) ∙ c .before .if2 .taken))
 
 sample-from-candidate-requires : tie.Need-sample-from-candidate-requires
 sample-from-candidate-requires c κs =
     let s = c .before .before .before .before .before .before .before .before .before .before .before .before .before .before .before in
     let a = s .args in
-    let st = state (a .session) (a .candidates .now) (a .plans .now) (a .next-dims .now) in
+    let st = before s in
     let l = long st (s .pre .0 .room) in (
-      ready-active (a .session) (a .candidates .now) (a .plans .now) (a .next-dims .now) unused 0 [] (s .pre .0 .ok) (s .pre .1),
+      ready-active st (s .pre .0 .ok) (s .pre .1),
       l .words,
       l .plans,
       l .next,
@@ -81,14 +84,13 @@ returns-3 : tie.Need-returns-3
 returns-3 c d =
     let s = c .before .before .before .before .before .before .before .before .before .before .before .before .before .before .before .before .before .before .before .before .before .before in
     let a = s .args in
+    let st = before s in
     let i = ap pastDiscovery (s .pre .1) in
-    let b = breeds-by (a .session) (a .candidates .now) (a .plans .now) (a .next-dims .now) d (a .plan) (a .history .now) _ false i (c .before .before .before .before .before .before .before .before .before .before .before .before .before .before .evaluated .ensures) (c .before .before .before .before .before .before .before .before .before .before .before .before .before .if1 .left) in
-    let st = state (a .session) (a .candidates .now) (a .plans .now) (a .next-dims .now) in
-    let o = active-discovers st (a .plan) i in
-    leaves-accepted (a .session) (a .candidates .now) (a .plans .now) (a .next-dims .now) d (a .plan) (a .history .now) _ _ (c .before .before .before .before .before .before .sample-from-candidate .ensures)
-    (not-refused st d (a .plan) (a .history .now) (and-not _ _ o) (s .pre .0 .few) b (s .pre .0 .room)
+    let b = breeds-by st (a .history .now) _ false i (c .before .before .before .before .before .before .before .before .before .before .before .before .before .before .evaluated .ensures) (c .before .before .before .before .before .before .before .before .before .before .before .before .before .if1 .left) in
+    leaves-accepted st d (a .plan) (a .history .now) _ _ (c .before .before .before .before .before .before .sample-from-candidate .ensures)
+    (not-refused st d (a .plan) (a .history .now) (active-good st (a .plan) _ i) (s .pre .0 .few) b (s .pre .0 .room)
     (room-left (a .session .progress .«n_plans») _ (sym (c .before .before .before .before .before .before .before .before .before .before .before .full .ensures) ∙ c .before .before .before .before .before .before .before .before .before .before .if2 .left)))
-    (active-accepted (a .session) (a .candidates .now) (a .plans .now) (a .next-dims .now) d (a .plan) (a .history .now) o i b)
+    (active-accepted st d (a .plan) (a .history .now) (active-discovers st (a .plan) i) i b)
 
 pub sample-active-spec : {M : Type 1} → statement M
 sample-active-spec =

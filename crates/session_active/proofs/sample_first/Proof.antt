@@ -3,31 +3,36 @@ use Prim.Native.Nat.{_<_}
 use mathlib.Core.Path.{_≡_, ap, _∙_}
 use mathlib.Core.Bool.{false, not}
 use lib.ListN.{length}
-use Rattle.model.specs.Session.{state, pastDiscovery}
+use Rattle.model.specs.declared.Phase.the-variants.{Discovery}
+use Rattle.model.specs.Session.{State, state, pastDiscovery}
 use mathlib.Core.List.{[]}
 use Rattle.list_laws.proofs.Bools.{and-not, and-no}
-use Rattle.session_laws.proofs.Request.{dimensions-good, offspring-fit, not-refused}
-use Rattle.session_laws.proofs.Steps.{long, discovery-ok, some-dimension}
-use Rattle.session_active.proofs.Ways.{unused, ready-first, adds-by, first-unbred, first-accepted, leaves-taken}
+use Rattle.session_laws.proofs.Request.{offspring-fit, not-refused}
+use Rattle.session_laws.proofs.Steps.{long, phase-ok, some-dimension}
+use Rattle.session_active.proofs.Ways.{ready-first, adds-by, first-unbred, first-accepted, leaves-taken}
 use native.Mathlib.Omega.{arith}
 use Rattle.session_active.proofs.sample_first.Statement.{statement}
 use Rattle.session_active.proofs.sample_first.Tie as tie
+
+-- the state that the call is given
+abbrev before : tie.Start → State
+before s = state (s .args .session) (s .args .candidates .now) (s .args .plans .now) (s .args .next-dims .now)
 
 activate-requires : tie.Need-activate-requires
 activate-requires c κs =
     let s = c .before .before .before .before .before in
     let a = s .args in
-    let st = state (a .session) (a .candidates .now) (a .plans .now) (a .next-dims .now) in
-    (dimensions-good (a .session) (s .pre .0 .ok .dimensions), omega (arith, offspring-fit st [] (s .pre .0 .ok), long st (s .pre .0 .room) .words))
+    let st = before s in
+    (s .pre .0 .ok .dimensions, omega (arith, offspring-fit st [] (s .pre .0 .ok), long st (s .pre .0 .room) .words))
 
 sample-from-candidate-requires : tie.Need-sample-from-candidate-requires
 sample-from-candidate-requires c κs =
     let s = c .before .before .before .before .before .before .before .before .before .before .before in
     let a = s .args in
-    let st = state (a .session) (a .candidates .now) (a .plans .now) (a .next-dims .now) in
+    let st = before s in
     let l = long st (s .pre .0 .room) in
     let e = c .before .before .before .before .before .activate in
-    let r = ready-first (a .session) (a .candidates .now) (a .plans .now) (a .next-dims .now) unused (a .plan) [] _ _ (s .pre .0 .ok) (some-dimension st (a .plan) (s .pre .0 .ok) (s .pre .1) (s .pre .2)) (e .ensures (a .plans .now) (a .next-dims .now)) in
+    let r = ready-first st _ _ (s .pre .0 .ok) (some-dimension st (a .plan) (s .pre .0 .ok) (s .pre .1) (s .pre .2)) (e .ensures (a .plans .now) (a .next-dims .now)) in
     let same : length (e .last .1 .0) ≡ length (a .candidates .now) = e .kept .1 .0 in
     (r .0, omega (arith, l .words), l .plans, l .next, λ new. omega (arith, r .1))
 
@@ -45,13 +50,13 @@ returns c d =
     let s = c .before .before .before .before .before .before .before .before .before .before .before .before .before .before .before .before .before .before in
     let a = s .args in
     let e = c .before .before .before .before .before .before .before .before .before .before .before .before .activate in
-    let st = state (a .session) (a .candidates .now) (a .plans .now) (a .next-dims .now) in
-    let o = adds-by (a .session) (a .candidates .now) (a .plans .now) (a .next-dims .now) d (a .plan) (a .history .now) false (and-no (not (pastDiscovery (a .session .phase))) _ (s .pre .2)) in
+    let st = before s in
+    let o = adds-by st (a .plan) false (and-no (not (pastDiscovery (a .session .phase))) _ (s .pre .2)) in
     let i = ap pastDiscovery (s .pre .1) in
-    let full : a .session .progress .«n_plans» < 2048 = omega (arith, discovery-ok st (s .pre .0 .ok) (s .pre .1) .noPlans) in
-    leaves-taken (a .session) (a .candidates .now) (a .plans .now) (a .next-dims .now) d (a .plan) (a .history .now) _ _ _ (c .before .before .before .before .before .before .sample-from-candidate .ensures) (e .ensures (a .plans .now) (a .next-dims .now))
-    (not-refused st d (a .plan) (a .history .now) (and-not _ _ o) (s .pre .0 .few) (first-unbred (a .session) (a .candidates .now) (a .plans .now) (a .next-dims .now) d (a .plan) (a .history .now) i) (s .pre .0 .room) (λ new. full))
-    (first-accepted (a .session) (a .candidates .now) (a .plans .now) (a .next-dims .now) d (a .plan) (a .history .now) o i)
+    let full : a .session .progress .«n_plans» < 2048 = omega (arith, phase-ok st Discovery (s .pre .0 .ok) (s .pre .1) .noPlans) in
+    leaves-taken st d (a .plan) (a .history .now) _ _ _ (c .before .before .before .before .before .before .sample-from-candidate .ensures) (e .ensures (a .plans .now) (a .next-dims .now))
+    (not-refused st d (a .plan) (a .history .now) (and-not _ _ o) (s .pre .0 .few) (first-unbred st (a .history .now) i) (s .pre .0 .room) (λ new. full))
+    (first-accepted st d (a .plan) (a .history .now) o i)
 
 pub sample-first-spec : {M : Type 1} → statement M
 sample-first-spec =

@@ -3,7 +3,7 @@ use Prim.Native.Nat.{_*_, _≤_}
 use mathlib.Core.List.{[]}
 use mathlib.Core.Path.{refl, sym}
 use lib.Seq.{length-take-le}
-use Rattle.session_breeding.proofs.Breeding.{ideal-room, evaluated-stand, evaluated-plans, short-is}
+use Rattle.session_breeding.proofs.Breeding.{ideal-room, evaluated-tells, short-is}
 use native.Mathlib.Omega.{arith}
 use borrow.Author.Needs.{needs}
 use Rattle.session_breeding.proofs.bred_refusal.Statement.{statement}
@@ -16,7 +16,8 @@ gather-requires : tie.Need-gather-requires
 gather-requires c κs =
     let s = c .before .before .before .before .before .before .before .before .before in
     let room : s .args .session .config .«population_size» * 124 ≤ 126976 = omega (arith, s .pre .0 .config .atMost) in
-    (evaluated-plans _ _ (s .pre .1), room, evaluated-stand _ _ (s .pre .1))
+    let e = evaluated-tells _ _ (s .pre .1) in
+    (e .0, room, e .1)
 
 mul-words : tie.Need-mul-words
 mul-words c = search needs

@@ -3,7 +3,7 @@ use Prim.Native.Nat.{_*_}
 use lib.ListN.{length}
 use mathlib.Core.Path.{_≡_, refl, sym, _∙_}
 use lib.Seq.{length-take-le}
-use Rattle.session_breeding.proofs.Breeding.{ideal-room, evaluated-stand, breed-refused, breed-kept}
+use Rattle.session_breeding.proofs.Breeding.{ideal-room, evaluated-tells, breed-refused, breed-kept}
 use native.Mathlib.Omega.{arith}
 use borrow.Author.Needs.{needs}
 use Rattle.session_breeding.proofs.breed.Statement.{statement}
@@ -12,7 +12,8 @@ use Rattle.session_breeding.proofs.breed.Tie as tie
 gather-requires : tie.Need-gather-requires
 gather-requires c κs =
     let s = c .before .before .before .before .before .before .before in
-    (omega (arith, s .pre .1 .0 .config .atMost, s .pre .1 .2), omega (arith, s .pre .1 .0 .config .atMost, s .pre .0), evaluated-stand _ _ (s .pre .1 .1))
+    let e = evaluated-tells _ _ (s .pre .1 .1) in
+    (e .0, omega (arith, s .pre .1 .0 .config .atMost, s .pre .0), e .1)
 
 mul-words : tie.Need-mul-words
 mul-words c = record { fits = omega (arith, c .before .before .before .before .before .before .before .before .before .before .pre .1 .0 .config .atMost) }
