@@ -7,7 +7,7 @@ ghost use Rattle.model.specs.Lists.{allBelow, over};
 ghost use Rattle.model.specs.Plan.{planAt, planCount};
 ghost use Rattle.model.specs.Setting.{wordsOf, operators, dimensionsOf};
 ghost use Rattle.model.specs.Refusal.{goodPlan, breedable, badDimensions, badOperators};
-ghost use Rattle.generation_laws.specs.Bred.{bredFrom};
+ghost use Rattle.generation_laws.specs.Bred.{bredOfWords};
 use model::CANDIDATE_WORDS;
 use model::DimensionInfo;
 use model::MAX_PLANS;
@@ -34,10 +34,10 @@ pub fn breed(
     requires { ⌜ (0 < size) × (size ≤ 1024) × (size ≤ length (now kept)) × ((i : ℕ) → i < size → getD (now kept) i 0 < planCount (now pool))
         × (size * «n_dims» ≤ length (now offspring)) ⌝ }
     ensures words { λ _. ⌜ now (offspring .exit)
-        ≡ over (wordsOf (bredFrom (operators dims «n_dims» «crossover_prob» «crossover_eta» «mutation_eta») (now (pool .entry)) (now (directions .entry))
+        ≡ over (wordsOf (bredOfWords (operators dims «n_dims» «crossover_prob» «crossover_eta» «mutation_eta») (now (pool .entry)) (now (directions .entry))
         (now (kept .entry)) size (rng .s) .value)) (now (offspring .entry)) ⌝ }
     ensures state { λ r. ⌜ r .s
-        ≡ bredFrom (operators dims «n_dims» «crossover_prob» «crossover_eta» «mutation_eta») (now (pool .entry)) (now (directions .entry))
+        ≡ bredOfWords (operators dims «n_dims» «crossover_prob» «crossover_eta» «mutation_eta») (now (pool .entry)) (now (directions .entry))
         (now (kept .entry)) size (rng .s) .state ⌝ }
 {
     let mut parents: [u64; CANDIDATE_WORDS] = [0; CANDIDATE_WORDS];

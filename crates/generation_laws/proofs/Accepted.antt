@@ -1,22 +1,17 @@
 -- A generation step that meets no refusal: the limits that it keeps beside those of its tests, and that its selection meets none either.
 use Prim.Native.Nat.{ℕ, _*_, _≤_}
 use mathlib.Core.Path.{_≡_, sym, ap, _∙_}
-use mathlib.Core.Bool.{true, false, _&&_}
+use mathlib.Core.Bool.{false, _&&_}
 use mathlib.Core.Option.{none}
-use borrow.Author.Tests.{not-false, ltb-false, le-leb}
+use borrow.Author.Tests.{ltb-false, le-leb}
 use lib.Dec.{leb, ltb}
 use Rattle.list_laws.proofs.Bools.{or-left, or-right}
-use Rattle.model.specs.Lists.{allBelow}
 use Rattle.model.specs.Association.{Request}
 use Rattle.model.specs.Setting.{Operators}
-use Rattle.model.specs.Refusal.{Room, firstOf, badParents, breedable, noRoom, noStepRoom, selectRefusal, tooShort}
+use Rattle.model.specs.Refusal.{Room, firstOf, noRoom, noStepRoom, selectRefusal, tooShort}
 use Rattle.demand3_laws.proofs.Passed.{Passed, room-each}
 
 module _ {o : Operators} {r : Request} {room : Room} {offspring : ℕ} (p : Passed o r room offspring) where
-  pub all-breedable : allBelow (λ p. breedable (o .dims) (o .dimCount) (r .plans p)) (r .count) ≡ true
-  unfolding badParents
-  all-breedable = not-false _ (p .parents)
-
   pub offspring-room : r .size * o .dimCount ≤ offspring
   unfolding noStepRoom
   offspring-room = ltb-false offspring (r .size * o .dimCount) (or-right (leb 2 (r .count) && tooShort room (r .size) (r .count)) (ltb offspring (r .size * o .dimCount)) (p .slices))

@@ -20,21 +20,21 @@ use Rattle.model.specs.Row.{rowBeats}
 use Rattle.model.specs.Front.{frontOf}
 use Rattle.model.specs.Association.{Request}
 use Rattle.model.specs.Kept.{selected}
-use Rattle.model.specs.Setting.{Operators, wordsOf, WordsWithin, sampleCandidates, sortByParam, extract, parentsOf, offspringOf, rankOf, generationOf, generationOfOne, byPool, generation}
+use Rattle.model.specs.Setting.{Operators, wordsOf, WordsWithin, sampleCandidates, sortByParam, extract, parentsOf, bredOf, rankIn, rankOf, generationOf, generationOfOne, byPool, generation}
 use Rattle.model.specs.Refusal.{badDimensions, stepRefusal}
-use Rattle.model.specs.Calls.{wordRequest, Lent, roomOf, SelectExit, answered, selectAccepted, selectBy, selectOf, Selects, StepExit, stepAccepted, stepBy, stepOf, Steps, generationExit}
+use Rattle.model.specs.Calls.{wordRequest, Lent, lent, roomOf, SelectExit, answered, selectAccepted, selectBy, selectOf, Selects, StepExit, stepExit, stepAccepted, stepBy, stepOf, Steps, generationExit}
 use Rattle.demand3_laws.proofs.Passed.{passed, one-to-1024}
 use Rattle.demand3_laws.proofs.Calls.{planAt-row, steps}
 use Rattle.candidate_laws.proofs.Sound.{AllHeld}
 use Rattle.candidate_laws.proofs.KeptPlans.{kept-length, kept-below}
 use Rattle.candidate_laws.proofs.Generations.{generation-words}
-use Rattle.generation_laws.specs.Bred.{rankAt, bredFrom, exit}
+use Rattle.generation_laws.specs.Bred.{bredOfWords}
 use Rattle.generation_laws.proofs.Accepted.{selects}
 use Rattle.generation_laws.proofs.Breeding.{offspring-same}
 
 -- an exit that keeps n plans
-abbrev kept-exit : ℕ → ℕ → List Float → List ℕ → List ℕ → List ℕ → List ℕ → StepExit
-kept-exit n s i k f l out = exit (answered (outcome.Kept n) s) i k f l out
+abbrev kept-exit : ℕ → ℕ → List Float → Lent → List ℕ → StepExit
+kept-exit n s i at out = stepExit (answered (outcome.Kept n) s) i at out
 
 module _ (o : Operators) (pool directions : List ℕ) (divisions size : ℕ) (g : Rng) (ideal : List Float) (at : Lent) (old : List ℕ) where
   abbrev r : Request
@@ -44,10 +44,10 @@ module _ (o : Operators) (pool directions : List ℕ) (divisions size : ℕ) (g 
 
   pub one-exit : planCount pool < 2 → (out : List ℕ) (h : Rng) → out ≡ over (wordsOf (sampleCandidates (o .dims) (o .dimCount) size (g .s) .value)) old
       → h .s ≡ sampleCandidates (o .dims) (o .dimCount) size (g .s) .state
-      → exit (record { outcome = outcome.Kept 0; rng = h }) ideal (at .kept) (at .fronts) (at .lines) out ≡ stepAccepted o r at old
+      → stepExit (record { outcome = outcome.Kept 0; rng = h }) ideal at out ≡ stepAccepted o r at old
   unfolding stepAccepted generation generationOfOne
   one-exit few out h e f =
-      ap₂ (λ s w. kept-exit 0 s ideal (at .kept) (at .fronts) (at .lines) w) f e
+      ap₂ (λ s w. kept-exit 0 s ideal at w) f e
       ∙ ap (λ b. generationExit (byPool b o r) at old) (sym (lt-ltb (planCount pool) 2 few))
 
   -- ---- a pool of two or more
@@ -77,27 +77,28 @@ module _ (o : Operators) (pool directions : List ℕ) (divisions size : ℕ) (g 
           subst (λ p. p < planCount pool) (sym (place-is i h)) (kept-below r (omega arith) i (omega arith))
 
       -- and what is bred from them is the generation's offspring
-      bred-generation : bredFrom o pool directions (x .slices .kept) size (x .answer .rng .s) ≡ drawn (generationOf o r .offspring) (generationOf o r .state)
-      unfolding bredFrom generationOf rankOf
+      bred-generation : bredOfWords o pool directions (x .slices .kept) size (x .answer .rng .s) ≡ drawn (generationOf o r .offspring) (generationOf o r .state)
+      unfolding bredOfWords generationOf rankOf
       bred-generation =
           let taken : take size (x .slices .kept) ≡ selected r .kept = ap (take size) kept-is ∙ over-take (selected r .kept) (at .kept) size (kept-length r) in
           let ps = parentsOf (o .dims) (o .dimCount) (planAt pool) (selected r .kept) (selected r .state) in
           let z : length (ps .value) ≡ size = drawAll-length (λ i parents. extract (o .dims) (o .dimCount) (sortByParam (planAt pool (getD (selected r .kept) i 0) .settings))) (length (selected r .kept)) (selected r .state) ∙ kept-length r in
           let some : 0 < size = one-to-1024 size (passed o r (roomOf at) (length old) refused .size) .0 in
-          ap₂ (λ k s. let p = parentsOf (o .dims) (o .dimCount) (planAt pool) k s in offspringOf o (p .value) (rankAt pool directions (x .slices .kept)) size (p .state)) taken state-is
-          ∙ offspring-same o (ps .value) (rankAt pool directions (x .slices .kept)) (rankAt pool directions (selected r .kept)) (omega arith)
+          ap₂ (λ k s. bredOf o (planAt pool) (rankIn directions (planAt pool) (planCount pool) (x .slices .kept)) k size s) taken state-is
+          ∙ offspring-same o (ps .value) (rankIn directions (planAt pool) (planCount pool) (x .slices .kept)) (rankIn directions (planAt pool) (planCount pool) (selected r .kept)) (omega arith)
           (λ i h. ap (frontOf (rowBeats directions (planAt pool)) (planCount pool)) (place-is i (omega arith)))
           size (ps .state)
 
-      pub bred-exit : (out : List ℕ) (h : Rng) → out ≡ over (wordsOf (bredFrom o pool directions (x .slices .kept) size (x .answer .rng .s) .value)) old
-          → h .s ≡ bredFrom o pool directions (x .slices .kept) size (x .answer .rng .s) .state
-          → exit (record { outcome = outcome.Kept size; rng = h }) (x .ideal) (x .slices .kept) (x .slices .fronts) (x .slices .lines) out ≡ stepAccepted o r at old
+      pub bred-exit : (out : List ℕ) (h : Rng) → out ≡ over (wordsOf (bredOfWords o pool directions (x .slices .kept) size (x .answer .rng .s) .value)) old
+          → h .s ≡ bredOfWords o pool directions (x .slices .kept) size (x .answer .rng .s) .state
+          → stepExit (record { outcome = outcome.Kept size; rng = h }) (x .ideal) (x .slices) out ≡ stepAccepted o r at old
       unfolding selectAccepted stepAccepted generation generationOf
       bred-exit out h f q =
-          ap₂ (λ s w. kept-exit size s (x .ideal) (x .slices .kept) (x .slices .fronts) (x .slices .lines) w)
+          ap₂ (λ s w. kept-exit size s (x .ideal) (x .slices) w)
           (q ∙ ap (λ (d : Drawn (List (List ParamValue))). d .state) bred-generation) (f ∙ ap (λ (d : Drawn (List (List ParamValue))). over (wordsOf (d .value)) old) bred-generation)
-          ∙ ap (λ (y : SelectExit). kept-exit size (generationOf o r .state) (y .ideal) (y .slices .kept) (y .slices .fronts) (y .slices .lines) (over (wordsOf (generationOf o r .offspring)) old)) e
-          ∙ ap (λ n. kept-exit n (generationOf o r .state) (selected r .ideal) (over (selected r .kept) (at .kept)) (over (selected r .fronts) (at .fronts)) (over (selected r .lines) (at .lines))
+          ∙ ap (λ (y : SelectExit). kept-exit size (generationOf o r .state) (y .ideal) (y .slices) (over (wordsOf (generationOf o r .offspring)) old)) e
+          ∙ ap (λ n. kept-exit n (generationOf o r .state) (selected r .ideal)
+          (lent (over (selected r .kept) (at .kept)) (over (selected r .fronts) (at .fronts)) (over (selected r .lines) (at .lines)))
           (over (wordsOf (generationOf o r .offspring)) old)) (sym (kept-length r))
           ∙ ap (λ b. generationExit (byPool b o r) at old) (sym (le-ltb (planCount pool) 2 two))
 

@@ -3,9 +3,8 @@ ghost use mathlib.Core.Path.{_≡_};
 ghost use mathlib.Core.Option.{none};
 ghost use lib.ListN.{length};
 ghost use Rattle.model.specs.Refusal.{stepRefusal};
-ghost use Rattle.model.specs.Calls.{wordRequest, lent, roomOf, stepAccepted};
+ghost use Rattle.model.specs.Calls.{wordRequest, lent, roomOf, stepExit, stepAccepted};
 ghost use Rattle.model.specs.Setting.{operators};
-ghost use Rattle.generation_laws.specs.Bred.{exit};
 use model::DimensionInfo;
 use model::Outcome;
 use model::Rng;
@@ -32,7 +31,7 @@ pub fn step(
     requires { ⌜ stepRefusal (operators dims «n_dims» «crossover_prob» «crossover_eta» «mutation_eta»)
         (wordRequest (now pool) (now directions) divisions size rng (now ideal))
         (roomOf (lent (now kept) (now fronts) (now lines))) (length (now offspring)) ≡ none ⌝ }
-    ensures { λ r. ⌜ exit r (now (ideal .exit)) (now (kept .exit)) (now (fronts .exit)) (now (lines .exit)) (now (offspring .exit))
+    ensures { λ r. ⌜ stepExit r (now (ideal .exit)) (lent (now (kept .exit)) (now (fronts .exit)) (now (lines .exit))) (now (offspring .exit))
         ≡ stepAccepted (operators dims «n_dims» «crossover_prob» «crossover_eta» «mutation_eta»)
         (wordRequest (now (pool .entry)) (now (directions .entry)) divisions size rng (now (ideal .entry)))
         (lent (now (kept .entry)) (now (fronts .entry)) (now (lines .entry))) (now (offspring .entry)) ⌝ }

@@ -6,6 +6,7 @@ use Prim.Native.Nat.{ℕ, _<_}
 use native.Mathlib.Omega.{arith}
 use lib.Ieee.{Float}
 use lib.ListN.{length, getD}
+use borrow.Author.Tests.{not-false}
 use Rattle.list_laws.proofs.Bools.{and-left, and-right}
 use Rattle.list_laws.proofs.Built.{listBelow-length, listBelow-at}
 use Rattle.list_laws.proofs.Draws.{drawn-value}
@@ -15,7 +16,6 @@ use Rattle.model.specs.Real.{nought, unit, within}
 use Rattle.model.specs.Draw.{drawn}
 use Rattle.model.specs.Setting.{children, exponentOf, crossover, mutate, tournament, brood}
 use Rattle.model.specs.Refusal.{wholeEta, badOperators}
-use borrow.Author.Tests.{not-false}
 use Rattle.settings.specs.Candidate.{parentAt, parentsIn}
 use Rattle.settings.proofs.Candidates.{winner-below}
 

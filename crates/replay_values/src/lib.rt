@@ -383,18 +383,10 @@ pub fn read_settings(input: &Words, at: usize, n: usize) -> ReadSettings
     ReadSettings { params, next }
 }
 
-fn kind_of(v: ParamValue) -> u64 {
-    match v {
-        ParamValue::Float(_) => 0,
-        ParamValue::Int(_) => 1,
-        ParamValue::Categorical(_) => 2,
-    }
-}
-
 pub fn put_setting(out: &mut Words, at: usize, v: ParamValue) -> usize
     ensures { λ r. ⌜ r ≤ 8193 ⌝ }
 {
-    put_two(out, at, kind_of(v), settings::to_word(v))
+    put_two(out, at, settings::kind_of(v), settings::to_word(v))
 }
 
 // The first n settings of a candidate.

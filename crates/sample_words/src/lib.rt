@@ -1,25 +1,12 @@
 // `sample`, in numbers and lists alone: what its C name does.
-use model::ParamValue;
 use model::Sampling;
 ghost use mathlib.Core.Path.{_≡_};
 ghost use Prim.Native.Nat.{_≤_};
 ghost use lib.ListN.{length};
-ghost use Rattle.model.specs.Setting.{kindOf};
 ghost use Rattle.model.specs.Session.{state};
 ghost use Rattle.model.specs.Property.{SessionOk};
 ghost use Rattle.session_words.specs.Coding.{sessionOf};
 ghost use Rattle.export_laws.specs.Coded.{sampledWords, SamplesWords};
-
-// The number of a setting's kind: 0 Float, 1 Int, 2 Categorical.
-fn kind_of(v: ParamValue) -> u64
-    ensures { λ r. ⌜ r ≡ kindOf v ⌝ }
-{
-    match v {
-        ParamValue::Float(_) => 0,
-        ParamValue::Int(_) => 1,
-        ParamValue::Categorical(_) => 2,
-    }
-}
 
 // `sample`: the session's words are read, and those of the session that it answers are written; a refusal writes none. Asked of the caller is the session
 // property of the words and of what is lent beside them, which `locustdomino_open` gives and this call keeps. A session slice of fewer than 222
@@ -60,7 +47,7 @@ pub fn sample_words(
         Sampling::Setting(v) => {
             let after = sampled.session;
             session_encoding::words_of_session(after, session);
-            *kind = kind_of(v);
+            *kind = settings::kind_of(v);
             *value = settings::to_word(v);
             0
         }

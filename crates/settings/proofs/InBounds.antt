@@ -42,8 +42,8 @@ float-in : (d : FloatDistribution) (s : ℕ) → Held (dist.Float d) → FloatBo
 unfolding inBounds sampleRandom ofBits
 float-in d s h b = T-true _ (f64Range-within (d .low) (d .high) s (h .0) (h .1) (b .ordered) (b .low-end) (b .high-end))
 
-whole-in : (low high : ℤ) (step : OptionI64) (s : ℕ) → SFits w64 low → SFits w64 high → HeldStep step → Spanned low high
-    → stepAbove0 step ≡ true → (leZ low (sampleInt low high step s .value) && leZ (sampleInt low high step s .value) high) ≡ true
+whole-in : (low high : ℤ) (step : OptionI64) (s : ℕ) → SFits w64 low → SFits w64 high → HeldStep step → Spanned low high → stepAbove0 step ≡ true
+    → (leZ low (sampleInt low high step s .value) && leZ (sampleInt low high step s .value) high) ≡ true
 unfolding sampleInt
 whole-in low high optI64.None s fl fh fs b p = let w = drawI64-within low high s fl fh b in between low high _ (w .0) (w .1)
 whole-in low high (optI64.Some n) s fl fh fs b p =

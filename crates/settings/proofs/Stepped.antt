@@ -22,7 +22,7 @@ value-is low span by w =
     ap (λ (x : ℕ). low +ℤ pos (w % (x + 1) * by)) (sym (add-zero (span / by)))
     ∙ ap (λ (x : ℕ). low +ℤ pos (x * by)) (sym (zero-add (w % (span / by + 0 + 1))))
 
--- what is (q .bounds) of the bounds and the step
+-- what is asked of the bounds and the step
 pub record Stepping (low high step : ℤ) : Type 0 where
   pub low-fits : SFits w64 low
   pub high-fits : SFits w64 high

@@ -24,7 +24,7 @@ use Rattle.model.specs.declared.Distribution.the-variants as dist
 use Rattle.model.specs.declared.DimensionInfo.{DimensionInfo}
 use Rattle.model.specs.declared.Session.{Session}
 use Rattle.model.specs.Session.{dimensionOf}
-use Rattle.model.specs.Setting.{noDimension}
+use Rattle.model.specs.Setting.{noDimension, dimensionsOf}
 use Rattle.settings.proofs.InBounds.{Held, HeldStep}
 
 -- ---- a dimension
@@ -72,7 +72,7 @@ module _ (dims : List DimensionInfo) (vs : List Val) (p : Is (Array (struct.row 
   pub array-length : length dims ≡ 32
   array-length = p .1 .0 .1
 
-  pub array-held : (d : ℕ) → d < 32 → Held (getD dims d noDimension .distribution)
+  pub array-held : (d : ℕ) → d < 32 → Held (dimensionsOf dims d)
   array-held d h =
       let e = array-length in
       each-at (struct.row info.the-type .own) (λ (x : DimensionInfo). Held (x .distribution)) info-held noDimension dims (p .0) (p .1 .1) d (omega arith)

@@ -4,10 +4,10 @@ use mathlib.Core.Path.{_≡_, ap, _∙_}
 use native.Mathlib.Omega.{arith}
 use borrow.Author.Needs.{needs}
 use lib.ListN.{length}
+use native.Mathlib.Nat.{mul-le-mul}
 use Rattle.model.specs.Lists.{over}
 use Rattle.model.specs.Setting.{Operators, wordsOf, operators}
 use Rattle.settings.proofs.Valid.{few}
-use native.Mathlib.Nat.{mul-le-mul}
 use Rattle.generation_laws.proofs.Dimensions.{dimensions-held}
 use Rattle.generation_laws.proofs.Breeding.{bred-is}
 use Rattle.breeding.proofs.breed.Statement.{statement}

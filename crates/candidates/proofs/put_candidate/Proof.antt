@@ -4,12 +4,12 @@ use mathlib.Core.Path.{_≡_, refl, sym, ap, _∙_}
 use native.Mathlib.Omega.{arith}
 use borrow.Author.Needs.{needs}
 use lib.ListN.{length, length-set}
+use lib.Seq.{sets}
 use Rattle.model.specs.Lists.{listBelow}
 use Rattle.model.specs.Setting.{toWord}
-use lib.Seq.{sets}
 use Rattle.settings.specs.Candidate.{slotOf}
-use Rattle.candidates.proofs.Laid.{words-below}
 use Rattle.list_laws.proofs.Runs.{run-none, run-more}
+use Rattle.candidates.proofs.Laid.{words-below}
 use Rattle.candidates.proofs.put_candidate.Statement.{statement}
 use Rattle.candidates.proofs.put_candidate.Tie as tie
 

@@ -1,10 +1,10 @@
 -- By cases on the step.
 use lib.IntN.{ℤ, pos}
 use lib.Signed.{leZ}
-use Rattle.settings.proofs.Signed.{back}
 use mathlib.Core.Path.{sym, ap, _∙_}
-use Rattle.model.specs.Setting.{stepAbove0}
 use borrow.Author.Needs.{needs}
+use Rattle.settings.proofs.Signed.{back}
+use Rattle.model.specs.Setting.{stepAbove0}
 use Rattle.dimensions.proofs.step_above_zero.Statement.{statement}
 use Rattle.dimensions.proofs.step_above_zero.Tie as tie
 

@@ -10,7 +10,8 @@ use Rattle.model.specs.Plan.{planCount}
 use Rattle.model.specs.Calls.{wordRequest, Lent, lent, roomOf}
 use Rattle.list_laws.proofs.Checks.{pool-plans}
 use Rattle.demand3_laws.proofs.Passed.{Passed, passed, some-objectives, one-to-1024}
-use Rattle.generation_laws.proofs.Accepted.{all-breedable, offspring-room, kept-room}
+use Rattle.candidate_laws.proofs.Generations.{plans-breedable}
+use Rattle.generation_laws.proofs.Accepted.{offspring-room, kept-room}
 use Rattle.generation_laws.proofs.Answer.{one-exit, select-exit, kept-in-pool, bred-exit}
 use Rattle.generation_step.proofs.step.Statement.{statement}
 use Rattle.generation_step.proofs.step.Tie as tie
@@ -68,7 +69,7 @@ breed-requires c κs =
     let e = select-exit (ops s) (a .pool .now) (a .directions .now) (a .divisions) (a .size) (a .rng) (a .ideal .now) (at s) (a .offspring .now) (s .pre) h _ (n .ensures) in
     let ok = given s in
     let kept : length (n .last .1 .1 .1 .1 .1 .1 .0) ≡ length (a .kept .now) = n .kept .1 .1 .1 .1 .1 .1 .0 in (
-      (one-to-1024 _ (ok .count) .1, some-objectives _ (ok .directions) .1, pool-plans (request s) (ok .pool), all-breedable ok, ok .dimensions, ok .operators),
+      (one-to-1024 _ (ok .count) .1, some-objectives _ (ok .directions) .1, pool-plans (request s) (ok .pool), plans-breedable (ops s) (request s) (ok .parents), ok .dimensions, ok .operators),
       (
         one-to-1024 _ (ok .size) .0,
         one-to-1024 _ (ok .size) .1,

@@ -1,13 +1,13 @@
 -- The steps of the definition, one after the other.
 use Prim.Native.Nat.{ℕ}
 use lib.ListN.{getD}
+use borrow.Author.Needs.{needs}
 use Rattle.settings.proofs.Valid.{few}
 use Rattle.list_laws.proofs.Rows.{row-within}
+use Rattle.model.specs.Setting.{dimensionsOf}
 use Rattle.genetic.proofs.Broods.{won-below, crossover-eta, mutation-eta, brood-is}
-use borrow.Author.Needs.{needs}
 use Rattle.genetic.proofs.brood.Statement.{statement}
 use Rattle.genetic.proofs.brood.Tie as tie
-use Rattle.model.specs.Setting.{dimensionsOf}
 
 tournament-select-rank-requires : tie.Need-tournament-select-rank-requires
 tournament-select-rank-requires c κs = search needs

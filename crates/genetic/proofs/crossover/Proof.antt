@@ -1,12 +1,12 @@
 -- Its draw decides whether it runs.
 use mathlib.Core.Path.{_∙_}
 use mathlib.Core.Bool.{true, false}
-use Rattle.settings.specs.Candidate.{settingsOf}
-use Rattle.genetic.proofs.Steps.{crossover-by}
 use borrow.Author.Needs.{needs}
+use Rattle.settings.specs.Candidate.{settingsOf}
+use Rattle.model.specs.Setting.{dimensionsOf}
+use Rattle.genetic.proofs.Steps.{crossover-by}
 use Rattle.genetic.proofs.crossover.Statement.{statement}
 use Rattle.genetic.proofs.crossover.Tie as tie
-use Rattle.model.specs.Setting.{dimensionsOf}
 
 f64-range-requires : tie.Need-f64-range-requires
 f64-range-requires c κs = search needs

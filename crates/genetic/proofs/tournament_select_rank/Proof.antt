@@ -4,9 +4,9 @@ use Prim.Native.Nat.{ℕ}
 use native.Mathlib.Omega.{arith}
 use borrow.Author.Tests.{le-leb, lt-leb}
 use lib.ListN.{getD}
+use borrow.Author.Needs.{needs}
 use Rattle.rng_util.proofs.Draws.{drawn-below}
 use Rattle.genetic.proofs.Steps.{tournament-is}
-use borrow.Author.Needs.{needs}
 use Rattle.genetic.proofs.tournament_select_rank.Statement.{statement}
 use Rattle.genetic.proofs.tournament_select_rank.Tie as tie
 

@@ -1,9 +1,9 @@
 -- `sample_words`. Assumes nothing.
 use mathlib.Core.Path.{sym, subst}
+use borrow.Author.Needs.{needs}
 use Rattle.model.specs.Session.{state}
 use Rattle.model.specs.Property.{SessionOk}
 use Rattle.export_laws.proofs.Sessions.{sample-short, sample-refused, sample-set}
-use borrow.Author.Needs.{needs}
 use Rattle.sample_words.proofs.sample_words.Statement.{statement}
 use Rattle.sample_words.proofs.sample_words.Tie as tie
 

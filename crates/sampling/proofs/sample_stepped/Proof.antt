@@ -4,9 +4,9 @@ use Prim.Native.Nat.{ℕ}
 use lib.IntN.{ℤ, pos, _+ℤ_, _-ℤ_}
 use mir.Syntax.{w64}
 use mir.Val.{toZ, ofZ}
+use borrow.Author.Needs.{needs}
 use Rattle.settings.proofs.Signed.{held}
 use Rattle.settings.proofs.Stepped as stepped
-use borrow.Author.Needs.{needs}
 use Rattle.sampling.proofs.sample_stepped.Statement.{statement}
 use Rattle.sampling.proofs.sample_stepped.Tie as tie
 

@@ -1,16 +1,16 @@
 -- With a step and without.
-use Rattle.model.specs.declared.OptionI64.the-variants as optI64
-use Rattle.model.specs.Draw.{drawn, drawI64}
 use mathlib.Core.Path.{_≡_, sym, ap, _∙_}
 use mathlib.Core.Bool.{true}
 use Prim.Native.Nat.{ℕ}
 use lib.IntN.{ℤ, pos}
 use lib.Signed.{leZ, _≤ℤ_, leZ-yes}
+use borrow.Author.Needs.{needs}
+use Rattle.model.specs.declared.OptionI64.the-variants as optI64
+use Rattle.model.specs.Draw.{drawn, drawI64}
 use Rattle.list_laws.proofs.Bools.{true-T}
 use Rattle.model.specs.declared.OptionI64.{OptionI64}
 use Rattle.model.specs.Setting.{stepAbove0, sampleInt}
 use Rattle.settings.proofs.Signed.{held, back}
-use borrow.Author.Needs.{needs}
 use Rattle.sampling.proofs.sample_whole.Statement.{statement}
 use Rattle.sampling.proofs.sample_whole.Tie as tie
 

@@ -60,8 +60,7 @@ loop-again c =
     let a = s .args in
     let k = c .before .before .before .before .record-of in
     let p = c .before .before .copy-record in
-    let f : ℕ → ℕ = λ t. recordOf (a .history .now) (getD (a .plans .now) t 0) in
-    (
+    let f : ℕ → ℕ = λ t. recordOf (a .history .now) (getD (a .plans .now) t 0) in (
       omega arith,
       ap length (p .ensures) ∙ length-sets (l .pool) (l .i * 124) (blockOf (a .history .now) (k .result)) ∙ l .inv .1,
       p .ensures ∙ records-more f (a .history .now) (a .pool .now) (l .pool) (l .i) (k .result) (room s (l .i) (c .before .before .before .before .before .before .loop-test .taken)) (k .ensures) (l .inv .2),

@@ -1,7 +1,7 @@
 -- By cases on the dimension and the setting.
-use Rattle.settings.proofs.Signed.{back}
 use mathlib.Core.Path.{sym, ap₂, _∙_}
 use Rattle.model.specs.Setting.{inBounds}
+use Rattle.settings.proofs.Signed.{back}
 use Rattle.settings.proofs.in_bounds.Statement.{statement}
 use Rattle.settings.proofs.in_bounds.Tie as tie
 

@@ -1,8 +1,8 @@
 -- By cases on the setting.
-use Rattle.settings.proofs.Signed.{back}
 use mathlib.Core.Path.{sym, ap, _∙_}
-use Rattle.model.specs.Setting.{toWord}
 use borrow.Author.Needs.{needs}
+use Rattle.model.specs.Setting.{toWord}
+use Rattle.settings.proofs.Signed.{back}
 use Rattle.settings.proofs.to_word.Statement.{statement}
 use Rattle.settings.proofs.to_word.Tie as tie
 

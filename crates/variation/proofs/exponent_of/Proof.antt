@@ -1,7 +1,7 @@
 -- The cast asks nothing more of an eta that is accepted.
 use native.Mathlib.Omega.{arith}
-use Rattle.variation.proofs.Exponent.{eta-castable, small}
 use borrow.Author.Needs.{needs}
+use Rattle.variation.proofs.Exponent.{eta-castable, small}
 use Rattle.variation.proofs.exponent_of.Statement.{statement}
 use Rattle.variation.proofs.exponent_of.Tie as tie
 
