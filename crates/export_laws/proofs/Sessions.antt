@@ -24,7 +24,7 @@ use Rattle.model.specs.Setting.{kindOf, toWord}
 use Rattle.model.specs.Property.{SessionOk}
 use Rattle.model.specs.Refusal.{firstOf, badDirections, badSessionSize, badSessionDivisions, badOperators, openRefusal, sampleRefusal}
 use Rattle.model.specs.Calls.{openBy, openOf, Opens, SampleExit, sampleBy, sampleOf, Samples}
-use Rattle.session_laws.proofs.Opened.{ready-tells, refused-tells}
+use Rattle.session_laws.proofs.Opened.{opening-tells}
 use Rattle.session_words.specs.Coding.{sessionWords, sessionOf, dimensionAt}
 use Rattle.export_laws.specs.Coded.{written, openedBy, OpensWords, sampledWords, sampledBy, sampledExit, sampleWords, SamplesWords}
 
@@ -59,7 +59,7 @@ module _ (marks : List ℕ) (seed : ℕ) (s t u v : OptionUsize) (p c m : Float)
 
   pub open-refused : (n k : ℕ) → r .outcome ≡ opening.Refused n → k ≡ n → OpensWords marks seed t v p c m entry k entry
   open-refused n k e h =
-      let never : k ≡ 0 → ⊥ = λ z. open-above marks (given t) (given v) p c m (refused-tells _ _ 0 (refusal (opening.Refused 0) (e ∙ ap opening.Refused (sym h ∙ z)))) in
+      let never : k ≡ 0 → ⊥ = λ z. open-above marks (given t) (given v) p c m (opening-tells _ _ (opening.Refused 0) (refusal (opening.Refused 0) (e ∙ ap opening.Refused (sym h ∙ z)))) in
       record {
         whole = ap (λ x. written x entry) h ∙ coded (opening.Refused n) e;
         holds = λ z. absurd (never z);
@@ -81,7 +81,7 @@ module _ (marks : List ℕ) (seed : ℕ) (s t u v : OptionUsize) (p c m : Float)
         whole = ap (written 0) x
             ∙ sym (ap (λ b. cond b (written 10 entry) (written 0 (over (sessionWords (r .session)) entry))) (le-ltb (length entry) 222 h)) ∙ coded opening.Ready e;
         holds = λ z. b ∙ ap (λ (x : Opened). x .session) (promise .whole);
-        gives = λ z cs ps ns. subst (λ y. SessionOk (state y cs ps ns)) (sym b) (promise .gives (ready-tells _ _ (refusal opening.Ready e)) cs ps ns);
+        gives = λ z cs ps ns. subst (λ y. SessionOk (state y cs ps ns)) (sym b) (promise .gives (opening-tells _ _ opening.Ready (refusal opening.Ready e)) cs ps ns);
       }
 
 -- ---- a session call

@@ -1,6 +1,6 @@
 -- What `open` gives: a session that is opened has the session property.
 use Prim.Native.Nat.{ℕ, _≤_}
-use mathlib.Core.Path.{_≡_, refl, ap, _∙_}
+use mathlib.Core.Path.{_≡_, refl, ap, _∙_, sym}
 use mathlib.Core.Bool.{true, false}
 use mathlib.Core.List.{List, [], _∷_, List·Memᴰ·head, List·Memᴰ·tail}
 use mathlib.Core.Option.{Option, none, some}
@@ -25,6 +25,7 @@ use Rattle.model.specs.Session.{state, given, opened}
 use Rattle.model.specs.Calls.{openBy, openOf, Opens, openingRefusedBy}
 use Rattle.model.specs.Refusal.{firstOf, wholeEta, openRefusal, badDirections, badSessionSize, badSessionDivisions, badGivenDivisions, badOperators, measurable, goodIdeal, maxSize, maxLines, goodEntry, badDimensions}
 use Rattle.model.specs.Property.{ConfigOk, SessionOk}
+use Rattle.model.specs.declared.Opening.{Opening}
 use Rattle.session_laws.proofs.Lists.{lent-empty}
 use Rattle.reference_laws.proofs.Divisions.{session-bad}
 
@@ -97,19 +98,11 @@ module _ (marks : List ℕ) (seed : ℕ) (size divisions : Option ℕ) (probabil
         lent = λ e. lent-empty _ refl refl;
       }
 
--- ---- an answer tells the refusal
+-- ---- an answer tells the refusal, or that there is none
 
-pub ready-tells : (o : Option ℕ) (s : Session) → openBy o s .outcome ≡ opening.Ready → o ≡ none
-ready-tells none s e = refl
-ready-tells (some n) s e = absurd (let z : _≡_ {A = ℕ} 0 1 = cc in omega arith)
-
-pub refused-tells : (o : Option ℕ) (s : Session) (n : ℕ) → openBy o s .outcome ≡ opening.Refused n → o ≡ some n
-refused-tells none s n e = absurd (let z : _≡_ {A = ℕ} 0 1 = cc in omega arith)
-refused-tells (some m) s n e = cc
-
-told : (o : Option ℕ) (s : Session) → openingRefusedBy (openBy o s .outcome) ≡ o
-told none s = refl
-told (some n) s = refl
+pub opening-tells : (o : Option ℕ) (s : Session) (t : Opening) → openBy o s .outcome ≡ t → o ≡ openingRefusedBy t
+opening-tells none s t e = ap openingRefusedBy e
+opening-tells (some n) s t e = ap openingRefusedBy e
 
 -- the whole promise of `open`, of its definition
 pub opens : (directions : List ℕ) (seed : ℕ) (size divisions : OptionUsize) (probability crossoverEta mutationEta : Float)
@@ -118,7 +111,7 @@ unfolding openOf
 opens directions seed size divisions probability crossoverEta mutationEta =
     record {
       whole = refl;
-      refused = told (openRefusal directions (given size) (given divisions) probability crossoverEta mutationEta) _;
+      refused = sym (opening-tells (openRefusal directions (given size) (given divisions) probability crossoverEta mutationEta) _ _ refl);
       gives = λ e candidates plans nextDims. rw e (opened-ok directions seed (given size) (given divisions) probability crossoverEta mutationEta e candidates plans nextDims);
     }
 

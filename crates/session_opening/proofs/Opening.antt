@@ -17,7 +17,7 @@ use Rattle.model.specs.Reference.{divisionsOf, populationSize}
 use Rattle.model.specs.Session.{blank, given, opened, start}
 use Rattle.model.specs.Calls.{openBy, openOf, Opens}
 use Rattle.list_laws.proofs.Checks.{passed-over, applies-first}
-use Rattle.session_laws.proofs.Opened.{ready-tells, refused-tells, opens}
+use Rattle.session_laws.proofs.Opened.{opening-tells, opens}
 use Rattle.model.specs.Refusal.{firstOf, openRefusal, badDirections, badSessionSize, badSessionDivisions, badOperators}
 use Rattle.session_opening.specs.Opening.{openingBy}
 
@@ -74,11 +74,11 @@ module _ (marks : List ℕ) (seed : ℕ) (size divisions : OptionUsize) (probabi
   pub refused-opens : (t : Opening) (n : ℕ) (s : Session) → t ≡ openingBy refusal → t ≡ opening.Refused n → s ≡ blank
       → Promise (record { outcome = t; session = s })
   refused-opens t n s e f g =
-      by-refusal (some n) t s (refused-tells refusal blank n (sym e ∙ f)) (ap₂ (λ (x : Opening) (y : Session). record { outcome = x; session = y }) f g)
+      by-refusal (some n) t s (opening-tells refusal blank (opening.Refused n) (sym e ∙ f)) (ap₂ (λ (x : Opening) (y : Session). record { outcome = x; session = y }) f g)
 
   pub ready-opens : (t : Opening) (s : Session) → t ≡ openingBy refusal → t ≡ opening.Ready → s ≡ good → Promise (record { outcome = t; session = s })
   ready-opens t s e f g =
-      by-refusal none t s (ready-tells refusal blank (sym e ∙ f)) (ap₂ (λ (x : Opening) (y : Session). record { outcome = x; session = y }) f g)
+      by-refusal none t s (opening-tells refusal blank opening.Ready (sym e ∙ f)) (ap₂ (λ (x : Opening) (y : Session). record { outcome = x; session = y }) f g)
 
 -- ---- the session that is opened, from its parts
 

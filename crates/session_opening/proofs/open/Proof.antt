@@ -1,6 +1,7 @@
 -- what it answers tells whether it was refused
 use mathlib.Core.Path.{sym, _∙_}
-use Rattle.session_laws.proofs.Opened.{directions-good, divisions-good, ready-tells}
+use Rattle.model.specs.declared.Opening.the-variants as opening
+use Rattle.session_laws.proofs.Opened.{directions-good, divisions-good, opening-tells}
 use Rattle.session_opening.proofs.Opening.{refused-opens, ready-opens}
 use borrow.Author.Needs.{needs}
 use Rattle.session_opening.proofs.open.Statement.{statement}
@@ -25,7 +26,7 @@ returns c =
 
 opened-requires : tie.Need-opened-requires
 opened-requires c κs =
-    let r = ready-tells _ _ (sym (c .before .before .open-refusal .ensures) ∙ c .enum-told .given .1) in
+    let r = opening-tells _ _ opening.Ready (sym (c .before .before .open-refusal .ensures) ∙ c .enum-told .given .1) in
     (directions-good _ 0 _ _ _ _ _ r, divisions-good _ 0 _ _ _ _ _ r)
 
 returns-2 : tie.Need-returns-2
