@@ -21,7 +21,7 @@ use Rattle.list_laws.proofs.Bools.{by-bool, true-T, and-right}
 use Rattle.list_laws.proofs.Built.{listBelow-length, listBelow-at}
 use Rattle.list_laws.proofs.Tests.{allIn-each}
 use Rattle.list_laws.proofs.Checks.{good-values, good-ideal-length, pool-plan, pool-ideal}
-use Rattle.front_laws.proofs.Plans.{words-accepted}
+use Rattle.front_laws.proofs.Plans.{in-words, words-accepted}
 use Rattle.float_laws.proofs.Constants.{exp2, minus-exp2}
 use Rattle.float_laws.proofs.Magnitude.{Within, neg-within}
 use Rattle.association_laws.proofs.Within.{Start, Measured}
@@ -62,7 +62,7 @@ unfolding rowOf planOf
 word-value marks m word few good j l =
     let values : ℕ → Float = λ i. real (word (2 + i)) in
     let row = listBelow values (min (word 1) maxObjectives) in
-    let n : m ≤ length row = words-accepted m word few good .whole in
+    let n : m ≤ length row = words-accepted m (planOf word) few (in-words word) good .whole in
     let x = getD row j nan in
     let held = subst (λ y. T (fits binary64 y)) (sym (listBelow-at values (min (word 1) maxObjectives) nan j (omega (arith, listBelow-length values (min (word 1) maxObjectives))))) (ofBits-fits binary64 (word (2 + j))) in
     real-toMinimize (directionOf (getD marks j 0)) x (real-of x held (allIn-each measurable nan row (good-values m (planOf word) good) j (omega arith)))

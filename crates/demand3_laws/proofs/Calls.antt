@@ -1,14 +1,14 @@
 -- DEMAND 3 as the public calls promise it: a call that is not refused hands out a kept list that meets it.
-use Prim.Native.Nat.{ℕ, _≤_, min}
+use Prim.Native.Nat.{ℕ, _+_, _*_, _≤_}
 use mathlib.Core.Path.{_≡_, refl, sym, subst}
 use mathlib.Core.Bool.{true, false}
 use mathlib.Core.List.{List}
 use mathlib.Core.Option.{Option, none, some}
 use native.Mathlib.Omega.{arith}
-use lib.ListN.{length, length-take}
+use lib.ListN.{length, getD, length-take}
 use borrow.Author.Tests.{le-ltb}
 use Rattle.model.specs.declared.Distribution.{Distribution}
-use Rattle.model.specs.Plan.{planOf, planAt, maxObjectives}
+use Rattle.model.specs.Plan.{planAt, planWords}
 use Rattle.model.specs.Association.{Request, objectives}
 use Rattle.model.specs.Kept.{selected}
 use Rattle.model.specs.Setting.{Operators, generation, generationOf, WordsWithin}
@@ -17,23 +17,19 @@ use Rattle.model.specs.Property.{SessionOk}
 use Rattle.model.specs.Refusal.{Room, badDirections, badDivisions, badPool, selectRefusal, stepRefusal, sampleRefusal}
 use Rattle.model.specs.Demand3.{Demand3}
 use Rattle.model.specs.Calls.{refusedBy, Lent, roomOf, handedOut, selectAccepted, selectBy, selectOf, Selects, stepAccepted, stepBy, stepOf, Steps}
-use Rattle.list_laws.proofs.Built.{listBelow-length, over-take}
-use Rattle.list_laws.proofs.Checks.{good-length, pool-plan}
+use Rattle.list_laws.proofs.Built.{over-take}
+use Rattle.list_laws.proofs.Checks.{pool-plan}
+use Rattle.front_laws.proofs.Plans.{InWords, in-words, words-accepted}
 use Rattle.demand3_laws.specs.Facts.{Accepted}
 use Rattle.demand3_laws.proofs.Passed.{some-objectives, select-passed, passed, sample-passed}
 use Rattle.demand3_laws.proofs.Accepted.{demand3}
 
--- ---- plans that lie in a slice of words have as many values as they claim, up to 8
+-- ---- plans that lie in a slice of words
 
--- a request whose plans lie in a slice of words
-abbrev pub InWords : Request → Type 0
-InWords r = (p : ℕ) → length (r .plans p .row) ≡ min (r .plans p .rowLength) maxObjectives
+pub planAt-row : (words : List ℕ) (p : ℕ) → InWords (planAt words p)
+planAt-row words p = in-words (λ j. getD words (p * planWords + j) 0)
 
-pub planAt-row : (words : List ℕ) (p : ℕ) → length (planAt words p .row) ≡ min (planAt words p .rowLength) maxObjectives
-unfolding planOf
-planAt-row words p = listBelow-length _ (min (planAt words p .rowLength) maxObjectives)
-
-word-accepted : (r : Request) → InWords r → badDirections (r .marks) ≡ false → badDivisions (objectives r) (r .divisions) ≡ false → badPool r ≡ false
+word-accepted : (r : Request) → ((p : ℕ) → InWords (r .plans p)) → badDirections (r .marks) ≡ false → badDivisions (objectives r) (r .divisions) ≡ false → badPool r ≡ false
     → Accepted r
 word-accepted r words directions divisions pool =
     record {
@@ -41,8 +37,7 @@ word-accepted r words directions divisions pool =
       divisions = divisions;
       pool = pool;
       rows = λ p h.
-          let m = some-objectives (r .marks) directions .1 in
-          omega (arith, words p, good-length (objectives r) (r .plans p) (pool-plan r pool p h));
+          words-accepted (objectives r) (r .plans p) (some-objectives (r .marks) directions .1) (words p) (pool-plan r pool p h) .whole;
     }
 
 -- ---- the answers tell the refusal, or that there is none
@@ -59,7 +54,7 @@ step-refused o r at offspring (some n) = refl
 
 -- ---- `nsga3_select`
 
-module _ (r : Request) (words : InWords r) where
+module _ (r : Request) (words : (p : ℕ) → InWords (r .plans p)) where
   select-accepted : (room : Room) → selectRefusal r room ≡ none → Accepted r
   select-accepted room e = let p = select-passed r room e in word-accepted r words (p .directions) (p .divisions) (p .pool)
 
@@ -121,7 +116,7 @@ sample-demand3 st d plan history ok e bred =
     r : Request
     r = requestOf st history
 
-    words : InWords r
+    words : (p : ℕ) → InWords (r .plans p)
     words p = planAt-row (bredFrom st history) p
 
     pool : badPool r ≡ false

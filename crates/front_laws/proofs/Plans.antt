@@ -91,15 +91,17 @@ accepted-known marks m plan h j l =
     known-toMinimize (directionOf (getD marks j 0)) (getD (plan .row) j nan)
     (measurable-known (getD (plan .row) j nan) (allIn-each measurable nan (plan .row) (good-values m plan (h .good)) j (omega (arith, h .whole))))
 
--- a plan of words that passes refusal 8, where there are at most 8 objectives
-pub words-accepted : (m : ℕ) (word : ℕ → ℕ) → m ≤ maxObjectives → goodPlan m (planOf word) ≡ true → Accepted m (planOf word)
+-- a plan of words has as many values as it claims, up to 8
+abbrev pub InWords : Plan → Type 0
+InWords plan = length (plan .row) ≡ min (plan .rowLength) maxObjectives
+
+pub in-words : (word : ℕ → ℕ) → InWords (planOf word)
 unfolding planOf
-words-accepted m word h e =
-    let n : word 1 ≡ m = good-length m (planOf word) e in
-    record {
-      good = e;
-      whole = omega (arith, listBelow-length (λ j. real (word (2 + j))) (min (word 1) maxObjectives));
-    }
+in-words word = listBelow-length (λ j. real (word (2 + j))) (min (word 1) maxObjectives)
+
+-- such a plan that passes refusal 8, where there are at most 8 objectives
+pub words-accepted : (m : ℕ) (plan : Plan) → m ≤ maxObjectives → InWords plan → goodPlan m plan ≡ true → Accepted m plan
+words-accepted m plan h w e = record { good = e; whole = omega (arith, w, good-length m plan e) }
 
 -- where no row has a NaN
 module _ (marks : List ℕ) (plans : ℕ → Plan) (n : ℕ) (known : (p : ℕ) → p < n → Known (length marks) (rowOf marks (plans p))) where

@@ -3,9 +3,8 @@ use Prim.Native.Nat.{_≤_, _<_}
 use mathlib.Core.Path.{_≡_}
 use mathlib.Core.Bool.{true}
 use lib.ListN.{length}
-use Rattle.model.specs.Lists.{allBelow}
 use Rattle.model.specs.Association.{Request, objectives, lineCount}
-use Rattle.model.specs.Refusal.{Room, goodPlan}
+use Rattle.model.specs.Refusal.{Room, goodPlans}
 
 -- each limit that it keeps
 pub record Admitted (r : Request) (room : Room) : Type 0 where
@@ -18,7 +17,7 @@ pub record Admitted (r : Request) (room : Room) : Type 0 where
   pub somePlans : 0 < r .count
   pub fewPlans : r .count ≤ 1024
   pub few : r .size ≤ 1024
-  pub good : allBelow (λ p. goodPlan (objectives r) (r .plans p)) (r .count) ≡ true
+  pub good : goodPlans (objectives r) (r .plans) (r .count) ≡ true
   pub ideal : length (r .ideal) ≡ objectives r
   pub kept : r .size ≤ room .kept
   pub fronts : r .count ≤ room .fronts

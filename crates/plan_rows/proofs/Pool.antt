@@ -15,7 +15,7 @@ use Rattle.list_laws.proofs.Tests.{allBelow-each}
 use Rattle.front_laws.specs.Strict.{Known}
 use Rattle.front_laws.specs.Flat.{flatBeats, KnownRows, RowsOf, FlatOf}
 use Rattle.front_laws.specs.Post.{Sorted}
-use Rattle.front_laws.proofs.Plans.{words-accepted, accepted-known}
+use Rattle.front_laws.proofs.Plans.{in-words, words-accepted, accepted-known}
 use Rattle.front_laws.proofs.Meaning.{sorted-beats}
 use Rattle.plan_rows.specs.Filled.{ConstraintsOf}
 
@@ -36,7 +36,7 @@ module _ (pool marks : List ℕ) (n : ℕ) (good : goodPlans (length marks) (pla
   pub pool-known : length marks ≤ maxObjectives → (p : ℕ) → p < n → Known (length marks) (rowOf marks (planAt pool p))
   pool-known h p l =
       accepted-known marks (length marks) (planAt pool p)
-      (words-accepted (length marks) _ h (good-at p l))
+      (words-accepted (length marks) (planAt pool p) h (in-words _) (good-at p l))
 
 -- ---- flat lists of n plans
 

@@ -11,12 +11,12 @@ use lib.Dec.{leb}
 use lib.Ieee.{Float}
 use lib.ListN.{length, getD, take, replicate, length-map, List·getD-eq-default}
 use lib.Seq.{length-take-le, getD-take, take-all}
-use Rattle.model.specs.Lists.{listBelow, allBelow, allIn}
+use Rattle.model.specs.Lists.{listBelow, allIn}
 use Rattle.model.specs.Real.{infinity}
 use Rattle.model.specs.Plan.{Plan, planOf, planAt, planCount, planWords, maxObjectives, maxConstraints}
 use Rattle.model.specs.Association.{Request, objectives}
 use Rattle.model.specs.PoolFile.{PoolFile, noPlan, fileRequest}
-use Rattle.model.specs.Refusal.{Room, maxSize, badDirections, badDivisions, badPool, goodPlan, goodIdeal, noRoom, selectRefusal}
+use Rattle.model.specs.Refusal.{Room, maxSize, badDirections, badDivisions, badPool, goodPlan, goodPlans, goodIdeal, noRoom, selectRefusal}
 use Rattle.model.specs.Calls.{wordRequest}
 use Rattle.list_laws.proofs.Checks.{pool-plan, good-constraints}
 use Rattle.list_laws.proofs.Bools.{by-bool, and-left, and-right, or-right}
@@ -113,9 +113,9 @@ unfolding badPool
 pool-same w r a b c d =
     ap (λ (t : Bool). not (t && goodIdeal (objectives w) (w .ideal)))
     (allBelow-same (λ p. goodPlan (objectives w) (w .plans p)) (λ p. goodPlan (objectives r) (r .plans p)) (w .count) (λ p l. c p)
-    ∙ ap (allBelow (λ p. goodPlan (objectives r) (r .plans p))) b)
-    ∙ ap (λ (k : ℕ). not (allBelow (λ p. goodPlan (objectives r) (r .plans p)) (r .count) && goodIdeal k (w .ideal))) a
-    ∙ ap (λ (l : List Float). not (allBelow (λ p. goodPlan (objectives r) (r .plans p)) (r .count) && goodIdeal (objectives r) l)) d
+    ∙ ap (goodPlans (objectives r) (r .plans)) b)
+    ∙ ap (λ (k : ℕ). not (goodPlans (objectives r) (r .plans) (r .count) && goodIdeal k (w .ideal))) a
+    ∙ ap (λ (l : List Float). not (goodPlans (objectives r) (r .plans) (r .count) && goodIdeal (objectives r) l)) d
 
 -- where 8 does not apply, no plan has over 16 constraints
 pool-good : (r : Request) → badPool r ≡ false → (p : ℕ) → p < r .count → r .plans p .constraintCount ≤ maxConstraints

@@ -8,7 +8,8 @@ pub enum Read {
     Broken,
 }
 
-fn wide(x: u8) -> u64
+// A byte as a word.
+pub fn wide(x: u8) -> u64
     ensures { λ r. ⌜ r ≡ x ⌝ }
 {
     x as u64

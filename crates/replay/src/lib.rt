@@ -25,12 +25,6 @@ enum Longer {
     TooLarge,
 }
 
-fn wide(b: u8) -> u64
-    ensures { λ r. ⌜ r ≡ b ⌝ }
-{
-    b as u64
-}
-
 fn with_digit(n: u64, b: u8) -> Longer {
     if b < 48 {
         return Longer::NoDigit;
@@ -38,7 +32,7 @@ fn with_digit(n: u64, b: u8) -> Longer {
     if 57 < b {
         return Longer::NoDigit;
     }
-    let d = wide(b) - 48;
+    let d = (b as u64) - 48;
     if n < 1844674407370955161 {
         return Longer::Number(n * 10 + d);
     }

@@ -19,17 +19,13 @@ fn fill_file(input: &Words, count: usize, file: &mut [u8]) -> bool
     true
 }
 
-fn wide(b: u8) -> u64 {
-    b as u64
-}
-
 // The first n bytes of a text: how many they are, and each.
 fn put_text(text: &[u8; 20501], n: usize, out: &mut Words) -> usize {
     let mut place = replay::put(out, 0, n as u64);
     let mut i: usize = 0;
     while i < n {
         if i < 20501 {
-            place = replay::put(out, place, wide(text[i]));
+            place = replay::put(out, place, pool_number::wide(text[i]));
         }
         i += 1;
     }
