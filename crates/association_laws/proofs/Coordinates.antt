@@ -15,7 +15,7 @@ use lib.Ieee.Fits.{div-fits}
 use lib.ListN.{length, getD, List·getD-map}
 use Rattle.model.specs.Real.{_⊕_, _⊗_, sumTo}
 use Rattle.model.specs.Numbers.{square}
-use Rattle.model.specs.Reference.{ratio, lattice, dasDennis, pointCount}
+use Rattle.model.specs.Reference.{ratio, lattice, dasDennis, pointCount, line}
 use Rattle.model.specs.Association.{dot, smallNorm}
 use Rattle.model.specs.Papers.DasDennis1998.{total, IsPoint}
 use Rattle.list_laws.proofs.Bools.{T-false}
@@ -24,7 +24,6 @@ use Rattle.list_laws.proofs.Built.{map-at}
 use Rattle.list_laws.proofs.Members.{getD-member}
 use Rattle.reference_laws.proofs.Count.{lattice-count}
 use Rattle.reference_laws.proofs.Table.{lattice-table}
-use Rattle.reference_laws.proofs.Rows.{line}
 use Rattle.float_laws.proofs.Units.{Number, Counts}
 use Rattle.float_laws.proofs.Order as order
 use Rattle.float_laws.proofs.Rounding.{Rounded, div-rounded, rounded-same, rounded-mono}

@@ -4,6 +4,7 @@ use mathlib.Core.Bool.{Bool, true, not}
 use lib.Dec.{T}
 use lib.Ieee.{Float, inf, lt, le, isNan}
 use Rattle.model.specs.Association.{leastFrom, greatest}
+use Rattle.model.specs.Real.{above}
 use Rattle.list_laws.proofs.Bools.{false-T}
 use Rattle.list_laws.proofs.Best.{best-all, best-least}
 use Rattle.float_laws.proofs.Order.{nlt→le}
@@ -11,10 +12,6 @@ use Rattle.float_laws.proofs.Compared.{lt-self, lt-down, lt-up}
 
 abbrev pub Known : Float → Type 0
 Known x = T (not (isNan x))
-
--- x is above l
-abbrev pub above : Float → Float → Bool
-above x l = lt l x
 
 pub least-le : (b : Float) (f : ℕ → Float) (n : ℕ) → Known b → ((t : ℕ) → t < n → Known (f t)) → (t : ℕ) → t < n → T (le (leastFrom b f n) (f t))
 least-le b f n B F t h =

@@ -3,11 +3,10 @@ use Prim.Native.Nat.{ℕ, _<_}
 use mathlib.Core.Path.{_≡_, ap, ap₂}
 use mathlib.Core.Bool.{true, cond}
 use lib.Ieee.{Float, inf, lt}
-use Rattle.model.specs.Real.{_⊖_, _⊗_, _⊘_, infinity}
+use Rattle.model.specs.Real.{_⊖_, _⊗_, _⊘_, infinity, above}
 use Rattle.model.specs.Numbers.{sqrtOf, square}
-use Rattle.model.specs.Association.{leastFrom, greatest, dot, offSquares, distance, smallNorm, near, nearestOf}
+use Rattle.model.specs.Association.{leastFrom, greatest, dot, offSquares, distance, smallNorm, near, nearestOf, nearer}
 use Rattle.float_laws.proofs.Sums.{sum-same}
-use Rattle.association_laws.proofs.Extremes.{above}
 use Rattle.list_laws.proofs.Best.{best-same}
 
 pub least-same : (b : Float) (f g : ℕ → Float) (n : ℕ) → ((t : ℕ) → t < n → f t ≡ g t) → leastFrom b f n ≡ leastFrom b g n
@@ -17,7 +16,7 @@ pub greatest-same : (f g : ℕ → Float) (n : ℕ) → ((t : ℕ) → t < n →
 greatest-same f g n h = best-same above (inf true) f g n h
 
 pub nearest-same : (d e : ℕ → Float) (n : ℕ) → ((t : ℕ) → t < n → d t ≡ e t) → nearestOf d n ≡ nearestOf e n
-nearest-same d e n h = best-same (λ x y. lt (x .distance) (y .distance)) (near 0 infinity) _ _ n (λ t l. ap (near t) (h t l))
+nearest-same d e n h = best-same nearer (near 0 infinity) _ _ n (λ t l. ap (near t) (h t l))
 
 module _ (m : ℕ) (p q r s : ℕ → Float) (f : (j : ℕ) → j < m → p j ≡ q j) (g : (j : ℕ) → j < m → r j ≡ s j) where
   dot-same : dot m p r ≡ dot m q s

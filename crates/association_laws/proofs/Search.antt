@@ -8,7 +8,7 @@ use lib.Ieee.{Float, nan, binary64, lt, le, isNan, fits}
 use lib.Ieee.Fits.{inf-fits, cond-fits}
 use Rattle.model.specs.Real.{_⊗_, _⊘_, infinity}
 use Rattle.model.specs.Numbers.{sqrtOf}
-use Rattle.model.specs.Association.{dot, smallNorm, offSquares, distance, near, nearestOf}
+use Rattle.model.specs.Association.{dot, smallNorm, offSquares, distance, near, nearestOf, nearer}
 use Rattle.model.specs.Lists.{bestFrom}
 use Rattle.list_laws.proofs.Bools.{by-bool, T-true, true-T, T-false, false-T}
 use Rattle.float_laws.proofs.Order.{le→nlt, lt→le, nlt→le, le-not-nan}
@@ -69,7 +69,7 @@ root-order x y X Y h = by-bool (le nought x)
 
 -- one line more is the nearest, or the one found before it
 nearest-next : (d : ℕ → Float) (n : ℕ) {b : Bool} → lt (d n) (nearestOf d n .distance) ≡ b → cond b (near n (d n)) (nearestOf d n) ≡ nearestOf d (n + 1)
-nearest-next d n e = best-more (λ x y. lt (x .distance) (y .distance)) (near 0 infinity) (λ l. near l (d l)) n refl e
+nearest-next d n e = best-more nearer (near 0 infinity) (λ l. near l (d l)) n refl e
 
 pub found-none : (d : ℕ → Float) → Found d 0 0 infinity
 unfolding bestFrom sqrtOf

@@ -6,7 +6,7 @@ use lib.Dec.{T, lit≤}
 use lib.Ieee.{Float, nan, inf, binary64, lt, le, ofBits, fits, isNan}
 use lib.Ieee.Fits.{inf-fits}
 use lib.ListN.{getD}
-use Rattle.model.specs.Real.{_⊖_, _⊘_, nought, unit, within}
+use Rattle.model.specs.Real.{_⊖_, _⊘_, nought, unit, within, above}
 use Rattle.model.specs.Association.{Request, objectives, valueOf, idealOf, interceptOf, normalised, leastFrom, greatest, smallSpan, interceptFrom}
 use Rattle.list_laws.proofs.Bools.{by-bool, T-true, true-T, false-T}
 use Rattle.float_laws.proofs.Order.{le-trans, lt-trans, le-not-nan, nlt→le}
@@ -15,7 +15,7 @@ use Rattle.float_laws.proofs.Constants as constants
 use Rattle.float_laws.proofs.Arithmetic.{itself}
 use Rattle.float_laws.proofs.FromZero.{Upto, upto-wider, sub-upto, share}
 use Rattle.float_laws.proofs.Magnitude.{Within, within-number, sub-within}
-use Rattle.association_laws.proofs.Extremes.{Known, above, least-le, greatest-ge}
+use Rattle.association_laws.proofs.Extremes.{Known, least-le, greatest-ge}
 use Rattle.list_laws.proofs.Best.{best-all}
 
 -- a double from -2 ^ 1000 up, plus infinity among them

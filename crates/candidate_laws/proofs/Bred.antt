@@ -12,8 +12,8 @@ use Rattle.list_laws.proofs.Places.{places-none, places-more, places-take}
 use Rattle.list_laws.proofs.Draws.{inTurn-keeps, places-drawn}
 use Rattle.model.specs.declared.Distribution.{Distribution}
 use Rattle.model.specs.declared.ParamValue.{ParamValue}
-use Rattle.model.specs.Real.{_⊘_, unit}
-use Rattle.model.specs.Setting.{Children, validDimension, drawUnit, exponentOf, ofWhole, noValue, settingOf, children, withPair, crossoverRuns, crossOne, crossAll, crossover, mutateMaybe, mutate, Operators, tournament, brood, broods, offspringOf}
+use Rattle.model.specs.Real.{_⊘_, unit, ofWhole}
+use Rattle.model.specs.Setting.{Children, validDimension, drawUnit, exponentOf, noValue, settingOf, children, withPair, crossoverRuns, crossOne, crossAll, crossover, mutateMaybe, mutate, Operators, tournament, brood, broods, offspringOf, withBoth}
 use Rattle.model.specs.Refusal.{badDimensions}
 use Rattle.settings.proofs.Valid.{each}
 use Rattle.settings.proofs.Candidates.{winner-below}
@@ -74,7 +74,7 @@ module _ (o : Operators) (h : AllHeld (o .dims) (o .dimCount)) (b : badDimension
 
   pub broods-sound : (k s : ℕ) → AllSound (o .dims) (o .dimCount) (k + k) (broods o parents ranks k s .value)
   broods-sound k s =
-      inTurn-keeps (λ born c. born ++ (c .first ∷ c .second ∷ [])) [] (λ i born. brood o parents ranks) (λ i born. AllSound (o .dims) (o .dimCount) (i + i) born) s k (places-none _ [])
+      inTurn-keeps withBoth [] (λ i born. brood o parents ranks) (λ i born. AllSound (o .dims) (o .dimCount) (i + i) born) s k (places-none _ [])
       (λ i born t l so-far. let c = brood-sound t in
       let m = places-more _ [] (suc (i + i)) _ _ (places-more _ [] (i + i) born _ so-far (c .first)) (c .second) in
       let e : suc (suc (i + i)) ≡ suc i + suc i = omega arith in

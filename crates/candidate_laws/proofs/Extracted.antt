@@ -13,7 +13,7 @@ use Rattle.list_laws.proofs.Tests.{allBelow-each}
 use Rattle.list_laws.proofs.Draws.{places-drawn}
 use Rattle.model.specs.declared.Distribution.{Distribution}
 use Rattle.model.specs.Plan.{Plan, Setting}
-use Rattle.model.specs.Setting.{noValue, kindOfDimension, ofWord, validDimension, inBounds, noSetting, sortByParam, extractOne, extract, parentsOf}
+use Rattle.model.specs.Setting.{noValue, kindOfDimension, ofWord, validDimension, inBounds, noSetting, sortByParam, extractOne, extract, parentsOf, parentIn}
 use Rattle.model.specs.Refusal.{badDimensions, namedOnce, fitsDimension, breedable, fitsAt}
 use Rattle.settings.proofs.Valid.{each}
 use Rattle.settings.proofs.InBounds.{Held}
@@ -58,4 +58,4 @@ module _ (dims : ℕ → Distribution) (n : ℕ) (h : AllHeld dims n) (b : badDi
   pub parentsOf-sound : (plans : ℕ → Plan) (kept : List ℕ) (s : ℕ) → ((i : ℕ) → i < length kept → breedable dims n (plans (getD kept i 0)) ≡ true)
       → AllSound dims n (length kept) (parentsOf dims n plans kept s .value)
   parentsOf-sound plans kept s f =
-      places-drawn (λ i parents. extract dims n (sortByParam (plans (getD kept i 0) .settings))) (λ i c. Sound dims n c) [] (length kept) s (λ i l t u. extract-sound (plans (getD kept i 0)) t (f i u))
+      places-drawn (parentIn dims n plans kept) (λ i c. Sound dims n c) [] (length kept) s (λ i l t u. extract-sound (plans (getD kept i 0)) t (f i u))

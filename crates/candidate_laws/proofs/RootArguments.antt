@@ -24,9 +24,9 @@ use Rattle.model.specs.declared.Distribution.the-variants as dist
 use Rattle.model.specs.declared.FloatDistribution.{FloatDistribution}
 use Rattle.model.specs.declared.IntDistribution.{IntDistribution}
 use Rattle.model.specs.declared.ParamValue.the-variants as value
-use Rattle.model.specs.Real.{_⊕_, _⊖_, _⊗_, _⊘_, nought, half, within}
+use Rattle.model.specs.Real.{_⊕_, _⊖_, _⊗_, _⊘_, nought, half, within, ofWhole}
 use Rattle.model.specs.Draw.{step, wordOf, drawWord, unitOf, drawF64, f64Range}
-use Rattle.model.specs.Setting.{minWhole, maxWhole, validDimension, inBounds, drawUnit, ofWhole, spreadArgument, belowArgument, aboveArgument}
+use Rattle.model.specs.Setting.{minWhole, maxWhole, validDimension, inBounds, drawUnit, spreadArgument, belowArgument, aboveArgument}
 use Rattle.settings.proofs.Valid.{float-bounds, int-bounds}
 use Rattle.settings.proofs.InBounds.{Held}
 use Rattle.variation_laws.proofs.Children.{Inside, inside, float-inside}

@@ -10,7 +10,7 @@ use borrow.Author.Tests.{ltb-true, ltb-false}
 use Rattle.model.specs.Front.{listing}
 use Rattle.model.specs.Association.{Request, dominance}
 use Rattle.model.specs.Draw.{inTurn}
-use Rattle.model.specs.Kept.{wholeFronts, before, isSplit, splitFront, filled, selectedSplit, selectedWhole, selected}
+use Rattle.model.specs.Kept.{wholeFronts, before, isSplit, splitFront, filled, selectedSplit, selectedWhole, selected, exceedsSize}
 use Rattle.model.specs.Demand3.{sizeOfFirst, Split}
 use Rattle.demand3_laws.specs.Facts.{FrontFacts}
 use Rattle.list_laws.proofs.Below.{by-lt, neither-below}
@@ -32,7 +32,7 @@ module _ (r : Request) where
   pub next-exceeds : wholeFronts r < r .count → r .size < length (before r) + length (splitFront r)
   unfolding before splitFront wholeFronts
   next-exceeds h =
-      omega (arith, listing-grows (dominance r) (r .count) (wholeFronts r), ltb-true (r .size) (len (suc (wholeFronts r))) (firstBelow-passes (λ k. ltb (r .size) (len (suc k))) (r .count) h))
+      omega (arith, listing-grows (dominance r) (r .count) (wholeFronts r), ltb-true (r .size) (len (suc (wholeFronts r))) (firstBelow-passes (exceedsSize r) (r .count) h))
 
   -- none of the whole fronts is split
   whole-not : (k : ℕ) → Split r k → k < wholeFronts r → ⊥
@@ -82,7 +82,7 @@ module _ (r : Request) where
         omega (arith, before-le r, ap len last))
       where
         last-one : r .count ≤ wholeFronts r → wholeFronts r ≡ r .count
-        last-one h = omega (arith, firstBelow-le (λ k. ltb (r .size) (len (suc k))) (r .count))
+        last-one h = omega (arith, firstBelow-le (exceedsSize r) (r .count))
 
     pub whole-kept : selected r .kept ≡ before r
     unfolding selected selectedWhole inTurn

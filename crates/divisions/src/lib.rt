@@ -1,4 +1,5 @@
 // How many reference lines there are and how many divisions to take (document 01, "Reference table"), and refusal 4.
+use model::MAX_DIVISIONS;
 use model::MAX_LINES;
 use model::OptionUsize;
 ghost use mathlib.Core.Path.{_≡_};
@@ -38,7 +39,7 @@ pub fn auto_divisions(m: usize, target: usize) -> usize
 {
     let mut h: usize = 1;
     let found = loop {
-        if 200 <= h {
+        if MAX_DIVISIONS < h {
             break 12;
         }
         if point_count(m, h) >= target {
@@ -86,7 +87,7 @@ pub fn bad_divisions(m: usize, h: usize) -> bool
     if h < 1 {
         return true;
     }
-    if 199 < h {
+    if MAX_DIVISIONS < h {
         return true;
     }
     MAX_LINES < point_count(m, h)

@@ -13,7 +13,7 @@ use lib.Seq.{take-at, drop-at}
 use Rattle.model.specs.Lists.{firstBelow}
 use Rattle.model.specs.Front.{front, listing}
 use Rattle.model.specs.Association.{Request, dominance}
-use Rattle.model.specs.Kept.{wholeFronts, before, isSplit, splitFront}
+use Rattle.model.specs.Kept.{wholeFronts, before, isSplit, splitFront, exceedsSize}
 use Rattle.list_laws.proofs.Rows.{joinBelow-fits}
 use Rattle.list_laws.proofs.Below.{by-lt}
 use Rattle.list_laws.proofs.Bools.{by-bool, and-left, and-right, and-fails, and-no}
@@ -53,10 +53,6 @@ module _ (r : Request) (strict : Strict (dominance r) (r .count)) (o₀ o k₀ k
   abbrev size : ℕ
   size = r .size
 
-  -- fronts 0 to k exceed the size
-  abbrev over-size : ℕ → Bool
-  over-size k = ltb size (length (listing d n (suc k)))
-
   -- ---- the ends
 
   few : x ≤ n
@@ -72,7 +68,7 @@ module _ (r : Request) (strict : Strict (dominance r) (r .count)) (o₀ o k₀ k
   start-at zero l = sym (listing-none d n)
   start-at (suc t) l = end-at t l
 
-  fitting-first : fitting e x size ≡ firstBelow over-size x
+  fitting-first : fitting e x size ≡ firstBelow (exceedsSize r) x
   unfolding fitting
   fitting-first = firstBelow-same _ _ x (λ t l. ap (ltb size) (end-at t l))
 
@@ -85,21 +81,21 @@ module _ (r : Request) (strict : Strict (dominance r) (r .count)) (o₀ o k₀ k
   w-le = fitting-le e x size
 
   -- front w exceeds the size where there is one, and those before it do not
-  w-passes : w < x → over-size w ≡ true
-  w-passes l = ap over-size fitting-first ∙ firstBelow-passes over-size x (omega (arith, fitting-first))
+  w-passes : w < x → exceedsSize r w ≡ true
+  w-passes l = ap (exceedsSize r) fitting-first ∙ firstBelow-passes (exceedsSize r) x (omega (arith, fitting-first))
 
-  w-before : (t : ℕ) → t < w → over-size t ≡ false
-  w-before t l = firstBelow-before over-size x t (omega (arith, fitting-first))
+  w-before : (t : ℕ) → t < w → exceedsSize r t ≡ false
+  w-before t l = firstBelow-before (exceedsSize r) x t (omega (arith, fitting-first))
 
   start-fits : startOf e w ≤ size
   start-fits = omega (arith, start-at w w-le, joinBelow-fits (front d n) size w w-before)
 
   whole-some : w < x → wholeFronts r ≡ w
   unfolding wholeFronts
-  whole-some l = firstBelow-at over-size n w (omega (arith, few)) (w-passes l) w-before
+  whole-some l = firstBelow-at (exceedsSize r) n w (omega (arith, few)) (w-passes l) w-before
 
   -- where all fit, the listing grows no more and fits too
-  all-fit : w ≡ x → (t : ℕ) → t < n → over-size t ≡ false
+  all-fit : w ≡ x → (t : ℕ) → t < n → exceedsSize r t ≡ false
   all-fit a t l = by-lt t x
       (λ v. w-before t (omega arith))
       (λ v. le-ltb size (length (listing d n (suc t)))
@@ -107,11 +103,11 @@ module _ (r : Request) (strict : Strict (dominance r) (r .count)) (o₀ o k₀ k
 
   whole-all : w ≡ x → wholeFronts r ≡ n
   unfolding wholeFronts
-  whole-all a = firstBelow-nowhere over-size n (all-fit a)
+  whole-all a = firstBelow-nowhere (exceedsSize r) n (all-fit a)
 
   whole-le : wholeFronts r ≤ n
   unfolding wholeFronts
-  whole-le = firstBelow-le over-size n
+  whole-le = firstBelow-le (exceedsSize r) n
 
   -- front w starts where the whole fronts end
   start-before : startOf e w ≡ length (before r)

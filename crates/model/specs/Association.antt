@@ -5,11 +5,11 @@ use mathlib.Core.List.{List, []}
 use lib.Ieee.{Float, nan, inf, binary64, lt, ofBits}
 use lib.ListN.{length, getD}
 use Rattle.model.specs.Lists.{bestFrom}
-use Rattle.model.specs.Real.{_⊖_, _⊗_, _⊘_, unit, infinity, sumTo}
+use Rattle.model.specs.Real.{_⊖_, _⊗_, _⊘_, unit, infinity, above, sumTo}
 use Rattle.model.specs.Numbers.{sqrtOf, square}
 use Rattle.model.specs.Plan.{Plan}
 use Rattle.model.specs.Row.{rowOf, beats}
-use Rattle.model.specs.Reference.{dasDennis, pointCount}
+use Rattle.model.specs.Reference.{pointCount, line}
 
 -- what a selection is given
 pub record Request : Type 0 where
@@ -49,7 +49,7 @@ leastFrom b f n = bestFrom lt b f n
 
 -- the greatest of f 0 .. f (n - 1)
 abbrev pub greatest : (ℕ → Float) → ℕ → Float
-greatest f n = bestFrom (λ x g. lt g x) (inf true) f n
+greatest f n = bestFrom above (inf true) f n
 
 -- "the ideal becomes, per objective, the smaller of itself and the pool's least"
 unfoldable pub idealOf : Request → ℕ → Float
@@ -77,7 +77,7 @@ normalised r p j = (valueOf r p j ⊖ idealOf r j) ⊘ interceptOf r j
 
 -- coordinate j of line l
 unfoldable pub coordinate : Request → ℕ → ℕ → Float
-coordinate r l j = getD (getD (dasDennis (objectives r) (r .divisions)) l []) j nan
+coordinate r l j = line (objectives r) (r .divisions) l j
 
 -- p·r over m coordinates
 abbrev pub dot : ℕ → (ℕ → Float) → (ℕ → Float) → Float
@@ -104,9 +104,13 @@ pub record Near : Type 0 where
 abbrev pub near : ℕ → Float → Near
 near l d = record { line = l; distance = d }
 
+-- one line is nearer than another
+abbrev pub nearer : Near → Near → Bool
+nearer x y = lt (x .distance) (y .distance)
+
 -- "First strictly smaller distance wins, from line 0", among the first n lines
 abbrev pub nearestOf : (ℕ → Float) → ℕ → Near
-nearestOf d n = bestFrom (λ x y. lt (x .distance) (y .distance)) (near 0 infinity) (λ l. near l (d l)) n
+nearestOf d n = bestFrom nearer (near 0 infinity) (λ l. near l (d l)) n
 
 -- the line that plan p is associated with, and its distance from it
 unfoldable pub association : Request → ℕ → Near

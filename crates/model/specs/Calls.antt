@@ -28,7 +28,7 @@ use Rattle.model.specs.Kept.{selected}
 use Rattle.model.specs.Demand3.{Demand3}
 use Rattle.model.specs.Setting.{Operators, Generation, generation, wordsOf, WordsWithin}
 use Rattle.model.specs.Session.{State, Answered, given, opened, blank, accepted, state, breeds, requestOf, operatorsOf}
-use Rattle.model.specs.PoolFile.{PoolFile, parse, fileRequest, listingText, fileText, refusedText}
+use Rattle.model.specs.PoolFile.{PoolFile, parse, fileRequest, fileText, refusedText}
 use Rattle.model.specs.Refusal.{Room, selectRefusal, stepRefusal, openRefusal, sampleRefusal, chooseRefusal}
 use Rattle.model.specs.Property.{SessionOk}
 
@@ -91,21 +91,24 @@ pub record SelectExit : Type 0 where
   pub ideal : List Float
   pub slices : Lent
 
+abbrev pub selectExit : Selection → List Float → Lent → SelectExit
+selectExit answer ideal slices = record { answer = answer; ideal = ideal; slices = slices }
+
 abbrev pub answered : Outcome → ℕ → Selection
 answered o s = record { outcome = o; rng = record { s = s } }
+
+-- what a kept list and the plans' fronts and lines leave in the lent slices
+abbrev pub laid : List ℕ → List ℕ → List ℕ → Lent → Lent
+laid kept fronts lines at = lent (over kept (at .kept)) (over fronts (at .fronts)) (over lines (at .lines))
 
 unfoldable pub selectAccepted : Request → Lent → SelectExit
 selectAccepted r at =
     let sel = selected r in
-    record {
-      answer = answered (outcome.Kept (length (sel .kept))) (sel .state);
-      ideal = sel .ideal;
-      slices = lent (over (sel .kept) (at .kept)) (over (sel .fronts) (at .fronts)) (over (sel .lines) (at .lines));
-    }
+    selectExit (answered (outcome.Kept (length (sel .kept))) (sel .state)) (sel .ideal) (laid (sel .kept) (sel .fronts) (sel .lines) at)
 
 abbrev pub selectBy : Option ℕ → Request → Lent → SelectExit
 selectBy none r at = selectAccepted r at
-selectBy (some n) r at = record { answer = answered (outcome.Refused n) (r .state); ideal = r .ideal; slices = at }
+selectBy (some n) r at = selectExit (answered (outcome.Refused n) (r .state)) (r .ideal) at
 
 unfoldable pub selectOf : Request → Lent → SelectExit
 selectOf r at = selectBy (selectRefusal r (roomOf at)) r at
@@ -131,7 +134,7 @@ stepExit answer ideal slices offspring = record { answer = answer; ideal = ideal
 abbrev pub generationExit : Generation → Lent → List ℕ → StepExit
 generationExit g at offspring =
     stepExit (answered (outcome.Kept (length (g .kept))) (g .state)) (g .ideal)
-    (lent (over (g .kept) (at .kept)) (over (g .fronts) (at .fronts)) (over (g .lines) (at .lines))) (over (wordsOf (g .offspring)) offspring)
+    (laid (g .kept) (g .fronts) (g .lines) at) (over (wordsOf (g .offspring)) offspring)
 
 unfoldable pub stepAccepted : Operators → Request → Lent → List ℕ → StepExit
 stepAccepted o r at offspring = generationExit (generation o r) at offspring
@@ -229,6 +232,6 @@ pub record Chooses (bytes entry : List ℕ) (exit : ChooseExit) : Type 0 where
   pub whole : exit ≡ chooseOf bytes entry
   pub refused : chosenRefusedBy (exit .answer) ≡ chooseRefusal bytes (length entry)
   pub listing : chooseRefusal bytes (length entry) ≡ none → (f : PoolFile) → parse bytes ≡ some f
-      → textHandedOut (exit .answer) (exit .out) ≡ listingText (f .count) (selected (fileRequest f))
+      → textHandedOut (exit .answer) (exit .out) ≡ fileText f
   pub demand3 : chooseRefusal bytes (length entry) ≡ none → (f : PoolFile) → parse bytes ≡ some f → f .size ≤ f .count
       → Demand3 (fileRequest f) (selected (fileRequest f) .kept)

@@ -14,9 +14,13 @@ pub record Round : Type 0 where
 unfoldable pub lower : (ℕ → ℕ → Bool) → ℕ → (ℕ → ℕ) → ℕ → ℕ
 lower d p counts q = counts q - one (d p q)
 
--- "rising index; whoever reaches zero joins the next front in that moment's order": those whose count member p brings to zero
+-- member p brings plan q's count to zero
+abbrev pub frees : (ℕ → ℕ → Bool) → ℕ → (ℕ → ℕ) → ℕ → Bool
+frees d p counts q = d p q && eqb (lower d p counts q) 0
+
+-- "rising index; whoever reaches zero joins the next front in that moment's order"
 unfoldable pub freed : (ℕ → ℕ → Bool) → ℕ → ℕ → (ℕ → ℕ) → List ℕ
-freed d n p counts = keepBelow (λ q. d p q && eqb (lower d p counts q) 0) n
+freed d n p counts = keepBelow (frees d p counts) n
 
 -- the same for all members of a front, one after the other
 unfoldable pub lowerAll : (ℕ → ℕ → Bool) → List ℕ → (ℕ → ℕ) → ℕ → ℕ

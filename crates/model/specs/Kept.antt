@@ -33,22 +33,30 @@ leastLines counts candidates = keep (λ l. allIn (λ k. leb (counts l) (counts k
 unfoldable pub drawFrom : List ℕ → ℕ → Drawn ℕ
 drawFrom list s = let d = drawUsize (length list) s in drawn (getD list (d .value) 0) (d .state)
 
+-- plan p is nearer to its line than plan q to its own
+abbrev pub nearerPlan : (ℕ → Float) → ℕ → ℕ → Bool
+nearerPlan distance p q = lt (distance p) (distance q)
+
 -- the nearest of a list, the first listed on a tie
 unfoldable pub nearest : (ℕ → Float) → List ℕ → ℕ
-nearest distance ps = bestFrom (λ p q. lt (distance p) (distance q)) (getD ps 0 0) (λ i. getD ps i 0) (length ps)
+nearest distance ps = bestFrom (nearerPlan distance) (getD ps 0 0) (λ i. getD ps i 0) (length ps)
 
 -- "at count 0 take the nearest member, first listed on a tie, else draw a member in listed order"
 unfoldable pub drawMember : (ℕ → Float) → ℕ → List ℕ → ℕ → Drawn ℕ
 drawMember distance zero members s = drawn (nearest distance members) s
 drawMember distance (suc count) members s = drawFrom members s
 
--- "among lines with waiting members of the split front take the least niche count, draw one line among those in rising order"
+-- "among lines with waiting members of the split front take the least niche count, draw one line among those in rising order": by the lines' niche counts, the
+-- open lines and each line's waiting members
+abbrev pub pickFrom : (ℕ → Float) → (ℕ → ℕ) → List ℕ → (ℕ → List ℕ) → ℕ → Drawn ℕ
+pickFrom distance counts open-lines members s =
+    let l = drawFrom (leastLines counts open-lines) s in drawMember distance (counts (l .value)) (members (l .value)) (l .state)
+
 unfoldable pub pickOne : (ℕ → ℕ) → (ℕ → Float) → ℕ → List ℕ → List ℕ → List ℕ → ℕ → Drawn ℕ
 pickOne line distance lines before split picked s =
     let counts = nicheCount line (before ++ picked) in
     let waits = waiting split picked in
-    let l = drawFrom (leastLines counts (openLines line lines waits)) s in
-    drawMember distance (counts (l .value)) (keep (λ p. eqb (line p) (l .value)) waits) (l .state)
+    pickFrom distance counts (openLines line lines waits) (λ l. keep (λ p. eqb (line p) l) waits) s
 
 -- the plans picked for n open places, one after the other
 abbrev pub picks : (ℕ → ℕ) → (ℕ → Float) → ℕ → List ℕ → List ℕ → ℕ → ℕ → Drawn (List ℕ)
@@ -56,9 +64,13 @@ picks line distance lines before split n s = drawAll (λ place picked. pickOne l
 
 -- ---- the list
 
+-- front k, with those before it, exceeds the size
+abbrev pub exceedsSize : Request → ℕ → Bool
+exceedsSize r k = ltb (r .size) (length (listing (dominance r) (r .count) (suc k)))
+
 -- "Whole fronts joined while they fit.": how many, and their plans
 unfoldable pub wholeFronts : Request → ℕ
-wholeFronts r = firstBelow (λ k. ltb (r .size) (length (listing (dominance r) (r .count) (suc k)))) (r .count)
+wholeFronts r = firstBelow (exceedsSize r) (r .count)
 
 unfoldable pub before : Request → List ℕ
 before r = listing (dominance r) (r .count) (wholeFronts r)

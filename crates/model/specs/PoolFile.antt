@@ -161,9 +161,12 @@ planText sel p =
 unfoldable pub listingText : ℕ → Selected → List ℕ
 listingText count sel = headerText count (length (sel .kept)) ++ joinBelow (planText sel) count
 
--- the listing for a pool file in good form
+-- the listing of what a request selects, and that for a pool file in good form
+abbrev pub requestText : Request → List ℕ
+requestText r = listingText (r .count) (selected r)
+
 abbrev pub fileText : PoolFile → List ℕ
-fileText f = listingText (f .count) (selected (fileRequest f))
+fileText f = requestText (fileRequest f)
 
 -- "A refusal prints `refused N` alone."
 unfoldable pub refusedText : ℕ → List ℕ

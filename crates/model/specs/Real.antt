@@ -1,7 +1,8 @@
 -- Doubles: the rounded operations under the signs of numerical analysis, and the constants that the records name, by their bit patterns.
 use Prim.Native.Nat.{ℕ, zero, suc}
 use mathlib.Core.Bool.{Bool, false, cond, _&&_}
-use lib.Ieee.{Float, nan, inf, fin, binary64, add, sub, mul, div, lt, le, ofBits, toBits}
+use lib.IntN.{ℤ}
+use lib.Ieee.{Float, nan, inf, fin, binary64, add, sub, mul, div, lt, le, ofBits, toBits, ofInt}
 
 infixl 65 _⊕_ _⊖_
 infixl 70 _⊗_ _⊘_
@@ -44,6 +45,14 @@ two = ofBits binary64 0x4000_0000_0000_0000
 -- plus infinity
 abbrev pub infinity : Float
 infinity = inf false
+
+-- a whole number as a double, rounded once
+abbrev pub ofWhole : ℤ → Float
+ofWhole n = ofInt binary64 n
+
+-- x is greater than y
+abbrev pub above : Float → Float → Bool
+above x y = lt y x
 
 -- magnitude
 unfoldable pub absolute : Float → Float

@@ -4,14 +4,14 @@ use mathlib.Core.Bool.{Bool, true, false, cond, not, _&&_, _||_}
 use mathlib.Core.List.{List, [], _∷_}
 use mathlib.Core.Option.{Option, none, some}
 use lib.Dec.{eqb, leb, ltb}
-use lib.Ieee.{Float, inf, binary64, eq, ofBits, ofInt, toUnsigned}
+use lib.Ieee.{Float, binary64, eq, ofBits, toUnsigned}
 use lib.IntN.{pos}
 use lib.ListN.{length, getD}
 use Rattle.model.specs.declared.Distribution.{Distribution}
 use Rattle.model.specs.Lists.{allBelow, allIn}
-use Rattle.model.specs.Real.{nought, unit, within}
+use Rattle.model.specs.Real.{nought, unit, infinity, ofWhole, within}
 use Rattle.model.specs.Plan.{Plan, Setting, planCount, maxObjectives, maxConstraints, maxSettings}
-use Rattle.model.specs.Reference.{pointCount, divisionsOf}
+use Rattle.model.specs.Reference.{pointCount, maxDivisions, divisionsOf}
 use Rattle.model.specs.Association.{Request, objectives}
 use Rattle.model.specs.Setting.{kindOfDimension, ofWord, maxDims, validDimension, inBounds, sortByParam, noSetting, Operators}
 use Rattle.model.specs.Session.{State, discovers, breeds, longEnough, isNew, maxCome, requestOf, operatorsOf}
@@ -57,7 +57,7 @@ badSessionSize (some size) = ltb maxSize size
 
 -- 4. "Divisions given are not 1 to 199, or there would be more than 1,024 lines."
 abbrev pub outsideDivisions : ℕ → Bool
-outsideDivisions h = not (leb 1 h && leb h 199)
+outsideDivisions h = not (leb 1 h && leb h maxDivisions)
 
 unfoldable pub badDivisions : ℕ → ℕ → Bool
 badDivisions m h = outsideDivisions h || ltb maxLines (pointCount m h)
@@ -75,7 +75,7 @@ abbrev pub ninetyNine : Float
 ninetyNine = ofBits binary64 0x4058_c000_0000_0000
 
 unfoldable pub wholeEta : Float → Bool
-wholeEta x = within nought ninetyNine x && eq (ofInt binary64 (pos (toUnsigned 64 x))) x
+wholeEta x = within nought ninetyNine x && eq (ofWhole (pos (toUnsigned 64 x))) x
 
 unfoldable pub badOperators : Float → Float → Float → Bool
 badOperators probability crossoverEta mutationEta = not (within nought unit probability && (wholeEta crossoverEta && wholeEta mutationEta))
@@ -108,7 +108,7 @@ unfoldable pub measurable : Float → Bool
 measurable x = within leastMeasured mostMeasured x
 
 abbrev pub isInfinity : Float → Bool
-isInfinity x = eq x (inf false)
+isInfinity x = eq x infinity
 
 unfoldable pub goodPlan : ℕ → Plan → Bool
 goodPlan m p = eqb (p .rowLength) m && (leb (p .constraintCount) maxConstraints && (allIn measurable (p .row) && allIn measurable (p .constraints)))

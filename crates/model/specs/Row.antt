@@ -10,12 +10,7 @@ use Rattle.model.specs.Lists.{anyBelow, allIn}
 use Rattle.model.specs.Real.{nought, sumTo}
 use Rattle.model.specs.Plan.{Plan}
 
--- a direction's mark: "0 minimise, 1 maximise"
-abbrev pub markOf : Direction → ℕ
-markOf Minimize = 0
-markOf Maximize = 1
-
--- the direction that a mark stands for; a mark above 1 is refused before it is looked at
+-- the direction that a mark stands for, "0 minimise, 1 maximise"; a mark above 1 is refused before it is looked at
 abbrev pub directionOf : ℕ → Direction
 directionOf zero = Minimize
 directionOf (suc k) = Maximize

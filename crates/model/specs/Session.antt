@@ -43,7 +43,7 @@ abbrev pub maxCome : ℕ
 maxCome = 2048
 
 abbrev pub maxWords : ℕ
-maxWords = 65536
+maxWords = maxCome * maxDims
 
 -- what the array of dimensions holds where none is entered
 abbrev pub blankDimension : DimensionInfo
@@ -117,6 +117,10 @@ renewed s g ideal number = record {
   «ideal_point» = ideal;
   progress = progress (s .progress .«n_dims») (s .config .«population_size») 0 number;
 }
+
+-- the session after breeding: the generation's number wraps at 2^64
+abbrev pub bredSession : Session → ℕ → List Float → Session
+bredSession s g ideal = renewed s g ideal ((s .progress .generation + 1) % 2 ^ 64)
 
 -- ---- opening
 
@@ -263,13 +267,12 @@ abbrev pub operatorsOf : Session → Operators
 operatorsOf s =
     operators (s .dimensions) (s .progress .«n_dims») (s .config .«crossover_prob») (s .config .«crossover_eta») (s .config .«mutation_eta»)
 
--- "a new generation is bred": its candidates take the place of the old ones. The generation's number wraps at 2^64.
+-- "a new generation is bred": its candidates take the place of the old ones
 unfoldable pub breed : State → List ℕ → State
 breed st history =
     let s = st .session in
     let g = generation (operatorsOf s) (requestOf st history) in
-    let bred = renewed s (g .state) (over (g .ideal) (s .«ideal_point»)) ((s .progress .generation + 1) % 2 ^ 64) in
-    state bred (over (wordsOf (g .offspring)) (st .candidates)) (st .plans) (st .nextDims)
+    state (bredSession s (g .state) (over (g .ideal) (s .«ideal_point»))) (over (wordsOf (g .offspring)) (st .candidates)) (st .plans) (st .nextDims)
 
 -- ---- which of these a call does
 

@@ -6,7 +6,7 @@ use mathlib.Core.List.{List, [], _∷_, _++_, map, flatten}
 use lib.IntN.{ℤ, pos, negsuc, _+ℤ_, _-ℤ_, _*ℤ_}
 use lib.Signed.{leZ, ltZ, quotZ}
 use lib.Dec.{eqb, leb, ltb}
-use lib.Ieee.{Float, nan, binary64, lt, le, ofBits, ofInt, toSigned, toUnsigned}
+use lib.Ieee.{Float, nan, binary64, lt, le, ofBits, toSigned, toUnsigned}
 use lib.ListN.{length, getD, take}
 use Rattle.model.specs.declared.ParamValue.{ParamValue}
 use Rattle.model.specs.declared.ParamValue.the-variants as value
@@ -19,7 +19,7 @@ use Rattle.model.specs.declared.OptionF64.{OptionF64}
 use Rattle.model.specs.declared.OptionF64.the-variants as optF64
 use Rattle.model.specs.declared.OptionI64.{OptionI64}
 use Rattle.model.specs.declared.OptionI64.the-variants as optI64
-use Rattle.model.specs.Real.{_⊕_, _⊖_, _⊗_, _⊘_, real, bits, nought, half, unit, two, absolute, within, clamp}
+use Rattle.model.specs.Real.{_⊕_, _⊖_, _⊗_, _⊘_, real, bits, nought, half, unit, two, ofWhole, absolute, within, clamp}
 use Rattle.model.specs.Draw.{Drawn, drawn, drawUsize, drawI64, f64Range, inTurn, drawAll}
 use Rattle.model.specs.Numbers.{roundOf, midpoint, P, R}
 use Rattle.model.specs.Plan.{Plan, Setting}
@@ -159,9 +159,12 @@ extractOne d sorted i s =
 abbrev pub extract : (ℕ → Distribution) → ℕ → List Setting → ℕ → Drawn (List ParamValue)
 extract dims n sorted s = drawAll (λ d settings. extractOne (dims d) sorted d) n s
 
--- the parents: the settings of each kept plan, in the kept list's order
+-- the parents: the settings of each kept plan, in the kept list's order; the draw of the i-th looks at no other
+abbrev pub parentIn : (ℕ → Distribution) → ℕ → (ℕ → Plan) → List ℕ → ℕ → List (List ParamValue) → ℕ → Drawn (List ParamValue)
+parentIn dims n plans kept i parents s = extract dims n (sortByParam (plans (getD kept i 0) .settings)) s
+
 abbrev pub parentsOf : (ℕ → Distribution) → ℕ → (ℕ → Plan) → List ℕ → ℕ → Drawn (List (List ParamValue))
-parentsOf dims n plans kept s = drawAll (λ i parents. extract dims n (sortByParam (plans (getD kept i 0) .settings))) (length kept) s
+parentsOf dims n plans kept s = drawAll (parentIn dims n plans kept) (length kept) s
 
 -- ---- crossover; k is eta + 1
 
@@ -205,9 +208,6 @@ clampInt low high n = cond (ltZ n low) low (cond (ltZ high n) high n)
 
 abbrev pub toInt : ℤ → ℤ → Float → ℤ
 toInt low high x = clampInt low high (toSigned 63 (roundOf x))
-
-abbrev pub ofWhole : ℤ → Float
-ofWhole n = ofInt binary64 n
 
 -- "Floats closer than 1e-14 and equal Ints are skipped without a draw; Categorical pairs always take one."
 unfoldable pub crossFloat : FloatDistribution → Float → Float → ℕ → ℕ → Drawn Pair
@@ -322,7 +322,7 @@ mutateInt (dist.Categorical d) n k s = drawn (value.Int n) s
 abbrev pub mutateCategorical : Distribution → ℕ → ℕ → Drawn ParamValue
 mutateCategorical (dist.Float d) c s = drawn (value.Categorical c) s
 mutateCategorical (dist.Int d) c s = drawn (value.Categorical c) s
-mutateCategorical (dist.Categorical d) c s = let y = drawUsize (d .«n_choices») s in drawn (value.Categorical (y .value)) (y .state)
+mutateCategorical (dist.Categorical d) c s = sampleRandom (dist.Categorical d) s
 
 abbrev pub mutateOne : Distribution → ParamValue → ℕ → ℕ → Drawn ParamValue
 mutateOne d (value.Float x) k s = mutateFloat d x k s
@@ -379,8 +379,11 @@ brood o parents ranks s =
     drawn (children (a .value) (b .value)) (b .state)
 
 -- the children of so many broods, one after the other
+abbrev pub withBoth : List (List ParamValue) → Children → List (List ParamValue)
+withBoth born c = born ++ (c .first ∷ c .second ∷ [])
+
 abbrev pub broods : Operators → List (List ParamValue) → (ℕ → ℕ) → ℕ → ℕ → Drawn (List (List ParamValue))
-broods o parents ranks k s = inTurn (λ born c. born ++ (c .first ∷ c .second ∷ [])) [] (λ i born. brood o parents ranks) k s
+broods o parents ranks k s = inTurn withBoth [] (λ i born. brood o parents ranks) k s
 
 -- "An odd size drops the last second child after its mutation."
 unfoldable pub offspringOf : Operators → List (List ParamValue) → (ℕ → ℕ) → ℕ → ℕ → Drawn (List (List ParamValue))

@@ -7,9 +7,32 @@ pub const MAX_PLANS: usize = 1024;
 
 pub const MAX_LINES: usize = 1024;
 
+pub const MAX_DIVISIONS: usize = 199;
+
 pub const MAX_DIMS: usize = 32;
 
-// A plan as words (docs/DECISIONS.md, "Plans as words"), a pool of MAX_PLANS of them, and as many candidates of MAX_DIMS settings.
+// Of a plan: its constraints and its settings.
+pub const MAX_CONSTRAINTS: usize = 16;
+
+pub const MAX_SETTINGS: usize = 32;
+
+// The most plans that may come in a session's generation, and the words of their candidates.
+pub const MAX_COME: usize = 2048;
+
+pub const MAX_WORDS: usize = 65536;
+
+// Where a plan's row length, values, constraint count, constraints and setting count stand among its words (docs/DECISIONS.md, "Plans as words").
+pub const ROW_LENGTH: usize = 1;
+
+pub const VALUES: usize = 2;
+
+pub const CONSTRAINT_COUNT: usize = 10;
+
+pub const CONSTRAINTS: usize = 11;
+
+pub const SETTING_COUNT: usize = 27;
+
+// The words of a plan, of a pool of MAX_PLANS of them, and of as many candidates of MAX_DIMS settings.
 pub const PLAN_WORDS: usize = 124;
 
 pub const POOL_WORDS: usize = 126976;
@@ -106,7 +129,7 @@ pub enum Phase {
 // Of directions the first n_obj count: 0 minimise, 1 maximise.
 pub struct Config {
     pub n_obj: usize,
-    pub directions: [u8; 8],
+    pub directions: [u8; MAX_OBJECTIVES],
     pub divisions: usize,
     pub population_size: usize,
     pub crossover_prob: f64,
@@ -128,8 +151,8 @@ pub struct Session {
     pub phase: Phase,
     pub discovery_trial_id: OptionU64,
     pub rng: Rng,
-    pub dimensions: [DimensionInfo; 32],
-    pub ideal_point: [f64; 8],
+    pub dimensions: [DimensionInfo; MAX_DIMS],
+    pub ideal_point: [f64; MAX_OBJECTIVES],
     pub progress: Progress,
 }
 

@@ -9,8 +9,7 @@ use lib.Ieee.{Float, nan, lt}
 use lib.ListN.{length, getD, set, take, drop}
 use Rattle.model.specs.Lists.{keepBelow, countBelow, Distinct, over}
 use Rattle.model.specs.Draw.{Drawn, drawn}
-use Rattle.model.specs.Kept.{picks}
-use Rattle.niching_laws.specs.Niching.{pickFrom}
+use Rattle.model.specs.Kept.{picks, pickFrom}
 
 -- the line of a plan, and its distance from that line
 abbrev pub lineIn : List ℕ → ℕ → ℕ

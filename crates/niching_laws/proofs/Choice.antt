@@ -11,13 +11,12 @@ use lib.ListN.{length, getD}
 use borrow.Author.Tests.{eqb-true, eq-eqb, leb-true, le-leb, le-ltb, ltb-true, ltb-false}
 use Rattle.model.specs.Lists.{In, has, keep, allIn, bestFrom}
 use Rattle.model.specs.Draw.{drawWord, drawUsize}
-use Rattle.model.specs.Kept.{openLines, leastLines, drawFrom, nearest, drawMember}
+use Rattle.model.specs.Kept.{openLines, leastLines, drawFrom, nearest, drawMember, pickFrom}
 use Rattle.list_laws.proofs.Best.{best-all, best-least}
 use Rattle.list_laws.proofs.Members.{in-has, has-in, keep-in, in-keep, getD-in, place-of, allIn-member}
 use Rattle.list_laws.proofs.Kept.{keepBelow-in, in-keepBelow}
 use Rattle.list_laws.proofs.Tests.{allIn-every}
 use Rattle.float_laws.proofs.Compared.{lt-self, lt-down}
-use Rattle.niching_laws.specs.Niching.{pickFrom}
 
 -- ---- what is drawn of a list that is not empty is in it
 

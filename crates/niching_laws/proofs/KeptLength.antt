@@ -6,7 +6,7 @@ use lib.Dec.{ltb}
 use lib.ListN.{length, length-append}
 use Rattle.model.specs.Front.{listing, frontList, front}
 use Rattle.model.specs.Association.{Request, dominance}
-use Rattle.model.specs.Kept.{Selected, wholeFronts, before, isSplit, filled, selectedSplit, selectedWhole, selected}
+use Rattle.model.specs.Kept.{Selected, wholeFronts, before, isSplit, filled, selectedSplit, selectedWhole, selected, exceedsSize}
 use Rattle.list_laws.proofs.Rows.{joinBelow-fits}
 use Rattle.list_laws.proofs.Bools.{by-bool}
 use Rattle.list_laws.proofs.Draws.{drawAll-length}
@@ -14,7 +14,7 @@ use Rattle.list_laws.proofs.First.{firstBelow-before}
 
 pub before-le : (r : Request) → length (before r) ≤ r .size
 unfolding before wholeFronts
-before-le r = joinBelow-fits (front (dominance r) (r .count)) (r .size) (wholeFronts r) (firstBelow-before (λ k. ltb (r .size) (length (listing (dominance r) (r .count) (suc k)))) (r .count))
+before-le r = joinBelow-fits (front (dominance r) (r .count)) (r .size) (wholeFronts r) (firstBelow-before (exceedsSize r) (r .count))
 
 -- what holds whether or not a front is split holds of what is selected
 pub by-split : (r : Request) (P : Selected → Type 0) → P (selectedSplit r) → P (selectedWhole r) → P (selected r)

@@ -6,8 +6,7 @@ use mathlib.Core.List.{List, [], _∷_, _++_}
 use lib.Ieee.{Float}
 use lib.ListN.{length}
 use Rattle.model.specs.Lists.{In, Distinct}
-use Rattle.model.specs.Draw.{Drawn}
-use Rattle.model.specs.Kept.{nicheCount, leastLines, drawFrom, drawMember}
+use Rattle.model.specs.Kept.{nicheCount}
 use Rattle.model.specs.Papers.DebJain2014.{Reached}
 use Rattle.model.specs.Demand3.{sumSquares}
 
@@ -46,11 +45,6 @@ pub data Run (before front : List ℕ) (line : ℕ → ℕ) : ℕ → List ℕ �
   start : Run before front line zero []
   next : {n : ℕ} {picked : List ℕ} {p : ℕ} → Run before front line n picked → Pick before front line picked p
       → Run before front line (suc n) (picked ++ (p ∷ []))
-
--- ---- one pick with its random choices: from the niche counts, the lines with waiting members, and the members that wait on each
-abbrev pub pickFrom : (ℕ → Float) → (ℕ → ℕ) → List ℕ → (ℕ → List ℕ) → ℕ → Drawn ℕ
-pickFrom distance counts lines members s =
-    let l = drawFrom (leastLines counts lines) s in drawMember distance (counts (l .value)) (members (l .value)) (l .state)
 
 -- ---- what is claimed
 

@@ -8,13 +8,12 @@ use lib.Ieee.{Float, lt}
 use lib.ListN.{length, getD, List·getD-eq-default}
 use Rattle.model.specs.Lists.{has, keep, keepBelow}
 use Rattle.model.specs.Draw.{Drawn, drawn, drawAll}
-use Rattle.model.specs.Kept.{nicheCount, waiting, openLines, drawFrom, nearest, drawMember, pickOne, picks}
+use Rattle.model.specs.Kept.{nicheCount, waiting, openLines, drawFrom, nearest, drawMember, pickOne, picks, pickFrom}
 use Rattle.list_laws.proofs.Below.{by-lt}
 use Rattle.list_laws.proofs.Best.{best-all, best-agree}
 pub use Rattle.list_laws.specs.Occ.{Below}
 use Rattle.list_laws.proofs.Members.{tally-same, keep-same, in-keep, getD-in, below-append, below-none, below-snoc}
 use Rattle.list_laws.proofs.Draws.{inTurn-same, drawAll-keeps}
-use Rattle.niching_laws.specs.Niching.{pickFrom}
 
 -- a list of draws below n is below n
 pub drawn-below : (n : ℕ) (next : ℕ → List ℕ → ℕ → Drawn ℕ) → ((i : ℕ) (l : List ℕ) (t : ℕ) → next i l t .value < n) → (k s : ℕ) → Below n (drawAll next k s .value)

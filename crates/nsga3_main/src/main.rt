@@ -2,7 +2,9 @@
 use libc::STDOUT_FILENO;
 use model::Outcome;
 use model::PLAN_WORDS;
+use model::ROW_LENGTH;
 use model::Rng;
+use model::VALUES;
 ghost use Prim.Native.Nat.{_+_, _*_, _≤_};
 ghost use lib.ListN.{length};
 
@@ -33,9 +35,9 @@ fn put_plan(pool: &mut [u64], i: usize, a: u64, b: u64)
 {
     let at = i * PLAN_WORDS;
     pool[at] = i as u64;
-    pool[at + 1] = 2;
-    pool[at + 2] = a;
-    pool[at + 3] = b;
+    pool[at + ROW_LENGTH] = 2;
+    pool[at + VALUES] = a;
+    pool[at + VALUES + 1] = b;
 }
 
 // The plans with rows (0,0), (1,3) and (4,1).

@@ -4,14 +4,12 @@ use mathlib.Core.List.{List, [], _∷_, _++_, map, flatten}
 use Prim.Native.Nat.{ℕ, zero, suc, _+_, _-_, _*_, _/_, _≤_, _<_, min}
 use native.Mathlib.Nat.{add-mul, one-mul, mul-le-mul-right}
 use native.Mathlib.Omega.{arith}
-use lib.ListN.{length, getD, take, length-append}
+use lib.ListN.{length, take, length-append}
 use lib.Seq.{take-all, take-append-add, sets}
-use Rattle.model.specs.declared.Distribution.{Distribution}
 use Rattle.model.specs.declared.ParamValue.{ParamValue}
 use Rattle.model.specs.Draw.{Drawn, drawn, inTurn}
 use Rattle.list_laws.proofs.Draws.{inTurn-keeps, inTurn-more}
-use Rattle.model.specs.Plan.{Plan}
-use Rattle.model.specs.Setting.{toWord, wordsOf, sortByParam, extract, Operators, Children, children, brood, broods, offspringOf}
+use Rattle.model.specs.Setting.{toWord, wordsOf, Operators, children, brood, broods, offspringOf, withBoth}
 use Rattle.list_laws.proofs.Rows.{row-within}
 use Rattle.list_laws.proofs.Runs.{sets-append}
 use Rattle.candidates.proofs.Laid.{words-one, LaidOut, laid-none, laid-more}
@@ -37,19 +35,11 @@ module _ (a b : List ParamValue) (n at size : ℕ) (l l′ l″ : List ℕ) (fir
       let e : size - at ≡ 1 = omega arith in
       first ∙ ap (sets l (at * n)) (sym (words-one a) ∙ ap (λ k. wordsOf (take k (a ∷ b ∷ []))) (sym e))
 
--- ---- parents: the settings of a kept list's plan i
-
-abbrev pub parentIn : (ℕ → Distribution) → ℕ → (ℕ → Plan) → List ℕ → ℕ → List (List ParamValue) → ℕ → Drawn (List ParamValue)
-parentIn dims n plans kept i parents = extract dims n (sortByParam (plans (getD kept i 0) .settings))
-
 -- ---- offspring
 
 module _ (o : Operators) (parents : List (List ParamValue)) (ranks : ℕ → ℕ) (s : ℕ) where
-  abbrev with-both : List (List ParamValue) → Children → List (List ParamValue)
-  with-both born c = born ++ (c .first ∷ c .second ∷ [])
-
   broods-length : (k : ℕ) → length (broods o parents ranks k s .value) ≡ 2 * k
-  broods-length k = inTurn-keeps with-both [] (λ i born. brood o parents ranks) (λ i born. length born ≡ 2 * i) s k refl (λ i born t l e. length-append born _ ∙ omega arith)
+  broods-length k = inTurn-keeps withBoth [] (λ i born. brood o parents ranks) (λ i born. length born ≡ 2 * i) s k refl (λ i born t l e. length-append born _ ∙ omega arith)
 
   module _ (size : ℕ) where
     -- those of so many broods that the size has room for
@@ -70,7 +60,7 @@ module _ (o : Operators) (parents : List (List ParamValue)) (ranks : ℕ → ℕ
         let z = broods-length k in
         let f : length bs + (size - 2 * k) ≡ size = omega arith in
         ap (λ (d : Drawn (List (List ParamValue))). drawn (take size (d .value)) (d .state))
-        (sym (inTurn-more with-both [] (λ i born. brood o parents ranks) k s refl e))
+        (sym (inTurn-more withBoth [] (λ i born. brood o parents ranks) k s refl e))
         ∙ ap (λ l. drawn l u) (ap (λ j. take j (bs ++ (a ∷ b ∷ []))) (sym f) ∙ take-append-add bs (a ∷ b ∷ []) (size - 2 * k) ∙ ap (λ l. l ++ take (size - 2 * k) (a ∷ b ∷ [])) (sym (all-so-far k h)))
 
     pub bred-none : (old : List ℕ) (n : ℕ) → LaidOut old (min (2 * 0) size * n) (bredBy 0) old s

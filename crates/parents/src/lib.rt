@@ -13,6 +13,7 @@ use extraction::Entry;
 use model::DimensionInfo;
 use model::Distribution;
 use model::PLAN_WORDS;
+use model::SETTING_COUNT;
 
 // A setting after setting j has its parameter number.
 fn repeated(pool: &[u64], at: usize, j: usize, count: usize) -> bool
@@ -92,7 +93,7 @@ fn breedable(pool: &[u64], i: usize, dims: [DimensionInfo; 32], n: usize) -> boo
     ensures { λ r. ⌜ r ≡ breedable (dimensionsOf dims) n (planAt (now (pool .entry)) i) ⌝ }
 {
     let at = i * PLAN_WORDS;
-    let claimed = pool[at + 27];
+    let claimed = pool[at + SETTING_COUNT];
     if claimed > 32 {
         return false;
     }

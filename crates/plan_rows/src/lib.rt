@@ -1,8 +1,9 @@
 // The plans of a lent slice of words as flat lists: rows in minimise-space one after the other, and whether each plan is feasible and its violation sum.
+use model::CONSTRAINTS;
+use model::CONSTRAINT_COUNT;
+use model::MAX_CONSTRAINTS;
 use model::PLAN_WORDS;
-use plans::CONSTRAINT_COUNT;
-use plans::CONSTRAINTS;
-use plans::VALUES;
+use model::VALUES;
 ghost use mathlib.Core.Path.{_≡_};
 ghost use Prim.Native.Nat.{ℕ, _+_, _*_, _<_, _≤_};
 ghost use lib.ListN.{length, getD, take};
@@ -69,7 +70,7 @@ fn fill_plan(pool: &[u64], p: usize, feasible: &mut [bool], violations: &mut [f6
 {
     let at = p * PLAN_WORDS;
     let count = pool[at + CONSTRAINT_COUNT] as usize;
-    let mut constraints: [f64; 16] = [0.0; 16];
+    let mut constraints: [f64; MAX_CONSTRAINTS] = [0.0; MAX_CONSTRAINTS];
     copy_reals(pool, at + CONSTRAINTS, count, &mut constraints);
     feasible[p] = domination::is_feasible(&constraints[..count]);
     violations[p] = domination::total_violation(&constraints[..count]);

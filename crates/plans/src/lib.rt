@@ -1,6 +1,11 @@
 // The plans of a lent slice of words, a block of 124 words each: how many there are, and the refusals that look at directions, plans and the ideal (2, 7 and 8).
+use model::CONSTRAINTS;
+use model::CONSTRAINT_COUNT;
+use model::MAX_CONSTRAINTS;
 use model::MAX_PLANS;
 use model::PLAN_WORDS;
+use model::ROW_LENGTH;
+use model::VALUES;
 ghost use mathlib.Core.Path.{_≡_};
 ghost use Prim.Native.Nat.{_+_, _<_, _≤_};
 ghost use mathlib.Core.Bool.{not, _&&_};
@@ -9,15 +14,6 @@ ghost use Rattle.model.specs.Lists.{allBelow};
 ghost use Rattle.model.specs.Real.{real};
 ghost use Rattle.model.specs.Plan.{planAt, planCount};
 ghost use Rattle.model.specs.Refusal.{badDirections, measurable, goodEntry, badCount, goodIdeal, goodPlan, goodPlans};
-
-// Where a plan's row length, values, constraint count and constraints stand among its words.
-const ROW_LENGTH: usize = 1;
-
-pub const VALUES: usize = 2;
-
-pub const CONSTRAINT_COUNT: usize = 10;
-
-pub const CONSTRAINTS: usize = 11;
 
 // 2^1000, the greatest magnitude of a value or a constraint.
 const LIMIT: f64 = 1.0715086071862673e301;
@@ -113,7 +109,7 @@ fn good_plan(pool: &[u64], i: usize, m: usize) -> bool
         return false;
     }
     let count = pool[at + CONSTRAINT_COUNT] as usize;
-    if 16 < count {
+    if MAX_CONSTRAINTS < count {
         return false;
     }
     if measurable_words(pool, at + VALUES, m) {

@@ -1,6 +1,12 @@
 // The plans of a pool file (document 01, "Pool file"), each laid out in its block of words.
+use model::CONSTRAINTS;
+use model::CONSTRAINT_COUNT;
+use model::MAX_CONSTRAINTS;
 use model::MAX_PLANS;
 use model::PLAN_WORDS;
+use model::ROW_LENGTH;
+use model::SETTING_COUNT;
+use model::VALUES;
 use pool_number::Read;
 use pool_number::read_number;
 ghost use mathlib.Core.Path.{_≡_};
@@ -49,9 +55,9 @@ fn put_counts(pool: &mut [u64], base: usize, m: u64, c: u64)
     ensures { λ _. ⌜ now (pool .exit) ≡ counted (now (pool .entry)) base m c ⌝ }
 {
     pool[base] = 0;
-    pool[base + 1] = m;
-    pool[base + 10] = c;
-    pool[base + 27] = 0;
+    pool[base + ROW_LENGTH] = m;
+    pool[base + CONSTRAINT_COUNT] = c;
+    pool[base + SETTING_COUNT] = 0;
 }
 
 // Reads a plan of m values into the block of words at base: its first 8 values and its first 16 constraints have room there.
@@ -59,13 +65,13 @@ fn read_plan(file: &[u8], at: usize, m: usize, pool: &mut [u64], base: usize) ->
     requires { ⌜ base + planWords ≤ length (now pool) ⌝ }
     ensures { λ r. ⌜ BlockIs (now (file .entry)) at m base (now (pool .entry)) (now (pool .exit)) r ⌝ }
 {
-    let End::At(p) = read_words(file, at, m, 8, pool, base + 2) else {
+    let End::At(p) = read_words(file, at, m, 8, pool, base + VALUES) else {
         return End::Broken;
     };
     let Read::Number(c, q) = read_number(file, p) else {
         return End::Broken;
     };
-    let End::At(next) = read_words(file, q, c as usize, 16, pool, base + 11) else {
+    let End::At(next) = read_words(file, q, c as usize, MAX_CONSTRAINTS, pool, base + CONSTRAINTS) else {
         return End::Broken;
     };
     put_counts(pool, base, m as u64, c);

@@ -8,12 +8,8 @@ use native.Mathlib.Omega.{arith}
 use borrow.Author.Tests.{lt-leb, le-leb, lt-ltb, leb-true, leb-false}
 use lib.Dec.{leb, ltb}
 use Rattle.model.specs.Lists.{firstBelow}
-use Rattle.model.specs.Reference.{pointCount, autoDivisions}
+use Rattle.model.specs.Reference.{pointCount, autoDivisions, reaches}
 use Rattle.list_laws.proofs.First.{firstBelow-none, firstBelow-le, firstBelow-no, firstBelow-at, firstBelow-passes, firstBelow-before}
-
--- i + 1 divisions reach the target
-abbrev pub reaches : ℕ → ℕ → ℕ → Bool
-reaches m target i = leb target (pointCount m (suc i))
 
 -- no number from 1 to h - 1 reaches the target
 abbrev pub Missed : ℕ → ℕ → ℕ → Type 0

@@ -8,7 +8,7 @@ use lib.Ieee.{Float, nan}
 use lib.ListN.{length, take, getD, set, length-append, length-map}
 use lib.Seq.{take-suc-set, length-take-le}
 use Rattle.model.specs.Lists.{joinBelow, over}
-use Rattle.model.specs.Reference.{ratio, tuples, lattice, pointCount, dasDennis}
+use Rattle.model.specs.Reference.{ratio, tuples, lattice, pointCount, dasDennis, line}
 use Rattle.list_laws.proofs.Built.{joinBelow-same, over-at}
 use Rattle.list_laws.proofs.Rows.{row-inside, flatten-append, flatten-length, flatten-at}
 use Rattle.list_laws.proofs.Members.{getD-member}
@@ -74,10 +74,6 @@ unfolding rowsFrom dasDennis
 whole-rows m h = refl
 
 -- ---- reading the table
-
--- coordinate j of line l, as association reads it
-abbrev pub line : ℕ → ℕ → ℕ → ℕ → Float
-line m h l j = getD (getD (dasDennis m h) l []) j nan
 
 row-length : (m h : ℕ) → 1 ≤ m → (r : List Float) → List·Memᴰ r (dasDennis m h) → length r ≡ m
 unfolding dasDennis

@@ -20,7 +20,7 @@ use Rattle.model.specs.Lists.{allBelow, over}
 use Rattle.model.specs.Plan.{planWords}
 use Rattle.model.specs.Reference.{orElse}
 use Rattle.model.specs.Association.{Request}
-use Rattle.model.specs.Session.{State, state, evaluated, standsIn, recordsOf, bredFrom, requestOf, operatorsOf, breed, maxWords}
+use Rattle.model.specs.Session.{State, bredSession, state, evaluated, standsIn, recordsOf, bredFrom, requestOf, operatorsOf, breed, maxWords}
 use Rattle.model.specs.Refusal.{Room, goodIdeal, stepRefusal, maxSize}
 use Rattle.model.specs.Calls.{refusedBy, roomOf, wordRequest, stepAccepted, stepBy, stepOf}
 use Rattle.model.specs.Property.{SessionOk}
@@ -29,7 +29,7 @@ use Rattle.refusals.specs.Checked.{checked}
 use Rattle.session_laws.specs.Refused.{breedRefusal, shortRefusal}
 use Rattle.session_laws.proofs.Request.{bred-length, bred-request, step-refusal}
 use Rattle.list_laws.proofs.Checks.{then-last, good-ideal-length}
-use Rattle.session_breeding.specs.Breeding.{bredSession, Stepped, stepped, takenOf, blankLent, stepOn, bredExit, breedBy, breedOf}
+use Rattle.session_breeding.specs.Breeding.{Stepped, stepped, takenOf, blankLent, stepOn, bredExit, breedBy, breedOf}
 
 -- an ideal that is good has its m entries
 pub ideal-room : (m : ℕ) (ideal : List Float) → goodIdeal m (take m ideal) ≡ true → m ≤ length ideal

@@ -6,14 +6,10 @@ use lib.Ieee.{Float}
 use lib.ListN.{take, replicate}
 use Rattle.model.specs.declared.Selection.{Selection}
 use Rattle.model.specs.declared.Session.{Session}
-use Rattle.model.specs.Session.{State, renewed, operatorsOf, breed}
+use Rattle.model.specs.Session.{State, operatorsOf, breed}
 use Rattle.model.specs.Refusal.{maxSize}
 use Rattle.model.specs.Calls.{Lent, StepExit, lent, wordRequest, stepOf}
 use Rattle.session_laws.specs.Refused.{breedRefusal}
-
--- the session after breeding: the generation's number wraps
-abbrev pub bredSession : Session → ℕ → List Float → Session
-bredSession s g ideal = renewed s g ideal ((s .progress .generation + 1) % 2 ^ 64)
 
 -- ---- the generation step of a session
 

@@ -5,12 +5,13 @@ ghost use mathlib.Core.List.{List, []};
 ghost use mathlib.Core.Option.{some};
 ghost use Prim.Native.Nat.{ℕ, _≤_};
 ghost use lib.ListN.{length};
-ghost use Rattle.model.specs.Session.{state, evaluated};
+ghost use Rattle.model.specs.Session.{state, evaluated, bredSession};
 ghost use Rattle.model.specs.Calls.{refusedBy};
 ghost use Rattle.model.specs.Property.{SessionOk};
 ghost use Rattle.session_laws.specs.Refused.{shortRefusal};
-ghost use Rattle.session_breeding.specs.Breeding.{bredSession, stepped, stepOn, bredExit, breedOf};
+ghost use Rattle.session_breeding.specs.Breeding.{stepped, stepOn, bredExit, breedOf};
 use model::MAX_PLANS;
+use model::MAX_WORDS;
 use model::Outcome;
 use model::PLAN_WORDS;
 use model::POOL_WORDS;
@@ -135,7 +136,7 @@ pub fn bred_refusal(session: Session, history: &[u64], plans: &[u64]) -> u8
         MAX_PLANS,
         MAX_PLANS,
         MAX_PLANS,
-        65536,
+        MAX_WORDS,
     );
     match check {
         Check::Refused(number) => number,

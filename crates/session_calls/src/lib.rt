@@ -1,6 +1,8 @@
 // A session as a caller holds it: lent arrays of full length, and a history of which the first records count. Calls keep the session property, which an
 // opening that is ready gives.
 use model::Distribution;
+use model::MAX_COME;
+use model::MAX_WORDS;
 use model::Opened;
 use model::OptionUsize;
 use model::PLAN_WORDS;
@@ -13,11 +15,11 @@ ghost use Rattle.model.specs.Session.{state};
 ghost use Rattle.model.specs.Property.{SessionOk};
 ghost use Rattle.session_calls.specs.Usable.{usableBy};
 
-pub type Candidates = [u64; 65536];
+pub type Candidates = [u64; MAX_WORDS];
 
-pub type Numbers = [u64; 2048];
+pub type Numbers = [u64; MAX_COME];
 
-pub type NextDims = [usize; 2048];
+pub type NextDims = [usize; MAX_COME];
 
 // 4,097 records of 124 words: one more than is accepted.
 pub type History = [u64; 508028];

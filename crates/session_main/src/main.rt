@@ -1,15 +1,20 @@
 // Runs document 01's cases beside the proved table: 2,048 plans of a generation are open and the next new number gets 11, until breeding frees all of them; and
 // a constraint of 2^1000 passes where the next double gets 8.
 use libc::STDOUT_FILENO;
+use model::CONSTRAINTS;
+use model::CONSTRAINT_COUNT;
 use model::CategoricalDistribution;
 use model::DimensionInfo;
 use model::Distribution;
 use model::FloatDistribution;
+use model::MAX_COME;
+use model::MAX_WORDS;
 use model::Opening;
 use model::OptionF64;
 use model::OptionUsize;
 use model::Outcome;
 use model::PLAN_WORDS;
+use model::ROW_LENGTH;
 use model::Rng;
 use model::Sampling;
 use model::Session;
@@ -153,9 +158,9 @@ fn fill(session: Session)
     requires { ⌜ ((cs ps ns : List ℕ) → SessionOk (state session cs ps ns)) ⌝ }
 {
     let mut history = [0u64; 508028];
-    let mut candidates = [0u64; 65536];
-    let mut plans = [0u64; 2048];
-    let mut next_dims = [0usize; 2048];
+    let mut candidates = [0u64; MAX_WORDS];
+    let mut plans = [0u64; MAX_COME];
+    let mut next_dims = [0usize; MAX_COME];
     put_records(&mut history);
     let mut now = session;
     let mut i: usize = 0;
@@ -193,11 +198,11 @@ fn sessions() {
 // The generation step on two plans with equal rows, the second with one constraint.
 fn constrained(bits: u64) {
     let mut pool = [0u64; 248];
-    pool[1] = 1;
+    pool[ROW_LENGTH] = 1;
     pool[PLAN_WORDS] = 1;
-    pool[125] = 1;
-    pool[134] = 1;
-    pool[135] = bits;
+    pool[PLAN_WORDS + ROW_LENGTH] = 1;
+    pool[PLAN_WORDS + CONSTRAINT_COUNT] = 1;
+    pool[PLAN_WORDS + CONSTRAINTS] = bits;
     let distribution = Distribution::Categorical(CategoricalDistribution { n_choices: 3 });
     let dims = [DimensionInfo { distribution }; 32];
     let directions = [0u8; 1];

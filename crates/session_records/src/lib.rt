@@ -12,15 +12,12 @@ ghost use Rattle.model.specs.Session.{recordOf, blockOf, pastDiscovery, discove
 ghost use Rattle.model.specs.Refusal.{badNext};
 ghost use lib.Seq.{sets};
 use model::Distribution;
+use model::MAX_COME;
 use model::MAX_DIMS;
+use model::MAX_WORDS;
 use model::OptionU64;
 use model::PLAN_WORDS;
 use model::Phase;
-
-// The most plans that may come in a generation, and the words of their candidates.
-const MAX_COME: usize = 2048;
-
-const MAX_WORDS: usize = 65536;
 
 // ---- the plans of a generation, and their records
 

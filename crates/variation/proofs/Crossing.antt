@@ -11,9 +11,9 @@ use Rattle.list_laws.proofs.Bools.{T-true, no-pass, and-left, and-right, and-bo
 use Rattle.model.specs.declared.FloatDistribution.{FloatDistribution}
 use Rattle.model.specs.declared.IntDistribution.{IntDistribution}
 use Rattle.model.specs.declared.ParamValue.the-variants as value
-use Rattle.model.specs.Real.{_⊖_, half, absolute}
+use Rattle.model.specs.Real.{_⊖_, half, absolute, ofWhole}
 use Rattle.model.specs.Draw.{drawn}
-use Rattle.model.specs.Setting.{pair, smallGap, drawUnit, spread, sbxFirst, sbxSecond, toInt, ofWhole, crossFloat, crossInt, crossCategorical}
+use Rattle.model.specs.Setting.{pair, smallGap, drawUnit, spread, sbxFirst, sbxSecond, toInt, crossFloat, crossInt, crossCategorical}
 use Rattle.list_laws.proofs.Draws.{drawn-tested}
 
 pub crossFloat-close : (d : FloatDistribution) (p q : Float) (k s : ℕ) → lt (absolute (p ⊖ q)) smallGap ≡ true → drawn (pair (value.Float p) (value.Float q)) s ≡ crossFloat d p q k s

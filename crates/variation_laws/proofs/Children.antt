@@ -3,7 +3,6 @@
 use mathlib.Core.Path.{_≡_}
 use mathlib.Core.Bool.{true, not, _&&_}
 use Prim.Native.Nat.{ℕ}
-use borrow.Author.Tests.{lt-ltb}
 use lib.Dec.{T, lit<, lit≤}
 use lib.IntN.{ℤ}
 use lib.Signed.{leZ, ltZ, _≤ℤ_, ≤ℤ-refl, ltZ-no}
@@ -16,7 +15,6 @@ use Rattle.float_laws.proofs.Magnitude.{Within, ends-within, within-not-nan, wi
 use Rattle.float_laws.proofs.FromZero.{upto-within}
 use Rattle.real_laws.proofs.Clamped.{clamp-within}
 use Rattle.real_laws.proofs.Between.{root-within}
-use Rattle.rng_util.proofs.Draws.{drawUsize-below}
 use Rattle.model.specs.declared.Distribution.{Distribution}
 use Rattle.model.specs.declared.Distribution.the-variants as dist
 use Rattle.model.specs.declared.FloatDistribution.{FloatDistribution}
@@ -24,12 +22,12 @@ use Rattle.model.specs.declared.IntDistribution.{IntDistribution}
 use Rattle.model.specs.declared.ParamValue.{ParamValue}
 use Rattle.model.specs.declared.ParamValue.the-variants as value
 use Rattle.model.specs.Real as real
-use Rattle.model.specs.Real.{_⊖_, _⊗_, unit, two, within, clamp}
+use Rattle.model.specs.Real.{_⊖_, _⊗_, unit, two, within, clamp, ofWhole}
 use Rattle.model.specs.Numbers.{roundOf, midpoint, R}
 use Rattle.model.specs.Draw.{Drawn}
-use Rattle.model.specs.Setting.{Pair, smallGap, validDimension, inBounds, drawUnit, spread, clampInt, toInt, ofWhole, crossFloat, crossInt, crossCategorical, crossFloats, crossInts, crossOne, mutationShift, polynomialMutation, mutateOne}
-use Rattle.settings.proofs.Valid.{FloatBounds, float-bounds, IntBounds, int-bounds, some-choice}
-use Rattle.settings.proofs.InBounds.{Held, between}
+use Rattle.model.specs.Setting.{Pair, smallGap, validDimension, inBounds, drawUnit, spread, clampInt, toInt, crossFloat, crossInt, crossCategorical, crossFloats, crossInts, crossOne, mutationShift, polynomialMutation, mutateOne}
+use Rattle.settings.proofs.Valid.{FloatBounds, float-bounds, IntBounds, int-bounds}
+use Rattle.settings.proofs.InBounds.{Held, between, sampled-in-bounds}
 
 -- ---- reals
 
@@ -175,4 +173,4 @@ mutated-in-bounds (dist.Int d) (value.Int n) k s h v i =
 mutated-in-bounds (dist.Int d) (value.Categorical c) k s h v i = i
 mutated-in-bounds (dist.Categorical d) (value.Float x) k s h v i = i
 mutated-in-bounds (dist.Categorical d) (value.Int n) k s h v i = i
-mutated-in-bounds (dist.Categorical d) (value.Categorical c) k s h v i = (lt-ltb _ (d .«n_choices») (drawUsize-below (d .«n_choices») s (some-choice d v)), tt)
+mutated-in-bounds (dist.Categorical d) (value.Categorical c) k s h v i = (sampled-in-bounds (dist.Categorical d) s tt v, tt)

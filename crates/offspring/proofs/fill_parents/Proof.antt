@@ -10,11 +10,10 @@ use Rattle.model.specs.Lists.{over}
 use Rattle.model.specs.Plan.{planAt}
 use Rattle.model.specs.declared.ParamValue.{ParamValue}
 use Rattle.model.specs.Draw.{Drawn, drawAll}
-use Rattle.model.specs.Setting.{wordsOf, sortByParam, extract, dimensionsOf}
+use Rattle.model.specs.Setting.{wordsOf, sortByParam, extract, dimensionsOf, parentIn}
 use Rattle.settings.proofs.Valid.{few}
 use Rattle.candidates.proofs.Laid.{LaidOut, laid-first, laid-next, words-length}
 use Rattle.list_laws.proofs.Rows.{row-within}
-use Rattle.offspring.proofs.Laying.{parentIn}
 use Rattle.offspring.proofs.fill_parents.Statement.{statement}
 use Rattle.offspring.proofs.fill_parents.Tie as tie
 

@@ -9,7 +9,6 @@ use Rattle.variation.proofs.mutate_categorical.Statement.{statement}
 use Rattle.variation.proofs.mutate_categorical.Tie as tie
 
 anew : (d : Distribution) (a : CategoricalDistribution) (c s : ℕ) → d ≡ dist.Categorical a → sampleRandom d s ≡ mutateCategorical d c s
-unfolding sampleRandom
 anew d a c s e = ap (λ (x : Distribution). sampleRandom x s) e ∙ sym (ap (λ (x : Distribution). mutateCategorical x c s) e)
 
 enum-told : tie.Need-enum-told
