@@ -8,7 +8,7 @@ use lib.Ieee.{inf, div, ofBits, neg}
 use Rattle.association_laws.specs.Flat.{column}
 use Rattle.list_laws.proofs.Rows.{row-inside}
 use Rattle.list_laws.proofs.Best.{best-none, best-more}
-use Rattle.association_laws.proofs.Extremes.{above}
+use Rattle.model.specs.Real.{above}
 use Rattle.normalization.proofs.greatest_of.Statement.{statement}
 use Rattle.normalization.proofs.greatest_of.Tie as tie
 use Rattle.model.specs.Lists.{bestFrom}
