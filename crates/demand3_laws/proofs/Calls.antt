@@ -76,7 +76,7 @@ module _ (r : Request) (words : (p : ℕ) → InWords (r .plans p)) where
   step-accepted o room offspring e = let p = passed o r room offspring e in word-accepted r words (p .directions) (p .divisions) (p .pool)
 
   -- a step from two plans on keeps what a selection keeps
-  generation-kept : (o : Operators) → 2 ≤ r .count → generation o r .kept ≡ selected r .kept
+  generation-kept : (o : Operators) → 2 ≤ r .count → generation o r .selection .kept ≡ selected r .kept
   unfolding generation generationOf
   generation-kept o h = rw (le-ltb (r .count) 2 h)
 
@@ -93,9 +93,9 @@ module _ (r : Request) (words : (p : ℕ) → InWords (r .plans p)) where
         bounds = bounds;
       }
     where
-      go : stepRefusal o r (roomOf entry) (length offspring) ≡ none → Demand3 r (generation o r .kept)
+      go : stepRefusal o r (roomOf entry) (length offspring) ≡ none → Demand3 r (generation o r .selection .kept)
           → Demand3 r (handedOut (stepOf o r entry offspring .answer .outcome) (stepOf o r entry offspring .slices .kept))
-      go e d = rw e (subst (Demand3 r) (sym (over-take (generation o r .kept) (entry .kept) (length (generation o r .kept)) refl)) d)
+      go e d = rw e (subst (Demand3 r) (sym (over-take (generation o r .selection .kept) (entry .kept) (length (generation o r .selection .kept)) refl)) d)
 
 -- ---- `sample`
 
@@ -108,7 +108,7 @@ module _ (st : State) (history : List ℕ) (ok : SessionOk st) where
   request-divisions = rw request-objectives (ok .config .divisions)
 
 pub sample-demand3 : (st : State) (d : Distribution) (plan : ℕ) (history : List ℕ) → SessionOk st → sampleRefusal st d plan history ≡ none → breeds st history ≡ true
-    → Demand3 (requestOf st history) (generation (operatorsOf (st .session)) (requestOf st history) .kept)
+    → Demand3 (requestOf st history) (generation (operatorsOf (st .session)) (requestOf st history) .selection .kept)
 sample-demand3 st d plan history ok e bred =
     subst (Demand3 r) (sym (generation-kept r words (operatorsOf (st .session)) (omega (arith, ok .config .atLeast4))))
     (demand3 r (word-accepted r words (ok .config .directions) (request-divisions st history ok) pool) (omega arith))

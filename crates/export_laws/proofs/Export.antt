@@ -23,7 +23,7 @@ unfolding selectOf selectAccepted
 select-kept q at h = rw h (ap outcome.Kept (kept-length q))
 
 step-kept : (o : Operators) (q : Request) (at : Lent) (old : List ℕ) → stepRefusal o q (roomOf at) (length old) ≡ none
-    → stepOf o q at old .answer .outcome ≡ outcome.Kept (length (generation o q .kept))
+    → stepOf o q at old .answer .outcome ≡ outcome.Kept (length (generation o q .selection .kept))
 unfolding stepOf stepAccepted
 step-kept o q at old h = rw h refl
 
@@ -39,10 +39,10 @@ select-coded q at e n s h =
 
 module _ (p : Operators) (q : Request) (at : Lent) (old : List ℕ) (e : StepExit) (n k before : ℕ) (s : Steps p q at old e)
     (i : k ≡ keptOf (e .answer .outcome) before) (h : n ≡ codeOf (e .answer .outcome)) where
-  outcome-kept : stepRefusal p q (roomOf at) (length old) ≡ none → e .answer .outcome ≡ outcome.Kept (length (generation p q .kept))
+  outcome-kept : stepRefusal p q (roomOf at) (length old) ≡ none → e .answer .outcome ≡ outcome.Kept (length (generation p q .selection .kept))
   outcome-kept a = ap (λ (x : StepExit). x .answer .outcome) (s .whole) ∙ step-kept p q at old a
 
-  length-kept : stepRefusal p q (roomOf at) (length old) ≡ none → length (generation p q .kept) ≡ k
+  length-kept : stepRefusal p q (roomOf at) (length old) ≡ none → length (generation p q .selection .kept) ≡ k
   length-kept a = sym (i ∙ ap (λ x. keptOf x before) (outcome-kept a))
 
   step-promise : StepsWords p q at old before (steppedAs n k e)

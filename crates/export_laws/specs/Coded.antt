@@ -161,7 +161,7 @@ pub record SamplesWords (ws ds : List ℕ) (plan : ℕ) (history cs ps ns : List
   pub demand3 : sessionWidth ≤ length ws → sampleRefusal (state (sessionOf ws) cs ps ns) (dimensionAt ds 0) plan history ≡ none
       → breeds (state (sessionOf ws) cs ps ns) history ≡ true
       → Demand3 (requestOf (state (sessionOf ws) cs ps ns) history)
-      (generation (operatorsOf (sessionOf ws)) (requestOf (state (sessionOf ws) cs ps ns) history) .kept)
+      (generation (operatorsOf (sessionOf ws)) (requestOf (state (sessionOf ws) cs ps ns) history) .selection .kept)
 
 -- ---- the choice for a pool file
 

@@ -20,9 +20,9 @@ use Rattle.model.specs.Row.{rowBeats}
 use Rattle.model.specs.Front.{frontOf}
 use Rattle.model.specs.Association.{Request}
 use Rattle.model.specs.Kept.{selected}
-use Rattle.model.specs.Setting.{Operators, wordsOf, WordsWithin, sampleCandidates, sortByParam, extract, parentsOf, bredOf, rankIn, rankOf, generationOf, generationOfOne, byPool, generation}
+use Rattle.model.specs.Setting.{Operators, wordsOf, WordsWithin, sampleCandidates, parentIn, parentsOf, bredOf, rankIn, rankOf, generationOf, generationOfOne, byPool, generation}
 use Rattle.model.specs.Refusal.{badDimensions, stepRefusal}
-use Rattle.model.specs.Calls.{wordRequest, Lent, lent, roomOf, SelectExit, answered, selectAccepted, selectBy, selectOf, Selects, StepExit, stepExit, stepAccepted, stepBy, stepOf, Steps, generationExit}
+use Rattle.model.specs.Calls.{wordRequest, Lent, roomOf, SelectExit, answered, selectAccepted, selectBy, selectOf, Selects, StepExit, stepExit, stepAccepted, stepBy, stepOf, Steps, generationExit, laid}
 use Rattle.demand3_laws.proofs.Passed.{passed, one-to-1024}
 use Rattle.demand3_laws.proofs.Calls.{planAt-row, steps}
 use Rattle.candidate_laws.proofs.Sound.{AllHeld}
@@ -82,7 +82,7 @@ module _ (o : Operators) (pool directions : List ℕ) (divisions size : ℕ) (g 
       bred-generation =
           let taken : take size (x .slices .kept) ≡ selected r .kept = ap (take size) kept-is ∙ over-take (selected r .kept) (at .kept) size (kept-length r) in
           let ps = parentsOf (o .dims) (o .dimCount) (planAt pool) (selected r .kept) (selected r .state) in
-          let z : length (ps .value) ≡ size = drawAll-length (λ i parents. extract (o .dims) (o .dimCount) (sortByParam (planAt pool (getD (selected r .kept) i 0) .settings))) (length (selected r .kept)) (selected r .state) ∙ kept-length r in
+          let z : length (ps .value) ≡ size = drawAll-length (parentIn (o .dims) (o .dimCount) (planAt pool) (selected r .kept)) (length (selected r .kept)) (selected r .state) ∙ kept-length r in
           let some : 0 < size = one-to-1024 size (passed o r (roomOf at) (length old) refused .size) .0 in
           ap₂ (λ k s. bredOf o (planAt pool) (rankIn directions (planAt pool) (planCount pool) (x .slices .kept)) k size s) taken state-is
           ∙ offspring-same o (ps .value) (rankIn directions (planAt pool) (planCount pool) (x .slices .kept)) (rankIn directions (planAt pool) (planCount pool) (selected r .kept)) (omega arith)
@@ -97,8 +97,7 @@ module _ (o : Operators) (pool directions : List ℕ) (divisions size : ℕ) (g 
           ap₂ (λ s w. kept-exit size s (x .ideal) (x .slices) w)
           (q ∙ ap (λ (d : Drawn (List (List ParamValue))). d .state) bred-generation) (f ∙ ap (λ (d : Drawn (List (List ParamValue))). over (wordsOf (d .value)) old) bred-generation)
           ∙ ap (λ (y : SelectExit). kept-exit size (generationOf o r .state) (y .ideal) (y .slices) (over (wordsOf (generationOf o r .offspring)) old)) e
-          ∙ ap (λ n. kept-exit n (generationOf o r .state) (selected r .ideal)
-          (lent (over (selected r .kept) (at .kept)) (over (selected r .fronts) (at .fronts)) (over (selected r .lines) (at .lines)))
+          ∙ ap (λ n. kept-exit n (generationOf o r .state) (selected r .ideal) (laid (selected r) at)
           (over (wordsOf (generationOf o r .offspring)) old)) (sym (kept-length r))
           ∙ ap (λ b. generationExit (byPool b o r) at old) (sym (le-ltb (planCount pool) 2 two))
 

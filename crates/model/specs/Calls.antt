@@ -24,7 +24,7 @@ use Rattle.model.specs.declared.Chosen.the-variants as chosen
 use Rattle.model.specs.Lists.{over}
 use Rattle.model.specs.Plan.{planAt, planCount}
 use Rattle.model.specs.Association.{Request}
-use Rattle.model.specs.Kept.{selected}
+use Rattle.model.specs.Kept.{Selected, selected}
 use Rattle.model.specs.Demand3.{Demand3}
 use Rattle.model.specs.Setting.{Operators, Generation, generation, wordsOf, WordsWithin}
 use Rattle.model.specs.Session.{State, Answered, given, opened, blank, accepted, state, breeds, requestOf, operatorsOf}
@@ -97,14 +97,14 @@ selectExit answer ideal slices = record { answer = answer; ideal = ideal; slices
 abbrev pub answered : Outcome → ℕ → Selection
 answered o s = record { outcome = o; rng = record { s = s } }
 
--- what a kept list and the plans' fronts and lines leave in the lent slices
-abbrev pub laid : List ℕ → List ℕ → List ℕ → Lent → Lent
-laid kept fronts lines at = lent (over kept (at .kept)) (over fronts (at .fronts)) (over lines (at .lines))
+-- what a selection leaves in the lent slices
+abbrev pub laid : Selected → Lent → Lent
+laid sel at = lent (over (sel .kept) (at .kept)) (over (sel .fronts) (at .fronts)) (over (sel .lines) (at .lines))
 
 unfoldable pub selectAccepted : Request → Lent → SelectExit
 selectAccepted r at =
     let sel = selected r in
-    selectExit (answered (outcome.Kept (length (sel .kept))) (sel .state)) (sel .ideal) (laid (sel .kept) (sel .fronts) (sel .lines) at)
+    selectExit (answered (outcome.Kept (length (sel .kept))) (sel .state)) (sel .ideal) (laid sel at)
 
 abbrev pub selectBy : Option ℕ → Request → Lent → SelectExit
 selectBy none r at = selectAccepted r at
@@ -133,8 +133,8 @@ stepExit answer ideal slices offspring = record { answer = answer; ideal = ideal
 -- what a generation leaves in the lent slices
 abbrev pub generationExit : Generation → Lent → List ℕ → StepExit
 generationExit g at offspring =
-    stepExit (answered (outcome.Kept (length (g .kept))) (g .state)) (g .ideal)
-    (laid (g .kept) (g .fronts) (g .lines) at) (over (wordsOf (g .offspring)) offspring)
+    let sel = g .selection in
+    stepExit (answered (outcome.Kept (length (sel .kept))) (g .state)) (sel .ideal) (laid sel at) (over (wordsOf (g .offspring)) offspring)
 
 unfoldable pub stepAccepted : Operators → Request → Lent → List ℕ → StepExit
 stepAccepted o r at offspring = generationExit (generation o r) at offspring
@@ -195,7 +195,7 @@ pub record Samples (st : State) (d : Distribution) (plan : ℕ) (history : List 
   pub refused : samplingRefusedBy (exit .answer) ≡ sampleRefusal st d plan history
   pub keeps : SessionOk (exit .after)
   pub demand3 : sampleRefusal st d plan history ≡ none → breeds st history ≡ true
-      → Demand3 (requestOf st history) (generation (operatorsOf (st .session)) (requestOf st history) .kept)
+      → Demand3 (requestOf st history) (generation (operatorsOf (st .session)) (requestOf st history) .selection .kept)
 
 -- ---- `choose`
 

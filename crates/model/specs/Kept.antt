@@ -1,7 +1,7 @@
 -- Document 01, "Kept list".
 use Prim.Native.Nat.{ℕ, zero, suc, _-_, _^_}
 use mathlib.Core.Bool.{Bool, true, false, not, _&&_}
-use mathlib.Core.List.{List, _++_, map}
+use mathlib.Core.List.{List, [], _++_, map}
 use lib.Dec.{eqb, leb, ltb}
 use lib.Ieee.{Float, lt}
 use lib.ListN.{length, getD, replicate}
@@ -102,6 +102,10 @@ pub record Selected : Type 0 where
   pub lines : List ℕ
   pub ideal : List Float
   pub state : ℕ
+
+-- where nothing is selected: no list, and ideal and generator as they were
+abbrev pub unselected : Request → Selected
+unselected r = record { kept = []; fronts = []; lines = []; ideal = r .ideal; state = r .state }
 
 -- where a front is split, its open places are filled, the ideal moves and every plan has a line
 unfoldable pub selectedSplit : Request → Selected

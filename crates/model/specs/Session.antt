@@ -272,7 +272,7 @@ unfoldable pub breed : State → List ℕ → State
 breed st history =
     let s = st .session in
     let g = generation (operatorsOf s) (requestOf st history) in
-    state (bredSession s (g .state) (over (g .ideal) (s .«ideal_point»))) (over (wordsOf (g .offspring)) (st .candidates)) (st .plans) (st .nextDims)
+    state (bredSession s (g .state) (over (g .selection .ideal) (s .«ideal_point»))) (over (wordsOf (g .offspring)) (st .candidates)) (st .plans) (st .nextDims)
 
 -- ---- which of these a call does
 

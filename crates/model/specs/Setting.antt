@@ -26,7 +26,7 @@ use Rattle.model.specs.Plan.{Plan, Setting}
 use Rattle.model.specs.Row.{rowBeats}
 use Rattle.model.specs.Front.{frontOf}
 use Rattle.model.specs.Association.{Request}
-use Rattle.model.specs.Kept.{selected}
+use Rattle.model.specs.Kept.{Selected, selected, unselected}
 
 -- ---- settings as words
 
@@ -389,12 +389,9 @@ broods o parents ranks k s = inTurn withBoth [] (λ i born. brood o parents rank
 unfoldable pub offspringOf : Operators → List (List ParamValue) → (ℕ → ℕ) → ℕ → ℕ → Drawn (List (List ParamValue))
 offspringOf o parents ranks size s = let b = broods o parents ranks ((size + 1) / 2) s in drawn (take size (b .value)) (b .state)
 
--- what a generation step hands out: a selection's lists and ideal, and the new candidates
+-- what a generation step hands out: what its selection does, the new candidates, and the generator's state after them
 pub record Generation : Type 0 where
-  pub kept : List ℕ
-  pub fronts : List ℕ
-  pub lines : List ℕ
-  pub ideal : List Float
+  pub selection : Selected
   pub offspring : List (List ParamValue)
   pub state : ℕ
 
@@ -414,13 +411,13 @@ unfoldable pub generationOf : Operators → Request → Generation
 generationOf o r =
     let sel = selected r in
     let off = bredOf o (r .plans) (rankOf r (sel .kept)) (sel .kept) (r .size) (sel .state) in
-    record { kept = sel .kept; fronts = sel .fronts; lines = sel .lines; ideal = sel .ideal; offspring = off .value; state = off .state }
+    record { selection = sel; offspring = off .value; state = off .state }
 
 -- "A pool of one plan breeds nothing: every setting of the size new candidates is drawn." It selects nothing either.
 unfoldable pub generationOfOne : Operators → Request → Generation
 generationOfOne o r =
     let off = sampleCandidates (o .dims) (o .dimCount) (r .size) (r .state) in
-    record { kept = []; fronts = []; lines = []; ideal = r .ideal; offspring = off .value; state = off .state }
+    record { selection = unselected r; offspring = off .value; state = off .state }
 
 abbrev pub byPool : Bool → Operators → Request → Generation
 byPool true o r = generationOfOne o r

@@ -40,7 +40,7 @@ module _ (r : Request) (whole : r .size ≡ r .count) where
   unfolding selected selectedWhole
   whole-ideal = rw whole-pool
 
-  pub generation-ideal : (o : Operators) → 2 ≤ r .count → generation o r .ideal ≡ r .ideal
+  pub generation-ideal : (o : Operators) → 2 ≤ r .count → generation o r .selection .ideal ≡ r .ideal
   unfolding generation generationOf
   generation-ideal o two = rw (le-ltb (r .count) 2 two) whole-ideal
 
