@@ -1,6 +1,6 @@
 -- The least is at most every value that is looked at, and the greatest at least, where none is a NaN.
 use Prim.Native.Nat.{ℕ, _<_}
-use mathlib.Core.Bool.{Bool, true, not}
+use mathlib.Core.Bool.{true, not}
 use lib.Dec.{T}
 use lib.Ieee.{Float, inf, lt, le, isNan}
 use Rattle.model.specs.Association.{leastFrom, greatest}

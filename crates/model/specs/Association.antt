@@ -1,7 +1,7 @@
 -- Document 01, "Association": the ideal, the intercepts, the normalised rows, the distances and the nearest lines of a pool.
 use Prim.Native.Nat.{ℕ}
 use mathlib.Core.Bool.{Bool, true, cond}
-use mathlib.Core.List.{List, []}
+use mathlib.Core.List.{List}
 use lib.Ieee.{Float, nan, inf, binary64, lt, ofBits}
 use lib.ListN.{length, getD}
 use Rattle.model.specs.Lists.{bestFrom}

@@ -1,10 +1,9 @@
 -- The kept list of any request has the size wanted, and the fronts handed out are the pool's.
-use Prim.Native.Nat.{suc, _≤_}
+use Prim.Native.Nat.{_≤_}
 use mathlib.Core.Path.{_≡_, refl}
 use native.Mathlib.Omega.{arith}
-use lib.Dec.{ltb}
 use lib.ListN.{length, length-append}
-use Rattle.model.specs.Front.{listing, frontList, front}
+use Rattle.model.specs.Front.{frontList, front}
 use Rattle.model.specs.Association.{Request, dominance}
 use Rattle.model.specs.Kept.{Selected, wholeFronts, before, isSplit, filled, selectedSplit, selectedWhole, selected, exceedsSize}
 use Rattle.list_laws.proofs.Rows.{joinBelow-fits}

@@ -1,12 +1,12 @@
 -- The search of `auto_divisions`: the first number of divisions whose point count reaches the target. Assumes nothing.
 use Prim.Native.Nat.{ℕ, suc, _+_, _-_, _≤_, _<_}
 use mathlib.Core.Path.{_≡_, sym, subst}
-use mathlib.Core.Bool.{Bool, false, cond}
+use mathlib.Core.Bool.{false, cond}
 use mathlib.Core.Logic.{_⊎_, inl, inr, ⊎-elim}
 use native.Mathlib.Nat.{eq-or-lt-of-le}
 use native.Mathlib.Omega.{arith}
 use borrow.Author.Tests.{lt-leb, le-leb, lt-ltb, leb-true, leb-false}
-use lib.Dec.{leb, ltb}
+use lib.Dec.{ltb}
 use Rattle.model.specs.Lists.{firstBelow}
 use Rattle.model.specs.Reference.{pointCount, autoDivisions, reaches}
 use Rattle.list_laws.proofs.First.{firstBelow-none, firstBelow-le, firstBelow-no, firstBelow-at, firstBelow-passes, firstBelow-before}
