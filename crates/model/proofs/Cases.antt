@@ -42,41 +42,42 @@ unfolding flatten add sub mul div lt le eq ofBits ofInt neg Deb.undominatedOfRes
     Refusal.sampleRefusal Refusal.fileRefusal Refusal.chooseRefusal Calls.selectAccepted Calls.selectOf Calls.stepAccepted Calls.stepOf Calls.openOf
     Calls.sampleOf Calls.chooseOf Calls.printed Cases.planWith Cases.requestWith Cases.fileOf Cases.exampleFile Cases.spanOfOne Cases.nearTie
     Cases.freedLater Cases.betterButInfeasible Cases.example
-both =
-    (record {
-      p1 = refl;
-      p2 = refl;
-      p3-reached = refl;
-      p3-missed = refl;
-      p4 = refl;
-      p4-count = refl;
-      p4-lines = refl;
-      p5 = refl;
-      p6-first = refl;
-      p6-second = refl;
-      p6-zero = refl;
-      p7 = refl;
-      p8 = refl;
-      p8-below = refl;
-      p9 = refl;
-      p10 = refl;
-      p11 = refl;
-      p12 = refl;
-    },
-    record {
-      byRoots = refl;
-      bySquares = refl;
-      asFreed = refl;
-      byIndex = refl;
-      rankByRows = refl;
-      rankByRows-other = refl;
-      rankConstrained = refl;
-      rankConstrained-other = refl;
-      oneLine = refl;
-      oneDraw = refl;
-      byParameter = refl;
-      asTheyArrive = refl;
-    })
+both = (
+  record {
+    p1 = refl;
+    p2 = refl;
+    p3-reached = refl;
+    p3-missed = refl;
+    p4 = refl;
+    p4-count = refl;
+    p4-lines = refl;
+    p5 = refl;
+    p6-first = refl;
+    p6-second = refl;
+    p6-zero = refl;
+    p7 = refl;
+    p8 = refl;
+    p8-below = refl;
+    p9 = refl;
+    p10 = refl;
+    p11 = refl;
+    p12 = refl;
+  },
+  record {
+    byRoots = refl;
+    bySquares = refl;
+    asFreed = refl;
+    byIndex = refl;
+    rankByRows = refl;
+    rankByRows-other = refl;
+    rankConstrained = refl;
+    rankConstrained-other = refl;
+    oneLine = refl;
+    oneDraw = refl;
+    byParameter = refl;
+    asTheyArrive = refl;
+  },
+)
 
 -- THE P CASES, one theorem
 pub p-cases : Cases.PCases

@@ -1,6 +1,6 @@
 // The plans of a lent slice of words as flat lists: rows in minimise-space one after the other, and whether each plan is feasible and its violation sum.
-use model::CONSTRAINTS;
 use model::CONSTRAINT_COUNT;
+use model::CONSTRAINTS;
 use model::MAX_CONSTRAINTS;
 use model::PLAN_WORDS;
 use model::VALUES;

@@ -1,6 +1,6 @@
 // The plans of a pool file (document 01, "Pool file"), each laid out in its block of words.
-use model::CONSTRAINTS;
 use model::CONSTRAINT_COUNT;
+use model::CONSTRAINTS;
 use model::MAX_CONSTRAINTS;
 use model::MAX_PLANS;
 use model::PLAN_WORDS;
@@ -71,7 +71,14 @@ fn read_plan(file: &[u8], at: usize, m: usize, pool: &mut [u64], base: usize) ->
     let Read::Number(c, q) = read_number(file, p) else {
         return End::Broken;
     };
-    let End::At(next) = read_words(file, q, c as usize, MAX_CONSTRAINTS, pool, base + CONSTRAINTS) else {
+    let End::At(next) = read_words(
+        file,
+        q,
+        c as usize,
+        MAX_CONSTRAINTS,
+        pool,
+        base + CONSTRAINTS,
+    ) else {
         return End::Broken;
     };
     put_counts(pool, base, m as u64, c);

@@ -1,8 +1,8 @@
 // Runs document 01's cases beside the proved table: 2,048 plans of a generation are open and the next new number gets 11, until breeding frees all of them; and
 // a constraint of 2^1000 passes where the next double gets 8.
 use libc::STDOUT_FILENO;
-use model::CONSTRAINTS;
 use model::CONSTRAINT_COUNT;
+use model::CONSTRAINTS;
 use model::CategoricalDistribution;
 use model::DimensionInfo;
 use model::Distribution;
