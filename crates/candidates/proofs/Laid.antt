@@ -3,14 +3,14 @@ use mathlib.Core.Path.{_≡_, refl, sym, ap, subst, _∙_}
 use mathlib.Core.List.{List, [], _∷_, _++_, map, append-nil, flatten, map-append}
 use Prim.Native.Nat.{ℕ, _+_, _*_, _≤_}
 use native.Mathlib.Nat.{add-mul, one-mul, zero-mul}
-use native.Mathlib.Omega.{arith}
-use lib.ListN.{length, length-append}
+use lib.ListN.{length}
 use lib.Seq.{sets}
-use Rattle.list_laws.proofs.Built.{listBelow-length, over-length, map-below, over-run}
-use Rattle.list_laws.proofs.Draws.{inTurn-none, inTurn-more}
+use Rattle.list_laws.proofs.Built.{listBelow-length, map-below}
+use Rattle.list_laws.proofs.Draws.{drawAll-none, drawAll-more}
 use Rattle.list_laws.proofs.Rows.{flatten-append}
+use Rattle.list_laws.proofs.Written.{Written, written-on}
 use Rattle.model.specs.declared.ParamValue.{ParamValue}
-use Rattle.model.specs.Lists.{listBelow, over}
+use Rattle.model.specs.Lists.{listBelow}
 use Rattle.model.specs.Draw.{Drawn, drawn, drawAll}
 use Rattle.model.specs.Setting.{toWord, wordsOf}
 use Rattle.settings.specs.declared.Slot.{Slot}
@@ -35,34 +35,22 @@ pub words-one : (a : List ParamValue) → wordsOf (a ∷ []) ≡ map toWord a
 unfolding wordsOf flatten
 words-one a = append-nil (map toWord a)
 
-pub record LaidOut (old : List ℕ) (k : ℕ) (d : Drawn (List (List ParamValue))) (out : List ℕ) (t : ℕ) : Type 0 where
-  pub same : length out ≡ length old
-  pub words : length (wordsOf (d .value)) ≡ k
-  pub written : out ≡ over (wordsOf (d .value)) old
-  pub state : t ≡ d .state
+abbrev pub LaidOut : List ℕ → ℕ → Drawn (List (List ParamValue)) → List ℕ → ℕ → Type 0
+LaidOut old k d out t = Written wordsOf old k d out t
 
 pub laid-none : (old : List ℕ) (n s : ℕ) → LaidOut old (0 * n) (drawn [] s) old s
 unfolding wordsOf flatten
-laid-none old n s = record { same = refl; words = sym (zero-mul n); written = refl; state = refl }
+laid-none old n s = record { same = refl; count = sym (zero-mul n); written = refl; state = refl }
 
 pub laid-more : (old : List ℕ) (k : ℕ) (d : Drawn (List (List ParamValue))) (out : List ℕ) (t : ℕ) → LaidOut old k d out t
     → (cs : List (List ParamValue)) (w : ℕ) (out′ : List ℕ) (u : ℕ) → length (wordsOf cs) ≡ w → k + w ≤ length old → out′ ≡ sets out k (wordsOf cs)
     → LaidOut old (k + w) (drawn (d .value ++ cs) u) out′ u
-laid-more old k d out t h cs w out′ u z room e =
-    let count : length (wordsOf (d .value ++ cs)) ≡ k + w = ap length (words-append (d .value) cs) ∙ length-append (wordsOf (d .value)) (wordsOf cs) ∙ omega (arith, h .words) in
-    let put : out′ ≡ over (wordsOf (d .value ++ cs)) old = e ∙ ap (λ x. sets x k (wordsOf cs)) (h .written) ∙ over-run (wordsOf (d .value)) (wordsOf cs) old k (h .words) (omega arith)
-    ∙ ap (λ x. over x old) (sym (words-append (d .value) cs)) in
-    record {
-      same = ap length put ∙ over-length (wordsOf (d .value ++ cs)) old (omega (arith, count));
-      words = count;
-      written = put;
-      state = refl;
-    }
+laid-more old k d out t h cs w out′ u z room e = written-on wordsOf old k d out t h (wordsOf cs) w (drawn (d .value ++ cs) u) out′ (words-append (d .value) cs) z room e
 
 -- candidates drawn one after the other: none yet, and one more
 module _ (next : ℕ → List (List ParamValue) → ℕ → Drawn (List ParamValue)) (s : ℕ) (old : List ℕ) (n : ℕ) where
   pub laid-first : LaidOut old (0 * n) (drawAll next 0 s) old s
-  laid-first = subst (λ d. LaidOut old (0 * n) d old s) (sym (inTurn-none (λ cs c. cs ++ (c ∷ [])) [] next s)) (laid-none old n s)
+  laid-first = subst (λ d. LaidOut old (0 * n) d old s) (drawAll-none next s) (laid-none old n s)
 
   pub laid-next : (i : ℕ) (out : List ℕ) (t : ℕ) → LaidOut old (i * n) (drawAll next i s) out t → (v : List ParamValue) (u : ℕ) (out′ : List ℕ)
       → drawn v u ≡ next i (drawAll next i s .value) t → length (map toWord v) ≡ n → i * n + n ≤ length old → out′ ≡ sets out (i * n) (map toWord v)
@@ -71,5 +59,5 @@ module _ (next : ℕ → List (List ParamValue) → ℕ → Drawn (List ParamVal
       let so-far = drawAll next i s in
       let k : i * n + n ≡ (i + 1) * n = sym (add-mul i 1 n ∙ ap (λ m. i * n + m) (one-mul n)) in
       let m = laid-more old (i * n) so-far out t h (v ∷ []) n out′ u (ap length (words-one v) ∙ z) room (put ∙ ap (λ w. sets out (i * n) w) (sym (words-one v))) in
-      subst (λ x. LaidOut old ((i + 1) * n) x out′ u) (inTurn-more (λ cs c. cs ++ (c ∷ [])) [] next i s refl (e ∙ ap (next i (so-far .value)) (h .state)))
+      subst (λ x. LaidOut old ((i + 1) * n) x out′ u) (drawAll-more next i s refl (e ∙ ap (next i (so-far .value)) (h .state)))
       (subst (λ j. LaidOut old j (drawn (so-far .value ++ (v ∷ [])) u) out′ u) k m)

@@ -1,8 +1,8 @@
 // The reference lines of Das and Dennis (document 01, "Reference table"): the table itself.
 ghost use mathlib.Core.Path.{_≡_};
-ghost use mathlib.Core.List.{_++_, flatten};
+ghost use mathlib.Core.List.{flatten};
 ghost use Prim.Native.Nat.{_+_, _*_, _<_, _≤_};
-ghost use lib.ListN.{length, take, drop};
+ghost use lib.ListN.{length, take};
 ghost use Rattle.model.specs.Lists.{over};
 ghost use Rattle.model.specs.Reference.{pointCount, ratio, dasDennis};
 ghost use Rattle.reference_laws.specs.Rows.{rowsFrom};
@@ -18,7 +18,7 @@ fn coordinate(i: usize, h: usize) -> f64
 // The first n entries of a row, at the table's front.
 fn put_row(table: &mut [f64], row: [f64; 8], n: usize)
     requires { ⌜ (n ≤ 8) × (n ≤ length (now table)) ⌝ }
-    ensures { λ _. ⌜ now (table .exit) ≡ take n row ++ drop n (now (table .entry)) ⌝ }
+    ensures { λ _. ⌜ now (table .exit) ≡ over (take n row) (now (table .entry)) ⌝ }
 {
     for j in 0..n {
         table[j] = row[j];

@@ -7,7 +7,7 @@ use native.Mathlib.Omega.{arith}
 use lib.Dec.{ltb}
 use lib.ListN.{length}
 use borrow.Author.Tests.{ltb-true, ltb-false}
-use Rattle.model.specs.Front.{listing}
+use Rattle.model.specs.Front.{front, listing}
 use Rattle.model.specs.Association.{Request, dominance}
 use Rattle.model.specs.Draw.{inTurn}
 use Rattle.model.specs.Kept.{wholeFronts, before, isSplit, splitFront, filled, selectedSplit, selectedWhole, selected, exceedsSize}
@@ -16,7 +16,8 @@ use Rattle.demand3_laws.specs.Facts.{FrontFacts}
 use Rattle.list_laws.proofs.Below.{by-lt, neither-below}
 use Rattle.list_laws.proofs.Bools.{by-bool, and-left, and-right}
 use Rattle.list_laws.proofs.First.{firstBelow-le, firstBelow-passes}
-use Rattle.front_laws.proofs.Listings.{listing-grows, listing-up}
+use Rattle.list_laws.proofs.Rows.{joinBelow-up}
+use Rattle.front_laws.proofs.Listings.{listing-grows}
 use Rattle.front_laws.proofs.Order.{listing-length, listing-full}
 use Rattle.niching_laws.proofs.KeptLength.{before-le}
 
@@ -37,7 +38,7 @@ module _ (r : Request) where
   -- none of the whole fronts is split
   whole-not : (k : ℕ) → Split r k → k < wholeFronts r → ⊥
   unfolding before
-  whole-not k s h = omega (arith, before-le r, sizeOf-len (suc k), s .exceed, listing-up (dominance r) (r .count) (suc k) (wholeFronts r) h)
+  whole-not k s h = omega (arith, before-le r, sizeOf-len (suc k), s .exceed, joinBelow-up (front (dominance r) (r .count)) (suc k) (wholeFronts r) h)
 
   -- where a front is split
   module _ (split : isSplit r ≡ true) where
@@ -65,7 +66,7 @@ module _ (r : Request) where
           arith,
           next-exceeds split-inside,
           listing-grows (dominance r) (r .count) (wholeFronts r),
-          listing-up (dominance r) (r .count) (suc (wholeFronts r)) k l,
+          joinBelow-up (front (dominance r) (r .count)) (suc (wholeFronts r)) k l,
           sizeOf-len k,
           s .fallShort,
         ))
@@ -94,4 +95,4 @@ module _ (r : Request) where
     pub whole-none : (k : ℕ) → Split r k → ⊥
     unfolding before
     whole-none k s = by-lt k (wholeFronts r) (whole-not k s)
-        (λ l. omega (arith, whole-fill, sizeOf-len k, s .fallShort, listing-up (dominance r) (r .count) (wholeFronts r) k l))
+        (λ l. omega (arith, whole-fill, sizeOf-len k, s .fallShort, joinBelow-up (front (dominance r) (r .count)) (wholeFronts r) k l))

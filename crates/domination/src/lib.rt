@@ -3,8 +3,8 @@ ghost use mathlib.Core.Path.{_≡_};
 ghost use Prim.Native.Nat.{_+_, _*_, _≤_};
 ghost use lib.ListN.{length};
 ghost use Rattle.model.specs.Lists.{one};
-ghost use Rattle.model.specs.Row.{directionOf, toMinimize, feasible, violation, dominates};
-ghost use Rattle.front_laws.specs.Flat.{rowAt, flatBeats, Within};
+ghost use Rattle.model.specs.Row.{directionOf, toMinimize, feasible, violation};
+ghost use Rattle.front_laws.specs.Flat.{flatDominates, flatBeats, Within};
 
 // A maximised value is negated; the mark is 0 to minimise, 1 to maximise.
 pub fn to_minimize(value: f64, direction: u8) -> f64
@@ -16,7 +16,7 @@ pub fn to_minimize(value: f64, direction: u8) -> f64
 // Row p is nowhere worse than row q, and somewhere better.
 pub fn dominates(rows: &[f64], m: usize, p: usize, q: usize) -> bool
     requires { ⌜ (p * m + m ≤ length (now rows)) × (q * m + m ≤ length (now rows)) ⌝ }
-    ensures { λ r. ⌜ r ≡ dominates m (rowAt (now (rows .entry)) m p) (rowAt (now (rows .entry)) m q) ⌝ }
+    ensures { λ r. ⌜ r ≡ flatDominates (now (rows .entry)) m p q ⌝ }
 {
     let a = p * m;
     let b = q * m;

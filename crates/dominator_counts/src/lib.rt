@@ -77,13 +77,7 @@ fn compare(
     }
     let u = violations[p];
     let v = violations[q];
-    if u < v {
-        return Winner::First;
-    }
-    if v < u {
-        return Winner::Second;
-    }
-    Winner::Neither
+    winner_of(u < v, v < u)
 }
 
 // Plan q beside the plans before it: raises the count of each that q dominates; how many of them dominate q.

@@ -39,7 +39,7 @@ module _ (d : ℕ → ℕ → Bool) (q : ℕ) (cs₀ : List ℕ) (p : ℕ) (cs :
   raising-neither l e f = record { counts = kept l f; result = uncounted e }
 
   pub raising-size : p ≤ length cs₀ → length cs ≡ length cs₀
-  raising-size l = ap length (h .counts) ∙ over-size _ p cs₀ l
+  raising-size l = over-size _ p cs cs₀ (h .counts) l
 
   -- both counts stay small
   pub raising-small : (n : ℕ) → Countable n q cs₀ → p < q → (c ≤ p) × (getD cs p 0 ≤ q)

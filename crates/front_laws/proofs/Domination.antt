@@ -1,13 +1,13 @@
--- Laws of the two dominations: irreflexive, asymmetric, transitive where no value is a NaN, and equal to the paper's.
+-- Laws of the two dominations: irreflexive, transitive where no value is a NaN, and equal to the paper's.
 use Prim.Native.Nat.{ℕ, _<_}
 use mathlib.Core.Path.{_≡_, refl, ap, sym, _∙_}
-use mathlib.Core.Bool.{Bool, true, false, false≢true, true≢false}
+use mathlib.Core.Bool.{Bool, true, false, not, _&&_, false≢true, true≢false}
 use mathlib.Core.Logic.{_↔_}
 use lib.Ieee.{Float, lt}
 use Rattle.model.specs.Lists.{anyBelow}
 use Rattle.model.specs.Papers.Deb2002.{Dominates}
 use Rattle.model.specs.Row.{dominates, byFeasibility}
-use Rattle.list_laws.proofs.Bools.{T-true, true-T, false-T, no-pass, and-not-left, and-not-right}
+use Rattle.list_laws.proofs.Bools.{T-true, true-T, false-T, by-bool, no-pass, and-right, and-not-left, and-no}
 use Rattle.list_laws.proofs.Tests.{anyBelow-at, anyBelow-some, anyBelow-each, anyBelow-nowhere, anyBelow-same}
 use Rattle.float_laws.proofs.Compared.{lt-trans, lt-self, lt-down, lt-past}
 use Rattle.float_laws.proofs.Order.{lt→nle, nlt→le}
@@ -22,7 +22,7 @@ dominates-nowhere m a b e = anyBelow-each _ m (and-not-left (anyBelow (λ j. lt 
 
 pub dominates-somewhere : (m : ℕ) (a b : ℕ → Float) → dominates m a b ≡ true → (j : ℕ) × (j < m) × (lt (a j) (b j) ≡ true)
 unfolding dominates
-dominates-somewhere m a b e = anyBelow-some _ m (and-not-right (anyBelow (λ j. lt (b j) (a j)) m) (anyBelow (λ j. lt (a j) (b j)) m) e)
+dominates-somewhere m a b e = anyBelow-some _ m (and-right (not (anyBelow (λ j. lt (b j) (a j)) m)) (anyBelow (λ j. lt (a j) (b j)) m) e)
 
 pub dominates-by : (m : ℕ) (a b : ℕ → Float) → ((j : ℕ) → j < m → lt (b j) (a j) ≡ false) → (j : ℕ) → j < m → lt (a j) (b j) ≡ true
     → dominates m a b ≡ true
@@ -50,8 +50,8 @@ dominates-same m a a' b b' h k =
     let y = anyBelow-same (λ j. lt (a j) (b j)) (λ j. lt (a' j) (b' j)) m (λ j l. ap (λ v. lt v (b j)) (h j l) ∙ ap (lt (a' j)) (k j l)) in
     rw (x, y)
 
-pub dominates-asymmetric : (m : ℕ) (a b : ℕ → Float) → dominates m a b ≡ true → dominates m b a ≡ false
-dominates-asymmetric m a b e = let r = dominates-somewhere m a b e in dominates-worse m b a (r .0) (r .1) (r .2)
+dominates-irreflexive : (m : ℕ) (a : ℕ → Float) → dominates m a a ≡ false
+dominates-irreflexive m a = no-pass (dominates m a a) (λ e. let r = dominates-somewhere m a a e in true≢false (sym (r .2) ∙ lt-self (a (r .0))))
 
 pub dominates-transitive : (m : ℕ) (a b c : ℕ → Float) → Known m b → Known m c
     → dominates m a b ≡ true → dominates m b c ≡ true → dominates m a c ≡ true
@@ -78,15 +78,13 @@ dominates-paper m a b ka kb = (
 
 -- ---- the constraint rule
 
-pub rule-asymmetric : (m : ℕ) (fa fb : Bool) (va vb : Float) (a b : ℕ → Float) → byFeasibility fa fb (lt va vb) (dominates m a b) ≡ true
-    → byFeasibility fb fa (lt vb va) (dominates m b a) ≡ false
-rule-asymmetric m true true va vb a b e = dominates-asymmetric m a b e
-rule-asymmetric m true false va vb a b e = refl
-rule-asymmetric m false true va vb a b e = absurd (false≢true e)
-rule-asymmetric m false false va vb a b e = lt-down vb vb va (lt-self vb) e
+-- of two violation sums at most one is the smaller
+pub alone : (x y : Float) → (not (lt y x) && lt x y) ≡ lt x y
+alone x y = by-bool (lt x y) (λ e. ap (λ b. not b && lt x y) (lt-down y y x (lt-self y) e)) (λ e. and-no (not (lt y x)) (lt x y) e ∙ sym e)
 
 pub rule-irreflexive : (m : ℕ) (f : Bool) (v : Float) (a : ℕ → Float) → byFeasibility f f (lt v v) (dominates m a a) ≡ false
-rule-irreflexive m f v a = no-pass _ (λ e. true≢false (sym e ∙ rule-asymmetric m f f v v a a e))
+rule-irreflexive m true v a = dominates-irreflexive m a
+rule-irreflexive m false v a = lt-self v
 
 rule-transitive : (m : ℕ) (fa fb fc : Bool) (va vb vc : Float) (a b c : ℕ → Float) → Known m b → Known m c
     → byFeasibility fa fb (lt va vb) (dominates m a b) ≡ true → byFeasibility fb fc (lt vb vc) (dominates m b c) ≡ true

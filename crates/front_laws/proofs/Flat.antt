@@ -12,7 +12,7 @@ use Rattle.front_laws.specs.Strict.{Strict}
 use Rattle.front_laws.proofs.Same.{Agree}
 use Rattle.list_laws.proofs.Rows.{row-inside}
 use Rattle.front_laws.specs.Flat.{rowAt, flatDominates, flatBeats, Pool, Within, KnownRows, RowsOf, FlatOf}
-use Rattle.front_laws.proofs.Domination.{dominates-same, rule-irreflexive, rule-asymmetric, rule-strict}
+use Rattle.front_laws.proofs.Domination.{dominates-same, rule-irreflexive, rule-strict}
 
 pub flatDominates-rowBeats : (marks : List ℕ) (plans : ℕ → Plan) (n : ℕ) (rows : List Float)
     → RowsOf marks plans n rows → Agree (flatDominates rows (length marks)) (rowBeats marks plans) n
@@ -37,12 +37,6 @@ flatBeats-rows rows m flags sums n h p q lp lq = rw (h p lp, h q lq)
 pub flatBeats-self : (rows : List Float) (m : ℕ) (flags : List Bool) (sums : List Float) (p : ℕ) → flatBeats rows m flags sums p p ≡ false
 unfolding flatBeats
 flatBeats-self rows m flags sums p = rule-irreflexive m (getD flags p false) (getD sums p nan) (rowAt rows m p)
-
-pub flatBeats-asymmetric : (rows : List Float) (m : ℕ) (flags : List Bool) (sums : List Float) (p q : ℕ) → flatBeats rows m flags sums p q ≡ true
-    → flatBeats rows m flags sums q p ≡ false
-unfolding flatBeats
-flatBeats-asymmetric rows m flags sums p q =
-    rule-asymmetric m (getD flags p false) (getD flags q false) (getD sums p nan) (getD sums q nan) (rowAt rows m p) (rowAt rows m q)
 
 pub flatBeats-strict : (rows : List Float) (m : ℕ) (flags : List Bool) (sums : List Float) (n : ℕ) → KnownRows rows m n → Strict (flatBeats rows m flags sums) n
 unfolding flatBeats

@@ -3,7 +3,6 @@ use Prim.Native.Nat.{ℕ, suc, _+_, _≤_}
 use mathlib.Core.Path.{_≡_, refl, ap, _∙_}
 use mathlib.Core.Bool.{Bool}
 use mathlib.Core.List.{_++_}
-use native.Mathlib.Omega.{arith}
 use lib.ListN.{length, take, length-append}
 use lib.Seq.{take-at}
 use Rattle.model.specs.Front.{front, listing}
@@ -21,9 +20,6 @@ module _ (d : ℕ → ℕ → Bool) (n : ℕ) where
 
   pub listing-grows : (k : ℕ) → length (listing d n (suc k)) ≡ length (listing d n k) + length (front d n k)
   listing-grows k = ap length (listing-more k) ∙ length-append (listing d n k) (front d n k)
-
-  pub listing-up : (k j : ℕ) → k ≤ j → length (listing d n k) ≤ length (listing d n j)
-  listing-up k j h = let r = joinBelow-begins (front d n) k j h in omega (arith, ap length (r .1), length-append (listing d n k) (r .0))
 
   pub listing-take : (k j : ℕ) → k ≤ j → take (length (listing d n k)) (listing d n j) ≡ listing d n k
   listing-take k j h = let r = joinBelow-begins (front d n) k j h in ap (take (length (listing d n k))) (r .1) ∙ take-at (listing d n k) (r .0) (length (listing d n k)) refl

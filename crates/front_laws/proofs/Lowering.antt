@@ -9,10 +9,10 @@ use borrow.Author.Tests.{eq-eqb, ne-eqb, eqb-true, eqb-false, lt-ltb, le-ltb}
 use lib.Dec.{eqb, ltb}
 use Rattle.model.specs.Front.{lower, freed, lowerAll, freedAll}
 use Rattle.model.specs.Lists.{one, tally, In}
-use Rattle.list_laws.specs.Occ.{occ, AllUnder}
+use Rattle.list_laws.specs.Occ.{occ, Below}
 use Rattle.list_laws.proofs.Bools.{by-bool}
-use Rattle.list_laws.proofs.Kept.{keepBelow-same, keepBelow-under, keepBelow-occ}
-use Rattle.list_laws.proofs.Members.{tally-nil, tally-cons, occ-nil, occ-append}
+use Rattle.list_laws.proofs.Kept.{keepBelow-same, keepBelow-below, keepBelow-occ}
+use Rattle.list_laws.proofs.Members.{tally-nil, tally-cons, occ-nil, occ-append, below-none, below-append}
 
 -- the members of a list lower a count by as many of them as dominate the plan
 pub lowerAll-count : (d : ℕ → ℕ → Bool) (l : List ℕ) (counts : ℕ → ℕ) (q : ℕ) → lowerAll d l counts q ≡ counts q - tally (λ p. d p q) l
@@ -65,12 +65,10 @@ pub occ-freed : (d : ℕ → ℕ → Bool) (n p : ℕ) (counts : ℕ → ℕ) (q
 unfolding freed
 occ-freed d n p counts q l = keepBelow-occ _ n q l
 
-pub freedAll-below : (d : ℕ → ℕ → Bool) (n : ℕ) (l : List ℕ) (counts : ℕ → ℕ) → AllUnder n (freedAll d n l counts)
+pub freedAll-below : (d : ℕ → ℕ → Bool) (n : ℕ) (l : List ℕ) (counts : ℕ → ℕ) → Below n (freedAll d n l counts)
 unfolding freedAll freed
-freedAll-below d n [] counts q h = occ-nil q
-freedAll-below d n (p ∷ ps) counts q h =
-    occ-append q (freed d n p counts) (freedAll d n ps (lower d p counts))
-    ∙ omega (arith, keepBelow-under (λ q. d p q && eqb (lower d p counts q) 0) n q h, freedAll-below d n ps (lower d p counts) q h)
+freedAll-below d n [] counts = below-none n
+freedAll-below d n (p ∷ ps) counts = below-append n (freed d n p counts) _ (keepBelow-below _ n) (freedAll-below d n ps (lower d p counts))
 
 -- a count is met by a number of dominators: it was not zero, and is that number
 abbrev pub met : ℕ → ℕ → Bool

@@ -13,10 +13,10 @@ use Rattle.model.specs.Front.{front, listing}
 use Rattle.model.specs.Lists.{one, countBelow, joinBelow}
 use Rattle.model.specs.Papers.Deb2002.{inFirst, inFront}
 use Rattle.list_laws.proofs.Below.{later, by-lt, neither-below}
-use Rattle.list_laws.specs.Occ.{occ, AllUnder, Exactly}
-use Rattle.list_laws.proofs.Bools.{by-bool, no-pass, and-not-left, and-not-right, and-no}
+use Rattle.list_laws.specs.Occ.{occ, Below, Exactly}
+use Rattle.list_laws.proofs.Bools.{by-bool, no-pass, no-fail, and-right, and-not-left, and-no}
 use Rattle.list_laws.proofs.Counts.{countBelow-le, countBelow-mono, countBelow-less, countBelow-all, all-countBelow, some-countBelow, none-countBelow, left-countBelow}
-use Rattle.list_laws.proofs.Members.{occ-nil, occ-append, occ-empty, length-below, exactly-of}
+use Rattle.list_laws.proofs.Members.{occ-nil, occ-append, no-member, length-below, below-none, below-append, exactly-of}
 use Rattle.front_laws.specs.Strict.{Strict}
 use Rattle.front_laws.proofs.Rounds.{waiting, inFront-count, inFront-new, inFront-top, inFirst-more, found}
 
@@ -25,6 +25,10 @@ use Rattle.front_laws.proofs.Rounds.{waiting, inFront-count, inFront-ne
 -- a plan of an earlier front is of an earlier front still, later on
 pub inFirst-later : (d : ℕ → ℕ → Bool) (n k j q : ℕ) → k ≤ j → inFirst d n k q ≡ true → inFirst d n j q ≡ true
 inFirst-later d n k j q h e = later (λ t. inFirst d n t q ≡ true) (λ t. inFirst-more d n t q) k j h e
+
+-- so one of no earlier front was of none before
+not-yet : (d : ℕ → ℕ → Bool) (n k j q : ℕ) → k ≤ j → inFirst d n j q ≡ false → inFirst d n k q ≡ false
+not-yet d n k j q h e = no-pass (inFirst d n k q) (λ y. false≢true (sym e ∙ inFirst-later d n k j q h y))
 
 -- none of the rest dominates a member of the paper's front k
 pub inFront-undominated : (d : ℕ → ℕ → Bool) (n k q : ℕ) → inFront d n k q ≡ true → (p : ℕ) → p < n → inFirst d n k p ≡ false → d p q ≡ false
@@ -44,11 +48,10 @@ pub one-front : (d : ℕ → ℕ → Bool) (n k j q : ℕ) → inFront d n k q �
 one-front d n k j q a b = neither-below k j (earlier d n k j q a b) (earlier d n j k q b a)
 
 -- the first k fronts list each plan of theirs once, and no other
-pub listing-below : (d : ℕ → ℕ → Bool) (n k : ℕ) → AllUnder n (listing d n k)
+pub listing-below : (d : ℕ → ℕ → Bool) (n k : ℕ) → Below n (listing d n k)
 unfolding joinBelow
-listing-below d n zero q h = occ-nil q
-listing-below d n (suc k) q h =
-    omega (arith, occ-append q (listing d n k) (front d n k), listing-below d n k q h, found d n k .below q h)
+listing-below d n zero = below-none n
+listing-below d n (suc k) = below-append n (listing d n k) (front d n k) (listing-below d n k) (found d n k .below)
 
 pub listing-exact : (d : ℕ → ℕ → Bool) (n k q : ℕ) → q < n → occ q (listing d n k) ≡ one (inFirst d n k q)
 unfolding joinBelow inFirst
@@ -75,10 +78,17 @@ listing-full d n k h = listing-length d n k ∙ countBelow-all (inFirst d n k) n
 pub listing-room : (d : ℕ → ℕ → Bool) (n k : ℕ) → length (listing d n k) ≤ n
 listing-room d n k = omega (arith, listing-length d n k, countBelow-le (inFirst d n k) n)
 
+-- the plans of front k are those of the paper's front k, and the listing's those of its first k fronts: each once, and no other
+pub front-exactly : (d : ℕ → ℕ → Bool) (n k : ℕ) → Exactly (inFront d n k) n (front d n k)
+front-exactly d n k = exactly-of (inFront d n k) n (front d n k) (found d n k .below) (found d n k .exact)
+
+pub listing-exactly : (d : ℕ → ℕ → Bool) (n k : ℕ) → Exactly (inFirst d n k) n (listing d n k)
+listing-exactly d n k = exactly-of (inFirst d n k) n (listing d n k) (listing-below d n k) (listing-exact d n k)
+
 -- T3. no member of a front is dominated by a member of the same or of a later front
 pub not-dominated : (d : ℕ → ℕ → Bool) (n k j q p : ℕ) → k ≤ j → p < n → inFront d n k q ≡ true → inFront d n j p ≡ true → d p q ≡ false
 not-dominated d n k j q p h l a b =
-    inFront-undominated d n k q a p l (no-pass (inFirst d n k p) (λ y. false≢true (sym (inFront-new d n j p b) ∙ inFirst-later d n k j p h y)))
+    inFront-undominated d n k q a p l (not-yet d n k j p h (inFront-new d n j p b))
 
 -- ---- for a strict order
 
@@ -88,12 +98,13 @@ module _ (d : ℕ → ℕ → Bool) (n : ℕ) (s : Strict d n) where
   unfolding waiting
   fewer k p q lp lq e = countBelow-less (λ t. not (inFirst d n k t) && d t p) (λ t. not (inFirst d n k t) && d t q) n p
       (λ t l v. by-bool (inFirst d n k t) (λ y. absurd (false≢true (rw y at v)))
-      (λ y. rw y (s .transitive t p q l lp lq (rw y at v) (and-not-right (inFirst d n k p) (d p q) e))))
+      (λ y. rw y (s .transitive t p q l lp lq (rw y at v) (and-right (not (inFirst d n k p)) (d p q) e))))
       lp (and-no (not (inFirst d n k p)) (d p p) (s .irreflexive p lp)) e
 
-  over : (t p q : ℕ) → t < n → p < n → q < n → d p q ≡ true → (t ≡ p) ⊎ (d t p ≡ true) → d t q ≡ true
-  over t p q lt lp lq g (inl e) = ap (λ x. d x q) e ∙ g
-  over t p q lt lp lq g (inr e) = s .transitive t p q lt lp lq e g
+  -- whom a plan dominates, it and its dominators dominate
+  from-above : (t p q : ℕ) → t < n → p < n → q < n → d p q ≡ true → (t ≡ p) ⊎ (d t p ≡ true) → d t q ≡ true
+  from-above t p q lt lp lq g (inl e) = ap (λ x. d x q) e ∙ g
+  from-above t p q lt lp lq g (inr e) = s .transitive t p q lt lp lq e g
 
   -- from any plan of the rest the way up leads to an undominated one
   climb : (fuel k q : ℕ) → q < n → inFirst d n k q ≡ false → waiting d n k q ≤ fuel
@@ -109,9 +120,9 @@ module _ (d : ℕ → ℕ → Bool) (n : ℕ) (s : Strict d n) where
       let p = r .0 in
       let f = fewer k p q (r .1) l (r .2) in
       let y′ = and-not-left (inFirst d n k p) (d p q) (r .2) in
-      let g = and-not-right (inFirst d n k p) (d p q) (r .2) in
+      let g = and-right (not (inFirst d n k p)) (d p q) (r .2) in
       let t = climb fuel k p (r .1) y′ (omega arith) in
-      (t .0, t .1, t .2, inr (over (t .0) p q (t .1) (r .1) l g (t .3))))
+      (t .0, t .1, t .2, inr (from-above (t .0) p q (t .1) (r .1) l g (t .3))))
 
   -- so a plan of the rest is in the front, or a member of the front dominates it
   pub in-or-under : (k q : ℕ) → q < n → inFirst d n k q ≡ false
@@ -122,8 +133,7 @@ module _ (d : ℕ → ℕ → Bool) (n : ℕ) (s : Strict d n) where
   pub under-front : (k q : ℕ) → q < n → inFront d n (suc k) q ≡ true → (p : ℕ) × (p < n) × (inFront d n k p ≡ true) × (d p q ≡ true)
   under-front k q l e =
       let new = inFront-new d n (suc k) q e in
-      let y : inFirst d n k q ≡ false = no-pass (inFirst d n k q) (λ v. false≢true (sym new ∙ inFirst-more d n k q v)) in
-      let t = in-or-under k q l y in (
+      let t = in-or-under k q l (not-yet d n k (suc k) q (omega arith) new) in (
         t .0,
         t .1,
         t .2,
@@ -150,25 +160,15 @@ module _ (d : ℕ → ℕ → Bool) (n : ℕ) (s : Strict d n) where
 
   -- once a front is empty every plan has its front
   pub empty-inFirst : (k : ℕ) → front d n k ≡ [] → (q : ℕ) → q < n → inFirst d n k q ≡ true
-  empty-inFirst k e q l = by-bool (inFirst d n k q) (λ y. y)
+  empty-inFirst k e q l = no-fail (inFirst d n k q)
       (λ y. let t = in-or-under k q l y in
       let o = found d n k .exact (t .0) (t .1) in
       let z = ap (occ (t .0)) e ∙ occ-nil (t .0) in
-      absurd (omega (arith, ap one (t .2))))
+      omega (arith, ap one (t .2)))
 
   -- front n is empty
   pub ended : front d n n ≡ []
-  ended = occ-empty (front d n n) (λ q. by-lt q n
-      (λ l. found d n n .exact q l ∙ ap one (no-pass (inFront d n n q) (λ v. false≢true (sym (inFront-new d n n q v) ∙ all-inFirst q l))))
-      (found d n n .below q))
+  ended = no-member (front d n n) (λ q m. let f = front-exactly d n n in false≢true (sym (inFront-new d n n q (f .passes q m)) ∙ all-inFirst q (f .below q m)))
 
   pub listing-whole : (k : ℕ) → front d n k ≡ [] → length (listing d n k) ≡ n
   listing-whole k e = listing-full d n k (empty-inFirst k e)
-
--- ---- the plans of front k are those of the paper's front k, and the listing's those of its first k fronts: each once, and no other
-
-pub front-exactly : (d : ℕ → ℕ → Bool) (n k : ℕ) → Exactly (inFront d n k) n (front d n k)
-front-exactly d n k = exactly-of (inFront d n k) n (front d n k) (found d n k .below) (found d n k .exact)
-
-pub listing-exactly : (d : ℕ → ℕ → Bool) (n k : ℕ) → Exactly (inFirst d n k) n (listing d n k)
-listing-exactly d n k = exactly-of (inFirst d n k) n (listing d n k) (listing-below d n k) (listing-exact d n k)

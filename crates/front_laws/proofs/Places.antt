@@ -7,14 +7,13 @@ use mathlib.Core.Logic.{⊎-elim}
 use native.Mathlib.Nat.{eq-or-lt-of-le}
 use native.Mathlib.Omega.{arith}
 use borrow.Author.Tests.{eqb-true}
-use lib.Dec.{eqb}
 use lib.ListN.{length, getD, take}
 use lib.Seq.{take-take}
 use Rattle.model.specs.Front.{front, listing}
 use Rattle.list_laws.proofs.Built.{over-take, over-below}
 use Rattle.list_laws.proofs.First.{firstBelow-le, firstBelow-passes}
 use Rattle.list_laws.proofs.Members.{empty-of}
-use Rattle.front_laws.specs.Post.{frontCount, frontEnd, Sorted}
+use Rattle.front_laws.specs.Post.{noMembers, frontCount, frontEnd, Sorted}
 use Rattle.front_laws.specs.Strict.{Strict}
 use Rattle.front_laws.proofs.Listings.{listing-take}
 use Rattle.front_laws.proofs.Order.{ended, listing-room}
@@ -30,7 +29,7 @@ module _ (d : ℕ → ℕ → Bool) (n : ℕ) where
   unfolding frontCount
   frontCount-empty s = ⊎-elim
       (λ e. ap (front d n) e ∙ ended d n s)
-      (λ l. empty-of (front d n (frontCount d n)) (eqb-true _ 0 (firstBelow-passes (λ k. eqb (length (front d n k)) 0) n l)))
+      (λ l. empty-of (front d n (frontCount d n)) (eqb-true _ 0 (firstBelow-passes (noMembers d n) n l)))
       (eq-or-lt-of-le frontCount-le)
 
 -- what a sort leaves in the lent slices

@@ -20,6 +20,7 @@ use Rattle.list_laws.proofs.Built.{listBelow-length}
 use Rattle.list_laws.proofs.Checks.{good-length, good-values}
 use Rattle.list_laws.proofs.Tests.{allIn-each}
 use Rattle.front_laws.specs.Strict.{Strict, Known}
+use Rattle.front_laws.specs.Flat.{KnownPlans}
 use Rattle.front_laws.proofs.Same.{Agree}
 use Rattle.front_laws.proofs.Domination.{dominates-paper, rule-strict}
 use Rattle.float_laws.proofs.Order.{le-not-nan}
@@ -104,7 +105,7 @@ pub words-accepted : (m : ℕ) (plan : Plan) → m ≤ maxObjectives → InWords
 words-accepted m plan h w e = record { good = e; whole = omega (arith, w, good-length m plan e) }
 
 -- where no row has a NaN
-module _ (marks : List ℕ) (plans : ℕ → Plan) (n : ℕ) (known : (p : ℕ) → p < n → Known (length marks) (rowOf marks (plans p))) where
+module _ (marks : List ℕ) (plans : ℕ → Plan) (n : ℕ) (known : KnownPlans marks plans n) where
   pub beats-strict : Strict (beats marks plans) n
   unfolding beats constrainedDominates
   beats-strict =

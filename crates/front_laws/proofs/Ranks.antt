@@ -2,7 +2,7 @@
 use Prim.Native.Nat.{ℕ, zero, suc, _≤_, _<_}
 use mathlib.Core.Path.{_≡_, refl, ap, sym, _∙_}
 use mathlib.Core.Bool.{Bool, true}
-use mathlib.Core.List.{List, [], _∷_, _++_}
+use mathlib.Core.List.{List, [], _∷_, _++_, List·Memᴰ·head, List·Memᴰ·tail}
 use native.Mathlib.Nat.{not-suc-le-zero}
 use native.Mathlib.Omega.{arith}
 use borrow.Author.Tests.{eq-eqb, eqb-true}
@@ -12,10 +12,10 @@ use lib.Seq.{getD-set-same, getD-set-other, drop-set-lt}
 use Rattle.model.specs.Front.{front}
 use Rattle.model.specs.Lists.{one}
 use Rattle.model.specs.Papers.Deb2002.{inFront}
-use Rattle.list_laws.specs.Occ.{occ, AllUnder}
+use Rattle.list_laws.specs.Occ.{occ, Below}
 use Rattle.list_laws.proofs.Below.{last-or, by-lt}
 use Rattle.list_laws.proofs.Bools.{by-bool}
-use Rattle.list_laws.proofs.Members.{occ-nil, occ-cons, occ-here, under-in}
+use Rattle.list_laws.proofs.Members.{occ-nil, occ-cons}
 use Rattle.front_laws.specs.Ranks.{mark, ranked}
 use Rattle.front_laws.proofs.Order.{one-front}
 use Rattle.front_laws.proofs.Rounds.{found}
@@ -50,12 +50,11 @@ mark-same (x ∷ l) k r q h u = by-lt 0 (occ q l)
     (λ v. absurd (omega (arith, occ-cons q x l, ap one v))))
 
 -- no place from n on changes
-pub mark-drop : (l : List ℕ) (k : ℕ) (r : List ℕ) (n : ℕ) → AllUnder n l → drop n (mark l k r) ≡ drop n r
+pub mark-drop : (l : List ℕ) (k : ℕ) (r : List ℕ) (n : ℕ) → Below n l → drop n (mark l k r) ≡ drop n r
 unfolding mark
 mark-drop [] k r n h = refl
 mark-drop (x ∷ l) k r n h =
-    mark-drop l k (set r x k) n (λ q u. omega (arith, h q u, occ-cons q x l))
-    ∙ drop-set-lt n r x k (under-in n x (x ∷ l) h (omega (arith, occ-here x l)))
+    mark-drop l k (set r x k) n (λ q m. h q (List·Memᴰ·tail m)) ∙ drop-set-lt n r x k (h x (List·Memᴰ·head refl))
 
 pub ranked-length : (d : ℕ → ℕ → Bool) (n k : ℕ) (r : List ℕ) → length (ranked d n k r) ≡ length r
 unfolding ranked

@@ -8,11 +8,11 @@ use lib.Dec.{eqb}
 use Rattle.model.specs.Front.{firstRound, nextRound, round, front}
 use Rattle.model.specs.Lists.{one, anyBelow, countBelow, tally}
 use Rattle.model.specs.Papers.Deb2002.{undominatedOfRest, inFirst, inFront}
-use Rattle.list_laws.specs.Occ.{occ, AllUnder}
+use Rattle.list_laws.specs.Occ.{occ, Below}
 use Rattle.list_laws.proofs.Below.{later}
 use Rattle.list_laws.proofs.Bools.{by-bool, and-not-left}
-use Rattle.list_laws.proofs.Counts.{countBelow-sum, anyBelow-count, countBelow-mono, sumBelow-same, sumBelow-add}
-use Rattle.list_laws.proofs.Kept.{keepBelow-under, keepBelow-occ}
+use Rattle.list_laws.proofs.Counts.{anyBelow-count, countBelow-parts, countBelow-mono}
+use Rattle.list_laws.proofs.Kept.{keepBelow-below, keepBelow-occ}
 use Rattle.list_laws.proofs.Members.{tally-below}
 use Rattle.front_laws.proofs.Lowering.{lowerAll-count, freedAll-below, met, met-none, occ-freedAll}
 
@@ -67,7 +67,7 @@ inFirst-none d n k q e =
 
 -- what the listing has as round k begins
 pub record Found (d : ℕ → ℕ → Bool) (n k : ℕ) : Type 0 where
-  pub below : AllUnder n (front d n k)
+  pub below : Below n (front d n k)
   pub exact : (q : ℕ) → q < n → occ q (front d n k) ≡ one (inFront d n k q)
   pub counted : (q : ℕ) → q < n → round d n k .counts q ≡ waiting d n k q
 
@@ -75,13 +75,9 @@ pub record Found (d : ℕ → ℕ → Bool) (n k : ℕ) : Type 0 where
 waiting-split : (d : ℕ → ℕ → Bool) (n k q : ℕ) → Found d n k → waiting d n k q ≡ waiting d n (suc k) q + tally (λ p. d p q) (front d n k)
 unfolding waiting inFirst undominatedOfRest
 waiting-split d n k q h =
-    let rest : ℕ → Bool = λ t. not (inFirst d n k t || inFront d n k t) && d t q in
-    let here : ℕ → Bool = λ t. inFront d n k t && d t q in
-    let e = tally-below (λ p. d p q) (inFront d n k) n (front d n k) (h .below) (h .exact) in
-    let s = countBelow-sum (λ t. not (inFirst d n k t) && d t q) n
-    ∙ sumBelow-same _ _ n (λ t l. parts (inFirst d n k t) (not (anyBelow (λ p. not (inFirst d n k p) && d p t) n)) (d t q))
-    ∙ sumBelow-add (λ t. one (rest t)) (λ t. one (here t)) n in
-    omega (arith, s, countBelow-sum rest n, countBelow-sum here n)
+    countBelow-parts (λ t. not (inFirst d n k t) && d t q) (λ t. not (inFirst d n k t || inFront d n k t) && d t q) (λ t. inFront d n k t && d t q) n
+    (λ t l. parts (inFirst d n k t) (not (anyBelow (λ p. not (inFirst d n k p) && d p t) n)) (d t q))
+    ∙ ap (λ c. waiting d n (suc k) q + c) (sym (tally-below (λ p. d p q) (inFront d n k) n (front d n k) (h .below) (h .exact)))
   where
     parts : (a y c : Bool) → one (not a && c) ≡ one (not (a || (not a && y)) && c) + one ((not a && y) && c)
     parts true y c = omega arith
@@ -92,7 +88,7 @@ waiting-split d n k q h =
 found-first : (d : ℕ → ℕ → Bool) (n : ℕ) → Found d n 0
 unfolding round firstRound nextRound waiting inFirst
 found-first d n = record {
-  below = λ q h. keepBelow-under _ n q h;
+  below = keepBelow-below _ n;
   exact = λ q h. keepBelow-occ _ n q h ∙ ap one (sym (inFront-count d n 0 q));
   counted = λ q h. refl;
 }

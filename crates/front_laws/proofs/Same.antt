@@ -1,16 +1,14 @@
 -- Only which of the n plans dominates which matters: dominations that agree on them have the same fronts.
 use Prim.Native.Nat.{ℕ, zero, suc, _<_}
-use mathlib.Core.Path.{_≡_, refl, ap, ap₂, _∙_}
+use mathlib.Core.Path.{_≡_, ap, _∙_}
 use mathlib.Core.Bool.{Bool}
-use mathlib.Core.List.{_++_}
 use lib.Dec.{eqb}
 use Rattle.model.specs.Front.{lowerAll, freedAll, firstRound, nextRound, round, front, listing, frontOf, frontList}
-use Rattle.model.specs.Lists.{countBelow, has, In, joinBelow}
-use Rattle.list_laws.proofs.Built.{listBelow-same}
+use Rattle.model.specs.Lists.{countBelow, has, In}
+use Rattle.list_laws.proofs.Built.{listBelow-same, joinBelow-same}
 use Rattle.list_laws.proofs.Counts.{countBelow-same}
 use Rattle.list_laws.proofs.First.{firstBelow-same}
 use Rattle.list_laws.proofs.Kept.{keepBelow-same}
-use Rattle.list_laws.proofs.Members.{under-below}
 use Rattle.front_laws.proofs.Lowering.{lowerAll-same, freedAll-same}
 use Rattle.front_laws.proofs.Rounds.{found}
 
@@ -21,7 +19,7 @@ Agree d e n = (p q : ℕ) → p < n → q < n → d p q ≡ e p q
 module _ (d e : ℕ → ℕ → Bool) (n : ℕ) (a : Agree d e n) where
   -- they agree on whom the members of front k dominate
   members-agree : (k p : ℕ) → In p (front d n k) → (t : ℕ) → t < n → d p t ≡ e p t
-  members-agree k p m t l = a p t (under-below n (front d n k) (found d n k .below) p m) l
+  members-agree k p m t l = a p t (found d n k .below p m) l
 
   counted-agree : (t : ℕ) → t < n → countBelow (λ p. d p t) n ≡ countBelow (λ p. e p t) n
   counted-agree t l = countBelow-same _ _ n (λ p u. a p t u l)
@@ -50,9 +48,7 @@ module _ (d e : ℕ → ℕ → Bool) (n : ℕ) (a : Agree d e n) where
   front-same k = agreed k .members
 
   pub listing-same : (k : ℕ) → listing d n k ≡ listing e n k
-  unfolding joinBelow
-  listing-same zero = refl
-  listing-same (suc k) = ap₂ (λ x y. x ++ y) (listing-same k) (front-same k)
+  listing-same k = joinBelow-same (front d n) (front e n) k (λ t l. front-same t)
 
   pub frontOf-same : (q : ℕ) → frontOf d n q ≡ frontOf e n q
   unfolding frontOf

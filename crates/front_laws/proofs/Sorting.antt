@@ -15,10 +15,10 @@ use lib.Seq.{sets, slice, drop-at}
 use Rattle.model.specs.Front.{lowerAll, freedAll, firstRound, nextRound, round, front, listing}
 use Rattle.model.specs.Lists.{firstBelow, keepBelow, listBelow, over, tally, joinBelow}
 use Rattle.list_laws.specs.Put.{Picked}
-use Rattle.list_laws.proofs.Built.{listBelow-same, over-length, over-take, over-drop, over-at, over-none, over-size, over-set, over-run, drop-later}
+use Rattle.list_laws.proofs.Built.{listBelow-same, over-length, over-take, over-drop, over-at, over-none, over-size, over-set, over-front, over-run, drop-later}
 use Rattle.list_laws.proofs.First.{firstBelow-nowhere, firstBelow-at, firstBelow-same}
 use Rattle.list_laws.proofs.Kept.{keepBelow-same}
-use Rattle.list_laws.proofs.Members.{under-at, empty-of}
+use Rattle.list_laws.proofs.Members.{getD-in, empty-of}
 use Rattle.front_laws.specs.Ranks.{mark, ranked}
 use Rattle.front_laws.specs.Strict.{Strict}
 use Rattle.front_laws.proofs.Empty.{empty-later, first-empty, listing-all}
@@ -29,7 +29,7 @@ use Rattle.front_laws.proofs.Rounds.{fair}
 use Rattle.front_laws.proofs.Same.{Agree, front-same, listing-same, frontList-same}
 use Rattle.front_laws.proofs.Theorems.{ranked-frontList, listing-length-n}
 use Rattle.front_laws.proofs.Listings.{listing-more, listing-grows}
-use Rattle.front_laws.specs.Post.{of, Counted, Ready, Passed, frontCount, frontEnd, Sorted}
+use Rattle.front_laws.specs.Post.{of, Counted, Ready, Passed, noMembers, frontCount, frontEnd, Sorted}
 
 -- `ends` holds the ends of the fronts before front k; it came as e₀, the order as o₀ and the ranks as r₀
 pub record Sorting (d : ℕ → ℕ → Bool) (n : ℕ) (o₀ r₀ e₀ : List ℕ) (k start end : ℕ) (cs o r ends : List ℕ) : Type 0 where
@@ -50,7 +50,7 @@ module _ (d : ℕ → ℕ → Bool) (n : ℕ) (o₀ o r₀ e₀ cs : List ℕ) (
   first-members = keepBelow-same _ _ n (λ t u. ap (λ v. eqb v 0) (c t u))
 
   first-order : o₀ ≡ over (listing d n 1) o
-  first-order = e .stored ∙ ap (sets o 0) first-members ∙ over-run [] (listing d n 1) o 0 refl (omega (arith, listing-room d n 1))
+  first-order = e .stored ∙ ap (sets o 0) first-members ∙ over-front (listing d n 1) o (omega (arith, listing-room d n 1))
 
   rest-same : drop (length (listing d n 1)) o₀ ≡ drop (length (listing d n 1)) o
   rest-same = ap (drop (length (listing d n 1))) first-order ∙ over-drop (listing d n 1) o (length (listing d n 1)) refl
@@ -98,7 +98,7 @@ module _ (d : ℕ → ℕ → Bool) (n : ℕ) (o₀ r₀ e₀ : List ℕ) (k sta
   ranks-size = ap length (h .ranks) ∙ ranked-length d n k r₀
 
   pub ends-size : n ≤ length e₀ → length en ≡ length e₀
-  ends-size w = ap length (h .ended) ∙ over-size (frontEnd d n) k e₀ (omega (arith, h .few, h .starts, listing-room d n k))
+  ends-size w = over-size (frontEnd d n) k en e₀ (h .ended) (omega (arith, h .few, h .starts, listing-room d n k))
 
   pub sorting-ready : n ≤ length cs → n ≤ length o₀ → n ≤ length r₀ → Ready d n start end cs o r
   sorting-ready c w v = record {
@@ -106,7 +106,7 @@ module _ (d : ℕ → ℕ → Bool) (n : ℕ) (o₀ r₀ e₀ : List ℕ) (k sta
     ahead = omega (arith, h .starts, h .stops, listing-grows d n k);
     inside = omega (arith, h .stops, listing-room d n (suc k), order-size w);
     plans = λ i s e.
-        let x = under-at n (listing d n (suc k)) i (listing-below d n (suc k)) (omega (arith, h .stops)) in
+        let x = listing-below d n (suc k) (getD (listing d n (suc k)) i 0) (getD-in (listing d n (suc k)) i (omega (arith, h .stops))) in
         let y = ap (λ x. getD x i 0) (h .order) ∙ over-at (listing d n (suc k)) o₀ i 0 (omega (arith, h .stops)) in
         omega arith;
     fair = λ q l. omega (arith, fair d n k q l, h .counted q l, ap (tally (λ p. d p q)) current);
@@ -139,10 +139,10 @@ module _ (d : ℕ → ℕ → Bool) (n : ℕ) (o₀ r₀ e₀ : List ℕ) (k sta
   count-now : Strict d n → front d n k ≡ [] → k ≡ frontCount d n
   unfolding frontCount
   count-now s z =
-      let some : (j : ℕ) → j < k → eqb (length (front d n j)) 0 ≡ false =
+      let some : (j : ℕ) → j < k → noMembers d n j ≡ false =
       λ j u. ne-eqb (length (front d n j)) 0 (λ e. h .filled j u (empty-of (front d n j) e)) in
       sym (⊎-elim
-      (λ v. ap (firstBelow (λ j. eqb (length (front d n j)) 0)) (sym v) ∙ firstBelow-nowhere _ k some)
+      (λ v. ap (firstBelow (noMembers d n)) (sym v) ∙ firstBelow-nowhere _ k some)
       (λ v. firstBelow-at _ n k v (eq-eqb (length (front d n k)) 0 (ap length z)) some)
       (eq-or-lt-of-le (first-empty d n s k (h .filled) z)))
 

@@ -1,4 +1,4 @@
--- The fronts of document 01 are those of the paper. d p q says that plan p dominates plan q; the first two laws hold of any d, the others of a strict one.
+-- The fronts of document 01 are those of the paper. d p q says that plan p dominates plan q; the first three laws hold of any d, the others of a strict one.
 use Prim.Native.Nat.{ℕ, suc, _≤_, _<_}
 use mathlib.Core.Path.{_≡_, ap, sym, _∙_}
 use mathlib.Core.Bool.{Bool, true, false, not, _&&_}
@@ -37,6 +37,10 @@ front-undominated d n k q = (
       rw (h .1, none)),
 )
 
+-- no plan dominates another of its own or an earlier front
+pub none-backwards : (d : ℕ → ℕ → Bool) (n k j q p : ℕ) → k ≤ j → In q (front d n k) → In p (front d n j) → d p q ≡ false
+none-backwards d n k j q p h mq mp = not-dominated d n k j q p h (front-exactly d n j .below p mp) (front-exactly d n k .passes q mq) (front-exactly d n j .passes p mp)
+
 module _ (d : ℕ → ℕ → Bool) (n : ℕ) (s : Strict d n) where
   -- every plan stands once in one front, and in no other
   pub in-exactly-one : (q : ℕ) → q < n → (k : ℕ) × (k < n) × (occ q (front d n k) ≡ 1) × ((j : ℕ) → (j ≡ k → ⊥) → occ q (front d n j) ≡ 0)
@@ -47,10 +51,6 @@ module _ (d : ℕ → ℕ → Bool) (n : ℕ) (s : Strict d n) where
         found d n (r .0) .exact q l ∙ ap one (r .2),
         λ j v. found d n j .exact q l ∙ ap one (no-pass (inFront d n j q) (λ e. v (one-front d n j (r .0) q e (r .2)))),
       )
-
-  -- no plan dominates another of its own or an earlier front
-  pub none-backwards : (k j q p : ℕ) → k ≤ j → In q (front d n k) → In p (front d n j) → d p q ≡ false
-  none-backwards k j q p h mq mp = not-dominated d n k j q p h (front-exactly d n j .below p mp) (front-exactly d n k .passes q mq) (front-exactly d n j .passes p mp)
 
   -- every plan of front k + 1 is dominated by one of front k
   pub dominated-from-before : (k q : ℕ) → In q (front d n (suc k)) → (p : ℕ) × In p (front d n k) × (d p q ≡ true)

@@ -38,6 +38,10 @@ Within rows m feasible violations p q =
 abbrev pub KnownRows : List Float → ℕ → ℕ → Type 0
 KnownRows rows m n = (p : ℕ) → p < n → Known m (rowAt rows m p)
 
+-- nor has any of n plans
+abbrev pub KnownPlans : List ℕ → (ℕ → Plan) → ℕ → Type 0
+KnownPlans marks plans n = (p : ℕ) → p < n → Known (length marks) (rowOf marks (plans p))
+
 -- ---- the flat lists of n plans
 
 -- the rows are those of the plans

@@ -83,9 +83,13 @@ pub record Passing (d : ℕ → ℕ → Bool) (n k start end : ℕ) (cs₀ o₀ 
 abbrev pub Passed : (ℕ → ℕ → Bool) → ℕ → ℕ → ℕ → ℕ → List ℕ → List ℕ → List ℕ → List ℕ → List ℕ → List ℕ → ℕ → Type 0
 Passed d n k start end cs₀ cs o₀ o r₀ r x = Passing d n k start end cs₀ o₀ r₀ end cs o r x
 
+-- front k has no members
+abbrev pub noMembers : (ℕ → ℕ → Bool) → ℕ → ℕ → Bool
+noMembers d n k = eqb (length (front d n k)) 0
+
 -- how many fronts have members
 unfoldable pub frontCount : (ℕ → ℕ → Bool) → ℕ → ℕ
-frontCount d n = firstBelow (λ k. eqb (length (front d n k)) 0) n
+frontCount d n = firstBelow (noMembers d n) n
 
 -- where front k ends in the listing
 abbrev pub frontEnd : (ℕ → ℕ → Bool) → ℕ → ℕ → ℕ

@@ -1,10 +1,11 @@
 -- Numbers below a bound. Definitions that count up to it and recurse from its end look at nothing past it.
 use Prim.Native.Nat.{ℕ, zero, suc, _≤_, _<_}
-use mathlib.Core.Path.{_≡_, refl, subst}
+use mathlib.Core.Path.{_≡_, refl, ap, subst}
+use mathlib.Core.Bool.{cond}
 use mathlib.Core.Logic.{⊎-elim}
 use native.Mathlib.Nat.{eq-or-lt-of-le, le-of-suc-le-suc}
 use native.Mathlib.Omega.{arith}
-use borrow.Author.Tests.{ltb-true, ltb-false}
+use borrow.Author.Tests.{ltb-true, ltb-false, lt-ltb, le-ltb}
 use lib.Dec.{ltb}
 use Rattle.list_laws.proofs.Bools.{by-bool}
 
@@ -27,6 +28,13 @@ last-or h here before = ⊎-elim here before (eq-or-lt-of-le (le-of-suc-le-suc h
 -- and of two numbers one is below the other, or not
 pub by-lt : {C : Type 0} (a b : ℕ) → (a < b → C) → (b ≤ a → C) → C
 by-lt a b less not-less = by-bool (ltb a b) (λ e. less (ltb-true a b e)) (λ e. not-less (ltb-false a b e))
+
+-- what such a test picks
+pub cond-lt : {A : Type 0} (a b : ℕ) (x y : A) → a < b → cond (ltb a b) x y ≡ x
+cond-lt a b x y h = ap (λ t. cond t x y) (lt-ltb a b h)
+
+pub cond-le : {A : Type 0} (a b : ℕ) (x y : A) → b ≤ a → cond (ltb a b) x y ≡ y
+cond-le a b x y h = ap (λ t. cond t x y) (le-ltb a b h)
 
 pub neither-below : (a b : ℕ) → (a < b → ⊥) → (b < a → ⊥) → a ≡ b
 neither-below a b f g = by-lt a b (λ l. absurd (f l)) (λ l. by-lt b a (λ k. absurd (g k)) (λ k. omega arith))

@@ -43,12 +43,6 @@ module _ {A : Type 0} (beats : A → A → Bool) where
 
   -- Where nothing beats itself, and what does not beat one value does not beat what beats it, nothing that was looked at beats what is found.
   module _ (itself : (x : A) → beats x x ≡ false) (down : (x y z : A) → beats x y ≡ false → beats z y ≡ true → beats x z ≡ false) where
-    pub best-start : (b : A) (f : ℕ → A) (n : ℕ) → beats b (bestFrom beats b f n) ≡ false
-    unfolding bestFrom
-    best-start b f zero = itself b
-    best-start b f (suc n) = by-cond (λ l. beats b l ≡ false) (beats (f n) (bestFrom beats b f n)) (f n) (bestFrom beats b f n)
-        (λ e. down b (bestFrom beats b f n) (f n) (best-start b f n) e) (λ e. best-start b f n)
-
     pub best-least : (b : A) (f : ℕ → A) (n t : ℕ) → t < n → beats (f t) (bestFrom beats b f n) ≡ false
     unfolding bestFrom
     best-least b f zero t h = absurd (not-suc-le-zero h)

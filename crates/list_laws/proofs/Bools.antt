@@ -8,6 +8,9 @@ use native.Mathlib.Omega.{arith}
 use borrow.Author.Tests.{not-true}
 use lib.Dec.{T}
 use Rattle.model.specs.Lists.{one}
+-- of the toolchain: the facts that a test passes and that it does not, as equations; a conjunction of facts
+pub use lib.Ieee.Bits.{is-true as T-true, is-false as T-false}
+pub use lib.Ieee.Fits.{and-i}
 
 -- what holds where a test passes and where it does not, holds
 pub by-bool : {C : Type 0} (b : Bool) → (b ≡ true → C) → (b ≡ false → C) → C
@@ -24,28 +27,24 @@ pub by-cond : {A : Type 0} (P : A → Type 0) (b : Bool) (x y : A) → (b ≡ tr
 by-cond P true x y f g = f refl
 by-cond P false x y f g = g refl
 
--- a test that passes, as a fact and as an equation
-pub T-true : (b : Bool) → T b → b ≡ true
-T-true true t = refl
-T-true false t = absurd t
-
+-- a test that passes, from the equation to the fact
 pub true-T : (b : Bool) → b ≡ true → T b
 true-T true e = tt
 true-T false e = absurd (false≢true e)
 
 -- one that does not
-pub T-false : (b : Bool) → T (not b) → b ≡ false
-T-false true t = absurd t
-T-false false t = refl
-
 pub false-T : (b : Bool) → b ≡ false → T (not b)
 false-T true e = absurd (true≢false e)
 false-T false e = tt
 
--- one that cannot pass fails
+-- one that cannot pass fails, and one that cannot fail passes
 pub no-pass : (b : Bool) → (b ≡ true → ⊥) → b ≡ false
 no-pass true h = absurd (h refl)
 no-pass false h = refl
+
+pub no-fail : (b : Bool) → (b ≡ false → ⊥) → b ≡ true
+no-fail true h = refl
+no-fail false h = absurd (h refl)
 
 pub one-le : (b : Bool) → one b ≤ 1
 one-le true = omega arith
@@ -71,12 +70,9 @@ and-right false c e = absurd (false≢true e)
 pub and-T : (a c : Bool) → (a && c) ≡ true → T a × T c
 and-T a c e = (true-T a (and-left a c e), true-T c (and-right a c e))
 
--- and of one whose first half is negated
+-- and the first of one where it is negated
 pub and-not-left : (a c : Bool) → (not a && c) ≡ true → a ≡ false
 and-not-left a c e = not-true a (and-left (not a) c e)
-
-pub and-not-right : (a c : Bool) → (not a && c) ≡ true → c ≡ true
-and-not-right a c e = and-right (not a) c e
 
 -- a conjunction whose first half passes is its second; one whose halves pass passes; one that fails, and whose one half passes, fails in the other
 pub past : {a b d : Bool} → a ≡ true → b ≡ d → (a && b) ≡ d
@@ -116,10 +112,6 @@ or-right true c e = absurd (true≢false e)
 or-right false c e = e
 
 -- the same as facts
-pub and-i : (a c : Bool) → T a → T c → T (a && c)
-and-i true c t u = u
-and-i false c t u = t
-
 pub or-l : (a c : Bool) → T a → T (a || c)
 or-l true c t = tt
 or-l false c t = absurd t

@@ -2,15 +2,14 @@
 use Prim.Native.Nat.{ℕ, zero, suc, _+_, _-_, _≤_, _<_}
 use mathlib.Core.Path.{_≡_, refl, ap, ap₂, sym, subst, _∙_}
 use mathlib.Core.List.{List, [], _∷_, _++_, map, map-append, append-assoc, append-nil}
-use mathlib.Core.Logic.{⊎-elim}
-use native.Mathlib.Nat.{not-suc-le-zero, eq-or-lt-of-le, le-of-suc-le-suc}
+use native.Mathlib.Nat.{not-suc-le-zero}
 use native.Mathlib.Numerals.{add-one}
 use native.Mathlib.Omega.{arith}
 use borrow.Rule.Slice.PartMut.{midOf, putMid}
 use lib.ListN.{length, getD, set, take, drop, drop-of-length-le, length-append, length-drop, take-append-drop, List·getD-append, replicate, length-replicate, getD-replicate}
 use lib.Seq.{drop-cons, take-length, getD-at, ext-getD, length-take-le, getD-take, take-at, take-all, drop-at, sets, sets-eq, drop-drop, take-suc, drop-length}
 use Rattle.model.specs.Lists.{listBelow, joinBelow, over}
-use Rattle.list_laws.proofs.Below.{same-below}
+use Rattle.list_laws.proofs.Below.{same-below, last-or}
 
 module _ {A : Type 0} where
   pub listBelow-none : (f : ℕ → A) → listBelow f 0 ≡ []
@@ -29,10 +28,9 @@ module _ {A : Type 0} where
   -- one entry more at a list's end: what holds of each place before it, and of it, holds of each
   pub snoc-each : (l : List A) (a z : A) (n : ℕ) → length l ≡ n → (P : ℕ → A → Type 0) → ((i : ℕ) → i < n → P i (getD l i z)) → P n a
       → (i : ℕ) → i < suc n → P i (getD (l ++ (a ∷ [])) i z)
-  snoc-each l a z n e P f g i h = ⊎-elim
+  snoc-each l a z n e P f g i h = last-or h
       (λ v. subst (λ (k : ℕ). P k (getD (l ++ (a ∷ [])) k z)) (sym v) (subst (P n) (sym (getD-at l a [] z n e)) g))
       (λ m. subst (P i) (sym (List·getD-append l (a ∷ []) z i (omega arith))) (f i m))
-      (eq-or-lt-of-le (le-of-suc-le-suc h))
 
   -- place i holds f i
   pub listBelow-at : (f : ℕ → A) (n : ℕ) (d : A) (i : ℕ) → i < n → getD (listBelow f n) i d ≡ f i
@@ -103,6 +101,10 @@ module _ {A : Type 0} where
       ∙ ap₂ (λ a b. a ++ s ++ b) (over-take v old i e)
       (drop-later i (i + length s) (over v old) old (omega arith) (over-drop v old i e) ∙ ap (λ t. drop t old) n)
 
+  -- one at its front
+  pub over-front : (new old : List A) → length new ≤ length old → sets old 0 new ≡ over new old
+  over-front new old h = over-run [] new old 0 refl (omega arith)
+
   -- one entry more
   pub over-snoc : (v old : List A) (j : ℕ) (r : A) → length v ≡ j → j < length old → set (over v old) j r ≡ over (v ++ (r ∷ [])) old
   over-snoc v old j r e h = over-run v (r ∷ []) old j e (omega arith)
@@ -124,8 +126,8 @@ module _ {A : Type 0} where
   pub over-more : (f : ℕ → A) (j : ℕ) (l : List A) → j < length l → set (over (listBelow f j) l) j (f j) ≡ over (listBelow f (j + 1)) l
   over-more f j l h = over-snoc (listBelow f j) l j (f j) (listBelow-length f j) h ∙ ap (λ t. over t l) (sym (listBelow-more f j))
 
-  pub over-size : (f : ℕ → A) (j : ℕ) (l : List A) → j ≤ length l → length (over (listBelow f j) l) ≡ length l
-  over-size f j l h = over-length (listBelow f j) l (omega (arith, listBelow-length f j))
+  pub over-size : (f : ℕ → A) (j : ℕ) (l l₀ : List A) → l ≡ over (listBelow f j) l₀ → j ≤ length l₀ → length l ≡ length l₀
+  over-size f j l l₀ e h = ap length e ∙ over-length (listBelow f j) l₀ (omega (arith, listBelow-length f j))
 
   -- the step of a loop that fills a slice from its front
   pub over-set : (f : ℕ → A) (l l₀ : List A) (i : ℕ) (x : A) → i < length l₀ → l ≡ over (listBelow f i) l₀ → x ≡ f i → set l i x ≡ over (listBelow f (i + 1)) l₀
@@ -159,6 +161,10 @@ module _ {A : Type 0} where
   -- and the whole of it
   pub listBelow-places : (d : A) (l : List A) → listBelow (λ t. getD l t d) (length l) ≡ l
   listBelow-places d l = listBelow-copy d l (length l) (omega arith) ∙ take-length l
+
+  -- the end of a loop that copies a list's front to that of a slice
+  pub over-copied : (d : A) (from l old : List A) (n i : ℕ) → i ≡ n → n ≤ length from → l ≡ over (listBelow (λ t. getD from t d) i) old → l ≡ over (take n from) old
+  over-copied d from l old n i e h g = g ∙ ap (λ t. over t old) (ap (listBelow (λ t. getD from t d)) e ∙ listBelow-copy d from n h)
 
   -- an entry at its front
   pub over-at : (new old : List A) (i : ℕ) (d : A) → i < length new → getD (over new old) i d ≡ getD new i d

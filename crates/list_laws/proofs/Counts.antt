@@ -5,10 +5,10 @@ use mathlib.Core.Bool.{Bool, true, false, not, _&&_, or-true, or-false}
 use native.Mathlib.Nat.{not-suc-le-zero, add-zero}
 use native.Mathlib.Numerals.{add-one}
 use native.Mathlib.Omega.{arith}
-use borrow.Author.Tests.{eq-eqb, ne-eqb, not-true}
+use borrow.Author.Tests.{eq-eqb, ne-eqb, eqb-true, eqb-false, not-true}
 use lib.Dec.{eqb}
 use Rattle.model.specs.Lists.{one, anyBelow, countBelow, sumBelow}
-use Rattle.list_laws.proofs.Bools.{by-bool, past, and-no, one-le}
+use Rattle.list_laws.proofs.Bools.{by-bool, no-fail, past, and-no, one-le}
 use Rattle.list_laws.proofs.Below.{same-below, later, last-or}
 use Rattle.list_laws.proofs.Tests.{anyBelow-some, anyBelow-each, allBelow-any, allBelow-each}
 
@@ -87,11 +87,14 @@ anyBelow-count f (suc n) = by-bool (f n)
     (λ e. rw (e, or-true, ne-eqb (countBelow f n + 1) 0 (λ z. omega arith)))
     (λ e. rw (e, or-false, anyBelow-count f n, add-zero))
 
+-- where each number that passes f passes just one of g and h, and no other passes either, the counts add up
+pub countBelow-parts : (f g h : ℕ → Bool) (n : ℕ) → ((t : ℕ) → t < n → one (f t) ≡ one (g t) + one (h t)) → countBelow f n ≡ countBelow g n + countBelow h n
+unfolding countBelow
+countBelow-parts f g h n e = sumBelow-same _ _ n e ∙ sumBelow-add (λ t. one (g t)) (λ t. one (h t)) n
+
 -- those that pass f are those that pass g too, and those that do not
 pub countBelow-split : (f g : ℕ → Bool) (n : ℕ) → countBelow f n ≡ countBelow (λ t. f t && g t) n + countBelow (λ t. f t && not (g t)) n
-unfolding countBelow sumBelow
-countBelow-split f g zero = refl
-countBelow-split f g (suc n) = omega (arith, countBelow-split f g n, halves (f n) (g n))
+countBelow-split f g n = countBelow-parts f (λ t. f t && g t) (λ t. f t && not (g t)) n (λ t u. halves (f t) (g t))
   where
     halves : (a b : Bool) → one a ≡ one (a && b) + one (a && not b)
     halves true true = refl
@@ -116,6 +119,23 @@ countBelow-less f g n k h l a b =
     let more = countBelow-at (λ t. g t && not (f t)) n k l (past b (ap not a)) in
     omega (arith, countBelow-split g f n, inside f g n h)
 
+-- where one number alone passes, the count is 1
+pub countBelow-one : (f : ℕ → Bool) (n i : ℕ) → i < n → f i ≡ true → ((t : ℕ) → (t ≡ i → ⊥) → f t ≡ false) → countBelow f n ≡ 1
+unfolding countBelow
+countBelow-one f n i h e s = sumBelow-point _ n i h (λ t u v. ap one (s t v)) ∙ ap one e
+
+-- so a test that no longer passes at i alone passes once less
+pub countBelow-drop : (f g : ℕ → Bool) (n i : ℕ) → i < n → f i ≡ true → g i ≡ false → ((t : ℕ) → (t ≡ i → ⊥) → g t ≡ f t)
+    → countBelow f n ≡ countBelow g n + 1
+countBelow-drop f g n i h a b s =
+    countBelow-parts f g (λ t. eqb t i) n (λ t u. split t)
+    ∙ ap (λ k. countBelow g n + k) (countBelow-one (λ t. eqb t i) n i h (eq-eqb i i refl) (λ t v. ne-eqb t i v))
+  where
+    split : (t : ℕ) → one (f t) ≡ one (g t) + one (eqb t i)
+    split t = by-bool (eqb t i)
+        (λ e. let v : t ≡ i = eqb-true t i e in omega (arith, ap (λ k. one (f k)) v, ap one a, ap (λ k. one (g k)) v, ap one b, ap one e))
+        (λ e. omega (arith, ap one (s t (eqb-false t i e)), ap one e))
+
 -- if all pass, the count is n; and conversely
 pub countBelow-all : (f : ℕ → Bool) (n : ℕ) → ((t : ℕ) → t < n → f t ≡ true) → countBelow f n ≡ n
 unfolding countBelow sumBelow
@@ -123,7 +143,7 @@ countBelow-all f zero h = refl
 countBelow-all f (suc n) h = let e : f n ≡ true = h n (omega arith) in rw (e, countBelow-all f n (λ t u. h t (omega arith))) (omega arith)
 
 pub all-countBelow : (f : ℕ → Bool) (n : ℕ) → n ≤ countBelow f n → (t : ℕ) → t < n → f t ≡ true
-all-countBelow f n h t l = by-bool (f t) (λ e. e) (λ e. absurd (omega (arith, countBelow-less f (λ k. true) n t (λ k u v. refl) l e refl, countBelow-le (λ k. true) n)))
+all-countBelow f n h t l = no-fail (f t) (λ e. omega (arith, countBelow-less f (λ k. true) n t (λ k u v. refl) l e refl, countBelow-le (λ k. true) n))
 
 -- if the count is not zero, some number passes; if it is, none does
 pub some-countBelow : (f : ℕ → Bool) (n : ℕ) → 0 < countBelow f n → (t : ℕ) × (t < n) × (f t ≡ true)

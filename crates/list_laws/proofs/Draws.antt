@@ -75,3 +75,10 @@ module _ {A : Type 0} (next : ℕ → List A → ℕ → Drawn A) where
 
   pub drawAll-length : (n s : ℕ) → length (drawAll next n s .value) ≡ n
   drawAll-length n s = drawAll-keeps (λ i l. Unit {0}) s n tt (λ i l t u e p. tt) .0
+
+  -- the steps of a loop that draws a list: nothing is drawn yet, and one value more
+  pub drawAll-none : (s : ℕ) → drawn [] s ≡ drawAll next 0 s
+  drawAll-none s = sym (inTurn-none (λ l a. l ++ (a ∷ [])) [] next s)
+
+  pub drawAll-more : (n s : ℕ) {l : List A} {t : ℕ} {a : A} {u : ℕ} → drawn l t ≡ drawAll next n s → drawn a u ≡ next n l t → drawn (l ++ (a ∷ [])) u ≡ drawAll next (n + 1) s
+  drawAll-more n s e f = inTurn-more (λ l a. l ++ (a ∷ [])) [] next n s e f

@@ -1,6 +1,6 @@
 -- Laws of `keepBelow`: the numbers below n that pass, rising.
 use Prim.Native.Nat.{ℕ, zero, suc, _+_, _<_}
-use mathlib.Core.Path.{_≡_, refl, ap, sym, _∙_}
+use mathlib.Core.Path.{_≡_, refl, ap, sym, subst, _∙_}
 use mathlib.Core.Bool.{Bool, true, false, cond, _&&_, and-true}
 use mathlib.Core.List.{List, [], _∷_, _++_, append-nil}
 use native.Mathlib.Numerals.{add-one}
@@ -9,11 +9,12 @@ use borrow.Author.Tests.{eq-eqb, ne-eqb}
 use lib.ListN.{length, length-append}
 use lib.Dec.{eqb}
 use Rattle.model.specs.Lists.{one, countBelow, keepBelow, listBelow, keep, In}
-use Rattle.list_laws.specs.Occ.{occ, AllUnder, Exactly}
+use Rattle.list_laws.specs.Occ.{occ, Below, Exactly}
 use Rattle.list_laws.proofs.Bools.{by-bool, and-no}
 use Rattle.list_laws.proofs.Below.{same-below}
-use Rattle.list_laws.proofs.Counts.{countBelow-none, countBelow-yes, countBelow-no, countBelow-up, countBelow-sum, sumBelow-same, sumBelow-zero, sumBelow-point}
-use Rattle.list_laws.proofs.Members.{keep-append, keep-length, exactly-of}
+use Rattle.list_laws.proofs.Counts.{countBelow-none, countBelow-yes, countBelow-no, countBelow-up, countBelow-sum, sumBelow-point}
+use Rattle.list_laws.proofs.Members.{keep-append, keep-length, in-keep, place-of, exactly-of}
+use Rattle.list_laws.proofs.Built.{listBelow-length, listBelow-at}
 
 pub keepBelow-none : (f : ℕ → Bool) → keepBelow f 0 ≡ []
 unfolding keepBelow
@@ -22,9 +23,6 @@ keepBelow-none f = refl
 pub keepBelow-more : (f : ℕ → Bool) (n : ℕ) {b : Bool} → f n ≡ b → keepBelow f (n + 1) ≡ keepBelow f n ++ cond b (n ∷ []) []
 unfolding keepBelow
 keepBelow-more f n e = ap (keepBelow f) (add-one n) ∙ ap (λ b. keepBelow f n ++ cond b (n ∷ []) []) e
-
-pub keepBelow-yes : (f : ℕ → Bool) (n : ℕ) → f n ≡ true → keepBelow f (n + 1) ≡ keepBelow f n ++ (n ∷ [])
-keepBelow-yes f n e = keepBelow-more f n e
 
 pub keepBelow-no : (f : ℕ → Bool) (n : ℕ) → f n ≡ false → keepBelow f (n + 1) ≡ keepBelow f n
 keepBelow-no f n e = keepBelow-more f n e ∙ append-nil (keepBelow f n)
@@ -68,9 +66,11 @@ keepBelow-times : (f : ℕ → Bool) (n q : ℕ) → occ q (keepBelow f n) ≡ c
 unfolding occ
 keepBelow-times f n q = sym (keep-length _ _) ∙ ap length (keep-keepBelow (λ t. eqb t q) f n) ∙ keepBelow-length _ n
 
-pub keepBelow-under : (f : ℕ → Bool) (n : ℕ) → AllUnder n (keepBelow f n)
-keepBelow-under f n q h =
-    keepBelow-times f n q ∙ countBelow-sum _ n ∙ sumBelow-same _ (λ t. 0) n (λ t u. ap one (and-no (f t) _ (ne-eqb t q (λ e. omega arith)))) ∙ sumBelow-zero n
+pub keepBelow-below : (f : ℕ → Bool) (n : ℕ) → Below n (keepBelow f n)
+keepBelow-below f n q m =
+    let r = place-of (in-keep f (listBelow (λ i. i) n) q (subst (In q) (keepBelow-keep f n) m) .0) in
+    let l : r .0 < n = omega (arith, r .1, listBelow-length (λ i. i) n) in
+    omega (arith, l, r .2, listBelow-at (λ i. i) n 0 (r .0) l)
 
 pub keepBelow-occ : (f : ℕ → Bool) (n q : ℕ) → q < n → occ q (keepBelow f n) ≡ one (f q)
 keepBelow-occ f n q h =
@@ -78,7 +78,7 @@ keepBelow-occ f n q h =
     ∙ ap one (ap (λ b. f q && b) (eq-eqb q q refl) ∙ and-true (f q))
 
 pub keepBelow-exactly : (f : ℕ → Bool) (n : ℕ) → Exactly f n (keepBelow f n)
-keepBelow-exactly f n = exactly-of f n (keepBelow f n) (keepBelow-under f n) (keepBelow-occ f n)
+keepBelow-exactly f n = exactly-of f n (keepBelow f n) (keepBelow-below f n) (keepBelow-occ f n)
 
 pub keepBelow-in : (f : ℕ → Bool) (n q : ℕ) → q < n → f q ≡ true → In q (keepBelow f n)
 keepBelow-in f n = keepBelow-exactly f n .every

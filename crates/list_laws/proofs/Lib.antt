@@ -9,6 +9,7 @@ pub mod Best
 pub mod Built
 pub mod Places
 pub mod Draws
+pub mod Written
 pub mod Rows
 pub mod Runs
 pub mod Stores

@@ -11,11 +11,11 @@ use borrow.Author.Tests.{eq-eqb, ne-eqb, eqb-true, lt-ltb, ltb-true}
 use lib.Dec.{eqb, ltb}
 use lib.ListN.{length, getD}
 use Rattle.model.specs.Lists.{one, countBelow, sumBelow, allIn, has, keep, tally, In, Distinct}
-use Rattle.list_laws.specs.Occ.{occ, AllUnder, Below, Exactly}
+use Rattle.list_laws.specs.Occ.{occ, Below, Exactly}
 use Rattle.list_laws.proofs.Bools.{by-bool, no-pass, one-le, one-true}
 use Rattle.list_laws.proofs.Below.{by-lt}
 use Rattle.list_laws.proofs.Tests.{allIn-each}
-use Rattle.list_laws.proofs.Counts.{countBelow-sum, countBelow-same, sumBelow-same, sumBelow-add, sumBelow-zero, sumBelow-point}
+use Rattle.list_laws.proofs.Counts.{countBelow-sum, countBelow-same, countBelow-one, sumBelow-same, sumBelow-add, sumBelow-zero}
 
 -- ---- tally: how many entries pass
 
@@ -67,10 +67,10 @@ pub occ-append : (q : ℕ) (s t : List ℕ) → occ q (s ++ t) ≡ occ q s + occ
 unfolding occ
 occ-append q s t = tally-append (λ x. eqb x q) s t
 
--- a list in which no number stands is empty
-pub occ-empty : (l : List ℕ) → ((q : ℕ) → occ q l ≡ 0) → l ≡ []
-occ-empty [] h = refl
-occ-empty (x ∷ l) h = absurd (omega (arith, occ-here x l, h x))
+-- a list of no member is empty
+pub no-member : (l : List ℕ) → ((q : ℕ) → In q l → ⊥) → l ≡ []
+no-member [] h = refl
+no-member (x ∷ l) h = absurd (h x (List·Memᴰ·head refl))
 
 -- membership as a type, and as a count
 pub in-occ : (q : ℕ) (l : List ℕ) → In q l → 0 < occ q l
@@ -116,11 +116,6 @@ pub has-append : (s t : List ℕ) (q : ℕ) → has (s ++ t) q ≡ (has s q || h
 unfolding has
 has-append [] t q = refl
 has-append (x ∷ s) t q = ap (λ b. eqb x q || b) (has-append s t q) ∙ sym (or-assoc (eqb x q) (has s q) (has t q))
-
--- ---- AllUnder: every entry is below n
-
-pub under-in : (n q : ℕ) (l : List ℕ) → AllUnder n l → 0 < occ q l → q < n
-under-in n q l h m = by-lt q n (λ u. u) (λ u. absurd (omega (arith, h q u)))
 
 -- ---- Distinct: no number is listed twice
 
@@ -210,17 +205,18 @@ tally-labels label n (x ∷ l) h =
     let x-below : label x < n = h x (List·Memᴰ·head refl) in
     let split = sumBelow-add (λ j. one (eqb (label x) j)) (λ j. tally (λ q. eqb (label q) j) l) n in
     let point : sumBelow (λ j. one (eqb (label x) j)) n ≡ 1 =
-    sumBelow-point _ n (label x) x-below (λ t u v. ap one (ne-eqb (label x) t (λ z. v (sym z)))) ∙ ap one (eq-eqb (label x) (label x) refl) in
+    sym (countBelow-sum (eqb (label x)) n)
+    ∙ countBelow-one (eqb (label x)) n (label x) x-below (eq-eqb (label x) (label x) refl) (λ t v. ne-eqb (label x) t (λ z. v (sym z))) in
     omega (arith, split, point, tally-labels label n l (λ q m. h q (List·Memᴰ·tail m)))
 
 -- ---- a list that has the numbers below n as a test says
 
 -- a list with each number below n as often as a test says, and no other: its tally is the count of the numbers below n that pass both
-pub tally-below : (f g : ℕ → Bool) (n : ℕ) (l : List ℕ) → AllUnder n l → ((q : ℕ) → q < n → occ q l ≡ one (g q))
+pub tally-below : (f g : ℕ → Bool) (n : ℕ) (l : List ℕ) → Below n l → ((q : ℕ) → q < n → occ q l ≡ one (g q))
     → tally f l ≡ countBelow (λ t. g t && f t) n
 unfolding occ
 tally-below f g n l a h =
-    sym (keep-length f l) ∙ sym (tally-labels (λ q. q) n (keep f l) (λ q m. under-in n q l a (in-occ q l (in-keep f l q m .0))))
+    sym (keep-length f l) ∙ sym (tally-labels (λ q. q) n (keep f l) (λ q m. a q (in-keep f l q m .0)))
     ∙ sumBelow-same _ _ n (λ t u. keep-occ f l t ∙ ap (λ k. cond (f t) k 0) (h t u) ∙ both (f t) (g t)) ∙ sym (countBelow-sum (λ t. g t && f t) n)
   where
     both : (x y : Bool) → cond x (one y) 0 ≡ one (y && x)
@@ -230,7 +226,7 @@ tally-below f g n l a h =
     both false false = refl
 
 -- such a list has as many entries as numbers pass
-pub length-below : (g : ℕ → Bool) (n : ℕ) (l : List ℕ) → AllUnder n l → ((q : ℕ) → q < n → occ q l ≡ one (g q)) → length l ≡ countBelow g n
+pub length-below : (g : ℕ → Bool) (n : ℕ) (l : List ℕ) → Below n l → ((q : ℕ) → q < n → occ q l ≡ one (g q)) → length l ≡ countBelow g n
 length-below g n l a h = sym (tally-all l) ∙ tally-below (λ t. true) g n l a h ∙ countBelow-same _ _ n (λ t u. and-true (g t))
 
 -- ---- one more at the end
@@ -260,9 +256,6 @@ getD-member d (x ∷ l) (suc i) h = List·Memᴰ·tail (getD-member d l i (omega
 pub getD-in : (l : List ℕ) (i : ℕ) → i < length l → In (getD l i 0) l
 getD-in l i h = getD-member 0 l i h
 
-pub under-at : (n : ℕ) (l : List ℕ) (i : ℕ) → AllUnder n l → i < length l → getD l i 0 < n
-under-at n l i h u = under-in n (getD l i 0) l h (in-occ (getD l i 0) l (getD-in l i u))
-
 -- and what is listed stands at some place
 pub place-of : {p : ℕ} {l : List ℕ} → In p l → (i : ℕ) × (i < length l) × (getD l i 0 ≡ p)
 place-of (List·Memᴰ·head e) = (0, omega arith, sym e)
@@ -278,10 +271,7 @@ different-places (x ∷ l) (Pairwise·cons a d) (suc i) zero h k e =
     absurd (a (getD l i 0) ∣ getD-in l i (omega arith) ∣₁ (sym e))
 different-places (x ∷ l) (Pairwise·cons a d) (suc i) (suc j) h k e = ap suc (different-places l d i j (omega arith) (omega arith) e)
 
--- ---- Below: every entry is below n, said of the members
-
-pub under-below : (n : ℕ) (l : List ℕ) → AllUnder n l → Below n l
-under-below n l h q m = under-in n q l h (in-occ q l m)
+-- ---- Below: every entry is below n
 
 pub below-append : (n : ℕ) (s t : List ℕ) → Below n s → Below n t → Below n (s ++ t)
 below-append n s t h k q m = ⊎-elim (h q) (k q) (List·Memᴰ·append-cases s m)
@@ -294,11 +284,11 @@ below-snoc n l p h k = below-append n l (p ∷ []) h (λ q m. rw (List·Memᴰ·
 
 -- ---- Exactly: each number below n that passes, once, and no other
 
-pub exactly-of : (g : ℕ → Bool) (n : ℕ) (l : List ℕ) → AllUnder n l → ((q : ℕ) → q < n → occ q l ≡ one (g q)) → Exactly g n l
+pub exactly-of : (g : ℕ → Bool) (n : ℕ) (l : List ℕ) → Below n l → ((q : ℕ) → q < n → occ q l ≡ one (g q)) → Exactly g n l
 exactly-of g n l a h = record {
-  distinct = occ-distinct l (λ q. by-lt q n (λ u. omega (arith, h q u, one-le (g q))) (λ u. omega (arith, a q u)));
-  below = under-below n l a;
-  passes = λ q m. one-true (g q) (omega (arith, h q (under-below n l a q m), in-occ q l m, one-le (g q)));
+  distinct = occ-distinct l (λ q. by-lt 0 (occ q l) (λ m. omega (arith, h q (a q (occ-in q l m)), one-le (g q))) (λ z. omega arith));
+  below = a;
+  passes = λ q m. one-true (g q) (omega (arith, h q (a q m), in-occ q l m, one-le (g q)));
   every = λ q u e. occ-in q l (omega (arith, h q u, ap one e));
 }
 

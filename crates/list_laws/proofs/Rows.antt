@@ -10,6 +10,8 @@ use lib.Dec.{ltb}
 use lib.ListN.{length, getD, drop, length-append, List·getD-append}
 use lib.Seq.{getD-append-add, sets}
 use Rattle.model.specs.Lists.{listBelow, joinBelow, over}
+use Rattle.model.specs.Plan.{maxObjectives}
+use Rattle.model.specs.Refusal.{maxSize}
 use Rattle.list_laws.proofs.Built.{listBelow-length, listBelow-at, joinBelow-more, over-run}
 use Rattle.list_laws.proofs.Runs.{sets-append}
 use Rattle.list_laws.proofs.Below.{later}
@@ -29,8 +31,8 @@ row-within p n m len h l = omega (arith, row-inside p n m h)
 pub row-lt : (p j n m : ℕ) → p < n → j < m → p * m + j < n * m
 row-lt p j n m h g = omega (arith, row-inside p n m h)
 
--- at most 1,024 rows of at most 8 entries
-pub few-values : (n m : ℕ) → n ≤ 1024 → m ≤ 8 → n * m ≤ 8192
+-- at most as many rows as plans or lines are taken, of at most as many entries as objectives
+pub few-values : (n m : ℕ) → n ≤ maxSize → m ≤ maxObjectives → n * m ≤ maxSize * maxObjectives
 few-values n m h k = mul-le-mul h k
 
 -- ---- a list of lists
@@ -105,11 +107,13 @@ module _ {A : Type 0} where
         later (λ t. (rest : List A) × (joinBelow f t ≡ joinBelow f k ++ rest)) (λ t r. (r .0 ++ f t, ap (λ l. l ++ f t) (r .1) ∙ append-assoc (joinBelow f k) (r .0) (f t)))
         k n h ([], sym (append-nil (joinBelow f k)))
 
-    -- so the next behind the first i has room where all n have it
+    -- so it is at least as long
+    pub joinBelow-up : (k n : ℕ) → k ≤ n → length (joinBelow f k) ≤ length (joinBelow f n)
+    joinBelow-up k n h = let r = joinBelow-begins k n h in omega (arith, ap length (r .1), length-append (joinBelow f k) (r .0))
+
+    -- and the next behind the first i has room where all n have it
     pub joinBelow-room : (i n : ℕ) → i < n → length (joinBelow f i) + length (f i) ≤ length (joinBelow f n)
-    joinBelow-room i n h =
-        let r = joinBelow-begins (i + 1) n (omega arith) in
-        omega (arith, ap length (r .1), length-append (joinBelow f (i + 1)) (r .0), ap length (joinBelow-more f i), length-append (joinBelow f i) (f i))
+    joinBelow-room i n h = omega (arith, joinBelow-up (i + 1) n (omega arith), ap length (joinBelow-more f i), length-append (joinBelow f i) (f i))
 
     -- joined lists fit into a size where with each of them they do
     pub joinBelow-fits : (size k : ℕ) → ((t : ℕ) → t < k → ltb size (length (joinBelow f (suc t))) ≡ false) → length (joinBelow f k) ≤ size

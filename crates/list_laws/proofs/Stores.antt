@@ -1,5 +1,5 @@
 -- Runs of stores, one behind the other, and one entry stored.
-use Prim.Native.Nat.{ℕ, _+_, _<_}
+use Prim.Native.Nat.{ℕ, _+_, _≤_, _<_}
 use mathlib.Core.Path.{_≡_, refl, ap, sym, subst, _∙_}
 use mathlib.Core.Bool.{Bool, true, false, cond}
 use mathlib.Core.List.{List, [], _∷_, _++_}
@@ -8,8 +8,9 @@ use borrow.Author.Tests.{eqb-true, eqb-false}
 use lib.Dec.{eqb}
 use lib.ListN.{length, getD, set, length-append}
 use lib.Seq.{sets, length-sets, getD-set-other, getD-set-same}
-use Rattle.model.specs.Lists.{keepBelow}
+use Rattle.model.specs.Lists.{keepBelow, over}
 use Rattle.list_laws.proofs.Bools.{by-bool}
+use Rattle.list_laws.proofs.Built.{over-front}
 use Rattle.list_laws.proofs.Kept.{keepBelow-none, keepBelow-more}
 use Rattle.list_laws.specs.Put.{Put, Picked}
 use Rattle.list_laws.proofs.Runs.{sets-append}
@@ -31,6 +32,10 @@ put-length o₀ o₁ at r a p = ap length (p .stored) ∙ length-sets o₀ at a
 -- the same text by another name
 pub put-as : (o₀ o₁ : List ℕ) (at r : ℕ) (a b : List ℕ) → a ≡ b → Put o₀ at a o₁ r → Put o₀ at b o₁ r
 put-as o₀ o₁ at r a b e p = record { stored = p .stored ∙ ap (λ (l : List ℕ). sets o₀ at l) e; ends = p .ends ∙ ap (λ (l : List ℕ). at + length l) e }
+
+-- a text at the front
+pub put-over : (o₀ o₁ : List ℕ) (r : ℕ) (a : List ℕ) → length a ≤ length o₀ → Put o₀ 0 a o₁ r → o₁ ≡ over a o₀
+put-over o₀ o₁ r a h p = p .stored ∙ over-front a o₀ h
 
 -- ---- the numbers that pass a test
 

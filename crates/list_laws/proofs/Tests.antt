@@ -8,7 +8,7 @@ use native.Mathlib.Numerals.{add-one}
 use native.Mathlib.Omega.{arith}
 use lib.ListN.{length, getD}
 use Rattle.model.specs.Lists.{anyBelow, allBelow, allIn, listBelow}
-use Rattle.list_laws.proofs.Bools.{by-bool, and-left, and-right}
+use Rattle.list_laws.proofs.Bools.{by-bool, no-pass, no-fail, and-left, and-right}
 use Rattle.list_laws.proofs.Below.{same-below, last-or}
 use Rattle.list_laws.proofs.Built.{listBelow-length, listBelow-at}
 
@@ -48,11 +48,10 @@ anyBelow-some f (suc n) e = by-bool (anyBelow f n)
 
 -- if none passes, each one does not; and conversely
 pub anyBelow-each : (f : ℕ → Bool) (n : ℕ) → anyBelow f n ≡ false → (k : ℕ) → k < n → f k ≡ false
-anyBelow-each f n e k h = by-bool (f k) (λ v. absurd (true≢false (sym (anyBelow-at f n k h v) ∙ e))) (λ v. v)
+anyBelow-each f n e k h = no-pass (f k) (λ v. true≢false (sym (anyBelow-at f n k h v) ∙ e))
 
 pub anyBelow-nowhere : (f : ℕ → Bool) (n : ℕ) → ((k : ℕ) → k < n → f k ≡ false) → anyBelow f n ≡ false
-anyBelow-nowhere f n h = by-bool (anyBelow f n)
-    (λ v. let r = anyBelow-some f n v in absurd (true≢false (sym (r .2) ∙ h (r .0) (r .1)))) (λ v. v)
+anyBelow-nowhere f n h = no-pass (anyBelow f n) (λ v. let r = anyBelow-some f n v in true≢false (sym (r .2) ∙ h (r .0) (r .1)))
 
 -- only what lies below n matters
 pub anyBelow-same : (f g : ℕ → Bool) (n : ℕ) → ((t : ℕ) → t < n → f t ≡ g t) → anyBelow f n ≡ anyBelow g n
@@ -89,7 +88,7 @@ allBelow-no f n k h e = allBelow-any f n ∙ ap not (anyBelow-at (λ t. not (f t
 
 -- all pass just where each one does
 pub allBelow-each : (f : ℕ → Bool) (n : ℕ) → allBelow f n ≡ true → (k : ℕ) → k < n → f k ≡ true
-allBelow-each f n e k h = by-bool (f k) (λ v. v) (λ v. absurd (true≢false (sym e ∙ allBelow-no f n k h v)))
+allBelow-each f n e k h = no-fail (f k) (λ v. true≢false (sym e ∙ allBelow-no f n k h v))
 
 pub allBelow-every : (f : ℕ → Bool) (n : ℕ) → ((k : ℕ) → k < n → f k ≡ true) → allBelow f n ≡ true
 allBelow-every f n h = allBelow-any f n ∙ ap not (anyBelow-nowhere (λ t. not (f t)) n (λ k l. ap not (h k l)))
@@ -117,8 +116,7 @@ module _ {A : Type 0} where
   pub allIn-below : (f : A → Bool) (d : A) (l : List A) → allIn f l ≡ allBelow (λ k. f (getD l k d)) (length l)
   allIn-below f d l = by-bool (allIn f l)
       (λ e. e ∙ sym (allBelow-every _ (length l) (allIn-each f d l e)))
-      (λ e. e ∙ sym (by-bool (allBelow (λ k. f (getD l k d)) (length l))
-      (λ v. absurd (true≢false (sym (allIn-every f d l (allBelow-each _ (length l) v)) ∙ e))) (λ v. v)))
+      (λ e. e ∙ sym (no-pass (allBelow (λ k. f (getD l k d)) (length l)) (λ v. true≢false (sym (allIn-every f d l (allBelow-each _ (length l) v)) ∙ e))))
 
 -- and of a list that is given place by place
 pub allIn-listBelow : {A : Type 0} (test : A → Bool) (f : ℕ → A) (n : ℕ) → allIn test (listBelow f n) ≡ allBelow (λ j. test (f j)) n

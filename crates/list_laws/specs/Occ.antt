@@ -1,5 +1,5 @@
 -- How often a number stands in a list.
-use Prim.Native.Nat.{ℕ, _≤_, _<_}
+use Prim.Native.Nat.{ℕ, _<_}
 use mathlib.Core.Path.{_≡_}
 use mathlib.Core.Bool.{Bool, true}
 use mathlib.Core.List.{List}
@@ -11,10 +11,6 @@ unfoldable pub occ : ℕ → List ℕ → ℕ
 occ q l = tally (λ x. eqb x q) l
 
 -- every entry of a list is below n
-abbrev pub AllUnder : ℕ → List ℕ → Type 0
-AllUnder n l = (q : ℕ) → n ≤ q → occ q l ≡ 0
-
--- the same by its members
 abbrev pub Below : ℕ → List ℕ → Type 0
 Below n l = (q : ℕ) → In q l → q < n
 

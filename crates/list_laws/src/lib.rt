@@ -1,1 +1,1 @@
-// Laws of the definitions of model's `Lists` alone: no code.
+// Laws that every layer uses: of model's `Lists`, of draws in turn, of stores into a slice, and of the refusals' order. No code.

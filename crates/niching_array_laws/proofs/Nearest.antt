@@ -9,7 +9,7 @@ use lib.ListN.{length, length-append}
 use Rattle.model.specs.Lists.{keepBelow}
 use Rattle.model.specs.Kept.{nearest}
 use Rattle.list_laws.proofs.Bools.{by-bool, by-cond, and-no}
-use Rattle.list_laws.proofs.Kept.{keepBelow-yes, keepBelow-no}
+use Rattle.list_laws.proofs.Kept.{keepBelow-more, keepBelow-no}
 use Rattle.niching_array_laws.specs.Niche.{waitsOn, placeDistance, nearerOf, Passes, Kth}
 use Rattle.niching_array_laws.proofs.Places.{first-only, nearest-snoc, nearest-one}
 
@@ -54,7 +54,7 @@ module _ {d : ℕ → Float} {f : ℕ → Bool} {n i best : ℕ} (h : NearestSo 
   }
     where
       k : keepBelow f (i + 1) ≡ keepBelow f i ++ (i ∷ [])
-      k = keepBelow-yes f i v
+      k = keepBelow-more f i v
 
   pub nearest-more : (r : ℕ) → r ≡ cond (f i && lt (d i) (d best)) i best → NearestSo d f n (i + 1) r
   nearest-more r e = by-bool (f i)

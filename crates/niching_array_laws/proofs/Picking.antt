@@ -11,7 +11,7 @@ use lib.ListN.{length, getD}
 use Rattle.model.specs.Lists.{keepBelow}
 use Rattle.model.specs.Draw.{Drawn, drawn}
 use Rattle.model.specs.Kept.{leastLines, drawFrom, drawMember}
-use Rattle.list_laws.proofs.Bools.{and-not-left, and-not-right}
+use Rattle.list_laws.proofs.Bools.{and-right, and-not-left}
 use Rattle.list_laws.proofs.Counts.{countBelow-at}
 use Rattle.list_laws.proofs.Kept.{keepBelow-length}
 use Rattle.niching_array_laws.specs.Niche.{lineIn, distanceIn, memberAt, countOf, hasWaiting, waitsOn, members, Open, MemberOf, Ready, pickAt}
@@ -38,7 +38,7 @@ module _ (front lines : List ℕ) (taken : List Bool) (l i : ℕ) (h : MemberOf 
   member-waited = and-not-left (getD taken i false) (eqb (lineIn lines (memberAt front i)) l) (h .passes)
 
   pub member-line : lineIn lines (memberAt front i) ≡ l
-  member-line = eqb-true (lineIn lines (memberAt front i)) l (and-not-right (getD taken i false) (eqb (lineIn lines (memberAt front i)) l) (h .passes))
+  member-line = eqb-true (lineIn lines (memberAt front i)) l (and-right (not (getD taken i false)) (eqb (lineIn lines (memberAt front i)) l) (h .passes))
 
 -- a drawn line and a member chosen of it are the pick
 pub picked-at : (front lines : List ℕ) (distances : List Float) (n : ℕ) (counts waits : List ℕ) (taken : List Bool) (s l u r t : ℕ)

@@ -5,21 +5,19 @@ use mathlib.Core.Bool.{Bool, true, false, cond}
 use mathlib.Core.List.{List, [], _∷_, _++_, map}
 use native.Mathlib.Nat.{not-suc-le-zero}
 use native.Mathlib.Omega.{arith}
-use borrow.Author.Tests.{eq-eqb, ne-eqb, eqb-true, eqb-false}
 use lib.Dec.{eqb}
 use lib.Ieee.{Float, lt}
 use lib.ListN.{length, getD, replicate, length-replicate, getD-replicate, List·getD-append, List·getD-eq-default, length-append, length-map}
 use lib.Seq.{getD-at}
-use Rattle.model.specs.Lists.{one, countBelow, sumBelow, keepBelow, keep, tally, bestFrom, listBelow}
+use Rattle.model.specs.Lists.{one, countBelow, keepBelow, keep, tally, bestFrom, listBelow}
 use Rattle.model.specs.Kept.{nearest}
 use Rattle.list_laws.proofs.Built.{map-at, listBelow-places, map-below}
 use Rattle.list_laws.proofs.Best.{best-more, best-same, best-all, best-map}
 use Rattle.list_laws.specs.Occ.{occ}
-use Rattle.list_laws.proofs.Bools.{by-bool}
 use Rattle.list_laws.proofs.Below.{last-or, by-lt}
-use Rattle.list_laws.proofs.Counts.{countBelow-sum, countBelow-none, countBelow-yes, countBelow-no, countBelow-up, sumBelow-same, sumBelow-add, sumBelow-point}
+use Rattle.list_laws.proofs.Counts.{countBelow-none, countBelow-yes, countBelow-no, countBelow-up}
 use Rattle.list_laws.proofs.Members.{empty-of, keep-map}
-use Rattle.list_laws.proofs.Kept.{keepBelow-yes, keepBelow-length, keepBelow-room, keepBelow-keep}
+use Rattle.list_laws.proofs.Kept.{keepBelow-more, keepBelow-length, keepBelow-room, keepBelow-keep}
 use Rattle.niching_array_laws.specs.Niche.{Kth}
 
 -- ---- one value again and again
@@ -82,7 +80,7 @@ module _ {f : ℕ → Bool} {k left i : ℕ} (h : Seeks f k left i) where
 
 -- the first that passes is the only one up to it
 pub first-only : (f : ℕ → Bool) (n r : ℕ) → Kth f n 0 r → keepBelow f (r + 1) ≡ r ∷ []
-first-only f n r h = keepBelow-yes f r (h .one .passes) ∙ ap (λ t. t ++ (r ∷ [])) (empty-of (keepBelow f r) (keepBelow-length f r ∙ h .rank))
+first-only f n r h = keepBelow-more f r (h .one .passes) ∙ ap (λ t. t ++ (r ∷ [])) (empty-of (keepBelow f r) (keepBelow-length f r ∙ h .rank))
 
 -- ---- the nearest
 
@@ -114,20 +112,3 @@ nearest-map d h l u =
     ap (bestFrom (nearer d) (getD (map h l) 0 0) (λ i. getD (map h l) i 0)) (length-map l h)
     ∙ ap (λ b. bestFrom (nearer d) b (λ i. getD (map h l) i 0) (length l)) (at 0 u)
     ∙ best-same (nearer d) (h (getD l 0 0)) _ _ (length l) at ∙ best-map (nearer d) h (getD l 0 0) (λ i. getD l i 0) (length l)
-
--- ---- one fewer
-
--- a test that no longer passes at i alone passes once less
-pub countBelow-drop : (f g : ℕ → Bool) (n i : ℕ) → i < n → f i ≡ true → g i ≡ false → ((t : ℕ) → (t ≡ i → ⊥) → g t ≡ f t)
-    → countBelow f n ≡ countBelow g n + 1
-countBelow-drop f g n i h a b s =
-    countBelow-sum f n ∙ sumBelow-same _ _ n (λ t u. split t) ∙ sumBelow-add (λ t. one (g t)) (λ t. one (eqb t i)) n
-    ∙ omega (arith, countBelow-sum g n, point)
-  where
-    split : (t : ℕ) → one (f t) ≡ one (g t) + one (eqb t i)
-    split t = by-bool (eqb t i)
-        (λ e. let v : t ≡ i = eqb-true t i e in omega (arith, ap (λ k. one (f k)) v, ap one a, ap (λ k. one (g k)) v, ap one b, ap one e))
-        (λ e. omega (arith, ap one (s t (eqb-false t i e)), ap one e))
-
-    point : sumBelow (λ t. one (eqb t i)) n ≡ 1
-    point = sumBelow-point _ n i h (λ t u v. ap one (ne-eqb t i v)) ∙ ap one (eq-eqb i i refl)

@@ -11,7 +11,7 @@ use Rattle.model.specs.Lists.{over}
 use Rattle.model.specs.Draw.{Drawn, drawn, inTurn}
 use Rattle.model.specs.Kept.{nicheCount, pickOne, picks}
 use Rattle.list_laws.proofs.Draws.{drawAll-length}
-use Rattle.niching_laws.proofs.Written.{Written, written-none, written-next, written-more}
+use Rattle.list_laws.proofs.Written.{WrittenNumbers, written-none, written-next, written-more}
 use Rattle.niching_array_laws.specs.Niche.{lineIn, distanceIn, memberAt, countOf, Zeros, OnLines, Ready, Took, Splits, picksOf, NichingSelects}
 use Rattle.niching_array_laws.proofs.Places.{replicate-at}
 use Rattle.niching_array_laws.proofs.Filling.{Given, Holds, holds-first, holds-pick, holds-ready, holds-more}
@@ -24,7 +24,7 @@ pickIn lines distances n before front place picked = pickOne (lineIn lines) (dis
 pub record Selecting (before front lines : List ℕ) (distances : List Float) (n s : ℕ) (old : List ℕ) (j : ℕ) (counts waits : List ℕ) (taken : List Bool)
     (out : List ℕ) (t : ℕ) : Type 0 where
   pub holds : Holds before front lines (picks (lineIn lines) (distanceIn distances) n before front j s .value) counts waits taken
-  pub picked : Written (pickIn lines distances n before front) s old j out t
+  pub picked : WrittenNumbers (pickIn lines distances n before front) s old j out t
 
 pub selecting-first : (before front lines : List ℕ) (distances : List Float) (n s : ℕ) (old counts waits : List ℕ)
     → ((l : ℕ) → countOf counts l ≡ nicheCount (lineIn lines) before l) → ((l : ℕ) → countOf waits l ≡ nicheCount (lineIn lines) front l)
@@ -45,8 +45,8 @@ module _ {before front lines : List ℕ} {distances : List Float} {n s : ℕ} {o
       → Took front lines distances n t counts counts′ waits waits′ taken taken′ r u
       → Selecting before front lines distances n s old (j + 1) counts′ waits′ taken′ (set out j r) u
   selecting-more {counts′} {waits′} {taken′} {r} {u} v k = record {
-    holds = rw (← written-next (h .picked) r u chosen) (holds-more (h .holds) g k);
-    picked = written-more (h .picked) v r u chosen;
+    holds = rw (← written-next (pickIn lines distances n before front) s old j out t (h .picked) r u chosen) (holds-more (h .holds) g k);
+    picked = written-more (pickIn lines distances n before front) s old j out t (h .picked) v r u chosen;
   }
     where
       chosen : drawn r u ≡ pickOne (lineIn lines) (distanceIn distances) n before front (picks (lineIn lines) (distanceIn distances) n before front j s .value) t

@@ -4,7 +4,6 @@ pub mod Least
 pub mod Niched
 pub mod Choice
 pub mod KeptLength
-pub mod Written
 pub mod Picks
 pub mod Procedure
 pub mod Association

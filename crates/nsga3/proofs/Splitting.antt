@@ -14,7 +14,7 @@ use Rattle.model.specs.Front.{listing}
 use Rattle.model.specs.Association.{Request, objectives, lineCount, dominance, idealOf, association, lineOf}
 use Rattle.model.specs.Kept.{wholeFronts, before, isSplit, splitFront, filled, selectedSplit, picks}
 use Rattle.list_laws.proofs.Built.{listBelow-length, over-all, over-below}
-use Rattle.list_laws.proofs.Members.{under-at}
+use Rattle.list_laws.proofs.Members.{getD-in}
 use Rattle.front_laws.proofs.Order.{listing-below, front-exactly}
 use Rattle.niching_laws.proofs.Association.{lineOf-inside}
 use Rattle.association_laws.specs.Request.{Pool, LinesIn, Associates}
@@ -42,8 +42,8 @@ module _ {r : Request} {keptRoom linesRoom : ℕ} {rows : List Float} {order : L
   order-below : (i : ℕ) → i < r .count → getD order i 0 < r .count
   order-below i h =
       subst (λ x. x < r .count) (ap (λ l. getD l i 0) (sym (S .listed .listed)) ∙ getD-take (r .count) order i 0 h)
-      (under-at (r .count) (listing (dominance r) (r .count) (r .count)) i (listing-below (dominance r) (r .count) (r .count))
-      (omega (arith, ap length (S .listed .listed), length-take-le (r .count) order (S .listed .places))))
+      (listing-below (dominance r) (r .count) (r .count) _ (getD-in (listing (dominance r) (r .count) (r .count)) i
+      (omega (arith, ap length (S .listed .listed), length-take-le (r .count) order (S .listed .places)))))
 
   split-distinct : Distinct (splitFront r)
   unfolding splitFront

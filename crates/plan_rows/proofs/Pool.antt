@@ -7,13 +7,12 @@ use native.Mathlib.Omega.{arith}
 use lib.Ieee.{Float, nan, isNan}
 use lib.ListN.{length}
 use Rattle.model.specs.Plan.{Plan, planAt, maxObjectives, maxConstraints}
-use Rattle.model.specs.Row.{rowOf, feasible, violation, beats}
+use Rattle.model.specs.Row.{feasible, violation, beats}
 use Rattle.model.specs.Refusal.{goodPlan, goodPlans}
 use Rattle.list_laws.proofs.Built.{over-below}
 use Rattle.list_laws.proofs.Checks.{good-length, good-constraints}
 use Rattle.list_laws.proofs.Tests.{allBelow-each}
-use Rattle.front_laws.specs.Strict.{Known}
-use Rattle.front_laws.specs.Flat.{flatBeats, KnownRows, RowsOf, FlatOf}
+use Rattle.front_laws.specs.Flat.{flatBeats, KnownRows, KnownPlans, RowsOf, FlatOf}
 use Rattle.front_laws.specs.Post.{Sorted}
 use Rattle.front_laws.proofs.Plans.{in-words, words-accepted, accepted-known}
 use Rattle.front_laws.proofs.Meaning.{sorted-beats}
@@ -33,7 +32,7 @@ module _ (pool marks : List ℕ) (n : ℕ) (good : goodPlans (length marks) (pla
   pool-constraint-counts p l = good-constraints (length marks) (planAt pool p) (good-at p l)
 
   -- no value is a NaN
-  pub pool-known : length marks ≤ maxObjectives → (p : ℕ) → p < n → Known (length marks) (rowOf marks (planAt pool p))
+  pub pool-known : length marks ≤ maxObjectives → KnownPlans marks (planAt pool) n
   pool-known h p l =
       accepted-known marks (length marks) (planAt pool p)
       (words-accepted (length marks) (planAt pool p) h (in-words _) (good-at p l))
@@ -42,7 +41,7 @@ module _ (pool marks : List ℕ) (n : ℕ) (good : goodPlans (length marks) (pla
 
 module _ (marks : List ℕ) (plans : ℕ → Plan) (n : ℕ) (rows : List Float) (laid : RowsOf marks plans n rows) where
   -- where no plan's value is a NaN, no entry is
-  pub rows-known : ((p : ℕ) → p < n → Known (length marks) (rowOf marks (plans p))) → KnownRows rows (length marks) n
+  pub rows-known : KnownPlans marks plans n → KnownRows rows (length marks) n
   rows-known known p l j u = ap isNan (laid p j l u) ∙ known p l j u
 
   module _ (flags₀ flags : List Bool) (sums₀ sums : List Float) (constraints : ConstraintsOf plans n flags₀ flags sums₀ sums) where

@@ -1,7 +1,7 @@
 -- The whole file: its header, its marks and its plans, by how far the reader gets.
 use Prim.Native.Nat.{ℕ, _≤_, _<_}
-use mathlib.Core.Path.{_≡_, refl, ap, sym, _∙_}
-use mathlib.Core.List.{List, [], map}
+use mathlib.Core.Path.{_≡_, ap, sym, _∙_}
+use mathlib.Core.List.{List, map}
 use mathlib.Core.Option.{Option, none}
 use native.Mathlib.Omega.{arith}
 use borrow.Author.Tests.{le-leb, lt-leb}
@@ -10,7 +10,7 @@ use lib.Seq.{sets, drop-cons, take-all}
 use Rattle.model.specs.Plan.{Plan, maxObjectives}
 use Rattle.model.specs.PoolFile.{Parsed, pure, onward, number, many, plan, poolFile, parse, wholly, ifNoneLeft, maxFile}
 use Rattle.list_laws.proofs.Bools.{by-option}
-use Rattle.list_laws.proofs.Built.{over-run, over-all, over-take}
+use Rattle.list_laws.proofs.Built.{over-front, over-all, over-take}
 use Rattle.pool_plans.specs.declared.End.{End}
 use Rattle.pool_plans.specs.declared.End.the-variants as end
 use Rattle.pool_file.specs.declared.Header.{Header}
@@ -51,7 +51,7 @@ module _ (file l o : List ℕ) (r : End) (w : WordsIs (λ v. v) file 0 5 5 0 l o
     in-words : o ≡ five .value
     in-words =
         let c = reads-count number file 0 _ 5 next five in
-        stored-plain 5 0 l o (five .value) (five .stored) ∙ ap (sets l 0) (take-all 5 (five .value) (omega arith)) ∙ over-run [] (five .value) l 0 refl (omega arith)
+        stored-plain 5 0 l o (five .value) (five .stored) ∙ ap (sets l 0) (take-all 5 (five .value) (omega arith)) ∙ over-front (five .value) l (omega arith)
         ∙ over-all (five .value) l (omega arith)
 
     pub header-good : poolFile file ≡ afterHeader (headerOf o) (drop next file)
@@ -132,7 +132,7 @@ module _ (file : List ℕ) (h : Header) (l o : List ℕ) (next : ℕ) (m : Marke
     shown room u =
         let a : take 8 values ≡ values = take-all 8 values (omega (arith, counted)) in
         let s : length (map capped values) ≡ h .m = length-map values capped ∙ counted in
-        ap (take (h .m)) (m .marks .stored ∙ ap (λ (t : List ℕ). sets l 0 (map capped t)) a ∙ over-run [] (map capped values) l 0 refl (omega arith))
+        ap (take (h .m)) (m .marks .stored ∙ ap (λ (t : List ℕ). sets l 0 (map capped t)) a ∙ over-front (map capped values) l (omega arith))
         ∙ over-take (map capped values) l (h .m) s
 
     pub parse-good : 8 ≤ length l → length file ≤ stop → Pool file h o pool

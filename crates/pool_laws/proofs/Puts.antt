@@ -1,11 +1,10 @@
 -- Laws of texts put one after the other.
 use Prim.Native.Nat.{ℕ, _+_, _≤_, _<_}
-use mathlib.Core.Path.{_≡_, refl, sym, _∙_}
+use mathlib.Core.Path.{refl, sym}
 use mathlib.Core.List.{List, [], _∷_, _++_}
 use native.Mathlib.Omega.{arith}
 use lib.ListN.{length, getD, take, set, length-append}
-use Rattle.model.specs.Lists.{over}
-use Rattle.list_laws.proofs.Built.{over-run, take-more}
+use Rattle.list_laws.proofs.Built.{take-more}
 use Rattle.list_laws.proofs.Stores.{put-then, put-length, put-as}
 use Rattle.list_laws.specs.Put.{Put}
 use Rattle.pool_laws.specs.Text.{Four, joined}
@@ -23,10 +22,6 @@ pub put-more : (o₀ o₁ text : List ℕ) (at i : ℕ) → i < length text → 
 put-more o₀ o₁ text at i h p =
     put-as o₀ _ at (at + (i + 1)) _ _ (sym (take-more 0 text i h))
     (put-then o₀ o₁ _ at (at + i) (at + (i + 1)) (take i text) (getD text i 0 ∷ []) p (record { stored = refl; ends = omega arith }))
-
--- at the front: what lies past the text is as it was
-pub put-over : (o₀ o₁ : List ℕ) (r : ℕ) (a : List ℕ) → length a ≤ length o₀ → Put o₀ 0 a o₁ r → o₁ ≡ over a o₀
-put-over o₀ o₁ r a h p = p .stored ∙ over-run [] a o₀ 0 refl (omega arith)
 
 -- ---- four texts, one after the other
 

@@ -10,8 +10,7 @@ use Rattle.model.specs.Lists.{over}
 use Rattle.list_laws.proofs.Built.{over-take}
 use Rattle.list_laws.specs.Put.{Put}
 use Rattle.pool_laws.specs.Choice.{exit, textExit}
-use Rattle.list_laws.proofs.Stores.{put-as}
-use Rattle.pool_laws.proofs.Puts.{put-over}
+use Rattle.list_laws.proofs.Stores.{put-as, put-over}
 
 module _ (text out : List ℕ) (n : ℕ) (e : n ≡ length text) where
   pub no-room : length out < n → exit (chosen.Refused 10) out ≡ textExit text out

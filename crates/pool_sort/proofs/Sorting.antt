@@ -1,14 +1,13 @@
 -- A request's pool, read into flat lists, sorted and cut, in the model's words.
-use Prim.Native.Nat.{ℕ, _≤_, _<_}
+use Prim.Native.Nat.{ℕ, _≤_}
 use mathlib.Core.Path.{_≡_, sym, subst}
 use mathlib.Core.Bool.{Bool}
 use mathlib.Core.List.{List}
 use lib.Ieee.{Float}
 use lib.ListN.{length}
-use Rattle.model.specs.Row.{rowOf}
 use Rattle.model.specs.Association.{Request, objectives, dominance}
-use Rattle.front_laws.specs.Strict.{Strict, Known}
-use Rattle.front_laws.specs.Flat.{flatBeats, KnownRows}
+use Rattle.front_laws.specs.Strict.{Strict}
+use Rattle.front_laws.specs.Flat.{flatBeats, KnownRows, KnownPlans}
 use Rattle.front_laws.specs.Post.{Sorted}
 use Rattle.front_laws.proofs.Places.{sorted-order}
 use Rattle.front_laws.proofs.Plans.{beats-strict}
@@ -19,11 +18,7 @@ use Rattle.plan_rows.specs.Filled.{ConstraintsOf}
 use Rattle.plan_rows.proofs.Pool.{rows-known, flat-sorted}
 use Rattle.pool_sort.specs.Laid.{RowsIn, Sorts}
 
--- no value of the pool is a NaN
-abbrev pub KnownPool : Request → Type 0
-KnownPool r = (p : ℕ) → p < r .count → Known (objectives r) (rowOf (r .marks) (r .plans p))
-
-module _ (r : Request) (n : ℕ) (e : n ≡ r .count) (rows : List Float) (laid : RowsIn r rows) (known : KnownPool r) where
+module _ (r : Request) (n : ℕ) (e : n ≡ r .count) (rows : List Float) (laid : RowsIn r rows) (known : KnownPlans (r .marks) (r .plans) (r .count)) where
   -- no entry is a NaN
   pub known-rows : KnownRows rows (objectives r) n
   known-rows = subst (λ k. KnownRows rows (objectives r) k) (sym e) (rows-known (r .marks) (r .plans) (r .count) rows (laid .values) known)

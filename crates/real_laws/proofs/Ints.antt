@@ -4,13 +4,14 @@ use mathlib.Core.Bool.{Bool, true, false, cond, true≢false}
 use Prim.Native.Nat.{ℕ, zero, suc, _+_, _-_, _*_, _/_, _%_, _^_, _<_}
 use native.Mathlib.Nat.{zero-add}
 use native.Mathlib.Omega.{arith}
-use borrow.Author.Tests.{eq-eqb, ne-eqb, le-ltb}
+use borrow.Author.Tests.{eq-eqb, ne-eqb}
 use lib.Dec.{T, leb·zero}
 use lib.IntN.{ℤ, pos, negsuc, natAbs, _-ℤ_}
 use lib.Signed.{nonNeg, leZ}
 use mir.Syntax.{w64}
 use mir.Val.{Fits, SFits}
 use Rattle.model.specs.Setting.{wordOfInt, intOfWord}
+use Rattle.list_laws.proofs.Below.{cond-le}
 
 -- ---- there and back
 pub intOfWord-even : (w : ℕ) → w % 2 ≡ 0 → intOfWord w ≡ pos (w / 2)
@@ -34,7 +35,7 @@ other zero = refl
 other (suc k) = ap (λ (x : ℕ). negsuc (suc x)) (zero-add k)
 
 pub other-back : (k : ℕ) → negsuc 0 -ℤ negsuc k ≡ pos k
-other-back k = ap (λ (b : Bool). cond b (negsuc (1 - suc (suc k))) (pos (suc k - 1))) (le-ltb (suc k) 1 (omega arith)) ∙ ap pos (omega arith)
+other-back k = cond-le (suc k) 1 (negsuc (1 - suc (suc k))) (pos (suc k - 1)) (omega arith) ∙ ap pos (omega arith)
 
 -- a number from zero up
 pub record Up (n : ℤ) : Type 0 where

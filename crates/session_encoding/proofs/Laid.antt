@@ -12,7 +12,7 @@ use Rattle.model.specs.Real.{bits}
 use Rattle.model.specs.Session.{dimensionOf}
 use native.Mathlib.Omega.{arith}
 use Rattle.list_laws.proofs.Rows.{joinBelow-length}
-use Rattle.list_laws.proofs.Built.{over-run}
+use Rattle.list_laws.proofs.Built.{over-front, over-run}
 use lib.Seq.{sets}
 use Rattle.session_words.specs.Coding.{phaseWord, hasFirst, firstWord, dimensionWords, eight, configWords, stateWords, idealWords, sessionWords}
 
@@ -47,7 +47,7 @@ session-laid s w w1 w2 w3 w4 cs ss zs p p1 q q2 r r3 t room =
     let z = idealWords (s .«ideal_point») in
     let d = joinBelow (λ d. dimensionWords (dimensionOf s d)) 32 in
     let n = joinBelow-length (λ d. dimensionWords (dimensionOf s d)) 6 32 (λ i u. dimension-length (dimensionOf s i)) in
-    let a1 : w1 ≡ over c w = p1 ∙ ap (λ x. sets w 0 x) p ∙ over-run [] c w 0 refl (omega arith) in
+    let a1 : w1 ≡ over c w = p1 ∙ ap (λ x. sets w 0 x) p ∙ over-front c w (omega arith) in
     let a2 : w2 ≡ over (c ++ u) w = q2 ∙ ap₂ (λ x y. sets y 14 x) q a1 ∙ over-run c u w 14 refl (omega arith) in
     let a3 : w3 ≡ over ((c ++ u) ++ z) w = r3 ∙ ap₂ (λ x y. sets y 22 x) r a2 ∙ over-run (c ++ u) z w 22 refl (omega arith) in
     t ∙ ap (λ x. sets x 30 d) a3 ∙ over-run ((c ++ u) ++ z) d w 30 refl (omega (arith, n))

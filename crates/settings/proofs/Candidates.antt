@@ -1,5 +1,5 @@
 -- A candidate that is filled place by place.
-use mathlib.Core.Path.{_≡_, sym, ap, ap₂, _∙_}
+use mathlib.Core.Path.{_≡_, ap, ap₂, _∙_}
 use mathlib.Core.List.{List, [], _∷_, _++_}
 use Prim.Native.Nat.{ℕ, _+_, _<_}
 use native.Mathlib.Nat.{ne-of-lt}
@@ -8,7 +8,7 @@ use lib.ListN.{length, getD, set}
 use lib.Seq.{getD-set-same, getD-set-other}
 use Rattle.list_laws.proofs.Bools.{by-bool}
 use Rattle.list_laws.proofs.Built.{listBelow-none, listBelow-more, listBelow-same}
-use Rattle.list_laws.proofs.Draws.{inTurn-none, inTurn-more}
+use Rattle.list_laws.proofs.Draws.{drawAll-none, drawAll-more}
 use Rattle.model.specs.Lists.{listBelow}
 use Rattle.model.specs.declared.ParamValue.{ParamValue}
 use Rattle.model.specs.Draw.{Drawn, drawn, drawUsize, drawAll}
@@ -38,11 +38,11 @@ settings-more params i v h = filled-more (λ (s : Slot). s .value) noSlot params
 -- one that is drawn place by place: nothing is drawn yet, and one setting more
 module _ (next : ℕ → List ParamValue → ℕ → Drawn ParamValue) (params : List Slot) where
   pub candidate-none : (s : ℕ) → drawn (settingsOf params 0) s ≡ drawAll next 0 s
-  candidate-none s = ap (λ l. drawn l s) (settings-none params) ∙ sym (inTurn-none (λ l v. l ++ (v ∷ [])) [] next s)
+  candidate-none s = ap (λ l. drawn l s) (settings-none params) ∙ drawAll-none next s
 
   pub candidate-more : (i s : ℕ) {t u : ℕ} {v : ParamValue} → i < length params → drawn (settingsOf params i) t ≡ drawAll next i s → drawn v u ≡ next i (settingsOf params i) t
       → drawn (settingsOf (set params i (record { value = v })) (i + 1)) u ≡ drawAll next (i + 1) s
-  candidate-more i s {u = u} {v = v} h e f = ap (λ l. drawn l u) (settings-more params i v h) ∙ inTurn-more (λ l x. l ++ (x ∷ [])) [] next i s e f
+  candidate-more i s {u = u} {v = v} h e f = ap (λ l. drawn l u) (settings-more params i v h) ∙ drawAll-more next i s e f
 
 -- ---- parents: the winner of a tournament is one of the n
 pub winner-below : (ranks : ℕ → ℕ) (n s : ℕ) → 0 < n → tournament ranks n s .value < n

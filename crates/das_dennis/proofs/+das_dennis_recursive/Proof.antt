@@ -1,7 +1,7 @@
 -- `das_dennis_recursive`: the measure is how many coordinates are left. After i branches the table has their rows at its front, and `at` is where they end.
 -- Assumes nothing.
 use Prim.Native.Nat.{ℕ, _+_, _-_, _<_, _≤_}
-use mathlib.Core.Path.{_≡_, refl, sym, ap, ap₂, _∙_}
+use mathlib.Core.Path.{_≡_, refl, sym, ap, _∙_}
 use mathlib.Core.List.{List, [], _∷_, _++_}
 use native.Mathlib.Omega.{arith}
 use borrow.Author.Needs.{needs}
@@ -82,7 +82,7 @@ module _ (t : ℕ) where
       let n = sym (rows-none-length (a .current) (a .depth) (a .left) (a .remaining) (a .divisions) (omega arith) last) in
       let f = stored (a .current) (a .depth) (a .divisions) (a .remaining) (x .result) (omega arith) (x .ensures)
       ∙ sym (rows-none before (a .left) (a .remaining) (a .divisions) last) in
-      (n, c .before .before .put-row .ensures ∙ ap₂ (λ (l : List Float) (k : ℕ). l ++ drop k (a .table .now)) f n)
+      (n, c .before .before .put-row .ensures ∙ ap (λ (l : List Float). over l (a .table .now)) f)
 
   need-add-n : lts.Need-add-n (coordinate.Asked, coordinate.Learnt, put-row.Asked, put-row.Learnt, below t, own.Post) (at-measure t) own.Post Inv-loop μ-loop
   need-add-n c = omega arith

@@ -1,14 +1,12 @@
 -- `put_row`: after j turns the first j entries stand at the table's front. Assumes nothing.
-use Prim.Native.Nat.{ℕ, _-_, _≤_}
-use mathlib.Core.Path.{_≡_, refl, sym, ap, _∙_}
-use mathlib.Core.List.{List, _++_}
+use Prim.Native.Nat.{_-_, _≤_}
+use mathlib.Core.Path.{_≡_, refl, sym}
 use native.Mathlib.Omega.{arith}
 use borrow.Author.Needs.{needs}
-use lib.Ieee.{Float, nan}
-use lib.ListN.{length, take, drop, getD, length-set}
-use lib.Seq.{length-take-le}
+use lib.Ieee.{nan}
+use lib.ListN.{length, getD, length-set}
 use Rattle.model.specs.Lists.{listBelow, over}
-use Rattle.list_laws.proofs.Built.{listBelow-copy, over-none, over-set}
+use Rattle.list_laws.proofs.Built.{over-none, over-set, over-copied}
 use Rattle.das_dennis.proofs.put_row.Statement.{statement}
 use Rattle.das_dennis.proofs.put_row.Tie as tie
 
@@ -51,11 +49,7 @@ returns : tie.Need-returns Inv-loop μ-loop
 returns c =
     let i = c .before .loop .inv in
     let a = c .before .before .args in
-    let e : c .before .loop .j ≡ a .n = omega arith in
-    (rw e at (i .1 .1 .1)) ∙ front (a .t2) (a .table .now) (a .n) (omega (arith, i .1 .0))
-  where
-    front : (row t : List Float) (n : ℕ) → n ≤ length row → over (listBelow (λ i. getD row i nan) n) t ≡ take n row ++ drop n t
-    front row t n h = ap (λ (l : List Float). over l t) (listBelow-copy nan row n h) ∙ ap (λ (k : ℕ). take n row ++ drop k t) (length-take-le n row h)
+    over-copied nan (a .t2) _ (a .table .now) (a .n) (c .before .loop .j) (omega arith) (omega (arith, i .1 .0)) (i .1 .1 .1)
 
 pub put-row-spec : {M : Type 1} → statement M
 put-row-spec =

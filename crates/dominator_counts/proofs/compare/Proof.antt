@@ -1,8 +1,7 @@
-use mathlib.Core.Bool.{true}
-use mathlib.Core.Path.{_≡_, refl}
+use mathlib.Core.Path.{refl}
 use borrow.Author.Needs.{needs}
 use Rattle.front_laws.specs.Flat.{flatBeats}
-use Rattle.front_laws.proofs.Flat.{flatBeats-asymmetric}
+use Rattle.front_laws.proofs.Domination.{alone}
 use Rattle.dominator_counts.proofs.compare.Statement.{statement}
 use Rattle.dominator_counts.proofs.compare.Tie as tie
 
@@ -42,28 +41,12 @@ mul-v c = search needs
 shared-slice-read-v : tie.Need-shared-slice-read-v
 shared-slice-read-v c = search needs
 
+winner-of-requires : tie.Need-winner-of-requires
+winner-of-requires c κs = search needs
+
 returns-4 : tie.Need-returns-4
 unfolding flatBeats
-returns-4 c =
-    let a = c .before .before .before .before .before .before .before .before .before .before .args in
-    let l = c .before .before .before .before .before .if1 .left in
-    let k = c .before .before .before .if3 .left in
-    let e : flatBeats (a .rows .now) (a .m) (a .feasible .now) (a .violations .now) (a .p) (a .q) ≡ true = rw (l, k) (c .if4 .taken) in
-    (e, flatBeats-asymmetric (a .rows .now) (a .m) (a .feasible .now) (a .violations .now) (a .p) (a .q) e)
-
-returns-5 : tie.Need-returns-5
-unfolding flatBeats
-returns-5 c =
-    let l = c .before .before .before .before .before .before .if1 .left in
-    let k = c .before .before .before .before .if3 .left in
-    (rw (l, k) (c .before .if4 .left), rw (l, k) (c .if5 .taken))
-
-returns-6 : tie.Need-returns-6
-unfolding flatBeats
-returns-6 c =
-    let l = c .before .before .before .before .before .before .if1 .left in
-    let k = c .before .before .before .before .if3 .left in
-    (rw (l, k) (c .before .if4 .left), rw (l, k) (c .if5 .left))
+returns-4 c = rw (c .before .before .before .before .before .if1 .left, c .before .before .before .if3 .left) (rw (alone, alone) at (c .winner-of .ensures))
 
 pub compare-spec : {M : Type 1} → statement M
 compare-spec =
@@ -80,6 +63,5 @@ compare-spec =
     shared-slice-read-u
     mul-v
     shared-slice-read-v
-    returns-4
-    returns-5
-    returns-6)
+    winner-of-requires
+    returns-4)

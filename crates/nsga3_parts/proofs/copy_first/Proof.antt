@@ -1,11 +1,11 @@
 -- `copy_first`: the first i entries are copied
 use borrow.Author.Needs.{needs}
 use Prim.Native.Nat.{_-_, _≤_}
-use mathlib.Core.Path.{_≡_, refl, ap, sym, _∙_}
+use mathlib.Core.Path.{_≡_, refl, sym}
 use native.Mathlib.Omega.{arith}
 use lib.ListN.{length, getD, length-set}
 use Rattle.model.specs.Lists.{listBelow, over}
-use Rattle.list_laws.proofs.Built.{over-none, over-set, listBelow-copy}
+use Rattle.list_laws.proofs.Built.{over-none, over-set, over-copied}
 use Rattle.nsga3_parts.proofs.copy_first.Statement.{statement}
 use Rattle.nsga3_parts.proofs.copy_first.Tie as tie
 
@@ -49,9 +49,7 @@ returns : tie.Need-returns Inv-loop μ-loop
 returns c =
     let l = c .before .loop in
     let a = c .before .before in
-    let e : l .i ≡ a .args .n = omega arith in
-    l .inv .2 ∙ ap (λ k. over (listBelow (λ t. getD (a .args .from .now) t 0) k) (a .args .to .now)) e
-    ∙ ap (λ t. over t (a .args .to .now)) (listBelow-copy 0 (a .args .from .now) (a .args .n) (a .pre .0))
+    over-copied 0 (a .args .from .now) (l .to) (a .args .to .now) (a .args .n) (l .i) (omega arith) (a .pre .0) (l .inv .2)
 
 pub copy-first-spec : {M : Type 1} → statement M
 copy-first-spec =

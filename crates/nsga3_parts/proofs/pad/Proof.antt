@@ -4,12 +4,12 @@ use Prim.Native.Nat.{_-_, _≤_}
 use mathlib.Core.Path.{_≡_, subst}
 use native.Mathlib.Omega.{arith}
 use Rattle.model.specs.Draw.{drawUsize}
-use Rattle.niching_laws.proofs.Written.{Written, written-none, written-more}
+use Rattle.list_laws.proofs.Written.{WrittenNumbers, written-none, written-more}
 use Rattle.nsga3_parts.proofs.pad.Statement.{statement}
 use Rattle.nsga3_parts.proofs.pad.Tie as tie
 
 abbrev Inv-loop : tie.InvT-loop
-Inv-loop n count out₀ rng₀ at₀ out rng at = (at ≤ count) × Written (λ place listed. drawUsize n) (rng₀ .s) out₀ at out (rng .s)
+Inv-loop n count out₀ rng₀ at₀ out rng at = (at ≤ count) × WrittenNumbers (λ place listed. drawUsize n) (rng₀ .s) out₀ at out (rng .s)
 
 abbrev μ-loop : tie.MeasureT-loop
 μ-loop n count out₀ rng₀ at₀ out rng at = count - at
@@ -36,7 +36,7 @@ loop-again : tie.Need-loop-again Inv-loop μ-loop
 loop-again c =
     let l = c .before .before .before .loop in
     let a = c .before .before .before .before .before in
-    (omega arith, written-more (l .inv .1) (omega (arith, c .before .before .loop-test .taken, a .pre .1)) _ _ (c .before .draw-usize .ensures))
+    (omega arith, written-more _ _ _ _ _ _ (l .inv .1) (omega (arith, c .before .before .loop-test .taken, a .pre .1)) _ _ (c .before .draw-usize .ensures))
 
 same-length : tie.Need-same-length Inv-loop μ-loop
 same-length c = c .before .loop .inv .1 .same
@@ -46,7 +46,7 @@ returns c =
     let l = c .before .loop in
     let a = c .before .before .before in
     let e : l .at ≡ a .args .count = omega arith in
-    let h = subst (λ k. Written (λ place listed. drawUsize (a .args .n)) (a .args .rng .s) (a .args .out .now) k (l .out) (l .rng .s)) e (l .inv .1) in
+    let h = subst (λ k. WrittenNumbers (λ place listed. drawUsize (a .args .n)) (a .args .rng .s) (a .args .out .now) k (l .out) (l .rng .s)) e (l .inv .1) in
     (h .written, h .state)
 
 pub pad-spec : {M : Type 1} → statement M

@@ -1,6 +1,6 @@
 -- `fill_constraints`: feasibility and violation sums of the plans before plan p stand at the front
 use Prim.Native.Nat.{_-_, _≤_}
-use mathlib.Core.Path.{_≡_, refl, ap, sym, _∙_}
+use mathlib.Core.Path.{_≡_, refl, sym, _∙_}
 use native.Mathlib.Omega.{arith}
 use lib.ListN.{length}
 use Rattle.model.specs.Lists.{listBelow, over}
@@ -24,8 +24,8 @@ sizes : (c : tie.At-loop Inv-loop μ-loop)
     × (length (c .loop .violations) ≡ length (c .before .before .before .before .args .violations .now))
 sizes c =
     let a = c .before .before .before .before in (
-      ap length (c .loop .inv .1) ∙ over-size _ _ _ (omega (arith, a .pre .0 .1)),
-      ap length (c .loop .inv .2) ∙ over-size _ _ _ (omega (arith, a .pre .0 .2)),
+      over-size _ _ _ _ (c .loop .inv .1) (omega (arith, a .pre .0 .1)),
+      over-size _ _ _ _ (c .loop .inv .2) (omega (arith, a .pre .0 .2)),
     )
 
 loop-holds : tie.Need-loop-holds Inv-loop μ-loop

@@ -8,11 +8,12 @@ use lib.Ieee.{Float}
 use lib.ListN.{length}
 use Rattle.model.specs.declared.Rng.{Rng}
 use Rattle.model.specs.Calls.{wordRequest}
-use Rattle.model.specs.Plan.{planCount}
+use Rattle.model.specs.Plan.{planAt, planCount}
 use Rattle.model.specs.Association.{Request}
+use Rattle.front_laws.specs.Flat.{KnownPlans}
 use Rattle.front_laws.proofs.Places.{sorted-few}
 use Rattle.plan_rows.proofs.Pool.{pool-constraint-counts, pool-known}
-use Rattle.pool_sort.proofs.Sorting.{KnownPool, known-rows, sorts}
+use Rattle.pool_sort.proofs.Sorting.{known-rows, sorts}
 use Rattle.pool_sort.proofs.sort_pool.Statement.{statement}
 use Rattle.pool_sort.proofs.sort_pool.Tie as tie
 
@@ -23,8 +24,8 @@ request s h g i = wordRequest (s .args .pool .now) (s .args .directions .now) h 
 abbrev some-rng : Rng
 some-rng = record { s = 0 }
 
-known : (s : tie.Start) (h : ℕ) (g : Rng) (i : List Float) → KnownPool (request s h g i)
-known s h g i = pool-known (s .args .pool .now) (s .args .directions .now) (planCount (s .args .pool .now)) (s .pre .0 .4) (s .pre .0 .1)
+known : (s : tie.Start) → KnownPlans (s .args .directions .now) (planAt (s .args .pool .now)) (planCount (s .args .pool .now))
+known s = pool-known (s .args .pool .now) (s .args .directions .now) (planCount (s .args .pool .now)) (s .pre .0 .4) (s .pre .0 .1)
 
 plan-count-requires : tie.Need-plan-count-requires
 plan-count-requires c κs = search needs
@@ -64,7 +65,7 @@ fast-non-dominated-sort-constrained-requires c κs =
         flags = omega (arith, s .pre .0 .0);
         sums = omega (arith, s .pre .0 .0);
       },
-      known-rows (request s 0 some-rng []) _ e (s .args .rows .now) laid (known s 0 some-rng []),
+      known-rows (request s 0 some-rng []) _ e (s .args .rows .now) laid (known s),
       omega (arith, s .pre .0 .0),
       omega (arith, s .pre .0 .2),
       omega (arith, s .pre .0 .3),
@@ -92,7 +93,7 @@ returns : tie.Need-returns
 returns c h g i =
     let s = c .before .before .before .before .before .before .before .before .before .before .before .before .before .before .before .before .before .before .before .before .before .before .before .before in
     let f = c .before .before .before .before .before .before .before .fast-non-dominated-sort-constrained in
-    sorts (request s h g i) _ (c .before .before .before .before .before .before .before .before .before .before .before .before .before .before .before .before .before .before .plan-count .ensures) (s .args .rows .now) (s .pre .1 h g i) (known s h g i) _ _ _ _ _ _ _ _ _ _ _ _
+    sorts (request s h g i) _ (c .before .before .before .before .before .before .before .before .before .before .before .before .before .before .before .before .before .before .plan-count .ensures) (s .args .rows .now) (s .pre .1 h g i) (known s) _ _ _ _ _ _ _ _ _ _ _ _
     (omega (arith, f .kept .1 .1 .1 .1 .1 .0, s .pre .0 .2)) (c .before .before .before .before .before .before .before .before .before .before .before .before .before .before .before .fill-constraints .ensures) (f .ensures) (c .split-at .ensures)
 
 pub sort-pool-spec : {M : Type 1} → statement M

@@ -6,7 +6,7 @@ use native.Mathlib.Omega.{arith}
 use borrow.Author.Needs.{needs}
 use lib.ListN.{getD, length-replicate, getD-replicate}
 use Rattle.model.specs.PoolFile.{placeOf}
-use Rattle.pool_laws.proofs.Puts.{put-over}
+use Rattle.list_laws.proofs.Stores.{put-over}
 use Rattle.pool_laws.proofs.Listing.{header-room, rows-room, listing-put}
 use Rattle.pool_text.proofs.write_listing.Statement.{statement}
 use Rattle.pool_text.proofs.write_listing.Tie as tie

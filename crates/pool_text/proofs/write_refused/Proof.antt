@@ -8,8 +8,8 @@ use borrow.Author.Needs.{needs}
 use lib.ListN.{length}
 use Rattle.model.specs.PoolFile.{decimal, refusedText}
 use Rattle.pool_laws.specs.Text.{refusedWord, ended}
-use Rattle.list_laws.proofs.Stores.{put-then, put-as}
-use Rattle.pool_laws.proofs.Puts.{room-first, room-rest, put-over}
+use Rattle.list_laws.proofs.Stores.{put-then, put-as, put-over}
+use Rattle.pool_laws.proofs.Puts.{room-first, room-rest}
 use Rattle.pool_laws.proofs.Listing.{refused-text}
 use Rattle.pool_text.proofs.write_refused.Statement.{statement}
 use Rattle.pool_text.proofs.write_refused.Tie as tie

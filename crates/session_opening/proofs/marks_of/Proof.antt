@@ -2,9 +2,8 @@
 use Prim.Native.Nat.{_-_, _≤_}
 use mathlib.Core.Path.{_≡_, refl, sym, ap, _∙_}
 use lib.ListN.{length, getD, replicate, length-set}
-use lib.Seq.{take-length}
 use Rattle.model.specs.Lists.{listBelow, over}
-use Rattle.list_laws.proofs.Built.{over-none, over-set, listBelow-copy}
+use Rattle.list_laws.proofs.Built.{over-none, over-set, listBelow-places}
 use native.Mathlib.Omega.{arith}
 use Rattle.session_opening.proofs.marks_of.Statement.{statement}
 use Rattle.session_opening.proofs.marks_of.Tie as tie
@@ -42,7 +41,7 @@ returns c =
     let d = c .before .before .args .directions .now in
     let e : l .i ≡ length d = omega arith in
     l .inv .3 ∙ ap (λ k. over (listBelow (λ t. getD d t 0) k) (replicate 8 0)) e
-    ∙ ap (λ t. over t (replicate 8 0)) (listBelow-copy 0 d (length d) (omega arith) ∙ take-length d)
+    ∙ ap (λ t. over t (replicate 8 0)) (listBelow-places 0 d)
 
 pub marks-of-spec : {M : Type 1} → statement M
 marks-of-spec =

@@ -1,13 +1,12 @@
 -- `near_root` meets its contract. The invariant is `Turns`: the root of the digits read so far, and what is left of them. The measure is the turns to come. Assumes nothing.
-use mathlib.Core.Path.{_≡_, sym, ap, _∙_}
+use mathlib.Core.Path.{_≡_, sym, _∙_}
 use Prim.Native.Nat.{ℕ, suc, _+_, _*_, _-_, _^_, _<_, _≤_}
 use native.Mathlib.Nat.{lt-of-lt-of-le, lt-of-le-of-lt}
 use native.Mathlib.Numerals.{add-one}
 use native.Mathlib.Omega.{arith}
-use mathlib.Core.Bool.{Bool, cond}
-use borrow.Author.Tests.{lt-ltb, le-ltb}
 use lib.Dec.{lit≤}
 use Rattle.model.specs.Numbers.{nearRoot, closer}
+use Rattle.list_laws.proofs.Below.{cond-lt, cond-le}
 use Rattle.real_laws.proofs.Roots.Whole.{nearRoot-of}
 use Rattle.real_laws.proofs.Roots.Digits.{Turns, Step, more-fits, take-fits, step, last, last-root, last-fits, start}
 use Rattle.square_root.proofs.near_root.Statement.{statement}
@@ -28,13 +27,13 @@ module _ (a rest rem root i : ℕ) (t : Turns a rest rem root i) (l : 53 ≤ i) 
   unfolding closer
   up h =
       let e = last a rest rem root i t l in
-      near ∙ ap (λ (b : Bool). cond b (suc root) root) (lt-ltb (root * root + root) (a * 2 ^ 52) (omega arith)) ∙ sym (add-one root)
+      near ∙ cond-lt (root * root + root) (a * 2 ^ 52) (suc root) root (omega arith) ∙ sym (add-one root)
 
   down : rem ≤ root → nearRoot (a * 2 ^ 52) ≡ root
   unfolding closer
   down h =
       let e = last a rest rem root i t l in
-      near ∙ ap (λ (b : Bool). cond b (suc root) root) (le-ltb (root * root + root) (a * 2 ^ 52) (omega arith))
+      near ∙ cond-le (root * root + root) (a * 2 ^ 52) (suc root) root (omega arith)
 
 loop-holds : tie.Need-loop-holds Inv-loop μ-loop
 loop-holds c = start (c .args .a) (c .pre)
