@@ -11,7 +11,7 @@ use Rattle.model.specs.Numbers.{sqrtOf}
 use Rattle.model.specs.Association.{dot, smallNorm, offSquares, distance, near, nearestOf, nearer}
 use Rattle.model.specs.Lists.{bestFrom}
 use Rattle.list_laws.proofs.Bools.{by-bool, T-true, true-T, T-false, false-T}
-use Rattle.float_laws.proofs.Order.{le→nlt, lt→le, nlt→le, le-not-nan}
+use Rattle.float_laws.proofs.Order.{le→nlt, nlt→le, le-not-nan, lt-not-nan}
 use Rattle.float_laws.proofs.Compared.{nan-below, below-nan}
 use Rattle.float_laws.proofs.Constants.{nought, nought-not-nan}
 use Rattle.float_laws.proofs.Sums.{sum-fits}
@@ -49,7 +49,7 @@ squares-fit m p r =
 -- ---- roots in the order of squares
 
 from-nought : (s q : Float) → T (not (lt s nought)) → T (lt s q) → T (le nought s)
-from-nought s q h k = nlt→le s nought (le-not-nan s q (lt→le s q k) .0) nought-not-nan h
+from-nought s q h k = nlt→le s nought (lt-not-nan s q k .0) nought-not-nan h
 
 pub root-order : (x y : Float) → T (fits binary64 x) → T (fits binary64 y) → lt x y ≡ false → lt (sqrtOf x) (sqrtOf y) ≡ false
 unfolding isNan

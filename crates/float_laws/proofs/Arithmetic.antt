@@ -1,8 +1,8 @@
 -- The four operations, each rounded once, and the order: sums and products of numbers from 0 up grow with each part, differences and quotients with the
 -- first (differences fall with the second), and a quotient x / a for 0 ≤ x ≤ a lies within 0..1. Assumes nothing.
-use mathlib.Core.Path.{_≡_, ap, _∙_}
+use mathlib.Core.Path.{_≡_, ap, _∙_, subst}
 use Prim.Native.Nat.{ℕ, _+_, _-_, _*_, _^_, _≤_, _<_, zero-le}
-use native.Mathlib.Nat.{mul-comm, mul-assoc, mul-pos, mul-le-mul, mul-le-mul-right, add-mul, mul-add, mul-mul-mul-comm}
+use native.Mathlib.Nat.{one-mul, mul-assoc, mul-right-comm, mul-pos, mul-le-mul, mul-le-mul-right, add-mul, mul-add, mul-mul-mul-comm}
 use native.Mathlib.Omega.{arith}
 use mathlib.Core.Bool.{Bool, true, false}
 use lib.Dec.{T}
@@ -10,9 +10,9 @@ use lib.Pow.{pow-pos}
 use lib.Ieee.{Float, nan, inf, fin, Format, low, up, down, fits, le, lt, add, sub, mul, div, neg, unlike}
 use lib.Ieee.Fits.{down-pos, neg-fits}
 use lib.Ieee.Scale.{finite, round-same}
-use Rattle.float_laws.proofs.Units.{Number, Sgn, Counts, le→counts, le→count, counts→le, counts-of, counts-same, sgn-same}
+use Rattle.float_laws.proofs.Units.{Number, Sgn, Counts, le→counts, le→count, counts→le, counts-of, counts-same}
 use Rattle.float_laws.proofs.Order.{le-trans, lt→counts}
-use Rattle.float_laws.proofs.Rounding.{Rounded, le-neg, rounded-mono, rounded-le, le-rounded, add-rounded, sub-rounded, div-rounded}
+use Rattle.float_laws.proofs.Rounding.{Rounded, le-neg, rounded-shift, rounded-mono, rounded-le, le-rounded, add-rounded, sub-rounded, div-rounded}
 use Rattle.float_laws.proofs.Constants.{nought, nought-counts, nought-fits, one, one-counts, one-fits}
 
 pub neg-number : {f : Format} (x : Float) → Number f x → Number f (neg x)
@@ -111,8 +111,7 @@ mul-rounded f (fin s m e) (fin t k d) p n p' n' (g, u, i) (h, v, j) =
 -- of numbers from 0 up
 pub mul-count : (f : Format) (x y : Float) (g h : ℕ) → Counts f x g 0 → Counts f y h 0 → Rounded f (mul f x y) (g * h) 0 (2 ^ low f * 2 ^ low f)
 mul-count f x y g h a b =
-    let r = mul-rounded f x y g 0 h 0 a b in
-    (r .0, r .1, r .2, sgn-same (r .0) (r .1) (g * h + 0 * 0) (g * 0 + 0 * h) (g * h) 0 (r .3) (omega arith))
+    rounded-shift f (mul f x y) (g * h + 0 * 0) (g * 0 + 0 * h) (2 ^ low f * 2 ^ low f) (g * h) 0 (mul-rounded f x y g 0 h 0 a b) (omega arith)
 
 -- a bound of the exact product that the format holds is one of the rounded
 pub mul-le : (f : Format) (x y z : Float) (g h k : ℕ) → Counts f x g 0 → Counts f y h 0 → T (fits f z) → Counts f z k 0 → g * h ≤ k * 2 ^ low f → T (le (mul f x y) z)
@@ -159,11 +158,12 @@ div-mono-left f x x' y X X' Y p h =
     (div-rounded f x y (a .0) (a .1) (c .0) (c .1) q (a .2) (c .2)) (div-rounded f x' y (b .0) (b .1) (c .0) (c .1) q (b .2) (c .2))
     (scaled (a .0) (b .1) (b .0) (a .1) (c .0 - c .1) (omega arith))
 
-upper : (p n c L : ℕ) → p ≤ c + n → p * L + 0 * c ≤ L * c + n * L
-upper p n c L h =
-    let x = mul-le-mul-right L h in
-    let y = add-mul c n L in
-    let z = mul-comm c L in
+-- what is at most B, in units of 1 / c, is so in those of 1 / l
+pub upper : (P N B c l : ℕ) → P ≤ B * c + N → P * l + 0 * c ≤ B * l * c + N * l
+upper P N B c l h =
+    let a = mul-le-mul-right l h in
+    let b = add-mul (B * c) N l in
+    let d = mul-right-comm B c l in
     omega arith
 
 -- x / y within 0..1 for 0 ≤ x ≤ y and 0 < y
@@ -181,5 +181,5 @@ ratio f x y X Y h k l =
     let r = div-rounded f x y p n q m (omega arith) (a .2) (b .2) in
     let C : 0 < q - m = omega arith in (
       rounded-from-zero f (div f x y) p n (q - m) C r (omega arith),
-      rounded-le f (div f x y) one p n (q - m) (2 ^ low f) 0 C r (one-fits f) (one-counts f) (upper p n (q - m) (2 ^ low f) (omega arith)),
+      rounded-le f (div f x y) one p n (q - m) (2 ^ low f) 0 C r (one-fits f) (one-counts f) (subst (λ (z : ℕ). p * 2 ^ low f + 0 * (q - m) ≤ z * (q - m) + n * 2 ^ low f) (one-mul (2 ^ low f)) (upper p n 1 (q - m) (2 ^ low f) (omega arith))),
     )

@@ -24,12 +24,11 @@ lt-up x y z h k = no-pass (lt z x) (λ e. true≢false (sym (lt-trans y z x k e)
 pub lt-past : (x y z : Float) → lt x y ≡ true → lt z y ≡ false → isNan z ≡ false → lt x z ≡ true
 lt-past x y z h k v =
     let l = true-T (lt x y) h in
-    let y-real = order.le-not-nan x y (order.lt→le x y l) .1 in
-    T-true (lt x z) (order.lt-le-trans x y z l (order.nlt→le z y (false-T (isNan z) v) y-real (false-T (lt z y) k)))
+    T-true (lt x z) (order.lt-le-trans x y z l (order.nlt→le z y (false-T (isNan z) v) (order.lt-not-nan x y l .1) (false-T (lt z y) k)))
 
 -- a NaN is below nothing, and nothing is below a NaN
 pub nan-below : (x y : Float) → isNan x ≡ true → lt x y ≡ false
-nan-below x y e = no-pass (lt x y) (λ l. T-not (isNan x) (order.le-not-nan x y (order.lt→le x y (true-T (lt x y) l)) .0) (true-T (isNan x) e))
+nan-below x y e = no-pass (lt x y) (λ l. T-not (isNan x) (order.lt-not-nan x y (true-T (lt x y) l) .0) (true-T (isNan x) e))
 
 pub below-nan : (x y : Float) → isNan y ≡ true → lt x y ≡ false
-below-nan x y e = no-pass (lt x y) (λ l. T-not (isNan y) (order.le-not-nan x y (order.lt→le x y (true-T (lt x y) l)) .1) (true-T (isNan y) e))
+below-nan x y e = no-pass (lt x y) (λ l. T-not (isNan y) (order.lt-not-nan x y (true-T (lt x y) l) .1) (true-T (isNan y) e))

@@ -9,7 +9,7 @@ use lib.Dec.{T}
 use lib.IntN.{pos}
 use lib.Ieee.{Float, fin, Format, binary32, binary64, low, fits, le, lt, neg, isNan}
 use Rattle.float_laws.proofs.Units.{Number, Counts}
-use Rattle.float_laws.proofs.Order.{le-trans}
+use Rattle.float_laws.proofs.Order.{le-trans, le-not-nan}
 use Rattle.float_laws.proofs.Rounding.{unsigned, minus-below}
 
 abbrev pub nought : Float
@@ -66,7 +66,10 @@ pub nought-le-one : T (le nought one)
 unfolding le
 nought-le-one = tt
 
--- what has the sign clear is from 0 up
+-- what has the sign clear is from 0 up, and no NaN
 pub unsigned-from : (x : Float) → T (unsigned x) → T (le nought x)
 unfolding le neg
 unsigned-from x u = le-trans nought (neg nought) x tt (minus-below nought x tt u)
+
+pub unsigned-not-nan : (x : Float) → T (unsigned x) → T (not (isNan x))
+unsigned-not-nan x u = le-not-nan nought x (unsigned-from x u) .1

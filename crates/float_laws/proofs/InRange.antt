@@ -12,29 +12,30 @@ use lib.Pow.{pow-pos, pow-add}
 use lib.Ieee.{Float, nan, inf, fin, binary64, up, down, size, le, add, sub, mul, round, fits}
 use lib.Ieee.Fits.{kept-lt, round-fits, mul-fits}
 use lib.Ieee.Exact.{HasValue, round-exact}
-use Rattle.float_laws.proofs.Units.{Number, Counts, top-digits, le→counts, le→count, counts-of, counts-finite, sgn-same}
-use Rattle.float_laws.proofs.Rounding.{Rounded, rounded-le, le-rounded, add-rounded, sub-rounded, between-finite, value-count}
+use Rattle.float_laws.proofs.Units.{Number, Counts, top-digits, le→counts, le→count, counts-of, counts-finite}
+use Rattle.float_laws.proofs.Rounding.{Rounded, rounded-shift, rounded-le, le-rounded, add-rounded, sub-rounded, between-finite, value-count}
 use Rattle.float_laws.proofs.Constants.{L, nought, exp2, exp2-counts, minus-exp2}
 use Rattle.float_laws.proofs.Arithmetic.{scaled, rounded-from-zero, sub-from-zero, count, mul-count, mul-le}
 use Rattle.float_laws.proofs.FromZero.{sub-number}
 
-abbrev Top : ℕ
-Top = 2 ^ (1074 + 1024)
+-- the first count that is no double
+abbrev Overflow : ℕ
+Overflow = 2 ^ (1074 + 1024)
 
 -- ---- a count of at most 53 digits and zeros is a float
 abbrev Held : ℕ → Type 0
 Held c = (y : Float) × T (fits binary64 y) × Counts binary64 y c 0
 
-held-lt : (q j : ℕ) → q < 2 ^ 53 → q * 2 ^ j < Top → Held (q * 2 ^ j)
+held-lt : (q j : ℕ) → q < 2 ^ 53 → q * 2 ^ j < Overflow → Held (q * 2 ^ j)
 held-lt q j h t =
     let y = round binary64 false (q * 2 ^ j) L in
     (y, round-fits binary64 false (q * 2 ^ j) L, value-count binary64 y (q * 2 ^ j) (round-exact binary64 false (q * 2 ^ j) L q j (pow-pos 1074) h t refl))
 
-held : (q j : ℕ) → q ≤ 2 ^ 53 → q * 2 ^ j < Top → Held (q * 2 ^ j)
+held : (q j : ℕ) → q ≤ 2 ^ 53 → q * 2 ^ j < Overflow → Held (q * 2 ^ j)
 held q j h t = elim (eq-or-lt-of-le h) [
   | inl e ↦
       let same : 1 * 2 ^ (53 + j) ≡ q * 2 ^ j = one-mul (2 ^ (53 + j)) ∙ pow-add 2 53 j ∙ ap (λ (z : ℕ). z * 2 ^ j) (sym e) in
-      subst Held same (held-lt 1 (53 + j) (lit< tt) (subst (λ (z : ℕ). z < Top) (sym same) t))
+      subst Held same (held-lt 1 (53 + j) (lit< tt) (subst (λ (z : ℕ). z < Overflow) (sym same) t))
   | inr l ↦ held-lt q j l t
 ]
 
@@ -64,7 +65,7 @@ scale-flat : (k dr c : ℕ) → k ≤ 2 ^ 52 → dr ≤ c → k * 2 ^ 1022 * dr 
 scale-flat k dr c h d = le-trans (mul-le-mul (mul-le-mul-right (2 ^ 1022) h) d) (le-of-eq (mul-comm L c))
 
 -- what is known of D and its rounding x: x's count is dr
-module _ (D dr : ℕ) (x : Float) (r : Rounded binary64 x D 0 L) (i : Counts binary64 x dr 0) (big : D + D < Top) where
+module _ (D dr : ℕ) (x : Float) (r : Rounded binary64 x D 0 L) (i : Counts binary64 x dr 0) (big : D + D < Overflow) where
   -- a held count that is not below D is not below dr
   above : (e : ℕ) → D ≤ e → Held e → dr ≤ e
   above e h y =
@@ -73,7 +74,7 @@ module _ (D dr : ℕ) (x : Float) (r : Rounded binary64 x D 0 L) (i : Counts bin
       shape : (D e : ℕ) → D ≤ e → D + 0 ≤ e + 0
       shape D e h = omega arith
 
-  under : (c : ℕ) → c ≤ D → c < Top
+  under : (c : ℕ) → c ≤ D → c < Overflow
   under c h = lt-of-le-of-lt (le-trans h (double D)) big
     where
       double : (a : ℕ) → a ≤ a + a
@@ -100,7 +101,7 @@ module _ (D dr : ℕ) (x : Float) (r : Rounded binary64 x D 0 L) (i : Counts bin
       let lt : D < (q + 1) * 2 ^ j = div-lt-iff-lt-mul (pow-pos j) .0 (more q) in
       let next : (q + 1) * 2 ^ j ≡ c + 2 ^ j = add-mul q 1 (2 ^ j) ∙ ap (λ (z : ℕ). c + z) (one-mul (2 ^ j)) in
       let j-le : 2 ^ j ≤ D = le-trans (le-of-eq (sym (one-mul (2 ^ j)))) (le-trans (mul-le-mul-right (2 ^ j) (le-trans (pow-pos 52) q-ge)) c-le) in
-      let e-lt : (q + 1) * 2 ^ j < Top = lt-of-le-of-lt (le-trans (le-of-eq next) (add-le-add c-le j-le)) big in
+      let e-lt : (q + 1) * 2 ^ j < Overflow = lt-of-le-of-lt (le-trans (le-of-eq next) (add-le-add c-le j-le)) big in
       let y = held q j (le-of-lt s) (under c c-le) in
       let w = held (q + 1) j (more-le q s) e-lt in
       (c, c-le, y, scale-step k dr q j (more-le k h) q-ge (above ((q + 1) * 2 ^ j) (le-of-lt lt) w))
@@ -140,10 +141,9 @@ module _ (lo hi d : Float) (k : ℕ) (LO : Number binary64 lo) (HI : Number bina
       let order : pl + nh ≤ ph + nl = le→counts f lo hi pl nl ph nh (o .2) (w .2) ordered in
       let D = ph + nl - (pl + nh) in
       let x = sub f hi lo in
-      let r0 = sub-rounded f hi lo ph nh pl nl (w .2) (o .2) in
-      let r : Rounded f x D 0 L = (r0 .0, r0 .1, r0 .2, sgn-same (r0 .0) (r0 .1) (ph + nl) (nh + pl) D 0 (r0 .3) (dif pl nl ph nh order)) in
+      let r = rounded-shift f x (ph + nl) (nh + pl) L D 0 (sub-rounded f hi lo ph nh pl nl (w .2) (o .2)) (dif pl nl ph nh order) in
       let dr = count f x (sub-number hi lo HI LO high-end low-end ordered) (sub-from-zero f hi lo HI LO ordered) in
-      let big : D + D < Top = lt-of-le-of-lt (far pl nl ph nh B (2 ^ 1002 * 2 ^ 1074) D refl (le→counts f hi (exp2 1000) ph nh B 0 (w .2) (exp2-counts 1000) high-end) (le→counts f (minus-exp2 1000) lo 0 B pl nl (B, refl, refl) (o .2) low-end) refl) (lit< tt) in
+      let big : D + D < Overflow = lt-of-le-of-lt (far pl nl ph nh B (2 ^ 1002 * 2 ^ 1074) D refl (le→counts f hi (exp2 1000) ph nh B 0 (w .2) (exp2-counts 1000) high-end) (le→counts f (minus-exp2 1000) lo 0 B pl nl (B, refl, refl) (o .2) low-end) refl) (lit< tt) in
       let fl = floor D (dr .0) x r (dr .1) big k K in
       let y = fl .2 in
       let t = mul f d x in

@@ -5,7 +5,7 @@ use mathlib.Core.Path.{_≡_, sym, ap, _∙_, subst}
 use mathlib.Core.Logic.{_⊎_, inl, inr, ⊎-elim}
 use mathlib.Core.Bool.{true, false, not}
 use Prim.Native.Nat.{ℕ, suc, _+_, _-_, _*_, _^_, _≤_, _<_}
-use native.Mathlib.Nat.{le-trans, le-of-eq, mul-le-mul, mul-le-mul-left, mul-le-mul-right, add-mul, mul-comm, mul-assoc, mul-right-comm, mul-mul-mul-comm, mul-pos, one-mul, zero-add, pow-suc}
+use native.Mathlib.Nat.{le-trans, le-of-eq, mul-le-mul, mul-le-mul-left, mul-le-mul-right, mul-comm, mul-assoc, mul-right-comm, mul-mul-mul-comm, mul-pos, one-mul, zero-add, pow-suc}
 use native.Mathlib.Omega.{arith}
 use lib.Dec.{T, lt→ltb}
 use lib.IntN.{negsuc}
@@ -17,7 +17,7 @@ use Rattle.float_laws.proofs.Units.{Number, Counts, counts-of, le→cou
 use Rattle.float_laws.proofs.Order.{le-not-nan, le-trans as le-trans-float}
 use Rattle.float_laws.proofs.Rounding.{Rounded, rounded-le, le-rounded, rounded-fits, between-finite, le-neg, neg-counts, add-rounded, div-rounded}
 use Rattle.float_laws.proofs.Constants.{L, exp2, exp2-counts, minus-exp2}
-use Rattle.float_laws.proofs.Arithmetic.{mul-rounded}
+use Rattle.float_laws.proofs.Arithmetic.{upper, mul-rounded}
 
 pub record Within (k : ℕ) (x : Float) : Type 0 where
   pub held : T (fits binary64 x)
@@ -52,13 +52,6 @@ exp2-mono j k h =
     none h = omega arith
 
 -- ---- a rounding of what is at most 2 ^ k
-upper : (P N B c l : ℕ) → P ≤ B * c + N → P * l + 0 * c ≤ B * l * c + N * l
-upper P N B c l h =
-    let a = mul-le-mul-right l h in
-    let b = add-mul (B * c) N l in
-    let d = mul-right-comm B c l in
-    omega arith
-
 lower : (P N B c l : ℕ) → N ≤ P + B * c → 0 * c + N * l ≤ P * l + B * l * c
 lower P N B c l h = let a = upper N P B c l (omega arith) in omega arith
 

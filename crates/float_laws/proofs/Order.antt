@@ -1,5 +1,5 @@
 -- The order of all floats: `le` and `lt` are a total order on every float but NaN, whatever its format, with -0 level with +0. State facts by `T (le x y)`,
--- not by `≡`, since the two zeros differ as data. A test of the code gives `le x y ≡ true`: `subst T (sym e) tt` makes the fact of it. Assumes nothing.
+-- not by `≡`, since the two zeros differ as data. A test of the code gives `le x y ≡ true`: `true-T _ e` makes the fact of it. Assumes nothing.
 use mathlib.Core.Path.{refl}
 use mathlib.Core.Logic.{_⊎_, inl, inr}
 use Prim.Native.Nat.{ℕ, _+_, _*_, _≤_, _<_}
@@ -7,7 +7,7 @@ use native.Mathlib.Nat.{le-of-eq, lt-of-not-le, not-le-of-lt, mul-assoc, mul-com
 use native.Mathlib.Omega.{arith}
 use mathlib.Core.Bool.{Bool, true, false, not}
 use lib.IntN.{ℤ}
-use lib.Dec.{T, nltb→le}
+use lib.Dec.{T, not-T, nltb→le}
 use lib.Ieee.{Float, nan, inf, fin, Format, up, down, below, le, lt, eq, isNan}
 use lib.Ieee.Fits.{down-pos}
 use lib.Ieee.Exact.{HasValue}
@@ -79,6 +79,9 @@ pub lt→le : (x y : Float) → T (lt x y) → T (le x y)
 unfolding le
 lt→le x y h = or-l (lt x y) _ h
 
+pub lt-not-nan : (x y : Float) → T (lt x y) → T (not (isNan x)) × T (not (isNan y))
+lt-not-nan x y h = le-not-nan x y (lt→le x y h)
+
 pub eq→le : (x y : Float) → T (eq x y) → T (le x y)
 unfolding le
 eq→le x y h = or-r (lt x y) (eq x y) h
@@ -105,7 +108,7 @@ lt→nle (fin s m e) (fin t n d) h k =
     slt-clash s t (m * up e * down d) (n * up d * down e) (→slt s (m * up e * down d) t (n * up d * down e) h) (→sle t (n * up d * down e) s (m * up e * down d) k)
 
 pub le→nlt : (x y : Float) → T (le x y) → T (not (lt y x))
-le→nlt x y h = by-bool (lt y x) (λ e. absurd (lt→nle y x (true-T (lt y x) e) h)) (false-T (lt y x))
+le→nlt x y h = not-T (lt y x) (λ l. lt→nle y x l h)
 
 -- which of two it is
 nbelow : (s : Bool) (a : ℕ) (t : Bool) (b : ℕ) → T (not (below s a t b)) → SLe t b s a
@@ -145,10 +148,10 @@ pub lt-irrefl : (x : Float) → T (lt x x) → ⊥
 lt-irrefl x h = lt→nle x x h (lt→le x x h)
 
 pub lt-le-trans : (x y z : Float) → T (lt x y) → T (le y z) → T (lt x z)
-lt-le-trans x y z h k = nle→lt x z (le-not-nan x y (lt→le x y h) .0) (le-not-nan y z k .1) (λ g. lt→nle x y h (le-trans y z x k g))
+lt-le-trans x y z h k = nle→lt x z (lt-not-nan x y h .0) (le-not-nan y z k .1) (λ g. lt→nle x y h (le-trans y z x k g))
 
 pub le-lt-trans : (x y z : Float) → T (le x y) → T (lt y z) → T (lt x z)
-le-lt-trans x y z h k = nle→lt x z (le-not-nan x y h .0) (le-not-nan y z (lt→le y z k) .1) (λ g. lt→nle y z k (le-trans z x y g h))
+le-lt-trans x y z h k = nle→lt x z (le-not-nan x y h .0) (lt-not-nan y z k .1) (λ g. lt→nle y z k (le-trans z x y g h))
 
 pub lt-trans : (x y z : Float) → T (lt x y) → T (lt y z) → T (lt x z)
 lt-trans x y z h k = lt-le-trans x y z h (lt→le y z k)

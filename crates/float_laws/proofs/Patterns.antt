@@ -4,11 +4,11 @@ use mathlib.Core.Logic.{inl, inr}
 use Prim.Native.Nat.{ℕ, suc, _+_, _-_, _*_, _/_, _^_, _≤_, _<_, zero-le}
 use native.Mathlib.Nat.{le-trans, le-of-eq, le-of-lt, lt-of-le-of-lt, lt-of-lt-of-le, le-antisymm, eq-or-lt-of-le, lt-of-not-le, zero-add, add-mul, mul-le-mul-right, mul-div-cancel, pow-succ'}
 use native.Mathlib.Omega.{arith}
-use mathlib.Core.Bool.{Bool, true, false, not}
+use mathlib.Core.Bool.{Bool, true, false}
 use lib.IntN.{ℤ}
 use lib.Dec.{T}
 use lib.Pow.{pow-pos}
-use lib.Ieee.{Float, nan, inf, fin, Format, prec, emax, low, up, down, size, le, lt, fits, isNan, hid, ones, toBits, ofBits}
+use lib.Ieee.{Float, nan, inf, fin, Format, prec, emax, low, up, down, size, le, lt, fits, hid, ones, toBits, ofBits}
 use lib.Ieee.Digits.{size-lt, size-le}
 use lib.Ieee.Fits.{down-pos, kept-lt, two, reach}
 use lib.Ieee.Bits.{ofBits-toBits}
@@ -16,7 +16,7 @@ use lib.Ieee.Nearest.{div-mono}
 use Rattle.float_laws.proofs.Units.{le→count, top-digits, placed}
 use Rattle.float_laws.proofs.Order as total
 use Rattle.float_laws.proofs.Rounding.{unsigned, under}
-use Rattle.float_laws.proofs.Constants.{nought, unsigned-from}
+use Rattle.float_laws.proofs.Constants.{unsigned-not-nan}
 
 -- the pattern of g units
 abbrev enc : ℕ → ℕ → ℕ
@@ -108,18 +108,15 @@ le→bits f (fin false m e) (fin false n d) X Y a b h =
     let l = le→count f (fin false m e) (fin false n d) g k (g, i .1, sym (zero-add g)) (k, j .1, sym (zero-add k)) h in
     le-trans (le-of-eq (bits-is f m e g (i .1))) (le-trans (enc-mono (prec f) g k (prec-pos f) l) (le-of-eq (sym (bits-is f n d k (j .1)))))
 
-not-nan : (x : Float) → T (unsigned x) → T (not (isNan x))
-not-nan x h = total.le-not-nan nought x (unsigned-from x h) .1
-
 -- one pattern, one value
 same-bits : (f : Format) (x y : Float) → T (fits f x) → T (fits f y) → toBits f x ≡ toBits f y → x ≡ y
 same-bits f x y X Y e = sym (ofBits-toBits f x X) ∙ ap (λ (z : ℕ). ofBits f z) e ∙ ofBits-toBits f y Y
 
 pub bits→le : (f : Format) (x y : Float) → T (fits f x) → T (fits f y) → T (unsigned x) → T (unsigned y) → toBits f x ≤ toBits f y → T (le x y)
-bits→le f x y X Y a b h = elim (total.le-total x y (not-nan x a) (not-nan y b)) [
+bits→le f x y X Y a b h = elim (total.le-total x y (unsigned-not-nan x a) (unsigned-not-nan y b)) [
   | inl l ↦ l
   | inr r ↦
-      subst (λ (z : Float). T (le x z)) (same-bits f x y X Y (le-antisymm h (le→bits f y x Y X b a r))) (total.le-refl x (not-nan x a))
+      subst (λ (z : Float). T (le x z)) (same-bits f x y X Y (le-antisymm h (le→bits f y x Y X b a r))) (total.le-refl x (unsigned-not-nan x a))
 ]
 
 pub lt→bits : (f : Format) (x y : Float) → T (fits f x) → T (fits f y) → T (unsigned x) → T (unsigned y) → T (lt x y) → toBits f x < toBits f y

@@ -7,6 +7,7 @@ use Prim.Native.Nat.{ℕ, zero, suc, _+_, _-_, _*_, _^_, _≤_, _<_}
 use native.Mathlib.Nat.{le-of-eq, lt-irrefl, eq-zero-or-pos, zero-add, zero-mul, mul-comm, mul-assoc, mul-left-comm, mul-right-comm, mul-pos, add-mul, mul-lt-mul-of-pos-right, lt-of-mul-lt-mul-right, le-of-mul-le-mul-right, eq-of-mul-eq-mul-right}
 use native.Mathlib.Omega.{arith}
 use mathlib.Core.Bool.{Bool, true, false, not, cond}
+use borrow.Author.Tests.{ltb-true, ltb-false}
 use lib.IntN.{ℤ}
 use lib.Dec.{T, lit<, ltb, eqb, ltb→lt, nltb→le}
 use lib.Pow.{pow-add, pow-pos}
@@ -16,8 +17,9 @@ use lib.Ieee.Exact.{HasValue, round-exact}
 use lib.Ieee.Order.{round-mono}
 use lib.Ieee.Positive.{first-pos}
 use lib.Ieee.Scale.{finite, round-same}
+use Rattle.list_laws.proofs.Bools.{by-cond}
 use Rattle.float_laws.proofs.Order.{le-trans as le-trans-float}
-use Rattle.float_laws.proofs.Units.{Sgn, Counts, SLe, no-sum, sle→, →sle, sle→le, dif→sle, le→counts, counts→le, placed, counts-of, counts-finite, counts-same}
+use Rattle.float_laws.proofs.Units.{Sgn, Counts, SLe, no-sum, sle→, →sle, sle→le, dif→sle, le→counts, counts→le, placed, counts-of, counts-finite, counts-same, sgn-same}
 
 -- ---- negation turns the order round
 pub le-neg : (x y : Float) → T (le x y) → T (le (neg y) (neg x))
@@ -73,13 +75,9 @@ unfolding odd
 odd-unsigned d zero k l = tt
 odd-unsigned d (suc q) k l = tt
 
-cond-unsigned : (b : Bool) (x y : Float) → T (unsigned x) → T (unsigned y) → T (unsigned (cond b x y))
-cond-unsigned true x y p q = p
-cond-unsigned false x y p q = q
-
 units-unsigned : (f : Format) (q k : ℕ) → T (unsigned (units f false q k))
 unfolding units
-units-unsigned f q k = cond-unsigned (ltb (q * 2 ^ k) (2 ^ (low f + suc (emax f)))) (odd (suc (prec f)) false q k (low f)) (inf false) (odd-unsigned (suc (prec f)) q k (low f)) tt
+units-unsigned f q k = by-cond (λ (x : Float). T (unsigned x)) (ltb (q * 2 ^ k) (2 ^ (low f + suc (emax f)))) (odd (suc (prec f)) false q k (low f)) (inf false) (λ e. odd-unsigned (suc (prec f)) q k (low f)) (λ e. tt)
 
 pub round-unsigned : (f : Format) (a b : ℕ) → T (unsigned (round f false a b))
 unfolding round
@@ -157,6 +155,9 @@ rounded-same f x P N c p n L C D (true, G, e, k) h =
     let z = part G (n - p) n p L c N P C D k (omega arith) refl in
     (true, n - p, e ∙ round-same f true G c (n - p) L C D (z .0), z .1)
 
+pub rounded-shift : (f : Format) (x : Float) (p n c p' n' : ℕ) → Rounded f x p n c → p + n' ≡ p' + n → Rounded f x p' n' c
+rounded-shift f x p n c p' n' (r, g, e, k) h = (r, g, e, sgn-same r g p n p' n' k h)
+
 -- ---- the sum
 abbrev ps : Bool → ℕ → ℕ
 ps s a = cond s 0 a
@@ -168,11 +169,9 @@ sum-rounded : (f : Format) (s : Bool) (a : ℕ) (t : Bool) (b c : ℕ) → Round
 unfolding sum
 sum-rounded f false a false b c = (false, a + b, refl, omega arith)
 sum-rounded f true a true b c = (true, a + b, refl, omega arith)
-sum-rounded f false a true b c = go (ltb a b) (ltb→lt a b) (nltb→le a b)
-  where
-    go : (q : Bool) → (T q → a < b) → (T (not q) → b ≤ a) → Rounded f (cond q (round f true (b - a) c) (round f false (a - b) c)) (a + 0) (0 + b) c
-    go true x y = (true, b - a, refl, let z = x tt in omega arith)
-    go false x y = (false, a - b, refl, let z = y tt in omega arith)
+sum-rounded f false a true b c = by-cond (λ (x : Float). Rounded f x (a + 0) (0 + b) c) (ltb a b) (round f true (b - a) c) (round f false (a - b) c)
+    (λ e. (true, b - a, refl, let z = ltb-true a b e in omega arith))
+    (λ e. (false, a - b, refl, let z = ltb-false a b e in omega arith))
 sum-rounded f true a false b c = go (ltb a b) (ltb b a) (ltb→lt a b) (nltb→le a b) (ltb→lt b a) (nltb→le b a)
   where
     go : (q r : Bool) → (T q → a < b) → (T (not q) → b ≤ a) → (T r → b < a) → (T (not r) → a ≤ b) → Rounded f (cond q (round f false (b - a) c) (round f r (a - b) c)) (0 + b) (a + 0) c

@@ -7,6 +7,7 @@ use native.Mathlib.Omega.{arith}
 use lib.Dec.{T, lit≤}
 use lib.Ieee.{Float, binary64, le, ofBits, fits}
 use lib.Ieee.Fits.{add-fits}
+use Rattle.list_laws.proofs.Below.{same-below}
 use Rattle.model.specs.Real.{_⊕_, _⊗_, minusNought, sumTo}
 use Rattle.float_laws.proofs.Constants.{one}
 use Rattle.float_laws.proofs.FromZero.{Upto, upto-within}
@@ -23,8 +24,7 @@ sum-more f n s g = sym (ap (sumTo f) (add-one n) ∙ rw (← g))
 
 pub sum-same : (f g : ℕ → Float) (n : ℕ) → ((t : ℕ) → t < n → f t ≡ g t) → sumTo f n ≡ sumTo g n
 unfolding sumTo
-sum-same f g zero h = refl
-sum-same f g (suc n) h = ap₂ (λ s x. s ⊕ x) (sum-same f g n (λ t l. h t (omega arith))) (h n (omega arith))
+sum-same = same-below sumTo (λ f g. refl) (λ f g n e v. ap₂ (λ s x. s ⊕ x) e v)
 
 pub sum-fits : (f : ℕ → Float) (n : ℕ) → T (fits binary64 (sumTo f n))
 unfolding sumTo fits ofBits

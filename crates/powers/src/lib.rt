@@ -15,7 +15,8 @@ pub fn power(y: f64, k: u64) -> f64
     p
 }
 
-// R(v, k): the greatest double of 0..2^52 whose kth power is at most v, found by halving over bit patterns.
+// R(v, k), by halving over bit patterns: for 0 < v <= 2^51 the greatest double whose kth power is at most v. For every v it is from 0 up and below 2^52,
+// and 0 where v is not above 0.
 pub fn root(v: f64, k: u64) -> f64
     ensures { λ r. ⌜ r ≡ R v k ⌝ }
 {

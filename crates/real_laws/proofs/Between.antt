@@ -1,71 +1,47 @@
 -- "keeping P(lower) <= v < P(upper)": true of the ends from the first halving to the last, for 0 < v ≤ 2^51. Assumes nothing.
 use mathlib.Core.Path.{_≡_, refl, sym, subst}
 use mathlib.Core.Logic.{inl, inr}
-use mathlib.Core.Bool.{Bool, true, false, not, cond}
-use Prim.Native.Nat.{ℕ, zero, suc, _+_, _-_, _*_, _/_, _%_, _^_, _≤_, _<_}
-use native.Mathlib.Nat.{mul-pos, le-of-eq, le-trans as le-trans-ℕ}
+use mathlib.Core.Bool.{true, false, not}
+use Prim.Native.Nat.{ℕ, zero, suc, _+_, _-_, _/_, _%_, _^_, _≤_, _<_}
+use native.Mathlib.Nat.{le-of-eq, le-trans as le-trans-ℕ}
 use native.Mathlib.Omega.{arith}
-use borrow.Author.Tests.{leb-true, leb-false, eqb-true, eqb-false}
-use lib.Dec.{T, leb, eqb}
-use lib.Pow.{pow-pos}
-use lib.Ieee.{Float, binary64, le, lt, mul, fits, isNan, eq, ofBits, toBits, odd}
+use borrow.Author.Tests.{eqb-true, eqb-false}
+use lib.Dec.{T, eqb}
+use lib.Ieee.{Float, binary64, le, lt, mul, fits, isNan, eq, ofBits, toBits}
 use lib.Ieee.Bits.{ofBits-fits, toBits-ofBits}
-use lib.Ieee.Exact.{HasValue, odd-sign}
-use lib.Ieee.Scale.{finite}
-use Rattle.float_laws.proofs.Units.{Number, Counts, counts-finite}
-use Rattle.float_laws.proofs.Order.{le-trans, le-not-nan, lt→le, lt→nle, nle→lt, eq→le, le-lt-trans, lt-le-trans, count→lt}
-use Rattle.float_laws.proofs.Rounding.{unsigned, odd-unsigned, value-count}
+use Rattle.float_laws.proofs.Units.{Number}
+use Rattle.float_laws.proofs.Order.{le-trans, le-not-nan, lt→le, lt-not-nan, lt→nle, nle→lt, eq→le, le-lt-trans, lt-le-trans}
+use Rattle.float_laws.proofs.Rounding.{unsigned, odd-unsigned}
 use Rattle.float_laws.proofs.Patterns.{bits→le}
-use Rattle.float_laws.proofs.Constants.{nought, nought-counts, nought-le-one, one, one-number, exp2, unsigned-from}
+use Rattle.float_laws.proofs.Constants.{nought, nought-le-one, one, one-number, exp2, unsigned-from, unsigned-not-nan}
 use Rattle.float_laws.proofs.Arithmetic.{mul-mono}
 use Rattle.float_laws.proofs.FromZero.{Upto}
-use Rattle.list_laws.proofs.Bools.{by-bool, true-T, no-pass}
+use Rattle.list_laws.proofs.Bools.{by-bool, by-cond, true-T, no-pass}
+use Rattle.list_laws.proofs.Below.{by-lt}
 use Rattle.model.specs.Real.{real, nought as origin}
 use Rattle.model.specs.Numbers.{powerUp, P, Ends, ends, halved, halvings, R}
 use Rattle.real_laws.proofs.Roots.Pattern.{read-low, read-normal}
-use Rattle.real_laws.proofs.Powers.{inf-mul, fits-power, above-power, power-mono, same-power}
+use Rattle.real_laws.proofs.Powers.{inf-mul, fits-power, power-from, power-mono, same-power}
 use Rattle.real_laws.proofs.Nan.{rise, below-inf}
 use Rattle.real_laws.proofs.Halving.{Top, by-halves, gap, adjacent, root-by}
 
 -- ---- the real of a pattern up to that of 2^52
-abbrev Counted : ℕ → Float → Type 0
-Counted b x = (g : ℕ) × HasValue x false g (2 ^ 1074) × (0 < b → 0 < g) × T (unsigned x)
-
-counted : (q k : ℕ) → Counted q (odd 53 false q k 1074)
-counted q k = (q * 2 ^ k, odd-sign 53 false q k 1074, λ h. mul-pos h (pow-pos k), odd-unsigned 53 q k 1074)
-
-pattern : (b : ℕ) → b ≤ Top → Counted b (real b)
-pattern b t = go (eqb (b / 2 ^ 52) 0) refl
-  where
-    go : (z : Bool) → eqb (b / 2 ^ 52) 0 ≡ z → Counted b (real b)
-    go true e =
-        let f = eqb-true (b / 2 ^ 52) 0 e in
-        let c = counted (b % 2 ^ 52) 0 in
-        subst (Counted b) (sym (read-low b f)) (c .0, c .1, λ h. c .2 (omega arith), c .3)
-    go false e =
-        let f = eqb-false (b / 2 ^ 52) 0 e in
-        let c = counted (2 ^ 52 + b % 2 ^ 52) (b / 2 ^ 52 - 1) in
-        subst (Counted b) (sym (read-normal b (b / 2 ^ 52 - 1) (b % 2 ^ 52) (omega arith) refl (omega arith))) (c .0, c .1, λ h. c .2 (omega arith), c .3)
+pattern : (b : ℕ) → b ≤ Top → T (unsigned (real b))
+pattern b t = by-bool (eqb (b / 2 ^ 52) 0)
+    (λ e. subst (λ (x : Float). T (unsigned x)) (sym (read-low b (eqb-true (b / 2 ^ 52) 0 e))) (odd-unsigned 53 (b % 2 ^ 52) 0 1074))
+    (λ e. let f = eqb-false (b / 2 ^ 52) 0 e in
+    subst (λ (x : Float). T (unsigned x)) (sym (read-normal b (b / 2 ^ 52 - 1) (b % 2 ^ 52) (omega arith) refl (omega arith)))
+    (odd-unsigned 53 (2 ^ 52 + b % 2 ^ 52) (b / 2 ^ 52 - 1) 1074))
 
 pub record FromZero (b : ℕ) : Type 0 where
-  pub finite : T (finite (real b))
   pub clear : T (unsigned (real b))
   pub from : T (le nought (real b))
-  pub above : 0 < b → T (lt nought (real b))
   pub own : toBits binary64 (real b) ≡ b
 
 pub from-zero : (b : ℕ) → b ≤ Top → FromZero b
 from-zero b t =
     let c = pattern b t in
-    let i : Counts binary64 (real b) (c .0) 0 = value-count binary64 (real b) (c .0) (c .1) in
-    let f = unsigned-from (real b) (c .3) in
-    record {
-      finite = counts-finite binary64 (real b) (c .0) 0 i;
-      clear = c .3;
-      from = f;
-      above = λ h. count→lt binary64 nought (real b) 0 (c .0) (nought-counts binary64) i (c .2 h);
-      own = toBits-ofBits binary64 b (omega arith) (le-not-nan nought (real b) f .1);
-    }
+    record { clear = c; from = unsigned-from (real b) c; own = toBits-ofBits binary64 b (omega arith) (unsigned-not-nan (real b) c) }
 
 -- ---- the first two ends
 one-top : mul binary64 one (exp2 52) ≡ exp2 52
@@ -122,17 +98,16 @@ module _ (v : Float) (k : ℕ) (above : T (lt nought v)) (small : T (le v (exp2 
       }
 
   -- the middle parts them: its power is at most v, or beyond it
-  beyond : (m : ℕ) → 0 < m → m ≤ Top → le (P (real m) k) v ≡ false → T (lt v (P (real m) k))
-  beyond m h t e =
-      let z = from-zero m t in
-      let n = above-power (real m) (ofBits-fits binary64 m) (z .finite) (z .above h) (k - 1) in
-      nle→lt v (P (real m) k) (le-not-nan nought v (lt→le nought v above) .1) (le-not-nan nought (P (real m) k) n .1) (subst T e)
+  beyond : (m : ℕ) → m ≤ Top → le (P (real m) k) v ≡ false → T (lt v (P (real m) k))
+  beyond m t e =
+      let n = power-from (real m) (ofBits-fits binary64 m) (from-zero m t .from) (k - 1) in
+      nle→lt v (P (real m) k) (lt-not-nan nought v above .1) (le-not-nan nought (P (real m) k) n .1) (subst T e)
 
   step : (l u : ℕ) → u ≤ Top → Kept (ends l u) → Kept (halved v k (ends l u))
   step l u t r = by-halves v k l u Kept
       (λ h. r)
       (λ h b. record { under = true-T _ b; over = r .over })
-      (λ h b. record { under = r .under; over = beyond ((l + u) / 2) (omega arith) (omega arith) b })
+      (λ h b. record { under = r .under; over = beyond ((l + u) / 2) (omega arith) b })
 
   pub kept : (n : ℕ) → Kept (halvings v k n)
   unfolding halvings
@@ -159,13 +134,13 @@ module _ (v : Float) (k : ℕ) (above : T (lt nought v)) (small : T (le v (exp2 
       let t = g .top in
       let here = from-zero l (omega arith) in
       let next = from-zero (suc l) (omega arith) in
-      by-bool (leb (toBits binary64 y) l)
-      (λ e. subst (λ (x : Float). T (le y x)) (sym lower-is)
-      (bits→le binary64 y (real l) Y (ofBits-fits binary64 l) N (here .clear) (le-trans-ℕ (leb-true _ l e) (le-of-eq (sym (here .own))))))
-      (λ e. let up = bits→le binary64 (real (suc l)) y (ofBits-fits binary64 (suc l)) Y (next .clear) N (le-trans-ℕ (le-of-eq (next .own)) (leb-false _ l e)) in
+      by-lt l (toBits binary64 y)
+      (λ e. let up = bits→le binary64 (real (suc l)) y (ofBits-fits binary64 (suc l)) Y (next .clear) N (le-trans-ℕ (le-of-eq (next .own)) e) in
       absurd
       (lt→nle v (P (real (suc l)) k) next-over
       (le-trans (P (real (suc l)) k) (P y k) v (power-mono (real (suc l)) y (ofBits-fits binary64 (suc l)) Y (next .from) up (k - 1)) h)))
+      (λ e. subst (λ (x : Float). T (le y x)) (sym lower-is)
+      (bits→le binary64 y (real l) Y (ofBits-fits binary64 l) N (here .clear) (le-trans-ℕ e (le-of-eq (sym (here .own))))))
 
 -- ---- of any v and k: R lies within 0..2^52
 real-within : (b : ℕ) → b ≤ Top → Upto (exp2 52) (real b)
@@ -176,8 +151,6 @@ real-within b t =
 
 pub root-within : (v : Float) (k : ℕ) → Upto (exp2 52) (R v k)
 unfolding R
-root-within v k = go (eq v origin)
-  where
-    go : (b : Bool) → Upto (exp2 52) (cond b origin (real (halvings v k 63 .lower)))
-    go true = real-within 0 (omega arith)
-    go false = real-within (halvings v k 63 .lower) (let g = gap v k 63 in let o = g .order in let t = g .top in omega arith)
+root-within v k = by-cond (Upto (exp2 52)) (eq v origin) origin (real (halvings v k 63 .lower))
+    (λ e. real-within 0 (omega arith))
+    (λ e. real-within (halvings v k 63 .lower) (let g = gap v k 63 in let o = g .order in let t = g .top in omega arith))

@@ -41,13 +41,13 @@ at-bottom (fin true m e) h =
     least n h = omega arith
 at-bottom (fin false m e) h = absurd h
 
-real : (s : Bool) (m : ℕ) (e : ℤ) → T (not (isNan (fin s m e)))
+fin-not-nan : (s : Bool) (m : ℕ) (e : ℤ) → T (not (isNan (fin s m e)))
 unfolding isNan
-real s m e = tt
+fin-not-nan s m e = tt
 
 -- by the tests that the code makes
 pub above-range : (x : Float) → le (minus-exp2 63) x ≡ true → lt x (exp2 63) ≡ false → pos (2 ^ 63 - 1) ≡ toSigned 63 x
-above-range x h k = at-top x (nlt→le x (exp2 63) (le-not-nan (minus-exp2 63) x (true-T _ h) .1) (real false 1 (pos 63)) (false-T _ k))
+above-range x h k = at-top x (nlt→le x (exp2 63) (le-not-nan (minus-exp2 63) x (true-T _ h) .1) (fin-not-nan false 1 (pos 63)) (false-T _ k))
 
 pub below-range : (x : Float) → le (minus-exp2 63) x ≡ false → T (not (isNan x)) → negsuc (2 ^ 63 - 1) ≡ toSigned 63 x
-below-range x h k = at-bottom x (nle→lt x (minus-exp2 63) k (real true 1 (pos 63)) (subst T h))
+below-range x h k = at-bottom x (nle→lt x (minus-exp2 63) k (fin-not-nan true 1 (pos 63)) (subst T h))

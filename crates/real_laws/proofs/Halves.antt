@@ -20,6 +20,7 @@ use Rattle.float_laws.proofs.Units.{no-sum, →sle, →slt, placed, zero-expone
 use Rattle.float_laws.proofs.Order.{le-trans as le-trans-float, le-not-nan, lt→le, lt→nle, nle→lt, lt-le-trans, le-lt-trans}
 use Rattle.float_laws.proofs.Rounding.{le-neg, round-neg, under}
 use Rattle.float_laws.proofs.Constants.{nought, nought-not-nan, exp2}
+use Rattle.list_laws.proofs.Bools.{true-T}
 use Rattle.model.specs.Numbers.{roundOf}
 use Rattle.real_laws.proofs.Nan.{no-minus}
 
@@ -142,7 +143,7 @@ parted (fin false m e) X h k =
       small = s;
       up = λ t.
           ap (λ (z : ℕ). round binary64 false z 1)
-          (sym (up-to A d D (scaled-up n A d D (values-of-le odd (add binary64 x x) (2 * n + 1) 1 (A * d + A * d) (d * d) (positive-of-value odd (2 * n + 1) 1 v (omega arith)) (positive-of-value (add binary64 x x) (A * d + A * d) (d * d) u q) v u (subst T (sym t) tt)))));
+          (sym (up-to A d D (scaled-up n A d D (values-of-le odd (add binary64 x x) (2 * n + 1) 1 (A * d + A * d) (d * d) (positive-of-value odd (2 * n + 1) 1 v (omega arith)) (positive-of-value (add binary64 x x) (A * d + A * d) (d * d) u q) v u (true-T _ t)))));
       down = λ t.
           ap (λ (z : ℕ). round binary64 false z 1)
           (sym (down-to A d D (lt-of-not-le (λ (g : (2 * n + 1) * d ≤ A + A). subst T t (le-of-values odd (add binary64 x x) (2 * n + 1) 1 (A * d + A * d) (d * d) (lit< tt) (mul-pos D D) v u (scaled-back n A d g))))));

@@ -4,11 +4,11 @@ use mathlib.Core.Bool.{Bool, true, false, cond}
 use Prim.Native.Nat.{ℕ, zero, suc, _+_, _-_, _*_, _/_, _^_, _≤_, _<_}
 use native.Mathlib.Nat.{pow-suc, mul-assoc, mul-comm, mul-le-mul-right, add-zero, add-suc, lt-of-not-le}
 use native.Mathlib.Omega.{arith}
-use borrow.Author.Tests.{le-leb, lt-leb, leb-true, leb-false}
-use lib.Dec.{leb}
+use borrow.Author.Tests.{le-leb, lt-leb}
 use lib.Pow.{pow-mono}
 use lib.Ieee.{Float, le, eq}
 use Rattle.list_laws.proofs.Bools.{by-bool}
+use Rattle.list_laws.proofs.Below.{by-lt}
 use Rattle.model.specs.Real.{real, nought}
 use Rattle.model.specs.Numbers.{P, Ends, ends, halfBy, halved, halvings, R}
 
@@ -30,11 +30,11 @@ module _ (v : Float) (k : ℕ) where
   -- what holds of neighbours, and of either half of others, holds after a halving
   pub by-halves : (l u : ℕ) (C : Ends → Type 0) → (u ≤ suc l → C (ends l u)) → (suc l < u → le (P (real ((l + u) / 2)) k) v ≡ true → C (ends ((l + u) / 2) u))
       → (suc l < u → le (P (real ((l + u) / 2)) k) v ≡ false → C (ends l ((l + u) / 2))) → C (halved v k (ends l u))
-  by-halves l u C a b c = by-bool (leb u (suc l))
-      (λ e. let h = leb-true u (suc l) e in subst C (sym (neighbours l u h)) (a h))
-      (λ e. let h = leb-false u (suc l) e in by-bool (le (P (real ((l + u) / 2)) k) v)
+  by-halves l u C a b c = by-lt (suc l) u
+      (λ h. by-bool (le (P (real ((l + u) / 2)) k) v)
       (λ t. subst C (sym (half-is l u true h t)) (b h t))
       (λ t. subst C (sym (half-is l u false h t)) (c h t)))
+      (λ h. subst C (sym (neighbours l u h)) (a h))
 
   -- ---- the numbers between the ends become half as many with each halving
   pub record Gap (n : ℕ) (e : Ends) : Type 0 where

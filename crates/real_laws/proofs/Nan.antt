@@ -11,12 +11,13 @@ use lib.Ieee.{Float, nan, inf, fin, up, down, le, lt, ne, isNan}
 use lib.Ieee.Compare.{differs-from-itself}
 use lib.Ieee.Fits.{down-pos}
 use lib.Ieee.Scale.{finite}
+use Rattle.list_laws.proofs.Bools.{true-T}
 use Rattle.float_laws.proofs.Units.{no-sum, →sle}
 use Rattle.float_laws.proofs.Constants.{nought, exp2}
 
 -- ---- a NaN is what differs from itself
 pub ne-nan : (x : Float) → ne x x ≡ true → x ≡ nan
-ne-nan x h = differs-from-itself x (subst T (sym h) tt)
+ne-nan x h = differs-from-itself x (true-T _ h)
 
 pub eq-not-nan : (x : Float) → ne x x ≡ false → T (not (isNan x))
 unfolding ne isNan

@@ -43,7 +43,7 @@ fits-power y Y (suc j) = mul-fits binary64 (powerUp y j) y
 
 -- ---- powers of what is above zero
 module _ (z : Float) (Z : T (fits binary64 z)) (F : T (finite z)) (h : T (lt nought z)) where
-  pub above-power : (j : ℕ) → T (le nought (powerUp z j))
+  above-power : (j : ℕ) → T (le nought (powerUp z j))
   unfolding powerUp
   above-power zero = lt→le nought z h
   above-power (suc j) = elim (rise (powerUp z j) (above-power j)) [

@@ -1,8 +1,8 @@
 -- Within the range the fraction is dropped; beyond it the cast is known (`Casts`). Assumes nothing.
 use borrow.Author.Needs.{needs}
-use mathlib.Core.Path.{sym, ap, subst}
-use lib.Dec.{T}
+use mathlib.Core.Path.{sym, ap}
 use lib.Ieee.{ofBits, neg, toSigned}
+use Rattle.list_laws.proofs.Bools.{true-T}
 use Rattle.real_laws.proofs.Nan.{ne-nan, eq-not-nan}
 use Rattle.real_laws.proofs.Casts.{above-range, below-range}
 use Rattle.real.proofs.int_of_real.Statement.{statement}
@@ -10,7 +10,7 @@ use Rattle.real.proofs.int_of_real.Tie as tie
 
 truncating-f64-to-i64-requires : tie.Need-truncating-f64-to-i64-requires
 unfolding ofBits neg
-truncating-f64-to-i64-requires c κs = (subst T (sym (c .before .if1 .taken)) tt, subst T (sym (c .if2 .taken)) tt)
+truncating-f64-to-i64-requires c κs = (true-T _ (c .before .if1 .taken), true-T _ (c .if2 .taken))
 
 returns : tie.Need-returns
 returns c = search needs

@@ -1,11 +1,11 @@
 -- By the sign, and by whether x has digits after the point. Assumes nothing.
 use borrow.Author.Needs.{needs}
-use mathlib.Core.Path.{_≡_, sym, ap, _∙_, subst}
+use mathlib.Core.Path.{_≡_, ap, _∙_}
 use mathlib.Core.Bool.{false}
 use lib.Dec.{T}
 use lib.Ieee.{Float, binary64, ofBits, fits, neg, lt, isNan}
 use lib.Ieee.Fits.{neg-fits}
-use Rattle.float_laws.proofs.Order.{lt→le, nlt→le, le-not-nan}
+use Rattle.float_laws.proofs.Order.{lt-not-nan, nlt→le}
 use Rattle.float_laws.proofs.Constants.{nought, exp2}
 use Rattle.list_laws.proofs.Bools.{true-T, false-T}
 use Rattle.real_laws.proofs.Halves.{round-by-neg, above-zero, from-whole, from-whole-neg, zero-or-nan}
@@ -13,12 +13,12 @@ use Rattle.real.proofs.round.Statement.{statement}
 use Rattle.real.proofs.round.Tie as tie
 
 held : (c : tie.Start) → T (fits binary64 (c .args .x))
-held c = subst T (sym (c .good .0 .1)) tt
+held c = true-T _ (c .good .0 .1)
 
 -- above zero, and not below 2^52
 far : (x : Float) → T (lt nought x) → lt x (exp2 52) ≡ false → T (lib.Ieee.le (exp2 52) x)
 unfolding isNan
-far x h k = nlt→le x (exp2 52) (le-not-nan nought x (lt→le nought x h) .1) tt (false-T (lt x (exp2 52)) k)
+far x h k = nlt→le x (exp2 52) (lt-not-nan nought x h .1) tt (false-T (lt x (exp2 52)) k)
 
 round-above-zero-requires : tie.Need-round-above-zero-requires
 unfolding ofBits

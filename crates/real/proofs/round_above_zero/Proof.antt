@@ -6,6 +6,7 @@ use native.Mathlib.Omega.{arith}
 use lib.Dec.{T}
 use lib.IntN.{pos}
 use lib.Ieee.{Float, binary64, le, lt, add, ofInt, ofBits}
+use Rattle.list_laws.proofs.Bools.{true-T}
 use Rattle.float_laws.proofs.Order.{lt→le}
 use Rattle.float_laws.proofs.Constants.{nought}
 use Rattle.real_laws.proofs.Halves.{castable, Parted, parted}
@@ -23,7 +24,7 @@ truncating-f64-to-u64-requires c κs = castable (c .args .x) (lt→le _ _ (above
 known : (c : tie.After-truncating-f64-to-u64) → Parted (c .before .args .x) (c .truncating-f64-to-u64 .result)
 known c =
     let s = c .before in
-    subst (Parted (s .args .x)) (sym (c .truncating-f64-to-u64 .ensures)) (parted (s .args .x) (subst T (sym (s .good .0 .1)) tt) (above s) (s .pre .1))
+    subst (Parted (s .args .x)) (sym (c .truncating-f64-to-u64 .ensures)) (parted (s .args .x) (true-T _ (s .good .0 .1)) (above s) (s .pre .1))
 
 mul-nearest-u64-to-f64 : tie.Need-mul-nearest-u64-to-f64
 mul-nearest-u64-to-f64 c = let h = known c .small in omega arith

@@ -5,22 +5,23 @@ use mathlib.Core.Path.{_≡_, refl, sym, ap, _∙_, subst}
 use Prim.Native.Nat.{ℕ, zero, suc, _+_, _-_, _*_, _/_, _^_, _≤_, _<_}
 use native.Mathlib.Nat.{le-trans, le-of-eq, le-of-lt, mul-pos, lt-of-not-le, lt-of-mul-lt-mul-right, one-mul, mul-assoc, mul-mul-mul-comm, add-mul, mul-le-mul-left, mul-le-mul-right}
 use native.Mathlib.Omega.{arith}
-use mathlib.Core.Bool.{Bool, true, false, not, true≢false}
+use mathlib.Core.Bool.{true, false, true≢false}
 use lib.IntN.{ℤ}
-use lib.Dec.{T, leb, leb→le, nleb→lt, ltb→lt, eqb→eq}
+use lib.Dec.{T, ltb→lt, eqb→eq}
 use lib.Pow.{pow-add, pow-pos, shl-lt}
 use lib.Ieee.{Float, nan, inf, fin, binary64, up, down, fits, le, lt}
 use lib.Ieee.Exact.{HasValue}
 use lib.Ieee.Scale.{finite}
 use lib.Ieee.Positive.{positive}
-use Rattle.float_laws.proofs.Units.{pow-between, multiple, zero-exponent}
+use Rattle.float_laws.proofs.Units.{pow-between, multiple, zero-exponent, placed}
 use Rattle.float_laws.proofs.Order.{lt→count}
 use Rattle.float_laws.proofs.Rounding.{unsigned, value-count}
 use Rattle.float_laws.proofs.Constants.{nought, unsigned-from}
+use Rattle.list_laws.proofs.Below.{by-lt}
 use Rattle.model.specs.Numbers.{nearRoot, unitsOf, sqrtOf}
 use Rattle.real_laws.proofs.Roots.Whole.{IsNear, nearRoot-near, square-suc, square-twice, square-mono}
-use Rattle.real_laws.proofs.Roots.Scaled.{parts, exponent, moved, dropped-is, cut, cut-is, square-pow}
-use Rattle.real_laws.proofs.Roots.Units.{shiftOf, counted, digits-lt, unitsOf-is, rootUnits, root-valued}
+use Rattle.real_laws.proofs.Roots.Scaled.{parts, exponent, moved, cut, cut-by, square-pow}
+use Rattle.real_laws.proofs.Roots.Units.{unitsOf-is, rootUnits, root-valued}
 
 -- ---- a number of at most 53 digits, moved up, that is 2 ^ 52 * 2 ^ k at least is a multiple of 2 ^ k
 reaches : (p j k : ℕ) → p < 2 ^ 53 → 2 ^ 52 * 2 ^ k ≤ p * 2 ^ j → k ≤ j
@@ -76,7 +77,14 @@ below-down n q u y l h =
     le-trans (square-mono (q * u + y) ((q + q) * u) (omega arith)) (squared (q + q) n u (le-trans (le-of-eq (square-twice q)) (mul-le-mul-left 4 l)))
 
 pub below : (n q k p j : ℕ) → IsNear n q → 2 ^ 104 ≤ n → p < 2 ^ 53 → p * 2 ^ j < q * 2 ^ k → (q * 2 ^ k + p * 2 ^ j) * (q * 2 ^ k + p * 2 ^ j) ≤ 4 * (n * (2 ^ k * 2 ^ k))
-below n q k p j near big few h = go (leb (q * q) n) (leb→le (q * q) n) (nleb→lt (q * q) n)
+below n q k p j near big few h = by-lt n (q * q)
+    (λ l.
+    let z = q - 1 in
+    let m = more l in
+    let e : q ≡ z + 1 = omega arith in
+    subst (λ (x : ℕ). (x * 2 ^ k + p * 2 ^ j) * (x * 2 ^ k + p * 2 ^ j) ≤ 4 * (n * (2 ^ k * 2 ^ k))) (sym e)
+    (below-by n z (2 ^ k) (p * 2 ^ j) (subst (λ (x : ℕ). IsNear n x) e near) (omega arith) (before z e (omega arith))))
+    (λ l. below-down n q (2 ^ k) (p * 2 ^ j) l h)
   where
     -- q is 2 ^ 52 + 1 at least, since n is 2 ^ 104 at least
     more : n < q * q → 2 ^ 52 < q
@@ -84,23 +92,12 @@ below n q k p j near big few h = go (leb (q * q) n) (leb→le (q * q) n) (nleb�
 
     -- so y is a multiple of 2 ^ k, or it is below 2 ^ 52 of them
     before : (z : ℕ) → q ≡ z + 1 → 2 ^ 52 ≤ z → p * 2 ^ j ≤ z * 2 ^ k
-    before z e m = at (leb (2 ^ 52 * 2 ^ k) (p * 2 ^ j)) (leb→le (2 ^ 52 * 2 ^ k) (p * 2 ^ j)) (nleb→lt (2 ^ 52 * 2 ^ k) (p * 2 ^ j))
-      where
-        at : (b : Bool) → (T b → 2 ^ 52 * 2 ^ k ≤ p * 2 ^ j) → (T (not b) → p * 2 ^ j < 2 ^ 52 * 2 ^ k) → p * 2 ^ j ≤ z * 2 ^ k
-        at true a b =
-            let f : p * 2 ^ j ≡ p * 2 ^ (j - k) * 2 ^ k = multiple p j k (reaches p j k few (a tt)) in
-            let l : p * 2 ^ (j - k) < q = lt-of-mul-lt-mul-right (2 ^ k) (subst (λ (x : ℕ). x < q * 2 ^ k) f h) in
-            le-trans (le-of-eq f) (mul-le-mul-right (2 ^ k) (omega arith))
-        at false a b = le-trans (le-of-lt (b tt)) (mul-le-mul-right (2 ^ k) m)
-
-    go : (b : Bool) → (T b → q * q ≤ n) → (T (not b) → n < q * q) → (q * 2 ^ k + p * 2 ^ j) * (q * 2 ^ k + p * 2 ^ j) ≤ 4 * (n * (2 ^ k * 2 ^ k))
-    go true a b = below-down n q (2 ^ k) (p * 2 ^ j) (a tt) h
-    go false a b =
-        let z = q - 1 in
-        let m = more (b tt) in
-        let e : q ≡ z + 1 = omega arith in
-        subst (λ (x : ℕ). (x * 2 ^ k + p * 2 ^ j) * (x * 2 ^ k + p * 2 ^ j) ≤ 4 * (n * (2 ^ k * 2 ^ k))) (sym e)
-        (below-by n z (2 ^ k) (p * 2 ^ j) (subst (λ (x : ℕ). IsNear n x) e near) (omega arith) (before z e (omega arith)))
+    before z e m = by-lt (p * 2 ^ j) (2 ^ 52 * 2 ^ k)
+        (λ g. le-trans (le-of-lt g) (mul-le-mul-right (2 ^ k) m))
+        (λ g.
+        let f : p * 2 ^ j ≡ p * 2 ^ (j - k) * 2 ^ k = multiple p j k (reaches p j k few g) in
+        let l : p * 2 ^ (j - k) < q = lt-of-mul-lt-mul-right (2 ^ k) (subst (λ (x : ℕ). x < q * 2 ^ k) f h) in
+        le-trans (le-of-eq f) (mul-le-mul-right (2 ^ k) (omega arith)))
 
 -- ---- the numbers of a double above 0: its root squared is n * (2 ^ k * 2 ^ k) units, and `rootUnits` has q * 2 ^ k of them
 abbrev Shape : ℕ → Type 0
@@ -118,9 +115,7 @@ shape m j p h =
       nearRoot (a * 2 ^ 52),
       k,
       f .whole ∙ cut a i (f .enough) ∙ ap (λ (x : ℕ). a * 2 ^ 52 * x) (square-pow k),
-      ap rootUnits (f .whole)
-          ∙ ap (λ (x : ℕ). nearRoot (a * 2 ^ (2 * i) / 2 ^ (2 * x)) * 2 ^ x) (dropped-is a i lo below54 (f .enough))
-          ∙ ap (λ (x : ℕ). nearRoot x * 2 ^ k) (cut-is a i (f .enough)),
+      ap rootUnits (f .whole) ∙ cut-by (λ q k. q * 2 ^ k) a i lo below54 (f .enough),
       nearRoot-near (a * 2 ^ 52),
       mul-le-mul-right (2 ^ 52) lo,
       f .root-low,
@@ -165,24 +160,25 @@ sqrt-nearest (fin false m e) nan X P Y F N = absurd F
 sqrt-nearest (fin false m e) (inf t) X P Y F N = absurd F
 sqrt-nearest (fin false m e) (fin true n d) X P Y F N = absurd N
 sqrt-nearest (fin false m e) (fin false n d) X P Y F N =
-    let g = m * 2 ^ shiftOf false m e X in
-    let w = g * 2 ^ 1074 in
-    let y = n * 2 ^ shiftOf false n d Y in
-    let s = shape m (shiftOf false m e X) (ltb→lt 0 m P) (digits-lt false m e X) in
+    let i = placed binary64 false m e X in
+    let j = placed binary64 false n d Y in
+    let g = m * 2 ^ (i .0) in
+    let y = n * 2 ^ (j .0) in
+    let s = shape m (i .0) (ltb→lt 0 m P) (i .2) in
     let q = s .1 in
     let k = s .2 in
-    let vr : HasValue (sqrtOf (fin false m e)) false (q * 2 ^ k) (2 ^ 1074) = subst (λ (z : ℕ). HasValue (sqrtOf (fin false m e)) false z (2 ^ 1074)) (s .4) (root-valued (fin false m e) g (counted false m e X) (mul-pos (ltb→lt 0 m P) (pow-pos (shiftOf false m e X)))) in
-    let vy = counted false n d Y in
+    let vr : HasValue (sqrtOf (fin false m e)) false (q * 2 ^ k) (2 ^ 1074) = subst (λ (z : ℕ). HasValue (sqrtOf (fin false m e)) false z (2 ^ 1074)) (s .4) (root-valued (fin false m e) g (refl, i .1) (mul-pos (ltb→lt 0 m P) (pow-pos (i .0)))) in
+    let vy : HasValue (fin false n d) false y (2 ^ 1074) = (refl, j .1) in
     let cr = value-count binary64 (sqrtOf (fin false m e)) (q * 2 ^ k) vr in
     let cy = value-count binary64 (fin false n d) y vy in
-    let ex : inUnits (fin false m e) ≡ g = units-of (fin false m e) g (counted false m e X) in
+    let ex : inUnits (fin false m e) ≡ g = units-of (fin false m e) g (refl, i .1) in
     let er : inUnits (sqrtOf (fin false m e)) ≡ q * 2 ^ k = units-of (sqrtOf (fin false m e)) (q * 2 ^ k) vr in
     let ey : inUnits (fin false n d) ≡ y = units-of (fin false n d) y vy in
     let r = sqrtOf (fin false m e) in (
       λ l. exchange Above ex er ey (subst (λ (z : ℕ). 4 * z ≤ (q * 2 ^ k + y) * (q * 2 ^ k + y)) (sym (s .3))
-          (above (s .0) q k n (shiftOf false n d Y) (s .5) (s .7) (digits-lt false n d Y) (lt→count binary64 r (fin false n d) (q * 2 ^ k) y cr cy l))),
+          (above (s .0) q k n (j .0) (s .5) (s .7) (j .2) (lt→count binary64 r (fin false n d) (q * 2 ^ k) y cr cy l))),
       λ l. exchange Below ex er ey (subst (λ (z : ℕ). (q * 2 ^ k + y) * (q * 2 ^ k + y) ≤ 4 * z) (sym (s .3))
-          (below (s .0) q k n (shiftOf false n d Y) (s .5) (s .6) (digits-lt false n d Y) (lt→count binary64 (fin false n d) r y (q * 2 ^ k) cy cr l))),
+          (below (s .0) q k n (j .0) (s .5) (s .6) (j .2) (lt→count binary64 (fin false n d) r y (q * 2 ^ k) cy cr l))),
     )
   where
     exchange : (C : ℕ → ℕ → ℕ → Type 0) {a b c a' b' c' : ℕ} → a' ≡ a → b' ≡ b → c' ≡ c → C a b c → C a' b' c'

@@ -10,9 +10,8 @@ use lib.Pow.{pow-pos}
 use lib.Ieee.{nan, inf, binary64, odd, ofFields, ofBits, nanBits, isNan}
 use lib.Ieee.Exact.{odd-sign}
 use lib.Ieee.Bits.{nanBits-is}
-use Rattle.float_laws.proofs.Order.{le-not-nan}
 use Rattle.float_laws.proofs.Rounding.{odd-unsigned}
-use Rattle.float_laws.proofs.Constants.{nought, unsigned-from}
+use Rattle.float_laws.proofs.Constants.{unsigned-not-nan}
 use Rattle.model.specs.Numbers.{rooted, sqrtOf}
 use Rattle.real_laws.proofs.Roots.Units.{sqrtOf-units}
 
@@ -52,7 +51,7 @@ written k q h lo hi =
 pub written-no-nan : (k q : ℕ) → k < 2046 → 2 ^ 52 ≤ q → q < 2 ^ 53 → T (not (nanBits binary64 (k * 2 ^ 52 + q)))
 written-no-nan k q h lo hi =
     subst (λ (b : Bool). T (not b)) (sym (nanBits-is binary64 (k * 2 ^ 52 + q) ∙ ap isNan (written k q h lo hi)))
-    (le-not-nan nought (odd 53 false q k 1074) (unsigned-from _ (odd-unsigned 53 q k 1074)) .1)
+    (unsigned-not-nan (odd 53 false q k 1074) (odd-unsigned 53 q k 1074))
 
 -- ---- the root of what is read
 pub sqrtOf-odd : (q k : ℕ) → 0 < q → sqrtOf (odd 53 false q k 1074) ≡ rooted (q * 2 ^ k * 2 ^ 1074)

@@ -45,7 +45,7 @@ shift m p h =
 half : (z h : ℕ) → 26 ≤ h → 52 + 2 * h < z → z ≤ 54 + 2 * h → (z - 105) / 2 ≡ h - 26
 half z h a b c = omega arith
 
-pub dropped-is : (a h : ℕ) → 2 ^ 52 ≤ a → a < 2 ^ 54 → 26 ≤ h → dropped (a * 2 ^ (2 * h)) ≡ h - 26
+dropped-is : (a h : ℕ) → 2 ^ 52 ≤ a → a < 2 ^ 54 → 26 ≤ h → dropped (a * 2 ^ (2 * h)) ≡ h - 26
 dropped-is a h lo hi l =
     half (size (a * 2 ^ (2 * h))) h l
     (pow-between (52 + 2 * h) (size (a * 2 ^ (2 * h))) (a * 2 ^ (2 * h)) (le-trans (le-of-eq (pow-add 2 52 (2 * h))) (mul-le-mul-right (2 ^ (2 * h)) lo)) (size-lt (a * 2 ^ (2 * h))))
@@ -54,18 +54,23 @@ dropped-is a h lo hi l =
 pub cut : (a h : ℕ) → 26 ≤ h → a * 2 ^ (2 * h) ≡ a * 2 ^ 52 * 2 ^ (2 * (h - 26))
 cut a h l = ap (λ (x : ℕ). a * 2 ^ x) (omega arith) ∙ ap (λ (x : ℕ). a * x) (pow-add 2 52 (2 * (h - 26))) ∙ sym (mul-assoc a (2 ^ 52) (2 ^ (2 * (h - 26))))
 
-pub cut-is : (a h : ℕ) → 26 ≤ h → a * 2 ^ (2 * h) / 2 ^ (2 * (h - 26)) ≡ a * 2 ^ 52
+cut-is : (a h : ℕ) → 26 ≤ h → a * 2 ^ (2 * h) / 2 ^ (2 * (h - 26)) ≡ a * 2 ^ 52
 cut-is a h l = ap (λ (x : ℕ). x / 2 ^ (2 * (h - 26))) (cut a h l) ∙ mul-div-cancel (a * 2 ^ 52) (pow-pos (2 * (h - 26)))
 
 -- a power of two, squared
 pub square-pow : (k : ℕ) → 2 ^ (2 * k) ≡ 2 ^ k * 2 ^ k
 square-pow k = ap (λ (x : ℕ). 2 ^ x) (omega arith) ∙ pow-add 2 k k
 
-pub rooted-is : (a h : ℕ) → 2 ^ 52 ≤ a → a < 2 ^ 54 → 26 ≤ h → rooted (a * 2 ^ (2 * h)) ≡ odd 53 false (nearRoot (a * 2 ^ 52)) (h - 26) 1074
+-- what is made of the root of the digits that are kept, and of the pairs that are dropped
+pub cut-by : {A : Type 0} (F : ℕ → ℕ → A) (a h : ℕ) → 2 ^ 52 ≤ a → a < 2 ^ 54 → 26 ≤ h
+    → F (nearRoot (a * 2 ^ (2 * h) / 2 ^ (2 * dropped (a * 2 ^ (2 * h))))) (dropped (a * 2 ^ (2 * h))) ≡ F (nearRoot (a * 2 ^ 52)) (h - 26)
+cut-by F a h lo hi l =
+    ap (λ (k : ℕ). F (nearRoot (a * 2 ^ (2 * h) / 2 ^ (2 * k))) k) (dropped-is a h lo hi l)
+    ∙ ap (λ (x : ℕ). F (nearRoot x) (h - 26)) (cut-is a h l)
+
+rooted-is : (a h : ℕ) → 2 ^ 52 ≤ a → a < 2 ^ 54 → 26 ≤ h → rooted (a * 2 ^ (2 * h)) ≡ odd 53 false (nearRoot (a * 2 ^ 52)) (h - 26) 1074
 unfolding rooted
-rooted-is a h lo hi l =
-    ap (λ (k : ℕ). odd 53 false (nearRoot (a * 2 ^ (2 * h) / 2 ^ (2 * k))) k 1074) (dropped-is a h lo hi l)
-    ∙ ap (λ (x : ℕ). odd 53 false (nearRoot x) (h - 26) 1074) (cut-is a h l)
+rooted-is a h lo hi l = cut-by (λ q k. odd 53 false q k 1074) a h lo hi l
 
 -- ---- what it is that is cut
 pub scaled : (m k t h : ℕ) → t + 2 * h ≡ k + 1074 → m * 2 ^ k * 2 ^ 1074 ≡ m * 2 ^ t * 2 ^ (2 * h)
@@ -81,7 +86,7 @@ root-low a h = near-ge (a * 2 ^ 52) (nearRoot (a * 2 ^ 52)) (2 ^ 52) (nearRoot-n
 pub root-high : (a : ℕ) → 2 ^ 52 ≤ a → a + 2 ≤ 2 ^ 54 → nearRoot (a * 2 ^ 52) < 2 ^ 53
 root-high a h g = near-lt (a * 2 ^ 52) (nearRoot (a * 2 ^ 52)) (2 ^ 53) (nearRoot-near (a * 2 ^ 52)) (omega arith) (omega arith) (omega arith)
 
--- ---- all of it, at the numbers that `of_units` works out
+-- ---- all of it, at the numbers that `root_of_units` works out
 twofold : (y r : ℕ) → 2 ^ 52 ≤ y → y < 2 ^ 53 → r < 2 → (2 ^ 52 ≤ y * 2 ^ r) × (y * 2 ^ r + 2 ≤ 2 ^ 54)
 twofold y zero a b c = (omega arith, omega arith)
 twofold y (suc zero) a b c = (omega arith, omega arith)

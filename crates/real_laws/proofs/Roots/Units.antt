@@ -1,32 +1,20 @@
--- `sqrtOf` in units, 2 ^ -1074 each: a double that is finite has a whole number of them (`counted`), and what its root has (`rootUnits`). Assumes nothing.
+-- `sqrtOf` in units, 2 ^ -1074 each: what a finite double has of them (`unitsOf-is`), and what its root has (`rootUnits`). Assumes nothing.
 use mathlib.Core.Path.{_≡_, refl, sym, ap, _∙_, subst}
 use Prim.Native.Nat.{ℕ, zero, suc, _+_, _*_, _/_, _^_, _<_}
 use native.Mathlib.Nat.{lt-irrefl, eq-of-mul-eq-mul-right, zero-add, zero-mul, mul-div-cancel, mul-pos, zero-lt-suc}
 use native.Mathlib.Omega.{arith}
 use mathlib.Core.Bool.{Bool, true, false, true≢false}
 use lib.IntN.{ℤ}
-use lib.Dec.{T}
 use lib.Pow.{pow-pos}
-use lib.Ieee.{Float, nan, inf, fin, binary64, up, down, size, fits}
+use lib.Ieee.{Float, nan, inf, fin, binary64, up, down, size}
 use lib.Ieee.Fits.{up-pos, down-pos}
 use lib.Ieee.Exact.{HasValue, odd-sign}
 use lib.Ieee.Positive.{first-pos}
-use Rattle.float_laws.proofs.Units.{Sgn, Counts, placed}
+use Rattle.float_laws.proofs.Units.{Sgn, Counts}
 use Rattle.float_laws.proofs.Rounding.{value-count}
 use Rattle.model.specs.Numbers.{nearRoot, dropped, rooted, unitsOf, sqrtOf}
 
--- ---- the count of a double that is finite: m * 2 ^ j, for a j that its exponent gives
-pub shiftOf : (s : Bool) (m : ℕ) (e : ℤ) → T (fits binary64 (fin s m e)) → ℕ
-shiftOf s m e X = placed binary64 s m e X .0
-
-pub counted : (s : Bool) (m : ℕ) (e : ℤ) (X : T (fits binary64 (fin s m e))) → HasValue (fin s m e) s (m * 2 ^ shiftOf s m e X) (2 ^ 1074)
-unfolding shiftOf
-counted s m e X = (refl, placed binary64 s m e X .1)
-
-pub digits-lt : (s : Bool) (m : ℕ) (e : ℤ) → T (fits binary64 (fin s m e)) → m < 2 ^ 53
-digits-lt s m e X = placed binary64 s m e X .2
-
--- it is what `unitsOf` works out
+-- ---- the count of a double that is finite is what `unitsOf` works out
 pub unitsOf-is : (s : Bool) (m : ℕ) (e : ℤ) (g : ℕ) → HasValue (fin s m e) s g (2 ^ 1074) → unitsOf m e ≡ g
 unitsOf-is s m e g h = ap (λ (x : ℕ). x / down e) (h .1) ∙ mul-div-cancel g (down-pos e)
 

@@ -3,10 +3,11 @@ use mathlib.Core.Path.{_≡_, refl, ap, _∙_, subst}
 use Prim.Native.Nat.{ℕ, zero, suc, _+_, _-_, _*_, _/_, _^_, _≤_, _<_, zero-le}
 use native.Mathlib.Nat.{le-trans, le-of-eq, lt-of-lt-of-le, le-antisymm, le-of-suc-le-suc, lt-of-not-le, not-le-of-lt, mul-le-mul, mul-le-mul-right, mul-comm, add-mul, mul-add, mul-one, one-mul, pow-suc, div-lt-iff-lt-mul, zero-lt-suc}
 use native.Mathlib.Omega.{arith}
-use mathlib.Core.Bool.{Bool, true, false, not, cond}
-use lib.Dec.{T, leb, ltb, leb→le, nleb→lt, ltb→lt, nltb→le}
+use borrow.Author.Tests.{ltb-true, ltb-false, leb-true, leb-false}
+use lib.Dec.{leb, ltb}
 use lib.Ieee.{size}
 use lib.Ieee.Digits.{size-lt}
+use Rattle.list_laws.proofs.Bools.{by-cond}
 use Rattle.model.specs.Numbers.{grown, rootIn, wholeRoot, closer, nearRoot}
 
 -- ---- q is the largest whole number whose square is at most n
@@ -43,23 +44,15 @@ root-only n q q' a b = le-antisymm (root-le n n q q' a b (le-of-eq refl)) (root-
 -- ---- `wholeRoot` is that
 grown-is : (n r : ℕ) → IsRoot (n / 4) r → IsRoot n (grown n r)
 unfolding grown
-grown-is n r h = go (leb ((r + r + 1) * (r + r + 1)) n) (leb→le ((r + r + 1) * (r + r + 1)) n) (nleb→lt ((r + r + 1) * (r + r + 1)) n)
-  where
-    s1 : (r + r) * (r + r) ≡ 4 * (r * r)
-    s1 = square-twice r
-
-    s2 : (r + r + 1) * (r + r + 1) ≡ (r + r) * (r + r) + 2 * (r + r) + 1
-    s2 = square-suc (r + r)
-
-    s3 : (r + r + 1 + 1) * (r + r + 1 + 1) ≡ (r + r + 1) * (r + r + 1) + 2 * (r + r + 1) + 1
-    s3 = square-suc (r + r + 1)
-
-    s4 : (r + 1) * (r + 1) ≡ r * r + 2 * r + 1
-    s4 = square-suc r
-
-    go : (b : Bool) → (T b → (r + r + 1) * (r + r + 1) ≤ n) → (T (not b) → n < (r + r + 1) * (r + r + 1)) → IsRoot n (cond b (r + r + 1) (r + r))
-    go true a b = (a tt, let x = h .1 in let e1 = s1 in let e2 = s2 in let e3 = s3 in let e4 = s4 in omega arith)
-    go false a b = (let x = h .0 in let e1 = s1 in omega arith, b tt)
+grown-is n r h =
+    let o = (r + r + 1) * (r + r + 1) in
+    let s1 = square-twice r in
+    let s2 = square-suc (r + r) in
+    let s3 = square-suc (r + r + 1) in
+    let s4 = square-suc r in
+    by-cond (IsRoot n) (leb o n) (r + r + 1) (r + r)
+    (λ e. (leb-true o n e, let x = h .1 in omega arith))
+    (λ e. (let x = h .0 in omega arith, leb-false o n e))
 
 in-four : (i n : ℕ) → n < 4 ^ suc i → n / 4 < 4 ^ i
 in-four i n h = div-lt-iff-lt-mul (zero-lt-suc 3) .1 (subst (λ (x : ℕ). n < x) (pow-suc 4 i) h)
@@ -83,14 +76,17 @@ IsNear n q = (n ≤ q * q + q) × (0 < n → q * q < n + q)
 
 pub closer-near : (n q : ℕ) → IsRoot n q → IsNear n (closer n q)
 unfolding closer
-closer-near n q h = go (ltb (q * q + q) n) (ltb→lt (q * q + q) n) (nltb→le (q * q + q) n)
+closer-near n q h = by-cond (IsNear n) (ltb (q * q + q) n) (suc q) q
+    (λ e.
+    let s : suc q * suc q ≡ q * q + 2 * q + 1 = subst (λ (x : ℕ). x * x ≡ q * q + 2 * q + 1) (native.Mathlib.Numerals.add-one q) (square-suc q) in
+    let t = square-suc q in
+    let l = ltb-true (q * q + q) n e in
+    let u = h .1 in
+    (omega arith, λ p. omega arith))
+    (λ e. (ltb-false (q * q + q) n e, λ p. let z = some p in let u = h .0 in omega arith))
   where
     some : 0 < n → 0 < q
     some p = lt-of-not-le (λ (g : q ≤ 0). let e : q ≡ 0 = omega arith in let z : n < 1 = subst (λ (x : ℕ). n < (x + 1) * (x + 1)) e (h .1) in omega arith)
-
-    go : (b : Bool) → (T b → q * q + q < n) → (T (not b) → n ≤ q * q + q) → IsNear n (cond b (suc q) q)
-    go true a b = let s : suc q * suc q ≡ q * q + 2 * q + 1 = subst (λ (x : ℕ). x * x ≡ q * q + 2 * q + 1) (native.Mathlib.Numerals.add-one q) (square-suc q) in let t = square-suc q in let l = a tt in let u = h .1 in (omega arith, λ p. omega arith)
-    go false a b = (b tt, λ p. let z = some p in let u = h .0 in omega arith)
 
 pub nearRoot-near : (n : ℕ) → IsNear n (nearRoot n)
 unfolding nearRoot
@@ -106,9 +102,6 @@ nearRoot-of n q h = ap (closer n) (root-only n (wholeRoot n) q (wholeRoot-is n) 
 -- q * (q - 1) < n, for n above 0, in the form that a smaller q' contradicts
 near-step : (q q' : ℕ) → suc q' ≤ q → q' * q' + q' + q ≤ q * q
 near-step q q' h =
-    let d = q - suc q' in
-    let e : q ≡ suc q' + d = omega arith in
-    let a : (q' + 1) * (q' + 1) ≡ q' * q' + 2 * q' + 1 = square-suc q' in
     let b : (q' + 1) * q ≤ q * q = mul-le-mul-right q (omega arith) in
     let c : (q' + 1) * q ≡ q' * q + q = add-mul q' 1 q ∙ ap (λ (x : ℕ). q' * q + x) (one-mul q) in
     let f : q' * (q' + 1) ≤ q' * q = mul-le-mul (le-of-eq refl) (omega arith) in

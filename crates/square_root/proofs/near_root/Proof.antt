@@ -38,21 +38,17 @@ module _ (a rest rem root i : ℕ) (t : Turns a rest rem root i) (l : 53 ≤ i) 
 loop-holds : tie.Need-loop-holds Inv-loop μ-loop
 loop-holds c = start (c .args .a) (c .pre)
 
--- a turn is one of 53
-turn : (c : tie.In-loop Inv-loop μ-loop) → c .before .loop .i < 53
-turn c = omega arith
-
 add-more : tie.Need-add-more Inv-loop μ-loop
 add-more c =
     let a = c .before .before .args .a in
     let l = c .before .loop in
-    omega (arith, more-fits a (l .rest) (l .rem) (l .root) (l .i) (l .inv) (turn c))
+    record { fits = lt-of-lt-of-le (more-fits a (l .rest) (l .rem) (l .root) (l .i) (l .inv) (c .loop-test .taken)) (lit≤ tt) }
 
 add-take : tie.Need-add-take Inv-loop μ-loop
 add-take c =
     let a = c .before .before .args .a in
     let l = c .before .loop in
-    omega (arith, take-fits a (l .rest) (l .rem) (l .root) (l .i) (l .inv) (turn c))
+    record { fits = lt-of-lt-of-le (take-fits a (l .rest) (l .rem) (l .root) (l .i) (l .inv) (c .loop-test .taken)) (lit≤ tt) }
 
 root-digit-requires : tie.Need-root-digit-requires Inv-loop μ-loop
 root-digit-requires c κs = tt
@@ -61,13 +57,13 @@ root-digit-requires c κs = tt
 taken : (c : tie.After-root-digit Inv-loop μ-loop) → Step (c .before .before .before .args .a) (c .before .before .loop .rest) (c .before .before .loop .rem) (c .before .before .loop .root) (c .before .before .loop .i) (c .root-digit .result)
 taken c =
     let l = c .before .before .loop in
-    step (c .before .before .before .args .a) (l .rest) (l .rem) (l .root) (l .i) (c .root-digit .result) (l .inv) (turn (c .before)) (c .root-digit .ensures)
+    step (c .before .before .before .args .a) (l .rest) (l .rem) (l .root) (l .i) (c .root-digit .result) (l .inv) (c .before .loop-test .taken) (c .root-digit .ensures)
 
 mul-rem : tie.Need-mul-rem Inv-loop μ-loop
 mul-rem c =
     let a = c .before .before .before .args .a in
     let l = c .before .before .loop in
-    let f = more-fits a (l .rest) (l .rem) (l .root) (l .i) (l .inv) (turn (c .before)) in
+    let f = more-fits a (l .rest) (l .rem) (l .root) (l .i) (l .inv) (c .before .loop-test .taken) in
     record { fits = lt-of-le-of-lt (taken c .less) (lt-of-lt-of-le f (lit≤ tt)) }
 
 sub-rem : tie.Need-sub-rem Inv-loop μ-loop
@@ -88,7 +84,7 @@ loop-again c = taken c .then
 add-result : tie.Need-add-result Inv-loop μ-loop
 add-result c =
     let l = c .before .before .loop in
-    omega (arith, last-fits (c .before .before .before .args .a) (l .rest) (l .rem) (l .root) (l .i) (l .inv))
+    record { fits = lt-of-lt-of-le (last-fits (c .before .before .before .args .a) (l .rest) (l .rem) (l .root) (l .i) (l .inv)) (lit≤ tt) }
 
 returns : tie.Need-returns Inv-loop μ-loop
 returns c =

@@ -11,7 +11,7 @@ use lib.Ieee.{Float, nan, inf, fin, binary64, up, down, le, lt, eq, div, fits, o
 use lib.Ieee.Fits.{up-pos, and-l}
 use lib.Ieee.Bits.{ofBits-toBits}
 use Rattle.list_laws.proofs.Bools.{true-T, false-T, or-split}
-use Rattle.float_laws.proofs.Order.{le-not-nan, lt→le, lt→nle, nlt→le}
+use Rattle.float_laws.proofs.Order.{le-not-nan, lt-not-nan, lt→nle, nlt→le}
 use Rattle.float_laws.proofs.Rounding.{unsigned}
 use Rattle.float_laws.proofs.Patterns.{lt→bits}
 use Rattle.float_laws.proofs.Constants.{nought, nought-not-nan}
@@ -31,7 +31,7 @@ clear (fin false m e) h = tt
 
 pattern-above : (x : Float) → T (fits binary64 x) → lt nought x ≡ true → 0 < toBits binary64 x
 unfolding fits toBits
-pattern-above x X h = lt→bits binary64 nought x tt X tt (clear x h) (subst T (sym h) tt)
+pattern-above x X h = lt→bits binary64 nought x tt X tt (clear x h) (true-T _ h)
 
 pattern-below : (m : ℕ) (e : ℤ) → T (fits binary64 (fin false m e)) → toBits binary64 (fin false m e) < 0x7ff0_0000_0000_0000
 unfolding fits toBits lt
@@ -55,7 +55,7 @@ unfolding eq sqrtOf
 level nan h = absurd (true≢false (sym h))
 level (inf s) h = absurd (true≢false (sym h))
 level (fin s zero e) h = refl
-level (fin s (suc m) e) h = absurd (not-pos (suc m * up e * 1) (mul-pos (mul-pos (zero-lt-suc m) (up-pos e)) (zero-lt-suc 0)) (eqb→eq (suc m * up e * 1) (0 * 1 * down e) (and-l (eqb (suc m * up e * 1) (0 * 1 * down e)) (Bool·beq s false || eqb (suc m * up e * 1) 0) (subst T (sym h) tt)) ∙ zero-mul (down e)))
+level (fin s (suc m) e) h = absurd (not-pos (suc m * up e * 1) (mul-pos (mul-pos (zero-lt-suc m) (up-pos e)) (zero-lt-suc 0)) (eqb→eq (suc m * up e * 1) (0 * 1 * down e) (and-l (eqb (suc m * up e * 1) (0 * 1 * down e)) (Bool·beq s false || eqb (suc m * up e * 1) 0) (true-T _ h)) ∙ zero-mul (down e)))
 
 below : (x : Float) → lt nought x ≡ false → eq x nought ≡ false → T (le nought x) → ⊥
 unfolding le
@@ -66,11 +66,11 @@ below x h k l = elim (or-split (lt x nought) (eq x nought) (nlt→le nought x no
 
 -- ---- the needs
 held : (c : tie.Start) → T (fits binary64 (c .args .x))
-held c = subst T (sym (c .good .0 .1)) tt
+held c = true-T _ (c .good .0 .1)
 
 float-to-bits-b : tie.Need-float-to-bits-b
 unfolding ofBits
-float-to-bits-b c = le-not-nan nought (c .before .args .x) (lt→le nought (c .before .args .x) (true-T _ (c .if1 .taken))) .1
+float-to-bits-b c = lt-not-nan nought (c .before .args .x) (true-T _ (c .if1 .taken)) .1
 
 root-of-pattern-requires : tie.Need-root-of-pattern-requires
 unfolding ofBits
