@@ -1,4 +1,5 @@
 // The reference lines of Das and Dennis (document 01, "Reference table"): the table itself.
+use model::MAX_OBJECTIVES;
 ghost use mathlib.Core.Path.{_≡_};
 ghost use mathlib.Core.List.{flatten};
 ghost use Prim.Native.Nat.{_+_, _*_, _<_, _≤_};
@@ -16,7 +17,7 @@ fn coordinate(i: usize, h: usize) -> f64
 }
 
 // The first n entries of a row, at the table's front.
-fn put_row(table: &mut [f64], row: [f64; 8], n: usize)
+fn put_row(table: &mut [f64], row: [f64; MAX_OBJECTIVES], n: usize)
     requires { ⌜ (n ≤ 8) × (n ≤ length (now table)) ⌝ }
     ensures { λ _. ⌜ now (table .exit) ≡ over (take n row) (now (table .entry)) ⌝ }
 {
@@ -32,7 +33,7 @@ fn das_dennis_recursive(
     divisions: usize,
     depth: usize,
     remaining: usize,
-    current: [f64; 8],
+    current: [f64; MAX_OBJECTIVES],
     table: &mut [f64],
 ) -> usize
     requires { ⌜ (depth + left < 8) × (divisions ≤ 199) × (remaining ≤ 199) ⌝ }
@@ -70,7 +71,7 @@ pub fn das_dennis(m: usize, h: usize, table: &mut [f64]) -> usize
     ensures lines { λ r. ⌜ r ≡ pointCount m h ⌝ }
     ensures rows { λ _. ⌜ now (table .exit) ≡ over (flatten (dasDennis m h)) (now (table .entry)) ⌝ }
 {
-    let current = [0.0; 8];
+    let current = [0.0; MAX_OBJECTIVES];
     let written = das_dennis_recursive(m - 1, h, 0, h, current, table);
     written / m
 }

@@ -12,15 +12,11 @@ use Rattle.model.specs.Reference.{ratio, tuples, lattice, pointCount, dasDennis
 use Rattle.list_laws.proofs.Built.{joinBelow-same, over-at}
 use Rattle.list_laws.proofs.Rows.{row-inside, flatten-append, flatten-length, flatten-at}
 use Rattle.list_laws.proofs.Members.{getD-member}
-use Rattle.reference_laws.specs.Rows.{rowsFrom}
+use Rattle.reference_laws.specs.Rows.{rows, rowsFrom}
 use Rattle.reference_laws.proofs.Count.{branch, lattice-count}
 use Rattle.reference_laws.proofs.Table.{lattice-table}
 
 -- ---- the rows of the recursion
-
--- the rows that begin with `before` and go on with each tuple
-abbrev rows : List Float → ℕ → List (List ℕ) → List Float
-rows before h ts = flatten (map (λ t. before ++ map (ratio h) t) ts)
 
 rows-join : (before : List Float) (h : ℕ) (F : ℕ → List (List ℕ)) (n : ℕ) → rows before h (joinBelow F n) ≡ joinBelow (λ i. rows before h (F i)) n
 unfolding joinBelow flatten
@@ -60,8 +56,6 @@ rows-none before left rest h e = rw e (append-nil _)
 pub rows-none-length : (l : List Float) (d left rest h : ℕ) → d ≤ length l → left ≡ 0 → length (rowsFrom (take d l) left rest h) ≡ d + 1
 rows-none-length l d left rest h k e =
     ap length (rows-none (take d l) left rest h e) ∙ length-append (take d l) (ratio h rest ∷ []) ∙ omega (arith, length-take-le d l k)
-
--- ---- the table
 
 -- the next coordinate stored in a row
 pub stored : (l : List Float) (d h i : ℕ) (x : Float) → d < length l → x ≡ ratio h i → take (d + 1) (set l d x) ≡ take d l ++ (ratio h i ∷ [])
