@@ -21,8 +21,7 @@ use Rattle.model.specs.Setting.{kindOfDimension, toWord, ofWord, inBounds, noVa
 use Rattle.list_laws.proofs.Runs.{before-run, in-run}
 use Rattle.variation_laws.proofs.Children.{Fit}
 use Rattle.settings.specs.Candidate.{parentAt, parentsIn}
-use Rattle.candidate_laws.specs.Bounds.{AllWithin}
-use Rattle.candidate_laws.proofs.Sound.{Sound, AllSound, all-within}
+use Rattle.candidate_laws.proofs.Sound.{Sound, AllSound}
 
 -- ---- one setting
 
@@ -30,7 +29,7 @@ wrong : {C : Type 0} → false ≡ true → C
 wrong e = absurd (true≢false (sym e))
 
 -- a setting within its dimension's bounds is of its kind, so that its word hands it back
-pub word-back : (d : Distribution) (v : ParamValue) → Fit d v → ofWord (kindOfDimension d) (toWord v) ≡ v
+word-back : (d : Distribution) (v : ParamValue) → Fit d v → ofWord (kindOfDimension d) (toWord v) ≡ v
 unfolding inBounds
 word-back (dist.Float d) (value.Float x) f = ap value.Float (ofBits-toBits binary64 x (f .1))
 word-back (dist.Float d) (value.Int n) f = wrong (f .0)
@@ -44,76 +43,60 @@ word-back (dist.Categorical d) (value.Categorical c) f = refl
 
 -- ---- where it lies
 
--- every candidate of n settings
-abbrev pub AllLong : ℕ → List (List ParamValue) → Type 0
-AllLong n cs = (i : ℕ) → i < length cs → length (getD cs i []) ≡ n
+module _ (dims : ℕ → Distribution) (n count : ℕ) (cs : List (List ParamValue)) (a : AllSound dims n count cs) where
+  row-long : (i : ℕ) → i < length (map (map toWord) cs) → length (getD (map (map toWord) cs) i []) ≡ n
+  row-long i h =
+      let e = a .whole in
+      let g : i < length cs = omega (arith, length-map cs (map toWord)) in
+      ap length (map-at (map toWord) cs i [] [] g) ∙ length-map (getD cs i []) toWord ∙ a .each i (omega arith) .whole
 
-row-long : (n : ℕ) (cs : List (List ParamValue)) → AllLong n cs → (i : ℕ) → i < length (map (map toWord) cs) → length (getD (map (map toWord) cs) i []) ≡ n
-row-long n cs l i h =
-    let g : i < length cs = omega (arith, length-map cs (map toWord)) in
-    ap length (map-at (map toWord) cs i [] [] g) ∙ length-map (getD cs i []) toWord ∙ l i g
+  words-length : length (wordsOf cs) ≡ count * n
+  unfolding wordsOf
+  words-length = flatten-length n (map (map toWord) cs) row-long ∙ ap (λ (k : ℕ). k * n) (length-map cs (map toWord) ∙ a .whole)
 
-pub long-length : (n : ℕ) (cs : List (List ParamValue)) → AllLong n cs → length (wordsOf cs) ≡ length cs * n
-unfolding wordsOf
-long-length n cs l =
-    flatten-length n (map (map toWord) cs) (row-long n cs l) ∙ ap (λ (k : ℕ). k * n) (length-map cs (map toWord))
-
-pub long-at : (n : ℕ) (cs : List (List ParamValue)) → AllLong n cs → (i d : ℕ) → i < length cs → d < n → getD (wordsOf cs) (i * n + d) 0 ≡ toWord (settingOf (getD cs i []) d)
-unfolding wordsOf
-long-at n cs l i d h k =
-    flatten-at n (map (map toWord) cs) (row-long n cs l) i d 0 (omega (arith, length-map cs (map toWord))) k
-    ∙ ap (λ (w : List ℕ). getD w d 0) (map-at (map toWord) cs i [] [] h)
-    ∙ map-at toWord (getD cs i []) d 0 noValue (omega (arith, l i h))
-
-module _ (dims : ℕ → Distribution) (n count : ℕ) (cs : List (List ParamValue)) (a : AllWithin dims n count cs) where
-  long : AllLong n cs
-  long i h = let e = a .whole in a .each i (omega arith) .whole
-
-  pub words-length : length (wordsOf cs) ≡ count * n
-  words-length = long-length n cs long ∙ ap (λ (k : ℕ). k * n) (a .whole)
-
-  pub words-at : (i d : ℕ) → i < count → d < n → getD (wordsOf cs) (i * n + d) 0 ≡ toWord (settingOf (getD cs i []) d)
-  words-at i d h k = let e = a .whole in long-at n cs long i d (omega arith) k
+  words-at : (i d : ℕ) → i < count → d < n → getD (wordsOf cs) (i * n + d) 0 ≡ toWord (settingOf (getD cs i []) d)
+  unfolding wordsOf
+  words-at i d h k =
+      let e = a .whole in
+      flatten-at n (map (map toWord) cs) row-long i d 0 (omega (arith, length-map cs (map toWord))) k
+      ∙ ap (λ (w : List ℕ). getD w d 0) (map-at (map toWord) cs i [] [] (omega arith))
+      ∙ map-at toWord (getD cs i []) d 0 noValue (omega (arith, a .each i h .whole))
 
   -- with anything behind them, as in `over (wordsOf cs) old`
-  pub words-front : (rest : List ℕ) (i d : ℕ) → i < count → d < n → getD (wordsOf cs ++ rest) (i * n + d) 0 ≡ toWord (settingOf (getD cs i []) d)
-  words-front rest i d h k =
-      let e = words-length in
-      let p = row-lt i d count n h k in
-      List·getD-append (wordsOf cs) rest 0 (i * n + d) (omega arith) ∙ words-at i d h k
+  module _ (rest : List ℕ) where
+    words-front : (i d : ℕ) → i < count → d < n → getD (wordsOf cs ++ rest) (i * n + d) 0 ≡ toWord (settingOf (getD cs i []) d)
+    words-front i d h k =
+        let e = words-length in
+        let p = row-lt i d count n h k in
+        List·getD-append (wordsOf cs) rest 0 (i * n + d) (omega arith) ∙ words-at i d h k
 
--- ---- read back
+    -- read back
+    read-back : (i d : ℕ) → i < count → d < n → storedAt dims n (wordsOf cs ++ rest) i d ≡ settingOf (getD cs i []) d
+    read-back i d h k =
+        ap (ofWord (kindOfDimension (dims d))) (words-front i d h k)
+        ∙ word-back (dims d) (settingOf (getD cs i []) d) (a .each i h .each d k)
 
-module _ (dims : ℕ → Distribution) (n count : ℕ) (cs : List (List ParamValue)) (a : AllSound dims n count cs) (rest : List ℕ) where
-  within : AllWithin dims n count cs
-  within = all-within dims n count cs a
+    -- words of candidates within their bounds are within them
+    pub words-within : WordsWithin dims n count (wordsOf cs ++ rest)
+    words-within i d h k = ap (inBounds (dims d)) (read-back i d h k) ∙ a .each i h .each d k .0
 
-  read-back : (i d : ℕ) → i < count → d < n → storedAt dims n (wordsOf cs ++ rest) i d ≡ settingOf (getD cs i []) d
-  read-back i d h k =
-      ap (ofWord (kindOfDimension (dims d))) (words-front dims n count cs within rest i d h k)
-      ∙ word-back (dims d) (settingOf (getD cs i []) d) (a .each i h .each d k)
+    row-back : (i : ℕ) → i < count → parentAt dims n (wordsOf cs ++ rest) i ≡ getD cs i []
+    unfolding parentAt
+    row-back i h = listBelow-whole _ n noValue (getD cs i []) (a .each i h .whole) (λ j l. read-back i j h l)
 
-  -- words of candidates within their bounds are within them
-  pub words-within : WordsWithin dims n count (wordsOf cs ++ rest)
-  words-within i d h k = ap (inBounds (dims d)) (read-back i d h k) ∙ a .each i h .each d k .0
-
-  row-back : (i : ℕ) → i < count → parentAt dims n (wordsOf cs ++ rest) i ≡ getD cs i []
-  unfolding parentAt
-  row-back i h = listBelow-whole _ n noValue (getD cs i []) (a .each i h .whole) (λ j l. read-back i j h l)
-
-  -- and hand the candidates back
-  pub parents-back : parentsIn dims n (wordsOf cs ++ rest) count ≡ cs
-  unfolding parentsIn
-  parents-back = listBelow-whole _ count [] cs (a .whole) (λ i l. row-back i l)
+    -- and hand the candidates back
+    pub parents-back : parentsIn dims n (wordsOf cs ++ rest) count ≡ cs
+    unfolding parentsIn
+    parents-back = listBelow-whole _ count [] cs (a .whole) (λ i l. row-back i l)
 
 -- ---- a candidate put behind k others
 
 module _ (dims : ℕ → Distribution) (n k : ℕ) (c : List ParamValue) (old : List ℕ) (s : Sound dims n c) (w : WordsWithin dims n k old) (room : (k + 1) * n ≤ length old) where
   -- what lay before it stands, and it lies behind
-  pub put-before : (i d : ℕ) → i < k → d < n → getD (sets old (k * n) (map toWord c)) (i * n + d) 0 ≡ getD old (i * n + d) 0
+  put-before : (i d : ℕ) → i < k → d < n → getD (sets old (k * n) (map toWord c)) (i * n + d) 0 ≡ getD old (i * n + d) 0
   put-before i d h l = before-run old (k * n) (map toWord c) (i * n + d) (row-lt i d k n h l)
 
-  pub put-at : (d : ℕ) → d < n → getD (sets old (k * n) (map toWord c)) (k * n + d) 0 ≡ toWord (settingOf c d)
+  put-at : (d : ℕ) → d < n → getD (sets old (k * n) (map toWord c)) (k * n + d) 0 ≡ toWord (settingOf c d)
   put-at d l =
       let m = length-map c toWord in
       let g = s .whole in
