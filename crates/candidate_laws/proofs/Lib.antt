@@ -5,5 +5,4 @@ pub mod Extracted
 pub mod Bred
 pub mod KeptPlans
 pub mod Generations
-pub mod FromZero
 pub mod RootArguments

@@ -31,7 +31,7 @@ use Rattle.settings.proofs.Valid.{float-bounds, int-bounds}
 use Rattle.settings.proofs.InBounds.{Held}
 use Rattle.variation_laws.proofs.Children.{Inside, inside, float-inside}
 use Rattle.float_laws.proofs.FromZero.{Upto, number, upto-wider, sub-upto, add-upto, mul-upto, one-times-one, rest-upto, share}
-use Rattle.candidate_laws.proofs.FromZero.{power-upto}
+use Rattle.real_laws.proofs.Powers.{power-upto}
 
 -- ---- the arguments
 
@@ -285,7 +285,7 @@ int-argument d n v b some =
     let p = and-T (leZ (d .low) n) (leZ n (d .high)) b in
     mutation-argument (ofWhole (d .low)) (ofWhole (d .high)) (ofWhole n)
     (inside (ofWhole (d .low)) (ofWhole (d .high)) (ofWhole n) (ofInt-fits binary64 (d .low)) (ofInt-fits binary64 (d .high)) (ofInt-fits binary64 n)
-    (subst (λ (z : Float). T (le z (ofWhole (d .low)))) (ends .0) (whole-mono minWhole (d .low) (e .low-end)))
-    (subst (λ (z : Float). T (le (ofWhole (d .high)) z)) (ends .1) (whole-mono (d .high) maxWhole (e .high-end)))
+    (subst (λ (z : Float). T (le z (ofWhole (d .low)))) (ends .0) (whole-mono minWhole (d .low) (e .span .1)))
+    (subst (λ (z : Float). T (le (ofWhole (d .high)) z)) (ends .1) (whole-mono (d .high) maxWhole (e .span .2)))
     (whole-mono (d .low) n (leZ-yes (p .0)))
     (whole-mono n (d .high) (leZ-yes (p .1)))) some

@@ -15,8 +15,9 @@ use lib.Ieee.Scale.{finite}
 use Rattle.float_laws.proofs.Units.{Counts, counts→le, le→count, →slt}
 use Rattle.float_laws.proofs.Order.{le-trans, le-not-nan, lt→le, lt-or-le}
 use Rattle.float_laws.proofs.Rounding.{between-finite, rounded-exact}
-use Rattle.float_laws.proofs.Constants.{nought, nought-counts, nought-fits, nought-not-nan}
+use Rattle.float_laws.proofs.Constants.{nought, nought-counts, nought-fits, nought-not-nan, one, one-number}
 use Rattle.float_laws.proofs.Arithmetic.{count, mul-mono, mul-from-zero, mul-rounded}
+use Rattle.float_laws.proofs.FromZero.{Upto, mul-upto, one-times-one}
 use Rattle.model.specs.Numbers.{powerUp}
 use Rattle.real_laws.proofs.Nan.{rise, below-inf}
 
@@ -108,3 +109,9 @@ module _ (y z : Float) (Y : T (fits binary64 y)) (Z : T (fits binary64 z)) (h : 
           counts→le binary64 (powerUp y j) (powerUp z j) 0 0 0 0 (zero-power y (level y Y h (le-trans y z nought k m)) j) (zero-power z (level z Z (le-trans nought y z h k) m) j) (omega arith)
     ]
   ]
+
+-- powers of a double within 0..1 lie within it
+pub power-upto : (y : Float) → Upto one y → (j : ℕ) → Upto one (powerUp y j)
+unfolding powerUp
+power-upto y u zero = u
+power-upto y u (suc j) = mul-upto one one (powerUp y j) y (one-number binary64) (one-number binary64) (power-upto y u j) u one one-times-one

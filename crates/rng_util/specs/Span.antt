@@ -1,8 +1,8 @@
 -- What is asked of the bounds that a whole number is drawn between.
-use Prim.Native.Nat.{_^_}
-use lib.IntN.{ℤ, pos, negℤ}
+use lib.IntN.{ℤ}
 use lib.Signed.{_≤ℤ_}
+use Rattle.model.specs.Setting.{minWhole, maxWhole}
 
 -- in order, and of at most 2^53 in magnitude
 abbrev pub Spanned : ℤ → ℤ → Type 0
-Spanned a b = (a ≤ℤ b) × (negℤ (pos (2 ^ 53)) ≤ℤ a) × (b ≤ℤ pos (2 ^ 53))
+Spanned a b = (a ≤ℤ b) × (minWhole ≤ℤ a) × (b ≤ℤ maxWhole)

@@ -11,6 +11,7 @@ use mir.Syntax.{w64}
 use mir.Val.{SFits}
 use Rattle.list_laws.proofs.Bools.{T-true, true-T, and-both}
 use Rattle.rng_util.specs.Span.{Spanned}
+use Rattle.rng_util.proofs.Span as range
 use Rattle.rng_util.proofs.Draws.{drawUsize-below, drawI64-within, f64Range-within}
 use Rattle.model.specs.declared.Distribution.{Distribution}
 use Rattle.model.specs.declared.Distribution.the-variants as dist
@@ -23,7 +24,7 @@ use Rattle.model.specs.Draw.{drawWord}
 use Rattle.model.specs.Setting.{stepAbove0, validDimension, inBounds, sampleInt, sampleRandom}
 use Rattle.list_laws.proofs.Draws.{drawn-value}
 use Rattle.settings.proofs.Valid.{FloatBounds, float-bounds, IntBounds, int-bounds, some-choice}
-use Rattle.settings.proofs.Stepped.{Stepping, rise, pick-low, pick-high, stepped-is}
+use Rattle.settings.proofs.Stepped.{Stepping, rise, rise-le, stepped-is}
 
 -- the numbers of a dimension are such as the machine holds
 abbrev pub HeldStep : OptionI64 → Type 0
@@ -50,11 +51,12 @@ whole-in low high (optI64.Some n) s fl fh fs b p =
     let q : Stepping low high n = record { low-fits = fl; high-fits = fh; step-fits = fs; bounds = b; above = leZ-yes (true-T (leZ (pos 1) n) p) } in
     let w = drawWord s .value in
     let e = drawn-value (stepped-is low high n q s w (drawWord s .state) refl) in
-    sym (ap (λ (z : ℤ). leZ low z && leZ z high) e) ∙ between low high (low +ℤ pos (rise low high n w)) (pick-low low high n q w) (pick-high low high n q w)
+    let l = rise-le low high n q w in
+    sym (ap (λ (z : ℤ). leZ low z && leZ z high) e) ∙ between low high (low +ℤ pos (rise low high n w)) (range.pick-low low high fl fh b _ l) (range.pick-high low high fl fh b _ l)
 
 int-in : (d : IntDistribution) (s : ℕ) → Held (dist.Int d) → IntBounds d → inBounds (dist.Int d) (sampleRandom (dist.Int d) s .value) ≡ true
 unfolding inBounds sampleRandom
-int-in d s h b = whole-in (d .low) (d .high) (d .step) s (h .0) (h .1) (h .2) (b .ordered, b .low-end, b .high-end) (b .step)
+int-in d s h b = whole-in (d .low) (d .high) (d .step) s (h .0) (h .1) (h .2) (b .span) (b .step)
 
 choice-in : (d : CategoricalDistribution) (s : ℕ) → 0 < d .«n_choices» → inBounds (dist.Categorical d) (sampleRandom (dist.Categorical d) s .value) ≡ true
 unfolding inBounds sampleRandom

@@ -41,12 +41,6 @@ module _ (low high step : ℤ) (q : Stepping low high step) where
   span-below : span ≤ 2 ^ 54
   span-below = range.diff-abs-below low high (q .low-fits) (q .high-fits) (q .bounds)
 
-  pub diff-fits : SFits w64 (high -ℤ low)
-  diff-fits = range.diff-fits low high (q .low-fits) (q .high-fits) (q .bounds)
-
-  pub diff-nonNeg : T (nonNeg (high -ℤ low))
-  diff-nonNeg = range.diff-nonNeg low high (q .low-fits) (q .high-fits) (q .bounds)
-
   pub span-fits : Fits w64 span
   span-fits = record { fits = omega (arith, span-below) }
 
@@ -72,25 +66,14 @@ module _ (low high step : ℤ) (q : Stepping low high step) where
     abbrev up-by : ℕ
     up-by = rise low high step w
 
-    rise-le : up-by ≤ span
+    -- by no more than high does
+    pub rise-le : up-by ≤ span
     rise-le =
         let k : w % (span / by + 1) ≤ span / by = omega (arith, mod-lt w {m = span / by + 1} (omega arith)) in
         le-trans (mul-le-mul-right by k) (div-mul-le-self span by)
 
     pub rise-fits : Fits w64 up-by
     rise-fits = record { fits = omega (arith, rise-le, span-below) }
-
-    pub rise-signed : SFits w64 (pos up-by)
-    rise-signed = range.above-fits low high (q .low-fits) (q .high-fits) (q .bounds) up-by rise-le
-
-    pub pick-fits : SFits w64 (low +ℤ pos up-by)
-    pick-fits = range.pick-fits low high (q .low-fits) (q .high-fits) (q .bounds) up-by rise-le
-
-    pub pick-low : low ≤ℤ (low +ℤ pos up-by)
-    pick-low = range.pick-low low high (q .low-fits) (q .high-fits) (q .bounds) up-by rise-le
-
-    pub pick-high : (low +ℤ pos up-by) ≤ℤ high
-    pick-high = range.pick-high low high (q .low-fits) (q .high-fits) (q .bounds) up-by rise-le
 
   -- the definition's value
   pub stepped-is : (s w t : ℕ) → drawn w t ≡ drawWord s → drawn (low +ℤ pos (rise low high step w)) t ≡ sampleInt low high (optI64.Some step) s
@@ -99,6 +82,6 @@ module _ (low high step : ℤ) (q : Stepping low high step) where
       drawn-by (λ (v : ℕ). low +ℤ pos (rise low high step v)) e
       ∙ ap (λ (z : ℤ). drawn z (drawWord s .state)) (
       value-is low span by (drawWord s .value)
-      ∙ ap (λ (y : ℤ). low +ℤ (pos 0 +ℤ pos (drawWord s .value % natAbs (quotZ y (pos by) -ℤ pos 0 +ℤ pos 1))) *ℤ pos by) (pos-natAbs (high -ℤ low) diff-nonNeg)
+      ∙ ap (λ (y : ℤ). low +ℤ (pos 0 +ℤ pos (drawWord s .value % natAbs (quotZ y (pos by) -ℤ pos 0 +ℤ pos 1))) *ℤ pos by) (pos-natAbs (high -ℤ low) (range.diff-nonNeg low high (q .low-fits) (q .high-fits) (q .bounds)))
       ∙ ap (λ (y : ℤ). low +ℤ (pos 0 +ℤ pos (drawWord s .value % natAbs (quotZ (high -ℤ low) y -ℤ pos 0 +ℤ pos 1))) *ℤ y) (pos-natAbs step step-nonNeg)
       )

@@ -4,10 +4,11 @@ use mathlib.Core.Bool.{true, false, not, _&&_}
 use Prim.Native.Nat.{ℕ, _≤_, _<_}
 use borrow.Author.Tests.{leb-true, ltb-false, not-false}
 use lib.Dec.{T, leb, ltb}
-use lib.Signed.{leZ, _≤ℤ_, leZ-yes}
+use lib.Signed.{leZ, leZ-yes}
 use lib.Ieee.{le}
 use Rattle.list_laws.proofs.Bools.{and-left, and-right, and-T, true-T, or-left, or-right}
 use Rattle.list_laws.proofs.Tests.{allBelow-each}
+use Rattle.rng_util.specs.Span.{Spanned}
 use Rattle.model.specs.declared.Distribution.{Distribution}
 use Rattle.model.specs.declared.Distribution.the-variants as dist
 use Rattle.model.specs.declared.FloatDistribution.{FloatDistribution}
@@ -38,9 +39,7 @@ float-bounds d h =
     }
 
 pub record IntBounds (d : IntDistribution) : Type 0 where
-  pub ordered : d .low ≤ℤ d .high
-  pub low-end : minWhole ≤ℤ d .low
-  pub high-end : d .high ≤ℤ maxWhole
+  pub span : Spanned (d .low) (d .high)
   pub step : stepAbove0 (d .step) ≡ true
 
 pub int-bounds : (d : IntDistribution) → validDimension (dist.Int d) ≡ true → IntBounds d
@@ -54,9 +53,7 @@ int-bounds d h =
     let t = and-right a (b && (e && (l && f))) h in
     let u = and-right b (e && (l && f)) t in
     record {
-      ordered = leZ-yes (true-T a (and-left a (b && (e && (l && f))) h));
-      low-end = leZ-yes (true-T b (and-left b (e && (l && f)) t));
-      high-end = leZ-yes (true-T e (and-left e (l && f) u));
+      span = (leZ-yes (true-T a (and-left a (b && (e && (l && f))) h)), leZ-yes (true-T b (and-left b (e && (l && f)) t)), leZ-yes (true-T e (and-left e (l && f) u)));
       step = and-right l f (and-right e (l && f) u);
     }
 

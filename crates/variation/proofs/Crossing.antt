@@ -7,7 +7,7 @@ use borrow.Author.Tests.{leb-true}
 use lib.IntN.{ℤ, pos, negsuc}
 use lib.Signed.{leZ, ≤ℤ-refl}
 use lib.Ieee.{Float, lt}
-use Rattle.list_laws.proofs.Bools.{T-true, no-pass, and-left, and-right, and-both}
+use Rattle.list_laws.proofs.Bools.{no-pass, and-left, and-right}
 use Rattle.model.specs.declared.FloatDistribution.{FloatDistribution}
 use Rattle.model.specs.declared.IntDistribution.{IntDistribution}
 use Rattle.model.specs.declared.ParamValue.the-variants as value
@@ -15,6 +15,7 @@ use Rattle.model.specs.Real.{_⊖_, half, absolute, ofWhole}
 use Rattle.model.specs.Draw.{drawn}
 use Rattle.model.specs.Setting.{pair, smallGap, drawUnit, spread, sbxFirst, sbxSecond, toInt, crossFloat, crossInt, crossCategorical}
 use Rattle.list_laws.proofs.Draws.{drawn-tested}
+use Rattle.settings.proofs.InBounds.{between}
 
 pub crossFloat-close : (d : FloatDistribution) (p q : Float) (k s : ℕ) → lt (absolute (p ⊖ q)) smallGap ≡ true → drawn (pair (value.Float p) (value.Float q)) s ≡ crossFloat d p q k s
 unfolding crossFloat
@@ -50,9 +51,7 @@ crossCategorical-is p q s u t b e h =
 
 -- equal whole numbers are at most each other, and only they
 pub level : (p q : ℤ) → p ≡ q → (leZ p q && leZ q p) ≡ true
-level p q e =
-    let r : leZ p p ≡ true = T-true (leZ p p) (≤ℤ-refl p .le) in
-    ap (λ (z : ℤ). leZ p z && leZ z p) (sym e) ∙ and-both (leZ p p) (leZ p p) r r
+level p q e = ap (λ (z : ℤ). leZ p z && leZ z p) (sym e) ∙ between p p p (≤ℤ-refl p) (≤ℤ-refl p)
 
 antisym : (p q : ℤ) → leZ p q ≡ true → leZ q p ≡ true → p ≡ q
 antisym (pos a) (pos b) h k = ap pos (le-antisymm (leb-true a b h) (leb-true b a k))

@@ -8,7 +8,7 @@ use lib.IntN.{ℤ}
 use lib.Signed.{leZ, ltZ, _≤ℤ_, ≤ℤ-refl, ltZ-no}
 use lib.Ieee.{Float, binary64, fits, isNan, ofBits, toSigned, le, lt}
 use lib.Ieee.Fits.{cond-fits, add-fits, div-fits}
-use Rattle.list_laws.proofs.Bools.{by-bool, T-true, true-T, false-T, and-left, and-right}
+use Rattle.list_laws.proofs.Bools.{by-bool, T-true, false-T, and-T}
 use Rattle.float_laws.proofs.Order as order
 use Rattle.float_laws.proofs.Constants.{nought, exp2, minus-exp2}
 use Rattle.float_laws.proofs.Magnitude.{Within, ends-within, within-not-nan, within-wider, add-within, sub-within, mul-within, div-within}
@@ -56,8 +56,7 @@ inside low high x L H X bottom top a b =
 -- so a setting of a Float dimension
 pub float-inside : (d : FloatDistribution) (x : Float) → Held (dist.Float d) → FloatBounds d → T (fits binary64 x) → within (d .low) (d .high) x ≡ true → Inside (d .low) (d .high) x
 unfolding ofBits
-float-inside d x h b f i =
-    inside (d .low) (d .high) x (h .0) (h .1) f (b .low-end) (b .high-end) (true-T _ (and-left (le (d .low) x) (le x (d .high)) i)) (true-T _ (and-right (le (d .low) x) (le x (d .high)) i))
+float-inside d x h b f i = let p = and-T (le (d .low) x) (le x (d .high)) i in inside (d .low) (d .high) x (h .0) (h .1) f (b .low-end) (b .high-end) (p .0) (p .1)
 
 -- a middle of products is no NaN
 middle-real : (a b p q : Float) → Within 53 a → Within 53 b → Within 53 p → Within 53 q → T (not (isNan (midpoint (a ⊗ p) (b ⊗ q))))
@@ -114,7 +113,7 @@ crossInt-fit : (d : IntDistribution) (p q : ℤ) (k s : ℕ) → IntBounds d →
 unfolding inBounds crossInt
 crossInt-fit d p q k s b hp hq = by-bool (leZ p q && leZ q p)
     (λ e. rw e (hp, hq))
-    (λ e. rw e ((toInt-within (d .low) (d .high) _ (b .ordered), tt), (toInt-within (d .low) (d .high) _ (b .ordered), tt)))
+    (λ e. rw e ((toInt-within (d .low) (d .high) _ (b .span .0), tt), (toInt-within (d .low) (d .high) _ (b .span .0), tt)))
 
 -- ---- THE THEOREM FOR CROSSOVER
 floats-fit : (d : Distribution) (p q : Float) (k s : ℕ) → Held d → validDimension d ≡ true → Fit d (value.Float p) → Fit d (value.Float q) → BothFit d (crossFloats d p q k s)
@@ -169,7 +168,7 @@ mutated-in-bounds (dist.Float d) (value.Int n) k s h v i = i
 mutated-in-bounds (dist.Float d) (value.Categorical c) k s h v i = i
 mutated-in-bounds (dist.Int d) (value.Float x) k s h v i = i
 mutated-in-bounds (dist.Int d) (value.Int n) k s h v i =
-    (toInt-within (d .low) (d .high) (polynomialMutation (ofWhole n) (ofWhole (d .low)) (ofWhole (d .high)) k s .value) (int-bounds d v .ordered), tt)
+    (toInt-within (d .low) (d .high) (polynomialMutation (ofWhole n) (ofWhole (d .low)) (ofWhole (d .high)) k s .value) (int-bounds d v .span .0), tt)
 mutated-in-bounds (dist.Int d) (value.Categorical c) k s h v i = i
 mutated-in-bounds (dist.Categorical d) (value.Float x) k s h v i = i
 mutated-in-bounds (dist.Categorical d) (value.Int n) k s h v i = i

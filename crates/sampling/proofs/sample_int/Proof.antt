@@ -12,7 +12,7 @@ sample-whole-requires c κs =
     let s = c .before .before in
     let b = int-bounds (s .args .d) (s .pre) in
     let t = c .struct-told2 .given in
-    rw (back (s .args .d .low) (t .0 .1), back (s .args .d .high) (t .1 .0 .1)) ((b .ordered, b .low-end, b .high-end), b .step)
+    rw (back (s .args .d .low) (t .0 .1), back (s .args .d .high) (t .1 .0 .1)) (b .span, b .step)
 
 returns : tie.Need-returns
 unfolding sampleRandom

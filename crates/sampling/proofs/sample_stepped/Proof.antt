@@ -1,11 +1,12 @@
 -- low + k × step, with k × step reckoned without signs.
 use mathlib.Core.Path.{_≡_}
-use Prim.Native.Nat.{ℕ}
-use lib.IntN.{ℤ, pos, _+ℤ_, _-ℤ_}
+use Prim.Native.Nat.{ℕ, _≤_}
+use lib.IntN.{ℤ, pos, natAbs, _+ℤ_, _-ℤ_}
 use mir.Syntax.{w64}
 use mir.Val.{toZ, ofZ}
 use borrow.Author.Needs.{needs}
 use Rattle.settings.proofs.Signed.{held}
+use Rattle.rng_util.proofs.Span as range
 use Rattle.settings.proofs.Stepped as stepped
 use Rattle.sampling.proofs.sample_stepped.Statement.{statement}
 use Rattle.sampling.proofs.sample_stepped.Tie as tie
@@ -40,20 +41,23 @@ module _ (c : tie.Start) where
   es = held (c .fits .step)
 
   ed : toZ w64 (ofZ w64 (H -ℤ L)) ≡ H -ℤ L
-  ed = held (stepped.diff-fits L H S asked)
+  ed = held (range.diff-fits L H (c .fits .low) (c .fits .high) (c .pre .0))
 
   module _ (w : ℕ) where
+    below : stepped.rise L H S w ≤ natAbs (H -ℤ L)
+    below = stepped.rise-le L H S asked w
+
     er : toZ w64 (stepped.rise L H S w) ≡ pos (stepped.rise L H S w)
-    er = held (stepped.rise-signed L H S asked w)
+    er = held (range.above-fits L H (c .fits .low) (c .fits .high) (c .pre .0) (stepped.rise L H S w) below)
 
     ep : toZ w64 (ofZ w64 (L +ℤ pos (stepped.rise L H S w))) ≡ L +ℤ pos (stepped.rise L H S w)
-    ep = held (stepped.pick-fits L H S asked w)
+    ep = held (range.pick-fits L H (c .fits .low) (c .fits .high) (c .pre .0) (stepped.rise L H S w) below)
 
 sub-span : tie.Need-sub-span
-sub-span c = rw (eh c, el c) (stepped.diff-fits (L c) (H c) (S c) (asked c))
+sub-span c = rw (eh c, el c) (range.diff-fits (L c) (H c) (c .fits .low) (c .fits .high) (c .pre .0))
 
 cast-span : tie.Need-cast-span
-cast-span c = rw (eh c, el c, ed c) (stepped.diff-nonNeg (L c) (H c) (S c) (asked c), stepped.span-fits (L c) (H c) (S c) (asked c))
+cast-span c = rw (eh c, el c, ed c) (range.diff-nonNeg (L c) (H c) (c .fits .low) (c .fits .high) (c .pre .0), stepped.span-fits (L c) (H c) (S c) (asked c))
 
 cast-by : tie.Need-cast-by
 cast-by c = rw (es c) (stepped.step-nonNeg (L c) (H c) (S c) (asked c), stepped.by-fits (L c) (H c) (S c) (asked c))
@@ -74,13 +78,15 @@ mul-t12 : tie.Need-mul-t12
 mul-t12 c = let s = c .before .before in rw (eh s, el s, ed s, es s) (stepped.rise-fits (L s) (H s) (S s) (asked s) (c .before .next .result .value))
 
 cast-t11 : tie.Need-cast-t11
-cast-t11 c = let s = c .before .before in rw (eh s, el s, ed s, es s) (stepped.rise-signed (L s) (H s) (S s) (asked s) (c .before .next .result .value))
+cast-t11 c =
+    let s = c .before .before in
+    rw (eh s, el s, ed s, es s) (range.above-fits (L s) (H s) (s .fits .low) (s .fits .high) (s .pre .0) _ (below s (c .before .next .result .value)))
 
 add-t14 : tie.Need-add-t14
 add-t14 c =
     let s = c .before .before in
     let w = c .before .next .result .value in
-    rw (eh s, el s, ed s, es s, er s w) (stepped.pick-fits (L s) (H s) (S s) (asked s) w)
+    rw (eh s, el s, ed s, es s, er s w) (range.pick-fits (L s) (H s) (s .fits .low) (s .fits .high) (s .pre .0) _ (below s w))
 
 returns : tie.Need-returns
 returns c =
