@@ -10,11 +10,10 @@ use borrow.Author.Tests.{not-false}
 use Rattle.list_laws.proofs.Bools.{and-left, and-right}
 use Rattle.list_laws.proofs.Built.{listBelow-length, listBelow-at}
 use Rattle.list_laws.proofs.Draws.{drawn-value}
-use Rattle.model.specs.declared.Distribution.{Distribution}
 use Rattle.model.specs.declared.ParamValue.{ParamValue}
 use Rattle.model.specs.Real.{nought, unit, within}
 use Rattle.model.specs.Draw.{drawn}
-use Rattle.model.specs.Setting.{children, exponentOf, crossover, mutate, tournament, brood}
+use Rattle.model.specs.Setting.{children, exponentOf, crossover, mutate, Operators, tournament, brood}
 use Rattle.model.specs.Refusal.{wholeEta, badOperators}
 use Rattle.settings.specs.Candidate.{parentAt, parentsIn}
 use Rattle.settings.proofs.Candidates.{winner-below}
@@ -35,18 +34,19 @@ module _ (probability crossoverEta mutationEta : Float) (h : badOperators probab
   pub mutation-eta : wholeEta mutationEta ≡ true
   mutation-eta = and-right (wholeEta crossoverEta) (wholeEta mutationEta) (and-right (within nought unit probability) (wholeEta crossoverEta && wholeEta mutationEta) good)
 
-module _ (dims : ℕ → Distribution) (n : ℕ) (probability crossoverEta mutationEta : Float) (words : List ℕ) (count : ℕ) (ranks : ℕ → ℕ) (some : 0 < count) where
-  size : length (parentsIn dims n words count) ≡ count
+module _ (o : Operators) (words : List ℕ) (count : ℕ) (ranks : ℕ → ℕ) (some : 0 < count) where
+  size : length (parentsIn (o .dims) (o .dimCount) words count) ≡ count
   unfolding parentsIn
-  size = listBelow-length (parentAt dims n words) count
+  size = listBelow-length (parentAt (o .dims) (o .dimCount) words) count
 
-  row : (i : ℕ) → i < count → getD (parentsIn dims n words count) i [] ≡ parentAt dims n words i
+  row : (i : ℕ) → i < count → getD (parentsIn (o .dims) (o .dimCount) words count) i [] ≡ parentAt (o .dims) (o .dimCount) words i
   unfolding parentsIn
-  row i h = listBelow-at (parentAt dims n words) count [] i h
+  row i h = listBelow-at (parentAt (o .dims) (o .dimCount) words) count [] i h
 
-  pub brood-is : (s i t j u v w z k m : ℕ) (P Q A B C D : List ParamValue) → drawn i t ≡ tournament ranks count s → drawn j u ≡ tournament ranks count t → P ≡ parentAt dims n words i
-      → Q ≡ parentAt dims n words j → k ≡ exponentOf crossoverEta → m ≡ exponentOf mutationEta → drawn (children A B) v ≡ crossover dims n probability k P Q u → drawn C w ≡ mutate dims n A m v
-      → drawn D z ≡ mutate dims n B m w → drawn (children C D) z ≡ brood (record { dims = dims; dimCount = n; probability = probability; crossoverEta = crossoverEta; mutationEta = mutationEta }) (parentsIn dims n words count) ranks s
+  pub brood-is : (s i t j u v w z k m : ℕ) (P Q A B C D : List ParamValue) → drawn i t ≡ tournament ranks count s → drawn j u ≡ tournament ranks count t
+      → P ≡ parentAt (o .dims) (o .dimCount) words i → Q ≡ parentAt (o .dims) (o .dimCount) words j → k ≡ exponentOf (o .crossoverEta) → m ≡ exponentOf (o .mutationEta)
+      → drawn (children A B) v ≡ crossover (o .dims) (o .dimCount) (o .probability) k P Q u → drawn C w ≡ mutate (o .dims) (o .dimCount) A m v
+      → drawn D z ≡ mutate (o .dims) (o .dimCount) B m w → drawn (children C D) z ≡ brood o (parentsIn (o .dims) (o .dimCount) words count) ranks s
   unfolding brood
   brood-is s i t j u v w z k m P Q A B C D e1 e2 eP eQ ek em e3 e4 e5 =
       let hi = won-below ranks count s i t some e1 in

@@ -4,7 +4,7 @@ use lib.ListN.{getD}
 use borrow.Author.Needs.{needs}
 use Rattle.settings.proofs.Valid.{few}
 use Rattle.list_laws.proofs.Rows.{row-within}
-use Rattle.model.specs.Setting.{dimensionsOf}
+use Rattle.model.specs.Setting.{operators}
 use Rattle.genetic.proofs.Broods.{won-below, crossover-eta, mutation-eta, brood-is}
 use Rattle.genetic.proofs.brood.Statement.{statement}
 use Rattle.genetic.proofs.brood.Tie as tie
@@ -51,7 +51,7 @@ returns c =
     let t = r .before .before .before .before in
     let s = t .before .before .before in
     let a = s .args in
-    brood-is (dimensionsOf (a .dims)) (a .n) (a .probability) (a .crossover-eta) (a .mutation-eta) (a .parents .now) (a .count) (λ (i : ℕ). getD (a .ranks .now) i 0) (s .pre .0) (a .rng .s)
+    brood-is (operators (a .dims) (a .n) (a .probability) (a .crossover-eta) (a .mutation-eta)) (a .parents .now) (a .count) (λ (i : ℕ). getD (a .ranks .now) i 0) (s .pre .0) (a .rng .s)
     _ _ _ _ _ _ _ _ _ _ _ _ _ _ _ (t .tournament-select-rank .ensures) (r .before .before .tournament-select-rank2 .ensures) (r .read-parent .ensures) (x .before .before .read-parent2 .ensures)
     (x .before .exponent-of .ensures) (m1 .before .exponent-of2 .ensures) (x .crossover .ensures) (m1 .mutate .ensures) (m2 .mutate2 .ensures)
 
