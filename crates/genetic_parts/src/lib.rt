@@ -9,7 +9,6 @@ ghost use Rattle.model.specs.Setting.{children, crossAll, mutate, dimensionsOf}
 ghost use Rattle.model.specs.Refusal.{badDimensions};
 ghost use Rattle.settings.specs.Candidate.{settingsOf, parentAt};
 use model::DimensionInfo;
-use model::ParamValue;
 use model::Rng;
 use settings::DrawnCandidate;
 use settings::Slot;
@@ -91,9 +90,7 @@ pub fn read_parent(parents: &[u64], dims: [DimensionInfo; 32], n: usize, p: usiz
     ensures { λ r. ⌜ settingsOf r n ≡ parentAt (dimensionsOf dims) n (now (parents .entry)) p ⌝ }
 {
     let at = p * n;
-    let mut params = [Slot {
-        value: ParamValue::Float(0.0),
-    }; 32];
+    let mut params = settings::blank_candidate();
     let mut j = 0;
     while j < n {
         let info = dims[j];

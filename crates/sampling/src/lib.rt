@@ -99,9 +99,7 @@ pub fn sample_all(dims: [DimensionInfo; 32], n: usize, rng: Rng) -> DrawnCandida
     ensures { λ r. ⌜ drawn (settingsOf (r .params) n) (r .rng .s) ≡ sampleAll (dimensionsOf dims) n (rng .s) ⌝ }
 {
     let mut rng = rng;
-    let mut params = [Slot {
-        value: ParamValue::Float(0.0),
-    }; 32];
+    let mut params = settings::blank_candidate();
     let mut i = 0;
     while i < n {
         let info = dims[i];

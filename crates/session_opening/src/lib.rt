@@ -8,10 +8,7 @@ ghost use Rattle.model.specs.Refusal.{badDirections, badSessionSize, badSession
 ghost use Rattle.model.specs.Session.{given, opened, blank, start};
 ghost use Rattle.model.specs.Calls.{Opens};
 ghost use Rattle.session_opening.specs.Opening.{openingBy};
-use model::CategoricalDistribution;
 use model::Config;
-use model::DimensionInfo;
-use model::Distribution;
 use model::MAX_PLANS;
 use model::Opened;
 use model::Opening;
@@ -28,9 +25,7 @@ fn start(config: Config, rng: Rng) -> Session
 {
     let phase = Phase::Discovery;
     let discovery_trial_id = OptionU64::None;
-    let distribution = Distribution::Categorical(CategoricalDistribution { n_choices: 1 });
-    let blank = DimensionInfo { distribution };
-    let dimensions = [blank; 32];
+    let dimensions = settings::blank_dimensions();
     let infinity = 1.0 / 0.0;
     let ideal_point = [infinity; 8];
     let progress = Progress {

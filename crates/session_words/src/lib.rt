@@ -144,9 +144,7 @@ pub fn dimensions_of_words(words: &[u64], from: usize) -> [DimensionInfo; 32]
     requires { ⌜ from ≤ 30 ⌝ }
     ensures { λ r. ⌜ r ≡ dimensionsAt (now (words .entry)) from ⌝ }
 {
-    let distribution = Distribution::Categorical(CategoricalDistribution { n_choices: 1 });
-    let blank = DimensionInfo { distribution };
-    let mut dims = [blank; 32];
+    let mut dims = settings::blank_dimensions();
     let mut d = 0;
     while d < 32 {
         let distribution = dimension_of_words(words, from + d * DIMENSION_WORDS);

@@ -7,12 +7,17 @@ use Rattle.model.specs.declared.Distribution.{Distribution}
 use Rattle.model.specs.declared.ParamValue.{ParamValue}
 use Rattle.model.specs.declared.ParamValue.the-variants as value
 use Rattle.model.specs.Lists.{listBelow}
+use Rattle.model.specs.Real.{nought}
 use Rattle.model.specs.Setting.{storedAt}
 use Rattle.settings.specs.declared.Slot.{Slot}
 
 -- what the logic reads past an array's end
 abbrev pub noSlot : Slot
 noSlot = record { value = value.Float nan }
+
+-- what a place holds that is not filled yet
+abbrev pub blankSlot : Slot
+blankSlot = record { value = value.Float nought }
 
 -- the setting at a place of a candidate, and the settings of its first n places
 abbrev pub slotOf : List Slot → ℕ → ParamValue

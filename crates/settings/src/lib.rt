@@ -1,9 +1,14 @@
 // Settings (document 01, "Setting and dimension"; Rust: param.rs): a dimension's kind and bounds, and settings as words.
 ghost use mathlib.Core.Path.{_≡_};
 ghost use mathlib.Core.Bool.{_&&_};
+ghost use lib.ListN.{replicate};
 ghost use lib.Signed.{leZ};
 ghost use Rattle.model.specs.Real.{within};
-ghost use Rattle.model.specs.Setting.{kindOf, kindOfDimension, inBounds, toWord, ofWord};
+ghost use Rattle.model.specs.Setting.{kindOf, kindOfDimension, maxDims, inBounds, toWord, ofWord};
+ghost use Rattle.model.specs.Session.{blankDimension};
+ghost use Rattle.settings.specs.Candidate.{blankSlot};
+use model::CategoricalDistribution;
+use model::DimensionInfo;
 use model::Distribution;
 use model::ParamValue;
 use model::Rng;
@@ -112,4 +117,22 @@ pub fn of_word(kind: u64, w: u64) -> ParamValue
         return ParamValue::Int(real::int_of_word(w));
     }
     ParamValue::Categorical(w as usize)
+}
+
+// A candidate none of whose places is filled yet.
+pub fn blank_candidate() -> [Slot; 32]
+    ensures { λ r. ⌜ r ≡ replicate maxDims blankSlot ⌝ }
+{
+    [Slot {
+        value: ParamValue::Float(0.0),
+    }; 32]
+}
+
+// Dimensions of which none is entered yet.
+pub fn blank_dimensions() -> [DimensionInfo; 32]
+    ensures { λ r. ⌜ r ≡ replicate maxDims blankDimension ⌝ }
+{
+    [DimensionInfo {
+        distribution: Distribution::Categorical(CategoricalDistribution { n_choices: 1 }),
+    }; 32]
 }

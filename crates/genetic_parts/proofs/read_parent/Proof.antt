@@ -1,6 +1,6 @@
 -- the settings before place j are read
 use Prim.Native.Nat.{ℕ, _+_, _-_, _*_, _≤_, _<_}
-use mathlib.Core.Path.{_≡_, refl, sym, ap, ap₂, _∙_}
+use mathlib.Core.Path.{_≡_, sym, ap, ap₂, _∙_}
 use mathlib.Core.List.{[], _∷_, _++_}
 use lib.ListN.{length, getD, length-set}
 use native.Mathlib.Omega.{arith}
@@ -24,8 +24,11 @@ abbrev μ-loop : tie.MeasureT-loop
 mul-at : tie.Need-mul-at Inv-loop μ-loop
 mul-at c = omega arith
 
+blank-candidate-requires : tie.Need-blank-candidate-requires Inv-loop μ-loop
+blank-candidate-requires c κs = tt
+
 loop-holds : tie.Need-loop-holds Inv-loop μ-loop
-loop-holds c = (omega arith, omega arith, refl, omega arith, settings-none _ ∙ sym (listBelow-none _))
+loop-holds c = (omega arith, omega arith, ap length (c .blank-candidate .ensures), omega arith, settings-none _ ∙ sym (listBelow-none _))
 
 mul-info : tie.Need-mul-info Inv-loop μ-loop
 mul-info c = omega arith
@@ -63,7 +66,7 @@ loop-less c = omega arith
 loop-again : tie.Need-loop-again Inv-loop μ-loop
 loop-again c =
     let l = c .before .before .before .before .before .loop in
-    let a = c .before .before .before .before .before .before .before .args in
+    let a = c .before .before .before .before .before .before .before .before .args in
     let w = getD (a .parents .now) (a .p * a .n + l .j) 0 in
     let room : l .j < length (l .params) = omega arith in (
       omega arith,
@@ -79,7 +82,7 @@ returns : tie.Need-returns Inv-loop μ-loop
 unfolding parentAt
 returns c =
     let l = c .before .loop in
-    let a = c .before .before .before .args in
+    let a = c .before .before .before .before .args in
     let e : l .j ≡ a .n = omega arith in
     sym (ap (settingsOf (l .params)) e) ∙ l .inv .4 ∙ ap (listBelow (storedAt (dimensionsOf (a .t2)) (a .n) (a .parents .now) (a .p))) e
 
@@ -90,6 +93,7 @@ read-parent-spec =
     Inv-loop
     μ-loop
     mul-at
+    blank-candidate-requires
     loop-holds
     mul-info
     array-copy-out-info

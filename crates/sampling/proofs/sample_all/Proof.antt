@@ -1,6 +1,6 @@
 -- the settings before place i are drawn
 use Prim.Native.Nat.{_-_, _≤_, _<_}
-use mathlib.Core.Path.{_≡_, refl}
+use mathlib.Core.Path.{_≡_, ap}
 use native.Mathlib.Omega.{arith}
 use lib.ListN.{length, length-set}
 use Rattle.model.specs.Draw.{drawn}
@@ -18,8 +18,11 @@ Inv-loop n dims rng₀ params₀ i₀ rng params i =
 abbrev μ-loop : tie.MeasureT-loop
 μ-loop n dims rng₀ params₀ i₀ rng params i = n - i
 
+blank-candidate-requires : tie.Need-blank-candidate-requires Inv-loop μ-loop
+blank-candidate-requires c κs = tt
+
 loop-holds : tie.Need-loop-holds Inv-loop μ-loop
-loop-holds c = (omega arith, few _ _ (c .pre), refl, candidate-none _ _ _)
+loop-holds c = (omega arith, few _ _ (c .before .pre), ap length (c .blank-candidate .ensures), candidate-none _ _ _)
 
 mul-info : tie.Need-mul-info Inv-loop μ-loop
 mul-info c = omega arith
@@ -28,7 +31,7 @@ array-copy-out-info : tie.Need-array-copy-out-info Inv-loop μ-loop
 array-copy-out-info c = omega arith
 
 sample-random-requires : tie.Need-sample-random-requires Inv-loop μ-loop
-sample-random-requires c κs = each _ _ (c .before .before .before .pre) (c .before .before .loop .i) (c .before .loop-test .taken)
+sample-random-requires c κs = each _ _ (c .before .before .before .before .pre) (c .before .before .loop .i) (c .before .loop-test .taken)
 
 mul-params : tie.Need-mul-params Inv-loop μ-loop
 mul-params c = omega arith
@@ -56,7 +59,7 @@ loop-again c =
 returns : tie.Need-returns Inv-loop μ-loop
 returns c =
     let l = c .before .loop in
-    let e : l .i ≡ c .before .before .args .n = omega arith in
+    let e : l .i ≡ c .before .before .before .args .n = omega arith in
     rw (← e) (l .inv .3)
 
 pub sample-all-spec : {M : Type 1} → statement M
@@ -65,6 +68,7 @@ sample-all-spec =
     (tie.spec
     Inv-loop
     μ-loop
+    blank-candidate-requires
     loop-holds
     mul-info
     array-copy-out-info

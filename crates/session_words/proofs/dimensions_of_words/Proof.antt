@@ -1,5 +1,5 @@
 -- the dimensions before place d are read
-use mathlib.Core.Path.{_≡_, refl, sym, ap, ap₂, _∙_}
+use mathlib.Core.Path.{_≡_, sym, ap, ap₂, _∙_}
 use Prim.Native.Nat.{_-_, _≤_}
 use native.Mathlib.Omega.{arith}
 use lib.ListN.{length, set, replicate, length-set}
@@ -17,8 +17,11 @@ Inv-loop words from dims₀ d₀ dims d =
 abbrev μ-loop : tie.MeasureT-loop
 μ-loop words from dims₀ d₀ dims d = 32 - d
 
+blank-dimensions-requires : tie.Need-blank-dimensions-requires Inv-loop μ-loop
+blank-dimensions-requires c κs = tt
+
 loop-holds : tie.Need-loop-holds Inv-loop μ-loop
-loop-holds c = (omega arith, refl, sym (over-none _ _))
+loop-holds c = let e = c .blank-dimensions .ensures in (omega arith, ap length e, e ∙ sym (over-none _ _))
 
 mul-dimension-of-words : tie.Need-mul-dimension-of-words Inv-loop μ-loop
 mul-dimension-of-words c = omega arith
@@ -44,7 +47,7 @@ loop-less c = omega arith
 loop-again : tie.Need-loop-again Inv-loop μ-loop
 loop-again c =
     let l = c .before .before .loop in
-    let a = c .before .before .before .before .args in
+    let a = c .before .before .before .before .before .args in
     let f = infoAt (a .words .now) (a .from) in (
       omega arith,
       simp length-set (l .inv .1),
@@ -56,7 +59,7 @@ returns : tie.Need-returns Inv-loop μ-loop
 unfolding dimensionsAt
 returns c =
     let l = c .before .loop in
-    let a = c .before .before .before .args in
+    let a = c .before .before .before .before .args in
     let f = infoAt (a .words .now) (a .from) in
     let e : l .d ≡ 32 = omega arith in
     l .inv .2 ∙ ap (λ x. over (listBelow f x) (replicate 32 blankDimension)) e
@@ -68,6 +71,7 @@ dimensions-of-words-spec =
     (tie.spec
     Inv-loop
     μ-loop
+    blank-dimensions-requires
     loop-holds
     mul-dimension-of-words
     add-dimension-of-words
