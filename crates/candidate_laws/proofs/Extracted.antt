@@ -13,7 +13,7 @@ use Rattle.list_laws.proofs.Tests.{allBelow-each}
 use Rattle.list_laws.proofs.Draws.{places-drawn}
 use Rattle.model.specs.declared.Distribution.{Distribution}
 use Rattle.model.specs.Plan.{Plan, Setting}
-use Rattle.model.specs.Setting.{noValue, kindOfDimension, ofWord, validDimension, inBounds, noSetting, sortByParam, extractOne, extract, parentsOf, parentIn}
+use Rattle.model.specs.Setting.{noValue, kindOfDimension, ofWord, validDimension, inBounds, noSetting, sortByParam, extractOne, extract, parentsOf}
 use Rattle.model.specs.Refusal.{badDimensions, namedOnce, fitsDimension, breedable, fitsAt}
 use Rattle.settings.proofs.Valid.{each}
 use Rattle.settings.proofs.InBounds.{Held}
@@ -23,7 +23,7 @@ use Rattle.candidate_laws.proofs.Sound.{AllHeld, Sound, sound-within, A
 use Rattle.candidate_laws.proofs.Sampled.{sampled-fit}
 
 -- every word is that of a double
-pub word-held : (k w : ℕ) → HeldValue (ofWord k w)
+word-held : (k w : ℕ) → HeldValue (ofWord k w)
 word-held zero w = ofBits-fits binary64 w
 word-held (suc zero) w = tt
 word-held (suc (suc k)) w = tt
@@ -49,7 +49,7 @@ module _ (dims : ℕ → Distribution) (n : ℕ) (h : AllHeld dims n) (b : badDi
   pub extract-sound : (p : Plan) (s : ℕ) → breedable dims n p ≡ true → Sound dims n (extract dims n (sortByParam (p .settings)) s .value)
   extract-sound p s f =
       let sorted = sortByParam (p .settings) in
-      places-drawn (λ i l. extractOne (dims i) sorted i) (λ d v. Fit (dims d) v) noValue n s (λ i l t u. one-fit dims sorted i t (h i u) (each dims n b i u) (breedable-fits dims n p f i u))
+      places-drawn _ (λ d v. Fit (dims d) v) noValue n s (λ i l t u. one-fit dims sorted i t (h i u) (each dims n b i u) (breedable-fits dims n p f i u))
 
   pub extract-within : (p : Plan) (s : ℕ) → breedable dims n p ≡ true → Within dims n (extract dims n (sortByParam (p .settings)) s .value)
   extract-within p s f = sound-within dims n _ (extract-sound p s f)
@@ -58,4 +58,4 @@ module _ (dims : ℕ → Distribution) (n : ℕ) (h : AllHeld dims n) (b : badDi
   pub parentsOf-sound : (plans : ℕ → Plan) (kept : List ℕ) (s : ℕ) → ((i : ℕ) → i < length kept → breedable dims n (plans (getD kept i 0)) ≡ true)
       → AllSound dims n (length kept) (parentsOf dims n plans kept s .value)
   parentsOf-sound plans kept s f =
-      places-drawn (parentIn dims n plans kept) (λ i c. Sound dims n c) [] (length kept) s (λ i l t u. extract-sound (plans (getD kept i 0)) t (f i u))
+      places-drawn _ (λ i c. Sound dims n c) [] (length kept) s (λ i l t u. extract-sound (plans (getD kept i 0)) t (f i u))

@@ -34,7 +34,7 @@ module _ (o : Operators) (r : Request) (g : badParents o r ≡ false) where
 
 module _ (o : Operators) (r : Request) (h : AllHeld (o .dims) (o .dimCount)) (b : badDimensions (o .dims) (o .dimCount) ≡ false) (g : badParents o r ≡ false) where
   -- the parents
-  pub kept-sound : 0 < r .count → (s : ℕ) → AllSound (o .dims) (o .dimCount) (length (selected r .kept)) (parentsOf (o .dims) (o .dimCount) (r .plans) (selected r .kept) s .value)
+  kept-sound : 0 < r .count → (s : ℕ) → AllSound (o .dims) (o .dimCount) (length (selected r .kept)) (parentsOf (o .dims) (o .dimCount) (r .plans) (selected r .kept) s .value)
   kept-sound some s = parentsOf-sound (o .dims) (o .dimCount) h b (r .plans) (selected r .kept) s (λ i l. plan-breedable o r g _ (kept-below r some i l))
 
   -- a size of none has no offspring; any other has parents
@@ -46,11 +46,11 @@ module _ (o : Operators) (r : Request) (h : AllHeld (o .dims) (o .dimCount)) (b 
       let l = kept-length r in
       offspringOf-sound o h b _ (rankOf r (selected r .kept)) (length (selected r .kept)) (omega arith) (kept-sound some (selected r .state)) (suc size) _
 
-  pub generationOf-sound : 0 < r .count → AllSound (o .dims) (o .dimCount) (r .size) (generationOf o r .offspring)
+  generationOf-sound : 0 < r .count → AllSound (o .dims) (o .dimCount) (r .size) (generationOf o r .offspring)
   unfolding generationOf
   generationOf-sound some = bred (r .size) refl some
 
-  pub generationOfOne-sound : AllSound (o .dims) (o .dimCount) (r .size) (generationOfOne o r .offspring)
+  generationOfOne-sound : AllSound (o .dims) (o .dimCount) (r .size) (generationOfOne o r .offspring)
   unfolding generationOfOne
   generationOfOne-sound = sampleCandidates-sound (o .dims) (o .dimCount) h b (r .size) (r .state)
 

@@ -13,7 +13,7 @@ use Rattle.model.specs.Kept.{before, splitFront, filled, selectedSplit, selecte
 
 -- ---- its entries
 
-pub kept-in : (r : Request) → 0 < r .count → Below (r .count) (selected r .kept)
+kept-in : (r : Request) → 0 < r .count → Below (r .count) (selected r .kept)
 unfolding selectedSplit selectedWhole filled
 kept-in r some =
     by-split r (λ s. Below (r .count) (s .kept))

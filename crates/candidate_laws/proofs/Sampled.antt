@@ -29,11 +29,11 @@ sampled-fit d s h v = (sampled-in-bounds d s h v, held d)
 module _ (dims : ℕ → Distribution) (n : ℕ) (h : AllHeld dims n) (b : badDimensions dims n ≡ false) where
   -- a candidate
   pub sampleAll-sound : (s : ℕ) → Sound dims n (sampleAll dims n s .value)
-  sampleAll-sound s = places-drawn (λ i l. sampleRandom (dims i)) (λ d v. Fit (dims d) v) noValue n s (λ i l t u. sampled-fit (dims i) t (h i u) (each dims n b i u))
+  sampleAll-sound s = places-drawn _ (λ d v. Fit (dims d) v) noValue n s (λ i l t u. sampled-fit (dims i) t (h i u) (each dims n b i u))
 
   pub sampleAll-within : (s : ℕ) → Within dims n (sampleAll dims n s .value)
   sampleAll-within s = sound-within dims n _ (sampleAll-sound s)
 
   -- so many
   pub sampleCandidates-sound : (k s : ℕ) → AllSound dims n k (sampleCandidates dims n k s .value)
-  sampleCandidates-sound k s = places-drawn (λ i cs. sampleAll dims n) (λ i c. Sound dims n c) [] k s (λ i cs t u. sampleAll-sound t)
+  sampleCandidates-sound k s = places-drawn _ (λ i c. Sound dims n c) [] k s (λ i cs t u. sampleAll-sound t)

@@ -69,7 +69,7 @@ each-field f into P one z xs us p = each-at (λ x vs. f (into x) vs) P one z xs 
 
 -- `dims: [DimensionInfo; 32]`
 module _ (dims : List DimensionInfo) (vs : List Val) (p : Is (Array (struct.row info.the-type) 32) dims vs) where
-  pub array-length : length dims ≡ 32
+  array-length : length dims ≡ 32
   array-length = p .1 .0 .1
 
   pub array-held : (d : ℕ) → d < 32 → Held (dimensionsOf dims d)
