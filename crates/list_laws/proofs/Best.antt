@@ -2,12 +2,17 @@
 use Prim.Native.Nat.{ℕ, zero, suc, _+_, _<_}
 use mathlib.Core.Path.{_≡_, refl, ap, ap₂, sym, _∙_}
 use mathlib.Core.Bool.{Bool, true, false, cond}
+use mathlib.Core.List.{List}
 use native.Mathlib.Nat.{not-suc-le-zero}
 use native.Mathlib.Numerals.{add-one}
 use native.Mathlib.Omega.{arith}
-use Rattle.model.specs.Lists.{bestFrom}
+use borrow.Author.Tests.{le-ltb, ltb-true, ltb-false}
+use lib.Dec.{ltb}
+use lib.ListN.{length, getD}
+use Rattle.model.specs.Lists.{bestFrom, In}
 use Rattle.list_laws.proofs.Bools.{by-cond}
 use Rattle.list_laws.proofs.Below.{same-below, last-or}
+use Rattle.list_laws.proofs.Members.{getD-in, place-of}
 
 module _ {A : Type 0} (beats : A → A → Bool) where
   pub best-none : (b : A) (f : ℕ → A) → bestFrom beats b f 0 ≡ b
@@ -61,3 +66,24 @@ best-map beats h b f (suc n) =
     either : (c : Bool) → cond c (h (f n)) (h (bestFrom (λ x y. beats (h x) (h y)) b f n)) ≡ h (cond c (f n) (bestFrom (λ x y. beats (h x) (h y)) b f n))
     either true = refl
     either false = refl
+
+-- ---- the best of a list, which is in it where anything is, and which nothing in it beats
+
+abbrev pub bestIn : (ℕ → ℕ → Bool) → List ℕ → ℕ
+bestIn beats ps = bestFrom beats (getD ps 0 0) (λ i. getD ps i 0) (length ps)
+
+pub best-member : (beats : ℕ → ℕ → Bool) → ((x : ℕ) → beats x x ≡ false) → ((x y z : ℕ) → beats x y ≡ false → beats z y ≡ true → beats x z ≡ false)
+    → {p : ℕ} (ps : List ℕ) → In p ps → In (bestIn beats ps) ps × ((q : ℕ) → In q ps → beats q (bestIn beats ps) ≡ false)
+best-member beats itself down ps m = (
+  best-all beats (λ q. In q ps) (getD ps 0 0) (λ i. getD ps i 0) (length ps) (getD-in ps 0 (let r = place-of m in omega (arith, r .1))) (λ t l. getD-in ps t l),
+  λ q k. let r = place-of k in
+      ap (λ t. beats t (bestIn beats ps)) (sym (r .2)) ∙ best-least beats itself down (getD ps 0 0) (λ i. getD ps i 0) (length ps) (r .0) (r .1),
+)
+
+-- ---- "below" is such a test
+
+pub ltb-self : (x : ℕ) → ltb x x ≡ false
+ltb-self x = le-ltb x x (omega arith)
+
+pub ltb-down : (x y z : ℕ) → ltb x y ≡ false → ltb z y ≡ true → ltb x z ≡ false
+ltb-down x y z e h = le-ltb x z (omega (arith, ltb-false x y e, ltb-true z y h))

@@ -1,15 +1,16 @@
 -- What the arrays of the niching loop hold: each line's niche count, each line's number of waiting members, and for each place of the split front whether its
 -- member is taken. Past a list's end a number reads as 0, a double as NaN.
-use Prim.Native.Nat.{ℕ, zero, suc, _+_, _-_, _≤_, _<_}
+use Prim.Native.Nat.{ℕ, _+_, _-_, _≤_, _<_}
 use mathlib.Core.Path.{_≡_}
 use mathlib.Core.Bool.{Bool, true, false, cond, not, _&&_}
 use mathlib.Core.List.{List, map}
 use lib.Dec.{eqb, ltb}
 use lib.Ieee.{Float, nan, lt}
 use lib.ListN.{length, getD, set, take, drop}
-use Rattle.model.specs.Lists.{keepBelow, countBelow, Distinct, over}
+use Rattle.model.specs.Lists.{keepBelow, countBelow, bestFrom, Distinct, over}
 use Rattle.model.specs.Draw.{Drawn, drawn}
 use Rattle.model.specs.Kept.{picks, pickFrom}
+use Rattle.model.specs.Refusal.{maxSize, maxLines}
 
 -- the line of a plan, and its distance from that line
 abbrev pub lineIn : List ℕ → ℕ → ℕ
@@ -35,14 +36,13 @@ hasWaiting waits l = ltb 0 (getD waits l 0)
 abbrev pub isLeast : List ℕ → List ℕ → ℕ → ℕ → Bool
 isLeast counts waits least l = hasWaiting waits l && eqb (getD counts l 0) least
 
--- the lesser of `least` and the niche count of line l, if that has waiting members
-abbrev pub lesser : List ℕ → List ℕ → ℕ → ℕ → ℕ
-lesser counts waits l least = cond (hasWaiting waits l && ltb (getD counts l 0) least) (getD counts l 0) least
+-- the niche count of line l, if that has waiting members, and `top` otherwise
+abbrev pub openCount : ℕ → List ℕ → List ℕ → ℕ → ℕ
+openCount top counts waits l = cond (hasWaiting waits l) (countOf counts l) top
 
 -- the least niche count of the lines below n with waiting members, none of which reaches `top`
-unfoldable pub leastBelow : ℕ → List ℕ → List ℕ → ℕ → ℕ
-leastBelow top counts waits zero = top
-leastBelow top counts waits (suc n) = lesser counts waits n (leastBelow top counts waits n)
+abbrev pub leastBelow : ℕ → List ℕ → List ℕ → ℕ → ℕ
+leastBelow top counts waits n = bestFrom ltb top (openCount top counts waits) n
 
 -- ---- places
 
@@ -115,7 +115,7 @@ pub record Ready (front lines : List ℕ) (distances : List Float) (n : ℕ) (co
   pub measured : Measured front distances
   pub counted : n ≤ length counts
   pub awaited : n ≤ length waits
-  pub few : (l : ℕ) → countOf counts l < 1024
+  pub few : (l : ℕ) → countOf counts l < maxSize
   pub waiting : Awaits front lines taken waits
   pub some : (i : ℕ) × (i < length front) × (getD taken i false ≡ false)
 
@@ -142,8 +142,8 @@ pub record Took (front lines : List ℕ) (distances : List Float) (n s : ℕ) (c
 pub record Splits (order : List ℕ) (start end : ℕ) (lines : List ℕ) (distances : List Float) (n vacant : ℕ) (picked : List ℕ) : Type 0 where
   pub ahead : start ≤ end
   pub inside : end ≤ length order
-  pub few : end ≤ 1024
-  pub narrow : n ≤ 1024
+  pub few : end ≤ maxSize
+  pub narrow : n ≤ maxLines
   pub plans : (i : ℕ) → i < end → (memberAt order i < length lines) × (memberAt order i < length distances) × (lineIn lines (memberAt order i) < n)
   pub different : Distinct (take (end - start) (drop start order))
   pub enough : vacant ≤ end - start

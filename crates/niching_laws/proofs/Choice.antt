@@ -1,18 +1,18 @@
 -- One open place: what is picked is a waiting member of a line with the least count, and the nearest of that line's members at count 0.
 use Prim.Native.Nat.{ℕ, zero, suc, _%_, _≤_, _<_}
-use mathlib.Core.Path.{_≡_, refl, sym, ap, _∙_}
+use mathlib.Core.Path.{_≡_, sym, ap, _∙_}
 use mathlib.Core.Bool.{Bool, true, false}
-use mathlib.Core.List.{List, [], _∷_, map, List·Memᴰ·head, List·Memᴰ·not-nil, Memᴰ·map, Memᴰ·of-map}
+use mathlib.Core.List.{List, map, Memᴰ·map, Memᴰ·of-map}
 use native.Mathlib.Nat.{mod-lt}
 use native.Mathlib.Omega.{arith}
 use lib.Dec.{eqb, leb, ltb}
 use lib.Ieee.{Float, lt}
 use lib.ListN.{length, getD}
-use borrow.Author.Tests.{eqb-true, eq-eqb, leb-true, le-leb, le-ltb, ltb-true, ltb-false}
-use Rattle.model.specs.Lists.{In, has, keep, allIn, bestFrom}
+use borrow.Author.Tests.{eqb-true, eq-eqb, leb-true, le-leb, ltb-false}
+use Rattle.model.specs.Lists.{In, has, keep, allIn}
 use Rattle.model.specs.Draw.{drawWord, drawUsize}
 use Rattle.model.specs.Kept.{openLines, leastLines, drawFrom, nearest, drawMember, pickFrom}
-use Rattle.list_laws.proofs.Best.{best-all, best-least}
+use Rattle.list_laws.proofs.Best.{bestIn, best-member, ltb-self, ltb-down}
 use Rattle.list_laws.proofs.Members.{in-has, has-in, keep-in, in-keep, getD-in, place-of, allIn-member}
 use Rattle.list_laws.proofs.Kept.{keepBelow-in, in-keepBelow}
 use Rattle.list_laws.proofs.Tests.{allIn-every}
@@ -20,7 +20,7 @@ use Rattle.float_laws.proofs.Compared.{lt-self, lt-down}
 
 -- ---- what is drawn of a list that is not empty is in it
 
-pub drawFrom-in : (s : ℕ) {p : ℕ} {ps : List ℕ} → In p ps → In (drawFrom ps s .value) ps
+drawFrom-in : (s : ℕ) {p : ℕ} {ps : List ℕ} → In p ps → In (drawFrom ps s .value) ps
 unfolding drawFrom drawUsize
 drawFrom-in s {p} {ps} m =
     let i = place-of m in getD-in ps (drawWord s .value % length ps) (mod-lt (drawWord s .value) (omega (arith, i .1)))
@@ -31,44 +31,22 @@ module _ (distance : ℕ → Float) where
   abbrev nearer : ℕ → ℕ → Bool
   nearer p q = lt (distance p) (distance q)
 
-  pub nearest-in : {p : ℕ} (ps : List ℕ) → In p ps → In (nearest distance ps) ps
+  -- the nearest of a list is in it, and no member is nearer
+  nearest-member : {p : ℕ} (ps : List ℕ) → In p ps → In (nearest distance ps) ps × ((q : ℕ) → In q ps → lt (distance q) (distance (nearest distance ps)) ≡ false)
   unfolding nearest
-  nearest-in ps m = let r = place-of m in best-all nearer (λ q. In q ps) (getD ps 0 0) (λ i. getD ps i 0) (length ps) (getD-in ps 0 (omega (arith, r .1))) (λ t l. getD-in ps t l)
-
-  -- no member of a list is nearer than its nearest
-  pub nearest-least : (ps : List ℕ) (q : ℕ) → In q ps → lt (distance q) (distance (nearest distance ps)) ≡ false
-  unfolding nearest
-  nearest-least ps q m =
-      let r = place-of m in
-      ap (λ t. lt (distance t) (distance (nearest distance ps))) (sym (r .2))
-      ∙ best-least nearer (λ p. lt-self (distance p)) (λ p q r. lt-down (distance p) (distance q) (distance r)) (getD ps 0 0) (λ i. getD ps i 0) (length ps) (r .0) (r .1)
+  nearest-member ps m = best-member nearer (λ p. lt-self (distance p)) (λ p q r. lt-down (distance p) (distance q) (distance r)) ps m
 
   drawMember-in : (s count : ℕ) {p : ℕ} (ps : List ℕ) → In p ps → In (drawMember distance count ps s .value) ps
   unfolding drawMember
-  drawMember-in s zero ps m = nearest-in ps m
+  drawMember-in s zero ps m = nearest-member ps m .0
   drawMember-in s (suc count) ps m = drawFrom-in s m
 
   drawMember-nearest : (s count : ℕ) (ps : List ℕ) → count ≡ 0 → (q : ℕ) → In q ps → lt (distance q) (distance (drawMember distance count ps s .value)) ≡ false
   unfolding drawMember
-  drawMember-nearest s zero ps e q m = nearest-least ps q m
+  drawMember-nearest s zero ps e q m = nearest-member ps m .1 q m
   drawMember-nearest s (suc count) ps e q m = absurd (omega arith)
 
--- ---- a list that is not empty has a member with the least count
-
-least-met : (f : ℕ → ℕ) (q : ℕ) (ps : List ℕ) → (r : ℕ) × In r (q ∷ ps) × ((t : ℕ) → In t (q ∷ ps) → f r ≤ f t)
-least-met f q ps = (
-  bestFrom less q (λ i. getD (q ∷ ps) i 0) (length (q ∷ ps)),
-  best-all less (λ r. In r (q ∷ ps)) q (λ i. getD (q ∷ ps) i 0) (length (q ∷ ps)) (List·Memᴰ·head refl) (λ t l. getD-in (q ∷ ps) t l),
-  λ t m. let r = place-of m in
-      let k : f (getD (q ∷ ps) (r .0) 0) ≡ f t = ap f (r .2) in
-      omega (arith, ltb-false (f (getD (q ∷ ps) (r .0) 0)) (f (bestFrom less q (λ i. getD (q ∷ ps) i 0) (length (q ∷ ps)))) (best-least less (λ p. le-ltb (f p) (f p) (omega arith)) down q (λ i. getD (q ∷ ps) i 0) (length (q ∷ ps)) (r .0) (r .1))),
-)
-  where
-    less : ℕ → ℕ → Bool
-    less p r = ltb (f p) (f r)
-
-    down : (x y z : ℕ) → less x y ≡ false → less z y ≡ true → less x z ≡ false
-    down x y z e h = le-ltb (f x) (f z) (omega (arith, ltb-false (f x) (f y) e, ltb-true (f z) (f y) h))
+-- ---- the least count of a list
 
 -- no count of a list is below c, as the test of `leastLines` and as a fact
 pub all-least : (counts : ℕ → ℕ) (c : ℕ) (ps : List ℕ) → ((k : ℕ) → In k ps → c ≤ counts k) → allIn (λ k. leb c (counts k)) ps ≡ true
@@ -77,14 +55,16 @@ all-least counts c ps h = allIn-every (λ k. leb c (counts k)) 0 ps (λ i u. le-
 pub least-all : (counts : ℕ → ℕ) (c : ℕ) (ps : List ℕ) → allIn (λ k. leb c (counts k)) ps ≡ true → (k : ℕ) → In k ps → c ≤ counts k
 least-all counts c ps e k m = leb-true c (counts k) (allIn-member (λ k. leb c (counts k)) ps e k m)
 
-pub least-in : (counts : ℕ → ℕ) {p : ℕ} (ps : List ℕ) → In p ps → (l : ℕ) × In l (leastLines counts ps)
-least-in counts [] m = absurd (List·Memᴰ·not-nil m)
-least-in counts (q ∷ qs) m =
-    let t = least-met counts q qs in
-    (t .0, keep-in (λ l. allIn (λ k. leb (counts l) (counts k)) (q ∷ qs)) (q ∷ qs) (t .0) (t .1) (all-least counts (counts (t .0)) (q ∷ qs) (t .2)))
+-- where anything is listed, something has it
+least-in : (counts : ℕ → ℕ) {p : ℕ} (ps : List ℕ) → In p ps → (l : ℕ) × In l (leastLines counts ps)
+least-in counts ps m =
+    let less : ℕ → ℕ → Bool = λ p q. ltb (counts p) (counts q) in
+    let t = best-member less (λ p. ltb-self (counts p)) (λ p q r. ltb-down (counts p) (counts q) (counts r)) ps m in
+    let l : ℕ = bestIn less ps in
+    (l, keep-in (λ l. allIn (λ k. leb (counts l) (counts k)) ps) ps l (t .0) (all-least counts (counts l) ps (λ k i. ltb-false (counts k) (counts l) (t .1 k i))))
 
-pub least-le : (counts : ℕ → ℕ) (ps : List ℕ) (l : ℕ) → In l (leastLines counts ps) → (k : ℕ) → In k ps → counts l ≤ counts k
-least-le counts ps l m = least-all counts (counts l) ps (in-keep (λ l. allIn (λ k. leb (counts l) (counts k)) ps) ps l m .1)
+leastLines-le : (counts : ℕ → ℕ) (ps : List ℕ) (l : ℕ) → In l (leastLines counts ps) → (k : ℕ) → In k ps → counts l ≤ counts k
+leastLines-le counts ps l m = least-all counts (counts l) ps (in-keep (λ l. allIn (λ k. leb (counts l) (counts k)) ps) ps l m .1)
 
 -- ---- the place
 
@@ -116,7 +96,7 @@ module _ (line : ℕ → ℕ) (distance : ℕ → Float) (lines : ℕ) (counts :
       let same : line q ≡ l = eqb-true (line q) l (k .1) in
       record {
         listed = k .0;
-        least = λ r i. rw same (least-le counts (openLines line lines waits) l m (line r) (line-open r i));
+        least = λ r i. rw same (leastLines-le counts (openLines line lines waits) l m (line r) (line-open r i));
         nearest = λ z r i e. drawMember-nearest distance s (counts l) (keep on waits) (ap counts (sym same) ∙ z) r
             (keep-in on waits r i (eq-eqb (line r) l (e ∙ same)));
       }
