@@ -1,28 +1,27 @@
 -- What the functions of `association` leave is what document 01 says of a request: its ideal, intercepts, normalised rows, lines and distances.
-use Prim.Native.Nat.{ℕ, _+_, _*_, _≤_, _<_}
+use Prim.Native.Nat.{ℕ, _≤_, _<_}
 use mathlib.Core.Path.{_≡_, ap, ap₂, subst, _∙_}
-use mathlib.Core.List.{List, [], flatten}
+use mathlib.Core.List.{List, flatten}
 use lib.Ieee.{Float, nan}
-use lib.ListN.{getD}
 use Rattle.model.specs.Lists.{listBelow, over}
 use Rattle.model.specs.Real.{_⊖_, _⊘_}
-use Rattle.model.specs.Reference.{dasDennis, pointCount}
+use Rattle.model.specs.Reference.{dasDennis}
 use Rattle.model.specs.Association.{Request, objectives, lineCount, valueOf, idealOf, interceptOf, normalised, coordinate, distanceTo, distance, association, leastFrom, greatest, interceptFrom, nearestOf}
 use Rattle.list_laws.specs.Rows.{flatRows}
+use Rattle.list_laws.proofs.Best.{best-same}
 use Rattle.list_laws.proofs.Built.{over-same, over-below}
 use Rattle.list_laws.proofs.Rows.{rows-at}
 use Rattle.reference_laws.proofs.Rows.{table-at}
-use Rattle.association_laws.specs.Flat.{leastAt, interceptAt, normalAt, nearestAt, NearestAll}
+use Rattle.association_laws.specs.Flat.{rowAt, leastAt, interceptAt, normalAt, nearestAt, NearestAll}
 use Rattle.association_laws.specs.Request.{Pool, StartIn, IdealIn, InterceptsIn, NormalisedIn, LinesIn, Associates}
-use Rattle.association_laws.proofs.Same.{least-same, greatest-same, distance-same, nearest-same}
+use Rattle.association_laws.proofs.Same.{distance-same, nearest-same}
 
--- ---- what `das_dennis` leaves, of m objectives and h divisions: k lines
-module _ (r : Request) (m h k : ℕ) (width : m ≡ objectives r) (d : h ≡ r .divisions) (c : k ≡ pointCount m h) where
-  pub lines-at : 1 ≤ m → (table old : List Float) → table ≡ over (flatten (dasDennis m h)) old → LinesIn r table k m
-  unfolding coordinate
-  lines-at some table old e l j g i =
-      ap (λ t. getD t (l * m + j) nan) e ∙ table-at m h l j old some (subst (λ t. l < t) c g) i
-      ∙ ap₂ (λ a b. getD (getD (dasDennis a b) l []) j nan) width d
+-- ---- what `das_dennis` leaves: the request's k lines
+pub lines-at : (r : Request) → 1 ≤ objectives r → (k : ℕ) → k ≡ lineCount r → (table old : List Float)
+    → table ≡ over (flatten (dasDennis (objectives r) (r .divisions))) old → LinesIn r table k (objectives r)
+unfolding coordinate
+lines-at r some k c table old e l j g i =
+    ap (λ t. rowAt t (objectives r) l j) e ∙ table-at (objectives r) (r .divisions) l j old some (subst (λ t. l < t) c g) i
 
 module _ (r : Request) (rows : List Float) (n m : ℕ) (P : Pool r rows n m) where
   -- ---- what `update_ideal_point` leaves, from the request's ideal
@@ -30,7 +29,7 @@ module _ (r : Request) (rows : List Float) (n m : ℕ) (P : Pool r rows n m) whe
     least-is : (j : ℕ) → j < m → leastAt rows n m old j ≡ idealOf r j
     unfolding idealOf
     least-is j h =
-        least-same _ _ _ n (λ p k. P .values p j k h)
+        best-same _ _ _ _ n (λ p k. P .values p j k h)
         ∙ ap₂ (λ b k. leastFrom b (λ p. valueOf r p j) k) (start j h) (P .count)
 
     ideal-at : (ideal : List Float) → ideal ≡ over (listBelow (leastAt rows n m old) m) old → IdealIn r ideal m
@@ -41,7 +40,7 @@ module _ (r : Request) (rows : List Float) (n m : ℕ) (P : Pool r rows n m) whe
     intercept-is : (j : ℕ) → j < m → interceptAt rows n m ideal j ≡ interceptOf r j
     unfolding interceptOf
     intercept-is j h =
-        ap₂ (λ g i. interceptFrom (g ⊖ i)) (greatest-same _ _ n (λ p k. P .values p j k h) ∙ ap (greatest (λ p. valueOf r p j)) (P .count)) (z j h)
+        ap₂ (λ g i. interceptFrom (g ⊖ i)) (best-same _ _ _ _ n (λ p k. P .values p j k h) ∙ ap (greatest (λ p. valueOf r p j)) (P .count)) (z j h)
 
     intercepts-at : (intercepts old : List Float) → intercepts ≡ over (listBelow (interceptAt rows n m ideal) m) old → InterceptsIn r intercepts m
     intercepts-at intercepts old e j h = over-below (interceptAt rows n m ideal) m intercepts old j nan e h ∙ intercept-is j h

@@ -1,19 +1,13 @@
 -- Only the entries that are looked at matter: below n the plans, below m the objectives, below k the lines.
 use Prim.Native.Nat.{ℕ, _<_}
 use mathlib.Core.Path.{_≡_, ap, ap₂}
-use mathlib.Core.Bool.{true, cond}
-use lib.Ieee.{Float, inf, lt}
-use Rattle.model.specs.Real.{_⊖_, _⊗_, _⊘_, infinity, above}
+use mathlib.Core.Bool.{cond}
+use lib.Ieee.{Float, lt}
+use Rattle.model.specs.Real.{_⊖_, _⊗_, _⊘_, infinity}
 use Rattle.model.specs.Numbers.{sqrtOf, square}
-use Rattle.model.specs.Association.{leastFrom, greatest, dot, offSquares, distance, smallNorm, near, nearestOf, nearer}
+use Rattle.model.specs.Association.{dot, offSquares, distance, smallNorm, near, nearestOf, nearer}
 use Rattle.float_laws.proofs.Sums.{sum-same}
 use Rattle.list_laws.proofs.Best.{best-same}
-
-pub least-same : (b : Float) (f g : ℕ → Float) (n : ℕ) → ((t : ℕ) → t < n → f t ≡ g t) → leastFrom b f n ≡ leastFrom b g n
-least-same b f g n h = best-same lt b f g n h
-
-pub greatest-same : (f g : ℕ → Float) (n : ℕ) → ((t : ℕ) → t < n → f t ≡ g t) → greatest f n ≡ greatest g n
-greatest-same f g n h = best-same above (inf true) f g n h
 
 pub nearest-same : (d e : ℕ → Float) (n : ℕ) → ((t : ℕ) → t < n → d t ≡ e t) → nearestOf d n ≡ nearestOf e n
 nearest-same d e n h = best-same nearer (near 0 infinity) _ _ n (λ t l. ap (near t) (h t l))

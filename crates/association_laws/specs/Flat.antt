@@ -1,5 +1,5 @@
 -- Document 01's association over flat lists: plan p's value at objective j is entry p * m + j of its rows, coordinate j of line l entry l * m + j of its table.
-use Prim.Native.Nat.{ℕ, _+_, _*_, _<_}
+use Prim.Native.Nat.{ℕ, _*_, _<_}
 use mathlib.Core.Path.{_≡_}
 use mathlib.Core.Bool.{cond}
 use mathlib.Core.List.{List}
@@ -7,16 +7,12 @@ use lib.Ieee.{Float, nan, lt}
 use lib.ListN.{getD}
 use Rattle.model.specs.Lists.{listBelow, over}
 use Rattle.model.specs.Real.{_⊖_, _⊘_, infinity}
-use Rattle.front_laws.specs.Flat.{rowAt}
+pub use Rattle.front_laws.specs.Flat.{from, rowAt}
 use Rattle.model.specs.Association.{leastFrom, greatest, interceptFrom, dot, offSquares, smallNorm, distance, Near, nearestOf}
 
 -- the values of objective j, plan by plan
 abbrev pub column : List Float → ℕ → ℕ → ℕ → Float
 column rows m j p = rowAt rows m p j
-
--- the entries of a list from `at` on
-abbrev pub from : List Float → ℕ → ℕ → Float
-from l at j = getD l (at + j) nan
 
 -- the smaller of an ideal's entry j and the least of the n plans
 abbrev pub leastAt : List Float → ℕ → ℕ → List Float → ℕ → Float
@@ -36,14 +32,14 @@ squaresOf m p r = cond (lt (dot m r r) smallNorm) infinity (offSquares m p r (do
 
 -- r·r of line l of a table, and a list that holds it for each of the first n lines
 abbrev pub normAt : List Float → ℕ → ℕ → Float
-normAt table m l = dot m (from table (l * m)) (from table (l * m))
+normAt table m l = dot m (rowAt table m l) (rowAt table m l)
 
 abbrev pub NormsIn : List Float → ℕ → List Float → ℕ → Type 0
 NormsIn table m norms n = (l : ℕ) → l < n → getD norms l nan ≡ normAt table m l
 
 -- the distance of the point at `at` from line l of a table
 abbrev pub distanceAt : List Float → ℕ → ℕ → List Float → ℕ → Float
-distanceAt points at m table l = distance m (from points at) (from table (l * m))
+distanceAt points at m table l = distance m (from points at) (rowAt table m l)
 
 -- the line nearest to plan p, and its distance
 abbrev pub nearestAt : List Float → ℕ → List Float → ℕ → ℕ → Near

@@ -10,16 +10,16 @@ use Rattle.niching_laws.specs.Niching.{ByProcedure}
 use Rattle.list_laws.proofs.Checks.{pool-plan}
 use Rattle.front_laws.proofs.Plans.{accepted-known, beats-strict}
 use Rattle.reference_laws.proofs.Count.{lines-some}
-use Rattle.demand3_laws.specs.Facts.{Strict, Accepted}
-pub use Rattle.demand3_laws.proofs.Passed.{some-objectives, one-to-1024}
-use Rattle.demand3_laws.proofs.Fronts.{front-facts}
-use Rattle.demand3_laws.proofs.Demand3.{demand3-facts, filled-procedure}
+use Rattle.front_laws.specs.Strict.{Strict}
+use Rattle.demand3_laws.specs.Facts.{Accepted}
+use Rattle.demand3_laws.proofs.Passed.{some-objectives}
+use Rattle.demand3_laws.proofs.Demand3.{demand3-strict, filled-procedure}
 
 module _ (r : Request) (accepted : Accepted r) where
-  pub accepted-lines : 0 < lineCount r
+  accepted-lines : 0 < lineCount r
   accepted-lines = lines-some (objectives r) (r .divisions) (some-objectives (r .marks) (accepted .directions) .0)
 
-  pub values-real : (p j : ℕ) → p < r .count → j < objectives r → isNan (valueOf r p j) ≡ false
+  values-real : (p j : ℕ) → p < r .count → j < objectives r → isNan (valueOf r p j) ≡ false
   values-real p j h k =
       accepted-known (r .marks) (objectives r) (r .plans p) (record { good = pool-plan r (accepted .pool) p h; whole = accepted .rows p h }) j k
 
@@ -28,8 +28,8 @@ module _ (r : Request) (accepted : Accepted r) where
 
   -- THE THEOREM, split or not
   pub demand3 : r .size ≤ r .count → Demand3 r (selected r .kept)
-  demand3 enough = demand3-facts r (front-facts dominance-strict) enough accepted-lines
+  demand3 enough = demand3-strict r dominance-strict enough accepted-lines
 
   -- and where a front is split, the plans picked from it are those of the paper's niching procedure
   pub niching-procedure : isSplit r ≡ true → ByProcedure (before r) (splitFront r) (lineOf r) (λ p. distanceTo r p (lineOf r p)) (lineCount r) (filled r .value)
-  niching-procedure split = filled-procedure r (front-facts dominance-strict) accepted-lines split
+  niching-procedure split = filled-procedure r accepted-lines split

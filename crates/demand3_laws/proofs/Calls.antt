@@ -1,6 +1,6 @@
 -- DEMAND 3 as the public calls promise it: a call that is not refused hands out a kept list that meets it.
 use Prim.Native.Nat.{ℕ, _+_, _*_, _≤_}
-use mathlib.Core.Path.{_≡_, refl, sym, subst}
+use mathlib.Core.Path.{_≡_, refl, ap, sym, subst}
 use mathlib.Core.Bool.{true, false}
 use mathlib.Core.List.{List}
 use mathlib.Core.Option.{Option, none, some}
@@ -10,8 +10,8 @@ use borrow.Author.Tests.{le-ltb}
 use Rattle.model.specs.declared.Distribution.{Distribution}
 use Rattle.model.specs.Plan.{planAt, planWords}
 use Rattle.model.specs.Association.{Request, objectives}
-use Rattle.model.specs.Kept.{selected}
-use Rattle.model.specs.Setting.{Operators, generation, generationOf, WordsWithin}
+use Rattle.model.specs.Kept.{Selected, selected}
+use Rattle.model.specs.Setting.{Operators, Generation, generation, generationOf, WordsWithin}
 use Rattle.model.specs.Session.{State, bredFrom, breeds, requestOf, operatorsOf}
 use Rattle.model.specs.Property.{SessionOk}
 use Rattle.model.specs.Refusal.{Room, badDirections, badDivisions, badPool, selectRefusal, stepRefusal, sampleRefusal}
@@ -52,6 +52,17 @@ unfolding stepAccepted
 step-refused o r at offspring none = refl
 step-refused o r at offspring (some n) = refl
 
+-- ---- a generation step from two plans on breeds, and keeps what a selection keeps
+
+pub generation-many : (o : Operators) (r : Request) → 2 ≤ r .count → generation o r ≡ generationOf o r
+unfolding generation
+generation-many o r h = rw (le-ltb (r .count) 2 h)
+
+-- so it hands out what a selection does
+pub generation-selects : (o : Operators) (r : Request) → 2 ≤ r .count → generation o r .selection ≡ selected r
+unfolding generationOf
+generation-selects o r h = ap (λ (g : Generation). g .selection) (generation-many o r h)
+
 -- ---- `nsga3_select`
 
 module _ (r : Request) (words : (p : ℕ) → InWords (r .plans p)) where
@@ -75,11 +86,6 @@ module _ (r : Request) (words : (p : ℕ) → InWords (r .plans p)) where
   step-accepted : (o : Operators) (room : Room) (offspring : ℕ) → stepRefusal o r room offspring ≡ none → Accepted r
   step-accepted o room offspring e = let p = passed o r room offspring e in word-accepted r words (p .directions) (p .divisions) (p .pool)
 
-  -- a step from two plans on keeps what a selection keeps
-  generation-kept : (o : Operators) → 2 ≤ r .count → generation o r .selection .kept ≡ selected r .kept
-  unfolding generation generationOf
-  generation-kept o h = rw (le-ltb (r .count) 2 h)
-
   -- what a step owes beside: its offspring lie within their bounds
   pub steps : (o : Operators) (entry : Lent) (offspring : List ℕ)
       → (stepRefusal o r (roomOf entry) (length offspring) ≡ none → WordsWithin (o .dims) (o .dimCount) (r .size) (stepOf o r entry offspring .offspring))
@@ -89,7 +95,7 @@ module _ (r : Request) (words : (p : ℕ) → InWords (r .plans p)) where
       record {
         whole = refl;
         refused = step-refused o r entry offspring (stepRefusal o r (roomOf entry) (length offspring));
-        demand3 = λ e two enough. go e (subst (Demand3 r) (sym (generation-kept o two)) (demand3 r (step-accepted o (roomOf entry) (length offspring) e) enough));
+        demand3 = λ e two enough. go e (subst (Demand3 r) (sym (ap (λ (s : Selected). s .kept) (generation-selects o r two))) (demand3 r (step-accepted o (roomOf entry) (length offspring) e) enough));
         bounds = bounds;
       }
     where
@@ -101,7 +107,7 @@ module _ (r : Request) (words : (p : ℕ) → InWords (r .plans p)) where
 
 -- the objectives and divisions of the selection that a session makes
 module _ (st : State) (history : List ℕ) (ok : SessionOk st) where
-  pub request-objectives : objectives (requestOf st history) ≡ st .session .config .«n_obj»
+  request-objectives : objectives (requestOf st history) ≡ st .session .config .«n_obj»
   request-objectives = omega (arith, length-take (st .session .config .«n_obj») (st .session .config .directions), ok .config .objectives)
 
   pub request-divisions : badDivisions (objectives (requestOf st history)) (st .session .config .divisions) ≡ false
@@ -110,7 +116,7 @@ module _ (st : State) (history : List ℕ) (ok : SessionOk st) where
 pub sample-demand3 : (st : State) (d : Distribution) (plan : ℕ) (history : List ℕ) → SessionOk st → sampleRefusal st d plan history ≡ none → breeds st history ≡ true
     → Demand3 (requestOf st history) (generation (operatorsOf (st .session)) (requestOf st history) .selection .kept)
 sample-demand3 st d plan history ok e bred =
-    subst (Demand3 r) (sym (generation-kept r words (operatorsOf (st .session)) (omega (arith, ok .config .atLeast4))))
+    subst (Demand3 r) (sym (ap (λ (s : Selected). s .kept) (generation-selects (operatorsOf (st .session)) r (omega (arith, ok .config .atLeast4)))))
     (demand3 r (word-accepted r words (ok .config .directions) (request-divisions st history ok) pool) (omega arith))
   where
     r : Request

@@ -12,54 +12,45 @@ use Rattle.model.specs.Papers.Deb2002.{inFirst, inFront}
 use Rattle.model.specs.Association.{Request, dominance, lineCount, distanceTo, association, lineOf}
 use Rattle.model.specs.Kept.{nicheCount, wholeFronts, before, isSplit, splitFront, filled, selected}
 use Rattle.model.specs.Demand3.{Split, Filling, finalCount, fillingCount, sumOfSquares, Served, Waits, Demand3}
-use Rattle.list_laws.specs.Occ.{Exactly}
 use Rattle.niching_laws.specs.Niching as Niching
 use Rattle.niching_laws.specs.Niching.{ByProcedure}
 use Rattle.list_laws.proofs.Members.{tally-append, tally-below, distinct-append}
 use Rattle.niching_laws.proofs.Picks.{picks-niched}
 use Rattle.niching_laws.proofs.Procedure.{picks-procedure, procedure-other}
 use Rattle.niching_laws.proofs.Association.{lineOf-inside, kept-distance}
-use Rattle.demand3_laws.specs.Facts.{FrontFacts}
+use Rattle.front_laws.specs.Strict.{Strict}
 use Rattle.list_laws.proofs.Bools.{by-bool, no-pass}
 use Rattle.front_laws.proofs.Rounds.{inFirst-more}
 use Rattle.front_laws.proofs.Rounds.{inFront-new}
 use Rattle.front_laws.proofs.Order.{inFront-first, listing-below, listing-exact}
+use Rattle.demand3_laws.proofs.Cut.{before-exactly, split-exactly}
 use Rattle.demand3_laws.proofs.Fronts.{dominators-first}
 use Rattle.demand3_laws.proofs.Sizes.{sizeOf-len, split-room, split-short, split-kept, split-only, whole-fill, whole-kept, whole-none}
 
-module _ (r : Request) (facts : FrontFacts (dominance r) (r .count)) where
-  -- the whole fronts and the split front, as lists of the paper's members
-  before-exactly : Exactly (inFirst (dominance r) (r .count) (wholeFronts r)) (r .count) (before r)
-  unfolding before
-  before-exactly = facts .listed (wholeFronts r)
-
-  split-exactly : Exactly (inFront (dominance r) (r .count) (wholeFronts r)) (r .count) (splitFront r)
-  unfolding splitFront
-  split-exactly = facts .fronts (wholeFronts r)
-
+module _ (r : Request) where
   -- no plan of the split front is in a whole one
   split-apart : (p : ℕ) → inFront (dominance r) (r .count) (wholeFronts r) p ≡ true → In p (before r) → ⊥
-  split-apart p e i = true≢false (sym (before-exactly .passes p i) ∙ inFront-new (dominance r) (r .count) (wholeFronts r) p e)
+  split-apart p e i = true≢false (sym (before-exactly r .passes p i) ∙ inFront-new (dominance r) (r .count) (wholeFronts r) p e)
 
   -- a plan that dominates one of the whole fronts, or of the front after them, is in a whole front
   better-before : (p q : ℕ) → inFirst (dominance r) (r .count) (suc (wholeFronts r)) p ≡ true → q < r .count → dominance r q p ≡ true → In q (before r)
-  better-before p q e h dom = before-exactly .every q h (dominators-first (dominance r) (r .count) (wholeFronts r) p q e h dom)
+  better-before p q e h dom = before-exactly r .every q h (dominators-first (dominance r) (r .count) (wholeFronts r) p q e h dom)
 
   -- ---- no front is split
 
-  module _ (enough : r .size ≤ r .count) (whole : isSplit r ≡ false) where
+  module _ (strict : Strict (dominance r) (r .count)) (enough : r .size ≤ r .count) (whole : isSplit r ≡ false) where
     whole-demand : Demand3 r (before r)
     whole-demand =
         record {
-          listed = sym (whole-kept r facts enough whole);
-          inPool = before-exactly .below;
-          distinct = before-exactly .distinct;
-          exactly = whole-fill r facts enough whole;
+          listed = sym (whole-kept r strict enough whole);
+          inPool = before-exactly r .below;
+          distinct = before-exactly r .distinct;
+          exactly = whole-fill r strict enough whole;
           noneBetter = λ p q m h away. no-pass (dominance r q p)
-              (λ dom. away (better-before p q (inFirst-more (dominance r) (r .count) (wholeFronts r) p (before-exactly .passes p m)) h dom));
-          whole = λ k s. absurd (whole-none r facts enough whole k s);
-          least = λ k s. absurd (whole-none r facts enough whole k s);
-          balanced = λ k s. absurd (whole-none r facts enough whole k s);
+              (λ dom. away (better-before p q (inFirst-more (dominance r) (r .count) (wholeFronts r) p (before-exactly r .passes p m)) h dom));
+          whole = λ k s. absurd (whole-none r strict enough whole k s);
+          least = λ k s. absurd (whole-none r strict enough whole k s);
+          balanced = λ k s. absurd (whole-none r strict enough whole k s);
         }
 
   -- ---- a front is split
@@ -68,8 +59,8 @@ module _ (r : Request) (facts : FrontFacts (dominance r) (r .count)) where
     setting : Niching.Split (before r) (splitFront r) (lineOf r) (lineCount r)
     setting =
         record {
-          distinct = split-exactly .distinct;
-          apart = λ p m. split-apart p (split-exactly .passes p m);
+          distinct = split-exactly r .distinct;
+          apart = λ p m. split-apart p (split-exactly r .passes p m);
           inside = λ p _. lineOf-inside r p some;
         }
 
@@ -93,11 +84,11 @@ module _ (r : Request) (facts : FrontFacts (dominance r) (r .count)) where
 
     kept-first : (p : ℕ) → In p list → inFirst (dominance r) (r .count) (suc (wholeFronts r)) p ≡ true
     kept-first p m =
-        ⊎-elim (λ i. inFirst-more (dominance r) (r .count) (wholeFronts r) p (before-exactly .passes p i))
-        (λ i. inFront-first (dominance r) (r .count) (wholeFronts r) p (split-exactly .passes p i)) (kept-cases p m)
+        ⊎-elim (λ i. inFirst-more (dominance r) (r .count) (wholeFronts r) p (before-exactly r .passes p i))
+        (λ i. inFront-first (dominance r) (r .count) (wholeFronts r) p (split-exactly r .passes p i)) (kept-cases p m)
 
     list-distinct : Distinct list
-    list-distinct = distinct-append (before r) (filled r .value) (before-exactly .distinct) (niched .fills .distinct) (λ p m i. niched .apart p i m)
+    list-distinct = distinct-append (before r) (filled r .value) (before-exactly r .distinct) (niched .fills .distinct) (λ p m i. niched .apart p i m)
 
     -- another filling, and the counts that it gives
     other-filling : (filling : List ℕ) → Filling r (wholeFronts r) filling → Niching.Filling (splitFront r) (r .size - length (before r)) filling
@@ -106,7 +97,7 @@ module _ (r : Request) (facts : FrontFacts (dominance r) (r .count)) where
         record {
           size = f .places ∙ ap (λ (k : ℕ). r .size - k) (sizeOf-len r (wholeFronts r));
           distinct = f .different;
-          members = λ p m. split-exactly .every p (f .inPool p m) (f .fromFront p m);
+          members = λ p m. split-exactly r .every p (f .inPool p m) (f .fromFront p m);
         }
 
     other-counts : (filling : List ℕ) → nicheCount (lineOf r) (before r ++ filling) ≡ fillingCount r (wholeFronts r) filling
@@ -136,7 +127,7 @@ module _ (r : Request) (facts : FrontFacts (dominance r) (r .count)) where
         record {
           plan = s .plan;
           waits = record {
-            member = split-exactly .every (s .plan) (s .inPool) (s .fromFront);
+            member = split-exactly r .every (s .plan) (s .inPool) (s .fromFront);
             unpicked = λ m. s .dropped (Memᴰ·append-right (before r) m);
           };
           onLine = s .onLine;
@@ -149,12 +140,12 @@ module _ (r : Request) (facts : FrontFacts (dominance r) (r .count)) where
     split-demand =
         record {
           listed = sym (split-kept r split);
-          inPool = λ p m. ⊎-elim (before-exactly .below p) (split-exactly .below p) (kept-cases p m);
+          inPool = λ p m. ⊎-elim (before-exactly r .below p) (split-exactly r .below p) (kept-cases p m);
           distinct = list-distinct;
           exactly = omega (arith, length-append (before r) (filled r .value), niched .fills .size, split-short r split);
           noneBetter = λ p q m h away. no-pass (dominance r q p) (λ dom. away (Memᴰ·append-left (filled r .value) (better-before p q (kept-first p m) h dom)));
           whole = λ k s p h e. Memᴰ·append-left (filled r .value)
-              (before-exactly .every p h (subst (λ (j : ℕ). inFirst (dominance r) (r .count) j p ≡ true) (split-only r split k s) e));
+              (before-exactly r .every p h (subst (λ (j : ℕ). inFirst (dominance r) (r .count) j p ≡ true) (split-only r split k s) e));
           least = λ k s filling f. subst (λ (j : ℕ). sumOfSquares r (finalCount r list) ≤ sumOfSquares r (fillingCount r j filling)) (sym (split-only r split k s))
               (least-here filling (subst (λ (j : ℕ). Filling r j filling) (split-only r split k s) f));
           balanced = λ k s l w a b. balanced-here l w
@@ -163,7 +154,7 @@ module _ (r : Request) (facts : FrontFacts (dominance r) (r .count)) where
 
   -- ---- both
 
-  pub demand3-facts : r .size ≤ r .count → 0 < lineCount r → Demand3 r (selected r .kept)
-  demand3-facts enough some = by-bool (isSplit r)
+  pub demand3-strict : Strict (dominance r) (r .count) → r .size ≤ r .count → 0 < lineCount r → Demand3 r (selected r .kept)
+  demand3-strict strict enough some = by-bool (isSplit r)
       (λ e. subst (Demand3 r) (sym (split-kept r e)) (split-demand some e))
-      (λ e. subst (Demand3 r) (sym (whole-kept r facts enough e)) (whole-demand enough e))
+      (λ e. subst (Demand3 r) (sym (whole-kept r strict enough e)) (whole-demand strict enough e))

@@ -1,4 +1,4 @@
--- The front theorems as demand 3 uses them: the front facts, and that a plan's dominators are in earlier fronts.
+-- A plan's dominators are in earlier fronts.
 use Prim.Native.Nat.{ℕ, suc, _<_}
 use mathlib.Core.Path.{_≡_, sym, _∙_}
 use mathlib.Core.Bool.{Bool, true, true≢false}
@@ -6,17 +6,7 @@ use native.Mathlib.Omega.{arith}
 use Rattle.model.specs.Papers.Deb2002.{inFirst}
 use Rattle.list_laws.proofs.Bools.{by-bool}
 use Rattle.front_laws.proofs.Rounds.{inFirst-front}
-use Rattle.front_laws.proofs.Order.{inFirst-later, inFront-undominated, front-exactly, listing-exactly, all-inFirst}
-use Rattle.demand3_laws.specs.Facts.{Strict, FrontFacts}
-
--- where dominance is a strict order, the front facts hold
-pub front-facts : {d : ℕ → ℕ → Bool} {n : ℕ} → Strict d n → FrontFacts d n
-front-facts {d} {n} strict =
-    record {
-      listed = listing-exactly d n;
-      fronts = front-exactly d n;
-      covered = all-inFirst d n strict;
-    }
+use Rattle.front_laws.proofs.Order.{inFirst-later, inFront-undominated}
 
 -- whoever dominates a plan of the first k + 1 fronts is in one of the first k
 pub dominators-first : (d : ℕ → ℕ → Bool) (n k p q : ℕ) → inFirst d n (suc k) p ≡ true → q < n → d q p ≡ true → inFirst d n k q ≡ true

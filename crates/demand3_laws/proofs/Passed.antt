@@ -1,34 +1,35 @@
 -- A call that meets no refusal passes each test, and what each test rules out.
 use Prim.Native.Nat.{ℕ, _≤_, _<_}
-use mathlib.Core.Path.{_≡_, refl}
+use mathlib.Core.Path.{_≡_}
 use mathlib.Core.Bool.{true, false, not, _&&_}
-use mathlib.Core.List.{List, List·Memᴰ·head, List·Memᴰ·tail}
+use mathlib.Core.List.{List}
 use mathlib.Core.Option.{none}
 use native.Mathlib.Omega.{arith}
 use lib.Dec.{eqb, leb, ltb}
 use lib.ListN.{length}
 use borrow.Author.Tests.{eqb-false, leb-true, ltb-false, not-false}
 use Rattle.model.specs.declared.Distribution.{Distribution}
+use Rattle.model.specs.Plan.{maxObjectives}
 use Rattle.model.specs.Association.{Request, objectives}
 use Rattle.model.specs.Setting.{Operators}
 use Rattle.model.specs.Session.{State, discovers, breeds, isNew, longEnough, requestOf, operatorsOf, maxCome}
-use Rattle.model.specs.Refusal.{Room, badDirections, badSize, badDivisions, badOperators, badDimensions, badCount, badPool, badParents, noRoom, noStepRoom, badNext, badHistory, selectRefusal, stepRefusal, sampleRefusal}
+use Rattle.model.specs.Refusal.{Room, maxSize, badDirections, badSize, badDivisions, badOperators, badDimensions, badCount, badPool, badParents, noRoom, noStepRoom, badNext, badHistory, selectRefusal, stepRefusal, sampleRefusal}
 use Rattle.list_laws.proofs.Bools.{or-left, or-right, and-left, and-right}
-use Rattle.list_laws.proofs.Checks.{applies-not}
+use Rattle.list_laws.proofs.Checks.{applies-at}
 
 -- ---- what each test rules out
 
-pub some-objectives : (marks : List ℕ) → badDirections marks ≡ false → (1 ≤ length marks) × (length marks ≤ 8)
+pub some-objectives : (marks : List ℕ) → badDirections marks ≡ false → (1 ≤ length marks) × (length marks ≤ maxObjectives)
 unfolding badDirections
 some-objectives marks h =
     let e = not-false _ (or-left _ _ h) in
-    (leb-true 1 (length marks) (and-left _ _ e), leb-true (length marks) 8 (and-right (leb 1 (length marks)) _ e))
+    (leb-true 1 (length marks) (and-left _ _ e), leb-true (length marks) maxObjectives (and-right (leb 1 (length marks)) _ e))
 
 -- a size or a count is 1 to 1,024
-pub one-to-1024 : (n : ℕ) → badCount n ≡ false → (0 < n) × (n ≤ 1024)
+pub one-to-1024 : (n : ℕ) → badCount n ≡ false → (0 < n) × (n ≤ maxSize)
 one-to-1024 n e =
-    let h = eqb-false n 0 (or-left (eqb n 0) (ltb 1024 n) e) in
-    (omega arith, ltb-false 1024 n (or-right (eqb n 0) (ltb 1024 n) e))
+    let h = eqb-false n 0 (or-left (eqb n 0) (ltb maxSize n) e) in
+    (omega arith, ltb-false maxSize n (or-right (eqb n 0) (ltb maxSize n) e))
 
 -- each lent slice has room
 pub room-each : (r : Request) (room : Room) → noRoom r room ≡ false → (r .size ≤ room .kept) × (r .count ≤ room .fronts) × (r .count ≤ room .lines)
@@ -53,12 +54,12 @@ pub record SelectPassed (r : Request) (room : Room) : Type 0 where
 pub select-passed : (r : Request) (room : Room) → selectRefusal r room ≡ none → SelectPassed r room
 unfolding selectRefusal
 select-passed r room e = record {
-  directions = applies-not (List·Memᴰ·head refl) e;
-  size = applies-not (List·Memᴰ·tail (List·Memᴰ·head refl)) e;
-  divisions = applies-not (List·Memᴰ·tail (List·Memᴰ·tail (List·Memᴰ·head refl))) e;
-  count = applies-not (List·Memᴰ·tail (List·Memᴰ·tail (List·Memᴰ·tail (List·Memᴰ·head refl)))) e;
-  pool = applies-not (List·Memᴰ·tail (List·Memᴰ·tail (List·Memᴰ·tail (List·Memᴰ·tail (List·Memᴰ·head refl))))) e;
-  slices = applies-not (List·Memᴰ·tail (List·Memᴰ·tail (List·Memᴰ·tail (List·Memᴰ·tail (List·Memᴰ·tail (List·Memᴰ·head refl)))))) e;
+  directions = applies-at _ 0 e;
+  size = applies-at _ 1 e;
+  divisions = applies-at _ 2 e;
+  count = applies-at _ 3 e;
+  pool = applies-at _ 4 e;
+  slices = applies-at _ 5 e;
 }
 
 -- ---- a generation step
@@ -77,15 +78,15 @@ pub record Passed (o : Operators) (r : Request) (room : Room) (offspring : ℕ) 
 pub passed : (o : Operators) (r : Request) (room : Room) (offspring : ℕ) → stepRefusal o r room offspring ≡ none → Passed o r room offspring
 unfolding stepRefusal
 passed o r room offspring e = record {
-  directions = applies-not (List·Memᴰ·head refl) e;
-  size = applies-not (List·Memᴰ·tail (List·Memᴰ·head refl)) e;
-  divisions = applies-not (List·Memᴰ·tail (List·Memᴰ·tail (List·Memᴰ·head refl))) e;
-  operators = applies-not (List·Memᴰ·tail (List·Memᴰ·tail (List·Memᴰ·tail (List·Memᴰ·head refl)))) e;
-  dimensions = applies-not (List·Memᴰ·tail (List·Memᴰ·tail (List·Memᴰ·tail (List·Memᴰ·tail (List·Memᴰ·head refl))))) e;
-  count = applies-not (List·Memᴰ·tail (List·Memᴰ·tail (List·Memᴰ·tail (List·Memᴰ·tail (List·Memᴰ·tail (List·Memᴰ·head refl)))))) e;
-  pool = applies-not (List·Memᴰ·tail (List·Memᴰ·tail (List·Memᴰ·tail (List·Memᴰ·tail (List·Memᴰ·tail (List·Memᴰ·tail (List·Memᴰ·head refl))))))) e;
-  parents = applies-not (List·Memᴰ·tail (List·Memᴰ·tail (List·Memᴰ·tail (List·Memᴰ·tail (List·Memᴰ·tail (List·Memᴰ·tail (List·Memᴰ·tail (List·Memᴰ·head refl)))))))) e;
-  slices = applies-not (List·Memᴰ·tail (List·Memᴰ·tail (List·Memᴰ·tail (List·Memᴰ·tail (List·Memᴰ·tail (List·Memᴰ·tail (List·Memᴰ·tail (List·Memᴰ·tail (List·Memᴰ·head refl))))))))) e;
+  directions = applies-at _ 0 e;
+  size = applies-at _ 1 e;
+  divisions = applies-at _ 2 e;
+  operators = applies-at _ 3 e;
+  dimensions = applies-at _ 4 e;
+  count = applies-at _ 5 e;
+  pool = applies-at _ 6 e;
+  parents = applies-at _ 7 e;
+  slices = applies-at _ 8 e;
 }
 
 -- ---- a session call
@@ -101,10 +102,10 @@ pub record SamplePassed (st : State) (d : Distribution) (plan : ℕ) (history : 
 pub sample-passed : (st : State) (d : Distribution) (plan : ℕ) (history : List ℕ) → sampleRefusal st d plan history ≡ none → SamplePassed st d plan history
 unfolding sampleRefusal
 sample-passed st d plan history e = record {
-  dimension = applies-not (List·Memᴰ·head refl) e;
-  records = applies-not (List·Memᴰ·tail (List·Memᴰ·head refl)) e;
-  pool = applies-not (List·Memᴰ·tail (List·Memᴰ·tail (List·Memᴰ·head refl))) e;
-  parents = applies-not (List·Memᴰ·tail (List·Memᴰ·tail (List·Memᴰ·tail (List·Memᴰ·head refl)))) e;
-  slices = not-false _ (applies-not (List·Memᴰ·tail (List·Memᴰ·tail (List·Memᴰ·tail (List·Memᴰ·tail (List·Memᴰ·head refl))))) e);
-  come = applies-not (List·Memᴰ·tail (List·Memᴰ·tail (List·Memᴰ·tail (List·Memᴰ·tail (List·Memᴰ·tail (List·Memᴰ·head refl)))))) e;
+  dimension = applies-at _ 0 e;
+  records = applies-at _ 1 e;
+  pool = applies-at _ 2 e;
+  parents = applies-at _ 3 e;
+  slices = not-false _ (applies-at _ 4 e);
+  come = applies-at _ 5 e;
 }

@@ -12,13 +12,14 @@ use Rattle.model.specs.Association.{Request, dominance}
 use Rattle.model.specs.Draw.{inTurn}
 use Rattle.model.specs.Kept.{wholeFronts, before, isSplit, splitFront, filled, selectedSplit, selectedWhole, selected, exceedsSize}
 use Rattle.model.specs.Demand3.{sizeOfFirst, Split}
-use Rattle.demand3_laws.specs.Facts.{FrontFacts}
 use Rattle.list_laws.proofs.Below.{by-lt, neither-below}
 use Rattle.list_laws.proofs.Bools.{by-bool, and-left, and-right}
 use Rattle.list_laws.proofs.First.{firstBelow-le, firstBelow-passes}
 use Rattle.list_laws.proofs.Rows.{joinBelow-up}
+use Rattle.front_laws.specs.Strict.{Strict}
 use Rattle.front_laws.proofs.Listings.{listing-grows}
-use Rattle.front_laws.proofs.Order.{listing-length, listing-full}
+use Rattle.front_laws.proofs.Order.{listing-length}
+use Rattle.front_laws.proofs.Theorems.{listing-length-n}
 use Rattle.niching_laws.proofs.KeptLength.{before-le}
 
 module _ (r : Request) where
@@ -30,7 +31,7 @@ module _ (r : Request) where
   sizeOf-len k = sym (listing-length (dominance r) (r .count) k)
 
   -- with the front after them, if there is one, they exceed the size
-  pub next-exceeds : wholeFronts r < r .count → r .size < length (before r) + length (splitFront r)
+  next-exceeds : wholeFronts r < r .count → r .size < length (before r) + length (splitFront r)
   unfolding before splitFront wholeFronts
   next-exceeds h =
       omega (arith, listing-grows (dominance r) (r .count) (wholeFronts r), ltb-true (r .size) (len (suc (wholeFronts r))) (firstBelow-passes (exceedsSize r) (r .count) h))
@@ -42,7 +43,7 @@ module _ (r : Request) where
 
   -- where a front is split
   module _ (split : isSplit r ≡ true) where
-    pub split-inside : wholeFronts r < r .count
+    split-inside : wholeFronts r < r .count
     unfolding isSplit
     split-inside = ltb-true (wholeFronts r) (r .count) (and-left (ltb (wholeFronts r) (r .count)) (ltb (length (before r)) (r .size)) split)
 
@@ -72,15 +73,14 @@ module _ (r : Request) where
         ))
 
   -- where none is, from a pool of at least the size
-  module _ (facts : FrontFacts (dominance r) (r .count)) (enough : r .size ≤ r .count) (whole : isSplit r ≡ false) where
+  module _ (strict : Strict (dominance r) (r .count)) (enough : r .size ≤ r .count) (whole : isSplit r ≡ false) where
     -- the whole fronts fill the size
     pub whole-fill : length (before r) ≡ r .size
     unfolding isSplit before wholeFronts
     whole-fill = by-bool (ltb (wholeFronts r) (r .count))
         (λ e. omega (arith, before-le r, ltb-false (len (wholeFronts r)) (r .size) (rw e at whole)))
         (λ e. let last : wholeFronts r ≡ r .count = last-one (ltb-false (wholeFronts r) (r .count) e) in
-        let all : len (r .count) ≡ r .count = listing-full (dominance r) (r .count) (r .count) (facts .covered) in
-        omega (arith, before-le r, ap len last))
+        omega (arith, before-le r, ap len last, listing-length-n (dominance r) (r .count) strict))
       where
         last-one : r .count ≤ wholeFronts r → wholeFronts r ≡ r .count
         last-one h = omega (arith, firstBelow-le (exceedsSize r) (r .count))

@@ -9,9 +9,12 @@ use Rattle.model.specs.Plan.{Plan}
 use Rattle.model.specs.Row.{rowOf, dominates, byFeasibility, feasible, violation}
 use Rattle.front_laws.specs.Strict.{Known}
 
--- row p, which starts at p * m
+-- the entries of a list from `at` on, and row p, which starts at p * m
+abbrev pub from : List Float → ℕ → ℕ → Float
+from l at j = getD l (at + j) nan
+
 abbrev pub rowAt : List Float → ℕ → ℕ → ℕ → Float
-rowAt rows m p j = getD rows (p * m + j) nan
+rowAt rows m p j = from rows (p * m) j
 
 -- plan p dominates plan q by rows only
 abbrev pub flatDominates : List Float → ℕ → ℕ → ℕ → Bool

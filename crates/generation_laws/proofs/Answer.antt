@@ -5,7 +5,7 @@ use mathlib.Core.Bool.{false}
 use mathlib.Core.List.{List}
 use mathlib.Core.Option.{none, some}
 use native.Mathlib.Omega.{arith}
-use borrow.Author.Tests.{lt-ltb, le-ltb}
+use borrow.Author.Tests.{lt-ltb}
 use lib.Ieee.{Float}
 use lib.ListN.{length, getD, take}
 use Rattle.list_laws.proofs.Built.{over-take, over-at}
@@ -24,7 +24,7 @@ use Rattle.model.specs.Setting.{Operators, wordsOf, WordsWithin, sampleCandidat
 use Rattle.model.specs.Refusal.{badDimensions, stepRefusal}
 use Rattle.model.specs.Calls.{wordRequest, Lent, roomOf, SelectExit, answered, selectAccepted, selectBy, selectOf, Selects, StepExit, stepExit, stepAccepted, stepBy, stepOf, Steps, generationExit, laid}
 use Rattle.demand3_laws.proofs.Passed.{passed, one-to-1024}
-use Rattle.demand3_laws.proofs.Calls.{planAt-row, steps}
+use Rattle.demand3_laws.proofs.Calls.{planAt-row, generation-many, steps}
 use Rattle.candidate_laws.proofs.Sound.{AllHeld}
 use Rattle.candidate_laws.proofs.KeptPlans.{kept-length, kept-below}
 use Rattle.candidate_laws.proofs.Generations.{generation-words}
@@ -92,14 +92,14 @@ module _ (o : Operators) (pool directions : List ℕ) (divisions size : ℕ) (g 
       pub bred-exit : (out : List ℕ) (h : Rng) → out ≡ over (wordsOf (bredOfWords o pool directions (x .slices .kept) size (x .answer .rng .s) .value)) old
           → h .s ≡ bredOfWords o pool directions (x .slices .kept) size (x .answer .rng .s) .state
           → stepExit (record { outcome = outcome.Kept size; rng = h }) (x .ideal) (x .slices) out ≡ stepAccepted o r at old
-      unfolding selectAccepted stepAccepted generation generationOf
+      unfolding selectAccepted stepAccepted generationOf
       bred-exit out h f q =
           ap₂ (λ s w. kept-exit size s (x .ideal) (x .slices) w)
           (q ∙ ap (λ (d : Drawn (List (List ParamValue))). d .state) bred-generation) (f ∙ ap (λ (d : Drawn (List (List ParamValue))). over (wordsOf (d .value)) old) bred-generation)
           ∙ ap (λ (y : SelectExit). kept-exit size (generationOf o r .state) (y .ideal) (y .slices) (over (wordsOf (generationOf o r .offspring)) old)) e
           ∙ ap (λ n. kept-exit n (generationOf o r .state) (selected r .ideal) (laid (selected r) at)
           (over (wordsOf (generationOf o r .offspring)) old)) (sym (kept-length r))
-          ∙ ap (λ b. generationExit (byPool b o r) at old) (sym (le-ltb (planCount pool) 2 two))
+          ∙ ap (λ s. generationExit s at old) (sym (generation-many o r two))
 
   -- ---- the promise
 

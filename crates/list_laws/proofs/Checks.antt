@@ -1,18 +1,18 @@
 -- The first of some refusals that applies, and what a plan that refusal 8 lets pass keeps.
-use Prim.Native.Nat.{ℕ, _≤_, _<_}
-use mathlib.Core.Path.{_≡_, refl, ap, _∙_}
+use Prim.Native.Nat.{ℕ, zero, suc, _≤_, _<_}
+use mathlib.Core.Path.{_≡_, refl}
 use mathlib.Core.Bool.{Bool, true, false, cond, _&&_}
-use mathlib.Core.List.{List, [], _∷_, List·Memᴰ, List·Memᴰ·head, List·Memᴰ·tail}
+use mathlib.Core.List.{List, [], _∷_}
 use mathlib.Core.Option.{none, some, Option·some-ne-none}
 use borrow.Author.Tests.{eqb-true, leb-true, not-false}
 use lib.Dec.{eqb, leb}
 use lib.Ieee.{Float}
-use lib.ListN.{length}
+use lib.ListN.{length, getD}
 use Rattle.model.specs.Lists.{allIn}
 use Rattle.model.specs.Plan.{Plan, maxConstraints}
 use Rattle.model.specs.Reference.{orElse}
 use Rattle.model.specs.Association.{Request, objectives}
-use Rattle.model.specs.Refusal.{Check, firstOf, measurable, goodPlan, goodPlans, goodIdeal, badPool}
+use Rattle.model.specs.Refusal.{Check, check, firstOf, measurable, goodPlan, goodPlans, goodIdeal, badPool}
 use Rattle.list_laws.proofs.Tests.{allBelow-each}
 use Rattle.list_laws.proofs.Bools.{by-bool, and-left, and-right}
 
@@ -25,9 +25,10 @@ not-given c cs e = go (c .applies) refl e
     go true h k = absurd (Option·some-ne-none (c .number) k)
     go false h k = (h, k)
 
-pub applies-not : {c : Check} {cs : List Check} → List·Memᴰ c cs → firstOf cs ≡ none → c .applies ≡ false
-applies-not (List·Memᴰ·head {x = c′} {xs = cs} e) h = ap (λ (k : Check). k .applies) e ∙ not-given c′ cs h .0
-applies-not (List·Memᴰ·tail {x = c′} {xs = cs} m) h = applies-not m (not-given c′ cs h .1)
+pub applies-at : (cs : List Check) (i : ℕ) → firstOf cs ≡ none → getD cs i (check 0 false) .applies ≡ false
+applies-at [] i e = refl
+applies-at (c ∷ cs) zero e = not-given c cs e .0
+applies-at (c ∷ cs) (suc i) e = applies-at cs i (not-given c cs e .1)
 
 -- one that does not apply is passed over, and what comes after two others counts by its own first
 pub passed-over : (c : Check) (cs : List Check) → c .applies ≡ false → firstOf (c ∷ cs) ≡ firstOf cs

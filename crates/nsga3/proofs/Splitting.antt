@@ -2,26 +2,24 @@
 use Prim.Native.Nat.{ℕ, _-_, _≤_, _<_}
 use mathlib.Core.Path.{_≡_, refl, ap, ap₂, sym, subst, _∙_}
 use mathlib.Core.Bool.{true}
-use mathlib.Core.List.{List, _++_, flatten}
+use mathlib.Core.List.{List, _++_}
 use native.Mathlib.Omega.{arith}
 use borrow.Rule.Slice.PartMut.{midOf, putMid}
 use lib.Ieee.{Float, nan}
 use lib.ListN.{length, getD, take}
 use lib.Seq.{getD-take, length-take-le}
 use Rattle.model.specs.Lists.{Distinct, listBelow, over}
-use Rattle.model.specs.Reference.{dasDennis}
 use Rattle.model.specs.Front.{listing}
 use Rattle.model.specs.Association.{Request, objectives, lineCount, dominance, idealOf, association, lineOf}
-use Rattle.model.specs.Kept.{wholeFronts, before, isSplit, splitFront, filled, selectedSplit, picks}
+use Rattle.model.specs.Kept.{before, isSplit, splitFront, filled, selectedSplit, picks}
 use Rattle.list_laws.proofs.Built.{listBelow-length, over-all, over-below}
 use Rattle.list_laws.proofs.Members.{getD-in}
-use Rattle.front_laws.proofs.Order.{listing-below, front-exactly}
+use Rattle.front_laws.proofs.Order.{listing-below}
 use Rattle.niching_laws.proofs.Association.{lineOf-inside}
-use Rattle.association_laws.specs.Request.{Pool, LinesIn, Associates}
-use Rattle.association_laws.proofs.Request.{lines-at}
+use Rattle.association_laws.specs.Request.{Pool, Associates}
 use Rattle.front_cut.specs.declared.Cut.{Cut}
 use Rattle.niching_array_laws.specs.Niche.{Splits, NichingSelects, picksOf}
-use Rattle.demand3_laws.proofs.Cut.{before-below, split-below}
+use Rattle.demand3_laws.proofs.Cut.{before-exactly, split-exactly}
 use Rattle.nsga3_laws.proofs.Agree.{picks-agree}
 use Rattle.list_laws.proofs.Built.{written-behind}
 use Rattle.nsga3.specs.Handed.{SortedPool, Hands}
@@ -32,10 +30,6 @@ module _ {r : Request} {keptRoom linesRoom : ℕ} {rows : List Float} {order : L
   pub pool-rows : (n : ℕ) → n ≡ r .count → Pool r rows n (objectives r)
   pool-rows n e = record { count = e; width = refl; values = λ p j h k. S .laid .values p j (omega (arith, e)) k }
 
-  pub table-lines : (table old : List Float) → table ≡ over (flatten (dasDennis (objectives r) (r .divisions))) old
-      → (k : ℕ) → k ≡ lineCount r → LinesIn r table k (objectives r)
-  table-lines table old h k g = lines-at r (objectives r) (r .divisions) k refl refl g (S .limits .wide) table old h
-
   -- ---- niching
 
   -- the plans of the order are the pool's
@@ -44,10 +38,6 @@ module _ {r : Request} {keptRoom linesRoom : ℕ} {rows : List Float} {order : L
       subst (λ x. x < r .count) (ap (λ l. getD l i 0) (sym (S .listed .listed)) ∙ getD-take (r .count) order i 0 h)
       (listing-below (dominance r) (r .count) (r .count) _ (getD-in (listing (dominance r) (r .count) (r .count)) i
       (omega (arith, ap length (S .listed .listed), length-take-le (r .count) order (S .listed .places)))))
-
-  split-distinct : Distinct (splitFront r)
-  unfolding splitFront
-  split-distinct = front-exactly (dominance r) (r .count) (wholeFronts r) .distinct
 
   -- ---- where the cut splits a front
 
@@ -73,7 +63,7 @@ module _ {r : Request} {keptRoom linesRoom : ℕ} {rows : List Float} {order : L
         plans = λ i h.
             let b = order-below i (omega (arith, h, S .listed .cut .within)) in
             (omega arith, omega arith, omega (arith, g, line-of (getD order i 0) b, lineOf-inside r (getD order i 0) (S .limits .someLines)));
-        different = subst Distinct (sym (S .listed .cut .waiting split)) split-distinct;
+        different = subst Distinct (sym (S .listed .cut .waiting split)) (split-exactly r .distinct);
         enough = omega (arith, S .listed .cut .exceeds split);
         room = free;
       }
@@ -84,7 +74,7 @@ module _ {r : Request} {keptRoom linesRoom : ℕ} {rows : List Float} {order : L
       picks-are =
           ap₂ (λ s t. picks (λ p. getD lines p 0) (λ p. getD distances p nan) k s t (r .size - c .whole) (r .state)) (S .listed .cut .listed) (S .listed .cut .waiting split)
           ∙ picks-agree (r .count) (S .limits .somePlans) (λ p. getD lines p 0) (lineOf r) (λ p. getD distances p nan) (λ p. association r p .distance) line-of distance-of k
-          (before r) (splitFront r) (before-below r) (split-below r) (r .size - c .whole) (r .state)
+          (before r) (splitFront r) (before-exactly r .below) (split-exactly r .below) (r .size - c .whole) (r .state)
           ∙ ap₂ (λ l w. picks (lineOf r) (λ p. association r p .distance) l (before r) (splitFront r) (r .size - w) (r .state)) g (S .listed .cut .whole)
 
       -- THE LAW: what the calls leave is handed out

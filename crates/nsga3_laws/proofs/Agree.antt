@@ -16,8 +16,8 @@ use Rattle.list_laws.proofs.Members.{tally-same, keep-same, in-keep, getD-in, b
 use Rattle.list_laws.proofs.Draws.{inTurn-same, drawAll-keeps}
 
 -- a list of draws below n is below n
-pub drawn-below : (n : ℕ) (next : ℕ → List ℕ → ℕ → Drawn ℕ) → ((i : ℕ) (l : List ℕ) (t : ℕ) → next i l t .value < n) → (k s : ℕ) → Below n (drawAll next k s .value)
-drawn-below n next each k s = drawAll-keeps next (λ i. Below n) s k (below-none n) (λ i l t u e h. below-snoc n l _ h (each i l t)) .1
+pub drawAll-below : (n : ℕ) (next : ℕ → List ℕ → ℕ → Drawn ℕ) → ((i : ℕ) (l : List ℕ) (t : ℕ) → next i l t .value < n) → (k s : ℕ) → Below n (drawAll next k s .value)
+drawAll-below n next each k s = drawAll-keeps next (λ i. Below n) s k (below-none n) (λ i l t u e h. below-snoc n l _ h (each i l t)) .1
 
 module _ (n : ℕ) (some : 0 < n) where
   -- ---- what is picked is below n
@@ -43,7 +43,7 @@ module _ (n : ℕ) (some : 0 < n) where
     pick-below picked s = member-below far _ _ _ (keep-below _ (waiting split picked) (keep-below _ split within))
 
     pub picks-below : (k s : ℕ) → Below n (picks line far lines before split k s .value)
-    picks-below k s = drawn-below n (λ place picked. pickOne line far lines before split picked) (λ i. pick-below) k s
+    picks-below k s = drawAll-below n (λ place picked. pickOne line far lines before split picked) (λ i. pick-below) k s
 
   -- ---- and looks at plans below n alone
 

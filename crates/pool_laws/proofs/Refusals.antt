@@ -11,7 +11,7 @@ use Rattle.model.specs.declared.Chosen.the-variants as chosen
 use Rattle.model.specs.Association.{Request}
 use Rattle.model.specs.PoolFile.{PoolFile, fileRequest, fileText}
 use Rattle.model.specs.Refusal.{check, firstOf, maxSize, badDirections, badSize, badDivisions, badCount, badPool, noRoom, selectRefusal, fileRefusal}
-use Rattle.demand3_laws.proofs.Accepted.{one-to-1024}
+use Rattle.demand3_laws.proofs.Passed.{one-to-1024}
 use Rattle.model.specs.Calls.{chooseBy}
 use Rattle.pool_laws.specs.Choice.{exit, textRefusal, textExit, requestText, roomy, orElse, listRefusal, listExit}
 

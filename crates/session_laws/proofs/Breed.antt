@@ -13,12 +13,13 @@ use Rattle.front_laws.proofs.Order.{listing-room}
 use Rattle.model.specs.Lists.{over}
 use Rattle.model.specs.Front.{listing}
 use Rattle.model.specs.Association.{Request, dominance}
-use Rattle.model.specs.Kept.{wholeFronts, before, isSplit, selectedWhole, selected}
-use Rattle.model.specs.Setting.{Operators, generation, generationOf, wordsOf}
+use Rattle.model.specs.Kept.{Selected, wholeFronts, before, isSplit, selectedWhole, selected}
+use Rattle.model.specs.Setting.{Operators, generation, wordsOf}
 use Rattle.model.specs.Session.{State, dimensionOf, breed, requestOf, operatorsOf}
 use Rattle.model.specs.Refusal.{goodIdeal, badParents}
 use Rattle.model.specs.Property.{SessionOk}
 use Rattle.list_laws.proofs.Checks.{good-ideal-length}
+use Rattle.demand3_laws.proofs.Calls.{generation-selects}
 use Rattle.candidate_laws.proofs.Sound.{AllHeld}
 use Rattle.candidate_laws.proofs.Generations.{generation-words}
 use Rattle.session_laws.proofs.Steps.{renewed-ok}
@@ -28,7 +29,7 @@ use Rattle.session_laws.proofs.Steps.{renewed-ok}
 module _ (r : Request) (whole : r .size ≡ r .count) where
   all-fronts : wholeFronts r ≡ r .count
   unfolding wholeFronts
-  all-fronts = firstBelow-nowhere _ (r .count) (λ k l. le-ltb (r .size) (length (listing (dominance r) (r .count) (suc k))) (omega (arith, listing-room (dominance r) (r .count) (suc k))))
+  all-fronts = firstBelow-nowhere (exceedsSize r) (r .count) (λ k l. le-ltb (r .size) _ (omega (arith, listing-room (dominance r) (r .count) (suc k))))
 
   -- splits no front
   pub whole-pool : isSplit r ≡ false
@@ -41,8 +42,7 @@ module _ (r : Request) (whole : r .size ≡ r .count) where
   whole-ideal = rw whole-pool
 
   pub generation-ideal : (o : Operators) → 2 ≤ r .count → generation o r .selection .ideal ≡ r .ideal
-  unfolding generation generationOf
-  generation-ideal o two = rw (le-ltb (r .count) 2 two) whole-ideal
+  generation-ideal o two = ap (λ (s : Selected). s .ideal) (generation-selects o r two) ∙ whole-ideal
 
 -- ---- breeding
 

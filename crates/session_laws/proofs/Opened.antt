@@ -2,7 +2,7 @@
 use Prim.Native.Nat.{ℕ, _≤_}
 use mathlib.Core.Path.{_≡_, refl, ap, _∙_, sym}
 use mathlib.Core.Bool.{true, false}
-use mathlib.Core.List.{List, [], _∷_, List·Memᴰ·head, List·Memᴰ·tail}
+use mathlib.Core.List.{List, [], _∷_}
 use mathlib.Core.Option.{Option, none, some}
 use native.Mathlib.Omega.{arith}
 use lib.Dec.{ltb}
@@ -12,8 +12,8 @@ use borrow.Author.Tests.{ltb-false, eq-eqb}
 use Rattle.list_laws.proofs.Bools.{or-right, and-both}
 use Rattle.list_laws.proofs.Tests.{allIn-every}
 use Rattle.list_laws.proofs.Built.{over-take, take-replicate}
-use Rattle.list_laws.proofs.Checks.{applies-not}
-use Rattle.demand3_laws.proofs.Accepted.{some-objectives}
+use Rattle.list_laws.proofs.Checks.{applies-at}
+use Rattle.demand3_laws.proofs.Passed.{some-objectives}
 use Rattle.model.specs.Lists.{firstBelow, allIn, allBelow}
 use Rattle.model.specs.Real.{infinity, unit}
 use Rattle.model.specs.Plan.{maxObjectives}
@@ -56,19 +56,19 @@ module _ (marks : List ℕ) (seed : ℕ) (size divisions : Option ℕ) (probabil
     (accepted : openRefusal marks size divisions probability crossoverEta mutationEta ≡ none) where
   pub directions-good : badDirections marks ≡ false
   unfolding openRefusal
-  directions-good = applies-not (List·Memᴰ·head refl) accepted
+  directions-good = applies-at _ 0 accepted
 
   size-good : badSessionSize size ≡ false
   unfolding openRefusal
-  size-good = applies-not (List·Memᴰ·tail (List·Memᴰ·head refl)) accepted
+  size-good = applies-at _ 1 accepted
 
   pub divisions-good : badSessionDivisions (length marks) size divisions ≡ false
   unfolding openRefusal
-  divisions-good = applies-not (List·Memᴰ·tail (List·Memᴰ·tail (List·Memᴰ·head refl))) accepted
+  divisions-good = applies-at _ 2 accepted
 
   operators-good : badOperators probability crossoverEta mutationEta ≡ false
   unfolding openRefusal
-  operators-good = applies-not (List·Memᴰ·tail (List·Memᴰ·tail (List·Memᴰ·tail (List·Memᴰ·head refl)))) accepted
+  operators-good = applies-at _ 3 accepted
 
   few-lines : ltb maxLines (pointCount (length marks) (divisionsOf (length marks) size divisions)) ≡ false
   unfolding badSessionDivisions

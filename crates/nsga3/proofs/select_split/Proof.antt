@@ -9,8 +9,9 @@ use lib.ListN.{length, replicate}
 use Rattle.model.specs.Calls.{wordRequest}
 use Rattle.model.specs.Association.{Request, objectives}
 use Rattle.association_laws.specs.Request.{Associates}
+use Rattle.association_laws.proofs.Request.{lines-at}
 use Rattle.list_laws.proofs.Rows.{few-values}
-use Rattle.nsga3.proofs.Splitting.{pool-rows, table-lines, splits, hands}
+use Rattle.nsga3.proofs.Splitting.{pool-rows, splits, hands}
 use Rattle.nsga3.proofs.select_split.Statement.{statement}
 use Rattle.nsga3.proofs.select_split.Tie as tie
 
@@ -27,7 +28,7 @@ associated c =
     let d = c .before .before .before .before .before .before .das-dennis in
     let e = c .before .before .before .before .before .before .before .before .plan-count .ensures in
     c .associate .ensures (request s)
-    (pool-rows (s .pre .0) _ e) (λ j h. refl) (table-lines (s .pre .0) _ _ (d .ensures .1) _ (d .ensures .0)) (d .ensures .0)
+    (pool-rows (s .pre .0) _ e) (λ j h. refl) (lines-at (request s) (s .pre .0 .limits .wide) _ (d .ensures .0) _ _ (d .ensures .1)) (d .ensures .0)
 
 plan-count-requires : tie.Need-plan-count-requires
 plan-count-requires c κs = tt

@@ -1,6 +1,6 @@
 -- `crowded`: each test in turn
 use mathlib.Core.Path.{sym, _∙_}
-use Rattle.demand3_laws.proofs.Accepted.{some-objectives}
+use Rattle.demand3_laws.proofs.Passed.{some-objectives}
 use Rattle.pool_laws.proofs.Crowded.{crowded-2, crowded-3, crowded-4, crowded-7}
 use borrow.Author.Needs.{needs}
 use Rattle.pool_parts.proofs.crowded.Statement.{statement}

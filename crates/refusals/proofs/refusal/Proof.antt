@@ -6,7 +6,7 @@ use lib.ListN.{drop}
 use Rattle.model.specs.Association.{Request}
 use Rattle.model.specs.Calls.{wordRequest}
 use Rattle.model.specs.Refusal.{Room, firstOf, badDirections, badCount, badPool, tooShort, noRoom, selectChecks, selectRefusal}
-use Rattle.demand3_laws.proofs.Accepted.{some-objectives}
+use Rattle.demand3_laws.proofs.Passed.{some-objectives}
 use Rattle.list_laws.proofs.Checks.{passed-over, applies-first}
 use borrow.Author.Needs.{needs}
 use Rattle.refusals.proofs.refusal.Statement.{statement}

@@ -4,7 +4,7 @@ use mathlib.Core.Bool.{false}
 use lib.ListN.{length}
 use Rattle.model.specs.Session.{given}
 use Rattle.model.specs.Refusal.{badDirections, badSessionSize, badSessionDivisions, badOperators}
-use Rattle.demand3_laws.proofs.Accepted.{some-objectives}
+use Rattle.demand3_laws.proofs.Passed.{some-objectives}
 use Rattle.session_opening.proofs.Opening.{refused-2, refused-3, refused-4, refused-5, ready}
 use Rattle.session_opening.proofs.open_refusal.Statement.{statement}
 use Rattle.session_opening.proofs.open_refusal.Tie as tie

@@ -1,7 +1,7 @@
 -- each part is as the definition has it
 use mathlib.Core.Path.{_∙_}
 use Rattle.session_opening.proofs.Opening.{opened-is}
-use Rattle.demand3_laws.proofs.Accepted.{some-objectives}
+use Rattle.demand3_laws.proofs.Passed.{some-objectives}
 use Rattle.session_opening.proofs.opened.Statement.{statement}
 use Rattle.session_opening.proofs.opened.Tie as tie
 
