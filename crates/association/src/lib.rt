@@ -5,11 +5,13 @@ use model::MAX_OBJECTIVES;
 use model::MAX_VALUES;
 use square_root;
 ghost use mathlib.Core.Path.{_≡_};
-ghost use Prim.Native.Nat.{ℕ, _+_, _*_, _<_, _≤_};
+ghost use Prim.Native.Nat.{ℕ, _+_, _*_, _<_, _≤_, min};
 ghost use lib.Ieee.{Float};
 ghost use lib.ListN.{length};
 ghost use Rattle.model.specs.Numbers.{sqrtOf};
+ghost use Rattle.model.specs.Plan.{maxObjectives};
 ghost use Rattle.model.specs.Association.{nearestOf, Request, lineCount};
+ghost use Rattle.model.specs.Refusal.{maxLines};
 ghost use Rattle.association_laws.specs.Flat.{NormsIn, distanceAt, NearestAll};
 ghost use Rattle.association_laws.specs.Search.{Square, Found};
 ghost use Rattle.association_laws.specs.Request.{Pool, StartIn, LinesIn, Associates};
@@ -114,9 +116,9 @@ fn nearest_lines(
     }
 }
 
-// So many, or all.
+// How many lines' r·r find room in an array of MAX_LINES.
 fn known_norms(n_lines: usize) -> usize
-    ensures { λ r. ⌜ (r ≤ «n_lines») × (r ≤ 1024) ⌝ }
+    ensures { λ r. ⌜ r ≡ min «n_lines» maxLines ⌝ }
 {
     if n_lines < MAX_LINES {
         n_lines
@@ -168,7 +170,7 @@ pub fn associate(
     lines: &mut [usize],
     distances: &mut [f64],
 )
-    requires { ⌜ (m ≤ 8) × (n * m ≤ 8192) × (n * m ≤ length (now rows)) × («n_lines» * m ≤ length (now table)) × (m ≤ length (now ideal))
+    requires { ⌜ (m ≤ maxObjectives) × (n * m ≤ 8192) × (n * m ≤ length (now rows)) × («n_lines» * m ≤ length (now table)) × (m ≤ length (now ideal))
         × (n ≤ length (now lines)) × (n ≤ length (now distances)) ⌝ }
     ensures { λ _. ⌜ ((r : Request) → Pool r (now (rows .entry)) n m → StartIn r (now (ideal .entry)) m → LinesIn r (now (table .entry)) «n_lines» m
         → «n_lines» ≡ lineCount r → Associates r n m (now (ideal .entry)) (now (ideal .exit)) (now (lines .entry)) (now (lines .exit))

@@ -14,7 +14,7 @@ use Rattle.float_laws.proofs.FromZero.{Upto, upto-within}
 use Rattle.float_laws.proofs.Magnitude.{Within, within-number, sub-within, mul-within, div-within, within-wider}
 use Rattle.real_laws.proofs.Roots.Monotone.{sqrt-mono, sqrt-from-zero}
 use Rattle.association_laws.proofs.Search.{distance-long}
-use Rattle.association_laws.proofs.Within.{Measured, normalised-unit}
+use Rattle.association_laws.proofs.Within.{Measurable, normalised-unit}
 use Rattle.association_laws.proofs.Squares.{squares-from-zero}
 use Rattle.float_laws.proofs.Sums.{product-unit, sum-within}
 use Rattle.association_laws.proofs.Coordinates.{sixtyFourth, usable}
@@ -62,7 +62,7 @@ module _ (m : ℕ) (few : m ≤ 8) (p r : ℕ → Float) (P : (j : ℕ) → j < 
 
 -- ---- a request
 
-module _ (r : Request) (M : Measured r) (wide : 1 ≤ objectives r) (narrow : objectives r ≤ 8) (some : 1 ≤ r .divisions) (few : r .divisions ≤ 199)
+module _ (r : Request) (M : Measurable r) (wide : 1 ≤ objectives r) (narrow : objectives r ≤ 8) (some : 1 ≤ r .divisions) (few : r .divisions ≤ 199)
     (p : ℕ) (h : p < r .count) where
   -- THEOREM: no distance is a NaN, and each is below infinity
   pub distanceTo-number : (l : ℕ) → l < lineCount r → (isNan (distanceTo r p l) ≡ false) × (lt (distanceTo r p l) infinity ≡ true)

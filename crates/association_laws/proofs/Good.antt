@@ -24,7 +24,7 @@ use Rattle.list_laws.proofs.Checks.{good-values, good-ideal-length, pool-plan, 
 use Rattle.front_laws.proofs.Plans.{in-words, words-accepted}
 use Rattle.float_laws.proofs.Constants.{exp2, minus-exp2}
 use Rattle.float_laws.proofs.Magnitude.{Within, neg-within}
-use Rattle.association_laws.proofs.Within.{Start, Measured}
+use Rattle.association_laws.proofs.Within.{Start, Measurable}
 
 -- ---- a value
 
@@ -75,7 +75,7 @@ good-start m ideal e h j l =
 
 -- THEOREM: a pool of words that refusal 8 lets pass is measured
 pub measured-words : (r : Request) (word : ℕ → ℕ → ℕ) → ((p : ℕ) → r .plans p ≡ planOf (word p)) → objectives r ≤ maxObjectives → badPool r ≡ false
-    → ((j : ℕ) → j < objectives r → T (fits binary64 (getD (r .ideal) j nan))) → Measured r
+    → ((j : ℕ) → j < objectives r → T (fits binary64 (getD (r .ideal) j nan))) → Measurable r
 measured-words r word same few pool held =
     let m = objectives r in
     record {

@@ -51,7 +51,7 @@ squares-fit m p r =
 from-nought : (s q : Float) → T (not (lt s nought)) → T (lt s q) → T (le nought s)
 from-nought s q h k = nlt→le s nought (lt-not-nan s q k .0) nought-not-nan h
 
-pub root-order : (x y : Float) → T (fits binary64 x) → T (fits binary64 y) → lt x y ≡ false → lt (sqrtOf x) (sqrtOf y) ≡ false
+root-order : (x y : Float) → T (fits binary64 x) → T (fits binary64 y) → lt x y ≡ false → lt (sqrtOf x) (sqrtOf y) ≡ false
 unfolding isNan
 root-order x y X Y h = by-bool (le nought x)
     (λ a. by-bool (le nought y)

@@ -1,20 +1,20 @@
 -- THEOREM: every normalised value lies within 0..1. Assumes nothing.
 use Prim.Native.Nat.{ℕ, _<_}
-use mathlib.Core.Path.{_≡_, refl, ap₂}
-use mathlib.Core.Bool.{true, not, _&&_}
+use mathlib.Core.Path.{_≡_, refl}
+use mathlib.Core.Bool.{true, not}
 use lib.Dec.{T, lit≤}
 use lib.Ieee.{Float, nan, inf, binary64, lt, le, ofBits, fits, isNan}
 use lib.Ieee.Fits.{inf-fits}
 use lib.ListN.{getD}
 use Rattle.model.specs.Real.{_⊖_, _⊘_, nought, unit, within, above}
 use Rattle.model.specs.Association.{Request, objectives, valueOf, idealOf, interceptOf, normalised, leastFrom, greatest, smallSpan, interceptFrom}
-use Rattle.list_laws.proofs.Bools.{by-bool, T-true, true-T, false-T}
+use Rattle.list_laws.proofs.Bools.{by-bool, and-both, T-true, true-T, false-T}
 use Rattle.float_laws.proofs.Order.{le-trans, lt-trans, le-not-nan, nlt→le}
 use Rattle.float_laws.proofs.Constants.{exp2, minus-exp2, one, one-number, nought-lt-one}
 use Rattle.float_laws.proofs.Constants as constants
 use Rattle.float_laws.proofs.Arithmetic.{itself}
 use Rattle.float_laws.proofs.FromZero.{Upto, upto-wider, sub-upto, share}
-use Rattle.float_laws.proofs.Magnitude.{Within, within-number, sub-within}
+use Rattle.float_laws.proofs.Magnitude.{Within, within-number, within-not-nan, sub-within}
 use Rattle.association_laws.proofs.Extremes.{Known, least-le, greatest-ge}
 use Rattle.list_laws.proofs.Best.{best-all}
 
@@ -32,7 +32,7 @@ module _ (b : Float) (f : ℕ → Float) (n : ℕ) (B : Start b) (F : (t : ℕ) 
   most = greatest f n
 
   known : (t : ℕ) → t < n → Known (f t)
-  known t l = le-not-nan (minus-exp2 1000) (f t) (F t l .low) .1
+  known t l = within-not-nan 1000 (f t) (F t l)
 
   least-below : T (le least (f p))
   least-below = least-le b f n (le-not-nan (minus-exp2 1000) b (B .low) .1) known p h
@@ -77,7 +77,7 @@ module _ (b : Float) (f : ℕ → Float) (n : ℕ) (B : Start b) (F : (t : ℕ) 
       let small = nlt→le smallSpan span tt (le-not-nan (f p ⊖ least) span (part .to) .1) l in
       share (f p ⊖ least) one (one-number binary64) (upto-wider span one (f p ⊖ least) (le-trans span smallSpan one small tt) part) nought-lt-one
 
-  pub normal-unit : Upto one ((f p ⊖ least) ⊘ interceptFrom span)
+  normal-unit : Upto one ((f p ⊖ least) ⊘ interceptFrom span)
   normal-unit = by-bool (lt smallSpan span)
       (λ e. rw e (wide (true-T (lt smallSpan span) e)))
       (λ e. rw e (narrow (false-T (lt smallSpan span) e)))
@@ -85,11 +85,11 @@ module _ (b : Float) (f : ℕ → Float) (n : ℕ) (B : Start b) (F : (t : ℕ) 
 -- ---- a request
 
 -- its values and the ideal that it starts from are within 2 ^ 1000; the ideal may be plus infinity
-pub record Measured (r : Request) : Type 0 where
+pub record Measurable (r : Request) : Type 0 where
   pub values : (p j : ℕ) → p < r .count → j < objectives r → Within 1000 (valueOf r p j)
   pub start : (j : ℕ) → j < objectives r → Start (getD (r .ideal) j nan)
 
-module _ (r : Request) (M : Measured r) (p j : ℕ) (h : p < r .count) (k : j < objectives r) where
+module _ (r : Request) (M : Measurable r) (p j : ℕ) (h : p < r .count) (k : j < objectives r) where
   pub normalised-unit : Upto one (normalised r p j)
   unfolding normalised idealOf interceptOf
   normalised-unit = normal-unit (getD (r .ideal) j nan) (λ q. valueOf r q j) (r .count) (M .start j k) (λ q l. M .values q j l k) p h
@@ -97,4 +97,4 @@ module _ (r : Request) (M : Measured r) (p j : ℕ) (h : p < r .count) (k : j < 
   -- THEOREM
   pub normalised-within : within nought unit (normalised r p j) ≡ true
   unfolding ofBits
-  normalised-within = ap₂ (λ a c. a && c) (T-true (le nought (normalised r p j)) (normalised-unit .from)) (T-true (le (normalised r p j) unit) (normalised-unit .to))
+  normalised-within = and-both _ _ (T-true (le nought (normalised r p j)) (normalised-unit .from)) (T-true (le (normalised r p j) unit) (normalised-unit .to))

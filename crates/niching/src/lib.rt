@@ -5,6 +5,7 @@ ghost use Prim.Native.Nat.{ℕ};
 ghost use lib.ListN.{length};
 ghost use Rattle.model.specs.Kept.{nicheCount};
 ghost use Rattle.niching_array_laws.specs.Niche.{lineIn, countOf, OnLines, Zeros, Ready, Took, Splits, NichingSelects};
+use model::MAX_LINES;
 use model::MAX_PLANS;
 use model::Rng;
 use rng_util::DrawnUsize;
@@ -73,9 +74,9 @@ pub fn niching_select(
 {
     let before = &order[..start];
     let front = &order[start..end];
-    let mut counts: [usize; MAX_PLANS] = [0; MAX_PLANS];
+    let mut counts: [usize; MAX_LINES] = [0; MAX_LINES];
     count_lines(before, lines, &mut counts);
-    let mut waits: [usize; MAX_PLANS] = [0; MAX_PLANS];
+    let mut waits: [usize; MAX_LINES] = [0; MAX_LINES];
     count_lines(front, lines, &mut waits);
     let mut taken: [bool; MAX_PLANS] = [false; MAX_PLANS];
     let mut rng = rng;

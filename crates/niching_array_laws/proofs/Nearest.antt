@@ -1,6 +1,6 @@
 -- The loop over the members of a line that keeps the nearest.
 use Prim.Native.Nat.{ℕ, _+_, _<_}
-use mathlib.Core.Path.{_≡_, refl, ap, ap₂, sym, _∙_}
+use mathlib.Core.Path.{_≡_, refl, ap, sym, _∙_}
 use mathlib.Core.Bool.{Bool, true, false, cond, _&&_}
 use mathlib.Core.List.{List, [], _∷_, _++_}
 use native.Mathlib.Omega.{arith}
@@ -8,7 +8,7 @@ use lib.Ieee.{Float, lt}
 use lib.ListN.{length, length-append}
 use Rattle.model.specs.Lists.{keepBelow}
 use Rattle.model.specs.Kept.{nearest}
-use Rattle.list_laws.proofs.Bools.{by-bool, by-cond, and-no}
+use Rattle.list_laws.proofs.Bools.{by-bool, by-cond, and-both, and-no}
 use Rattle.list_laws.proofs.Kept.{keepBelow-more, keepBelow-no}
 use Rattle.niching_array_laws.specs.Niche.{waitsOn, placeDistance, nearerOf, Passes, Kth}
 use Rattle.niching_array_laws.proofs.Places.{first-only, nearest-snoc, nearest-one}
@@ -17,7 +17,7 @@ use Rattle.niching_array_laws.proofs.Places.{first-only, nearest-snoc, 
 module _ (front lines : List ℕ) (distances : List Float) (taken : List Bool) (l best i : ℕ) where
   pub nearer-yes : {waits : Bool} → waits ≡ waitsOn front lines taken l i → waits ≡ true
       → lt (placeDistance front distances i) (placeDistance front distances best) ≡ true → i ≡ nearerOf front lines distances taken l best i
-  nearer-yes e v w = ap (λ a. cond a i best) (sym (ap₂ (λ a b. a && b) (sym e ∙ v) w))
+  nearer-yes e v w = ap (λ a. cond a i best) (sym (and-both _ _ (sym e ∙ v) w))
 
   pub nearer-far : lt (placeDistance front distances i) (placeDistance front distances best) ≡ false
       → best ≡ nearerOf front lines distances taken l best i

@@ -42,7 +42,7 @@ occ-map f q (x ∷ l) = ap (λ t. one (eqb (f x) q) + t) (occ-map f q l)
 
 -- ---- the k-th
 
-pub kth-at : (f : ℕ → Bool) (n r : ℕ) → r < n → f r ≡ true → getD (keepBelow f n) (countBelow f r) 0 ≡ r
+kth-at : (f : ℕ → Bool) (n r : ℕ) → r < n → f r ≡ true → getD (keepBelow f n) (countBelow f r) 0 ≡ r
 unfolding keepBelow
 kth-at f zero r h e = absurd (not-suc-le-zero h)
 kth-at f (suc n) r h e =

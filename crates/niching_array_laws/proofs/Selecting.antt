@@ -8,6 +8,7 @@ use lib.Ieee.{Float}
 use lib.ListN.{length, set, take, drop, replicate, length-drop}
 use lib.Seq.{getD-take, getD-drop, length-take-le}
 use Rattle.model.specs.Lists.{over}
+use Rattle.model.specs.Refusal.{maxSize, maxLines}
 use Rattle.model.specs.Draw.{Drawn, drawn, inTurn}
 use Rattle.model.specs.Kept.{nicheCount, pickOne, picks}
 use Rattle.list_laws.proofs.Draws.{drawAll-length}
@@ -28,8 +29,8 @@ pub record Selecting (before front lines : List ℕ) (distances : List Float) (n
 
 pub selecting-first : (before front lines : List ℕ) (distances : List Float) (n s : ℕ) (old counts waits : List ℕ)
     → ((l : ℕ) → countOf counts l ≡ nicheCount (lineIn lines) before l) → ((l : ℕ) → countOf waits l ≡ nicheCount (lineIn lines) front l)
-    → length counts ≡ 1024 → length waits ≡ 1024
-    → Selecting before front lines distances n s old 0 counts waits (replicate 1024 false) old s
+    → length counts ≡ maxLines → length waits ≡ maxLines
+    → Selecting before front lines distances n s old 0 counts waits (replicate maxSize false) old s
 unfolding inTurn
 selecting-first before front lines distances n s old counts waits a b c d = record {
   holds = holds-first before front lines counts waits a b c d;
@@ -69,20 +70,20 @@ module _ {order : List ℕ} {start end : ℕ} {lines : List ℕ} {distances : Li
   pub before-length : length (take start order) ≡ start
   before-length = length-take-le start order (omega (arith, h .ahead, h .inside))
 
-  -- both have lines, for which 1,024 counts suffice
-  pub before-lines : OnLines (take start order) lines 1024
+  -- both have lines, for which an entry a line suffices
+  pub before-lines : OnLines (take start order) lines maxLines
   before-lines i u =
       let v : i < start = omega (arith, before-length) in
       let q = h .plans i (omega (arith, h .ahead)) in
       rw (before-at i v) (q .0, omega (arith, q .2, h .narrow))
 
-  pub front-lines : OnLines (take (end - start) (drop start order)) lines n
+  front-lines : OnLines (take (end - start) (drop start order)) lines n
   front-lines i u =
       let v : i < end - start = omega (arith, front-length) in
       let q = h .plans (start + i) (omega arith) in
       rw (front-at i v) (q .0, q .2)
 
-  pub front-counts : OnLines (take (end - start) (drop start order)) lines 1024
+  pub front-counts : OnLines (take (end - start) (drop start order)) lines maxLines
   front-counts i u = let q = front-lines i u in (q .0, omega (arith, q .1, h .narrow))
 
   pub given : Given (take start order) (take (end - start) (drop start order)) lines distances n
@@ -110,5 +111,5 @@ selecting-done {order} {start} {end} {lines} {distances} {n} {s} {old} places e 
 }
 
 -- an array of zeros
-pub no-counts : Zeros (replicate 1024 0)
-no-counts l = replicate-at {A = ℕ} 0 1024 l
+pub no-counts : Zeros (replicate maxLines 0)
+no-counts l = replicate-at {A = ℕ} 0 maxLines l

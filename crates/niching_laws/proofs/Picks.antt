@@ -50,7 +50,7 @@ module _ (distance : ℕ → Float) {before front : List ℕ} {line : ℕ → �
       }
 
   -- with no more open places than the front has plans, `picks` is a run
-  pub picks-run : (n s : ℕ) → n ≤ length front → Run before front line n (picks line distance lines before front n s .value)
+  picks-run : (n s : ℕ) → n ≤ length front → Run before front line n (picks line distance lines before front n s .value)
   picks-run n s h =
       drawAll-keeps (λ place picked. pickOne line distance lines before front picked) (λ k picked. Run before front line k picked) s n start
       (λ k picked t u e r. next r (pick-of picked _ (pickOne-chosen t picked (omega arith)))) .1

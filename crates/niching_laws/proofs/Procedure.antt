@@ -146,7 +146,7 @@ module _ (distance : ℕ → Float) {before front : List ℕ} {line : ℕ → �
 -- distances by which no candidate is nearer that was not nearer before serve as well
 module _ {before front : List ℕ} {line : ℕ → ℕ} {distance : ℕ → Float} {lines : ℕ} (other : ℕ → Float)
     (weaker : (p q : ℕ) → lt (distance q) (distance p) ≡ false → lt (other q) (other p) ≡ false) where
-  pub reached-other : {excluded picked : List ℕ} → Reached before front line distance lines excluded picked → Reached before front line other lines excluded picked
+  reached-other : {excluded picked : List ℕ} → Reached before front line distance lines excluded picked → Reached before front line other lines excluded picked
   reached-other start = start
   reached-other (exclude r l none) = exclude (reached-other r) l none
   reached-other (pickNearest {p = p} r l z c nearest) =

@@ -21,7 +21,7 @@ module _ (line : ℕ → ℕ) (ps : List ℕ) (p : ℕ) where
   pub count-other : (l : ℕ) → line p ≢ l → nicheCount line (ps ++ (p ∷ [])) l ≡ nicheCount line ps l
   count-other l e = omega (arith, tally-snoc (λ (q : ℕ). eqb (line q) l) ps p, ap one (ne-eqb (line p) l e))
 
-  pub count-grows : (l : ℕ) → nicheCount line ps l ≤ nicheCount line (ps ++ (p ∷ [])) l
+  count-grows : (l : ℕ) → nicheCount line ps l ≤ nicheCount line (ps ++ (p ∷ [])) l
   count-grows l = omega (arith, tally-snoc (λ (q : ℕ). eqb (line q) l) ps p)
 
 module _ {before front : List ℕ} {line : ℕ → ℕ} where

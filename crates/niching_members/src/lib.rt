@@ -87,7 +87,7 @@ fn nearest_member(
     best
 }
 
-// One of the `waiting` members of line l: at niche count 0 the nearest, else one drawn in listed order.
+// The place of one of the `waiting` members of line l: at niche count 0 the nearest, else one drawn in listed order.
 pub fn choose_member(
     rng: Rng,
     front: &[usize],

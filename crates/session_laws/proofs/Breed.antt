@@ -11,9 +11,8 @@ use borrow.Author.Tests.{le-ltb}
 use Rattle.list_laws.proofs.First.{firstBelow-nowhere}
 use Rattle.front_laws.proofs.Order.{listing-room}
 use Rattle.model.specs.Lists.{over}
-use Rattle.model.specs.Front.{listing}
 use Rattle.model.specs.Association.{Request, dominance}
-use Rattle.model.specs.Kept.{Selected, wholeFronts, before, isSplit, selectedWhole, selected}
+use Rattle.model.specs.Kept.{Selected, exceedsSize, wholeFronts, before, isSplit, selectedWhole, selected}
 use Rattle.model.specs.Setting.{Operators, generation, wordsOf}
 use Rattle.model.specs.Session.{State, dimensionOf, breed, requestOf, operatorsOf}
 use Rattle.model.specs.Refusal.{goodIdeal, badParents}

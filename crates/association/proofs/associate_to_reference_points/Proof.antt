@@ -1,4 +1,5 @@
 -- the norms that are worked out are those of the lines that the table holds
+use Prim.Native.Nat.{_≤_}
 use native.Mathlib.Omega.{arith}
 use native.Mathlib.Nat.{mul-le-mul-right}
 use mathlib.Core.Path.{refl}
@@ -16,9 +17,9 @@ slice-aggregate-line-norms c = refl
 
 line-norms-requires : tie.Need-line-norms-requires
 line-norms-requires c κs =
-    let k = c .before .known-norms .ensures in
-    let e = c .before .before .before .before .before .before in
-    (omega (arith, mul-le-mul-right (e .args .m) (k .0)), omega arith)
+    let e = c .before .before .before .before .before .before .args in
+    let k : c .before .known-norms .result ≤ e .n-lines = omega arith in
+    (omega (arith, mul-le-mul-right (e .m) k), omega arith)
 
 slice-aggregate-nearest-lines : tie.Need-slice-aggregate-nearest-lines
 slice-aggregate-nearest-lines c = search needs

@@ -1,6 +1,6 @@
 -- the first `at` open places are filled, and the arrays hold what that leaves
 use Prim.Native.Nat.{_-_, _≤_}
-use mathlib.Core.Path.{_≡_, sym}
+use mathlib.Core.Path.{_≡_, refl, sym}
 use lib.ListN.{take}
 use Rattle.niching_array_laws.proofs.Selecting.{Selecting, selecting-first, selecting-ready, selecting-more, before-lines, front-counts, given, enough-members, no-counts, before-length, selecting-done}
 use native.Mathlib.Omega.{arith}
@@ -31,13 +31,13 @@ part-front-end : tie.Need-part-front-end Inv-loop μ-loop
 part-front-end c = omega arith
 
 slice-aggregate-count-lines : tie.Need-slice-aggregate-count-lines Inv-loop μ-loop
-slice-aggregate-count-lines c = omega arith
+slice-aggregate-count-lines c = refl
 
 count-lines-requires : tie.Need-count-lines-requires Inv-loop μ-loop
 count-lines-requires c κs = (before-lines (c .before .before .before .before .before .before .before .pre), no-counts)
 
 slice-aggregate-count-lines-2 : tie.Need-slice-aggregate-count-lines-2 Inv-loop μ-loop
-slice-aggregate-count-lines-2 c = omega arith
+slice-aggregate-count-lines-2 c = refl
 
 count-lines-requires-2 : tie.Need-count-lines-requires-2 Inv-loop μ-loop
 count-lines-requires-2 c κs = (front-counts (c .before .before .before .before .before .before .before .before .before .before .pre), no-counts)
@@ -49,13 +49,13 @@ loop-holds c =
     (omega arith, selecting-first _ _ _ _ _ _ _ _ _ (b .ensures) (f .ensures) (b .kept .1 .1 .0) (f .kept .1 .1 .0))
 
 slice-aggregate-pick : tie.Need-slice-aggregate-pick Inv-loop μ-loop
-slice-aggregate-pick c = omega arith
+slice-aggregate-pick c = sym (c .before .before .loop .inv .1 .holds .sizes .0)
 
 slice-aggregate-pick-2 : tie.Need-slice-aggregate-pick-2 Inv-loop μ-loop
-slice-aggregate-pick-2 c = omega arith
+slice-aggregate-pick-2 c = sym (c .before .before .before .loop .inv .1 .holds .sizes .1)
 
 slice-aggregate-pick-3 : tie.Need-slice-aggregate-pick-3 Inv-loop μ-loop
-slice-aggregate-pick-3 c = omega arith
+slice-aggregate-pick-3 c = sym (c .before .before .before .before .loop .inv .1 .holds .sizes .2)
 
 pick-requires : tie.Need-pick-requires Inv-loop μ-loop
 pick-requires c κs =
