@@ -9,11 +9,11 @@ include!("common.rs");
 use std::hint::black_box;
 use std::ops::Range;
 
+use distribution::Distribution;
 use mix::Mix;
 use multi_objective::MultiObjectiveSampler;
 use param::ParamValue;
 use plans::{choices, float, int, setting_words};
-use sampler::nsga3::Nsga3Sampler;
 use sampler::{genetic, nsga3};
 use session::Session;
 use words::bits;
@@ -182,8 +182,11 @@ fn row(m: usize, shares: &[f64]) -> Vec<f64> {
     row
 }
 
+/// A dimension.
+type Words = [u64; raw::DIMENSION_WORDS];
+
 /// A call of the static library: kind and word of the setting.
-fn sample(session: &mut raw::Session, dimensions: &[[u64; 6]], call: &Asked, history: &[u64]) -> Result<[u64; 2], u64> {
+fn sample(session: &mut raw::Session, dimensions: &[Words], call: &Asked, history: &[u64]) -> Result<[u64; 2], u64> {
     let history = &history[call.history.start * raw::PLAN_WORDS..call.history.end * raw::PLAN_WORDS];
     session.sample(&dimensions[call.dimension], call.plan, history, raw::CANDIDATE_WORDS)
 }
@@ -192,7 +195,7 @@ fn sample(session: &mut raw::Session, dimensions: &[[u64; 6]], call: &Asked, his
 /// generator, generation and number of plans are the same.
 fn records(opening: &Opening, calls: &[Asked]) -> Option<Vec<Plan>> {
     let dimensions = dimensions();
-    let words: Vec<[u64; 6]> = dimensions.iter().map(dimension_words).collect();
+    let words: Vec<Words> = dimensions.iter().map(dimension_words).collect();
     let mut ours = open(opening, raw::SESSION_WORDS).ok()?;
     let mut theirs = Session::open(opening).ok()?;
     let (mut records, mut history, mut settings, mut start) = (vec![], vec![], vec![], 0);
@@ -230,27 +233,21 @@ fn round(stretches: &[&[Asked]], least: &mut [f64], mut sample: impl FnMut(&Aske
     }
 }
 
-/// The Rust's sampler of a session.
-fn rust_session(opening: &Opening) -> (Nsga3Sampler, Vec<Direction>) {
-    let Opening { size, divisions, probability, crossover_eta, mutation_eta, seed, .. } = *opening;
-    let sampler = session::sampler(size, divisions, probability, crossover_eta, mutation_eta, seed);
-    (sampler, plans::directions(&opening.marks))
-}
-
 /// Times a session whose answers agreed. Both sides' ns for each stretch, or
 /// none where a timed round ends elsewhere than the other side's.
 fn timed_session(opening: &Opening, stretches: &[&[Asked]], records: &[Plan]) -> Option<[Vec<f64>; 2]> {
     let dimensions = dimensions();
     let trials: Vec<MultiObjectiveTrial> = records.iter().map(Plan::trial).collect();
     let history = laid_out(records);
-    let words: Vec<[u64; 6]> = dimensions.iter().map(dimension_words).collect();
+    let words: Vec<Words> = dimensions.iter().map(dimension_words).collect();
+    let directions = plans::directions(&opening.marks);
     let mut least = [(); 2].map(|_| vec![f64::INFINITY; stretches.len()]);
     for _ in 0..SESSION_ROUNDS {
         let mut ours = open(opening, raw::SESSION_WORDS).ok()?;
         round(stretches, &mut least[0], |call| {
             let _ = black_box(sample(&mut ours, &words, call, &history));
         });
-        let (sampler, directions) = rust_session(opening);
+        let sampler = opening.sampler();
         round(stretches, &mut least[1], |call| {
             let dimension = &dimensions[call.dimension];
             black_box(sampler.sample(dimension, call.plan, &trials[call.history.clone()], &directions));

@@ -39,14 +39,12 @@ mod types;
 mod words;
 
 use answers::Call;
-use distribution::Distribution;
 use multi_objective::MultiObjectiveTrial;
-use plans::Plan;
+use plans::{Plan, dimension_words};
 use sampler::nsga3::Nsga3State;
 use session::Opening;
 use timing::ns;
 use types::Direction;
-use words::{of_int, of_real};
 
 fn laid_out(plans: &[Plan]) -> Vec<u64> {
     let words = |plan: &Plan| {
@@ -54,20 +52,6 @@ fn laid_out(plans: &[Plan]) -> Vec<u64> {
         raw::plan_words(plan.number, &plan.values, &plan.constraints, &settings)
     };
     plans.iter().flat_map(words).collect()
-}
-
-fn dimension_words(dimension: &Distribution) -> [u64; raw::DIMENSION_WORDS] {
-    match dimension {
-        Distribution::Float(d) => {
-            let marks = [d.log_scale, d.step.is_some()].map(u64::from);
-            [0, of_real(d.low), of_real(d.high), marks[0], marks[1], of_real(d.step.unwrap_or(0.0))]
-        }
-        Distribution::Int(d) => {
-            let marks = [d.log_scale, d.step.is_some()].map(u64::from);
-            [1, of_int(d.low), of_int(d.high), marks[0], marks[1], of_int(d.step.unwrap_or(0))]
-        }
-        Distribution::Categorical(d) => [2, d.n_choices as u64, 0, 0, 0, 0],
-    }
 }
 
 fn direction_bytes(marks: &[u64]) -> Vec<u8> {
@@ -102,7 +86,7 @@ impl Proved {
             divisions: call.divisions as usize,
             size: call.size as usize,
             dimensions: call.dimensions.iter().flat_map(dimension_words).collect(),
-            operators: [call.probability, call.crossover_eta, call.mutation_eta],
+            operators: call.operators.reals(),
             state: call.state,
             ideal: call.ideal.clone(),
             kept: vec![0; room],
@@ -144,8 +128,7 @@ impl Proved {
 fn open(opening: &Opening, session_words: usize) -> Result<raw::Session, u64> {
     let directions = direction_bytes(&opening.marks);
     let [size, divisions] = [opening.size, opening.divisions].map(|n| n.map(|n| n as usize));
-    let operators = [opening.probability, opening.crossover_eta, opening.mutation_eta];
-    raw::Session::open(&directions, opening.seed, size, divisions, operators, session_words)
+    raw::Session::open(&directions, opening.seed, size, divisions, opening.operators.reals(), session_words)
 }
 
 /// Generator, generation and number of plans.
@@ -153,36 +136,25 @@ fn report(session: &raw::Session) -> [u64; 3] {
     [raw::SESSION_STATE, raw::SESSION_GENERATION, raw::SESSION_PLAN_COUNT].map(|at| session.words()[at])
 }
 
-/// The Rust's state before a selection or step, with its population and directions, and that of the static library.
-type Both<'a> = (&'a mut Nsga3State, &'a [&'a MultiObjectiveTrial], &'a [Direction], &'a mut Proved);
-
-fn with_both<T>(call: &Call, run: impl FnOnce(Both) -> T) -> T {
-    let trials: Vec<MultiObjectiveTrial> = call.pool.iter().map(Plan::trial).collect();
-    let population: Vec<&MultiObjectiveTrial> = trials.iter().collect();
-    let sampler = session::sampler(None, None, call.probability, call.crossover_eta, call.mutation_eta, call.state);
-    let mut state = sampler.state.lock();
-    answers::prepare(&mut state, call);
-    let mut proved = Proved::of(call);
-    run((&mut state, &population, &plans::directions(&call.marks), &mut proved))
-}
-
-/// ns of the static library's call and of the Rust's, which are made by turns: each the least of the rounds.
+/// ns of the static library's call and of the Rust's, by turns.
 fn timed(
     call: &Call,
     rounds: usize,
     proved: impl Fn(&mut Proved),
     rust: impl Fn(&mut Nsga3State, &[&MultiObjectiveTrial], &[Direction]),
 ) -> [f64; 2] {
-    with_both(call, |(state, population, directions, ours)| {
-        let mut least = [f64::INFINITY; 2];
-        for _ in 0..rounds {
+    let mut ours = Proved::of(call);
+    answers::with_state(call, |state, population, directions| {
+        let proved = || {
             ours.state = call.state;
             ours.ideal.clone_from(&call.ideal);
-            least[0] = least[0].min(ns(|| proved(ours)));
+            ns(|| proved(&mut ours))
+        };
+        let rust = || {
             state.evo.rng = fastrand::Rng::with_seed(call.state);
             state.ideal_point.clone_from(&call.ideal);
-            least[1] = least[1].min(ns(|| rust(state, population, directions)));
-        }
-        least
+            ns(|| rust(state, population, directions))
+        };
+        timing::by_turns(rounds, proved, rust)
     })
 }

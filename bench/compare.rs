@@ -114,12 +114,8 @@ fn push_whole(out: &mut Vec<u64>, session: &raw::Session) {
     let dimensions = &words[raw::SESSION_DIMENSIONS..][..n * raw::DIMENSION_WORDS];
     out.extend([raw::SESSION_ACTIVE, raw::SESSION_HAS_FIRST, raw::SESSION_FIRST].map(|at| words[at]));
     out.push(n as u64);
-    for d in dimensions.chunks(raw::DIMENSION_WORDS) {
-        match d[0] {
-            0 => out.extend([0, d[1], d[2]]),
-            1 => out.extend([1, d[1], d[2], d[5]]),
-            _ => out.extend([2, d[1]]),
-        }
+    for &dimension in dimensions.as_chunks().0 {
+        plans::write_words(out, dimension);
     }
     let (plans, next_dims) = session.plans();
     out.extend([if active { words[raw::SESSION_SIZE] } else { 0 }, plans.len() as u64]);

@@ -75,7 +75,7 @@ fn once(inputs: &[f64], passes: usize, f: &mut impl FnMut(f64) -> f64) -> f64 {
     })
 }
 
-/// Times two functions by turns and prints the time of a call, the least of the rounds.
+/// Times two functions and prints the time of a call.
 fn timed(
     name: &str,
     inputs: &[f64],
@@ -83,11 +83,11 @@ fn timed(
     mut proved: impl FnMut(f64) -> f64,
     mut rust: impl FnMut(f64) -> f64,
 ) {
-    let (mut ours, mut theirs) = (f64::INFINITY, f64::INFINITY);
-    for _ in 0..ROUNDS {
-        ours = ours.min(once(inputs, passes, &mut proved));
-        theirs = theirs.min(once(inputs, passes, &mut rust));
-    }
+    let [ours, theirs] = timing::by_turns(
+        ROUNDS,
+        || once(inputs, passes, &mut proved),
+        || once(inputs, passes, &mut rust),
+    );
     let calls = (passes * inputs.len()) as f64;
     let [ours, theirs, ratio] = timing::beside(ours / calls, theirs / calls);
     timing::row(&[name, &ours, &theirs, &ratio]);

@@ -82,11 +82,11 @@ fn compared(n: usize, m: usize, many: bool, mix: &mut Mix) -> bool {
 /// One selection by one side.
 fn one(side: &str, n: usize, m: usize) {
     let call = selection(n, m, true, &mut Mix(1));
-    with_both(&call, |(state, population, directions, ours)| match side {
-        "proved" => proved_select(ours),
-        "rust" => rust_select(state, population, directions),
+    match side {
+        "proved" => proved_select(&mut Proved::of(&call)),
+        "rust" => answers::with_state(&call, rust_select),
         _ => panic!("the sides are proved and rust"),
-    });
+    }
 }
 
 fn main() {

@@ -10,6 +10,16 @@ pub fn ns(run: impl FnOnce()) -> f64 {
     start.elapsed().as_nanos() as f64
 }
 
+/// The least time of each of two runs, made by turns.
+pub fn by_turns(rounds: usize, mut proved: impl FnMut() -> f64, mut rust: impl FnMut() -> f64) -> [f64; 2] {
+    let mut least = [f64::INFINITY; 2];
+    for _ in 0..rounds {
+        least[0] = least[0].min(proved());
+        least[1] = least[1].min(rust());
+    }
+    least
+}
+
 pub fn head(columns: &[&str]) {
     row(columns);
     println!("|{}", "---|".repeat(columns.len()));

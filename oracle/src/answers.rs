@@ -9,7 +9,9 @@ use crate::plans::{self, Plan};
 use crate::powers;
 use crate::refusals;
 use crate::rng_util;
+use crate::sampler::nsga3::Nsga3State;
 use crate::sampler::{common, genetic, nsga3};
+use crate::session::{Opening, Operators};
 use crate::types::Direction;
 use crate::words::{Reader, bits, of_int, of_real, push_counted_reals, push_reals};
 use crate::{pool_file, session};
@@ -87,31 +89,21 @@ pub fn answer(input: &[u64]) -> Result<Vec<u64>, String> {
         }
 
         // Objective row
-        30 => {
+        30 | 31 => {
             let directions = plans::read_directions(r)?;
-            let (x, y) = (r.reals(directions.len())?, r.reals(directions.len())?);
-            let answer = pareto::dominates(&x, &y, &directions);
+            let m = directions.len();
+            let (x, y) = (r.reals(m)?, r.reals(m)?);
             // Selection compares rows in minimise-space; both ways agree.
-            let (x, y) = (minimize(&x, &directions), minimize(&y, &directions));
-            assert_eq!(
-                answer,
-                pareto::dominates(&x, &y, &all_minimize(directions.len()))
-            );
-            a.push(answer as u64);
-        }
-        31 => {
-            let directions = plans::read_directions(r)?;
-            let (x, y) = (r.reals(directions.len())?, r.reals(directions.len())?);
-            let x_constraints = r.counted(Reader::real)?;
-            let y_constraints = r.counted(Reader::real)?;
-            let (x, y) = (minimize(&x, &directions), minimize(&y, &directions));
-            let answer = pareto::constrained_dominates(
-                &x,
-                &y,
-                &x_constraints,
-                &y_constraints,
-                &all_minimize(directions.len()),
-            );
+            let minimised = all_minimize(m);
+            let (u, v) = (minimize(&x, &directions), minimize(&y, &directions));
+            let dominates = pareto::dominates(&x, &y, &directions);
+            assert_eq!(dominates, pareto::dominates(&u, &v, &minimised));
+            let answer = if command == 30 {
+                dominates
+            } else {
+                let (cu, cv) = (r.counted(Reader::real)?, r.counted(Reader::real)?);
+                pareto::constrained_dominates(&u, &v, &cu, &cv, &minimised)
+            };
             a.push(answer as u64);
         }
         32 => {
@@ -155,15 +147,12 @@ pub fn answer(input: &[u64]) -> Result<Vec<u64>, String> {
             }
         }
         54 => {
-            let (m, h) = (positive(r)?, r.count()?);
-            if m > 8 || refusals::bad_divisions(m, h as u64) {
-                return Err("m is not 1 to 8, or divisions turned down with 4".to_string());
-            }
+            let (m, h) = fit_divisions(r)?;
             let points = genetic::das_dennis(m, h);
             // Every coordinate in its place goes into one number.
             let digest = points.iter().flatten().fold(0_u64, |digest, &x| {
                 digest
-                    .wrapping_mul(6364136223846793005)
+                    .wrapping_mul(fastrand::MULTIPLIER)
                     .wrapping_add(of_real(x))
             });
             a.extend([points.len() as u64, digest]);
@@ -178,16 +167,19 @@ pub fn answer(input: &[u64]) -> Result<Vec<u64>, String> {
         }
         53 => {
             let marks = plans::read_marks(r)?;
-            let (size, divisions) = (r.optional()?, r.optional()?);
-            let refused = refusals::lowest(&refusals::opening(&marks, size, divisions));
+            let opening = Opening {
+                marks,
+                ..Opening::new(0, r.optional()?, r.optional()?, 0)
+            };
+            let refused = refusals::lowest(&refusals::opening(&opening));
             a.push(refused.unwrap_or(0));
             if refused.is_none() {
-                let sampler = session::sampler(size, divisions, 1.0, 30.0, 20.0, 0);
+                let sampler = opening.sampler();
                 let mut state = sampler.state.lock();
-                nsga3::initialize_nsga3(&mut state, &plans::directions(&marks));
-                let h = divisions.unwrap_or_else(|| {
-                    let target = size.unwrap_or(100) as usize;
-                    genetic::auto_divisions(marks.len(), target) as u64
+                nsga3::initialize_nsga3(&mut state, &plans::directions(&opening.marks));
+                let h = opening.divisions.unwrap_or_else(|| {
+                    let target = opening.size.unwrap_or(100) as usize;
+                    genetic::auto_divisions(opening.marks.len(), target) as u64
                 });
                 a.extend([h, state.reference_points.len() as u64]);
                 a.push(state.evo.population_size as u64);
@@ -209,10 +201,7 @@ pub fn answer(input: &[u64]) -> Result<Vec<u64>, String> {
             }
         }
         61 => {
-            let (m, h) = (positive(r)?, positive(r)?);
-            if refusals::bad_divisions(m, h as u64) || m > 8 {
-                return Err("too many lines".to_string());
-            }
+            let (m, h) = fit_divisions(r)?;
             let rows = r.counted(|r| r.reals(m))?;
             let table = genetic::das_dennis(m, h);
             for (line, distance) in nsga3::associate_to_reference_points(&rows, &table) {
@@ -227,18 +216,13 @@ pub fn answer(input: &[u64]) -> Result<Vec<u64>, String> {
 
         // Kept list
         SELECT => {
-            let call = Call::read(command, r)?;
-            match call.refused(command) {
-                Some(number) => a.push(number),
-                None => {
-                    let kept = select(&call);
-                    a.push(0);
-                    push_list(&mut a, &kept.list);
-                    a.extend(kept.fronts.iter().map(|&front| front as u64));
-                    a.extend(&kept.lines);
-                    push_reals(&mut a, &kept.ideal);
-                    a.push(kept.state);
-                }
+            if let Some(call) = accepted(command, r, &mut a)? {
+                let kept = select(&call);
+                push_list(&mut a, &kept.list);
+                a.extend(kept.fronts.iter().map(|&front| front as u64));
+                a.extend(&kept.lines);
+                push_reals(&mut a, &kept.ideal);
+                a.push(kept.state);
             }
         }
 
@@ -305,20 +289,15 @@ pub fn answer(input: &[u64]) -> Result<Vec<u64>, String> {
             a.extend([winner as u64, rng.s]);
         }
         STEP => {
-            let call = Call::read(command, r)?;
-            match call.refused(command) {
-                Some(number) => a.push(number),
-                None => {
-                    let bred = step(&call);
-                    a.push(0);
-                    push_list(&mut a, &bred.kept);
-                    push_reals(&mut a, &bred.ideal);
-                    a.push(bred.offspring.len() as u64);
-                    for child in &bred.offspring {
-                        push_settings(&mut a, child);
-                    }
-                    a.push(bred.state);
+            if let Some(call) = accepted(command, r, &mut a)? {
+                let bred = step(&call);
+                push_list(&mut a, &bred.kept);
+                push_reals(&mut a, &bred.ideal);
+                a.push(bred.offspring.len() as u64);
+                for child in &bred.offspring {
+                    push_settings(&mut a, child);
                 }
+                a.push(bred.state);
             }
         }
 
@@ -346,6 +325,15 @@ fn positive(r: &mut Reader) -> Result<usize, String> {
     }
 }
 
+/// Objectives and divisions of a table.
+fn fit_divisions(r: &mut Reader) -> Result<(usize, usize), String> {
+    let (m, h) = (positive(r)?, r.count()?);
+    if m > 8 || refusals::bad_divisions(m, h as u64) {
+        return Err("m is not 1 to 8, or divisions turned down with 4".to_string());
+    }
+    Ok((m, h))
+}
+
 fn fit_dimension(r: &mut Reader) -> Result<Distribution, String> {
     let dimension = plans::read_dimension(r)?;
     if refusals::bad_dimension(&dimension) {
@@ -356,6 +344,15 @@ fn fit_dimension(r: &mut Reader) -> Result<Distribution, String> {
 
 fn fit_dimensions(r: &mut Reader) -> Result<Vec<Distribution>, String> {
     r.counted(fit_dimension)
+}
+
+/// Reads a selection or step and writes its refusal or 0: the call, where it
+/// is accepted.
+fn accepted(command: u64, r: &mut Reader, a: &mut Vec<u64>) -> Result<Option<Call>, String> {
+    let call = Call::read(command, r)?;
+    let refused = call.refused(command);
+    a.push(refused.unwrap_or(0));
+    Ok(refused.is_none().then_some(call))
 }
 
 fn push_list(answer: &mut Vec<u64>, list: &[usize]) {
@@ -396,9 +393,7 @@ pub struct Call {
     pub state: u64,
     pub ideal: Vec<f64>,
     pub pool: Vec<Plan>,
-    pub probability: f64,
-    pub crossover_eta: f64,
-    pub mutation_eta: f64,
+    pub operators: Operators,
     pub dimensions: Vec<Distribution>,
 }
 
@@ -413,9 +408,7 @@ impl Call {
             state,
             ideal: vec![f64::INFINITY; m],
             pool,
-            probability: 1.0,
-            crossover_eta: 30.0,
-            mutation_eta: 20.0,
+            operators: Operators::OWN,
             dimensions: Vec::new(),
         }
     }
@@ -427,8 +420,7 @@ impl Call {
         (call.divisions, call.size, call.state) = (r.number()?, r.number()?, r.number()?);
         call.ideal = r.counted(Reader::real)?;
         if command == STEP {
-            call.probability = r.real()?;
-            (call.crossover_eta, call.mutation_eta) = (r.real()?, r.real()?);
+            call.operators = Operators::read(r)?;
             call.dimensions = plans::read_dimensions(r)?;
         }
         call.pool = r.counted(Plan::read)?;
@@ -442,10 +434,7 @@ impl Call {
         line.extend([self.divisions, self.size, self.state]);
         push_counted_reals(&mut line, &self.ideal);
         if command == STEP {
-            push_reals(
-                &mut line,
-                &[self.probability, self.crossover_eta, self.mutation_eta],
-            );
+            push_reals(&mut line, &self.operators.reals());
             plans::write_dimensions(&mut line, &self.dimensions);
         }
         plans::write_plans(&mut line, &self.pool);
@@ -464,26 +453,55 @@ impl Call {
             (10, self.short),
         ];
         if command == STEP {
-            let Call {
-                probability,
-                crossover_eta,
-                mutation_eta,
-                ..
-            } = *self;
             let dimensions = plans::infos(&self.dimensions);
             let bad_dimension = self.dimensions.iter().any(refusals::bad_dimension);
             let bad_parent = |plan: &Plan| refusals::bad_settings(plan, &dimensions);
             conditions.extend([
-                (
-                    5,
-                    refusals::bad_operators(probability, crossover_eta, mutation_eta),
-                ),
+                (5, refusals::bad_operators(&self.operators)),
                 (6, dimensions.len() > 32 || bad_dimension),
                 (9, self.pool.iter().any(bad_parent)),
             ]);
         }
         refusals::lowest(&conditions)
     }
+
+    /// The pool's rows in minimise-space.
+    fn rows(&self) -> Vec<Vec<f64>> {
+        let directions = plans::directions(&self.marks);
+        let row = |plan: &Plan| minimize(&plan.values, &directions);
+        self.pool.iter().map(row).collect()
+    }
+
+    /// The pool's front list.
+    pub fn fronts(&self) -> Vec<Vec<usize>> {
+        let constraints = |plan: &Plan| plan.constraints.clone();
+        let constraints: Vec<Vec<f64>> = self.pool.iter().map(constraints).collect();
+        let directions = all_minimize(self.marks.len());
+        pareto::fast_non_dominated_sort_constrained(&self.rows(), &directions, &constraints)
+    }
+}
+
+/// Runs on the state that the Rust's sampler has before a selection or
+/// generation step, with the step's population and directions.
+pub fn with_state<T>(
+    call: &Call,
+    run: impl FnOnce(&mut Nsga3State, &[&MultiObjectiveTrial], &[Direction]) -> T,
+) -> T {
+    let trials: Vec<MultiObjectiveTrial> = call.pool.iter().map(Plan::trial).collect();
+    let population: Vec<&MultiObjectiveTrial> = trials.iter().collect();
+    let opening = Opening {
+        operators: call.operators,
+        ..Opening::new(0, None, None, call.state)
+    };
+    let sampler = opening.sampler();
+    let mut state = sampler.state.lock();
+    state.evo.population_size = call.size as usize;
+    state.evo.phase = genetic::Phase::Active;
+    state.evo.dimensions = plans::infos(&call.dimensions);
+    state.reference_points = genetic::das_dennis(call.marks.len(), call.divisions as usize);
+    state.ideal_point = call.ideal.clone();
+    state.initialized = true;
+    run(&mut state, &population, &plans::directions(&call.marks))
 }
 
 /// What a selection hands out.
@@ -498,74 +516,52 @@ pub struct Kept {
 /// Runs `nsga3_select`. Fronts and lines are not among its answers: the same
 /// functions of the Rust give them for the same pool.
 pub fn select(call: &Call) -> Kept {
-    let directions = plans::directions(&call.marks);
-    let m = directions.len();
-    let size = call.size as usize;
-    let trials: Vec<MultiObjectiveTrial> = call.pool.iter().map(Plan::trial).collect();
-    let population: Vec<&MultiObjectiveTrial> = trials.iter().collect();
+    with_state(call, |state, population, directions| {
+        let (_, list) = nsga3::nsga3_select(state, population, directions);
 
-    let sampler = session::sampler(None, None, 1.0, 30.0, 20.0, call.state);
-    let mut state = sampler.state.lock();
-    prepare(&mut state, call);
-    let (_, list) = nsga3::nsga3_select(&mut state, &population, &directions);
-
-    let rows: Vec<Vec<f64>> = trials
-        .iter()
-        .map(|t| minimize(&t.values, &directions))
-        .collect();
-    let constraints: Vec<Vec<f64>> = trials.iter().map(|t| t.constraints.clone()).collect();
-    let front_list =
-        pareto::fast_non_dominated_sort_constrained(&rows, &all_minimize(m), &constraints);
-    let mut fronts = vec![0; trials.len()];
-    for (rank, front) in front_list.iter().enumerate() {
-        for &plan in front {
-            fronts[plan] = rank;
+        let (n, size) = (call.pool.len(), call.size as usize);
+        let front_list = call.fronts();
+        let mut fronts = vec![0; n];
+        for (rank, front) in front_list.iter().enumerate() {
+            for &plan in front {
+                fronts[plan] = rank;
+            }
         }
-    }
 
-    let mut before = 0;
-    let mut split = false;
-    for front in &front_list {
-        if before + front.len() > size {
-            split = before < size;
-            break;
+        let mut before = 0;
+        let mut split = false;
+        for front in &front_list {
+            if before + front.len() > size {
+                split = before < size;
+                break;
+            }
+            before += front.len();
         }
-        before += front.len();
-    }
-    let mut ideal = call.ideal.clone();
-    let mut lines = vec![NO_LINE; trials.len()];
-    if split {
-        let (_, normalized) = normalize(&mut ideal, &rows);
-        let table = &state.reference_points;
-        for (at, (line, _)) in nsga3::associate_to_reference_points(&normalized, table)
-            .into_iter()
-            .enumerate()
-        {
-            lines[at] = line as u64;
+        let mut ideal = call.ideal.clone();
+        let mut lines = vec![NO_LINE; n];
+        if split {
+            let (_, normalized) = normalize(&mut ideal, &call.rows());
+            let table = &state.reference_points;
+            for (at, (line, _)) in nsga3::associate_to_reference_points(&normalized, table)
+                .into_iter()
+                .enumerate()
+            {
+                lines[at] = line as u64;
+            }
         }
-    }
-    assert_eq!(
-        bits(&ideal),
-        bits(&state.ideal_point),
-        "the ideal of the same split"
-    );
-    Kept {
-        list,
-        fronts,
-        lines,
-        ideal,
-        state: state.evo.rng.s,
-    }
-}
-
-/// Sets a sampler's state up for a selection or generation step; the generator stays.
-pub fn prepare(state: &mut nsga3::Nsga3State, call: &Call) {
-    state.evo.population_size = call.size as usize;
-    state.evo.phase = genetic::Phase::Active;
-    state.evo.dimensions = plans::infos(&call.dimensions);
-    state.reference_points = genetic::das_dennis(call.marks.len(), call.divisions as usize);
-    state.ideal_point = call.ideal.clone();
-    state.initialized = true;
+        assert_eq!(
+            bits(&ideal),
+            bits(&state.ideal_point),
+            "the ideal of the same split"
+        );
+        Kept {
+            list,
+            fronts,
+            lines,
+            ideal,
+            state: state.evo.rng.s,
+        }
+    })
 }
 
 /// What a generation step hands out; a pool of one keeps nothing.
@@ -577,30 +573,19 @@ pub struct Bred {
 }
 
 pub fn step(call: &Call) -> Bred {
-    let directions = plans::directions(&call.marks);
-    let trials: Vec<MultiObjectiveTrial> = call.pool.iter().map(Plan::trial).collect();
-    let population: Vec<&MultiObjectiveTrial> = trials.iter().collect();
-    let sampler = session::sampler(
-        None,
-        None,
-        call.probability,
-        call.crossover_eta,
-        call.mutation_eta,
-        call.state,
-    );
-    let mut state = sampler.state.lock();
-    prepare(&mut state, call);
-    let offspring = nsga3::nsga3_generate_offspring(&mut state, &population, &directions);
-    // The step keeps its list to itself: selection from the same pool has it.
-    let kept = if population.len() < 2 {
-        Vec::new()
-    } else {
-        select(call).list
-    };
-    Bred {
-        kept,
-        ideal: state.ideal_point.clone(),
-        offspring: offspring.into_iter().map(|child| child.params).collect(),
-        state: state.evo.rng.s,
-    }
+    with_state(call, |state, population, directions| {
+        let offspring = nsga3::nsga3_generate_offspring(state, population, directions);
+        // The step keeps its list to itself: selection from the same pool has it.
+        let kept = if population.len() < 2 {
+            Vec::new()
+        } else {
+            select(call).list
+        };
+        Bred {
+            kept,
+            ideal: state.ideal_point.clone(),
+            offspring: offspring.into_iter().map(|child| child.params).collect(),
+            state: state.evo.rng.s,
+        }
+    })
 }

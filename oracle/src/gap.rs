@@ -5,6 +5,7 @@ use std::sync::atomic::Ordering;
 
 use crate::powers::{self, power, root};
 use crate::sampler::genetic;
+use crate::words::two;
 
 /// Chance for the arguments (xorshift64*).
 struct Chance(u64);
@@ -29,12 +30,13 @@ impl Chance {
     }
 }
 
-const TWO_51: f64 = 2251799813685248.0;
-const TWO_52: f64 = 4503599627370496.0;
-const TWO_53: f64 = 9007199254740992.0;
-
 fn doubles_between(x: f64, y: f64) -> u64 {
     x.to_bits().abs_diff(y.to_bits())
+}
+
+/// Between R and the platform's root.
+fn root_gap(v: f64, k: u32) -> u64 {
+    doubles_between(root(v, k), v.powf(1.0 / f64::from(k)))
 }
 
 /// Gaps seen: how often each small one, and the largest with its argument.
@@ -115,7 +117,6 @@ const RANGES: [&str; 4] = [
 fn gaps(k: u32, count: u64, chance: &mut Chance) -> [[Gaps; 2]; 4] {
     let mut all = [(); 4].map(|()| [Gaps::new(), Gaps::new()]);
     let exponent = f64::from(k);
-    let inverse = 1.0 / exponent;
     for turn in 0..2 * count {
         let uneven = (turn % 2) as usize;
         // The first turns go through the ends one by one.
@@ -129,22 +130,22 @@ fn gaps(k: u32, count: u64, chance: &mut Chance) -> [[Gaps; 2]; 4] {
             }
         };
 
-        let y = part(chance, 53) as f64 / TWO_53;
+        let y = part(chance, 53) as f64 / two(53);
         let p = power(y, k);
         // Powers below the normal range are told apart further on.
         if p >= f64::MIN_POSITIVE {
             all[0][uneven].add(doubles_between(p, y.powf(exponent)), y);
         }
 
-        let v = part(chance, 51) as f64 / TWO_51;
-        all[1][uneven].add(doubles_between(root(v, k), v.powf(inverse)), v);
+        let v = part(chance, 51) as f64 / two(51);
+        all[1][uneven].add(root_gap(v, k), v);
 
-        let rest = part(chance, 51).min((1 << 51) - 1) as f64 / TWO_52;
+        let rest = part(chance, 51).min((1 << 51) - 1) as f64 / two(52);
         let v = 1.0 / (2.0 * rest);
-        all[2][uneven].add(doubles_between(root(v, k), v.powf(inverse)), v);
+        all[2][uneven].add(root_gap(v, k), v);
 
-        let u = (part(chance, 52) - 1).min((1 << 52) - 1) as f64 / TWO_52;
-        let y = chance.even(53) as f64 / TWO_53;
+        let u = (part(chance, 52) - 1).min((1 << 52) - 1) as f64 / two(52);
+        let y = chance.even(53) as f64 / two(53);
         let p = power(y, k);
         let v = if u < 0.5 {
             2.0 * u + (1.0 - 2.0 * u) * p
@@ -152,8 +153,8 @@ fn gaps(k: u32, count: u64, chance: &mut Chance) -> [[Gaps; 2]; 4] {
             2.0 * (1.0 - u) + 2.0 * (u - 0.5) * p
         };
         // A draw of 0 hands the bare power on: told apart further on.
-        if v >= 2.0 / TWO_52 {
-            all[3][uneven].add(doubles_between(root(v, k), v.powf(inverse)), v);
+        if v >= 2.0 / two(52) {
+            all[3][uneven].add(root_gap(v, k), v);
         }
     }
     // Just below 1 the roundings of P can lean one way, most of all near
@@ -166,7 +167,7 @@ fn gaps(k: u32, count: u64, chance: &mut Chance) -> [[Gaps; 2]; 4] {
             let around = (1 << 23) / t;
             (t << 27) + chance.word() % (2 * around) - around
         };
-        let y = 1.0 - below as f64 / TWO_53;
+        let y = 1.0 - below as f64 / two(53);
         all[0][1].add(doubles_between(power(y, k), y.powf(exponent)), y);
     }
     all
@@ -207,8 +208,8 @@ fn measure_children(chance: &mut Chance) {
                     eta
                 };
                 let state = chance.word();
-                let x = chance.even(53) as f64 / TWO_53;
-                let y = chance.even(53) as f64 / TWO_53;
+                let x = chance.even(53) as f64 / two(53);
+                let y = chance.even(53) as f64 / two(53);
                 let child = |scale: f64| {
                     let mut rng = fastrand::Rng::with_seed(state);
                     let (x, y) = ((x * scale).max(0.0), (y * scale).max(0.0));
@@ -266,11 +267,11 @@ pub fn measure() {
     let mut worst = (0, 0.0, 0);
     for k in 1..=100_u32 {
         for _ in 0..20_000 {
-            let p = power(chance.uneven(53) as f64 / TWO_53, k);
+            let p = power(chance.uneven(53) as f64 / two(53), k);
             if p < f64::MIN_POSITIVE {
                 continue;
             }
-            let gap = doubles_between(root(p, k), p.powf(1.0 / f64::from(k)));
+            let gap = root_gap(p, k);
             bare.add(gap, p);
             if gap > worst.2 {
                 worst = (k, p, gap);
@@ -293,14 +294,14 @@ pub fn measure() {
         let low = 2.0_f64.powf(-1074.0 / exponent);
         let high = 2.0_f64.powf(-1022.0 / exponent);
         for _ in 0..2000 {
-            let y = low + (high - low) * (chance.even(52) as f64 / TWO_52);
-            let y = (y * TWO_53).floor() / TWO_53;
+            let y = low + (high - low) * (chance.even(52) as f64 / two(52));
+            let y = (y * two(53)).floor() / two(53);
             let p = power(y, k);
             if p == 0.0 || p >= f64::MIN_POSITIVE {
                 continue;
             }
             below[0].add(doubles_between(p, y.powf(exponent)), y);
-            let gap = doubles_between(root(p, k), p.powf(1.0 / exponent));
+            let gap = root_gap(p, k);
             below[1].add(gap, p);
             if gap > worst.2 {
                 worst = (k, p, gap);

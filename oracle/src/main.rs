@@ -58,8 +58,9 @@ fn answer_lines(pairs: bool) -> Result<(), String> {
     let mut out = BufWriter::new(std::io::stdout().lock());
     for (at, line) in std::io::stdin().lock().lines().enumerate() {
         let line = line.map_err(|error| error.to_string())?;
-        let input = words::read(&line).map_err(|what| format!("line {}: {what}", at + 1))?;
-        let answer = answers::answer(&input).map_err(|what| format!("line {}: {what}", at + 1))?;
+        let (input, answer) = words::read(&line)
+            .and_then(|input| answers::answer(&input).map(|answer| (input, answer)))
+            .map_err(|what| format!("line {}: {what}", at + 1))?;
         if pairs {
             writeln!(out, "{}", words::write(&input)).map_err(|error| error.to_string())?;
         }

@@ -17,6 +17,11 @@ impl Mix {
         self.word() % n
     }
 
+    /// A place in a list of n.
+    pub fn place(&mut self, n: usize) -> usize {
+        self.below(n as u64) as usize
+    }
+
     /// From `low` to `high`, both possible.
     pub fn within(&mut self, low: u64, high: u64) -> u64 {
         low + self.below(high - low + 1)
@@ -38,12 +43,12 @@ impl Mix {
     }
 
     pub fn pick<T: Clone>(&mut self, items: &[T]) -> T {
-        items[self.below(items.len() as u64) as usize].clone()
+        items[self.place(items.len())].clone()
     }
 
     pub fn shuffle<T>(&mut self, items: &mut [T]) {
         for at in (1..items.len()).rev() {
-            items.swap(at, self.below(at as u64 + 1) as usize);
+            items.swap(at, self.place(at + 1));
         }
     }
 }

@@ -113,71 +113,67 @@ pub fn write_setting(line: &mut Vec<u64>, value: &ParamValue) {
 /// Categorical: choices. 3 and 4 are Float and Int with all their fields
 /// (log mark, step mark, step), for what refusal 6 turns down.
 pub fn read_dimension(reader: &mut Reader) -> Result<Distribution, String> {
-    let kind = reader.number()?;
-    Ok(match kind {
-        0 | 3 => {
-            let (low, high) = (reader.real()?, reader.real()?);
-            let (mut log_scale, mut step) = (false, None);
-            if kind == 3 {
-                log_scale = reader.flag()?;
-                let stepped = reader.flag()?;
-                let given = reader.real()?;
-                step = stepped.then_some(given);
-            }
-            Distribution::Float(FloatDistribution {
-                low,
-                high,
-                log_scale,
-                step,
-            })
+    Ok(match reader.number()? {
+        0 => float(reader.real()?, reader.real()?),
+        1 => {
+            let (low, high, step) = (reader.int()?, reader.int()?, reader.int()?);
+            int(low, high, (step != 0).then_some(step))
         }
-        1 | 4 => {
-            let (low, high) = (reader.int()?, reader.int()?);
-            let (mut log_scale, step);
-            log_scale = false;
-            if kind == 4 {
-                log_scale = reader.flag()?;
-                let stepped = reader.flag()?;
-                let given = reader.int()?;
-                step = stepped.then_some(given);
-            } else {
-                let given = reader.int()?;
-                step = (given != 0).then_some(given);
-            }
-            Distribution::Int(IntDistribution {
-                low,
-                high,
-                log_scale,
-                step,
-            })
-        }
-        2 => Distribution::Categorical(CategoricalDistribution {
-            n_choices: reader.count()?,
+        2 => choices(reader.count()?),
+        3 => Distribution::Float(FloatDistribution {
+            low: reader.real()?,
+            high: reader.real()?,
+            log_scale: reader.flag()?,
+            step: reader.optional()?.map(to_real),
         }),
-        _ => return Err(format!("{kind} is no kind of dimension")),
+        4 => Distribution::Int(IntDistribution {
+            low: reader.int()?,
+            high: reader.int()?,
+            log_scale: reader.flag()?,
+            step: reader.optional()?.map(to_int),
+        }),
+        kind => return Err(format!("{kind} is no kind of dimension")),
     })
 }
 
-pub fn write_dimension(line: &mut Vec<u64>, dimension: &Distribution) {
+/// A dimension with all its fields, as the static library has it: kind, low,
+/// high, log mark, step mark, step. A Categorical one is kind and choices.
+pub fn dimension_words(dimension: &Distribution) -> [u64; 6] {
+    let marked = |kind, low, high, log_scale, step: Option<u64>| {
+        let marks = [log_scale, step.is_some()].map(u64::from);
+        [kind, low, high, marks[0], marks[1], step.unwrap_or(0)]
+    };
     match dimension {
         Distribution::Float(d) => {
-            let plain = !d.log_scale && d.step.is_none();
-            line.extend([if plain { 0 } else { 3 }, of_real(d.low), of_real(d.high)]);
-            if !plain {
-                line.extend([d.log_scale as u64, d.step.is_some() as u64]);
-                line.push(of_real(d.step.unwrap_or(0.0)));
-            }
+            let (low, high) = (of_real(d.low), of_real(d.high));
+            marked(0, low, high, d.log_scale, d.step.map(of_real))
         }
         Distribution::Int(d) => {
-            let plain = !d.log_scale && d.step != Some(0);
-            line.extend([if plain { 1 } else { 4 }, of_int(d.low), of_int(d.high)]);
-            if !plain {
-                line.extend([d.log_scale as u64, d.step.is_some() as u64]);
-            }
-            line.push(of_int(d.step.unwrap_or(0)));
+            let (low, high) = (of_int(d.low), of_int(d.high));
+            marked(1, low, high, d.log_scale, d.step.map(of_int))
         }
-        Distribution::Categorical(d) => line.extend([2, d.n_choices as u64]),
+        Distribution::Categorical(d) => [2, d.n_choices as u64, 0, 0, 0, 0],
     }
+}
+
+/// The shortest form that has these words.
+pub fn write_words(line: &mut Vec<u64>, words: [u64; 6]) {
+    match words {
+        [0, low, high, 0, 0, _] => line.extend([0, low, high]),
+        // The short form has no step of 0.
+        [1, low, high, 0, stepped, step] if stepped == 0 || step != 0 => {
+            line.extend([1, low, high, step]);
+        }
+        [2, choices, ..] => line.extend([2, choices]),
+        [kind, rest @ ..] => {
+            line.push(kind + 3);
+            line.extend(rest);
+        }
+    }
+}
+
+pub fn write_dimension(line: &mut Vec<u64>, dimension: &Distribution) {
+    write_words(line, dimension_words(dimension));
 }
 
 /// A plain Float dimension.

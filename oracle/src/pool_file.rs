@@ -31,12 +31,12 @@ impl Bytes<'_> {
         u64::try_from(value).ok()
     }
 
+    fn numbers(&mut self, count: u64) -> Option<Vec<u64>> {
+        (0..count).map(|_| self.number()).collect()
+    }
+
     fn reals(&mut self, count: u64) -> Option<Vec<f64>> {
-        let mut reals = Vec::new();
-        for _ in 0..count {
-            reals.push(to_real(self.number()?));
-        }
-        Some(reals)
+        Some(self.numbers(count)?.into_iter().map(to_real).collect())
     }
 }
 
@@ -49,10 +49,7 @@ fn parse(file: &[u8]) -> Option<Call> {
     let m = bytes.number()?;
     let (divisions, size) = (bytes.number()?, bytes.number()?);
     let (plans, state) = (bytes.number()?, bytes.number()?);
-    let mut marks = Vec::new();
-    for _ in 0..m {
-        marks.push(bytes.number()?);
-    }
+    let marks = bytes.numbers(m)?;
     let mut pool = Vec::new();
     for number in 0..plans {
         let values = bytes.reals(m)?;

@@ -4,6 +4,8 @@
 use crate::distribution::Distribution;
 use crate::plans::Plan;
 use crate::sampler::genetic::DimensionInfo;
+use crate::session::{Opening, Operators};
+use crate::words::{to_int, to_real, two};
 
 /// The lowest number whose condition holds.
 pub fn lowest(conditions: &[(u64, bool)]) -> Option<u64> {
@@ -60,11 +62,12 @@ fn bad_opening_divisions(m: usize, size: Option<u64>, divisions: Option<u64>) ->
 }
 
 /// 2, 3 and 4 at the opening of a session.
-pub fn opening(marks: &[u64], size: Option<u64>, divisions: Option<u64>) -> [(u64, bool); 3] {
+pub fn opening(opening: &Opening) -> [(u64, bool); 3] {
+    let (m, size) = (opening.marks.len(), opening.size);
     [
-        (2, bad_marks(marks)),
+        (2, bad_marks(&opening.marks)),
         (3, size.is_some_and(|size| size > 1024)),
-        (4, bad_opening_divisions(marks.len(), size, divisions)),
+        (4, bad_opening_divisions(m, size, opening.divisions)),
     ]
 }
 
@@ -74,17 +77,18 @@ fn bad_eta(eta: f64) -> bool {
 }
 
 /// 5: an eta or the crossover probability.
-pub fn bad_operators(probability: f64, crossover_eta: f64, mutation_eta: f64) -> bool {
-    bad_eta(crossover_eta) || bad_eta(mutation_eta) || !(probability >= 0.0 && probability <= 1.0)
+pub fn bad_operators(operators: &Operators) -> bool {
+    let probability = operators.probability;
+    bad_eta(operators.crossover_eta)
+        || bad_eta(operators.mutation_eta)
+        || !(probability >= 0.0 && probability <= 1.0)
 }
-
-const TWO_53: f64 = 9007199254740992.0;
 
 /// 6, for one dimension (its place in the list is asked for elsewhere).
 pub fn bad_dimension(dimension: &Distribution) -> bool {
     match dimension {
         Distribution::Float(d) => {
-            let good = d.low.abs() <= TWO_53 && d.high.abs() <= TWO_53 && d.low <= d.high;
+            let good = d.low.abs() <= two(53) && d.high.abs() <= two(53) && d.low <= d.high;
             !good || d.log_scale || d.step.is_some()
         }
         Distribution::Int(d) => {
@@ -98,13 +102,9 @@ pub fn bad_dimension(dimension: &Distribution) -> bool {
     }
 }
 
-/// 2^1000, the greatest magnitude of a value, a constraint or an ideal.
-pub fn greatest() -> f64 {
-    f64::from_bits((1000 + 1023) << 52)
-}
-
+/// 8, for a value, a constraint or a part of the ideal.
 fn bad_value(x: f64) -> bool {
-    !(x.abs() <= greatest())
+    !(x.abs() <= two(1000))
 }
 
 /// 8, for one plan.
@@ -136,11 +136,11 @@ pub fn bad_settings(plan: &Plan, dimensions: &[DimensionInfo]) -> bool {
             .any(|(&(_, kind, value), dimension)| {
                 let good = match &dimension.distribution {
                     Distribution::Float(d) => {
-                        let x = crate::words::to_real(value);
+                        let x = to_real(value);
                         kind == 0 && d.low <= x && x <= d.high
                     }
                     Distribution::Int(d) => {
-                        let n = crate::words::to_int(value);
+                        let n = to_int(value);
                         kind == 1 && d.low <= n && n <= d.high
                     }
                     Distribution::Categorical(d) => kind == 2 && value < d.n_choices as u64,

@@ -11,27 +11,34 @@ use crate::sampler::nsga3::Nsga3Sampler;
 use crate::types::Direction;
 use crate::words::{Reader, push_counted_reals, push_optional, push_reals};
 
-/// A sampler made by the Rust's own builder.
-pub fn sampler(
-    size: Option<u64>,
-    divisions: Option<u64>,
-    probability: f64,
-    crossover_eta: f64,
-    mutation_eta: f64,
-    seed: u64,
-) -> Nsga3Sampler {
-    let mut builder = Nsga3Sampler::builder()
-        .crossover_prob(probability)
-        .crossover_eta(crossover_eta)
-        .mutation_eta(mutation_eta)
-        .seed(seed);
-    if let Some(size) = size {
-        builder = builder.population_size(size as usize);
+/// The operators that breed.
+#[derive(Clone, Copy, Debug)]
+pub struct Operators {
+    pub probability: f64,
+    pub crossover_eta: f64,
+    pub mutation_eta: f64,
+}
+
+impl Operators {
+    /// The sampler's own.
+    pub const OWN: Self = Operators {
+        probability: 1.0,
+        crossover_eta: 30.0,
+        mutation_eta: 20.0,
+    };
+
+    pub fn read(r: &mut Reader) -> Result<Self, String> {
+        Ok(Operators {
+            probability: r.real()?,
+            crossover_eta: r.real()?,
+            mutation_eta: r.real()?,
+        })
     }
-    if let Some(divisions) = divisions {
-        builder = builder.n_divisions(divisions as usize);
+
+    /// In the order in which they are written and handed to a call.
+    pub fn reals(&self) -> [f64; 3] {
+        [self.probability, self.crossover_eta, self.mutation_eta]
     }
-    builder.build()
 }
 
 /// What a session is opened with.
@@ -41,9 +48,7 @@ pub struct Opening {
     pub marks: Vec<u64>,
     pub size: Option<u64>,
     pub divisions: Option<u64>,
-    pub probability: f64,
-    pub crossover_eta: f64,
-    pub mutation_eta: f64,
+    pub operators: Operators,
     pub seed: u64,
 }
 
@@ -55,9 +60,7 @@ impl Opening {
             marks: vec![0; m],
             size,
             divisions,
-            probability: 1.0,
-            crossover_eta: 30.0,
-            mutation_eta: 20.0,
+            operators: Operators::OWN,
             seed,
         }
     }
@@ -68,9 +71,7 @@ impl Opening {
             marks: plans::read_marks(r)?,
             size: r.optional()?,
             divisions: r.optional()?,
-            probability: r.real()?,
-            crossover_eta: r.real()?,
-            mutation_eta: r.real()?,
+            operators: Operators::read(r)?,
             seed: r.number()?,
         })
     }
@@ -80,11 +81,24 @@ impl Opening {
         plans::write_marks(line, &self.marks);
         push_optional(line, self.size);
         push_optional(line, self.divisions);
-        push_reals(
-            line,
-            &[self.probability, self.crossover_eta, self.mutation_eta],
-        );
+        push_reals(line, &self.operators.reals());
         line.push(self.seed);
+    }
+
+    /// The sampler, made by the Rust's own builder.
+    pub fn sampler(&self) -> Nsga3Sampler {
+        let mut builder = Nsga3Sampler::builder()
+            .crossover_prob(self.operators.probability)
+            .crossover_eta(self.operators.crossover_eta)
+            .mutation_eta(self.operators.mutation_eta)
+            .seed(self.seed);
+        if let Some(size) = self.size {
+            builder = builder.population_size(size as usize);
+        }
+        if let Some(divisions) = self.divisions {
+            builder = builder.n_divisions(divisions as usize);
+        }
+        builder.build()
     }
 }
 
@@ -100,30 +114,16 @@ pub struct Session {
 impl Session {
     /// Opens a session, or gives the refusal.
     pub fn open(opening: &Opening) -> Result<Self, u64> {
-        let Opening {
-            size,
-            divisions,
-            probability,
-            crossover_eta,
-            mutation_eta,
-            seed,
-            ..
-        } = *opening;
-        let bad_operators = refusals::bad_operators(probability, crossover_eta, mutation_eta);
-        let mut conditions = refusals::opening(&opening.marks, size, divisions).to_vec();
-        conditions.extend([(5, bad_operators), (10, opening.short)]);
+        let mut conditions = refusals::opening(opening).to_vec();
+        conditions.extend([
+            (5, refusals::bad_operators(&opening.operators)),
+            (10, opening.short),
+        ]);
         if let Some(number) = refusals::lowest(&conditions) {
             return Err(number);
         }
         Ok(Session {
-            sampler: sampler(
-                size,
-                divisions,
-                probability,
-                crossover_eta,
-                mutation_eta,
-                seed,
-            ),
+            sampler: opening.sampler(),
             directions: plans::directions(&opening.marks),
             history: Vec::new(),
             trials: Vec::new(),
@@ -333,20 +333,11 @@ impl Call {
 pub fn answer(r: &mut Reader) -> Result<Vec<u64>, String> {
     let opening = Opening::read(r)?;
     let calls = r.count()?;
-    let mut a = Vec::new();
-    let mut session = match Session::open(&opening) {
-        Ok(session) => Some(session),
-        Err(number) => {
-            a.push(number);
-            None
-        }
-    };
-    if session.is_some() {
-        a.push(0);
-    }
+    let mut session = Session::open(&opening);
+    let mut a = vec![*session.as_ref().err().unwrap_or(&0)];
     for _ in 0..calls {
         let call = Call::read(r)?;
-        let Some(session) = session.as_mut() else {
+        let Ok(session) = session.as_mut() else {
             continue;
         };
         match session.calls(&call)? {

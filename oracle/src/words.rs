@@ -89,6 +89,11 @@ pub fn push_optional(line: &mut Vec<u64>, given: Option<u64>) {
     line.extend([given.is_some() as u64, given.unwrap_or(0)]);
 }
 
+/// 2^n as a double.
+pub fn two(n: i32) -> f64 {
+    f64::from_bits(((n + 1023) as u64) << 52)
+}
+
 /// The bits of reals, to compare them: a NaN as it is.
 pub fn bits(reals: &[f64]) -> Vec<u64> {
     reals.iter().map(|x| x.to_bits()).collect()

@@ -4,6 +4,10 @@
 
 use std::ops::{Range, RangeInclusive};
 
+/// A step of the state: times the one, plus the other, modulo 2^64.
+pub const MULTIPLIER: u64 = 6364136223846793005;
+pub const INCREMENT: u64 = 1442695040888963407;
+
 #[derive(Clone, Debug)]
 pub struct Rng {
     /// The state, open so that the driver can report it.
@@ -23,10 +27,7 @@ impl Rng {
 
     /// Steps the state and gives its word.
     pub fn word(&mut self) -> u64 {
-        self.s = self
-            .s
-            .wrapping_mul(6364136223846793005)
-            .wrapping_add(1442695040888963407);
+        self.s = self.s.wrapping_mul(MULTIPLIER).wrapping_add(INCREMENT);
         self.s ^ (self.s >> 32)
     }
 

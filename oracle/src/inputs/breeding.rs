@@ -3,6 +3,7 @@
 use super::kept::*;
 use super::numbers::*;
 use super::*;
+use crate::answers::push_settings;
 
 pub(super) fn sample_random(state: u64, dimension: &Distribution) -> Line {
     let mut line = vec![80, state];
@@ -17,8 +18,10 @@ pub(super) fn extract(
 ) -> Line {
     let mut line = vec![81, state];
     write_dimensions(&mut line, dimensions);
-    let mut plan = plan(&[], &[]);
-    plan.settings = settings.to_vec();
+    let plan = Plan {
+        settings: settings.to_vec(),
+        ..plan(&[], &[])
+    };
     plan.write(&mut line);
     line
 }
@@ -33,9 +36,8 @@ pub(super) fn crossover(
 ) -> Line {
     let mut line = vec![82, state, of_real(probability), of_real(eta)];
     write_dimensions(&mut line, dimensions);
-    for value in first.iter().chain(second) {
-        plans::write_setting(&mut line, value);
-    }
+    push_settings(&mut line, first);
+    push_settings(&mut line, second);
     line
 }
 
@@ -47,9 +49,7 @@ pub(super) fn mutate(
 ) -> Line {
     let mut line = vec![84, state, of_real(eta)];
     write_dimensions(&mut line, dimensions);
-    for value in settings {
-        plans::write_setting(&mut line, value);
-    }
+    push_settings(&mut line, settings);
     line
 }
 
@@ -70,9 +70,7 @@ pub(super) fn bred(mut call: Call, dimensions: &[Distribution], mix: &mut Mix) -
 }
 
 pub(super) fn breeding_cases() -> Vec<Line> {
-    let last = (1_u64 << 52) - 1;
     let half = 1_u64 << 51;
-    let far = 1_i64 << 53;
     let f = ParamValue::Float;
     let i = ParamValue::Int;
     let c = ParamValue::Categorical;
@@ -83,12 +81,12 @@ pub(super) fn breeding_cases() -> Vec<Line> {
     };
     let mut lines = vec![
         sample_random(1, &unit),
-        sample_random(before_draw(last), &float(1.0, next(1.0))),
+        sample_random(before_draw(LAST), &float(1.0, next(1.0))),
         sample_random(1, &int(0, 10, Some(3))),
         sample_random(before_word(3), &int(0, 10, Some(3))),
         sample_random(1, &int(0, 10, Some(11))),
-        sample_random(1, &int(-far, far, None)),
-        sample_random(before_word(u64::MAX), &int(-far, far, Some(1))),
+        sample_random(1, &int(-FAR, FAR, None)),
+        sample_random(before_word(u64::MAX), &int(-FAR, FAR, Some(1))),
         sample_random(1, &int(4, 4, Some(2))),
         sample_random(1, &choices(1)),
         sample_random(1, &choices(65536)),
@@ -126,7 +124,7 @@ pub(super) fn breeding_cases() -> Vec<Line> {
             &[i(3), c(0), i(2)],
             &[i(3), c(2), i(7)],
         ),
-        crossover(1, 1.0, 30.0, &[int(-far, far, None)], &[i(-far)], &[i(far)]),
+        crossover(1, 1.0, 30.0, &[int(-FAR, FAR, None)], &[i(-FAR)], &[i(FAR)]),
         mutate(1, 20.0, &[], &[]),
         mutate(1, 20.0, &[unit.clone()], &[f(0.5)]),
         mutate(1, 20.0, &[choices(1)], &[c(0)]),
@@ -137,20 +135,20 @@ pub(super) fn breeding_cases() -> Vec<Line> {
             &[float(2.5, 2.5), int(4, 4, None)],
             &[f(2.5), i(4)],
         ),
-        mutate(3, 0.0, &[int(-far, far, None)], &[i(far)]),
+        mutate(3, 0.0, &[int(-FAR, FAR, None)], &[i(FAR)]),
         vec![86, 4, 1, 0],
         vec![86, 4, 3, 2, 1, 1],
         vec![86, before_word(1), 4, 0, 3, 1, 2],
     ];
     for eta in [0.0, 30.0, 99.0] {
-        for k in [0, 1, half - 1, half, half + 1, last] {
+        for k in [0, 1, half - 1, half, half + 1, LAST] {
             lines.push(leaf(83, before_draw(k), &[0.25, 0.75, 0.0, 1.0, eta]));
             lines.push(leaf(85, before_draw(k), &[0.25, 0.0, 1.0, eta]));
         }
         lines.push(leaf(85, before_draw(0), &[0.0, 0.0, 1.0, eta]));
         lines.push(leaf(85, before_draw(0), &[1.0, 0.0, 1.0, eta]));
-        lines.push(leaf(85, before_draw(last), &[1.0, 0.0, 1.0, eta]));
-        lines.push(leaf(85, before_draw(last), &[0.0, 0.0, 1.0, eta]));
+        lines.push(leaf(85, before_draw(LAST), &[1.0, 0.0, 1.0, eta]));
+        lines.push(leaf(85, before_draw(LAST), &[0.0, 0.0, 1.0, eta]));
     }
     lines.extend([
         leaf(85, 1, &[2.5, 2.5, 2.5, 20.0]),
@@ -158,12 +156,12 @@ pub(super) fn breeding_cases() -> Vec<Line> {
         leaf(83, before_draw(half), &[-0.0, -0.0, 0.0, 1.0, 30.0]),
         leaf(
             83,
-            before_draw(last),
+            before_draw(LAST),
             &[-two(53), two(53), -two(53), two(53), 0.0],
         ),
         leaf(
             83,
-            before_draw(last),
+            before_draw(LAST),
             &[two(53), 1.0, -two(53), two(53), 0.0],
         ),
         leaf(85, 1, &[tiniest(), 0.0, f64::from_bits(5), 20.0]),
@@ -185,22 +183,22 @@ pub(super) fn breeding_cases() -> Vec<Line> {
         alone.clone(),
         alone.but(|c| c.size = 1),
         alone.but(|c| c.dimensions.clear()),
-        good.but(|c| c.crossover_eta = -0.0),
-        good.but(|c| c.mutation_eta = 99.0),
-        good.but(|c| c.probability = -0.0),
+        good.but(|c| c.operators.crossover_eta = -0.0),
+        good.but(|c| c.operators.mutation_eta = 99.0),
+        good.but(|c| c.operators.probability = -0.0),
         // Ranks look at rows only: the infeasible plan 0 wins tournaments.
         good.but(|c| c.pool[0].constraints = vec![1.0]),
     ];
     // What it turns down: 5, 6, 9 and the order of them.
     let wrong_setting = |c: &mut Call| c.pool[1].settings = vec![(0, 0, of_real(1.5))];
     calls.extend([
-        good.but(|c| c.crossover_eta = 0.5),
-        good.but(|c| c.crossover_eta = 100.0),
-        good.but(|c| c.mutation_eta = -1.0),
-        good.but(|c| c.mutation_eta = f64::NAN),
-        good.but(|c| c.probability = next(1.0)),
-        good.but(|c| c.probability = -tiniest()),
-        good.but(|c| c.probability = f64::NAN),
+        good.but(|c| c.operators.crossover_eta = 0.5),
+        good.but(|c| c.operators.crossover_eta = 100.0),
+        good.but(|c| c.operators.mutation_eta = -1.0),
+        good.but(|c| c.operators.mutation_eta = f64::NAN),
+        good.but(|c| c.operators.probability = next(1.0)),
+        good.but(|c| c.operators.probability = -tiniest()),
+        good.but(|c| c.operators.probability = f64::NAN),
         good.but(wrong_setting),
         alone.but(|c| c.pool[0].settings = vec![(0, 0, of_real(1.5))]),
         good.but(|c| {
@@ -234,27 +232,21 @@ pub(super) fn breeding_cases() -> Vec<Line> {
         call.dimensions[1] = dimension;
         calls.push(call);
     }
-    calls.push(good.but(|c| {
-        c.pool.truncate(2);
-        for plan in &mut c.pool {
-            plan.settings.clear();
-        }
-        c.dimensions = vec![choices(2); 33];
-    }));
-    calls.push(good.but(|c| {
-        c.pool.truncate(2);
-        for plan in &mut c.pool {
-            plan.settings.clear();
-        }
-        c.dimensions = vec![choices(2); 32];
-    }));
+    for count in [33, 32] {
+        calls.push(good.but(|c| {
+            c.pool.truncate(2);
+            for plan in &mut c.pool {
+                plan.settings.clear();
+            }
+            c.dimensions = vec![choices(2); count];
+        }));
+    }
     lines.extend(calls.iter().map(Call::step));
     lines
 }
 
 /// Dimensions that meet refusal 6, each for one reason.
 pub(super) fn bad_dimensions() -> Vec<Distribution> {
-    let far = 1_i64 << 53;
     let over = next(two(53));
     let full = |low, high, log_scale, step| {
         Distribution::Float(FloatDistribution {
@@ -273,8 +265,8 @@ pub(super) fn bad_dimensions() -> Vec<Distribution> {
         full(1.0, 2.0, true, None),
         full(0.0, 1.0, false, Some(0.125)),
         int(1, 0, None),
-        int(0, far + 1, None),
-        int(-far - 1, 0, None),
+        int(0, FAR + 1, None),
+        int(-FAR - 1, 0, None),
         int(0, 9, Some(0)),
         int(0, 9, Some(-1)),
         Distribution::Int(IntDistribution {
@@ -293,8 +285,6 @@ pub(super) fn breeding_input(mix: &mut Mix, at: u64) -> Line {
     let many = at % 20 == 19;
     let count = if many { 32 } else { mix.within(1, 5) as usize };
     let dimensions = dimensions(mix, count);
-    let values =
-        |mix: &mut Mix| -> Vec<ParamValue> { dimensions.iter().map(|d| value(mix, d)).collect() };
     match at % 10 {
         0 => sample_random(state, &dimensions[0]),
         1 => {
@@ -302,7 +292,7 @@ pub(super) fn breeding_input(mix: &mut Mix, at: u64) -> Line {
             extract(state, &dimensions, &settings)
         }
         2 | 3 => {
-            let (first, second) = (values(mix), values(mix));
+            let (first, second) = (values(mix, &dimensions), values(mix, &dimensions));
             crossover(
                 state,
                 probability(mix),
@@ -314,17 +304,16 @@ pub(super) fn breeding_input(mix: &mut Mix, at: u64) -> Line {
         }
         4 => {
             let (low, high) = bounds(mix);
-            let inner = |mix: &mut Mix| (low + mix.unit() * (high - low)).clamp(low, high);
-            let (p1, p2) = (inner(mix), inner(mix));
+            let (p1, p2) = (between(mix, low, high), between(mix, low, high));
             leaf(83, state, &[p1, p2, low, high, eta(mix)])
         }
         5 => {
-            let settings = values(mix);
+            let settings = values(mix, &dimensions);
             mutate(state, eta(mix), &dimensions, &settings)
         }
         6 => {
             let (low, high) = bounds(mix);
-            let x = (low + mix.unit() * (high - low)).clamp(low, high);
+            let x = between(mix, low, high);
             leaf(85, state, &[x, low, high, eta(mix)])
         }
         7 => {
@@ -337,9 +326,7 @@ pub(super) fn breeding_input(mix: &mut Mix, at: u64) -> Line {
             let turn = at / 10 * 2 + at % 2;
             let mut call = selection(mix, turn, if many { 3 } else { 6 });
             call = bred(call, &dimensions, mix);
-            call.probability = probability(mix);
-            call.crossover_eta = eta(mix);
-            call.mutation_eta = eta(mix);
+            call.operators = operators(mix);
             if mix.once_in(8) {
                 spoil(mix, &mut call);
             }

@@ -82,11 +82,11 @@ pub(super) fn choose_input(mix: &mut Mix, at: u64) -> Line {
     let mut file = call.file();
     match mix.below(16) {
         0 => {
-            file.truncate(mix.below(file.len() as u64) as usize);
+            file.truncate(mix.place(file.len()));
         }
         1 => file.push(mix.below(256) as u8),
         2 => {
-            let place = mix.below(file.len() as u64) as usize;
+            let place = mix.place(file.len());
             file[place] = mix.below(256) as u8;
         }
         _ => {}
@@ -131,7 +131,7 @@ pub(super) fn large_cases() -> Vec<Line> {
     }
     // 65,536 bytes that are accepted: 1,024 plans of 7 values, two of which
     // are subnormals short enough to make the length exact.
-    let mut pool: Vec<Plan> = (0..1024).map(|_| plan(&[1.0; 7], &[])).collect();
+    let mut pool = vec![plan(&[1.0; 7], &[]); 1024];
     pool[0].values[0] = tiniest();
     pool[1].values[0] = f64::from_bits(1 << 21);
     let full = Call::new(7, 2, 100, 5, pool);

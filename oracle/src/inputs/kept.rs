@@ -16,7 +16,7 @@ pub(super) fn listing() -> Call {
 /// The variations of a selection that meet a refusal, or just do not.
 pub(super) fn refused_selections() -> Vec<Call> {
     let good = listing();
-    let over = next(refusals::greatest());
+    let over = next(two(1000));
     vec![
         good.but(|c| c.short = true),
         good.but(|c| c.marks = vec![0, 2]),
@@ -45,9 +45,9 @@ pub(super) fn refused_selections() -> Vec<Call> {
         good.but(|c| c.pool[0].constraints = vec![-1.0; 16]),
         good.but(|c| c.pool[2].constraints = vec![f64::NAN]),
         // 2^1000 passes, the next double does not.
-        good.but(|c| c.pool[2].constraints = vec![refusals::greatest()]),
+        good.but(|c| c.pool[2].constraints = vec![two(1000)]),
         good.but(|c| c.pool[2].constraints = vec![over]),
-        good.but(|c| c.pool[2].values[0] = -refusals::greatest()),
+        good.but(|c| c.pool[2].values[0] = -two(1000)),
         good.but(|c| c.pool[2].values[0] = -over),
         good.but(|c| c.pool[2].values[0] = f64::INFINITY),
     ]
@@ -55,7 +55,7 @@ pub(super) fn refused_selections() -> Vec<Call> {
 
 pub(super) fn kept_cases() -> Vec<Line> {
     let good = listing();
-    let over = next(refusals::greatest());
+    let over = next(two(1000));
     let line_of_eight = pool_of(&[
         &[0.0, 7.0],
         &[1.0, 6.0],
@@ -78,7 +78,7 @@ pub(super) fn kept_cases() -> Vec<Line> {
         good.but(|c| c.ideal = vec![-1.0, -1.0]),
         good.but(|c| c.ideal = vec![0.5, 2.0]),
         good.but(|c| c.ideal = vec![-0.0, -0.0]),
-        good.but(|c| c.ideal = vec![refusals::greatest(), -refusals::greatest()]),
+        good.but(|c| c.ideal = vec![two(1000), -two(1000)]),
         good.but(|c| c.ideal = vec![over, 0.0]),
         good.but(|c| c.ideal = vec![f64::NEG_INFINITY, 0.0]),
         good.but(|c| c.ideal = vec![f64::NAN, 0.0]),
@@ -105,16 +105,13 @@ pub(super) fn kept_cases() -> Vec<Line> {
     calls.extend(refused_selections());
     let mut lines: Vec<Line> = calls.iter().map(Call::select).collect();
     // One plan too many (1,024 of them are among the large cases).
-    let mut many = pool_of(&vec![&[0.0][..]; 1025]);
-    for plan in &mut many {
-        plan.number = 0;
-    }
+    let many = vec![plan(&[0.0], &[]); 1025];
     lines.push(Call::new(1, 1, 1, 3, many).select());
     lines
 }
 
 pub(super) fn selection(mix: &mut Mix, at: u64, most: u64) -> Call {
-    let m = 1 + (at % 8) as usize;
+    let m = objectives(at);
     let n = mix.within(1, most) as usize;
     let most_lines = if mix.once_in(6) { 1024 } else { 12 };
     let h = divisions(mix, m, most_lines);
@@ -136,17 +133,9 @@ pub(super) fn selection(mix: &mut Mix, at: u64, most: u64) -> Call {
 
 /// A size that ends inside a front of two or more.
 pub(super) fn splitting_size(mix: &mut Mix, call: &Call) -> Option<u64> {
-    let directions = plans::directions(&call.marks);
-    let rows: Vec<Vec<f64>> = call.pool.iter().map(|plan| plan.values.clone()).collect();
-    let constraints: Vec<Vec<f64>> = call
-        .pool
-        .iter()
-        .map(|plan| plan.constraints.clone())
-        .collect();
-    let fronts = pareto::fast_non_dominated_sort_constrained(&rows, &directions, &constraints);
     let mut inside = Vec::new();
     let mut before = 0;
-    for front in &fronts {
+    for front in &call.fronts() {
         inside.extend(before + 1..before + front.len() as u64);
         before += front.len() as u64;
     }
@@ -155,7 +144,7 @@ pub(super) fn splitting_size(mix: &mut Mix, call: &Call) -> Option<u64> {
 
 /// Now and then one thing is wrong.
 pub(super) fn spoil(mix: &mut Mix, call: &mut Call) {
-    let plan = mix.below(call.pool.len() as u64) as usize;
+    let plan = mix.place(call.pool.len());
     match mix.below(9) {
         0 => call.short = true,
         1 => call.marks[0] = 2,

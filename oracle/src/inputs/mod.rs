@@ -12,45 +12,55 @@ use crate::answers::{Call, SELECT, STEP};
 use crate::distribution::{Distribution, FloatDistribution, IntDistribution};
 use crate::mix::Mix;
 use crate::param::ParamValue;
-use crate::pareto;
 use crate::plans::{self, Plan, choices, float, int, write_dimensions, write_marks};
 use crate::pool_file;
 use crate::refusals;
-use crate::session::{self, Opening, Session};
-use crate::words::{of_int, of_real, push_counted_reals, push_optional, push_reals};
+use crate::session::{self, Opening, Operators, Session};
+use crate::words::{of_int, of_real, push_counted_reals, push_optional, push_reals, two};
 
 type Line = Vec<u64>;
+type Cases = fn() -> Vec<Line>;
+type Input = fn(&mut Mix, u64) -> Line;
 
-pub const KINDS: [&str; 10] = [
-    "draw",
-    "numbers",
-    "dominance",
-    "fronts",
-    "reference",
-    "association",
-    "kept",
-    "breeding",
-    "session",
-    "choose",
+/// Each record: its named cases, and how an input is generated.
+const RECORDS: [(&str, Cases, Input); 10] = [
+    ("draw", numbers::draw_cases, numbers::draw_input),
+    ("numbers", numbers::number_cases, numbers::number_input),
+    ("dominance", rows::dominance_cases, rows::dominance_input),
+    ("fronts", rows::front_cases, rows::front_input),
+    ("reference", rows::reference_cases, rows::reference_input),
+    (
+        "association",
+        rows::association_cases,
+        rows::association_input,
+    ),
+    ("kept", kept::kept_cases, kept::kept_input),
+    (
+        "breeding",
+        breeding::breeding_cases,
+        breeding::breeding_input,
+    ),
+    ("session", sessions::session_cases, sessions::session_input),
+    ("choose", files::choose_cases, files::choose_input),
 ];
 
-/// The named cases of a record; `large` has those too long to be stored.
+/// The place of a record.
+fn record(kind: &str) -> Result<usize, String> {
+    let names = RECORDS.map(|(name, ..)| name);
+    let place = names.iter().position(|&name| name == kind);
+    place.ok_or(format!("the records are {}", names.join(", ")))
+}
+
+/// The named cases of a record; every table; and those too long to be stored.
 pub fn cases(kind: &str) -> Result<Vec<Line>, String> {
-    Ok(match kind {
-        "draw" => numbers::draw_cases(),
-        "numbers" => numbers::number_cases(),
-        "dominance" => rows::dominance_cases(),
-        "fronts" => rows::front_cases(),
-        "reference" => rows::reference_cases(),
-        "association" => rows::association_cases(),
-        "kept" => kept::kept_cases(),
-        "breeding" => breeding::breeding_cases(),
-        "session" => sessions::session_cases(),
-        "choose" => files::choose_cases(),
-        "tables" => rows::table_cases(),
-        "large" => files::large_cases(),
-        _ => return Err(format!("the records are {}, tables, large", KINDS.join(", "))),
-    })
+    match kind {
+        "tables" => Ok(rows::table_cases()),
+        "large" => Ok(files::large_cases()),
+        _ => match record(kind) {
+            Ok(place) => Ok(RECORDS[place].1()),
+            Err(message) => Err(message + ", tables, large"),
+        },
+    }
 }
 
 /// `count` inputs of a record. The same seed gives the same lines; the
@@ -60,37 +70,27 @@ pub fn generated(
     count: u64,
     kind: &str,
 ) -> Result<impl Iterator<Item = Line> + use<>, String> {
-    let one: fn(&mut Mix, u64) -> Line = match kind {
-        "draw" => numbers::draw_input,
-        "numbers" => numbers::number_input,
-        "dominance" => rows::dominance_input,
-        "fronts" => rows::front_input,
-        "reference" => rows::reference_input,
-        "association" => rows::association_input,
-        "kept" => kept::kept_input,
-        "breeding" => breeding::breeding_input,
-        "session" => sessions::session_input,
-        "choose" => files::choose_input,
-        _ => return Err(format!("the records are {}", KINDS.join(", "))),
-    };
-    let record = KINDS.iter().position(|&k| k == kind).unwrap_or(0) as u64;
+    let place = record(kind)?;
     Ok((0..count).map(move |at| {
         // Each line has its own stream, so a longer run begins with the
         // lines of a shorter one.
-        let mut mix = Mix(seed ^ (record << 56) ^ (at << 24));
+        let mut mix = Mix(seed ^ ((place as u64) << 56) ^ (at << 24));
         mix.word();
-        one(&mut mix, at)
+        RECORDS[place].2(&mut mix, at)
     }))
+}
+
+/// The number of objectives of a generated input.
+fn objectives(at: u64) -> usize {
+    1 + (at % 8) as usize
 }
 
 // ---------------------------------------------------------------------------
 // Values by chance
 // ---------------------------------------------------------------------------
 
-/// 2^n as a double.
-fn two(n: i32) -> f64 {
-    f64::from_bits(((n + 1023) as u64) << 52)
-}
+/// 2^53, the farthest bound of a dimension.
+const FAR: i64 = 1 << 53;
 
 /// The next double up in magnitude.
 fn next(x: f64) -> f64 {
@@ -109,23 +109,31 @@ fn subnormal(mix: &mut Mix) -> f64 {
 /// Any double up to 2^1000 in magnitude.
 fn wild(mix: &mut Mix) -> f64 {
     let bits = (mix.below(2024) << 52) | mix.below(1 << 52);
-    let x = f64::from_bits(bits).min(refusals::greatest());
+    let x = f64::from_bits(bits).min(two(1000));
     if mix.once_in(2) { -x } else { x }
+}
+
+/// A real from `low` to `high`.
+fn between(mix: &mut Mix, low: f64, high: f64) -> f64 {
+    (low + mix.unit() * (high - low)).clamp(low, high)
 }
 
 /// The state whose next word is the one given: the generator's step undone.
 fn before_word(word: u64) -> u64 {
     let state = word ^ (word >> 32);
     // The inverse of the multiplier modulo 2^64, by Newton's doubling.
-    let multiplier: u64 = 6364136223846793005;
     let mut inverse: u64 = 1;
     for _ in 0..6 {
-        inverse = inverse.wrapping_mul(2u64.wrapping_sub(multiplier.wrapping_mul(inverse)));
+        let product = fastrand::MULTIPLIER.wrapping_mul(inverse);
+        inverse = inverse.wrapping_mul(2u64.wrapping_sub(product));
     }
     state
-        .wrapping_sub(1442695040888963407)
+        .wrapping_sub(fastrand::INCREMENT)
         .wrapping_mul(inverse)
 }
+
+/// The greatest draw, times 2^52.
+const LAST: u64 = (1 << 52) - 1;
 
 /// The state whose next `f64()` is k / 2^52.
 fn before_draw(k: u64) -> u64 {
@@ -211,8 +219,7 @@ fn pool(mix: &mut Mix, m: usize, n: usize) -> Vec<Plan> {
         .collect();
     // A row that another plan has too.
     if n > 2 && mix.once_in(3) {
-        let from = mix.below(n as u64) as usize;
-        let to = mix.below(n as u64) as usize;
+        let (from, to) = (mix.place(n), mix.place(n));
         plans[to].values = plans[from].values.clone();
     }
     plans
@@ -249,7 +256,6 @@ fn any_dimension() -> Distribution {
 }
 
 fn dimension(mix: &mut Mix) -> Distribution {
-    let far = 1_i64 << 53;
     match mix.below(16) {
         0 | 1 => float(0.0, 1.0),
         2 => float(-5.0, 5.0),
@@ -261,7 +267,7 @@ fn dimension(mix: &mut Mix) -> Distribution {
         8 => int(0, 10, None),
         9 => int(-7, 20, Some(3)),
         10 => int(4, 4, None),
-        11 => int(-far, far, None),
+        11 => int(-FAR, FAR, None),
         12 => int(1, 100, Some(mix.within(1, 200) as i64)),
         13 => choices(1),
         14 => choices(3),
@@ -286,16 +292,14 @@ fn dimensions(mix: &mut Mix, count: usize) -> Vec<Distribution> {
 fn value(mix: &mut Mix, dimension: &Distribution) -> ParamValue {
     match dimension {
         Distribution::Float(d) => {
-            let inner = (d.low + mix.unit() * (d.high - d.low)).clamp(d.low, d.high);
+            let inner = between(mix, d.low, d.high);
             ParamValue::Float(mix.pick(&[d.low, d.high, inner, inner, inner, inner]))
         }
         Distribution::Int(d) => {
             let inner = d.low + mix.below((d.high - d.low) as u64 + 1) as i64;
             ParamValue::Int(mix.pick(&[d.low, d.high, inner, inner, inner]))
         }
-        Distribution::Categorical(d) => {
-            ParamValue::Categorical(mix.below(d.n_choices as u64) as usize)
-        }
+        Distribution::Categorical(d) => ParamValue::Categorical(mix.place(d.n_choices)),
     }
 }
 
@@ -311,7 +315,7 @@ fn settings(mix: &mut Mix, values: &[ParamValue], dimension_count: usize) -> Vec
     }
     match mix.below(6) {
         0 if !settings.is_empty() => {
-            settings.truncate(mix.below(settings.len() as u64 + 1) as usize);
+            settings.truncate(mix.place(settings.len() + 1));
         }
         1 if settings.len() == dimension_count && dimension_count < 32 => {
             settings.push((number, mix.below(3), mix.below(100)));
@@ -324,8 +328,13 @@ fn settings(mix: &mut Mix, values: &[ParamValue], dimension_count: usize) -> Vec
     settings
 }
 
+/// A value within each dimension.
+fn values(mix: &mut Mix, dimensions: &[Distribution]) -> Vec<ParamValue> {
+    dimensions.iter().map(|d| value(mix, d)).collect()
+}
+
 fn fit_settings(mix: &mut Mix, dimensions: &[Distribution]) -> Vec<(u64, u64, u64)> {
-    let values: Vec<ParamValue> = dimensions.iter().map(|d| value(mix, d)).collect();
+    let values = values(mix, dimensions);
     settings(mix, &values, dimensions.len())
 }
 
@@ -339,25 +348,28 @@ fn probability(mix: &mut Mix) -> f64 {
     mix.pick(&[1.0, 1.0, 0.0, 0.5, 0.9, -0.0, any])
 }
 
+fn operators(mix: &mut Mix) -> Operators {
+    Operators {
+        probability: probability(mix),
+        crossover_eta: eta(mix),
+        mutation_eta: eta(mix),
+    }
+}
+
 // ---------------------------------------------------------------------------
 // Writing lines
 // ---------------------------------------------------------------------------
 
 fn plan(values: &[f64], constraints: &[f64]) -> Plan {
     Plan {
-        number: 0,
-        values: values.to_vec(),
         constraints: constraints.to_vec(),
-        settings: Vec::new(),
+        ..Plan::record(0, values, &[])
     }
 }
 
 fn pool_of(rows: &[&[f64]]) -> Vec<Plan> {
-    let mut plans: Vec<Plan> = rows.iter().map(|row| plan(row, &[])).collect();
-    for (at, plan) in plans.iter_mut().enumerate() {
-        plan.number = at as u64;
-    }
-    plans
+    let numbered = (0..).zip(rows);
+    numbered.map(|(n, row)| Plan::record(n, row, &[])).collect()
 }
 
 /// Selections and generation steps are varied one field at a time.

@@ -7,8 +7,6 @@ use super::*;
 // ---------------------------------------------------------------------------
 
 pub(super) fn draw_cases() -> Vec<Line> {
-    let last = (1_u64 << 52) - 1;
-    let far = 1_i64 << 53;
     vec![
         // P12: the first word of seed 0.
         vec![10, 0, 3],
@@ -16,7 +14,7 @@ pub(super) fn draw_cases() -> Vec<Line> {
         vec![10, 5, 0],
         // The least and the greatest draw, and one half.
         vec![11, before_draw(0)],
-        vec![11, before_draw(last)],
+        vec![11, before_draw(LAST)],
         vec![11, before_draw(1 << 51)],
         vec![11, 0],
         // One outcome takes a word all the same.
@@ -25,18 +23,18 @@ pub(super) fn draw_cases() -> Vec<Line> {
         vec![12, 7, 1024],
         vec![12, before_word(u64::MAX), 1000],
         vec![13, 7, of_int(4), of_int(4)],
-        vec![13, 7, of_int(-far), of_int(far)],
+        vec![13, 7, of_int(-FAR), of_int(FAR)],
         vec![13, before_word(u64::MAX), of_int(-3), of_int(3)],
         vec![14, 7, of_real(0.0), of_real(1.0)],
         vec![14, 7, of_real(2.5), of_real(2.5)],
-        vec![14, before_draw(last), of_real(-two(53)), of_real(two(53))],
+        vec![14, before_draw(LAST), of_real(-two(53)), of_real(two(53))],
         // The upper end is reached by rounding.
-        vec![14, before_draw(last), of_real(1.0), of_real(next(1.0))],
+        vec![14, before_draw(LAST), of_real(1.0), of_real(next(1.0))],
         vec![14, before_draw(1 << 51), of_real(1.0), of_real(next(1.0))],
-        vec![14, before_draw(last), of_real(0.0), of_real(tiniest())],
+        vec![14, before_draw(LAST), of_real(0.0), of_real(tiniest())],
         vec![14, before_draw(0), of_real(-0.0), of_real(0.0)],
         vec![14, before_draw(0), of_real(-0.0), of_real(-0.0)],
-        vec![14, before_draw(last), of_real(-1.0), of_real(two(53))],
+        vec![14, before_draw(LAST), of_real(-1.0), of_real(two(53))],
     ]
 }
 
@@ -47,9 +45,9 @@ pub(super) fn draw_input(mix: &mut Mix, at: u64) -> Line {
         1 => vec![11, state],
         2 => vec![12, state, 1 + mix.uneven(20)],
         3 => {
-            let low = mix.uneven(54) as i64 - (1 << 53);
+            let low = mix.uneven(54) as i64 - FAR;
             let width = mix.uneven(53) as i64;
-            vec![13, state, of_int(low), of_int((low + width).min(1 << 53))]
+            vec![13, state, of_int(low), of_int((low + width).min(FAR))]
         }
         _ => {
             let (x, y) = bounds(mix);

@@ -1,6 +1,7 @@
 //! Inputs of the records objective row, front list, reference table and
 //! association.
 
+use super::kept::listing;
 use super::*;
 
 // ---------------------------------------------------------------------------
@@ -61,7 +62,7 @@ pub(super) fn dominance_cases() -> Vec<Line> {
 }
 
 pub(super) fn dominance_input(mix: &mut Mix, at: u64) -> Line {
-    let m = 1 + (at % 8) as usize;
+    let m = objectives(at);
     let marks = marks(mix, m);
     let flavour = mix.below(ROW_FLAVOURS);
     let x = row(mix, flavour, m, 0, 2);
@@ -69,7 +70,7 @@ pub(super) fn dominance_input(mix: &mut Mix, at: u64) -> Line {
     // Rows that differ in one place or none.
     if mix.once_in(2) {
         y = x.clone();
-        let place = mix.below(m as u64) as usize;
+        let place = mix.place(m);
         y[place] = mix.pick(&[y[place], y[place] + 1.0, -1.0]);
     }
     match mix.below(3) {
@@ -106,12 +107,10 @@ pub(super) fn fronts(command: u64, marks: &[u64], pool: &[Plan]) -> Line {
 }
 
 pub(super) fn front_cases() -> Vec<Line> {
-    let listed = pool_of(&[&[0.0, 0.0], &[1.0, 3.0], &[4.0, 1.0]]);
     // A later front is not in rising index: plan 0 frees 2, then plan 3 frees 1.
     let moment = pool_of(&[&[0.0, 3.0], &[4.0, 4.0], &[1.0, 5.0], &[3.0, 0.0]]);
-    let bound = |row: &[f64], constraints: &[f64]| plan(row, constraints);
     vec![
-        fronts(40, &[0, 0], &listed),
+        fronts(40, &[0, 0], &listing().pool),
         fronts(40, &[0, 0], &moment),
         fronts(40, &[1, 1], &moment),
         fronts(40, &[0], &[]),
@@ -130,9 +129,9 @@ pub(super) fn front_cases() -> Vec<Line> {
             41,
             &[0],
             &[
-                bound(&[0.0], &[0.5]),
-                bound(&[1.0], &[0.25]),
-                bound(&[2.0], &[0.25, 0.25]),
+                plan(&[0.0], &[0.5]),
+                plan(&[1.0], &[0.25]),
+                plan(&[2.0], &[0.25, 0.25]),
             ],
         ),
         // Feasible first, then by violation; rows do not matter there.
@@ -140,11 +139,11 @@ pub(super) fn front_cases() -> Vec<Line> {
             41,
             &[0, 0],
             &[
-                bound(&[0.0, 0.0], &[tiniest()]),
-                bound(&[5.0, 5.0], &[0.0]),
-                bound(&[1.0, 9.0], &[]),
-                bound(&[9.0, 1.0], &[-1.0, -0.0]),
-                bound(&[0.0, 0.0], &[1.0]),
+                plan(&[0.0, 0.0], &[tiniest()]),
+                plan(&[5.0, 5.0], &[0.0]),
+                plan(&[1.0, 9.0], &[]),
+                plan(&[9.0, 1.0], &[-1.0, -0.0]),
+                plan(&[0.0, 0.0], &[1.0]),
             ],
         ),
         // A front that is ordered by the moment of release.
@@ -164,7 +163,7 @@ pub(super) fn front_cases() -> Vec<Line> {
 }
 
 pub(super) fn front_input(mix: &mut Mix, at: u64) -> Line {
-    let m = 1 + (at % 8) as usize;
+    let m = objectives(at);
     let n = mix.within(1, 12) as usize;
     let command = 40 + mix.below(2);
     fronts(command, &marks(mix, m), &pool(mix, m, n))
@@ -260,7 +259,7 @@ pub(super) fn reference_cases() -> Vec<Line> {
 }
 
 pub(super) fn reference_input(mix: &mut Mix, at: u64) -> Line {
-    let m = 1 + (at % 8) as usize;
+    let m = objectives(at);
     match mix.below(4) {
         0 => vec![50, m as u64, divisions(mix, m, 24)],
         1 => vec![51, m as u64, mix.uneven(12)],
@@ -277,22 +276,25 @@ pub(super) fn reference_input(mix: &mut Mix, at: u64) -> Line {
 // Association
 // ---------------------------------------------------------------------------
 
+/// The rows after their count.
+fn push_rows(line: &mut Line, rows: &[Vec<f64>]) {
+    line.push(rows.len() as u64);
+    for row in rows {
+        push_reals(line, row);
+    }
+}
+
 pub(super) fn normalize(marks: &[u64], ideal: &[f64], rows: &[Vec<f64>]) -> Line {
     let mut line = vec![60];
     write_marks(&mut line, marks);
     push_reals(&mut line, ideal);
-    line.push(rows.len() as u64);
-    for row in rows {
-        push_reals(&mut line, row);
-    }
+    push_rows(&mut line, rows);
     line
 }
 
 pub(super) fn associate(m: usize, h: u64, rows: &[Vec<f64>]) -> Line {
-    let mut line = vec![61, m as u64, h, rows.len() as u64];
-    for row in rows {
-        push_reals(&mut line, row);
-    }
+    let mut line = vec![61, m as u64, h];
+    push_rows(&mut line, rows);
     line
 }
 
@@ -355,7 +357,7 @@ pub(super) fn association_cases() -> Vec<Line> {
 }
 
 pub(super) fn association_input(mix: &mut Mix, at: u64) -> Line {
-    let m = 1 + (at % 8) as usize;
+    let m = objectives(at);
     let n = mix.within(1, 6) as usize;
     let flavour = mix.below(ROW_FLAVOURS);
     let rows: Vec<Vec<f64>> = (0..n).map(|i| row(mix, flavour, m, i, n)).collect();
@@ -367,7 +369,7 @@ pub(super) fn association_input(mix: &mut Mix, at: u64) -> Line {
                     mix.pick(&[f64::INFINITY, f64::INFINITY, near, near - 1.0, 0.0, -0.0])
                 })
                 .map(|z| {
-                    if z.abs() > refusals::greatest() {
+                    if z.abs() > two(1000) {
                         f64::INFINITY
                     } else {
                         z

@@ -149,21 +149,33 @@ pub(super) fn session_cases() -> Vec<Line> {
             ..good.clone()
         },
         Opening {
-            crossover_eta: 0.5,
+            operators: Operators {
+                crossover_eta: 0.5,
+                ..Operators::OWN
+            },
             ..good.clone()
         },
         Opening {
-            mutation_eta: 100.0,
+            operators: Operators {
+                mutation_eta: 100.0,
+                ..Operators::OWN
+            },
             short: true,
             ..good.clone()
         },
         Opening {
-            probability: f64::NAN,
+            operators: Operators {
+                probability: f64::NAN,
+                ..Operators::OWN
+            },
             ..good.clone()
         },
         Opening {
-            probability: -0.0,
-            crossover_eta: -0.0,
+            operators: Operators {
+                probability: -0.0,
+                crossover_eta: -0.0,
+                ..Operators::OWN
+            },
             ..good.clone()
         },
         Opening {
@@ -204,8 +216,7 @@ pub(super) fn session_cases() -> Vec<Line> {
 
     // The 33rd dimension.
     let mut script = Script::new(good.clone());
-    let _ = script.calls(1, 5, &choices(2), false, false);
-    for _ in 0..31 {
+    for _ in 0..32 {
         let _ = script.calls(1, 5, &choices(2), false, false);
     }
     let _ = script.calls(1, 5, &choices(2), false, true);
@@ -306,7 +317,7 @@ pub(super) fn session_cases() -> Vec<Line> {
 }
 
 pub(super) fn session_input(mix: &mut Mix, at: u64) -> Line {
-    let m = 1 + (at % 8) as usize;
+    let m = objectives(at);
     let many = at % 16 == 9;
     let divisions = mix.once_in(4).then(|| divisions(mix, m, 9));
     let size = match divisions {
@@ -317,9 +328,7 @@ pub(super) fn session_input(mix: &mut Mix, at: u64) -> Line {
     };
     let mut opening = Opening::new(m, size, divisions, mix.word());
     opening.marks = marks(mix, m);
-    opening.probability = probability(mix);
-    opening.crossover_eta = eta(mix);
-    opening.mutation_eta = eta(mix);
+    opening.operators = operators(mix);
     let mut script = Script::new(opening);
 
     // Discovery, with a refused dimension now and then.
@@ -398,7 +407,7 @@ pub(super) fn session_input(mix: &mut Mix, at: u64) -> Line {
             records.push(other);
         }
         // Handed in at once or in two calls.
-        let (early, late) = records.split_at(mix.below(records.len() as u64) as usize);
+        let (early, late) = records.split_at(mix.place(records.len()));
         if !early.is_empty() {
             script.fresh = early.to_vec();
             let known = open[0].0;
