@@ -31,5 +31,5 @@ def pool(divisions, size, seed, marks, plans):
 
 
 # document 01's three plans
-ROWS = [(0.0, 0.0), (1.0, 3.0), (4.0, 1.0)]
-PAPER = pool(1, 2, 5, [0, 0], [(row, []) for row in ROWS])
+PLANS = [((0.0, 0.0), []), ((1.0, 3.0), []), ((4.0, 1.0), [])]
+PAPER = pool(1, 2, 5, [0, 0], PLANS)

@@ -1,9 +1,16 @@
-"""The stored sample: its records, and the program's input that they make up."""
+"""What the oracle's scripts share: the program, the stored sample and its records, document 01's generator, and a count of what passed."""
 
 import os
+import subprocess
+import sys
 
 TOP = os.path.dirname(os.path.dirname(os.path.abspath(__file__)))
 
+# What oracle/build makes.
+OUT = os.path.join(TOP, "target", "oracle")
+ORACLE = os.path.join(OUT, "oracle")
+
+STORED = os.path.join(TOP, "oracle", "stored")
 # What the program replay_main reads: the stored files, joined in the order below.
 REPLAYED = os.path.join(TOP, "crates", "replay_main", "stdin")
 
@@ -21,3 +28,28 @@ RECORDS = {
     "session": 10,
     "choose": 24,
 }
+
+# A step of the generator's state: times the one, plus the other, modulo 2^64.
+MULTIPLIER = 6364136223846793005
+INCREMENT = 1442695040888963407
+
+
+def oracle(*arguments, given=b"", check=True):
+    """What the oracle prints."""
+    return subprocess.run([ORACLE, *arguments], input=given, stdout=subprocess.PIPE, check=check).stdout
+
+
+class Tally:
+    """Counts what passed, and tells what failed."""
+
+    def __init__(self):
+        self.passed = self.failed = 0
+
+    def note(self, good, what):
+        self.passed, self.failed = self.passed + good, self.failed + (not good)
+        if not good:
+            print("FAILED " + what)
+
+    def end(self):
+        print(f"{self.passed} passed, {self.failed} failed")
+        sys.exit(self.failed != 0)
