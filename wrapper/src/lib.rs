@@ -52,20 +52,10 @@ impl Refusal {
     }
 
     fn from_code(code: u64) -> Self {
-        match code {
-            1 => Refusal::Form,
-            2 => Refusal::Directions,
-            3 => Refusal::Size,
-            4 => Refusal::Divisions,
-            5 => Refusal::Operators,
-            6 => Refusal::Dimension,
-            7 => Refusal::Count,
-            8 => Refusal::Plan,
-            9 => Refusal::Parent,
-            10 => Refusal::Room,
-            11 => Refusal::Full,
-            _ => unreachable!("the library answers 0 to 11"),
-        }
+        use Refusal::*;
+        let all = [Form, Directions, Size, Divisions, Operators, Dimension, Count, Plan, Parent, Room, Full];
+        let found = all.into_iter().find(|&refusal| refusal as u64 == code);
+        found.expect("the library answers 0 to 11")
     }
 
     fn of(code: u64) -> Result<(), Refusal> {
@@ -139,9 +129,9 @@ pub enum Setting {
 impl Setting {
     fn kind(self) -> u64 {
         match self {
-            Setting::Float(_) => 0,
-            Setting::Int(_) => 1,
-            Setting::Categorical(_) => 2,
+            Setting::Float(_) => raw::FLOAT,
+            Setting::Int(_) => raw::INT,
+            Setting::Categorical(_) => raw::CATEGORICAL,
         }
     }
 
@@ -155,8 +145,8 @@ impl Setting {
 
     fn of(kind: u64, word: u64) -> Self {
         match kind {
-            0 => Setting::Float(f64::from_bits(word)),
-            1 => Setting::Int(int_of_word(word)),
+            raw::FLOAT => Setting::Float(f64::from_bits(word)),
+            raw::INT => Setting::Int(int_of_word(word)),
             _ => Setting::Categorical(word as usize),
         }
     }
@@ -183,7 +173,7 @@ impl Dimension {
         if !(low <= high && -bound <= low && high <= bound) {
             return Err(Refusal::Dimension);
         }
-        Ok(Dimension([0, low.to_bits(), high.to_bits(), 0, 0, 0]))
+        Ok(Dimension([raw::FLOAT, low.to_bits(), high.to_bits(), 0, 0, 0]))
     }
 
     /// Whole numbers from low to high, both included and within 2^53 in magnitude.
@@ -191,7 +181,7 @@ impl Dimension {
         if !(low <= high && -BOUND <= low && high <= BOUND) {
             return Err(Refusal::Dimension);
         }
-        Ok(Dimension([1, word_of_int(low), word_of_int(high), 0, 0, 0]))
+        Ok(Dimension([raw::INT, word_of_int(low), word_of_int(high), 0, 0, 0]))
     }
 
     /// Of these, those that are a whole number of steps above low.
@@ -210,7 +200,7 @@ impl Dimension {
         if !(1..=65536).contains(&choices) {
             return Err(Refusal::Dimension);
         }
-        Ok(Dimension([2, choices as u64, 0, 0, 0, 0]))
+        Ok(Dimension([raw::CATEGORICAL, choices as u64, 0, 0, 0, 0]))
     }
 
     fn kind(&self) -> u64 {

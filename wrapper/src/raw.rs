@@ -9,11 +9,13 @@ pub const MAX_OBJECTIVES: usize = 8;
 pub const MAX_CONSTRAINTS: usize = 16;
 pub const MAX_SETTINGS: usize = 32;
 pub const PLAN_ROW_LENGTH: usize = 1;
-pub const PLAN_ROW: usize = 2;
 pub const PLAN_CONSTRAINT_COUNT: usize = 10;
-pub const PLAN_CONSTRAINTS: usize = 11;
 pub const PLAN_SETTING_COUNT: usize = 27;
 pub const PLAN_SETTINGS: usize = 28;
+
+pub const FLOAT: u64 = 0;
+pub const INT: u64 = 1;
+pub const CATEGORICAL: u64 = 2;
 
 pub const DIMENSION_WORDS: usize = 6;
 pub const NO_LINE: usize = usize::MAX;
@@ -168,13 +170,11 @@ impl Session {
 pub fn plan_words(number: u64, row: &[f64], constraints: &[f64], settings: &[[u64; 3]]) -> [u64; PLAN_WORDS] {
     let mut words = [0; PLAN_WORDS];
     words[0] = number;
-    words[PLAN_ROW_LENGTH] = row.len() as u64;
-    for (word, value) in words[PLAN_ROW..].iter_mut().zip(row.iter().take(MAX_OBJECTIVES)) {
-        *word = value.to_bits();
-    }
-    words[PLAN_CONSTRAINT_COUNT] = constraints.len() as u64;
-    for (word, value) in words[PLAN_CONSTRAINTS..].iter_mut().zip(constraints.iter().take(MAX_CONSTRAINTS)) {
-        *word = value.to_bits();
+    for (count, reals, most) in [(PLAN_ROW_LENGTH, row, MAX_OBJECTIVES), (PLAN_CONSTRAINT_COUNT, constraints, MAX_CONSTRAINTS)] {
+        words[count] = reals.len() as u64;
+        for (word, real) in words[count + 1..].iter_mut().zip(reals.iter().take(most)) {
+            *word = real.to_bits();
+        }
     }
     words[PLAN_SETTING_COUNT] = settings.len() as u64;
     for (to, setting) in words[PLAN_SETTINGS..].chunks_mut(3).zip(settings.iter().take(MAX_SETTINGS)) {

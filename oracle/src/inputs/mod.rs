@@ -372,14 +372,20 @@ fn pool_of(rows: &[&[f64]]) -> Vec<Plan> {
     numbered.map(|(n, row)| Plan::record(n, row, &[])).collect()
 }
 
-/// Selections and generation steps are varied one field at a time.
-impl Call {
+/// Inputs are varied one field at a time.
+trait But: Clone {
     fn but(&self, change: impl Fn(&mut Self)) -> Self {
-        let mut call = self.clone();
-        change(&mut call);
-        call
+        let mut changed = self.clone();
+        change(&mut changed);
+        changed
     }
+}
 
+impl But for Call {}
+
+impl But for Opening {}
+
+impl Call {
     fn select(&self) -> Line {
         self.write(SELECT)
     }

@@ -96,92 +96,31 @@ pub(super) fn session_cases() -> Vec<Line> {
     // Openings that are turned down, and some that just are not.
     let good = Opening::new(2, Some(4), Some(3), 1);
     let openings = [
-        Opening {
-            marks: Vec::new(),
-            ..good.clone()
-        },
-        Opening {
-            marks: vec![0; 9],
-            size: Some(2000),
-            ..good.clone()
-        },
-        Opening {
-            marks: vec![0, 2],
-            ..good.clone()
-        },
-        Opening {
-            size: Some(1025),
-            ..good.clone()
-        },
-        Opening {
-            size: Some(1024),
-            ..good.clone()
-        },
-        Opening {
-            size: Some(0),
-            divisions: None,
-            ..good.clone()
-        },
-        Opening {
-            divisions: Some(0),
-            ..good.clone()
-        },
-        Opening {
-            divisions: Some(200),
-            ..good.clone()
-        },
-        Opening {
-            marks: vec![0; 3],
-            size: Some(991),
-            divisions: None,
-            ..good.clone()
-        },
-        Opening {
-            marks: vec![0; 3],
-            size: Some(990),
-            divisions: None,
-            ..good.clone()
-        },
-        Opening {
-            marks: vec![0; 8],
-            size: Some(793),
-            divisions: None,
-            ..good.clone()
-        },
-        Opening {
-            operators: Operators {
-                crossover_eta: 0.5,
-                ..Operators::OWN
-            },
-            ..good.clone()
-        },
-        Opening {
-            operators: Operators {
-                mutation_eta: 100.0,
-                ..Operators::OWN
-            },
-            short: true,
-            ..good.clone()
-        },
-        Opening {
-            operators: Operators {
-                probability: f64::NAN,
-                ..Operators::OWN
-            },
-            ..good.clone()
-        },
-        Opening {
-            operators: Operators {
-                probability: -0.0,
-                crossover_eta: -0.0,
-                ..Operators::OWN
-            },
-            ..good.clone()
-        },
-        Opening {
-            short: true,
-            ..good.clone()
-        },
+        good.but(|o| o.marks = Vec::new()),
+        good.but(|o| {
+            o.marks = vec![0; 9];
+            o.size = Some(2000);
+        }),
+        good.but(|o| o.marks = vec![0, 2]),
+        good.but(|o| o.size = Some(1025)),
+        good.but(|o| o.size = Some(1024)),
+        good.but(|o| (o.size, o.divisions) = (Some(0), None)),
+        good.but(|o| o.divisions = Some(0)),
+        good.but(|o| o.divisions = Some(200)),
+        Opening::new(3, Some(991), None, 1),
+        Opening::new(3, Some(990), None, 1),
+        Opening::new(8, Some(793), None, 1),
+        good.but(|o| o.operators.crossover_eta = 0.5),
+        good.but(|o| {
+            o.operators.mutation_eta = 100.0;
+            o.short = true;
+        }),
+        good.but(|o| o.operators.probability = f64::NAN),
+        good.but(|o| {
+            o.operators.probability = -0.0;
+            o.operators.crossover_eta = -0.0;
+        }),
+        good.but(|o| o.short = true),
     ];
     for opening in openings {
         let mut script = Script::new(opening);
