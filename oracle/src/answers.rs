@@ -29,38 +29,11 @@ pub fn answer(input: &[u64]) -> Result<Vec<u64>, String> {
     let command = r.number()?;
     let mut a: Vec<u64> = Vec::new();
     match command {
-        // Draw
-        10 => {
+        // Draw, setting and dimension: the generator's state stands first, and
+        // the state after last.
+        10..=14 | 80..=86 => {
             let mut rng = fastrand::Rng::with_seed(r.number()?);
-            for _ in 0..r.count()? {
-                a.push(rng.word());
-            }
-            a.push(rng.s);
-        }
-        11 => {
-            let mut rng = fastrand::Rng::with_seed(r.number()?);
-            a.push(of_real(rng.f64()));
-            a.push(rng.s);
-        }
-        12 => {
-            let mut rng = fastrand::Rng::with_seed(r.number()?);
-            let n = positive(r)?;
-            a.push(rng.usize(0..n) as u64);
-            a.push(rng.s);
-        }
-        13 => {
-            let mut rng = fastrand::Rng::with_seed(r.number()?);
-            let (low, high) = (r.int()?, r.int()?);
-            if low > high {
-                return Err("an empty range".to_string());
-            }
-            a.push(of_int(rng.i64(low..=high)));
-            a.push(rng.s);
-        }
-        14 => {
-            let mut rng = fastrand::Rng::with_seed(r.number()?);
-            let (low, high) = (r.real()?, r.real()?);
-            a.push(of_real(rng_util::f64_range(&mut rng, low, high)));
+            drawn(command, &mut rng, r, &mut a)?;
             a.push(rng.s);
         }
 
@@ -226,68 +199,7 @@ pub fn answer(input: &[u64]) -> Result<Vec<u64>, String> {
             }
         }
 
-        // Setting and dimension
-        80 => {
-            let mut rng = fastrand::Rng::with_seed(r.number()?);
-            let dimension = fit_dimension(r)?;
-            plans::write_setting(&mut a, &common::sample_random(&mut rng, &dimension));
-            a.push(rng.s);
-        }
-        81 => {
-            let mut rng = fastrand::Rng::with_seed(r.number()?);
-            let dimensions = fit_dimensions(r)?;
-            let plan = Plan::read(r)?;
-            let dimensions = plans::infos(&dimensions);
-            if refusals::bad_settings(&plan, &dimensions) {
-                return Err("settings that are turned down with 9".to_string());
-            }
-            let settings = genetic::extract_trial_params(&plan.trial(), &dimensions, &mut rng);
-            push_settings(&mut a, &settings);
-            a.push(rng.s);
-        }
-        82 => {
-            let mut rng = fastrand::Rng::with_seed(r.number()?);
-            let (probability, eta) = (r.real()?, r.real()?);
-            let dimensions = fit_dimensions(r)?;
-            let first = r.list(dimensions.len(), plans::read_setting)?;
-            let second = r.list(dimensions.len(), plans::read_setting)?;
-            let dimensions = plans::infos(&dimensions);
-            let (child1, child2) =
-                genetic::crossover(&mut rng, &first, &second, &dimensions, probability, eta);
-            push_settings(&mut a, &child1);
-            push_settings(&mut a, &child2);
-            a.push(rng.s);
-        }
-        83 => {
-            let mut rng = fastrand::Rng::with_seed(r.number()?);
-            let (p1, p2) = (r.real()?, r.real()?);
-            let (low, high, eta) = (r.real()?, r.real()?, r.real()?);
-            let (c1, c2) = genetic::sbx_crossover_f64(&mut rng, p1, p2, low, high, eta);
-            a.extend([of_real(c1), of_real(c2), rng.s]);
-        }
-        84 => {
-            let mut rng = fastrand::Rng::with_seed(r.number()?);
-            let eta = r.real()?;
-            let dimensions = fit_dimensions(r)?;
-            let mut settings = r.list(dimensions.len(), plans::read_setting)?;
-            genetic::mutate(&mut rng, &mut settings, &plans::infos(&dimensions), eta);
-            push_settings(&mut a, &settings);
-            a.push(rng.s);
-        }
-        85 => {
-            let mut rng = fastrand::Rng::with_seed(r.number()?);
-            let x = r.real()?;
-            let (low, high, eta) = (r.real()?, r.real()?, r.real()?);
-            let moved = genetic::polynomial_mutation_f64(&mut rng, x, low, high, eta);
-            a.extend([of_real(moved), rng.s]);
-        }
-        86 => {
-            let mut rng = fastrand::Rng::with_seed(r.number()?);
-            let count = positive(r)?;
-            let ranks = r.list(count, Reader::count)?;
-            let winner = nsga3::tournament_select_rank(&mut rng, &ranks, ranks.len());
-            a.extend([winner as u64, rng.s]);
-        }
+        // Generation step
         STEP => {
             if let Some(call) = accepted(command, r, &mut a)? {
                 let bred = step(&call);
@@ -318,6 +230,91 @@ pub fn answer(input: &[u64]) -> Result<Vec<u64>, String> {
     Ok(a)
 }
 
+/// The answer of a command that draws, but for the state.
+fn drawn(
+    command: u64,
+    rng: &mut fastrand::Rng,
+    r: &mut Reader,
+    a: &mut Vec<u64>,
+) -> Result<(), String> {
+    match command {
+        // Draw
+        10 => {
+            for _ in 0..r.count()? {
+                a.push(rng.word());
+            }
+        }
+        11 => a.push(of_real(rng.f64())),
+        12 => {
+            let n = positive(r)?;
+            a.push(rng.usize(0..n) as u64);
+        }
+        13 => {
+            let (low, high) = (r.int()?, r.int()?);
+            if low > high {
+                return Err("an empty range".to_string());
+            }
+            a.push(of_int(rng.i64(low..=high)));
+        }
+        14 => {
+            let (low, high) = (r.real()?, r.real()?);
+            a.push(of_real(rng_util::f64_range(rng, low, high)));
+        }
+
+        // Setting and dimension
+        80 => {
+            let dimension = fit_dimension(r)?;
+            plans::write_setting(a, &common::sample_random(rng, &dimension));
+        }
+        81 => {
+            let dimensions = fit_dimensions(r)?;
+            let plan = Plan::read(r)?;
+            if refusals::bad_settings(&plan, &dimensions) {
+                return Err("settings that are turned down with 9".to_string());
+            }
+            let settings = genetic::extract_trial_params(&plan.trial(), &dimensions, rng);
+            push_settings(a, &settings);
+        }
+        82 => {
+            let (probability, eta) = (r.real()?, r.real()?);
+            let dimensions = fit_dimensions(r)?;
+            let first = r.list(dimensions.len(), plans::read_setting)?;
+            let second = r.list(dimensions.len(), plans::read_setting)?;
+            let (child1, child2) =
+                genetic::crossover(rng, &first, &second, &dimensions, probability, eta);
+            push_settings(a, &child1);
+            push_settings(a, &child2);
+        }
+        83 => {
+            let (p1, p2) = (r.real()?, r.real()?);
+            let (low, high, eta) = (r.real()?, r.real()?, r.real()?);
+            let (c1, c2) = genetic::sbx_crossover_f64(rng, p1, p2, low, high, eta);
+            push_reals(a, &[c1, c2]);
+        }
+        84 => {
+            let eta = r.real()?;
+            let dimensions = fit_dimensions(r)?;
+            let mut settings = r.list(dimensions.len(), plans::read_setting)?;
+            genetic::mutate(rng, &mut settings, &dimensions, eta);
+            push_settings(a, &settings);
+        }
+        85 => {
+            let x = r.real()?;
+            let (low, high, eta) = (r.real()?, r.real()?, r.real()?);
+            let moved = genetic::polynomial_mutation_f64(rng, x, low, high, eta);
+            a.push(of_real(moved));
+        }
+        86 => {
+            let count = positive(r)?;
+            let ranks = r.list(count, Reader::count)?;
+            let winner = nsga3::tournament_select_rank(rng, &ranks, ranks.len());
+            a.push(winner as u64);
+        }
+        _ => return Err(format!("{command} is no command that draws")),
+    }
+    Ok(())
+}
+
 fn positive(r: &mut Reader) -> Result<usize, String> {
     match r.count()? {
         0 => Err("0 stands where at least 1 belongs".to_string()),
@@ -342,8 +339,8 @@ fn fit_dimension(r: &mut Reader) -> Result<Distribution, String> {
     Ok(dimension)
 }
 
-fn fit_dimensions(r: &mut Reader) -> Result<Vec<Distribution>, String> {
-    r.counted(fit_dimension)
+fn fit_dimensions(r: &mut Reader) -> Result<Vec<genetic::DimensionInfo>, String> {
+    Ok(plans::infos(&r.counted(fit_dimension)?))
 }
 
 /// Reads a selection or step and writes its refusal or 0: the call, where it
