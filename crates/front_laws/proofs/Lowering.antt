@@ -7,7 +7,7 @@ use native.Mathlib.Nat.{zero-add}
 use native.Mathlib.Omega.{arith}
 use borrow.Author.Tests.{eq-eqb, ne-eqb, eqb-true, eqb-false, lt-ltb, le-ltb}
 use lib.Dec.{eqb, ltb}
-use Rattle.model.specs.Front.{lower, freed, lowerAll, freedAll}
+use Rattle.model.specs.Front.{lower, freed, lowerAll, freedAll, frees}
 use Rattle.model.specs.Lists.{one, tally, In}
 use Rattle.list_laws.specs.Occ.{occ, Below}
 use Rattle.list_laws.proofs.Bools.{by-bool}
@@ -61,7 +61,7 @@ module _ (d e : ℕ → ℕ → Bool) (n : ℕ) where
       (freedAll-same l (lower d p f) (lower e p g) (λ q m. a q (List·Memᴰ·tail m)) (lower-same p f g (a p (List·Memᴰ·head refl)) h))
 
 -- whom one member frees
-pub occ-freed : (d : ℕ → ℕ → Bool) (n p : ℕ) (counts : ℕ → ℕ) (q : ℕ) → q < n → occ q (freed d n p counts) ≡ one (d p q && eqb (lower d p counts q) 0)
+pub occ-freed : (d : ℕ → ℕ → Bool) (n p : ℕ) (counts : ℕ → ℕ) (q : ℕ) → q < n → occ q (freed d n p counts) ≡ one (frees d p counts q)
 unfolding freed
 occ-freed d n p counts q l = keepBelow-occ _ n q l
 

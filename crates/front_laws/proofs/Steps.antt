@@ -7,16 +7,16 @@ use native.Mathlib.Omega.{arith}
 use borrow.Author.Tests.{eq-eqb}
 use lib.Dec.{eqb}
 use lib.ListN.{length, getD}
-use Rattle.model.specs.Front.{lower, freed}
+use Rattle.model.specs.Front.{lower, freed, frees}
 use Rattle.model.specs.Lists.{one}
 use Rattle.list_laws.proofs.Built.{over-none, over-set, over-size}
 use Rattle.list_laws.proofs.Kept.{keepBelow-room}
 use Rattle.list_laws.proofs.Runs.{over-next, over-keep}
-use Rattle.front_laws.specs.Post.{of, freedAt, Freed, frees, Releasing}
+use Rattle.front_laws.specs.Post.{of, freedAt, Freed, Releasing}
 use Rattle.list_laws.proofs.Stores.{picked-none, picked-no, picked-length, picked-more}
 
 pub releasing-first : (d : ℕ → ℕ → Bool) (p : ℕ) (cs₀ o₀ : List ℕ) (at : ℕ) → Releasing d p cs₀ o₀ at 0 cs₀ o₀ at
-releasing-first d p cs₀ o₀ at = record { counts = sym (over-none (lower d p (of cs₀)) cs₀); order = picked-none (frees d p cs₀) o₀ at }
+releasing-first d p cs₀ o₀ at = record { counts = sym (over-none (lower d p (of cs₀)) cs₀); order = picked-none (frees d p (of cs₀)) o₀ at }
 
 module _ (d : ℕ → ℕ → Bool) (p : ℕ) (cs₀ o₀ : List ℕ) (at q : ℕ) (cs o : List ℕ) (len : ℕ) (h : Releasing d p cs₀ o₀ at q cs o len) where
   -- q's count is as it was
@@ -27,10 +27,10 @@ module _ (d : ℕ → ℕ → Bool) (p : ℕ) (cs₀ o₀ : List ℕ) (at q : �
   counts-size l = over-size (lower d p (of cs₀)) q cs cs₀ (h .counts) l
 
   pub releasing-size : length o ≡ length o₀
-  releasing-size = picked-length (frees d p cs₀) o₀ at q o len (h .order)
+  releasing-size = picked-length (frees d p (of cs₀)) o₀ at q o len (h .order)
 
   -- the test that the turn makes says whether p frees q
-  frees-now : d p q ≡ true → frees d p cs₀ q ≡ eqb (getD cs q 0 - 1) 0
+  frees-now : d p q ≡ true → frees d p (of cs₀) q ≡ eqb (getD cs q 0 - 1) 0
   unfolding lower
   frees-now e = ap (λ b. b && eqb (getD cs₀ q 0 - one b) 0) e ∙ ap (λ v. eqb (v - 1) 0) (sym count-still)
 
@@ -38,7 +38,7 @@ module _ (d : ℕ → ℕ → Bool) (p : ℕ) (cs₀ o₀ : List ℕ) (at q : �
   frees-room : (n : ℕ) → q < n → at + length (freedAt d n p cs₀) ≤ length o₀ → d p q ≡ true → getD cs q 0 ≡ 1 → len < length o₀
   unfolding freed
   frees-room n l r e v =
-      omega (arith, h .order .ends, r, keepBelow-room (frees d p cs₀) n q l (frees-now e ∙ eq-eqb (getD cs q 0 - 1) 0 (omega arith)))
+      omega (arith, h .order .ends, r, keepBelow-room (frees d p (of cs₀)) n q l (frees-now e ∙ eq-eqb (getD cs q 0 - 1) 0 (omega arith)))
 
   -- what lowering q's count asks, where p dominates q
   pub releasing-asks : (n : ℕ) → q < n → n ≤ length cs₀ → one (d p q) ≤ getD cs₀ q 0 → at + length (freedAt d n p cs₀) ≤ length o₀ → d p q ≡ true
@@ -51,12 +51,12 @@ module _ (d : ℕ → ℕ → Bool) (p : ℕ) (cs₀ o₀ : List ℕ) (at q : �
   unfolding lower
   releasing-yes cs′ o′ r l e f = record {
     counts = f .counts ∙ over-set (lower d p (of cs₀)) cs cs₀ q (getD cs q 0 - 1) l (h .counts) (omega (arith, count-still, ap one e));
-    order = picked-more (frees d p cs₀) o₀ at q o len (eqb (getD cs q 0 - 1) 0) o′ r (frees-now e) (h .order) (f .order);
+    order = picked-more (frees d p (of cs₀)) o₀ at q o len (eqb (getD cs q 0 - 1) 0) o′ r (frees-now e) (h .order) (f .order);
   }
 
   pub releasing-no : q < length cs₀ → d p q ≡ false → Releasing d p cs₀ o₀ at (q + 1) cs o len
   unfolding lower
   releasing-no l e = record {
     counts = over-keep (lower d p (of cs₀)) cs cs₀ q 0 l (h .counts) (omega (arith, ap one e));
-    order = picked-no (frees d p cs₀) o₀ at q o len (ap (λ b. b && eqb (lower d p (of cs₀) q) 0) e) (h .order);
+    order = picked-no (frees d p (of cs₀)) o₀ at q o len (ap (λ b. b && eqb (lower d p (of cs₀) q) 0) e) (h .order);
   }

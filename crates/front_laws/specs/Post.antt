@@ -1,13 +1,13 @@
 -- What the functions of the sort ask and promise, in the words of document 01's front list. `d p q` says that plan p dominates plan q.
 use Prim.Native.Nat.{ℕ, suc, _+_, _-_, _≤_, _<_}
 use mathlib.Core.Path.{_≡_}
-use mathlib.Core.Bool.{Bool, cond, _&&_}
+use mathlib.Core.Bool.{Bool, cond}
 use mathlib.Core.List.{List, [], _∷_}
 use lib.Dec.{eqb}
 use lib.ListN.{length, getD, set}
 use lib.Seq.{slice}
 use Rattle.model.specs.Lists.{one, countBelow, tally, firstBelow, listBelow, over}
-use Rattle.model.specs.Front.{lower, freed, lowerAll, freedAll, front, listing, frontList}
+use Rattle.model.specs.Front.{lower, freed, lowerAll, freedAll, front, listing, frontList, frees}
 use Rattle.list_laws.specs.Put.{Put, Picked}
 use Rattle.front_laws.specs.Ranks.{mark}
 
@@ -50,14 +50,10 @@ pub record Releasable (d : ℕ → ℕ → Bool) (n p at : ℕ) (cs o : List ℕ
   pub fair : (t : ℕ) → t < n → one (d p t) ≤ getD cs t 0
   pub room : at + length (freedAt d n p cs) ≤ length o
 
--- p frees q
-abbrev pub frees : (ℕ → ℕ → Bool) → ℕ → List ℕ → ℕ → Bool
-frees d p cs q = d p q && eqb (lower d p (of cs) q) 0
-
 -- the counts below q lowered by p, and whom it frees below q listed from `at` on
 pub record Releasing (d : ℕ → ℕ → Bool) (p : ℕ) (cs₀ o₀ : List ℕ) (at q : ℕ) (cs o : List ℕ) (r : ℕ) : Type 0 where
   pub counts : cs ≡ over (listBelow (lower d p (of cs₀)) q) cs₀
-  pub order : Picked (frees d p cs₀) o₀ at q o r
+  pub order : Picked (frees d p (of cs₀)) o₀ at q o r
 
 -- and all n counts
 abbrev pub Released : (ℕ → ℕ → Bool) → ℕ → ℕ → ℕ → List ℕ → List ℕ → List ℕ → List ℕ → ℕ → Type 0

@@ -10,7 +10,7 @@ use lib.Ieee.{Float, lt}
 use lib.ListN.{length, getD, replicate, length-replicate, getD-replicate, List·getD-append, List·getD-eq-default, length-append, length-map}
 use lib.Seq.{getD-at}
 use Rattle.model.specs.Lists.{one, countBelow, keepBelow, keep, tally, bestFrom, listBelow}
-use Rattle.model.specs.Kept.{nearest}
+use Rattle.model.specs.Kept.{nearest, nearerPlan}
 use Rattle.list_laws.proofs.Built.{map-at, listBelow-places, map-below}
 use Rattle.list_laws.proofs.Best.{best-more, best-same, best-all, best-map}
 use Rattle.list_laws.specs.Occ.{occ}
@@ -85,9 +85,6 @@ first-only f n r h = keepBelow-more f r (h .one .passes) ∙ ap (λ t. t ++ (r �
 -- ---- the nearest
 
 module _ (d : ℕ → Float) where
-  abbrev nearer : ℕ → ℕ → Bool
-  nearer p q = lt (d p) (d q)
-
   -- one more at the end
   pub nearest-snoc : (l : List ℕ) (p : ℕ) → 0 < length l → nearest d (l ++ (p ∷ [])) ≡ cond (lt (d p) (d (nearest d l))) p (nearest d l)
   unfolding nearest
@@ -96,19 +93,19 @@ module _ (d : ℕ → Float) where
       let at : (i : ℕ) → i < length l → getD l i 0 ≡ getD more i 0 = λ i u. sym (List·getD-append l (p ∷ []) 0 i u) in
       let last : getD more (length l) 0 ≡ p = getD-at l p [] 0 (length l) refl in
       sym (ap (λ t. cond (lt (d t) (d (nearest d l))) t (nearest d l)) (sym last)
-      ∙ best-more nearer (getD more 0 0) (λ i. getD more i 0) (length l)
-      (ap (λ b. bestFrom nearer b (λ i. getD l i 0) (length l)) (at 0 h) ∙ best-same nearer (getD more 0 0) _ _ (length l) at) refl
-      ∙ ap (bestFrom nearer (getD more 0 0) (λ i. getD more i 0)) (sym (length-append l (p ∷ []))))
+      ∙ best-more (nearerPlan d) (getD more 0 0) (λ i. getD more i 0) (length l)
+      (ap (λ b. bestFrom (nearerPlan d) b (λ i. getD l i 0) (length l)) (at 0 h) ∙ best-same (nearerPlan d) (getD more 0 0) _ _ (length l) at) refl
+      ∙ ap (bestFrom (nearerPlan d) (getD more 0 0) (λ i. getD more i 0)) (sym (length-append l (p ∷ []))))
 
   pub nearest-one : (p : ℕ) → nearest d (p ∷ []) ≡ p
   unfolding nearest
-  nearest-one p = best-all nearer (λ q. q ≡ p) p (λ i. getD (p ∷ []) i 0) 1 refl (λ t u. let e : t ≡ 0 = omega arith in ap (λ i. getD (p ∷ []) i 0) e)
+  nearest-one p = best-all (nearerPlan d) (λ q. q ≡ p) p (λ i. getD (p ∷ []) i 0) 1 refl (λ t u. let e : t ≡ 0 = omega arith in ap (λ i. getD (p ∷ []) i 0) e)
 
 -- the nearest plan stands at the nearest place
 pub nearest-map : (d : ℕ → Float) (h : ℕ → ℕ) (l : List ℕ) → 0 < length l → nearest d (map h l) ≡ h (nearest (λ i. d (h i)) l)
 unfolding nearest
 nearest-map d h l u =
     let at : (i : ℕ) → i < length l → getD (map h l) i 0 ≡ h (getD l i 0) = λ i v. map-at h l i 0 0 v in
-    ap (bestFrom (nearer d) (getD (map h l) 0 0) (λ i. getD (map h l) i 0)) (length-map l h)
-    ∙ ap (λ b. bestFrom (nearer d) b (λ i. getD (map h l) i 0) (length l)) (at 0 u)
-    ∙ best-same (nearer d) (h (getD l 0 0)) _ _ (length l) at ∙ best-map (nearer d) h (getD l 0 0) (λ i. getD l i 0) (length l)
+    ap (bestFrom (nearerPlan d) (getD (map h l) 0 0) (λ i. getD (map h l) i 0)) (length-map l h)
+    ∙ ap (λ b. bestFrom (nearerPlan d) b (λ i. getD (map h l) i 0) (length l)) (at 0 u)
+    ∙ best-same (nearerPlan d) (h (getD l 0 0)) _ _ (length l) at ∙ best-map (nearerPlan d) h (getD l 0 0) (λ i. getD l i 0) (length l)

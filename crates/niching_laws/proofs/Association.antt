@@ -6,7 +6,7 @@ use mathlib.Core.Bool.{Bool, true, false, cond, true≢false}
 use native.Mathlib.Omega.{arith}
 use lib.Ieee.{Float, nan, inf, fin, lt, isNan}
 use Rattle.model.specs.Real.{infinity}
-use Rattle.model.specs.Association.{Request, lineCount, distanceTo, Near, near, nearestOf, association, lineOf}
+use Rattle.model.specs.Association.{Request, lineCount, distanceTo, Near, near, nearestOf, association, lineOf, nearer}
 use Rattle.model.specs.Papers.DebJain2014.{Associated}
 use Rattle.model.specs.Lists.{bestFrom}
 use Rattle.list_laws.proofs.Best.{best-all, best-least}
@@ -30,10 +30,6 @@ top-or-nan (inf false) h k = refl
 top-or-nan (fin s m e) h k = absurd (true≢false h)
 
 -- ---- the search over n lines with distances d
-
--- a line with its distance is nearer than another, and each line has its own
-abbrev nearer : Near → Near → Bool
-nearer a b = lt (a .distance) (b .distance)
 
 module _ (d : ℕ → Float) where
   abbrev own : ℕ → Near

@@ -7,11 +7,11 @@ use native.Mathlib.Nat.{mod-lt}
 use native.Mathlib.Omega.{arith}
 use lib.Dec.{eqb, leb, ltb}
 use lib.Ieee.{Float, lt}
-use lib.ListN.{length, getD}
+use lib.ListN.{length}
 use borrow.Author.Tests.{eqb-true, eq-eqb, leb-true, le-leb, ltb-false}
 use Rattle.model.specs.Lists.{In, has, keep, allIn}
 use Rattle.model.specs.Draw.{drawWord, drawUsize}
-use Rattle.model.specs.Kept.{openLines, leastLines, drawFrom, nearest, drawMember, pickFrom}
+use Rattle.model.specs.Kept.{openLines, leastLines, drawFrom, nearest, drawMember, pickFrom, nearerPlan}
 use Rattle.list_laws.proofs.Best.{bestIn, best-member, ltb-self, ltb-down}
 use Rattle.list_laws.proofs.Members.{in-has, has-in, keep-in, in-keep, getD-in, place-of, allIn-member}
 use Rattle.list_laws.proofs.Kept.{keepBelow-in, in-keepBelow}
@@ -28,13 +28,10 @@ drawFrom-in s {p} {ps} m =
 -- ---- the nearest of a list
 
 module _ (distance : ℕ → Float) where
-  abbrev nearer : ℕ → ℕ → Bool
-  nearer p q = lt (distance p) (distance q)
-
   -- the nearest of a list is in it, and no member is nearer
   nearest-member : {p : ℕ} (ps : List ℕ) → In p ps → In (nearest distance ps) ps × ((q : ℕ) → In q ps → lt (distance q) (distance (nearest distance ps)) ≡ false)
   unfolding nearest
-  nearest-member ps m = best-member nearer (λ p. lt-self (distance p)) (λ p q r. lt-down (distance p) (distance q) (distance r)) ps m
+  nearest-member ps m = best-member (nearerPlan distance) (λ p. lt-self (distance p)) (λ p q r. lt-down (distance p) (distance q) (distance r)) ps m
 
   drawMember-in : (s count : ℕ) {p : ℕ} (ps : List ℕ) → In p ps → In (drawMember distance count ps s .value) ps
   unfolding drawMember

@@ -8,7 +8,7 @@ use lib.Ieee.{Float, lt}
 use lib.ListN.{length, getD, List·getD-eq-default}
 use Rattle.model.specs.Lists.{has, keep, keepBelow}
 use Rattle.model.specs.Draw.{Drawn, drawn, drawAll}
-use Rattle.model.specs.Kept.{nicheCount, waiting, openLines, drawFrom, nearest, drawMember, pickOne, picks, pickFrom}
+use Rattle.model.specs.Kept.{nicheCount, waiting, openLines, drawFrom, nearest, drawMember, pickOne, picks, pickFrom, nearerPlan}
 use Rattle.list_laws.proofs.Below.{by-lt}
 use Rattle.list_laws.proofs.Best.{best-all, best-agree}
 pub use Rattle.list_laws.specs.Occ.{Below}
@@ -30,7 +30,7 @@ module _ (n : ℕ) (some : 0 < n) where
 
   nearest-below : (far : ℕ → Float) (l : List ℕ) → Below n l → nearest far l < n
   unfolding nearest
-  nearest-below far l h = best-all (λ p q. lt (far p) (far q)) (λ p. p < n) (getD l 0 0) (λ i. getD l i 0) (length l) (at-below l 0 h) (λ t u. at-below l t h)
+  nearest-below far l h = best-all (nearerPlan far) (λ p. p < n) (getD l 0 0) (λ i. getD l i 0) (length l) (at-below l 0 h) (λ t u. at-below l t h)
 
   member-below : (far : ℕ → Float) (count : ℕ) (l : List ℕ) (s : ℕ) → Below n l → drawMember far count l s .value < n
   unfolding drawMember drawFrom
@@ -60,7 +60,7 @@ module _ (n : ℕ) (some : 0 < n) where
 
     nearest-agree : (l : List ℕ) → Below n l → nearest far l ≡ nearest far′ l
     unfolding nearest
-    nearest-agree l h = best-agree (λ p q. lt (far p) (far q)) (λ p q. lt (far′ p) (far′ q)) (λ p. p < n) (getD l 0 0) (λ i. getD l i 0) (length l)
+    nearest-agree l h = best-agree (nearerPlan far) (nearerPlan far′) (λ p. p < n) (getD l 0 0) (λ i. getD l i 0) (length l)
         (at-below l 0 h) (λ t u. at-below l t h) (λ p q u v. ap₂ lt (far-agree p u) (far-agree q v))
 
     member-agree : (count : ℕ) (l : List ℕ) (s : ℕ) → Below n l → drawMember far count l s ≡ drawMember far′ count l s
