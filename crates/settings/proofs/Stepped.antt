@@ -66,7 +66,7 @@ module _ (low high step : ℤ) (q : Stepping low high step) where
     abbrev up-by : ℕ
     up-by = rise low high step w
 
-    -- by no more than high does
+    -- no further than high does
     pub rise-le : up-by ≤ span
     rise-le =
         let k : w % (span / by + 1) ≤ span / by = omega (arith, mod-lt w {m = span / by + 1} (omega arith)) in

@@ -1,4 +1,4 @@
-// Settings (document 01, "Setting and dimension"; Rust: param.rs): a dimension's kind and bounds, and settings as words.
+// Settings (document 01, "Setting and dimension"; Rust: param.rs): a dimension's kind and bounds, settings as words, and arrays before they are filled.
 ghost use mathlib.Core.Path.{_≡_};
 ghost use mathlib.Core.Bool.{_&&_};
 ghost use lib.ListN.{replicate};
