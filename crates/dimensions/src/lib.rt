@@ -18,7 +18,7 @@ use model::OptionI64;
 pub fn whole_eta(x: f64) -> bool
     ensures { λ r. ⌜ r ≡ wholeEta x ⌝ }
 {
-    if settings::real_within(0.0, 99.0, x) {
+    if real::real_within(0.0, 99.0, x) {
         let k = std::num::truncating_f64_to_u64(x);
         let y = std::num::nearest_u64_to_f64(k);
         return y == x;
@@ -30,7 +30,7 @@ pub fn whole_eta(x: f64) -> bool
 pub fn bad_operators(probability: f64, crossover_eta: f64, mutation_eta: f64) -> bool
     ensures { λ r. ⌜ r ≡ badOperators probability «crossover_eta» «mutation_eta» ⌝ }
 {
-    if settings::real_within(0.0, 1.0, probability) {
+    if real::real_within(0.0, 1.0, probability) {
         if whole_eta(crossover_eta) {
             if whole_eta(mutation_eta) {
                 return false;
@@ -49,8 +49,8 @@ fn valid_float(d: FloatDistribution) -> bool
     let high = d.high;
     let step = d.step;
     if low <= high {
-        if settings::real_within(-9007199254740992.0, 9007199254740992.0, low) {
-            if settings::real_within(-9007199254740992.0, 9007199254740992.0, high) {
+        if real::real_within(-9007199254740992.0, 9007199254740992.0, low) {
+            if real::real_within(-9007199254740992.0, 9007199254740992.0, high) {
                 if d.log_scale {
                     return false;
                 }

@@ -1,4 +1,4 @@
--- Refusals 2 and 8, test by test: of directions, of a value, of the ideal and of a plan of words.
+-- Refusals 2 and 8, test by test: of directions, of the ideal and of a plan of words.
 use Prim.Native.Nat.{ℕ, _+_, _≤_, _<_, min}
 use mathlib.Core.Path.{_≡_, refl, ap, ap₂, sym, _∙_}
 use mathlib.Core.Bool.{Bool, true, false, not, _&&_}
@@ -7,12 +7,12 @@ use native.Mathlib.Nat.{add-assoc}
 use native.Mathlib.Omega.{arith}
 use borrow.Author.Tests.{lt-leb, le-leb, eq-eqb, ne-eqb}
 use lib.Dec.{eqb, leb}
-use lib.Ieee.{Float, nan, le}
+use lib.Ieee.{Float, nan}
 use lib.ListN.{length, getD}
 use Rattle.model.specs.Lists.{allBelow, allIn, listBelow}
 use Rattle.model.specs.Plan.{planOf, planFrom, maxObjectives, maxConstraints}
 use Rattle.model.specs.Real.{real}
-use Rattle.model.specs.Refusal.{badDirections, leastMeasured, mostMeasured, measurable, goodEntry, goodIdeal, goodPlan}
+use Rattle.model.specs.Refusal.{badDirections, measurable, goodEntry, goodIdeal, goodPlan}
 use Rattle.list_laws.proofs.Bools.{and-no}
 use Rattle.list_laws.proofs.Built.{listBelow-same}
 use Rattle.list_laws.proofs.Tests.{allIn-below, allIn-listBelow}
@@ -35,16 +35,6 @@ pub directions-marks : (marks : List ℕ) → 1 ≤ length marks → length mark
 unfolding badDirections
 directions-marks marks h k =
     rw (le-leb 1 (length marks) h, le-leb (length marks) 8 k) (ap not (allIn-below (λ t. leb t 1) 0 marks))
-
--- ---- a value
-
-pub measurable-low : (x : Float) → le leastMeasured x ≡ false → measurable x ≡ false
-unfolding measurable
-measurable-low x e = rw e
-
-pub measurable-high : (x : Float) → le leastMeasured x ≡ true → measurable x ≡ le x mostMeasured
-unfolding measurable
-measurable-high x e = rw e
 
 -- ---- the ideal
 

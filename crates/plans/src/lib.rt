@@ -2,6 +2,7 @@
 use model::CONSTRAINT_COUNT;
 use model::CONSTRAINTS;
 use model::MAX_CONSTRAINTS;
+use model::MAX_OBJECTIVES;
 use model::MAX_PLANS;
 use model::PLAN_WORDS;
 use model::ROW_LENGTH;
@@ -12,7 +13,7 @@ ghost use mathlib.Core.Bool.{not, _&&_};
 ghost use lib.ListN.{length, getD};
 ghost use Rattle.model.specs.Lists.{allBelow};
 ghost use Rattle.model.specs.Real.{real};
-ghost use Rattle.model.specs.Plan.{planAt, planCount};
+ghost use Rattle.model.specs.Plan.{planAt, planCount, maxObjectives};
 ghost use Rattle.model.specs.Refusal.{badDirections, measurable, goodEntry, badCount, goodIdeal, goodPlan, goodPlans};
 
 // 2^1000, the greatest magnitude of a value or a constraint.
@@ -32,7 +33,7 @@ pub fn bad_directions(directions: &[u8]) -> bool
     if directions.len() < 1 {
         return true;
     }
-    if 8 < directions.len() {
+    if MAX_OBJECTIVES < directions.len() {
         return true;
     }
     let mut j = 0;
@@ -49,7 +50,7 @@ pub fn bad_directions(directions: &[u8]) -> bool
 fn measurable(x: f64) -> bool
     ensures { λ r. ⌜ r ≡ measurable x ⌝ }
 {
-    if -LIMIT <= x { x <= LIMIT } else { false }
+    real::real_within(-LIMIT, LIMIT, x)
 }
 
 // An entry of an ideal is measurable or plus infinity.
@@ -100,7 +101,7 @@ fn measurable_words(words: &[u64], at: usize, n: usize) -> bool
 
 // Refusal 8 for plan i: its row length is m, it has at most 16 constraints, and its values and constraints are measurable.
 fn good_plan(pool: &[u64], i: usize, m: usize) -> bool
-    requires { ⌜ (i < planCount (now pool)) × (m ≤ 8) ⌝ }
+    requires { ⌜ (i < planCount (now pool)) × (m ≤ maxObjectives) ⌝ }
     ensures { λ r. ⌜ r ≡ goodPlan m (planAt (now (pool .entry)) i) ⌝ }
 {
     let at = i * PLAN_WORDS;
@@ -120,7 +121,7 @@ fn good_plan(pool: &[u64], i: usize, m: usize) -> bool
 
 // Refusal 8 for the first n plans of a pool.
 fn good_plans(pool: &[u64], n: usize, m: usize) -> bool
-    requires { ⌜ (n ≤ planCount (now pool)) × (m ≤ 8) ⌝ }
+    requires { ⌜ (n ≤ planCount (now pool)) × (m ≤ maxObjectives) ⌝ }
     ensures { λ r. ⌜ r ≡ goodPlans m (planAt (now (pool .entry))) n ⌝ }
 {
     let mut p = 0;
@@ -146,7 +147,7 @@ pub fn bad_count(n: usize) -> bool
 
 // Refusal 8 for a pool and its ideal.
 pub fn bad_pool(pool: &[u64], m: usize, ideal: &[f64]) -> bool
-    requires { ⌜ m ≤ 8 ⌝ }
+    requires { ⌜ m ≤ maxObjectives ⌝ }
     ensures { λ r. ⌜ r ≡ not (goodPlans m (planAt (now (pool .entry))) (planCount (now (pool .entry))) && goodIdeal m (now (ideal .entry))) ⌝ }
 {
     let n = plan_count(pool);

@@ -1,11 +1,11 @@
-// The float leaves (document 01, "Worked-out numbers"): words and reals, whole numbers and reals, clamp, midpoint and round. Every public function is
+// The float leaves (document 01, "Worked-out numbers"): words and reals, whole numbers and reals, bounds, clamp, midpoint and round. Every public function is
 // total: any word, a NaN or an infinity may go in.
 ghost use mathlib.Core.Path.{_≡_};
 ghost use mathlib.Core.Bool.{false};
 ghost use lib.Dec.{T};
 ghost use lib.IntN.{pos};
 ghost use lib.Ieee.{fin, binary64, lt, ofBits, toBits, toSigned, ofInt};
-ghost use Rattle.model.specs.Real.{nought, clamp};
+ghost use Rattle.model.specs.Real.{nought, within, clamp};
 ghost use Rattle.model.specs.Numbers.{roundOf, midpoint};
 ghost use Rattle.model.specs.Setting.{wordOfInt, intOfWord};
 
@@ -76,7 +76,14 @@ pub fn real_of_int(n: i64) -> f64
     std::num::nearest_i64_to_f64(n)
 }
 
-// ---- clamp and midpoint
+// ---- bounds, clamp and midpoint
+
+// x lies within low..high, both included; a NaN lies nowhere.
+pub fn real_within(low: f64, high: f64, x: f64) -> bool
+    ensures { λ r. ⌜ r ≡ within low high x ⌝ }
+{
+    if low <= x { x <= high } else { false }
+}
 
 // x held within low..high.
 pub fn clamp(x: f64, low: f64, high: f64) -> f64

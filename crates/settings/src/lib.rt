@@ -3,7 +3,6 @@ ghost use mathlib.Core.Path.{_≡_};
 ghost use mathlib.Core.Bool.{_&&_};
 ghost use lib.ListN.{replicate};
 ghost use lib.Signed.{leZ};
-ghost use Rattle.model.specs.Real.{within};
 ghost use Rattle.model.specs.Setting.{kindOf, kindOfDimension, maxDims, inBounds, toWord, ofWord};
 ghost use Rattle.model.specs.Session.{blankDimension};
 ghost use Rattle.settings.specs.Candidate.{blankSlot};
@@ -28,16 +27,6 @@ pub struct DrawnValue {
 pub struct DrawnCandidate {
     pub params: [Slot; 32],
     pub rng: Rng,
-}
-
-// x lies within low..high, both included; a NaN lies nowhere.
-pub fn real_within(low: f64, high: f64, x: f64) -> bool
-    ensures { λ r. ⌜ r ≡ within low high x ⌝ }
-{
-    if low <= x {
-        return x <= high;
-    }
-    false
 }
 
 // n lies within low..=high.
@@ -78,7 +67,7 @@ pub fn in_bounds(d: Distribution, v: ParamValue) -> bool
 {
     match d {
         Distribution::Float(f) => match v {
-            ParamValue::Float(x) => real_within(f.low, f.high, x),
+            ParamValue::Float(x) => real::real_within(f.low, f.high, x),
             ParamValue::Int(_) => false,
             ParamValue::Categorical(_) => false,
         },

@@ -1,17 +1,15 @@
--- `measurable`: both ends in turn
-use mathlib.Core.Path.{sym}
+-- `measurable`: the two ends are -2^1000 and 2^1000
 use lib.Ieee.{neg, ofBits}
-use Rattle.plans.proofs.Refused.{measurable-low, measurable-high}
+use Rattle.model.specs.Refusal.{measurable}
 use Rattle.plans.proofs.measurable.Statement.{statement}
 use Rattle.plans.proofs.measurable.Tie as tie
 
-returns : tie.Need-returns
-unfolding ofBits neg
-returns c = sym (measurable-high _ (c .if1 .taken))
+real-within-requires : tie.Need-real-within-requires
+real-within-requires c κs = tt
 
-returns-2 : tie.Need-returns-2
-unfolding ofBits neg
-returns-2 c = sym (measurable-low _ (c .if1 .left))
+returns : tie.Need-returns
+unfolding measurable ofBits neg
+returns c = c .real-within .ensures
 
 pub measurable-spec : {M : Type 1} → statement M
-measurable-spec = tie.close (tie.spec returns returns-2)
+measurable-spec = tie.close (tie.spec real-within-requires returns)

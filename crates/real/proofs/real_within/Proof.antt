@@ -1,6 +1,6 @@
 -- The two tests are those of the definition.
-use Rattle.settings.proofs.real_within.Statement.{statement}
-use Rattle.settings.proofs.real_within.Tie as tie
+use Rattle.real.proofs.real_within.Statement.{statement}
+use Rattle.real.proofs.real_within.Tie as tie
 
 returns : tie.Need-returns
 returns c = rw (c .if1 .taken)
