@@ -6,7 +6,8 @@ ghost use lib.ListN.{length, getD};
 ghost use Rattle.model.specs.Lists.{allBelow, over};
 ghost use Rattle.model.specs.Plan.{planAt, planCount};
 ghost use Rattle.model.specs.Setting.{wordsOf, operators, dimensionsOf};
-ghost use Rattle.model.specs.Refusal.{goodPlans, breedable, badDimensions, badOperators};
+ghost use Rattle.model.specs.Refusal.{breedable, badDimensions, badOperators};
+ghost use Rattle.plan_rows.specs.Filled.{GoodPool};
 ghost use Rattle.generation_laws.specs.Bred.{bredOfWords};
 use model::CANDIDATE_WORDS;
 use model::DimensionInfo;
@@ -27,8 +28,7 @@ pub fn breed(
     rng: Rng,
     offspring: &mut [u64],
 ) -> Rng
-    requires { ⌜ (planCount (now pool) ≤ 1024) × (length (now directions) ≤ 8)
-        × (goodPlans (length (now directions)) (planAt (now pool)) (planCount (now pool)) ≡ true)
+    requires { ⌜ GoodPool (now pool) (now directions)
         × (allBelow (λ p. breedable (dimensionsOf dims) «n_dims» (planAt (now pool) p)) (planCount (now pool)) ≡ true)
         × (badDimensions (dimensionsOf dims) «n_dims» ≡ false) × (badOperators «crossover_prob» «crossover_eta» «mutation_eta» ≡ false) ⌝ }
     requires { ⌜ (0 < size) × (size ≤ 1024) × (size ≤ length (now kept)) × ((i : ℕ) → i < size → getD (now kept) i 0 < planCount (now pool))

@@ -12,14 +12,15 @@ use Rattle.refusals.specs.declared.Check.{Check}
 use Rattle.refusals.specs.declared.Check.the-variants as check
 use Rattle.refusals.specs.Checked.{checked}
 use Rattle.model.specs.Lists.{over}
-use Rattle.model.specs.Association.{Request, objectives}
+use Rattle.model.specs.Plan.{Plan}
+use Rattle.model.specs.Association.{Request}
 use Rattle.model.specs.Refusal.{selectRefusal}
 use Rattle.niching_laws.proofs.KeptLength.{kept-length, fronts-all}
 use Rattle.model.specs.Kept.{before, isSplit, bySplit, selectedWhole, selected, padding, noLine}
 use Rattle.model.specs.Calls.{Lent, lent, roomOf, SelectExit, wordRequest, answered, selectAccepted, selectBy, selectOf, Selects}
 use Rattle.demand3_laws.proofs.Calls.{planAt-row, selects}
 use Rattle.front_cut.specs.declared.Cut.{Cut}
-use Rattle.plan_rows.specs.Filled.{RowsOf}
+use Rattle.plan_rows.specs.Filled.{RowsFilled}
 use Rattle.plan_rows.proofs.Rows.{rows-values}
 use Rattle.pool_sort.specs.Laid.{RowsIn, OrderIn, Sorts}
 use Rattle.nsga3_laws.specs.Admitted.{Admitted}
@@ -49,9 +50,9 @@ module _ (r : Request) (i : List Float) (k₀ k l₀ l : List ℕ) (s : ℕ) whe
 
 -- ---- the rows
 
-pub rows-in : (r : Request) (n : ℕ) → n ≡ r .count → (old rows : List Float) → r .count * objectives r ≤ length rows
-    → RowsOf (r .marks) (r .plans) n old rows → RowsIn r rows
-rows-in r n e old rows h f = record { table = h; values = λ p j a b. rows-values (r .marks) (r .plans) n old rows f p j (omega (arith, e)) b }
+pub rows-in : (marks : List ℕ) (plans : ℕ → Plan) (n k : ℕ) → n ≡ k → (old rows : List Float) → k * length marks ≤ length rows
+    → RowsFilled marks plans n old rows → RowsIn marks plans k rows
+rows-in marks plans n k e old rows h f = record { table = h; values = λ p j a b. rows-values marks plans n old rows f p j (omega (arith, e)) b }
 
 -- ---- the answer
 

@@ -16,7 +16,7 @@ use Rattle.pool_sort.specs.Laid.{RowsIn, OrderIn}
 pub record SortedPool (r : Request) (kept lines : ℕ) (rows : List Float) (order : List ℕ) (c : Cut) : Type 0 where
   pub fronts : ℕ
   pub limits : Admitted r (record { kept = kept; fronts = fronts; lines = lines })
-  pub laid : RowsIn r rows
+  pub laid : RowsIn (r .marks) (r .plans) (r .count) rows
   pub listed : OrderIn r order c
 
 -- what is handed out beside the fronts

@@ -3,7 +3,7 @@ ghost use mathlib.Core.Path.{_≡_};
 ghost use mathlib.Core.Bool.{true};
 ghost use lib.ListN.{length};
 ghost use Rattle.model.specs.Kept.{selectedSplit, selected};
-ghost use Rattle.model.specs.Calls.{wordRequest, lent, selectAccepted, Selects};
+ghost use Rattle.model.specs.Calls.{wordRequest, lent, roomOf, selectAccepted, Selects};
 ghost use Rattle.nsga3_laws.specs.Admitted.{Admitted};
 ghost use Rattle.nsga3.specs.Handed.{SortedPool, Hands, exit};
 use front_cut::Cut;
@@ -109,7 +109,7 @@ fn select(
     lines: &mut [usize],
 ) -> Selection
     requires { ⌜ Admitted (wordRequest (now pool) (now directions) divisions size rng (now ideal))
-        (record { kept = length (now kept); fronts = length (now fronts); lines = length (now lines) }) ⌝ }
+        (roomOf (lent (now kept) (now fronts) (now lines))) ⌝ }
     ensures { λ r. ⌜ exit r (now (ideal .exit)) (now (kept .exit)) (now (fronts .exit)) (now (lines .exit))
         ≡ selectAccepted (wordRequest (now (pool .entry)) (now (directions .entry)) divisions size rng (now (ideal .entry)))
         (lent (now (kept .entry)) (now (fronts .entry)) (now (lines .entry))) ⌝ }

@@ -6,16 +6,16 @@ use model::PLAN_WORDS;
 use model::VALUES;
 ghost use mathlib.Core.Path.{_≡_};
 ghost use Prim.Native.Nat.{ℕ, _+_, _*_, _<_, _≤_};
-ghost use lib.ListN.{length, getD, take};
-ghost use Rattle.model.specs.Lists.{listBelow};
+ghost use lib.ListN.{length, getD};
+ghost use Rattle.model.specs.Lists.{listBelow, over};
 ghost use Rattle.model.specs.Real.{real};
-ghost use Rattle.model.specs.Plan.{planAt, planCount};
+ghost use Rattle.model.specs.Plan.{planAt, planCount, maxObjectives, maxConstraints};
 ghost use Rattle.model.specs.Row.{rowOf};
-ghost use Rattle.plan_rows.specs.Filled.{RowAt, RowsOf, ConstraintsAt, ConstraintsOf};
+ghost use Rattle.plan_rows.specs.Filled.{RowAt, RowsFilled, ConstraintsAt, ConstraintsOf};
 
 // Plan p's value at objective j, in minimise-space: a maximised value is negated.
 fn row_value(pool: &[u64], directions: &[u8], p: usize, j: usize) -> f64
-    requires { ⌜ (p < planCount (now pool)) × (j < length (now directions)) × (j < 8) × (j < planAt (now pool) p .rowLength) ⌝ }
+    requires { ⌜ (p < planCount (now pool)) × (j < length (now directions)) × (j < maxObjectives) × (j < planAt (now pool) p .rowLength) ⌝ }
     ensures { λ r. ⌜ r ≡ rowOf (now (directions .entry)) (planAt (now (pool .entry)) p) j ⌝ }
 {
     let x = real::real_of_word(pool[p * PLAN_WORDS + VALUES + j]);
@@ -24,7 +24,7 @@ fn row_value(pool: &[u64], directions: &[u8], p: usize, j: usize) -> f64
 
 // Plan p's row, at row p of the table.
 fn fill_row(pool: &[u64], directions: &[u8], p: usize, rows: &mut [f64])
-    requires { ⌜ (p < planCount (now pool)) × (length (now directions) ≤ 8) × (length (now directions) ≤ planAt (now pool) p .rowLength)
+    requires { ⌜ (p < planCount (now pool)) × (length (now directions) ≤ maxObjectives) × (length (now directions) ≤ planAt (now pool) p .rowLength)
         × (p * length (now directions) + length (now directions) ≤ length (now rows)) ⌝ }
     ensures { λ _. ⌜ RowAt (now (directions .entry)) (planAt (now (pool .entry)) p) p (now (rows .entry)) (now (rows .exit)) ⌝ }
 {
@@ -39,9 +39,9 @@ fn fill_row(pool: &[u64], directions: &[u8], p: usize, rows: &mut [f64])
 
 // The rows of the first n plans, one after the other.
 pub fn fill_rows(pool: &[u64], directions: &[u8], n: usize, rows: &mut [f64])
-    requires { ⌜ (n ≤ planCount (now pool)) × (length (now directions) ≤ 8) × (n * length (now directions) ≤ length (now rows)) ⌝ }
+    requires { ⌜ (n ≤ planCount (now pool)) × (length (now directions) ≤ maxObjectives) × (n * length (now directions) ≤ length (now rows)) ⌝ }
     requires { ⌜ ((p : ℕ) → p < n → length (now directions) ≤ planAt (now pool) p .rowLength) ⌝ }
-    ensures { λ _. ⌜ RowsOf (now (directions .entry)) (planAt (now (pool .entry))) n (now (rows .entry)) (now (rows .exit)) ⌝ }
+    ensures { λ _. ⌜ RowsFilled (now (directions .entry)) (planAt (now (pool .entry))) n (now (rows .entry)) (now (rows .exit)) ⌝ }
 {
     let mut p = 0;
     while p < n {
@@ -53,7 +53,7 @@ pub fn fill_rows(pool: &[u64], directions: &[u8], n: usize, rows: &mut [f64])
 // The reals of n words from place `at` on.
 fn copy_reals(words: &[u64], at: usize, n: usize, out: &mut [f64])
     requires { ⌜ (at + n ≤ length (now words)) × (n ≤ length (now out)) ⌝ }
-    ensures { λ _. ⌜ take n (now (out .exit)) ≡ listBelow (λ j. real (getD (now (words .entry)) (at + j) 0)) n ⌝ }
+    ensures { λ _. ⌜ now (out .exit) ≡ over (listBelow (λ j. real (getD (now (words .entry)) (at + j) 0)) n) (now (out .entry)) ⌝ }
 {
     let mut j = 0;
     while j < n {
@@ -64,7 +64,7 @@ fn copy_reals(words: &[u64], at: usize, n: usize, out: &mut [f64])
 
 // Whether plan p is feasible, and its violation sum.
 fn fill_plan(pool: &[u64], p: usize, feasible: &mut [bool], violations: &mut [f64])
-    requires { ⌜ (p < planCount (now pool)) × (planAt (now pool) p .constraintCount ≤ 16) × (p < length (now feasible)) × (p < length (now violations)) ⌝ }
+    requires { ⌜ (p < planCount (now pool)) × (planAt (now pool) p .constraintCount ≤ maxConstraints) × (p < length (now feasible)) × (p < length (now violations)) ⌝ }
     ensures { λ _. ⌜ ConstraintsAt (planAt (now (pool .entry)) p) p (now (feasible .entry)) (now (feasible .exit))
         (now (violations .entry)) (now (violations .exit)) ⌝ }
 {
@@ -79,7 +79,7 @@ fn fill_plan(pool: &[u64], p: usize, feasible: &mut [bool], violations: &mut [f6
 // Whether each of the first n plans is feasible, and its violation sum.
 pub fn fill_constraints(pool: &[u64], n: usize, feasible: &mut [bool], violations: &mut [f64])
     requires { ⌜ (n ≤ planCount (now pool)) × (n ≤ length (now feasible)) × (n ≤ length (now violations)) ⌝ }
-    requires { ⌜ ((p : ℕ) → p < n → planAt (now pool) p .constraintCount ≤ 16) ⌝ }
+    requires { ⌜ ((p : ℕ) → p < n → planAt (now pool) p .constraintCount ≤ maxConstraints) ⌝ }
     ensures { λ _. ⌜ ConstraintsOf (planAt (now (pool .entry))) n (now (feasible .entry)) (now (feasible .exit))
         (now (violations .entry)) (now (violations .exit)) ⌝ }
 {

@@ -7,22 +7,21 @@ use lib.Ieee.{Float}
 use lib.ListN.{length}
 use Rattle.model.specs.Association.{Request, objectives, dominance}
 use Rattle.front_laws.specs.Strict.{Strict}
-use Rattle.front_laws.specs.Flat.{flatBeats, KnownRows, KnownPlans}
+use Rattle.front_laws.specs.Flat.{flatBeats, KnownPlans}
 use Rattle.front_laws.specs.Post.{Sorted}
+use Rattle.front_laws.proofs.Meaning.{sorted-beats}
 use Rattle.front_laws.proofs.Places.{sorted-order}
 use Rattle.front_laws.proofs.Plans.{beats-strict}
 use Rattle.front_cut.specs.declared.Cut.{Cut}
 use Rattle.front_cut.specs.Fitting.{cutOf}
 use Rattle.front_cut.proofs.Kept.{CutsAt, cut-request}
 use Rattle.plan_rows.specs.Filled.{ConstraintsOf}
-use Rattle.plan_rows.proofs.Pool.{rows-known, flat-sorted}
+use Rattle.plan_rows.proofs.Pool.{flat-of}
 use Rattle.pool_sort.specs.Laid.{RowsIn, Sorts}
 
-module _ (r : Request) (n : ℕ) (e : n ≡ r .count) (rows : List Float) (laid : RowsIn r rows) (known : KnownPlans (r .marks) (r .plans) (r .count)) where
-  -- no entry is a NaN
-  pub known-rows : KnownRows rows (objectives r) n
-  known-rows = subst (λ k. KnownRows rows (objectives r) k) (sym e) (rows-known (r .marks) (r .plans) (r .count) rows (laid .values) known)
-
+-- the rows are in the table, and no value is a NaN
+module _ (r : Request) (n : ℕ) (e : n ≡ r .count) (rows : List Float) (laid : RowsIn (r .marks) (r .plans) (r .count) rows)
+    (known : KnownPlans (r .marks) (r .plans) (r .count)) where
   strict : Strict (dominance r) (r .count)
   strict = beats-strict (r .marks) (r .plans) (r .count) known
 
@@ -34,7 +33,8 @@ module _ (r : Request) (n : ℕ) (e : n ≡ r .count) (rows : List Float) (laid 
       → c ≡ cutOf ends x (r .size) → Sorts r o c k₀ k)
       (sym e)
       (λ constraints s same.
-      let t = flat-sorted (r .marks) (r .plans) (r .count) rows (laid .values) flags₀ flags sums₀ sums constraints o₀ o k₀ k e₀ ends x s in
+      let t = sorted-beats (r .marks) (r .plans) (r .count) rows flags sums o₀ o k₀ k e₀ ends x
+      (flat-of (r .marks) (r .plans) (r .count) rows (laid .values) flags₀ flags sums₀ sums constraints) s in
       record {
         order = record {
           places = places;

@@ -6,15 +6,16 @@ use lib.Ieee.{Float}
 use lib.ListN.{length, take}
 use Rattle.model.specs.Lists.{over}
 use Rattle.model.specs.Front.{listing, frontList}
-use Rattle.model.specs.Association.{Request, objectives, dominance}
+use Rattle.model.specs.Plan.{Plan}
+use Rattle.model.specs.Association.{Request, dominance}
 use Rattle.front_laws.specs.Flat.{RowsOf}
 use Rattle.front_cut.specs.declared.Cut.{Cut}
 use Rattle.front_cut.proofs.Kept.{CutsAt}
 
--- the pool's rows in minimise-space, one after the other
-pub record RowsIn (r : Request) (rows : List Float) : Type 0 where
-  pub table : r .count * objectives r ≤ length rows
-  pub values : RowsOf (r .marks) (r .plans) (r .count) rows
+-- the rows of n plans in minimise-space, one after the other
+pub record RowsIn (marks : List ℕ) (plans : ℕ → Plan) (n : ℕ) (rows : List Float) : Type 0 where
+  pub table : n * length marks ≤ length rows
+  pub values : RowsOf marks plans n rows
 
 -- the plans listed front by front, and where the whole fronts and the split one end
 pub record OrderIn (r : Request) (order : List ℕ) (c : Cut) : Type 0 where

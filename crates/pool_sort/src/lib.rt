@@ -1,14 +1,12 @@
 // The first step of a selection: its pool, sorted.
-ghost use mathlib.Core.Path.{_≡_};
-ghost use mathlib.Core.Bool.{true};
 ghost use mathlib.Core.List.{List};
 ghost use Prim.Native.Nat.{ℕ, _≤_};
 ghost use lib.Ieee.{Float};
 ghost use lib.ListN.{length};
 ghost use Rattle.model.specs.Plan.{planAt, planCount};
 ghost use Rattle.model.specs.Calls.{wordRequest};
-ghost use Rattle.model.specs.Refusal.{goodPlans};
 ghost use Rattle.model.specs.declared.Rng.{Rng};
+ghost use Rattle.plan_rows.specs.Filled.{GoodPool};
 ghost use Rattle.pool_sort.specs.Laid.{RowsIn, Sorts};
 use front_cut::Cut;
 use model::MAX_PLANS;
@@ -22,9 +20,8 @@ pub fn sort_pool(
     order: &mut [usize],
     fronts: &mut [usize],
 ) -> Cut
-    requires { ⌜ (planCount (now pool) ≤ 1024) × (length (now directions) ≤ 8) × (planCount (now pool) ≤ length (now order)) × (planCount (now pool) ≤ length (now fronts))
-        × (goodPlans (length (now directions)) (planAt (now pool)) (planCount (now pool)) ≡ true) ⌝ }
-    requires { ⌜ ((h : ℕ) (g : Rng) (i : List Float) → RowsIn (wordRequest (now pool) (now directions) h size g i) (now rows)) ⌝ }
+    requires { ⌜ GoodPool (now pool) (now directions) × RowsIn (now directions) (planAt (now pool)) (planCount (now pool)) (now rows)
+        × (planCount (now pool) ≤ length (now order)) × (planCount (now pool) ≤ length (now fronts)) ⌝ }
     ensures { λ r. ⌜ ((h : ℕ) (g : Rng) (i : List Float) → Sorts (wordRequest (now (pool .entry)) (now (directions .entry)) h size g i)
         (now (order .exit)) r (now (fronts .entry)) (now (fronts .exit))) ⌝ }
 {

@@ -1,7 +1,6 @@
 // The ranks of the plans to breed from: their fronts in the pool by rows only (document 01, "Setting and dimension"; Rust: nsga3_generate_offspring
 // of sampler/nsga3.rs).
 ghost use mathlib.Core.Path.{_≡_};
-ghost use mathlib.Core.Bool.{true};
 ghost use Prim.Native.Nat.{ℕ, _≤_, _<_};
 ghost use lib.ListN.{length, getD};
 ghost use Rattle.model.specs.Lists.{listBelow, over};
@@ -9,14 +8,13 @@ ghost use Rattle.model.specs.Plan.{planAt, planCount};
 ghost use Rattle.model.specs.Row.{rowBeats};
 ghost use Rattle.model.specs.Front.{frontList};
 ghost use Rattle.model.specs.Setting.{rankIn};
-ghost use Rattle.model.specs.Refusal.{goodPlans};
+ghost use Rattle.plan_rows.specs.Filled.{GoodPool};
 use model::MAX_PLANS;
 use model::MAX_VALUES;
 
 // Each plan's front in the pool, by rows only.
 fn front_ranks(pool: &[u64], directions: &[u8], fronts: &mut [usize])
-    requires { ⌜ (planCount (now pool) ≤ 1024) × (length (now directions) ≤ 8) × (planCount (now pool) ≤ length (now fronts))
-        × (goodPlans (length (now directions)) (planAt (now pool)) (planCount (now pool)) ≡ true) ⌝ }
+    requires { ⌜ GoodPool (now pool) (now directions) × (planCount (now pool) ≤ length (now fronts)) ⌝ }
     ensures { λ _. ⌜ now (fronts .exit)
         ≡ over (frontList (rowBeats (now (directions .entry)) (planAt (now (pool .entry)))) (planCount (now (pool .entry)))) (now (fronts .entry)) ⌝ }
 {
@@ -50,8 +48,7 @@ pub fn fill_ranks(
     count: usize,
     ranks: &mut [usize],
 )
-    requires { ⌜ (planCount (now pool) ≤ 1024) × (length (now directions) ≤ 8)
-        × (goodPlans (length (now directions)) (planAt (now pool)) (planCount (now pool)) ≡ true)
+    requires { ⌜ GoodPool (now pool) (now directions)
         × (count ≤ length (now kept)) × (count ≤ length (now ranks)) × ((i : ℕ) → i < count → getD (now kept) i 0 < planCount (now pool)) ⌝ }
     ensures { λ _. ⌜ now (ranks .exit)
         ≡ over (listBelow (rankIn (now (directions .entry)) (planAt (now (pool .entry))) (planCount (now (pool .entry))) (now (kept .entry))) count)

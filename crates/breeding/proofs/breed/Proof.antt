@@ -15,7 +15,7 @@ use Rattle.breeding.proofs.breed.Tie as tie
 
 -- the parents' words fit
 fit : (s : tie.Start) → s .args .size * s .args .n-dims ≤ 32768
-fit s = mul-le-mul (s .pre .1 .1) (few _ _ (s .pre .0 .4))
+fit s = mul-le-mul (s .pre .1 .1) (few _ _ (s .pre .0 .2))
 
 slice-aggregate-fill-parents : tie.Need-slice-aggregate-fill-parents
 slice-aggregate-fill-parents c = search needs
@@ -23,7 +23,7 @@ slice-aggregate-fill-parents c = search needs
 fill-parents-requires : tie.Need-fill-parents-requires
 fill-parents-requires c κs =
     let s = c .before .before .before .before .before in
-    (s .pre .1 .2, s .pre .1 .3, s .pre .0 .4, fit s)
+    (s .pre .1 .2, s .pre .1 .3, s .pre .0 .2, fit s)
 
 slice-aggregate-fill-ranks : tie.Need-slice-aggregate-fill-ranks
 slice-aggregate-fill-ranks c = search needs
@@ -31,7 +31,7 @@ slice-aggregate-fill-ranks c = search needs
 fill-ranks-requires : tie.Need-fill-ranks-requires
 fill-ranks-requires c κs =
     let s = c .before .before .before .before .before .before .before .before in
-    (s .pre .0 .0, s .pre .0 .1, s .pre .0 .2, s .pre .1 .2, s .pre .1 .1, s .pre .1 .3)
+    (s .pre .0 .0, s .pre .1 .2, s .pre .1 .1, s .pre .1 .3)
 
 slice-aggregate-write-offspring : tie.Need-slice-aggregate-write-offspring
 slice-aggregate-write-offspring c = search needs
@@ -46,7 +46,7 @@ write-offspring-requires c κs =
     let r = c .before .before .before .before .fill-ranks in
     let words : length (p .last .1 .1 .1 .1 .1 .1 .0) ≡ 32768 = p .kept .1 .1 .1 .1 .1 .1 .0 in
     let places : length (r .last .1 .1 .1 .1 .0) ≡ 1024 = r .kept .1 .1 .1 .1 .0 in
-    (s .pre .1 .0, omega (arith, words, fit s), omega (arith, places, s .pre .1 .1), s .pre .0 .4, s .pre .0 .5, s .pre .1 .4, s .pre .1 .1)
+    (s .pre .1 .0, omega (arith, words, fit s), omega (arith, places, s .pre .1 .1), s .pre .0 .2, s .pre .0 .3, s .pre .1 .4, s .pre .1 .1)
 
 same-length : tie.Need-same-length
 same-length c = search needs
@@ -60,7 +60,7 @@ returns c =
     let a = s .args in
     let p = c .before .before .before .before .before .before .before .before .before .before .fill-parents in
     let w = c .before .before .write-offspring in
-    let e = bred-is (ops s) (dimensions-held (a .dims) _ (s .good .1 .1 .1 .1 .0) (a .n-dims) (s .pre .0 .4)) (s .pre .0 .4) (a .pool .now) (a .directions .now) (a .kept .now) (a .size) (a .rng .s) (s .pre .0 .3) (s .pre .1 .2) (s .pre .1 .3)
+    let e = bred-is (ops s) (dimensions-held (a .dims) _ (s .good .1 .1 .1 .1 .0) (a .n-dims) (s .pre .0 .2)) (s .pre .0 .2) (a .pool .now) (a .directions .now) (a .kept .now) (a .size) (a .rng .s) (s .pre .0 .1) (s .pre .1 .2) (s .pre .1 .3)
     (s .pre .1 .0) _ _ _ _ _ (p .ensures .0) (p .ensures .1) (c .before .before .before .before .before .before .before .fill-ranks .ensures) in
     (w .ensures .0 ∙ ap (λ d. over (wordsOf (d .value)) (a .offspring .now)) e, w .ensures .1 ∙ ap (λ d. d .state) e)
 

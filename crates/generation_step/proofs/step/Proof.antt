@@ -69,7 +69,12 @@ breed-requires c κs =
     let e = select-exit (ops s) (a .pool .now) (a .directions .now) (a .divisions) (a .size) (a .rng) (a .ideal .now) (at s) (a .offspring .now) (s .pre) h _ (n .ensures) in
     let ok = given s in
     let kept : length (n .last .1 .1 .1 .1 .1 .1 .0) ≡ length (a .kept .now) = n .kept .1 .1 .1 .1 .1 .1 .0 in (
-      (one-to-1024 _ (ok .count) .1, some-objectives _ (ok .directions) .1, pool-plans (request s) (ok .pool), plans-breedable (ops s) (request s) (ok .parents), ok .dimensions, ok .operators),
+      (
+        record { few = one-to-1024 _ (ok .count) .1; narrow = some-objectives _ (ok .directions) .1; good = pool-plans (request s) (ok .pool) },
+        plans-breedable (ops s) (request s) (ok .parents),
+        ok .dimensions,
+        ok .operators,
+      ),
       (
         one-to-1024 _ (ok .size) .0,
         one-to-1024 _ (ok .size) .1,

@@ -1,18 +1,14 @@
 -- `select`: the rows, the sort, and the kept list
-use Prim.Native.Nat.{ℕ, _*_, _≤_}
-use mathlib.Core.Path.{_≡_, sym, subst}
-use mathlib.Core.List.{List}
+use mathlib.Core.Path.{_≡_, refl}
 use native.Mathlib.Omega.{arith}
 use borrow.Author.Needs.{needs}
-use lib.Ieee.{Float}
 use lib.ListN.{length}
-use Rattle.model.specs.declared.Rng.{Rng}
 use Rattle.model.specs.Calls.{wordRequest}
-use Rattle.model.specs.Plan.{planCount}
+use Rattle.model.specs.Plan.{planAt, planCount}
 use Rattle.model.specs.Association.{Request}
-use Rattle.plan_rows.proofs.Pool.{pool-row-lengths}
+use Rattle.plan_rows.specs.Filled.{GoodPool}
+use Rattle.plan_rows.proofs.Pool.{rows-asked}
 use Rattle.pool_sort.specs.Laid.{RowsIn}
-use Rattle.list_laws.proofs.Rows.{few-values}
 use Rattle.nsga3.proofs.Answer.{rows-in, accepted-exit}
 use Rattle.nsga3.proofs.select.Statement.{statement}
 use Rattle.nsga3.proofs.select.Tie as tie
@@ -20,17 +16,19 @@ use Rattle.nsga3.proofs.select.Tie as tie
 abbrev request : tie.Start → Request
 request s = wordRequest (s .args .pool .now) (s .args .directions .now) (s .args .divisions) (s .args .size) (s .args .rng) (s .args .ideal .now)
 
--- the rows that `fill_rows` leaves, for any divisions, generator and ideal
-laid : (c : tie.After-fill-rows) (h : ℕ) (g : Rng) (i : List Float) →
+good-pool : (s : tie.Start) → GoodPool (s .args .pool .now) (s .args .directions .now)
+good-pool s = record { few = s .pre .fewPlans; narrow = s .pre .narrow; good = s .pre .good }
+
+-- the rows that `fill_rows` leaves
+laid : (c : tie.After-fill-rows) →
     let s = c .before .before .before .before .before .before .before .before .before in
-    RowsIn (wordRequest (s .args .pool .now) (s .args .directions .now) h (s .args .size) g i) (c .fill-rows .last .1 .1 .1 .0)
-laid c h g i =
+    RowsIn (s .args .directions .now) (planAt (s .args .pool .now)) (planCount (s .args .pool .now)) (c .fill-rows .last .1 .1 .1 .0)
+laid c =
     let s = c .before .before .before .before .before .before .before .before .before in
-    let ok = s .pre in
     let f = c .fill-rows in
     let size : length (f .last .1 .1 .1 .0) ≡ 8192 = f .kept .1 .1 .1 .0 in
-    rows-in (wordRequest (s .args .pool .now) (s .args .directions .now) h (s .args .size) g i) _ (c .before .before .plan-count .ensures) _ _
-    (subst (λ k. planCount (s .args .pool .now) * length (s .args .directions .now) ≤ k) (sym size) (few-values _ _ (ok .fewPlans) (ok .narrow))) (f .ensures)
+    rows-in (s .args .directions .now) (planAt (s .args .pool .now)) _ _ (c .before .before .plan-count .ensures) _ _
+    (omega (arith, size, rows-asked (good-pool s) refl .0 .2)) (f .ensures)
 
 plan-count-requires : tie.Need-plan-count-requires
 plan-count-requires c κs = tt
@@ -41,11 +39,7 @@ slice-aggregate-fill-rows c = search needs
 fill-rows-requires : tie.Need-fill-rows-requires
 fill-rows-requires c κs =
     let s = c .before .before .before .before .before .before .before .before in
-    let ok = s .pre in
-    let e = c .before .plan-count .ensures in (
-      (omega (arith, e), ok .narrow, few-values _ _ (omega (arith, e, ok .fewPlans)) (ok .narrow)),
-      λ p l. pool-row-lengths (s .args .pool .now) (s .args .directions .now) (planCount (s .args .pool .now)) (ok .good) p (omega (arith, e)),
-    )
+    rows-asked (good-pool s) (c .before .plan-count .ensures)
 
 slice-aggregate-sort-pool : tie.Need-slice-aggregate-sort-pool
 slice-aggregate-sort-pool c = search needs
@@ -55,8 +49,8 @@ slice-aggregate-sort-pool-2 c = search needs
 
 sort-pool-requires : tie.Need-sort-pool-requires
 sort-pool-requires c κs =
-    let ok = c .before .before .before .before .before .before .before .before .before .before .before .before .before .pre in
-    ((ok .fewPlans, ok .narrow, omega (arith, ok .fewPlans), ok .fronts, ok .good), laid (c .before .before .before .before))
+    let s = c .before .before .before .before .before .before .before .before .before .before .before .before .before in
+    (good-pool s, laid (c .before .before .before .before), omega (arith, s .pre .fewPlans), s .pre .fronts)
 
 slice-aggregate-fill-kept : tie.Need-slice-aggregate-fill-kept
 slice-aggregate-fill-kept c = search needs
@@ -71,7 +65,7 @@ fill-kept-requires c κs =
     record {
       fronts = length (a .fronts .now);
       limits = s .pre;
-      laid = laid (c .before .before .before .before .before .before .before .before .before .before .before .before .before) (a .divisions) (a .rng) (a .ideal .now);
+      laid = laid (c .before .before .before .before .before .before .before .before .before .before .before .before .before);
       listed = c .before .before .before .before .before .before .before .before .sort-pool .ensures (a .divisions) (a .rng) (a .ideal .now) .order;
     }
 

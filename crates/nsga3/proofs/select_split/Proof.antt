@@ -57,7 +57,7 @@ associate-requires c κs =
       ok .narrow,
       few-values _ _ (omega (arith, e, ok .fewPlans)) (ok .narrow),
       subst (λ k. k * length (s .args .directions .now) ≤ length (s .args .rows .now)) (sym e) (s .pre .0 .laid .table),
-      subst (λ k. d .result * length (s .args .directions .now) ≤ k) (sym size) (few-values _ _ (omega (arith, d .ensures .0, ok .fewLines)) (ok .narrow)),
+      omega (arith, size, few-values (d .result) (length (s .args .directions .now)) (omega (arith, d .ensures .0, ok .fewLines)) (ok .narrow)),
       omega (arith, ok .ideal),
       omega (arith, e, ok .lines),
       omega (arith, e, ok .fewPlans),
@@ -69,6 +69,13 @@ copy-first-requires c κs =
     let o = s .pre .0 .listed in
     (omega (arith, o .cut .ahead, o .cut .within, o .places), omega (arith, o .cut .fits, s .pre .0 .limits .kept))
 
+-- the whole fronts are within the kept list
+whole-fits : (c : tie.After-copy-first) → let s = c .before .before .before .before .before .before .before .before .before .before .before .before .before .before .before .before .before .before .before .before .before .before .before in
+    s .args .cut .whole ≤ length (c .copy-first .last .1 .1 .0)
+whole-fits c =
+    let s = c .before .before .before .before .before .before .before .before .before .before .before .before .before .before .before .before .before .before .before .before .before .before .before in
+    omega (arith, s .pre .0 .listed .cut .fits, s .pre .0 .limits .kept, c .copy-first .kept .1 .1 .0)
+
 slice-aggregate-niching-select : tie.Need-slice-aggregate-niching-select
 slice-aggregate-niching-select c = search needs
 
@@ -79,10 +86,10 @@ mul-niching-select : tie.Need-mul-niching-select
 mul-niching-select c = let s = c .before .before .before .before .before .before .before .before .before .before .before .before .before .before .before .before .before .before .before .before .before .before .before .before .before .before .before in record { fits = omega (arith, s .pre .0 .listed .cut .fits, s .pre .0 .limits .few) }
 
 sub-niching-select-2 : tie.Need-sub-niching-select-2
-sub-niching-select-2 c = let s = c .before .before .before .before .before .before .before .before .before .before .before .before .before .before .before .before .before .before .before .before .before .before .before .before .before .before .before in omega (arith, s .pre .0 .listed .cut .fits, s .pre .0 .limits .kept, c .before .before .before .before .copy-first .kept .1 .1 .0)
+sub-niching-select-2 c = whole-fits (c .before .before .before .before)
 
 part-niching-select-start : tie.Need-part-niching-select-start
-part-niching-select-start c = let s = c .before .before .before .before .before .before .before .before .before .before .before .before .before .before .before .before .before .before .before .before .before .before .before .before .before .before .before in omega (arith, s .pre .0 .listed .cut .fits, s .pre .0 .limits .kept, c .before .before .before .before .copy-first .kept .1 .1 .0)
+part-niching-select-start c = whole-fits (c .before .before .before .before)
 
 part-niching-select-end : tie.Need-part-niching-select-end
 part-niching-select-end c = search needs
@@ -116,10 +123,9 @@ returns : tie.Need-returns
 returns c =
     let s = c .before .before .before .before .before .before .before .before .before .before .before .before .before .before .before .before .before .before .before .before .before .before .before .before .before .before .before .before .before .before .before in
     let ok = s .pre .0 .limits in
-    let o = s .pre .0 .listed in
     let f = c .before .before .before .before .before .before .before .before .copy-first in
     hands (s .pre .0) (s .pre .1) _ _ (c .before .before .before .before .before .before .before .before .before .before .before .before .before .before .before .before .before .before .before .before .before .before .before .plan-count .ensures) (c .before .before .before .before .before .before .before .before .before .before .before .before .before .before .before .before .before .before .before .before .before .das-dennis .ensures .0) _ _ _ _ _ _ (associated (c .before .before .before .before .before .before .before .before .before .before .before .before .before .before .before))
-    (ok .ideal) (s .args .kept .now) (f .last .1 .1 .0) _ _ (omega (arith, f .kept .1 .1 .0, o .cut .fits, ok .kept)) (f .ensures) (c .before .before .niching-select .ensures)
+    (ok .ideal) (s .args .kept .now) (f .last .1 .1 .0) _ _ (whole-fits (c .before .before .before .before .before .before .before .before)) (f .ensures) (c .before .before .niching-select .ensures)
 
 pub select-split-spec : {M : Type 1} → statement M
 select-split-spec =

@@ -4,10 +4,10 @@ use mathlib.Core.Path.{_≡_, ap, sym, _∙_}
 use native.Mathlib.Omega.{arith}
 use borrow.Author.Needs.{needs}
 use lib.Ieee.{Float}
-use lib.ListN.{length, getD, take}
+use lib.ListN.{length, getD}
 use Rattle.model.specs.Lists.{listBelow, over}
 use Rattle.model.specs.Real.{real}
-use Rattle.list_laws.proofs.Built.{listBelow-length, over-none, over-set, over-size, over-take}
+use Rattle.list_laws.proofs.Built.{over-none, over-set, over-size}
 use Rattle.plan_rows.proofs.copy_reals.Statement.{statement}
 use Rattle.plan_rows.proofs.copy_reals.Tie as tie
 
@@ -62,7 +62,7 @@ returns : tie.Need-returns Inv-loop μ-loop
 returns c =
     let l = c .before .loop in
     let e : l .j ≡ c .before .before .before .before .args .n = omega arith in
-    rw (← e) (ap (take (l .j)) (l .inv .1) ∙ over-take _ _ (l .j) (listBelow-length _ (l .j)))
+    rw (← e) (l .inv .1)
 
 pub copy-reals-spec : {M : Type 1} → statement M
 copy-reals-spec =

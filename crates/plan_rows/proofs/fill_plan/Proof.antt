@@ -1,12 +1,13 @@
 -- `fill_plan`: the constraints, copied as reals, are those of the plan
-use Prim.Native.Nat.{_*_}
+use Prim.Native.Nat.{ℕ, _+_, _*_, _≤_}
 use mathlib.Core.Path.{ap, sym, _∙_}
 use native.Mathlib.Omega.{arith}
 use borrow.Author.Needs.{needs}
-use lib.ListN.{set}
+use lib.ListN.{length, getD, set, take}
 use lib.Seq.{length-take-le}
 use Rattle.model.specs.Plan.{planOf, planWords}
 use Rattle.model.specs.Row.{feasible, violation}
+use Rattle.list_laws.proofs.Built.{listBelow-length, over-take}
 use Rattle.plans.proofs.Refused.{words-constraints}
 use Rattle.plan_rows.proofs.fill_plan.Statement.{statement}
 use Rattle.plan_rows.proofs.fill_plan.Tie as tie
@@ -33,16 +34,19 @@ copy-reals-requires : tie.Need-copy-reals-requires
 unfolding planOf
 copy-reals-requires c κs = let a = c .before .before .before .before .before in (omega (arith, a .pre .1), omega (arith, a .pre .1))
 
-array-share-prefix-constraints : tie.Need-array-share-prefix-constraints
+-- the constraints are within their array
+abbrev count : tie.Start → ℕ
+count s = getD (s .args .pool .now) (s .args .p * planWords + 10) 0
+
+counted : (c : tie.After-copy-reals) → count (c .before .before .before .before .before .before) ≤ length (c .copy-reals .last .1 .1 .1 .0)
 unfolding planOf
-array-share-prefix-constraints c = let a = c .before .before .before .before .before .before .before in omega (arith, a .pre .1, c .before .copy-reals .kept .1 .1 .1 .0)
+counted c = let a = c .before .before .before .before .before .before in omega (arith, a .pre .1, c .copy-reals .kept .1 .1 .1 .0)
+
+array-share-prefix-constraints : tie.Need-array-share-prefix-constraints
+array-share-prefix-constraints c = counted (c .before)
 
 slice-aggregate-is-feasible : tie.Need-slice-aggregate-is-feasible
-unfolding planOf
-slice-aggregate-is-feasible c =
-    let f = c .before .before .copy-reals in
-    let a = c .before .before .before .before .before .before .before .before in
-    sym (length-take-le _ (f .last .1 .1 .1 .0) (omega (arith, a .pre .1, f .kept .1 .1 .1 .0)))
+slice-aggregate-is-feasible c = sym (length-take-le _ _ (counted (c .before .before)))
 
 is-feasible-requires : tie.Need-is-feasible-requires
 is-feasible-requires c κs = search needs
@@ -51,15 +55,10 @@ slice-write-feasible : tie.Need-slice-write-feasible
 slice-write-feasible c = search needs
 
 array-share-prefix-constraints-2 : tie.Need-array-share-prefix-constraints-2
-unfolding planOf
-array-share-prefix-constraints-2 c = let a = c .before .before .before .before .before .before .before .before .before in omega (arith, a .pre .1, c .before .before .before .copy-reals .kept .1 .1 .1 .0)
+array-share-prefix-constraints-2 c = counted (c .before .before .before)
 
 slice-aggregate-total-violation : tie.Need-slice-aggregate-total-violation
-unfolding planOf
-slice-aggregate-total-violation c =
-    let f = c .before .before .before .before .copy-reals in
-    let a = c .before .before .before .before .before .before .before .before .before .before in
-    sym (length-take-le _ (f .last .1 .1 .1 .0) (omega (arith, a .pre .1, f .kept .1 .1 .1 .0)))
+slice-aggregate-total-violation c = sym (length-take-le _ _ (counted (c .before .before .before .before)))
 
 total-violation-requires : tie.Need-total-violation-requires
 total-violation-requires c κs = search needs
@@ -81,7 +80,7 @@ unfolding planOf
 returns c =
     let f = c .before .before .before .before .before .copy-reals in
     let a = c .before .before .before .before .before .before .before .before .before .before .before in
-    let e = f .ensures ∙ sym (words-constraints (a .args .pool .now) (a .args .p * planWords) (a .pre .1)) in
+    let e = ap (take (count a)) (f .ensures) ∙ over-take _ _ (count a) (listBelow-length _ (count a)) ∙ sym (words-constraints (a .args .pool .now) (a .args .p * planWords) (a .pre .1)) in
     record {
       feasibility = ap (set (a .args .feasible .now) (a .args .p)) (c .before .before .is-feasible .ensures ∙ ap feasible e);
       violations = ap (set (a .args .violations .now) (a .args .p)) (c .total-violation .ensures ∙ ap violation e);

@@ -5,12 +5,12 @@ use native.Mathlib.Omega.{arith}
 use lib.ListN.{length}
 use Rattle.model.specs.Plan.{planAt}
 use Rattle.list_laws.proofs.Rows.{row-within, rows-none, rows-more}
-use Rattle.plan_rows.specs.Filled.{RowsOf}
+use Rattle.plan_rows.specs.Filled.{RowsFilled}
 use Rattle.plan_rows.proofs.fill_rows.Statement.{statement}
 use Rattle.plan_rows.proofs.fill_rows.Tie as tie
 
 abbrev Inv-loop : tie.InvT-loop
-Inv-loop pool directions n rows₀ p₀ rows p = (p ≤ n) × (length rows ≡ length rows₀) × RowsOf directions (planAt pool) p rows₀ rows
+Inv-loop pool directions n rows₀ p₀ rows p = (p ≤ n) × (length rows ≡ length rows₀) × RowsFilled directions (planAt pool) p rows₀ rows
 
 abbrev μ-loop : tie.MeasureT-loop
 μ-loop pool directions n rows₀ p₀ rows p = n - p

@@ -1,31 +1,24 @@
 -- `sort_pool`: the flat lists' sort, and its cut
 use Prim.Native.Nat.{ℕ, _*_, _≤_}
-use mathlib.Core.Path.{_≡_, sym, subst}
-use mathlib.Core.List.{List, []}
+use mathlib.Core.Path.{_≡_, refl, sym, subst}
+use mathlib.Core.List.{List}
 use native.Mathlib.Omega.{arith}
 use borrow.Author.Needs.{needs}
 use lib.Ieee.{Float}
 use lib.ListN.{length}
 use Rattle.model.specs.declared.Rng.{Rng}
 use Rattle.model.specs.Calls.{wordRequest}
-use Rattle.model.specs.Plan.{planAt, planCount}
+use Rattle.model.specs.Plan.{planAt}
 use Rattle.model.specs.Association.{Request}
-use Rattle.front_laws.specs.Flat.{KnownPlans}
 use Rattle.front_laws.proofs.Places.{sorted-few}
-use Rattle.plan_rows.proofs.Pool.{pool-constraint-counts, pool-known}
-use Rattle.pool_sort.proofs.Sorting.{known-rows, sorts}
+use Rattle.plan_rows.proofs.Pool.{few-plans, pool-constraint-counts, pool-known, rows-known}
+use Rattle.pool_sort.proofs.Sorting.{sorts}
 use Rattle.pool_sort.proofs.sort_pool.Statement.{statement}
 use Rattle.pool_sort.proofs.sort_pool.Tie as tie
 
 -- the request, for divisions, a generator and an ideal that the sort does not look at
 abbrev request : tie.Start → ℕ → Rng → List Float → Request
 request s h g i = wordRequest (s .args .pool .now) (s .args .directions .now) h (s .args .size) g i
-
-abbrev some-rng : Rng
-some-rng = record { s = 0 }
-
-known : (s : tie.Start) → KnownPlans (s .args .directions .now) (planAt (s .args .pool .now)) (planCount (s .args .pool .now))
-known s = pool-known (s .args .pool .now) (s .args .directions .now) (planCount (s .args .pool .now)) (s .pre .0 .4) (s .pre .0 .1)
 
 plan-count-requires : tie.Need-plan-count-requires
 plan-count-requires c κs = search needs
@@ -39,9 +32,8 @@ slice-aggregate-fill-constraints-2 c = search needs
 fill-constraints-requires : tie.Need-fill-constraints-requires
 fill-constraints-requires c κs =
     let s = c .before .before .before .before .before .before .before .before in
-    let n = c .before .before .plan-count in
-    let e = n .ensures in
-    ((omega arith, omega (arith, s .pre .0 .0), omega (arith, s .pre .0 .0)), λ p l. pool-constraint-counts (s .args .pool .now) (s .args .directions .now) (planCount (s .args .pool .now)) (s .pre .0 .4) p (omega arith))
+    let e = c .before .before .plan-count .ensures in
+    ((omega arith, few-plans (s .pre .0) e, few-plans (s .pre .0) e), pool-constraint-counts (s .pre .0) e)
 
 slice-aggregate-fast-non-dominated-sort-constrained : tie.Need-slice-aggregate-fast-non-dominated-sort-constrained
 slice-aggregate-fast-non-dominated-sort-constrained c = search needs
@@ -59,17 +51,18 @@ fast-non-dominated-sort-constrained-requires c κs =
     let f = c .before .before .before .before .before .before .before .fill-constraints in
     let flags : length (f .last .1 .1 .0) ≡ 1024 = f .kept .1 .1 .0 in
     let sums : length (f .last .1 .1 .1 .0) ≡ 1024 = f .kept .1 .1 .1 .0 in
-    let laid = s .pre .1 0 some-rng [] in (
+    let few = few-plans (s .pre .0) e in (
       record {
-        table = subst (λ k. k * length (s .args .directions .now) ≤ length (s .args .rows .now)) (sym e) (laid .table);
-        flags = omega (arith, s .pre .0 .0);
-        sums = omega (arith, s .pre .0 .0);
+        table = subst (λ k. k * length (s .args .directions .now) ≤ length (s .args .rows .now)) (sym e) (s .pre .1 .table);
+        flags = omega (arith, few);
+        sums = omega (arith, few);
       },
-      known-rows (request s 0 some-rng []) _ e (s .args .rows .now) laid (known s),
-      omega (arith, s .pre .0 .0),
-      omega (arith, s .pre .0 .2),
-      omega (arith, s .pre .0 .3),
-      omega (arith, s .pre .0 .0),
+      rows-known (s .args .directions .now) (planAt (s .args .pool .now)) _ (s .args .rows .now) (λ p j l u. s .pre .1 .values p j (omega (arith, e)) u)
+          (pool-known (s .pre .0) e),
+      few,
+      omega (arith, e, s .pre .2),
+      omega (arith, e, s .pre .3),
+      few,
     )
 
 slice-aggregate-split-at : tie.Need-slice-aggregate-split-at
@@ -81,7 +74,7 @@ split-at-requires c κs =
     let f = c .before .before .before .before .before .before .fast-non-dominated-sort-constrained in
     let e = c .before .before .before .before .before .before .before .before .before .before .before .before .before .before .before .before .before .plan-count .ensures in
     let ends : length (f .last .1 .1 .1 .1 .1 .1 .1 .0) ≡ 1024 = f .kept .1 .1 .1 .1 .1 .1 .1 .0 in
-    omega (arith, s .pre .0 .0, sorted-few _ _ _ _ _ _ _ _ _ (f .ensures))
+    omega (arith, few-plans (s .pre .0) e, sorted-few _ _ _ _ _ _ _ _ _ (f .ensures))
 
 same-length : tie.Need-same-length
 same-length c = c .before .before .before .before .before .before .before .fast-non-dominated-sort-constrained .kept .1 .1 .1 .1 .1 .0
@@ -93,8 +86,8 @@ returns : tie.Need-returns
 returns c h g i =
     let s = c .before .before .before .before .before .before .before .before .before .before .before .before .before .before .before .before .before .before .before .before .before .before .before .before in
     let f = c .before .before .before .before .before .before .before .fast-non-dominated-sort-constrained in
-    sorts (request s h g i) _ (c .before .before .before .before .before .before .before .before .before .before .before .before .before .before .before .before .before .before .plan-count .ensures) (s .args .rows .now) (s .pre .1 h g i) (known s) _ _ _ _ _ _ _ _ _ _ _ _
-    (omega (arith, f .kept .1 .1 .1 .1 .1 .0, s .pre .0 .2)) (c .before .before .before .before .before .before .before .before .before .before .before .before .before .before .before .fill-constraints .ensures) (f .ensures) (c .split-at .ensures)
+    sorts (request s h g i) _ (c .before .before .before .before .before .before .before .before .before .before .before .before .before .before .before .before .before .before .plan-count .ensures) (s .args .rows .now) (s .pre .1) (pool-known (s .pre .0) refl) _ _ _ _ _ _ _ _ _ _ _ _
+    (omega (arith, f .kept .1 .1 .1 .1 .1 .0, s .pre .2)) (c .before .before .before .before .before .before .before .before .before .before .before .before .before .before .before .fill-constraints .ensures) (f .ensures) (c .split-at .ensures)
 
 pub sort-pool-spec : {M : Type 1} → statement M
 sort-pool-spec =

@@ -23,7 +23,7 @@ look-up-requires : tie.Need-look-up-requires
 look-up-requires c κs =
     let s = c .before .before .before .before .before .before .before .before .before in
     let size : length (c .before .before .before .front-ranks .last .1 .1 .0) ≡ 1024 = c .before .before .before .front-ranks .kept .1 .1 .0 in
-    (s .pre .3, s .pre .4, λ i l. omega (arith, s .pre .5 i l, s .pre .0, size))
+    (s .pre .1, s .pre .2, λ i l. omega (arith, s .pre .3 i l, s .pre .0 .few, size))
 
 same-length : tie.Need-same-length
 same-length c = search needs
@@ -34,7 +34,7 @@ returns c =
     let f = c .before .before .before .before .before .before .front-ranks in
     c .before .before .look-up .ensures
     ∙ ap (λ l. over l (s .args .ranks .now))
-    (fronts-of (rowBeats (s .args .directions .now) (planAt (s .args .pool .now))) (planCount (s .args .pool .now)) _ _ (s .args .kept .now) (s .args .count) (f .ensures) (s .pre .5))
+    (fronts-of (rowBeats (s .args .directions .now) (planAt (s .args .pool .now))) (planCount (s .args .pool .now)) _ _ (s .args .kept .now) (s .args .count) (f .ensures) (s .pre .3))
 
 pub fill-ranks-spec : {M : Type 1} → statement M
 fill-ranks-spec =

@@ -1,15 +1,13 @@
 -- the sort of the pool's rows
-use Prim.Native.Nat.{_*_, _≤_}
-use mathlib.Core.Path.{_≡_, sym, subst}
+use mathlib.Core.Path.{_≡_, subst}
 use native.Mathlib.Omega.{arith}
 use borrow.Author.Needs.{needs}
 use lib.ListN.{length}
-use Rattle.model.specs.Plan.{planAt, planCount}
+use Rattle.model.specs.Plan.{planAt}
 use Rattle.model.specs.Lists.{over}
 use Rattle.model.specs.Row.{rowBeats}
 use Rattle.model.specs.Front.{frontList}
-use Rattle.plan_rows.proofs.Pool.{pool-row-lengths, pool-known, rows-known}
-use Rattle.list_laws.proofs.Rows.{few-values}
+use Rattle.plan_rows.proofs.Pool.{few-plans, rows-asked, pool-known, rows-known}
 use Rattle.plan_rows.proofs.Rows.{rows-values}
 use Rattle.front_laws.proofs.Meaning.{sorted-rowBeats}
 use Rattle.ranks.proofs.front_ranks.Statement.{statement}
@@ -23,11 +21,7 @@ slice-aggregate-fill-rows c = search needs
 
 fill-rows-requires : tie.Need-fill-rows-requires
 fill-rows-requires c κs =
-    let s = c .before .before .before .before .before in
-    let e = c .before .plan-count .ensures in (
-      (omega (arith, e), s .pre .1, few-values _ _ (omega (arith, e, s .pre .0)) (s .pre .1)),
-      λ p l. pool-row-lengths (s .args .pool .now) (s .args .directions .now) (planCount (s .args .pool .now)) (s .pre .3) p (omega (arith, e)),
-    )
+    rows-asked (c .before .before .before .before .before .pre .0) (c .before .plan-count .ensures)
 
 slice-aggregate-fast-non-dominated-sort : tie.Need-slice-aggregate-fast-non-dominated-sort
 slice-aggregate-fast-non-dominated-sort c = search needs
@@ -43,14 +37,15 @@ fast-non-dominated-sort-requires c κs =
     let s = c .before .before .before .before .before .before .before .before .before .before .before in
     let e = c .before .before .before .before .before .before .before .plan-count .ensures in
     let f = c .before .before .before .before .before .fill-rows in
+    let few = few-plans (s .pre .0) e in
     let size : length (f .last .1 .1 .1 .0) ≡ 8192 = f .kept .1 .1 .1 .0 in (
-      subst (λ k. c .before .before .before .before .before .before .before .plan-count .result * length (s .args .directions .now) ≤ k) (sym size) (few-values _ _ (omega (arith, e, s .pre .0)) (s .pre .1)),
+      omega (arith, size, rows-asked (s .pre .0) e .0 .2),
       rows-known (s .args .directions .now) (planAt (s .args .pool .now)) _ (f .last .1 .1 .1 .0) (rows-values _ _ _ _ _ (f .ensures))
-          (λ p l. pool-known (s .args .pool .now) (s .args .directions .now) (planCount (s .args .pool .now)) (s .pre .3) (s .pre .1) p (omega (arith, e))),
-      omega (arith, e, s .pre .0),
-      omega (arith, e, s .pre .0),
-      omega (arith, e, s .pre .2),
-      omega (arith, e, s .pre .0),
+          (pool-known (s .pre .0) e),
+      few,
+      few,
+      omega (arith, e, s .pre .1),
+      few,
     )
 
 same-length : tie.Need-same-length
