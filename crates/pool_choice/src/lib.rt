@@ -1,12 +1,14 @@
 // `choose` (document 01, "Pool file"): from the bytes of a pool file to the text of its selection.
 ghost use mathlib.Core.Path.{_≡_};
-ghost use Prim.Native.Nat.{_≤_};
+ghost use Prim.Native.Nat.{_≤_, _<_};
 ghost use lib.ListN.{length, replicate};
 ghost use Rattle.model.specs.Real.{infinity};
 ghost use Rattle.model.specs.Plan.{maxObjectives};
+ghost use Rattle.model.specs.Refusal.{maxSize};
 ghost use Rattle.model.specs.Calls.{wordRequest, Chooses};
 ghost use Rattle.pool_laws.specs.Choice.{exit, listExit};
 use model::Chosen;
+use model::MAX_OBJECTIVES;
 use model::MAX_PLANS;
 use model::Outcome;
 use model::PLAN_WORDS;
@@ -29,7 +31,7 @@ fn choose_words(
         (now (out .entry)) ⌝ }
 {
     let m = directions.len();
-    let mut ideal: [f64; 8] = [1.0 / 0.0; 8];
+    let mut ideal: [f64; MAX_OBJECTIVES] = [1.0 / 0.0; MAX_OBJECTIVES];
     let mut kept: [usize; MAX_PLANS] = [0; MAX_PLANS];
     let mut fronts: [usize; MAX_PLANS] = [0; MAX_PLANS];
     let mut lines: [usize; MAX_PLANS] = [0; MAX_PLANS];
@@ -57,26 +59,30 @@ fn choose_words(
     }
 }
 
+// How many of a file's plans have words: all, or of too many none. A pool of none meets the refusal that too many meet: 7, or one that comes before it.
+fn plans_stored(count: usize) -> usize
+    ensures { λ r. ⌜ (r ≤ maxSize) × (count ≤ maxSize → r ≡ count) × (maxSize < count → r ≡ 0) ⌝ }
+{
+    if MAX_PLANS < count { 0 } else { count }
+}
+
 // The text that a pool file asks for, at the front of the slice lent: the listing, or the number of the refusal with nothing written.
 pub fn choose(file: &[u8], out: &mut [u8]) -> Chosen
-    ensures { λ r. ⌜ Chooses (now (file .entry)) (now (out .entry)) (record { answer = r; out = now (out .exit) }) ⌝ }
+    ensures { λ r. ⌜ Chooses (now (file .entry)) (now (out .entry)) (exit r (now (out .exit))) ⌝ }
 {
-    let mut directions: [u8; 8] = [0; 8];
+    let mut directions: [u8; MAX_OBJECTIVES] = [0; MAX_OBJECTIVES];
     let mut pool: [u64; POOL_WORDS] = [0; POOL_WORDS];
     let parsed = pool_file::parse_pool(file, &mut directions, &mut pool);
     let Parsed::Good(header) = parsed else {
         return Chosen::Refused(1);
     };
-    if 8 < header.m {
+    if (MAX_OBJECTIVES as u64) < header.m {
         return Chosen::Refused(2);
     }
     let m = header.m as usize;
     let divisions = header.divisions as usize;
     let size = header.size as usize;
-    if (MAX_PLANS as u64) < header.count {
-        return Chosen::Refused(pool_parts::crowded(&directions[..m], divisions, size));
-    }
-    let words = header.count as usize * PLAN_WORDS;
+    let words = plans_stored(header.count as usize) * PLAN_WORDS;
     let rng = Rng { s: header.seed };
     choose_words(&pool[..words], &directions[..m], divisions, size, rng, out)
 }

@@ -15,7 +15,6 @@ use Rattle.pool_plans.specs.declared.End.{End}
 use Rattle.pool_plans.specs.declared.End.the-variants as end
 use Rattle.pool_file.specs.declared.Header.{Header}
 use Rattle.pool_file.specs.declared.Heading.{Heading}
-use Rattle.pool_file.specs.declared.Heading.the-variants as heading
 use Rattle.pool_plans.specs.Blocks.{Words, WordsIs, Plans, PlansIs}
 use Rattle.pool_file.specs.Parsing.{headerOf, fileOf, afterHeader, headed, HeadingIs, Pool, capped}
 use Rattle.pool_plans.proofs.Storing.{as-told, reads-count, stored-plain}
@@ -61,20 +60,6 @@ module _ (file l o : List ℕ) (r : End) (w : WordsIs (λ v. v) file 0 5 5 0 l o
 
 -- ---- marks, plans and end
 
-module _ (h : Header) (b₀ : List ℕ) where
-  after-no-marks : many (h .m) number b₀ ≡ none → afterHeader h b₀ ≡ none
-  unfolding afterHeader
-  after-no-marks e = rw e
-
-  module _ (marks b₁ : List ℕ) (e : many (h .m) number b₀ ≡ pure marks b₁) where
-    after-no-plans : many (h .count) (plan (h .m)) b₁ ≡ none → afterHeader h b₀ ≡ none
-    unfolding afterHeader
-    after-no-plans f = rw (e, f)
-
-    after-good : (plans : List Plan) (b₂ : List ℕ) → many (h .count) (plan (h .m)) b₁ ≡ pure plans b₂ → afterHeader h b₀ ≡ pure (fileOf h marks plans) b₂
-    unfolding afterHeader
-    after-good plans b₂ f = rw (e, f)
-
 pub parse-long : (file : List ℕ) → maxFile < length file → parse file ≡ none
 unfolding parse
 parse-long file h = rw (lt-leb (length file) maxFile h)
@@ -98,9 +83,8 @@ pub record Marked (file : List ℕ) (h : Header) (l o : List ℕ) (next : ℕ) :
 
 module _ (file : List ℕ) (h : Header) (at : ℕ) (b : Begun file h at) (l o : List ℕ) (q : End) (w : WordsIs capped file at (h .m) maxObjectives 0 l o q) where
   pub parse-no-marks : q ≡ end.Broken → parse file ≡ none
-  parse-no-marks g =
-      b ∙ ap wholly (after-no-marks h (drop at file)
-      (as-told (many (h .m) number) _ file at g w))
+  unfolding afterHeader
+  parse-no-marks g = let n : many (h .m) number (drop at file) ≡ none = as-told (many (h .m) number) _ file at g w in b ∙ rw n
 
   pub parse-marked : (next : ℕ) → q ≡ end.At next → Marked file h l o next
   parse-marked next g = record { at = at; begun = b; marks = as-told (many (h .m) number) _ file at g w }
@@ -111,16 +95,18 @@ module _ (file : List ℕ) (h : Header) (l o : List ℕ) (next : ℕ) (m : Marke
   values = m .marks .value
 
   pub parse-no-plans : y ≡ end.Broken → parse file ≡ none
+  unfolding afterHeader
   parse-no-plans z =
-      m .begun ∙ ap wholly (after-no-plans h (drop (m .at) file) values (drop next file) (m .marks .reads)
-      (as-told (many (h .count) (plan (h .m))) _ file next z v))
+      let n : many (h .count) (plan (h .m)) (drop next file) ≡ none = as-told (many (h .count) (plan (h .m))) _ file next z v in
+      m .begun ∙ rw (m .marks .reads, n)
 
   module _ (stop : ℕ) (z : y ≡ end.At stop) where
     plans : Plans file next (h .m) (h .count) pool stop
     plans = as-told (many (h .count) (plan (h .m))) _ file next z v
 
     whole : parse file ≡ ifNoneLeft (drop stop file) (fileOf h values (plans .value))
-    whole = m .begun ∙ ap wholly (after-good h (drop (m .at) file) values (drop next file) (m .marks .reads) (plans .value) (drop stop file) (plans .reads))
+    unfolding afterHeader
+    whole = m .begun ∙ rw (m .marks .reads, plans .reads)
 
     pub parse-runs-on : stop < length file → parse file ≡ none
     parse-runs-on u = whole ∙ ap (λ (t : List ℕ). ifNoneLeft t (fileOf h values (plans .value))) (drop-cons file stop 0 u)
@@ -140,8 +126,6 @@ module _ (file : List ℕ) (h : Header) (l o : List ℕ) (next : ℕ) (m : Marke
       values = values;
       read = plans .value;
       parsed = whole ∙ ap (λ (t : List ℕ). ifNoneLeft t (fileOf h values (plans .value))) (drop-of-length-le file u);
-      markCount = counted;
-      planCount = reads-count (plan (h .m)) file next _ (h .count) stop plans;
       marks = shown room;
       plans = plans .stored;
     }

@@ -6,7 +6,7 @@ use mathlib.Core.Bool.{cond}
 use mathlib.Core.List.{List, map}
 use mathlib.Core.Option.{Option, none, some}
 use lib.Dec.{ltb}
-use lib.ListN.{length, getD, take, drop}
+use lib.ListN.{getD, take, drop}
 use Rattle.model.specs.Plan.{Plan, maxObjectives}
 use Rattle.model.specs.PoolFile.{Parsed, Reader, PoolFile, pure, number, many, plan, poolFile, parse, _>>=_}
 use Rattle.pool_plans.specs.Blocks.{Blocks}
@@ -54,8 +54,6 @@ pub record Pool (file : List ℕ) (h : Header) (directions pool : List ℕ) : Ty
   pub values : List ℕ
   pub read : List Plan
   pub parsed : parse file ≡ some (fileOf h values read)
-  pub markCount : length values ≡ h .m
-  pub planCount : length read ≡ h .count
   pub marks : h .m ≤ maxObjectives → take (h .m) directions ≡ map capped values
   pub plans : Blocks (h .count) pool read
 

@@ -1,4 +1,5 @@
 // The pool file (document 01, "Pool file"): its header, its direction marks and its plans.
+use model::MAX_OBJECTIVES;
 use pool_number::Read;
 use pool_number::read_number;
 use pool_plans::End;
@@ -54,7 +55,7 @@ fn read_marks(file: &[u8], at: usize, n: usize, directions: &mut [u8]) -> End
         let Read::Number(v, next) = read_number(file, p) else {
             return End::Broken;
         };
-        if i < 8 {
+        if i < MAX_OBJECTIVES {
             directions[i] = capped(v);
         }
         p = next;

@@ -53,7 +53,7 @@ marks-same (k ∷ l) h =
     let a : k ≤ 1 = leb-true k 1 (and-left (leb k 1) _ h) in
     rw (capped-low k a, marks-same l (and-right (leb k 1) _ h))
 
-pub directions-same : (l : List ℕ) → badDirections (map capped l) ≡ badDirections l
+directions-same : (l : List ℕ) → badDirections (map capped l) ≡ badDirections l
 unfolding badDirections
 directions-same l = rw (length-map, marks-good l)
 
@@ -72,11 +72,7 @@ roomed-same : (m : ℕ) (p : Plan) → m ≤ maxObjectives → Shape m p → p .
 roomed-same m p h s c =
     let r = s .row in
     let k = s .constraints in
-    rw (take-all 8 (p .row) (omega arith), take-all 16 (p .constraints) (omega arith)) (counts p (sym (s .settingCount)) (sym (s .settings)))
-  where
-    counts : (p : Plan) → 0 ≡ p .settingCount → [] ≡ p .settings
-        → _≡_ {A = Plan} (record { number = p .number; rowLength = p .rowLength; row = p .row; constraintCount = p .constraintCount; constraints = p .constraints; settingCount = 0; settings = [] }) p
-    counts p a b = rw (a, b)
+    rw (take-all 8 (p .row) (omega arith), take-all 16 (p .constraints) (omega arith))
 
 roomed-good : (m : ℕ) (p : Plan) → m ≤ maxObjectives → Shape m p → goodPlan m (roomed p) ≡ goodPlan m p
 unfolding goodPlan
@@ -123,10 +119,25 @@ pool-good r h p l = good-constraints (objectives r) (r .plans p) (pool-plan r h 
 
 -- ---- the words and the file
 
--- the request that the parser's words form
-abbrev pub stored : Header → List ℕ → List ℕ → Request
-stored h directions pool =
-    wordRequest (take (h .count * planWords) pool) (take (h .m) directions) (h .divisions) (h .size) (record { s = h .seed }) (replicate (h .m) infinity)
+-- the request that the parser's words of k plans form
+abbrev pub stored : Header → List ℕ → List ℕ → ℕ → Request
+stored h directions pool k =
+    wordRequest (take (k * planWords) pool) (take (h .m) directions) (h .divisions) (h .size) (record { s = h .seed })
+    (replicate (length (take (h .m) directions)) infinity)
+
+-- its marks and divisions are refused as the file's
+module _ (file : List ℕ) (h : Header) (directions pool : List ℕ) (w : Pool file h directions pool) (few : h .m ≤ maxObjectives) where
+  marks : take (h .m) directions ≡ map capped (w .values)
+  marks = w .marks few
+
+  marks-length : length (take (h .m) directions) ≡ length (w .values)
+  marks-length = ap length marks ∙ length-map (w .values) capped
+
+  pub two-same : badDirections (take (h .m) directions) ≡ badDirections (w .values)
+  two-same = ap badDirections marks ∙ directions-same (w .values)
+
+  pub four-same : badDivisions (length (take (h .m) directions)) (h .divisions) ≡ badDivisions (length (w .values)) (h .divisions)
+  four-same = ap (λ (k : ℕ). badDivisions k (h .divisions)) marks-length
 
 module _ (file : List ℕ) (h : Header) (directions pool : List ℕ) (w : Pool file h directions pool) (few : h .m ≤ maxObjectives) (small : h .count ≤ maxSize)
     (room : maxSize * planWords ≤ length pool) where
@@ -142,9 +153,6 @@ module _ (file : List ℕ) (h : Header) (directions pool : List ℕ) (w : Pool f
   words-length : length words ≡ h .count * planWords
   words-length = length-take-le (h .count * planWords) pool (le-trans (mul-le-mul-right planWords small) room)
 
-  marks : take (h .m) directions ≡ map capped (f .marks)
-  marks = w .marks few
-
   plan-in : (p : ℕ) → p < h .count → planAt words p ≡ roomed (getD (f .plans) p noPlan)
   plan-in p l =
       let k : (p + 1) * planWords ≤ h .count * planWords = mul-le-mul-right planWords (omega arith) in
@@ -156,7 +164,7 @@ module _ (file : List ℕ) (h : Header) (directions pool : List ℕ) (w : Pool f
   plan-past p l =
       let k : h .count * planWords ≤ p * planWords = mul-le-mul-right planWords l in
       let n = words-length in
-      let c = w .planCount in
+      let c = whole .count in
       planOf-same (λ j. getD words (p * planWords + j) 0) (λ j. 0) (λ j u. List·getD-eq-default words 0 (omega arith))
       ∙ planOf-zero ∙ sym (List·getD-eq-default (f .plans) noPlan (omega arith))
 
@@ -174,25 +182,25 @@ module _ (file : List ℕ) (h : Header) (directions pool : List ℕ) (w : Pool f
       (λ l. ap (goodPlan (h .m)) (plan-past p l))
 
   objectives-words : length (take (h .m) directions) ≡ h .m
-  objectives-words = ap length marks ∙ length-map (f .marks) capped ∙ w .markCount
+  objectives-words = marks-length file h directions pool w few ∙ whole .marks
 
   count-words : planCount words ≡ h .count
   count-words = let n = words-length in omega arith
 
-  pub carried : Carried (stored h directions pool) (fileRequest f)
+  pub carried : Carried (stored h directions pool (h .count)) (fileRequest f)
   carried =
-      let o : length (take (h .m) directions) ≡ length (f .marks) = objectives-words ∙ sym (w .markCount) in
       let g : (p : ℕ) → goodPlan (length (take (h .m) directions)) (planAt words p) ≡ goodPlan (length (f .marks)) (getD (f .plans) p noPlan) =
       λ p. ap (λ (k : ℕ). goodPlan k (planAt words p)) objectives-words ∙ good-same p
-      ∙ ap (λ (k : ℕ). goodPlan k (getD (f .plans) p noPlan)) (sym (w .markCount)) in
+      ∙ ap (λ (k : ℕ). goodPlan k (getD (f .plans) p noPlan)) (sym (whole .marks)) in
+      let i = ap (λ (k : ℕ). replicate k infinity) objectives-words in
       record {
-        two = ap badDirections marks ∙ directions-same (f .marks);
+        two = two-same file h directions pool w few;
         size = refl;
-        four = ap (λ (k : ℕ). badDivisions k (h .divisions)) o;
+        four = four-same file h directions pool w few;
         count = count-words;
-        eight = pool-same (stored h directions pool) (fileRequest f) o count-words g refl;
+        eight = pool-same (stored h directions pool (h .count)) (fileRequest f) (marks-length file h directions pool w few) count-words g i;
         same = λ a b. request-same
-            (marks ∙ marks-same (f .marks) (directions-good (f .marks) a)) refl refl count-words
+            (w .marks few ∙ marks-same (f .marks) (directions-good (f .marks) a)) refl refl count-words
             (fun-ext (λ p. by-lt p (h .count) (λ l. plan-same p l (pool-good (fileRequest f) b p l)) (plan-past p)))
-            refl refl;
+            i refl;
       }

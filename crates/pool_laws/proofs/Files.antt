@@ -2,29 +2,27 @@
 use Rattle.pool_file.specs.declared.Parsed.{Parsed as Answer}
 use Prim.Native.Nat.{ℕ, _*_, _≤_, _<_}
 use mathlib.Core.Path.{_≡_, ap, sym, _∙_, subst, ap₂, refl}
-use mathlib.Core.List.{List, map}
+use mathlib.Core.List.{List}
 use mathlib.Core.Option.{Option, none, some}
 use native.Mathlib.Omega.{arith}
-use lib.ListN.{length, take, replicate, length-map}
-use lib.Seq.{length-take-le}
+use lib.ListN.{length}
 use Rattle.model.specs.declared.Chosen.the-variants as chosen
-use Rattle.model.specs.Real.{infinity}
 use Rattle.model.specs.Plan.{planWords, maxObjectives}
 use Rattle.model.specs.Association.{Request}
 use Rattle.model.specs.PoolFile.{PoolFile, parse, fileRequest, fileText}
-use Rattle.model.specs.Refusal.{maxSize, badDirections, selectRefusal, refusalOfParsed, fileRefusal, chooseRefusal}
-use Rattle.model.specs.Calls.{ChooseExit, chooseBy, textOf, chooseOf, Chooses, wordRequest, chosenRefusedBy, textHandedOut}
+use Rattle.model.specs.Refusal.{maxSize, selectRefusal, refusalOfParsed, fileRefusal, chooseRefusal}
+use Rattle.model.specs.Calls.{ChooseExit, chooseBy, textOf, chooseOf, Chooses, chosenRefusedBy, textHandedOut}
 use Rattle.list_laws.proofs.Built.{over-take}
 use Rattle.list_laws.proofs.Bools.{by-option}
+use Rattle.list_laws.proofs.Below.{by-lt}
 use Rattle.plans.proofs.Refused.{directions-many}
 use Rattle.pool_file.specs.declared.Header.{Header}
 use Rattle.pool_file.specs.declared.Parsed.the-variants as answer
-use Rattle.pool_file.specs.Parsing.{fileOf, PoolIs, Pool, capped}
-use Rattle.pool_laws.specs.Choice.{exit, roomy, listExit, Crowded}
+use Rattle.pool_file.specs.Parsing.{fileOf, PoolIs, Pool}
+use Rattle.pool_laws.specs.Choice.{exit, roomy, listExit}
 use Rattle.pool_laws.proofs.Shapes.{Whole, parse-whole}
-use Rattle.pool_laws.proofs.Carried.{Carried, select-same, carried, stored, directions-same}
-use Rattle.pool_laws.proofs.Refusals.{file-refusal, list-refused}
-use Rattle.pool_laws.proofs.Crowded.{directions-first}
+use Rattle.pool_laws.proofs.Carried.{Carried, select-same, stored, two-same, four-same, carried}
+use Rattle.pool_laws.proofs.Refusals.{file-refusal, directions-first, many-plans, refused-alike, list-refused}
 use Rattle.pool_laws.proofs.Demand3.{file-accepted, choose-demand3}
 
 -- an answer tells the refusal, or that there is none
@@ -75,24 +73,16 @@ module _ (file directions pool : List ℕ) (a : Answer) (p : PoolIs file directi
   refused n g = by-parse file out (some form) (held .parsed) _ (sym (ap (λ (o : Option ℕ). chooseBy o (fileText form) out) g))
 
   pub many-objectives : 8 < h .m → Chooses file out (exit (chosen.Refused 2) out)
-  many-objectives g = refused 2 (directions-first form (length out) (directions-many (held .values) (omega (arith, held .markCount))))
+  many-objectives g =
+      refused 2 (directions-first form (length out) (directions-many (held .values) (omega (arith, parse-whole file form (held .parsed) .marks))))
 
-  module _ (few : h .m ≤ maxObjectives) where
-    marks : take (h .m) directions ≡ map capped (held .values)
-    marks = held .marks few
-
-    pub crowded-pool : maxSize < h .count → (n : ℕ) → Crowded (take (h .m) directions) (h .divisions) (h .size) n → Chooses file out (exit (chosen.Refused n) out)
-    crowded-pool g n c =
-        refused n (c form (length out) (sym (ap badDirections marks ∙ directions-same (held .values)))
-        (sym (ap length marks ∙ length-map (held .values) capped)) refl refl g)
-
-    pub chosen-words : h .count ≤ maxSize → maxSize * planWords ≤ length pool → h .m ≤ length directions → (x : ChooseExit)
-        → x ≡ listExit (wordRequest (take (h .count * planWords) pool) (take (h .m) directions) (h .divisions) (h .size) (record { s = h .seed })
-        (replicate (length (take (h .m) directions)) infinity)) out
-        → Chooses file out x
-    chosen-words small room within x g =
-        by-parse file out (some form) (held .parsed) x (g
-        ∙ ap (λ (k : ℕ). listExit (wordRequest (take (h .count * planWords) pool) (take (h .m) directions) (h .divisions) (h .size) (record { s = h .seed }) (replicate k infinity)) out)
-        (length-take-le (h .m) directions within)
-        ∙ alike-exit form (parse-whole file form (held .parsed)) (stored h directions pool) (carried file h directions pool held few small room) out
-        ∙ sym (ap (λ (o : Option ℕ). chooseBy o (fileText form) out) (file-refusal form (length out))))
+  -- k plans have words: all of them, or none of too many
+  pub chosen-words : h .m ≤ maxObjectives → maxSize * planWords ≤ length pool → (k : ℕ) → (h .count ≤ maxSize → k ≡ h .count) → (maxSize < h .count → k ≡ 0)
+      → (x : ChooseExit) → x ≡ listExit (stored h directions pool k) out → Chooses file out x
+  chosen-words few room k full empty x g = by-parse file out (some form) (held .parsed) x (g ∙ by-lt maxSize (h .count)
+      (λ many. ap (λ (j : ℕ). listExit (stored h directions pool j) out) (empty many)
+      ∙ refused-alike (stored h directions pool 0) form out (two-same file h directions pool held few) refl (four-same file h directions pool held few) refl
+      (many-plans (h .count) many))
+      (λ small. ap (λ (j : ℕ). listExit (stored h directions pool j) out) (full small)
+      ∙ alike-exit form (parse-whole file form (held .parsed)) (stored h directions pool (h .count)) (carried file h directions pool held few small room) out
+      ∙ sym (ap (λ (o : Option ℕ). chooseBy o (fileText form) out) (file-refusal form (length out)))))

@@ -54,6 +54,6 @@ listing-short count sel s =
     let m = s .plans in
     rw length-append (omega (arith, header-short count (length (sel .kept)) (s .plans) (s .kept), rows-short (planText sel) count (plan-short count sel s)))
 
--- a refusal's number is one of 1 to 11
+-- a refusal's number has at most four digits
 pub refused-short : (n : ℕ) → n < 10000 → length (refusedText n) ≤ 13
 refused-short n h = let a = decimal-four n h in rw refused-text (simp length-append (omega arith))

@@ -13,5 +13,4 @@ pub mod Refusals
 pub mod Demand3
 pub mod Texts
 pub mod Words
-pub mod Crowded
 pub mod Files

@@ -1,16 +1,17 @@
 -- A file's refusal is its request's: 1,024 entries are room for every list that is handed out, so only the text can meet 10.
-use Prim.Native.Nat.{ℕ}
+use Prim.Native.Nat.{ℕ, _<_}
 use mathlib.Core.Path.{_≡_, refl, ap, sym, _∙_}
-use mathlib.Core.Bool.{Bool, true, false, cond, true≢false}
+use mathlib.Core.Bool.{Bool, true, false, cond, or-true, true≢false}
 use mathlib.Core.List.{List, [], _∷_}
 use mathlib.Core.Option.{Option, none, some}
-use borrow.Author.Tests.{le-ltb}
+use borrow.Author.Tests.{lt-ltb, le-ltb}
 use lib.Dec.{ltb}
 use lib.ListN.{length}
 use Rattle.model.specs.declared.Chosen.the-variants as chosen
-use Rattle.model.specs.Association.{Request}
+use Rattle.model.specs.Association.{Request, objectives}
 use Rattle.model.specs.PoolFile.{PoolFile, fileRequest, fileText}
 use Rattle.model.specs.Refusal.{check, firstOf, maxSize, badDirections, badSize, badDivisions, badCount, badPool, noRoom, selectRefusal, fileRefusal}
+use Rattle.list_laws.proofs.Checks.{applies-first}
 use Rattle.demand3_laws.proofs.Passed.{one-to-1024}
 use Rattle.model.specs.Calls.{chooseBy}
 use Rattle.pool_laws.specs.Choice.{exit, textRefusal, textExit, requestText, roomy, orElse, listRefusal, listExit}
@@ -46,6 +47,32 @@ file-selects f out e = first-none (selectRefusal (fileRequest f) roomy) _ (sym (
     first-none : (a b : Option ℕ) → orElse a b ≡ none → a ≡ none
     first-none none b h = refl
     first-none (some n) b h = h
+
+pub directions-first : (f : PoolFile) (out : ℕ) → badDirections (f .marks) ≡ true → fileRefusal f out ≡ some 2
+unfolding fileRefusal
+directions-first f out e = applies-first _ _ e
+
+-- ---- a pool of too many plans is refused as an empty one is
+
+pub many-plans : (n : ℕ) → maxSize < n → badCount n ≡ true
+many-plans n h = rw (lt-ltb maxSize n h, or-true)
+
+-- where 7 applies, neither a later test nor a text is looked at
+seven-stops : (a b c e f x y : Bool) (o : Option ℕ) (s t out : List ℕ) → chooseBy (orElse (six a b c true e f) o) s out ≡ chooseBy (six a b c true x y) t out
+unfolding firstOf
+seven-stops true b c e f x y o s t out = refl
+seven-stops false true c e f x y o s t out = refl
+seven-stops false false true e f x y o s t out = refl
+seven-stops false false false e f x y o s t out = refl
+
+pub refused-alike : (w : Request) (f : PoolFile) (out : List ℕ) → badDirections (w .marks) ≡ badDirections (f .marks) → badSize (w .size) ≡ badSize (f .size)
+    → badDivisions (objectives w) (w .divisions) ≡ badDivisions (length (f .marks)) (f .divisions) → badCount (w .count) ≡ true → badCount (f .count) ≡ true
+    → listExit w out ≡ chooseBy (fileRefusal f (length out)) (fileText f) out
+unfolding fileRefusal selectRefusal
+refused-alike w f out two three four empty many =
+    rw (two, three, four, empty, many)
+    (seven-stops (badDirections (f .marks)) (badSize (f .size)) (badDivisions (length (f .marks)) (f .divisions)) (badPool w) (noRoom w roomy)
+    (badPool (fileRequest f)) (ltb (length out) (length (fileText f))) (textRefusal (requestText w) (length out)) (requestText w) (fileText f) out)
 
 -- ---- the listing's answer, by the selection's
 

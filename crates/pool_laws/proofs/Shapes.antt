@@ -1,6 +1,6 @@
 -- What holds of every file in good form: as many marks and plans as it says, and the shape of each plan.
 use Prim.Native.Nat.{ℕ, zero, suc, _<_}
-use mathlib.Core.Path.{_≡_, refl, sym, _∙_, subst}
+use mathlib.Core.Path.{_≡_, sym, _∙_, subst}
 use mathlib.Core.List.{List, [], _∷_}
 use mathlib.Core.Option.{some, Option·none-ne-some, Option·some-injective}
 use native.Mathlib.Nat.{not-suc-le-zero}
@@ -32,12 +32,8 @@ module _ {A : Type 0} (r : Reader A) (Q : A → Type 0) (each : (bytes : List �
 -- ---- a plan
 
 pub record Shape (m : ℕ) (p : Plan) : Type 0 where
-  pub number : p .number ≡ 0
-  pub rowLength : p .rowLength ≡ m
   pub row : length (p .row) ≡ m
   pub constraints : length (p .constraints) ≡ p .constraintCount
-  pub settingCount : p .settingCount ≡ 0
-  pub settings : p .settings ≡ []
 
 plan-shape : (m : ℕ) (bytes : List ℕ) (p : Parsed Plan) → plan m bytes ≡ some p → Shape m (p .value)
 unfolding plan
@@ -46,12 +42,8 @@ plan-shape m bytes p e =
     let c = both-read (number (v .0 .rest)) _ _ (v .2) in
     let k = both-read (many (c .0 .value) number (c .0 .rest)) _ _ (c .2) in
     subst (λ (t : Parsed Plan). Shape m (t .value)) (Option·some-injective _ _ (k .2)) (record {
-      number = refl;
-      rowLength = refl;
       row = length-map (v .0 .value) real ∙ many-length number m bytes (v .0 .value) (v .0 .rest) (v .1);
       constraints = length-map (k .0 .value) real ∙ many-length number (c .0 .value) (c .0 .rest) (k .0 .value) (k .0 .rest) (k .1);
-      settingCount = refl;
-      settings = refl;
     })
 
 -- ---- the file

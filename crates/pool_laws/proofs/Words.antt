@@ -3,16 +3,17 @@ use Prim.Native.Nat.{ℕ, _≤_}
 use mathlib.Core.Path.{_≡_, ap, sym, _∙_}
 use mathlib.Core.List.{List}
 use mathlib.Core.Option.{Option, none, some}
-use lib.Ieee.{Float, binary64, div, ofBits}
+use native.Mathlib.Omega.{arith}
+use lib.Ieee.{binary64, div, ofBits}
 use lib.ListN.{length, take, replicate}
 use Rattle.model.specs.declared.Chosen.the-variants as chosen
 use Rattle.model.specs.declared.Outcome.the-variants as outcome
-use Rattle.model.specs.Lists.{over}
 use Rattle.model.specs.Real.{infinity}
+use Rattle.model.specs.Plan.{maxObjectives}
 use Rattle.model.specs.Association.{Request}
 use Rattle.model.specs.Kept.{selected}
-use Rattle.model.specs.Refusal.{selectRefusal}
-use Rattle.model.specs.Calls.{Lent, roomOf, SelectExit, selectAccepted, selectBy, selectOf, maxText, refusedBy}
+use Rattle.model.specs.Refusal.{maxSize, selectRefusal}
+use Rattle.model.specs.Calls.{Lent, roomOf, SelectExit, selectAccepted, selectBy, selectOf, Selects, maxText, refusedBy}
 use Rattle.nsga3_laws.specs.Admitted.{Admitted}
 use Rattle.nsga3_laws.proofs.Admitted.{admitted}
 use Rattle.pool_laws.proofs.Printed.{selected-short}
@@ -20,80 +21,65 @@ use Rattle.pool_laws.specs.Text.{listed}
 use Rattle.model.specs.PoolFile.{listingText}
 use Rattle.list_laws.proofs.Built.{take-replicate}
 use Rattle.niching_laws.proofs.KeptLength.{kept-length}
-use Rattle.demand3_laws.proofs.Calls.{select-refused}
 use Rattle.pool_laws.specs.Choice.{exit, textExit, requestText, roomy, listExit}
 use Rattle.pool_laws.proofs.Listed.{listing-over}
 use Rattle.pool_laws.proofs.Refusals.{list-refused, list-written}
 
 -- ---- the ideal starts at infinity
 
-abbrev pub start : ℕ → List Float
-start m = take m (replicate 8 (div binary64 (ofBits binary64 4607182418800017408) (ofBits binary64 0)))
-
-pub ideal-start : (m : ℕ) → m ≤ 8 → start m ≡ replicate m infinity
+pub ideal-start : (m : ℕ) → m ≤ maxObjectives
+    → take m (replicate maxObjectives (div binary64 (ofBits binary64 4607182418800017408) (ofBits binary64 0))) ≡ replicate m infinity
 unfolding div ofBits
-ideal-start m h = take-replicate m 8 infinity h
+ideal-start m h = take-replicate m maxObjectives infinity h
 
 -- ---- a selection's answer, by cases
 
-module _ (r : Request) (entry : Lent) (x : SelectExit) (e : x ≡ selectOf r entry) where
+module _ {r : Request} {entry : Lent} {x : SelectExit} (p : Selects r entry x) (k : roomOf entry ≡ roomy) where
   -- the answer tells the refusal, or that there is none
-  told : selectRefusal r (roomOf entry) ≡ refusedBy (x .answer .outcome)
-  unfolding selectOf
-  told = sym (ap (λ (t : SelectExit). refusedBy (t .answer .outcome)) e ∙ select-refused r entry (selectRefusal r (roomOf entry)))
+  told : selectRefusal r roomy ≡ refusedBy (x .answer .outcome)
+  told = ap (selectRefusal r) (sym k) ∙ sym (p .refused)
 
-  number : (n : ℕ) → x .answer .outcome ≡ outcome.Refused n → selectRefusal r (roomOf entry) ≡ some n
-  number n h = told ∙ ap refusedBy h
+  pub refused-exit : (n : ℕ) (out : List ℕ) → x .answer .outcome ≡ outcome.Refused n → exit (chosen.Refused n) out ≡ listExit r out
+  refused-exit n out h = sym (list-refused r out n (told ∙ ap refusedBy h))
 
   -- a selection that went through
-  pub record Through (n : ℕ) : Type 0 where
-    pub none : selectRefusal r (roomOf entry) ≡ none
-    pub size : n ≡ r .size
-    pub kept : x .slices .kept ≡ over (selected r .kept) (entry .kept)
-    pub fronts : x .slices .fronts ≡ over (selected r .fronts) (entry .fronts)
-    pub lines : x .slices .lines ≡ over (selected r .lines) (entry .lines)
+  module _ {n : ℕ} (h : x .answer .outcome ≡ outcome.Kept n) where
+    accepted : selectRefusal r roomy ≡ none
+    accepted = told ∙ ap refusedBy h
 
-  pub through : (n : ℕ) → x .answer .outcome ≡ outcome.Kept n → Through n
-  unfolding selectOf selectAccepted
-  through n h =
-      let o = told ∙ ap refusedBy h in
-      let by : x ≡ selectAccepted r entry = e ∙ ap (λ (t : Option ℕ). selectBy t r entry) o in
-      let q : outcome.Kept n ≡ outcome.Kept (length (selected r .kept)) = sym h ∙ ap (λ (t : SelectExit). t .answer .outcome) by in
-      let c : n ≡ length (selected r .kept) = cc in
-      record {
-        none = o;
-        size = c ∙ kept-length r;
-        kept = ap (λ (t : SelectExit). t .slices .kept) by;
-        fronts = ap (λ (t : SelectExit). t .slices .fronts) by;
-        lines = ap (λ (t : SelectExit). t .slices .lines) by;
-      }
+    limits : Admitted r roomy
+    limits = admitted r roomy accepted
 
-  -- ---- the listing's answer
+    went : x ≡ selectAccepted r entry
+    unfolding selectOf
+    went = p .whole ∙ ap (λ (t : Option ℕ). selectBy t r entry) (ap (selectRefusal r) k ∙ accepted)
 
-  -- what the selection answers with the room that it has
-  with-room : roomOf entry ≡ roomy → (o : Option ℕ) → selectRefusal r (roomOf entry) ≡ o → selectRefusal r roomy ≡ o
-  with-room k o h = ap (selectRefusal r) (sym k) ∙ h
+    size : n ≡ r .size
+    unfolding selectAccepted
+    size =
+        let q : outcome.Kept n ≡ outcome.Kept (length (selected r .kept)) = sym h ∙ ap (λ (t : SelectExit). t .answer .outcome) went in
+        let c : n ≡ length (selected r .kept) = cc in
+        c ∙ kept-length r
 
-  pub refused-exit : roomOf entry ≡ roomy → (n : ℕ) (out : List ℕ) → x .answer .outcome ≡ outcome.Refused n → exit (chosen.Refused n) out ≡ listExit r out
-  refused-exit k n out h = sym (list-refused r out n (with-room k (some n) (number n h)))
+    -- ---- the listing's answer
 
-  module _ (n : ℕ) (h : x .answer .outcome ≡ outcome.Kept n) where
-    pub limits : Admitted r (roomOf entry)
-    limits = admitted r (roomOf entry) (through n h .none)
+    pub few-kept : n ≤ maxSize
+    few-kept = omega (arith, limits .few, size)
 
-    text-same : listingText (r .count) (listed (take n (x .slices .kept)) (x .slices .fronts) (x .slices .lines)) ≡ requestText r
+    pub few-plans : r .count ≤ maxSize
+    few-plans = limits .fewPlans
+
+    abbrev text : ℕ → List ℕ
+    text count = listingText count (listed (take n (x .slices .kept)) (x .slices .fronts) (x .slices .lines))
+
+    text-same : text (r .count) ≡ requestText r
+    unfolding selectAccepted
     text-same =
-        let t = through n h in
-        listing-over r n (t .size) (x .slices .kept) (x .slices .fronts) (x .slices .lines) (entry .kept) (entry .fronts) (entry .lines) (t .kept) (t .fronts) (t .lines)
+        listing-over r n size (x .slices .kept) (x .slices .fronts) (x .slices .lines) (entry .kept) (entry .fronts) (entry .lines)
+        (ap (λ (t : SelectExit). t .slices .kept) went) (ap (λ (t : SelectExit). t .slices .fronts) went) (ap (λ (t : SelectExit). t .slices .lines) went)
 
-    pub text-short : length (listingText (r .count) (listed (take n (x .slices .kept)) (x .slices .fronts) (x .slices .lines))) ≤ maxText
-    text-short =
-        let a = limits in
-        rw text-same (selected-short r (a .few) (a .fewPlans) (a .someLines) (a .fewLines))
+    pub text-short : length (text (r .count)) ≤ maxText
+    text-short = let a = limits in rw text-same (selected-short r (a .few) (a .fewPlans) (a .someLines) (a .fewLines))
 
-    pub listed-exit : roomOf entry ≡ roomy → (out : List ℕ) (count : ℕ) → count ≡ r .count
-        → textExit (listingText count (listed (take n (x .slices .kept)) (x .slices .fronts) (x .slices .lines))) out ≡ listExit r out
-    listed-exit k out count e =
-        ap (λ (c : ℕ). textExit (listingText c (listed (take n (x .slices .kept)) (x .slices .fronts) (x .slices .lines))) out) e
-        ∙ ap (λ (t : List ℕ). textExit t out) text-same
-        ∙ sym (list-written r out (with-room k none (through n h .none)))
+    pub listed-exit : (out : List ℕ) (count : ℕ) → count ≡ r .count → textExit (text count) out ≡ listExit r out
+    listed-exit out count e = ap (λ (c : ℕ). textExit (text c) out) e ∙ ap (λ (t : List ℕ). textExit t out) text-same ∙ sym (list-written r out accepted)

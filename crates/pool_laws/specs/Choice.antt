@@ -1,6 +1,5 @@
 -- What `choose` answers and writes, for a request of words or of a file.
-use Prim.Native.Nat.{ℕ, _<_}
-use mathlib.Core.Path.{_≡_}
+use Prim.Native.Nat.{ℕ}
 use mathlib.Core.Bool.{cond}
 use mathlib.Core.List.{List}
 use mathlib.Core.Option.{Option, none, some}
@@ -9,8 +8,8 @@ use lib.ListN.{length}
 use Rattle.model.specs.declared.Chosen.{Chosen}
 use Rattle.model.specs.Association.{Request}
 use Rattle.model.specs.Kept.{selected}
-use Rattle.model.specs.PoolFile.{PoolFile, listingText}
-use Rattle.model.specs.Refusal.{Room, maxSize, badDirections, selectRefusal, fileRefusal}
+use Rattle.model.specs.PoolFile.{listingText}
+use Rattle.model.specs.Refusal.{Room, maxSize, selectRefusal}
 use Rattle.model.specs.Calls.{ChooseExit, chooseBy}
 
 abbrev pub exit : Chosen → List ℕ → ChooseExit
@@ -41,8 +40,3 @@ listRefusal r out = orElse (selectRefusal r roomy) (textRefusal (requestText r) 
 
 abbrev pub listExit : Request → List ℕ → ChooseExit
 listExit r out = chooseBy (listRefusal r (length out)) (requestText r) out
-
--- n answers every file of more than 1,024 plans with such directions, divisions and size
-abbrev pub Crowded : List ℕ → ℕ → ℕ → ℕ → Type 0
-Crowded marks divisions size n = (f : PoolFile) (out : ℕ) → badDirections (f .marks) ≡ badDirections marks → length (f .marks) ≡ length marks
-    → f .divisions ≡ divisions → f .size ≡ size → maxSize < f .count → fileRefusal f out ≡ some n

@@ -1,4 +1,4 @@
-// The parts of `choose`: a listing handed out where there is room for it, and the number that answers too many plans.
+// A part of `choose`: a listing handed out where there is room for it.
 ghost use mathlib.Core.Path.{_≡_};
 ghost use Prim.Native.Nat.{_≤_};
 ghost use lib.ListN.{length};
@@ -6,7 +6,7 @@ ghost use Rattle.model.specs.PoolFile.{listingText};
 ghost use Rattle.model.specs.Refusal.{maxSize};
 ghost use Rattle.model.specs.Calls.{maxText};
 ghost use Rattle.pool_laws.specs.Text.{listed};
-ghost use Rattle.pool_laws.specs.Choice.{exit, textExit, Crowded};
+ghost use Rattle.pool_laws.specs.Choice.{exit, textExit};
 use model::Chosen;
 use model::MAX_TEXT;
 
@@ -30,20 +30,4 @@ pub fn put_listing(
     }
     pool_decimal::put_bytes(&text[..n], out, 0);
     Chosen::Written(n)
-}
-
-// The number that answers a pool of more than 1,024 plans, of which there are no words: 7, or one that comes before it.
-pub fn crowded(directions: &[u8], divisions: usize, size: usize) -> u8
-    ensures { λ r. ⌜ Crowded (now (directions .entry)) divisions size r ⌝ }
-{
-    if plans::bad_directions(directions) {
-        return 2;
-    }
-    if plans::bad_count(size) {
-        return 3;
-    }
-    if divisions::bad_divisions(directions.len(), divisions) {
-        return 4;
-    }
-    7
 }

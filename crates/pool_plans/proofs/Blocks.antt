@@ -157,48 +157,30 @@ module _ (l : List ℕ) (base m c : ℕ) (vs cs : List ℕ) (a : length vs ≡ m
       ∙ sets-past 0 rows (base + 11) (take 16 cs) i (omega arith) ∙ sets-past 0 l (base + 2) (take 8 vs) i (omega arith))
       w
 
--- ---- the reader of a plan, by how far it gets
-
-plan-none : (m : ℕ) (bytes : List ℕ) → many m number bytes ≡ none → plan m bytes ≡ none
-unfolding plan
-plan-none m bytes e = rw e
-
-plan-no-count : (m : ℕ) (bytes : List ℕ) (vs rest : List ℕ) → many m number bytes ≡ pure vs rest → number rest ≡ none → plan m bytes ≡ none
-unfolding plan
-plan-no-count m bytes vs rest e f = rw (e, f)
-
-plan-short : (m : ℕ) (bytes : List ℕ) (vs rest : List ℕ) (c : ℕ) (rest′ : List ℕ) → many m number bytes ≡ pure vs rest → number rest ≡ pure c rest′
-    → many c number rest′ ≡ none → plan m bytes ≡ none
-unfolding plan
-plan-short m bytes vs rest c rest′ e f g = rw (e, f, g)
-
-plan-good : (m : ℕ) (bytes : List ℕ) (vs rest : List ℕ) (c : ℕ) (rest′ cs rest″ : List ℕ) → many m number bytes ≡ pure vs rest → number rest ≡ pure c rest′
-    → many c number rest′ ≡ pure cs rest″ → plan m bytes ≡ pure (made m vs c cs) rest″
-unfolding plan
-plan-good m bytes vs rest c rest′ cs rest″ e f g = rw (e, f, g)
-
 -- ---- the block, by how far its reader gets
 
 module _ (file : List ℕ) (at m base : ℕ) (l : List ℕ) where
   pub block-none : (o : List ℕ) (r : End) → WordsIs (λ v. v) file at m 8 (base + 2) l o r → r ≡ end.Broken → plan m (drop at file) ≡ none
-  block-none o r w e = plan-none m (drop at file) (as-told (many m number) _ file at e w)
+  unfolding plan
+  block-none o r w e = let n : many m number (drop at file) ≡ none = as-told (many m number) _ file at e w in rw n
 
   module _ (o₁ : List ℕ) (r : End) (p : ℕ) (w : WordsIs (λ v. v) file at m 8 (base + 2) l o₁ r) (e : r ≡ end.At p) where
     first : Words (λ v. v) file at m 8 (base + 2) l o₁ p
     first = as-told (many m number) _ file at e w
 
     pub block-no-count : number (drop p file) ≡ none → plan m (drop at file) ≡ none
-    block-no-count f = plan-no-count m (drop at file) (first .value) (drop p file) (first .reads) f
+    unfolding plan
+    block-no-count f = rw (first .reads, f)
 
     module _ (c q : ℕ) (f : number (drop p file) ≡ pure c (drop q file)) (o₂ : List ℕ) (r′ : End) where
       -- wherever the constraints were to stand
       pub block-short : (place : ℕ) → WordsIs (λ v. v) file q c 16 place o₁ o₂ r′ → r′ ≡ end.Broken → plan m (drop at file) ≡ none
-      block-short place w′ g = plan-short m (drop at file) (first .value) (drop p file) c (drop q file) (first .reads) f
-          (as-told (many c number) _ file q g w′)
+      unfolding plan
+      block-short place w′ g = let n : many c number (drop q file) ≡ none = as-told (many c number) _ file q g w′ in rw (first .reads, f, n)
 
       pub block-good : WordsIs (λ v. v) file q c 16 (base + 11) o₁ o₂ r′ → (next : ℕ) (o : List ℕ) → r′ ≡ end.At next → base + planWords ≤ length l
           → o ≡ counted o₂ base m c → Reads (plan m) (Block base l o) file at next
-      unfolding block filled rows
+      unfolding plan block filled rows
       block-good w′ next o g room k =
           let second = as-told (many c number) (Held (λ v. v) 16 (base + 11) o₁ o₂) file q g w′ in
           let vs = first .value in
@@ -210,7 +192,7 @@ module _ (file : List ℕ) (at m base : ℕ) (l : List ℕ) where
           ∙ ap (λ (t : List ℕ). sets t (base + 11) (take 16 cs)) (stored-plain 8 (base + 2) l o₁ vs (first .stored))) in
           record {
             value = made m vs c cs;
-            reads = plan-good m (drop at file) vs (drop p file) c (drop q file) cs (drop next file) (first .reads) f (second .reads);
+            reads = rw (first .reads, f, second .reads);
             stored = record {
               stored = ap (λ (t : List ℕ). planFrom t base) z ∙ block-plan l base m c vs cs a b room;
               others = λ i h. ap (λ (t : List ℕ). getD t i 0) z ∙ block-others l base m c vs cs a b room i h;

@@ -2,7 +2,7 @@
 use Prim.Native.Nat.{ℕ, _+_, _≤_, _<_}
 use mathlib.Core.Path.{_≡_}
 use mathlib.Core.Logic.{_⊎_}
-use mathlib.Core.List.{List, [], map}
+use mathlib.Core.List.{List, map}
 use mathlib.Core.Option.{none}
 use lib.ListN.{getD, set, take, drop}
 use lib.Seq.{sets}
@@ -27,13 +27,13 @@ module _ {A : Type 0} where
 abbrev pub Held : (ℕ → ℕ) → ℕ → ℕ → List ℕ → List ℕ → List ℕ → Type 0
 Held h keep base before after values = after ≡ sets before base (map h (take keep values))
 
-abbrev pub Words : (ℕ → ℕ) → List ℕ → ℕ → ℕ → ℕ → ℕ → List ℕ → List ℕ → ℕ → Type 0
-Words h file at n keep base before after next = Reads (many n number) (Held h keep base before after) file at next
-
 abbrev pub WordsIs : (ℕ → ℕ) → List ℕ → ℕ → ℕ → ℕ → ℕ → List ℕ → List ℕ → End → Type 0
 WordsIs h file at n keep base before after = ReadsIs (many n number) (Held h keep base before after) file at
 
--- a plan as its words hold it: there is room for 8 values and 16 constraints; a file has no settings
+abbrev pub Words : (ℕ → ℕ) → List ℕ → ℕ → ℕ → ℕ → ℕ → List ℕ → List ℕ → ℕ → Type 0
+Words h file at n keep base before after next = WordsIs h file at n keep base before after (end.At next)
+
+-- a plan of a file as its words hold it: there is room for 8 values and 16 constraints
 abbrev pub roomed : Plan → Plan
 roomed p = record {
   number = p .number;
@@ -41,8 +41,8 @@ roomed p = record {
   row = take maxObjectives (p .row);
   constraintCount = p .constraintCount;
   constraints = take maxConstraints (p .constraints);
-  settingCount = 0;
-  settings = [];
+  settingCount = p .settingCount;
+  settings = p .settings;
 }
 
 -- the words of a plan beside its values and constraints, stored at their four places: its number, its row length and its two other counts
@@ -61,8 +61,8 @@ BlockIs file at m base before after = ReadsIs (plan m) (Block base before after)
 abbrev pub Blocks : ℕ → List ℕ → List Plan → Type 0
 Blocks n after plans = n ≤ maxSize → (p : ℕ) → p < n → planAt after p ≡ roomed (getD plans p noPlan)
 
-abbrev pub Plans : List ℕ → ℕ → ℕ → ℕ → List ℕ → ℕ → Type 0
-Plans file at m n after next = Reads (many n (plan m)) (Blocks n after) file at next
-
 abbrev pub PlansIs : List ℕ → ℕ → ℕ → ℕ → List ℕ → End → Type 0
 PlansIs file at m n after = ReadsIs (many n (plan m)) (Blocks n after) file at
+
+abbrev pub Plans : List ℕ → ℕ → ℕ → ℕ → List ℕ → ℕ → Type 0
+Plans file at m n after next = PlansIs file at m n after (end.At next)

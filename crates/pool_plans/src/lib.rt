@@ -2,6 +2,7 @@
 use model::CONSTRAINT_COUNT;
 use model::CONSTRAINTS;
 use model::MAX_CONSTRAINTS;
+use model::MAX_OBJECTIVES;
 use model::MAX_PLANS;
 use model::PLAN_WORDS;
 use model::ROW_LENGTH;
@@ -65,7 +66,7 @@ fn read_plan(file: &[u8], at: usize, m: usize, pool: &mut [u64], base: usize) ->
     requires { ⌜ base + planWords ≤ length (now pool) ⌝ }
     ensures { λ r. ⌜ BlockIs (now (file .entry)) at m base (now (pool .entry)) (now (pool .exit)) r ⌝ }
 {
-    let End::At(p) = read_words(file, at, m, 8, pool, base + VALUES) else {
+    let End::At(p) = read_words(file, at, m, MAX_OBJECTIVES, pool, base + VALUES) else {
         return End::Broken;
     };
     let Read::Number(c, q) = read_number(file, p) else {

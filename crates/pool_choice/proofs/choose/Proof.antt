@@ -6,7 +6,7 @@ use native.Mathlib.Nat.{le-of-eq}
 use native.Mathlib.Omega.{arith}
 use lib.ListN.{length, take, length-replicate}
 use lib.Seq.{length-take-le}
-use Rattle.pool_laws.proofs.Files.{broken, many-objectives, crowded-pool, chosen-words}
+use Rattle.pool_laws.proofs.Files.{broken, many-objectives, chosen-words}
 use borrow.Author.Needs.{needs}
 use Rattle.pool_choice.proofs.choose.Statement.{statement}
 use Rattle.pool_choice.proofs.choose.Tie as tie
@@ -58,64 +58,38 @@ returns-2 c =
     many-objectives (a .file .now) (s .parse-pool .last .1 .0) (s .parse-pool .last .1 .1 .0) (s .parse-pool .result) (s .parse-pool .ensures) (g .parsed .given .0 .0)
     (g .parsed .given .1) (a .out .now) (c .if1 .taken)
 
-array-share-prefix-directions : tie.Need-array-share-prefix-directions
-array-share-prefix-directions c =
-    let i = c .before .before in
-    let g = i .before .before .before in
-    few-marks (g .parsed .given .0 .0 .m) _ (i .if1 .left) (marks-length (g .before .before .before .before))
-
-slice-aggregate-crowded : tie.Need-slice-aggregate-crowded
-slice-aggregate-crowded c =
-    let i = c .before .before .before in
-    let g = i .before .before .before in
-    let s = g .before .before .before .before in
-    sym (length-take-le (g .parsed .given .0 .0 .m) (s .parse-pool .last .1 .0) (few-marks (g .parsed .given .0 .0 .m) _ (i .if1 .left) (marks-length s)))
-
-crowded-requires : tie.Need-crowded-requires
-crowded-requires c κs = tt
-
-returns-3 : tie.Need-returns-3
-returns-3 c =
-    let t = c .before .before in
-    let i = t .before .before in
-    let g = i .before .before .before in
-    let s = g .before .before .before .before in
-    let a = s .before .before .before .before .before .args in
-    crowded-pool (a .file .now) (s .parse-pool .last .1 .0) (s .parse-pool .last .1 .1 .0) (s .parse-pool .result) (s .parse-pool .ensures) (g .parsed .given .0 .0)
-    (g .parsed .given .1) (a .out .now) (i .if1 .left) (t .if2 .taken) _ (c .crowded .ensures)
+plans-stored-requires : tie.Need-plans-stored-requires
+plans-stored-requires c κs = tt
 
 mul-words : tie.Need-mul-words
 mul-words c = search needs
 
 array-share-prefix-pool : tie.Need-array-share-prefix-pool
 array-share-prefix-pool c =
-    let g = c .before .before .before .before .before in
-    few-words (g .parsed .given .0 .0 .count) _ (c .if2 .left) (words-length (g .before .before .before .before))
+    few-words (c .plans-stored .result) _ (c .plans-stored .ensures .0) (words-length (c .before .before .before .before .before .before .before .before))
 
 slice-aggregate-choose-words : tie.Need-slice-aggregate-choose-words
 slice-aggregate-choose-words c =
-    let t = c .before in
-    let i = t .before .before in
-    let g = i .before .before .before in
-    let s = g .before .before .before .before in
-    sym (length-take-le (g .parsed .given .0 .0 .count * 124) (s .parse-pool .last .1 .1 .0) (few-words (g .parsed .given .0 .0 .count) _ (t .if2 .left) (words-length s)))
+    let k = c .before .plans-stored in
+    let s = c .before .before .before .before .before .before .before .before .before in
+    sym (length-take-le (k .result * 124) (s .parse-pool .last .1 .1 .0) (few-words (k .result) _ (k .ensures .0) (words-length s)))
 
-array-share-prefix-directions-2 : tie.Need-array-share-prefix-directions-2
-array-share-prefix-directions-2 c =
-    let i = c .before .before .before in
+array-share-prefix-directions : tie.Need-array-share-prefix-directions
+array-share-prefix-directions c =
+    let i = c .before .before in
     let g = i .before .before .before in
     few-marks (g .parsed .given .0 .0 .m) _ (i .if1 .left) (marks-length (g .before .before .before .before))
 
 slice-aggregate-choose-words-2 : tie.Need-slice-aggregate-choose-words-2
 slice-aggregate-choose-words-2 c =
-    let i = c .before .before .before .before in
+    let i = c .before .before .before in
     let g = i .before .before .before in
     let s = g .before .before .before .before in
     sym (length-take-le (g .parsed .given .0 .0 .m) (s .parse-pool .last .1 .0) (few-marks (g .parsed .given .0 .0 .m) _ (i .if1 .left) (marks-length s)))
 
 choose-words-requires : tie.Need-choose-words-requires
 choose-words-requires c κs =
-    let i = c .before .before .before .before .before in
+    let i = c .before .before .before .before in
     let g = i .before .before .before in
     let s = g .before .before .before .before in
     taken-marks (g .parsed .given .0 .0 .m) (s .parse-pool .last .1 .0) (i .if1 .left) (marks-length s)
@@ -123,17 +97,16 @@ choose-words-requires c κs =
 same-length : tie.Need-same-length
 same-length c = search needs
 
-returns-4 : tie.Need-returns-4
-returns-4 c =
+returns-3 : tie.Need-returns-3
+returns-3 c =
     let z = c .before .before in
-    let t = z .before .before .before .before in
-    let i = t .before .before in
+    let k = z .before .before .before .before in
+    let i = k .before in
     let g = i .before .before .before in
     let s = g .before .before .before .before in
     let a = s .before .before .before .before .before .args in
     chosen-words (a .file .now) (s .parse-pool .last .1 .0) (s .parse-pool .last .1 .1 .0) (s .parse-pool .result) (s .parse-pool .ensures) (g .parsed .given .0 .0)
-    (g .parsed .given .1) (a .out .now) (i .if1 .left) (t .if2 .left) (le-of-eq (sym (words-length s))) (few-marks (g .parsed .given .0 .0 .m) _ (i .if1 .left) (marks-length s))
-    _ (z .choose-words .ensures)
+    (g .parsed .given .1) (a .out .now) (i .if1 .left) (le-of-eq (sym (words-length s))) _ (k .plans-stored .ensures .1) (k .plans-stored .ensures .2) _ (z .choose-words .ensures)
 
 pub choose-spec : {M : Type 1} → statement M
 choose-spec =
@@ -146,15 +119,12 @@ choose-spec =
     enum-told
     returns
     returns-2
-    array-share-prefix-directions
-    slice-aggregate-crowded
-    crowded-requires
-    returns-3
+    plans-stored-requires
     mul-words
     array-share-prefix-pool
     slice-aggregate-choose-words
-    array-share-prefix-directions-2
+    array-share-prefix-directions
     slice-aggregate-choose-words-2
     choose-words-requires
     same-length
-    returns-4)
+    returns-3)

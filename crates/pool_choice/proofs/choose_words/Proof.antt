@@ -1,21 +1,20 @@
 -- `choose_words`: the selection's answer, and the listing of what it hands out
 use Prim.Native.Nat.{ℕ, _≤_}
-use mathlib.Core.Path.{_≡_, ap, sym, _∙_, subst}
+use mathlib.Core.Path.{_≡_, sym, _∙_, subst}
 use mathlib.Core.List.{List}
 use lib.Ieee.{Float}
 use lib.ListN.{length, take, replicate, length-replicate}
 use lib.Seq.{length-take-le}
 use native.Mathlib.Omega.{arith}
 use borrow.Author.Needs.{needs}
-use Rattle.model.specs.declared.Outcome.the-variants as outcome
 use Rattle.model.specs.Real.{infinity}
 use Rattle.model.specs.Association.{Request}
 use Rattle.model.specs.PoolFile.{listingText}
 use Rattle.model.specs.Refusal.{maxSize}
-use Rattle.model.specs.Calls.{Lent, lent, roomOf, SelectExit, selectOf, wordRequest, maxText}
+use Rattle.model.specs.Calls.{Lent, lent, roomOf, SelectExit, Selects, wordRequest}
 use Rattle.pool_laws.specs.Text.{listed}
-use Rattle.pool_laws.specs.Choice.{roomy, textExit, listExit}
-use Rattle.pool_laws.proofs.Words.{start, ideal-start, refused-exit, through, limits, text-short, listed-exit}
+use Rattle.pool_laws.specs.Choice.{roomy, textExit}
+use Rattle.pool_laws.proofs.Words.{ideal-start, refused-exit, few-kept, few-plans, text-short, listed-exit}
 use Rattle.pool_choice.proofs.choose_words.Statement.{statement}
 use Rattle.pool_choice.proofs.choose_words.Tie as tie
 
@@ -25,25 +24,6 @@ zeros = lent (replicate 1024 0) (replicate 1024 0) (replicate 1024 0)
 
 roomed : roomOf zeros ≡ roomy
 roomed = rw (length-replicate {A = ℕ} 1024 0)
-
--- a selection that went through: what its listing is made of
-record Went (r : Request) (n : ℕ) (kept fronts lines : List ℕ) : Type 0 where
-  pub few : n ≤ maxSize
-  pub fewPlans : r .count ≤ maxSize
-  pub short : length (listingText (r .count) (listed (take n kept) fronts lines)) ≤ maxText
-  pub exits : (out : List ℕ) (count : ℕ) → count ≡ r .count → textExit (listingText count (listed (take n kept) fronts lines)) out ≡ listExit r out
-
-went-of : (r : Request) (entry : Lent) (x : SelectExit) → x ≡ selectOf r entry → roomOf entry ≡ roomy → (n : ℕ) → x .answer .outcome ≡ outcome.Kept n
-    → Went r n (x .slices .kept) (x .slices .fronts) (x .slices .lines)
-went-of r entry x e room n h =
-    let w = limits r entry x e n h in
-    let t = through r entry x e n h in
-    record {
-      few = omega (arith, w .few, t .size);
-      fewPlans = w .fewPlans;
-      short = text-short r entry x e n h;
-      exits = listed-exit r entry x e n h room;
-    }
 
 -- the request with an ideal, and what the selection leaves
 abbrev asked : tie.After-nsga3-select → List Float → Request
@@ -59,13 +39,14 @@ left s =
     let l = s .nsga3-select .last .1 .1 .1 .1 .1 in
     record { answer = s .nsga3-select .result; ideal = l .0; slices = lent (l .1 .0) (l .1 .1 .0) (l .1 .1 .1 .0) }
 
-went : (o : tie.After-outcome2) → let s = o .before .before .before .before .before .before in
-    Went (asked s (replicate (objectives s) infinity)) (o .outcome2 .given .0 .0) (left s .slices .kept) (left s .slices .fronts) (left s .slices .lines)
-went o =
-    let s = o .before .before .before .before .before .before in
-    subst (λ (i : List Float). Went (asked s i) (o .outcome2 .given .0 .0) (left s .slices .kept) (left s .slices .fronts) (left s .slices .lines))
-    (ideal-start (objectives s) (s .before .before .before .before .before .before .before .before .pre))
-    (went-of (asked s (start (objectives s))) zeros (left s) (s .nsga3-select .ensures .whole) roomed (o .outcome2 .given .0 .0) (o .outcome2 .given .1))
+-- what the selection promises, of the ideal at infinity
+promised : (s : tie.After-nsga3-select) → Selects (asked s (replicate (objectives s) infinity)) zeros (left s)
+promised s =
+    subst (λ (i : List Float). Selects (asked s i) zeros (left s)) (ideal-start (objectives s) (s .before .before .before .before .before .before .before .before .pre))
+    (s .nsga3-select .ensures)
+
+kept-few : (o : tie.After-outcome2) → o .outcome2 .given .0 .0 ≤ maxSize
+kept-few o = few-kept (promised (o .before .before .before .before .before .before)) roomed (o .outcome2 .given .1)
 
 array-borrow-prefix-ideal : tie.Need-array-borrow-prefix-ideal
 array-borrow-prefix-ideal c = search needs
@@ -95,13 +76,13 @@ plan-count-requires : tie.Need-plan-count-requires
 plan-count-requires c κs = search needs
 
 array-share-prefix-kept : tie.Need-array-share-prefix-kept
-array-share-prefix-kept c = omega (arith, went (c .before .before) .few)
+array-share-prefix-kept c = omega (arith, kept-few (c .before .before))
 
 slice-aggregate-put-listing : tie.Need-slice-aggregate-put-listing
 slice-aggregate-put-listing c =
     let o = c .before .before .before in
     let s = o .before .before .before .before .before .before in
-    sym (length-take-le _ (s .nsga3-select .last .1 .1 .1 .1 .1 .1 .0) (omega (arith, went o .few, s .nsga3-select .kept .1 .1 .1 .1 .1 .1 .0)))
+    sym (length-take-le _ (s .nsga3-select .last .1 .1 .1 .1 .1 .1 .0) (omega (arith, kept-few o, s .nsga3-select .kept .1 .1 .1 .1 .1 .1 .0)))
 
 slice-aggregate-put-listing-2 : tie.Need-slice-aggregate-put-listing-2
 slice-aggregate-put-listing-2 c = search needs
@@ -114,22 +95,20 @@ put-listing-requires c κs =
     let p = c .before .before .before .before in
     let o = p .before .before in
     let s = o .before .before .before .before .before .before in
-    let w = went o in (
+    let few = few-plans (promised s) roomed (o .outcome2 .given .1) in (
       (
-        omega (arith, w .fewPlans, p .plan-count .ensures),
-        omega (arith, w .fewPlans, p .plan-count .ensures, s .nsga3-select .kept .1 .1 .1 .1 .1 .1 .1 .0),
-        omega (arith, w .fewPlans, p .plan-count .ensures, s .nsga3-select .kept .1 .1 .1 .1 .1 .1 .1 .1 .0),
+        omega (arith, few, p .plan-count .ensures),
+        omega (arith, few, p .plan-count .ensures, s .nsga3-select .kept .1 .1 .1 .1 .1 .1 .1 .0),
+        omega (arith, few, p .plan-count .ensures, s .nsga3-select .kept .1 .1 .1 .1 .1 .1 .1 .1 .0),
       ),
-      rw (p .plan-count .ensures) (w .short),
+      rw (p .plan-count .ensures) (text-short (promised s) roomed (o .outcome2 .given .1)),
     )
 
 returns : tie.Need-returns
 returns c =
     let o = c .before in
     let s = o .before .before .before .before .before .before in
-    let a = s .before .before .before .before .before .before .before .before .args in
-    refused-exit (asked s (start (objectives s))) zeros (left s) (s .nsga3-select .ensures .whole) roomed (o .outcome .given .0 .0) (a .out .now) (o .outcome .given .1)
-    ∙ ap (λ (i : List Float). listExit (asked s i) (a .out .now)) (ideal-start (objectives s) (s .before .before .before .before .before .before .before .before .pre))
+    refused-exit (promised s) roomed (o .outcome .given .0 .0) (s .before .before .before .before .before .before .before .before .args .out .now) (o .outcome .given .1)
 
 same-length : tie.Need-same-length
 same-length c = search needs
@@ -142,7 +121,7 @@ returns-2 c =
     let s = o .before .before .before .before .before .before in
     let out = s .before .before .before .before .before .before .before .before .args .out .now in
     let text = listingText (p .plan-count .result) (listed (take (o .outcome2 .given .0 .0) (left s .slices .kept)) (left s .slices .fronts) (left s .slices .lines)) in
-    _∙_ {b = textExit text out} (l .put-listing .ensures) (went o .exits out (p .plan-count .result) (p .plan-count .ensures))
+    _∙_ {b = textExit text out} (l .put-listing .ensures) (listed-exit (promised s) roomed (o .outcome2 .given .1) out (p .plan-count .result) (p .plan-count .ensures))
 
 pub choose-words-spec : {M : Type 1} → statement M
 choose-words-spec =
