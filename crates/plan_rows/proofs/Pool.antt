@@ -7,7 +7,7 @@ use native.Mathlib.Omega.{arith}
 use lib.Ieee.{Float, nan, isNan}
 use lib.ListN.{length}
 use Rattle.model.specs.Plan.{Plan, planAt, planCount, maxObjectives, maxConstraints}
-use Rattle.model.specs.Row.{rowOf, feasible, violation}
+use Rattle.model.specs.Row.{feasible, violation}
 use Rattle.model.specs.Refusal.{maxSize, goodPlan}
 use Rattle.list_laws.proofs.Built.{over-below}
 use Rattle.list_laws.proofs.Checks.{good-length, good-constraints}

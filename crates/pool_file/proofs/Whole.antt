@@ -7,8 +7,8 @@ use native.Mathlib.Omega.{arith}
 use borrow.Author.Tests.{le-leb, lt-leb}
 use lib.ListN.{length, take, drop, length-map, drop-of-length-le}
 use lib.Seq.{sets, drop-cons, take-all}
-use Rattle.model.specs.Plan.{Plan, maxObjectives}
-use Rattle.model.specs.PoolFile.{Parsed, pure, onward, number, many, plan, poolFile, parse, wholly, ifNoneLeft, maxFile}
+use Rattle.model.specs.Plan.{maxObjectives}
+use Rattle.model.specs.PoolFile.{Parsed, onward, number, many, plan, poolFile, parse, wholly, ifNoneLeft, maxFile}
 use Rattle.list_laws.proofs.Bools.{by-option}
 use Rattle.list_laws.proofs.Built.{over-front, over-all, over-take}
 use Rattle.pool_plans.specs.declared.End.{End}

@@ -9,12 +9,12 @@ use lib.Dec.{ltb}
 use lib.ListN.{length}
 use Rattle.model.specs.declared.Chosen.the-variants as chosen
 use Rattle.model.specs.Association.{Request, objectives}
-use Rattle.model.specs.PoolFile.{PoolFile, fileRequest, fileText}
+use Rattle.model.specs.PoolFile.{PoolFile, fileRequest, fileText, requestText}
 use Rattle.model.specs.Refusal.{check, firstOf, maxSize, badDirections, badSize, badDivisions, badCount, badPool, noRoom, selectRefusal, fileRefusal}
 use Rattle.list_laws.proofs.Checks.{applies-first}
 use Rattle.demand3_laws.proofs.Passed.{one-to-1024}
 use Rattle.model.specs.Calls.{chooseBy}
-use Rattle.pool_laws.specs.Choice.{exit, textRefusal, textExit, requestText, roomy, orElse, listRefusal, listExit}
+use Rattle.pool_laws.specs.Choice.{exit, textRefusal, textExit, roomy, orElse, listRefusal, listExit}
 
 enough : (r : Request) → badSize (r .size) ≡ false → badCount (r .count) ≡ false → noRoom r roomy ≡ false
 unfolding noRoom

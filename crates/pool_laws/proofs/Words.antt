@@ -2,7 +2,7 @@
 use Prim.Native.Nat.{ℕ, _≤_}
 use mathlib.Core.Path.{_≡_, ap, sym, _∙_}
 use mathlib.Core.List.{List}
-use mathlib.Core.Option.{Option, none, some}
+use mathlib.Core.Option.{Option, none}
 use native.Mathlib.Omega.{arith}
 use lib.Ieee.{binary64, div, ofBits}
 use lib.ListN.{length, take, replicate}
@@ -18,10 +18,10 @@ use Rattle.nsga3_laws.specs.Admitted.{Admitted}
 use Rattle.nsga3_laws.proofs.Admitted.{admitted}
 use Rattle.pool_laws.proofs.Printed.{selected-short}
 use Rattle.pool_laws.specs.Text.{listed}
-use Rattle.model.specs.PoolFile.{listingText}
+use Rattle.model.specs.PoolFile.{listingText, requestText}
 use Rattle.list_laws.proofs.Built.{take-replicate}
 use Rattle.niching_laws.proofs.KeptLength.{kept-length}
-use Rattle.pool_laws.specs.Choice.{exit, textExit, requestText, roomy, listExit}
+use Rattle.pool_laws.specs.Choice.{exit, textExit, roomy, listExit}
 use Rattle.pool_laws.proofs.Listed.{listing-over}
 use Rattle.pool_laws.proofs.Refusals.{list-refused, list-written}
 

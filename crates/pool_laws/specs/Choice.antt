@@ -7,8 +7,7 @@ use lib.Dec.{ltb}
 use lib.ListN.{length}
 use Rattle.model.specs.declared.Chosen.{Chosen}
 use Rattle.model.specs.Association.{Request}
-use Rattle.model.specs.Kept.{selected}
-use Rattle.model.specs.PoolFile.{listingText}
+use Rattle.model.specs.PoolFile.{requestText}
 use Rattle.model.specs.Refusal.{Room, maxSize, selectRefusal}
 use Rattle.model.specs.Calls.{ChooseExit, chooseBy}
 
@@ -21,10 +20,6 @@ textRefusal text out = cond (ltb out (length text)) (some 10) none
 
 abbrev pub textExit : List ℕ → List ℕ → ChooseExit
 textExit text out = chooseBy (textRefusal text (length out)) text out
-
--- the listing of what a request selects
-abbrev pub requestText : Request → List ℕ
-requestText r = listingText (r .count) (selected r)
 
 -- room for every list that a selection hands out
 abbrev pub roomy : Room
