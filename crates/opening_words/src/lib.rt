@@ -43,7 +43,7 @@ pub fn open_words(
     );
     let outcome = opened.outcome;
     match outcome {
-        Opening::Refused(n) => session_words::wide(n),
+        Opening::Refused(n) => words::wide(n),
         Opening::Ready => {
             if session.len() < session_words::SESSION_WORDS {
                 return 10;

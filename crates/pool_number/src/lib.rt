@@ -8,13 +8,6 @@ pub enum Read {
     Broken,
 }
 
-// A byte as a word.
-pub fn wide(x: u8) -> u64
-    ensures { λ r. ⌜ r ≡ x ⌝ }
-{
-    x as u64
-}
-
 // The number that starts at a place: groups of seven bits, lowest first, top bit set on all but the last byte, shortest form, below 2^64.
 pub fn read_number(bytes: &[u8], at: usize) -> Read
     ensures { λ r. ⌜ r ≡ numberAt (now (bytes .entry)) at ⌝ }
@@ -23,7 +16,7 @@ pub fn read_number(bytes: &[u8], at: usize) -> Read
     let mut p = at;
     let mut k: u32 = 0;
     while p < bytes.len() {
-        let b = wide(bytes[p]);
+        let b = words::wide(bytes[p]);
         let low = b % 128;
         if k == 63 {
             if 1 < b {

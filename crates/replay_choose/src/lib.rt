@@ -25,7 +25,7 @@ fn put_text(text: &[u8; 20501], n: usize, out: &mut Words) -> usize {
     let mut i: usize = 0;
     while i < n {
         if i < 20501 {
-            place = replay::put(out, place, pool_number::wide(text[i]));
+            place = replay::put(out, place, words::wide(text[i]));
         }
         i += 1;
     }

@@ -404,10 +404,6 @@ pub fn put_settings(out: &mut Words, at: usize, params: [Slot; 32], n: usize) ->
     place
 }
 
-fn word_of(words: &[u64], i: usize) -> u64 {
-    if i < words.len() { words[i] } else { 0 }
-}
-
 // The candidate whose n settings stand as words from `from` on: kinds are those of the dimensions.
 fn put_candidate(
     out: &mut Words,
@@ -428,7 +424,7 @@ fn put_candidate(
             out,
             place,
             settings::kind_of_dimension(d),
-            word_of(words, from + i),
+            words::word_at(words, from + i),
         );
         i += 1;
     }

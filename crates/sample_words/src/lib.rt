@@ -43,7 +43,7 @@ pub fn sample_words(
     );
     let outcome = sampled.outcome;
     match outcome {
-        Sampling::Refused(n) => session_words::wide(n),
+        Sampling::Refused(n) => words::wide(n),
         Sampling::Setting(v) => {
             let after = sampled.session;
             session_encoding::words_of_session(after, session);

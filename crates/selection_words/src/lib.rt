@@ -12,7 +12,7 @@ pub fn code(outcome: Outcome) -> u64
 {
     match outcome {
         Outcome::Kept(n) => 0,
-        Outcome::Refused(n) => session_words::wide(n),
+        Outcome::Refused(n) => words::wide(n),
     }
 }
 
@@ -54,7 +54,7 @@ fn chosen_code(answer: Chosen) -> u64
 {
     match answer {
         Chosen::Written(n) => 0,
-        Chosen::Refused(n) => session_words::wide(n),
+        Chosen::Refused(n) => words::wide(n),
     }
 }
 

@@ -1,7 +1,7 @@
 // A session's words, written into a lent slice (specs/Coding.antt of `session_words` has the layout). All functions are internal.
 ghost use mathlib.Core.Path.{_≡_};
-ghost use Prim.Native.Nat.{_+_, _≤_};
-ghost use lib.ListN.{length, getD};
+ghost use Prim.Native.Nat.{_≤_};
+ghost use lib.ListN.{length};
 ghost use Rattle.model.specs.declared.Distribution.the-variants as dist;
 ghost use Rattle.model.specs.Lists.{one, joinBelow, over};
 ghost use Rattle.model.specs.Setting.{dimensionsOf};
@@ -19,6 +19,8 @@ use model::Phase;
 use model::Session;
 use session_words::DIMENSION_WORDS;
 use session_words::HEAD_WORDS;
+use words::put;
+use words::wide;
 
 // ---- a dimension
 
@@ -149,14 +151,14 @@ fn config_words(config: Config) -> [u64; 14]
     ensures { λ r. ⌜ r ≡ configWords config ⌝ }
 {
     let marks = config.directions;
-    let a = session_words::wide(marks[0]);
-    let b = session_words::wide(marks[1]);
-    let c = session_words::wide(marks[2]);
-    let d = session_words::wide(marks[3]);
-    let e = session_words::wide(marks[4]);
-    let f = session_words::wide(marks[5]);
-    let g = session_words::wide(marks[6]);
-    let h = session_words::wide(marks[7]);
+    let a = wide(marks[0]);
+    let b = wide(marks[1]);
+    let c = wide(marks[2]);
+    let d = wide(marks[3]);
+    let e = wide(marks[4]);
+    let f = wide(marks[5]);
+    let g = wide(marks[6]);
+    let h = wide(marks[7]);
     let p = real::word_of_real(config.crossover_prob);
     let q = real::word_of_real(config.crossover_eta);
     let r = real::word_of_real(config.mutation_eta);
@@ -180,18 +182,6 @@ fn state_words(session: Session) -> [u64; 8]
     let c = progress.n_candidates as u64;
     let n = progress.n_plans as u64;
     [p, has, plan, rng.s, d, c, n, progress.generation]
-}
-
-// Words put into a slice from a place on.
-fn put(block: &[u64], at: usize, words: &mut [u64])
-    requires { ⌜ at + length (now block) ≤ length (now words) ⌝ }
-    ensures { λ _. ⌜ now (words .exit) ≡ sets (now (words .entry)) at (now (block .entry)) ⌝ }
-{
-    let mut j = 0;
-    while j < block.len() {
-        words[at + j] = block[j];
-        j += 1;
-    }
 }
 
 fn put_dimensions(dims: [DimensionInfo; 32], words: &mut [u64])

@@ -8,10 +8,10 @@ use native.Mathlib.Nat.{eq-or-lt-of-le, add-zero}
 use native.Mathlib.Omega.{arith}
 use borrow.Author.Tests.{eq-eqb, ne-eqb, lt-ltb, le-ltb, leb-true, leb-false, eqb-true}
 use lib.Dec.{eqb, leb, ltb}
-use lib.ListN.{length, getD, take}
-use lib.Seq.{length-take-le, sets}
+use lib.ListN.{length, getD, take, drop, length-drop}
+use lib.Seq.{length-take-le, sets, getD-drop}
 use Rattle.list_laws.proofs.Bools.{by-bool}
-use Rattle.list_laws.proofs.Built.{listBelow-length}
+use Rattle.list_laws.proofs.Built.{listBelow-length, listBelow-take}
 use Rattle.list_laws.proofs.First.{lastBelow-nowhere, lastBelow-at, lastBelow-same, firstBelow-passes, firstBelow-before}
 use Rattle.model.specs.Lists.{lastBelow, joinBelow, has, over, placeIn, In}
 use Rattle.model.specs.Plan.{planOf, planAt, planCount, planWords}
@@ -67,6 +67,13 @@ is-new-by ps n plan i h e =
     (λ b. ap not (lt-ltb i n (leb-false n i b)) ∙ sym b)
 
 -- ---- the records bred from
+
+-- the part of a history that a record takes
+pub part-block : (history : List ℕ) (k : ℕ) → k < planCount history → take (k * planWords + planWords - k * planWords) (drop (k * planWords) history) ≡ blockOf history k
+part-block history k h =
+    let n : k * planWords + planWords - k * planWords ≡ planWords = omega arith in
+    ap (λ x. take x (drop (k * planWords) history)) n
+    ∙ listBelow-take (λ j. getD history (k * planWords + j) 0) planWords 0 (drop (k * planWords) history) (omega (arith, length-drop (k * planWords) history)) (λ t l. getD-drop (k * planWords) history t 0)
 
 pub records-more : (f : ℕ → ℕ) (history old pool : List ℕ) (i k : ℕ) → i * planWords + planWords ≤ length old → k ≡ f i
     → pool ≡ over (joinBelow (λ i. blockOf history (f i)) i) old → sets pool (i * planWords) (blockOf history k) ≡ over (joinBelow (λ i. blockOf history (f i)) (i + 1)) old

@@ -1,16 +1,13 @@
 // What a session call looks at: the plans of a generation and their records in history, and the tests of a call (document 01, "Session"; Rust:
 // sampler/nsga3.rs). All functions are internal.
 ghost use mathlib.Core.Path.{_≡_};
-ghost use mathlib.Core.Bool.{true, not, _&&_, _||_};
-ghost use Prim.Native.Nat.{_+_, _-_, _*_, _≤_, _<_};
-ghost use lib.Dec.{leb, ltb};
-ghost use lib.ListN.{length, getD, take};
-ghost use Rattle.model.specs.Lists.{allBelow, joinBelow, has, over, placeIn};
-ghost use Rattle.model.specs.Plan.{planCount};
-ghost use Rattle.model.specs.Setting.{validDimension};
-ghost use Rattle.model.specs.Session.{recordOf, blockOf, pastDiscovery, discoversFor, allStand, standsIn, recordsOf, addsFor, roomFor};
-ghost use Rattle.model.specs.Refusal.{badNext};
-ghost use lib.Seq.{sets};
+ghost use mathlib.Core.Bool.{true, not, _&&_};
+ghost use Prim.Native.Nat.{_-_, _*_, _≤_, _<_};
+ghost use lib.Dec.{leb};
+ghost use lib.ListN.{length, take};
+ghost use Rattle.model.specs.Lists.{allBelow, has, over, placeIn};
+ghost use Rattle.model.specs.Session.{recordOf, allStand, standsIn, recordsOf, addsFor, roomFor, maxCome};
+ghost use Rattle.model.specs.Refusal.{badNext, badHistory};
 use model::Distribution;
 use model::MAX_COME;
 use model::MAX_DIMS;
@@ -69,20 +66,6 @@ pub fn evaluated(history: &[u64], plans: &[u64], n_plans: usize, size: usize) ->
     true
 }
 
-// Record k of a history, as plan i of a pool.
-fn copy_record(history: &[u64], k: usize, i: usize, pool: &mut [u64])
-    requires { ⌜ (k < planCount (now history)) × (i * 124 + 124 ≤ length (now pool)) ⌝ }
-    ensures { λ _. ⌜ now (pool .exit) ≡ sets (now (pool .entry)) (i * 124) (blockOf (now (history .entry)) k) ⌝ }
-{
-    let from = k * PLAN_WORDS;
-    let to = i * PLAN_WORDS;
-    let mut j = 0;
-    while j < PLAN_WORDS {
-        pool[to + j] = history[from + j];
-        j += 1;
-    }
-}
-
 // The plans bred from: the first `size` plans of the generation as history has them, at the pool's front.
 pub fn gather(history: &[u64], plans: &[u64], size: usize, pool: &mut [u64])
     requires { ⌜ (size ≤ length (now plans)) × (size * 124 ≤ length (now pool))
@@ -92,7 +75,9 @@ pub fn gather(history: &[u64], plans: &[u64], size: usize, pool: &mut [u64])
     let mut i = 0;
     while i < size {
         let k = record_of(history, plans[i]);
-        copy_record(history, k, i, pool);
+        let from = k * PLAN_WORDS;
+        let end = from + PLAN_WORDS;
+        words::put(&history[from..end], i * PLAN_WORDS, pool);
         i += 1;
     }
 }
@@ -153,10 +138,20 @@ pub fn bad_dimension(n: usize, distribution: Distribution) -> bool
     true
 }
 
+// The most records of a history.
+const MAX_HISTORY: usize = 4096;
+
+// Refusal 7 for a history.
+pub fn bad_history(history: &[u64]) -> bool
+    ensures { λ r. ⌜ r ≡ badHistory (now (history .entry)) ⌝ }
+{
+    MAX_HISTORY < plans::plan_count(history)
+}
+
 // A generation of n plans is full, and the plan is not among them.
 pub fn full(plans: &[u64], n: usize, plan: u64) -> bool
     requires { ⌜ n ≤ length (now plans) ⌝ }
-    ensures { λ r. ⌜ r ≡ (leb 2048 n && not (has (take n (now (plans .entry))) plan)) ⌝ }
+    ensures { λ r. ⌜ r ≡ (leb maxCome n && not (has (take n (now (plans .entry))) plan)) ⌝ }
 {
     if n < MAX_COME {
         return false;

@@ -18,6 +18,7 @@ use model::Phase;
 use model::Progress;
 use model::Rng;
 use model::Session;
+use words::word_at;
 
 // The words of a dimension, the words before a session's dimensions, and all words of a session.
 pub const DIMENSION_WORDS: usize = 6;
@@ -26,17 +27,7 @@ pub const HEAD_WORDS: usize = 30;
 
 pub const SESSION_WORDS: usize = 222;
 
-// ---- words and marks
-
-// A word of a slice; past its end, 0.
-fn word_at(words: &[u64], i: usize) -> u64
-    ensures { λ r. ⌜ r ≡ getD (now (words .entry)) i 0 ⌝ }
-{
-    if i < words.len() {
-        return words[i];
-    }
-    0
-}
+// ---- reals and marks
 
 fn real_at(words: &[u64], i: usize) -> f64
     ensures { λ r. ⌜ r ≡ ofBits binary64 (getD (now (words .entry)) i 0) ⌝ }
@@ -57,13 +48,6 @@ fn marked(w: u64) -> bool
         return false;
     }
     true
-}
-
-// A byte as a word.
-pub fn wide(n: u8) -> u64
-    ensures { λ r. ⌜ r ≡ n ⌝ }
-{
-    n as u64
 }
 
 // ---- a dimension

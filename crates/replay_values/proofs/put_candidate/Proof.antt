@@ -22,11 +22,11 @@ array-copy-out-info c = search needs
 kind-of-dimension-requires : tie.Need-kind-of-dimension-requires Inv-loop μ-loop
 kind-of-dimension-requires c κs = tt
 
-add-word-of : tie.Need-add-word-of Inv-loop μ-loop
-add-word-of c = search needs
+add-word-at : tie.Need-add-word-at Inv-loop μ-loop
+add-word-at c = search needs
 
-word-of-requires : tie.Need-word-of-requires Inv-loop μ-loop
-word-of-requires c κs = tt
+word-at-requires : tie.Need-word-at-requires Inv-loop μ-loop
+word-at-requires c κs = tt
 
 put-two-requires : tie.Need-put-two-requires Inv-loop μ-loop
 put-two-requires c κs = tt
@@ -53,8 +53,8 @@ put-candidate-spec =
     mul-info
     array-copy-out-info
     kind-of-dimension-requires
-    add-word-of
-    word-of-requires
+    add-word-at
+    word-at-requires
     put-two-requires
     add-i
     loop-less

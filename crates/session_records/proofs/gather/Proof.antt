@@ -6,11 +6,11 @@ use borrow.Author.Tests.{ltb-true}
 use Rattle.model.specs.Lists.{over}
 use Rattle.model.specs.Plan.{planCount}
 use Rattle.model.specs.Session.{recordOf, blockOf, standsIn, recordsOf}
-use lib.Seq.{length-sets}
+use lib.Seq.{sets, length-sets}
 use Rattle.list_laws.proofs.Rows.{row-within}
 use Rattle.list_laws.proofs.Tests.{allBelow-each}
-use Rattle.list_laws.proofs.Built.{joinBelow-none}
-use Rattle.session_records.proofs.Records.{records-more}
+use Rattle.list_laws.proofs.Built.{listBelow-length, joinBelow-none}
+use Rattle.session_records.proofs.Records.{part-block, records-more}
 use native.Mathlib.Omega.{arith}
 use Rattle.session_records.proofs.gather.Statement.{statement}
 use Rattle.session_records.proofs.gather.Tie as tie
@@ -38,14 +38,42 @@ shared-slice-read-record-of c = omega arith
 record-of-requires : tie.Need-record-of-requires Inv-loop μ-loop
 record-of-requires c κs = tt
 
-copy-record-requires : tie.Need-copy-record-requires Inv-loop μ-loop
-copy-record-requires c κs =
-    let l = c .before .before .before .before .loop in
-    let s = c .before .before .before .before .before .before .before .before in
+-- the record that is copied stands in the history
+stands : (c : tie.After-record-of Inv-loop μ-loop) → c .record-of .result < planCount (c .before .before .before .before .before .before .before .args .history .now)
+stands c =
+    let s = c .before .before .before .before .before .before .before in
     let a = s .args in
-    let e = c .before .record-of .ensures in
-    let h = ltb-true _ _ (allBelow-each (standsIn (a .history .now) (a .plans .now)) (a .size) (s .pre .2) (l .i) (c .before .before .before .loop-test .taken)) in
-    (subst (λ (x : ℕ). x < planCount (a .history .now)) (sym e) h, omega (arith, l .inv .1))
+    let h = allBelow-each (standsIn (a .history .now) (a .plans .now)) (a .size) (s .pre .2) (c .before .before .before .loop .i) (c .before .before .loop-test .taken) in
+    subst (λ (x : ℕ). x < planCount (a .history .now)) (sym (c .record-of .ensures)) (ltb-true _ _ h)
+
+mul-from : tie.Need-mul-from Inv-loop μ-loop
+mul-from c = omega (arith, stands c)
+
+add-end : tie.Need-add-end Inv-loop μ-loop
+add-end c = omega (arith, stands c)
+
+mul-put : tie.Need-mul-put Inv-loop μ-loop
+mul-put c = omega (arith, stands c)
+
+sub-put : tie.Need-sub-put Inv-loop μ-loop
+sub-put c = omega arith
+
+part-put-start : tie.Need-part-put-start Inv-loop μ-loop
+part-put-start c = omega arith
+
+part-put-end : tie.Need-part-put-end Inv-loop μ-loop
+part-put-end c = omega (arith, stands c)
+
+mul-put-2 : tie.Need-mul-put-2 Inv-loop μ-loop
+mul-put-2 c = omega arith
+
+put-requires : tie.Need-put-requires Inv-loop μ-loop
+put-requires c κs =
+    let l = c .before .before .before .before .before .loop in
+    let s = c .before .before .before .before .before .before .before .before .before in
+    let k = c .before .before .record-of .result in
+    let e = ap length (part-block (s .args .history .now) k (stands (c .before .before))) ∙ listBelow-length _ 124 in
+    omega (arith, e, room s (l .i) (c .before .before .before .before .loop-test .taken), l .inv .1)
 
 add-i : tie.Need-add-i Inv-loop μ-loop
 add-i c = omega arith
@@ -55,15 +83,15 @@ loop-less c = omega arith
 
 loop-again : tie.Need-loop-again Inv-loop μ-loop
 loop-again c =
-    let l = c .before .before .before .before .before .before .before .loop in
-    let s = c .before .before .before .before .before .before .before .before .before .before .before in
+    let l = c .before .before .before .before .before .before .before .before .loop in
+    let s = c .before .before .before .before .before .before .before .before .before .before .before .before in
     let a = s .args in
-    let k = c .before .before .before .before .record-of in
-    let p = c .before .before .copy-record in
-    let f : ℕ → ℕ = λ t. recordOf (a .history .now) (getD (a .plans .now) t 0) in (
+    let k = c .before .before .before .before .before .record-of in
+    let f : ℕ → ℕ = λ t. recordOf (a .history .now) (getD (a .plans .now) t 0) in
+    let p = c .before .before .put .ensures ∙ ap (sets (l .pool) (l .i * 124)) (part-block (a .history .now) (k .result) (stands (c .before .before .before .before .before))) in (
       omega arith,
-      ap length (p .ensures) ∙ length-sets (l .pool) (l .i * 124) (blockOf (a .history .now) (k .result)) ∙ l .inv .1,
-      p .ensures ∙ records-more f (a .history .now) (a .pool .now) (l .pool) (l .i) (k .result) (room s (l .i) (c .before .before .before .before .before .before .loop-test .taken)) (k .ensures) (l .inv .2),
+      ap length p ∙ length-sets (l .pool) (l .i * 124) (blockOf (a .history .now) (k .result)) ∙ l .inv .1,
+      p ∙ records-more f (a .history .now) (a .pool .now) (l .pool) (l .i) (k .result) (room s (l .i) (c .before .before .before .before .before .before .before .loop-test .taken)) (k .ensures) (l .inv .2),
     )
 
 same-length : tie.Need-same-length Inv-loop μ-loop
@@ -86,7 +114,14 @@ gather-spec =
     mul-record-of
     shared-slice-read-record-of
     record-of-requires
-    copy-record-requires
+    mul-from
+    add-end
+    mul-put
+    sub-put
+    part-put-start
+    part-put-end
+    mul-put-2
+    put-requires
     add-i
     loop-less
     loop-again

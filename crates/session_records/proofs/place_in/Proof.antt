@@ -10,7 +10,6 @@ use Rattle.session_records.proofs.place_in.Tie as tie
 use lib.Dec.{eqb}
 use borrow.Author.Tests.{eq-eqb, ne-eqb}
 use native.Mathlib.Numerals.{add-one}
-use mathlib.Core.List.{List}
 use mathlib.Core.Bool.{false}
 use Rattle.list_laws.proofs.Below.{last-or}
 use Rattle.list_laws.proofs.First.{firstBelow-at, firstBelow-nowhere}
@@ -30,16 +29,12 @@ mul-if1 c = omega arith
 shared-slice-read-if1 : tie.Need-shared-slice-read-if1 Inv-loop μ-loop
 shared-slice-read-if1 c = omega arith
 
--- the entry that is looked at
-entry : (plans : List ℕ) (n i : ℕ) → i < n → getD (take n plans) i 0 ≡ getD plans i 0
-entry plans n i h = getD-take n plans i 0 h
-
 returns : tie.Need-returns Inv-loop μ-loop
 returns c =
     let l = c .before .before .before .loop in
     let a = c .before .before .before .before .args in
     let m = length-take-le (a .n) (a .plans .now) (omega arith) in
-    sym (firstBelow-at _ (length (take (a .n) (a .plans .now))) (l .i) (omega arith) (eq-eqb _ (a .plan) (entry (a .plans .now) (a .n) (l .i) (omega arith) ∙ c .if1 .taken)) (l .inv .1))
+    sym (firstBelow-at _ (length (take (a .n) (a .plans .now))) (l .i) (omega arith) (eq-eqb _ (a .plan) (getD-take (a .n) (a .plans .now) (l .i) 0 (omega arith) ∙ c .if1 .taken)) (l .inv .1))
 
 add-i : tie.Need-add-i Inv-loop μ-loop
 add-i c = omega arith
@@ -51,7 +46,7 @@ loop-again : tie.Need-loop-again Inv-loop μ-loop
 loop-again c =
     let l = c .before .before .before .loop in
     let a = c .before .before .before .before .args in
-    let here = ne-eqb _ (a .plan) (λ e. c .if1 .left (sym (entry (a .plans .now) (a .n) (l .i) (omega arith)) ∙ e)) in
+    let here = ne-eqb _ (a .plan) (λ e. c .if1 .left (sym (getD-take (a .n) (a .plans .now) (l .i) 0 (omega arith)) ∙ e)) in
     (omega arith, λ t h. last-or (rw (add-one (l .i)) at h) (λ v. ap (λ k. eqb (getD (take (a .n) (a .plans .now)) k 0) (a .plan)) v ∙ here) (l .inv .1 t))
 
 returns-2 : tie.Need-returns-2 Inv-loop μ-loop

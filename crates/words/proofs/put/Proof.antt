@@ -7,8 +7,8 @@ use Rattle.model.specs.Lists.{listBelow}
 use lib.Seq.{sets}
 use Rattle.list_laws.proofs.Runs.{run-none, run-more}
 use Rattle.list_laws.proofs.Built.{listBelow-places}
-use Rattle.session_encoding.proofs.put.Statement.{statement}
-use Rattle.session_encoding.proofs.put.Tie as tie
+use Rattle.words.proofs.put.Statement.{statement}
+use Rattle.words.proofs.put.Tie as tie
 
 abbrev Inv-loop : tie.InvT-loop
 Inv-loop block at words₀ j₀ words j =
