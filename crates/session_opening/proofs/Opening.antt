@@ -3,7 +3,7 @@ use Prim.Native.Nat.{ℕ}
 use mathlib.Core.Path.{_≡_, sym, ap, ap₂, _∙_, subst}
 use mathlib.Core.Bool.{true, false}
 use mathlib.Core.List.{List, []}
-use mathlib.Core.Option.{Option, none, some}
+use mathlib.Core.Option.{Option}
 use lib.Ieee.{Float}
 use lib.ListN.{length, replicate}
 use Rattle.model.specs.declared.Opening.{Opening}
@@ -15,7 +15,7 @@ use Rattle.model.specs.Lists.{over}
 use Rattle.model.specs.Plan.{maxObjectives}
 use Rattle.model.specs.Reference.{divisionsOf, populationSize}
 use Rattle.model.specs.Session.{blank, given, opened, start}
-use Rattle.model.specs.Calls.{openBy, openOf, Opens}
+use Rattle.model.specs.Calls.{openBy, openOf, Opens, openingRefusedBy}
 use Rattle.list_laws.proofs.Checks.{passed-over, applies-first}
 use Rattle.session_laws.proofs.Opened.{opening-tells, opens}
 use Rattle.model.specs.Refusal.{firstOf, openRefusal, badDirections, badSessionSize, badSessionDivisions, badOperators}
@@ -64,21 +64,14 @@ module _ (marks : List ℕ) (seed : ℕ) (size divisions : OptionUsize) (probabi
   abbrev Promise : Opened → Type 0
   Promise = Opens marks seed size divisions probability crossoverEta mutationEta
 
-  -- an answer that is the definition's has the rest of the promise
-  by-refusal : (o : Option ℕ) (t : Opening) (s : Session) → refusal ≡ o → record { outcome = t; session = s } ≡ openBy o good
+  -- the outcome t is found to be u, and the session v is the one that goes with it: the answer is the definition's, which has the rest of the promise
+  pub by-answer : (t u : Opening) (s v : Session) → t ≡ openingBy refusal → t ≡ u → s ≡ v → record { outcome = u; session = v } ≡ openBy (openingRefusedBy u) good
       → Promise (record { outcome = t; session = s })
   unfolding openOf
-  by-refusal o t s r e =
-      subst Promise (sym (e ∙ ap (λ (x : Option ℕ). openBy x good) (sym r))) (opens marks seed size divisions probability crossoverEta mutationEta)
-
-  pub refused-opens : (t : Opening) (n : ℕ) (s : Session) → t ≡ openingBy refusal → t ≡ opening.Refused n → s ≡ blank
-      → Promise (record { outcome = t; session = s })
-  refused-opens t n s e f g =
-      by-refusal (some n) t s (opening-tells refusal blank (opening.Refused n) (sym e ∙ f)) (ap₂ (λ (x : Opening) (y : Session). record { outcome = x; session = y }) f g)
-
-  pub ready-opens : (t : Opening) (s : Session) → t ≡ openingBy refusal → t ≡ opening.Ready → s ≡ good → Promise (record { outcome = t; session = s })
-  ready-opens t s e f g =
-      by-refusal none t s (opening-tells refusal blank opening.Ready (sym e ∙ f)) (ap₂ (λ (x : Opening) (y : Session). record { outcome = x; session = y }) f g)
+  by-answer t u s v e f g h =
+      subst Promise
+      (sym (ap₂ (λ (x : Opening) (y : Session). record { outcome = x; session = y }) f g ∙ h ∙ ap (λ (x : Option ℕ). openBy x good) (sym (opening-tells refusal blank u (sym e ∙ f)))))
+      (opens marks seed size divisions probability crossoverEta mutationEta)
 
 -- ---- the session that is opened, from its parts
 

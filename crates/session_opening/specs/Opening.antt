@@ -2,7 +2,6 @@
 use Prim.Native.Nat.{ℕ}
 use mathlib.Core.Option.{Option}
 use Rattle.model.specs.declared.Opening.{Opening}
-use Rattle.model.specs.declared.OptionU64.the-variants as optU64
 use Rattle.model.specs.Session.{blank}
 use Rattle.model.specs.Calls.{openBy}
 

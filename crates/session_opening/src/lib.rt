@@ -4,11 +4,13 @@ ghost use mathlib.Core.Bool.{false};
 ghost use Prim.Native.Nat.{_≤_};
 ghost use lib.ListN.{length, replicate};
 ghost use Rattle.model.specs.Lists.{over};
+ghost use Rattle.model.specs.Plan.{maxObjectives};
 ghost use Rattle.model.specs.Refusal.{badDirections, badSessionSize, badSessionDivisions, openRefusal};
 ghost use Rattle.model.specs.Session.{given, opened, blank, start};
 ghost use Rattle.model.specs.Calls.{Opens};
 ghost use Rattle.session_opening.specs.Opening.{openingBy};
 use model::Config;
+use model::MAX_OBJECTIVES;
 use model::MAX_PLANS;
 use model::Opened;
 use model::Opening;
@@ -27,7 +29,7 @@ fn start(config: Config, rng: Rng) -> Session
     let discovery_trial_id = OptionU64::None;
     let dimensions = settings::blank_dimensions();
     let infinity = 1.0 / 0.0;
-    let ideal_point = [infinity; 8];
+    let ideal_point = [infinity; MAX_OBJECTIVES];
     let progress = Progress {
         n_dims: 0,
         n_candidates: 0,
@@ -49,7 +51,7 @@ fn start(config: Config, rng: Rng) -> Session
 fn blank() -> Session
     ensures { λ r. ⌜ r ≡ blank ⌝ }
 {
-    let directions = [0u8; 8];
+    let directions = [0u8; MAX_OBJECTIVES];
     let config = Config {
         n_obj: 0,
         directions,
@@ -65,10 +67,10 @@ fn blank() -> Session
 
 // The direction marks, as a session holds them.
 fn marks_of(directions: &[u8]) -> [u8; 8]
-    requires { ⌜ length (now directions) ≤ 8 ⌝ }
-    ensures { λ r. ⌜ r ≡ over (now (directions .entry)) (replicate 8 0) ⌝ }
+    requires { ⌜ length (now directions) ≤ maxObjectives ⌝ }
+    ensures { λ r. ⌜ r ≡ over (now (directions .entry)) (replicate maxObjectives 0) ⌝ }
 {
-    let mut marks = [0u8; 8];
+    let mut marks = [0u8; MAX_OBJECTIVES];
     let mut i = 0;
     while i < directions.len() {
         marks[i] = directions[i];

@@ -1,8 +1,9 @@
 -- what it answers tells whether it was refused
-use mathlib.Core.Path.{sym, _∙_}
+use mathlib.Core.Path.{refl, sym, _∙_}
 use Rattle.model.specs.declared.Opening.the-variants as opening
+use Rattle.model.specs.Session.{blank}
 use Rattle.session_laws.proofs.Opened.{directions-good, divisions-good, opening-tells}
-use Rattle.session_opening.proofs.Opening.{refused-opens, ready-opens}
+use Rattle.session_opening.proofs.Opening.{by-answer}
 use borrow.Author.Needs.{needs}
 use Rattle.session_opening.proofs.open.Statement.{statement}
 use Rattle.session_opening.proofs.open.Tie as tie
@@ -22,7 +23,7 @@ blank-requires c κs = tt
 returns : tie.Need-returns
 returns c =
     let told = c .before .enum-told2 .given in
-    refused-opens _ _ _ _ _ _ _ _ (told .0 .0) _ (c .before .before .before .open-refusal .ensures) (told .1) (c .blank .ensures)
+    by-answer _ _ _ _ _ _ _ _ (opening.Refused (told .0 .0)) _ blank (c .before .before .before .open-refusal .ensures) (told .1) (c .blank .ensures) refl
 
 opened-requires : tie.Need-opened-requires
 opened-requires c κs =
@@ -30,7 +31,7 @@ opened-requires c κs =
     (directions-good _ 0 _ _ _ _ _ r, divisions-good _ 0 _ _ _ _ _ r)
 
 returns-2 : tie.Need-returns-2
-returns-2 c = ready-opens _ _ _ _ _ _ _ _ _ (c .before .before .before .open-refusal .ensures) (c .before .enum-told .given .1) (c .opened .ensures)
+returns-2 c = by-answer _ _ _ _ _ _ _ _ opening.Ready _ _ (c .before .before .before .open-refusal .ensures) (c .before .enum-told .given .1) (c .opened .ensures) refl
 
 pub open-spec : {M : Type 1} → statement M
 open-spec =
