@@ -4,10 +4,9 @@ ghost use mathlib.Core.Path.{_≡_};
 ghost use mathlib.Core.Bool.{true, false};
 ghost use mathlib.Core.List.{List, []};
 ghost use mathlib.Core.Option.{some};
-ghost use Prim.Native.Nat.{ℕ, _≤_};
-ghost use Rattle.model.specs.Plan.{planCount};
+ghost use Prim.Native.Nat.{ℕ};
 ghost use Rattle.model.specs.Session.{state, addsFor, discovers, longEnough};
-ghost use Rattle.model.specs.Refusal.{sampleRefusal};
+ghost use Rattle.model.specs.Refusal.{sampleRefusal, badHistory};
 ghost use Rattle.model.specs.Calls.{sampleOf, Samples};
 ghost use Rattle.model.specs.Property.{SessionOk};
 ghost use Rattle.model.specs.declared.Distribution.{Distribution};
@@ -16,9 +15,6 @@ use model::Distribution;
 use model::Phase;
 use model::Sampled;
 use model::Session;
-
-// The most records of a history.
-const MAX_HISTORY: usize = 4096;
 
 // ---- a call that adds a dimension
 
@@ -39,7 +35,7 @@ fn sample_discovering(
     if session_records::bad_dimension(n, distribution) {
         return session_active::refused(session, 6);
     }
-    if MAX_HISTORY < plans::plan_count(history) {
+    if session_records::bad_history(history) {
         return session_active::refused(session, 7);
     }
     if long {
@@ -52,7 +48,7 @@ fn sample_discovering(
 
 // The number of a call that adds no dimension.
 fn short_refusal(session: Session, history: &[u64], plans: &[u64]) -> u8
-    requires { ⌜ SessionOk (state session [] (now plans) []) × (planCount (now history) ≤ 4096) ⌝ }
+    requires { ⌜ SessionOk (state session [] (now plans) []) × (badHistory (now history) ≡ false) ⌝ }
     ensures { λ r. ⌜ ((cs ns : List ℕ) (d : Distribution) (plan : ℕ) → discovers (state session cs (now (plans .entry)) ns) plan ≡ false
         → longEnough (state session cs (now (plans .entry)) ns) ≡ false
         → sampleRefusal (state session cs (now (plans .entry)) ns) d plan (now (history .entry)) ≡ some r) ⌝ }
@@ -93,7 +89,7 @@ fn answered(
     if session_records::discovers(phase, first, plan) {
         return sample_discovering(session, distribution, plan, history, long);
     }
-    if MAX_HISTORY < plans::plan_count(history) {
+    if session_records::bad_history(history) {
         return session_active::refused(session, 7);
     }
     if long {

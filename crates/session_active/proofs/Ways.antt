@@ -2,9 +2,8 @@
 use Prim.Native.Nat.{ℕ, _≤_}
 use mathlib.Core.Path.{_≡_, refl, sym, ap, _∙_, subst}
 use mathlib.Core.Bool.{Bool, true, false, _&&_}
-use mathlib.Core.List.{List, []}
+use mathlib.Core.List.{List, [], _∷_}
 use mathlib.Core.Option.{Option, none, some}
-use native.Mathlib.Omega.{arith}
 use lib.Dec.{leb}
 use lib.Ieee.{Float}
 use lib.ListN.{length}
@@ -13,13 +12,12 @@ use Rattle.model.specs.declared.Distribution.{Distribution}
 use Rattle.model.specs.declared.Phase.the-variants.{Discovery, Active}
 use Rattle.model.specs.declared.Sampled.{Sampled}
 use Rattle.model.specs.declared.Session.{Session}
-use Rattle.model.specs.Plan.{planCount}
-use Rattle.model.specs.Session.{State, Answered, state, dimensionOf, renewed, discovers, discover, activate, breed, bredFrom, breeds, isActive, pastDiscovery, addsFor, longEnough, roomFor, evaluated, allStand, accepted, sampleFromCandidate, maxCome, maxWords}
-use Rattle.model.specs.Refusal.{sampleRefusal, badDimensions, maxHistory}
+use Rattle.model.specs.Session.{State, Answered, state, dimensionOf, renewed, discovers, discover, activate, breed, breeds, isActive, pastDiscovery, addsFor, longEnough, roomFor, evaluated, allStand, accepted, sampleFromCandidate, maxCome, maxWords}
+use Rattle.model.specs.Refusal.{check, sampleRefusal, badDimensions, badHistory}
 use Rattle.model.specs.Calls.{SampleExit, sampleBy, sampleOf, settled}
 use Rattle.model.specs.Property.{SessionOk}
 use Rattle.session_laws.specs.Refused.{shortRefusal}
-use Rattle.session_laws.proofs.Request.{breeds-active, active-good, short-refusal}
+use Rattle.session_laws.proofs.Request.{bred-checks-same, breeds-active, active-good, short-refusal}
 use Rattle.session_laws.proofs.Steps.{short-ok, phase-ok}
 use Rattle.session_laws.proofs.Sample.{discovery-phase}
 use Rattle.session_parts.specs.Exits.{exit, Ready}
@@ -68,14 +66,9 @@ module _ (st : State) (d : Distribution) (plan : ℕ) (history : List ℕ) where
 
   -- ---- a slice is too short
 
-  -- no other slice than that of the plans' numbers matters to the refusals
-  same-short : shortRefusal st history ≡ shortRefusal (state (st .session) [] (st .plans) []) history
-  unfolding bredFrom
-  same-short = refl
-
-  pub short-bred : (n : ℕ) → breeds st history ≡ true → longEnough st ≡ false → planCount history ≤ maxHistory
+  pub short-bred : (n : ℕ) → breeds st history ≡ true → longEnough st ≡ false → badHistory history ≡ false
       → shortRefusal (state (st .session) [] (st .plans) []) history ≡ some n → refusal ≡ some n
-  short-bred n b l few e = short-refusal st d plan history (active-good st plan _ (breeds-active st history b)) few b l ∙ same-short ∙ e
+  short-bred n b l few e = short-refusal st d plan history (active-good st plan _ (breeds-active st history b)) few b l ∙ bred-checks-same st [] [] history (check 10 true ∷ []) ∙ e
 
 -- ---- tests of the state, as code makes them
 
@@ -132,14 +125,14 @@ module _ (st : State) where
   pub ready-active : SessionOk st → st .session .phase ≡ Active → Ready (st .session)
   ready-active ok e =
       let a = phase-ok st Active ok e in
-      record { dims = ok .dimensions; some = a .someDimension; room = a .room }
+      record { dims = ok .dimensions; some = a .someDimension }
 
   -- ---- a new generation: it can be drawn from, and no plan of it has come
 
   renewed-ready : (u : Session) (g : ℕ) (ideal : List Float) (number : ℕ) → badDimensions (dimensionOf (st .session)) (st .session .progress .«n_dims») ≡ false
       → 1 ≤ st .session .progress .«n_dims» → u ≡ renewed (st .session) g ideal number → Ready u × (u .progress .«n_plans» ≡ 0)
   renewed-ready u g ideal number dims h e =
-      (subst Ready (sym e) (record { dims = dims; some = h; room = omega arith }), ap (λ (x : Session). x .progress .«n_plans») e)
+      (subst Ready (sym e) (record { dims = dims; some = h }), ap (λ (x : Session). x .progress .«n_plans») e)
 
   pub ready-first : (u : Session) (after : List ℕ) → SessionOk st → 1 ≤ st .session .progress .«n_dims» → state u after (st .plans) (st .nextDims) ≡ activate st
       → Ready u × (u .progress .«n_plans» ≡ 0)

@@ -27,7 +27,7 @@ use Rattle.model.specs.Property.{SessionOk}
 use Rattle.refusals.specs.declared.Check.{Check}
 use Rattle.refusals.specs.Checked.{checked}
 use Rattle.session_laws.specs.Refused.{breedRefusal, shortRefusal}
-use Rattle.session_laws.proofs.Request.{bred-length, bred-request, step-refusal}
+use Rattle.session_laws.proofs.Request.{bred-length, bred-request, bred-checks-same, step-refusal}
 use Rattle.list_laws.proofs.Checks.{then-last, good-ideal-length}
 use Rattle.session_breeding.specs.Breeding.{Stepped, stepped, takenOf, blankLent, stepOn, bredExit, breedBy, breedOf}
 
@@ -45,7 +45,7 @@ evaluated-tells st history e =
     (leb-true _ _ (and-left held _ h), and-right held _ h)
 
 -- each list lent for the selection has room
-pub rooms : maxSize ≤ length (blankLent .kept)
+rooms : maxSize ≤ length (blankLent .kept)
 rooms = omega (arith, length-replicate {A = ℕ} maxSize 0)
 
 module _ (s : Session) (cs ps : List ℕ) (history : List ℕ) where
@@ -69,11 +69,6 @@ module _ (s : Session) (cs ps : List ℕ) (history : List ℕ) where
       ap (λ (p : List ℕ). wordRequest p (take m (s .config .directions)) (s .config .divisions) size (s .rng) ideal)
       (ap (take (size * planWords)) e ∙ over-take (recordsOf history ps size) pool (size * planWords) (bred-length (at []) history))
       ∙ bred-request (at []) history
-
-  -- no next dimensions matter to its refusals
-  same-left : (ns : List ℕ) → breedRefusal (at []) history ≡ breedRefusal (at ns) history
-  unfolding bredFrom
-  same-left ns = refl
 
   module _ (ok : SessionOk (at [])) (long : maxWords ≤ length cs) where
     step-is-refused : stepRefusal (operatorsOf s) (requestOf (at []) history) (roomOf blankLent) (length cs) ≡ breedRefusal (at []) history
@@ -125,8 +120,7 @@ module _ (s : Session) (cs ps : List ℕ) (history : List ℕ) where
   -- ---- what breeding answers
 
   same-refusal : (ns : List ℕ) → breedBy (breedRefusal (at []) history) (at ns) history ≡ breedOf (at ns) history
-  same-refusal ns =
-      ap (λ (o : Option ℕ). breedBy o (at ns) history) (same-left ns)
+  same-refusal ns = ap (λ (o : Option ℕ). breedBy o (at ns) history) (bred-checks-same (at []) cs ns history [])
 
   module _ (ok : SessionOk (at [])) (long : maxWords ≤ length cs) (pool gathered : List ℕ)
       (g : gathered ≡ over (recordsOf history ps size) pool)

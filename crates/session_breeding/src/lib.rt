@@ -5,7 +5,7 @@ ghost use mathlib.Core.List.{List, []};
 ghost use mathlib.Core.Option.{some};
 ghost use Prim.Native.Nat.{ℕ, _≤_};
 ghost use lib.ListN.{length};
-ghost use Rattle.model.specs.Session.{state, evaluated, bredSession};
+ghost use Rattle.model.specs.Session.{state, evaluated, bredSession, maxCome, maxWords};
 ghost use Rattle.model.specs.Calls.{refusedBy};
 ghost use Rattle.model.specs.Property.{SessionOk};
 ghost use Rattle.session_laws.specs.Refused.{shortRefusal};
@@ -78,7 +78,7 @@ pub fn breed(
 ) -> Bred
     requires { ⌜ 126976 ≤ length (now pool) ⌝ }
     requires { ⌜ SessionOk (state session (now candidates) (now plans) []) × (evaluated (state session (now candidates) (now plans) []) (now history) ≡ true)
-        × (2048 ≤ length (now plans)) × (65536 ≤ length (now candidates)) ⌝ }
+        × (maxCome ≤ length (now plans)) × (maxWords ≤ length (now candidates)) ⌝ }
     ensures { λ r. ⌜ ((ns : List ℕ) → bredExit (refusedBy (r .outcome)) (state (r .session) (now (candidates .exit)) (now (plans .entry)) ns)
         ≡ breedOf (state session (now (candidates .entry)) (now (plans .entry)) ns) (now (history .entry))) ⌝ }
 {

@@ -18,7 +18,6 @@ use Rattle.model.specs.Lists.{firstBelow, allIn, allBelow}
 use Rattle.model.specs.Real.{infinity, unit}
 use Rattle.model.specs.Plan.{maxObjectives}
 use Rattle.model.specs.Reference.{binomial, pointCount, autoDivisions, divisionsOf, populationSize}
-use Rattle.model.specs.declared.Opening.the-variants as opening
 use Rattle.model.specs.declared.OptionUsize.{OptionUsize}
 use Rattle.model.specs.declared.Session.{Session}
 use Rattle.model.specs.Session.{state, given, opened}
@@ -35,7 +34,7 @@ infinity-good : goodEntry infinity ≡ true
 unfolding measurable eq le ofBits
 infinity-good = refl
 
-pub infinite-ideal : (m : ℕ) → m ≤ maxObjectives → goodIdeal m (take m (replicate maxObjectives infinity)) ≡ true
+infinite-ideal : (m : ℕ) → m ≤ maxObjectives → goodIdeal m (take m (replicate maxObjectives infinity)) ≡ true
 unfolding goodIdeal
 infinite-ideal m h =
     ap (goodIdeal m) (take-replicate m maxObjectives infinity h)

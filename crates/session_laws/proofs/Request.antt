@@ -8,7 +8,7 @@ use native.Mathlib.Nat.{le-trans, mul-le-mul}
 use native.Mathlib.Omega.{arith}
 use lib.Dec.{leb}
 use lib.ListN.{length, take}
-use borrow.Author.Tests.{lt-ltb, le-ltb, lt-leb, leb-false, ne-eqb, not-false}
+use borrow.Author.Tests.{le-ltb, lt-leb, leb-false, ne-eqb, not-false}
 use Rattle.list_laws.proofs.Bools.{by-bool, and-left, and-right, and-both, and-fails-first, and-not, and-no, or-left, or-right, or-both}
 use Rattle.list_laws.proofs.Built.{listBelow-length}
 use Rattle.list_laws.proofs.Checks.{passed-over, applies-first, after-two}
@@ -16,8 +16,8 @@ use Rattle.list_laws.proofs.Rows.{joinBelow-length}
 use Rattle.model.specs.declared.Distribution.{Distribution}
 use Rattle.model.specs.Plan.{planWords, planCount}
 use Rattle.model.specs.Setting.{validDimension, maxDims}
-use Rattle.model.specs.Session.{State, isActive, discovers, longEnough, bredFrom, breeds, requestOf, operatorsOf, isNew, maxCome, maxWords}
-use Rattle.model.specs.Refusal.{Check, check, firstOf, Room, noRoom, noStepRoom, badSize, badPool, badParents, stepRefusal, sampleRefusal, maxSize, maxHistory, badNext}
+use Rattle.model.specs.Session.{State, state, isActive, discovers, longEnough, bredFrom, breeds, requestOf, operatorsOf, isNew, maxCome, maxWords}
+use Rattle.model.specs.Refusal.{Check, check, firstOf, Room, noRoom, noStepRoom, badSize, badPool, badParents, stepRefusal, sampleRefusal, maxSize, badHistory, badNext}
 use Rattle.model.specs.Calls.{wordRequest}
 use Rattle.model.specs.Property.{SessionOk}
 use Rattle.demand3_laws.proofs.Calls.{request-divisions}
@@ -39,6 +39,12 @@ pub bred-request : (st : State) (history : List ℕ)
     → wordRequest (bredFrom st history) (take (st .session .config .«n_obj») (st .session .config .directions)) (st .session .config .divisions)
     (st .session .config .«population_size») (st .session .rng) (take (st .session .config .«n_obj») (st .session .«ideal_point»)) ≡ requestOf st history
 bred-request st history = rw (bred-count st history)
+
+-- no other slice than that of the plans' numbers matters to what is left of its refusals
+pub bred-checks-same : (st : State) (candidates nextDims history : List ℕ) (cs : List Check)
+    → firstOf (bredChecks st history cs) ≡ firstOf (bredChecks (state (st .session) candidates (st .plans) nextDims) history cs)
+unfolding bredFrom
+bred-checks-same st candidates nextDims history cs = refl
 
 -- ---- a call that breeds is past discovery
 
@@ -85,15 +91,15 @@ module _ (st : State) (d : Distribution) (plan : ℕ) (history : List ℕ) where
   refused-6 a e = applies-first _ _ (and-both _ _ a e)
 
   module _ (good : (discovers st plan && bad) ≡ false) where
-    pub refused-7 : maxHistory < planCount history → refusal ≡ some 7
+    pub refused-7 : badHistory history ≡ true → refusal ≡ some 7
     unfolding sampleRefusal
-    refused-7 h = passed-over _ _ good ∙ applies-first _ _ (lt-ltb maxHistory _ h)
+    refused-7 h = passed-over _ _ good ∙ applies-first _ _ h
 
-    module _ (few : planCount history ≤ maxHistory) where
+    module _ (few : badHistory history ≡ false) where
       past-7 : refusal ≡ firstOf (check 8 (breeds st history && badPool (requestOf st history))
           ∷ check 9 (breeds st history && badParents (operatorsOf (st .session)) (requestOf st history)) ∷ last)
       unfolding sampleRefusal
-      past-7 = passed-over _ _ good ∙ passed-over _ _ (le-ltb maxHistory _ few)
+      past-7 = passed-over _ _ good ∙ passed-over _ _ few
 
       -- a call that breeds is refused by 8 or 9, and after them by 10 where a slice is too short
       module _ (b : breeds st history ≡ true) where
@@ -132,11 +138,8 @@ module _ (st : State) (d : Distribution) (plan : ℕ) (history : List ℕ) where
 -- ---- refusals of the generation step that a session makes
 
 module _ (st : State) (history : List ℕ) (ok : SessionOk st) where
-  size-not-0 : st .session .config .«population_size» ≡ 0 → ⊥
-  size-not-0 e = omega (arith, ok .config .atLeast4)
-
   request-size : badSize (st .session .config .«population_size») ≡ false
-  request-size = or-both _ _ (ne-eqb (st .session .config .«population_size») 0 size-not-0) (le-ltb maxSize (st .session .config .«population_size») (ok .config .atMost))
+  request-size = or-both _ _ (ne-eqb (st .session .config .«population_size») 0 (λ e. omega (arith, ok .config .atLeast4))) (le-ltb maxSize (st .session .config .«population_size») (ok .config .atMost))
 
   -- the words of a generation's candidates
   pub offspring-fit : st .session .config .«population_size» * st .session .progress .«n_dims» ≤ maxWords

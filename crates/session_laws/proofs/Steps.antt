@@ -5,11 +5,11 @@ use mathlib.Core.Bool.{true, false, true≢false, not}
 use mathlib.Core.List.{List, map}
 use native.Mathlib.Nat.{le-trans, mul-le-mul}
 use native.Mathlib.Omega.{arith}
-use lib.Dec.{eqb, leb, ltb}
+use lib.Dec.{leb, ltb}
 use lib.ListN.{length, getD, set, take, length-set, drop}
-use lib.Seq.{getD-set-same, getD-set-other, set-out, take-suc-set, length-sets}
-use borrow.Author.Tests.{ltb-true, ltb-false, le-leb, leb-true, eqb-true, eqb-false, not-true, le-ltb}
-use Rattle.list_laws.proofs.Bools.{by-bool, and-left, and-right, and-both, by-cond, or-both}
+use lib.Seq.{set-out, take-suc-set, length-sets}
+use borrow.Author.Tests.{ltb-true, ltb-false, le-leb, leb-true, not-true, le-ltb}
+use Rattle.list_laws.proofs.Bools.{and-left, and-right, and-both, by-cond, or-both}
 use Rattle.list_laws.proofs.Members.{distinct-snoc, has-not}
 use Rattle.model.specs.declared.Distribution.{Distribution}
 use Rattle.model.specs.declared.Phase.{Phase}
@@ -31,7 +31,8 @@ use Rattle.candidate_laws.proofs.Sound.{AllHeld}
 use Rattle.candidate_laws.proofs.Sampled.{sampleAll-sound, sampleCandidates-sound}
 use Rattle.candidate_laws.proofs.Words.{words-within, words-put}
 use Rattle.list_laws.proofs.Built.{over-long}
-use Rattle.list_laws.proofs.Stores.{set-each}
+use Rattle.list_laws.proofs.Below.{by-lt}
+use Rattle.list_laws.proofs.Stores.{set-cases, set-each}
 use Rattle.session_laws.proofs.Lists.{lent-none, lent-empty}
 
 -- ---- the lengths of the lent slices
@@ -56,7 +57,7 @@ unfolding longEnough
 long-enough st l = and-both _ _ (le-leb maxWords _ (l .words)) (and-both _ _ (le-leb maxCome _ (l .plans)) (le-leb maxCome _ (l .next)))
 
 -- and stay so where words are put into the candidates
-pub put-long : (st : State) (u : Session) (cs : List ℕ) → length (st .candidates) ≤ length cs → Long st → Long (state u cs (st .plans) (st .nextDims))
+put-long : (st : State) (u : Session) (cs : List ℕ) → length (st .candidates) ≤ length cs → Long st → Long (state u cs (st .plans) (st .nextDims))
 put-long st u cs h l = record { words = le-trans (l .words) h; plans = l .plans; next = l .next }
 
 -- slices that are too short say nothing
@@ -206,7 +207,7 @@ entered-different : (l : List ℕ) (n plan : ℕ) → n < length l → has (take
 entered-different l n plan room new h =
     subst Distinct (sym (ap (λ k. take k (set l n plan)) (add-one n) ∙ take-suc-set l n plan room)) (distinct-snoc (take n l) plan h (has-not (take n l) plan new))
 
-pub enter-ok : (st : State) (plan : ℕ) → Waiting st → isNew st plan ≡ true → SessionOk (enter st plan)
+enter-ok : (st : State) (plan : ℕ) → Waiting st → isNew st plan ≡ true → SessionOk (enter st plan)
 unfolding enter
 enter-ok st plan ready new =
     record {
@@ -224,7 +225,7 @@ enter-ok st plan ready new =
       };
     }
 
-pub enter-long : (st : State) (plan : ℕ) → Long st → Long (enter st plan)
+enter-long : (st : State) (plan : ℕ) → Long st → Long (enter st plan)
 unfolding enter
 enter-long st plan l =
     record {
@@ -258,11 +259,9 @@ enlist-phase st plan = enlist-by (λ (x : State). x .session .phase ≡ st .sess
 -- ---- a setting is answered
 
 moved-next : (l : List ℕ) (i at d dims : ℕ) → d < dims → getD l i 0 ≤ dims → getD (set l at (d + 1)) i 0 ≤ dims
-moved-next l i at d dims below h = by-bool (eqb i at)
-    (λ e. by-bool (ltb at (length l))
-    (λ v. omega (arith, ap (λ (x : ℕ). getD (set l at (d + 1)) x 0) (eqb-true i at e), getD-set-same l at (d + 1) 0 (ltb-true at (length l) v)))
-    (λ v. omega (arith, ap (λ (x : List ℕ). getD x i 0) (set-out l at (d + 1) (ltb-false at (length l) v)))))
-    (λ e. omega (arith, getD-set-other l at i (d + 1) 0 (eqb-false i at e)))
+moved-next l i at d dims below h = by-lt at (length l)
+    (λ v. set-cases (λ (x : ℕ). x ≤ dims) 0 l at i (d + 1) v (λ e. omega arith) (λ e. h))
+    (λ v. omega (arith, ap (λ (x : List ℕ). getD x i 0) (set-out l at (d + 1) v)))
 
 module _ (st : State) (i : ℕ) (ok : SessionOk st) (active : st .session .phase ≡ Active) (lengths : Long st) where
   at-active : ActiveOk (st .session)

@@ -7,11 +7,9 @@ use native.Mathlib.Omega.{arith}
 use borrow.Author.Tests.{lt-ltb, le-ltb, le-leb, lt-leb}
 use lib.Dec.{leb}
 use lib.ListN.{length, getD, set}
-use Rattle.list_laws.proofs.Below.{by-lt}
 use Rattle.list_laws.proofs.Rows.{row-within}
 use Rattle.model.specs.declared.Distribution.{Distribution}
 use Rattle.model.specs.declared.ParamValue.{ParamValue}
-use Rattle.model.specs.declared.OptionU64.the-variants as optU64
 use Rattle.model.specs.declared.Session.{Session}
 use Rattle.model.specs.declared.Sampling.the-variants as sampling
 use Rattle.model.specs.Lists.{over, placeIn}
@@ -21,6 +19,7 @@ use Rattle.model.specs.Session.{State, Answered, state, progress, dimensionOf, 
 use Rattle.model.specs.Calls.{settled}
 use lib.Seq.{sets}
 use Rattle.session_parts.specs.Exits.{exit, Ready}
+use Rattle.session_laws.proofs.Steps.{enlist-by}
 use Rattle.session_records.proofs.Records.{is-new-by}
 
 -- ---- discovery
@@ -81,23 +80,11 @@ pub overflowed-plans : (st : State) (u : Session) (cs ps ns : List ℕ) → stat
 overflowed-plans st u cs ps ns e = ap (λ (x : State). x .session .progress .«n_plans») e ∙ overflow-plans st
 
 -- a plan more leaves a state that can be drawn from
-entered-ready : (st : State) (plan : ℕ) → Ready (st .session) → st .session .progress .«n_plans» < 2048 → Ready (enter st plan .session)
-unfolding enter
-entered-ready st plan r h = record { dims = r .dims; some = r .some; room = omega arith }
-
-overflow-ready : (st : State) → Ready (st .session) → Ready (overflow st .session)
-unfolding overflow
-overflow-ready st r = record { dims = r .dims; some = r .some; room = r .room }
-
-enlist-ready : (st : State) (plan : ℕ) → Ready (st .session) → st .session .progress .«n_plans» < 2048 → Ready (enlist st plan .session)
-enlist-ready st plan r h = by-lt (st .session .progress .«n_plans») (st .session .progress .«n_candidates»)
-    (λ b. subst (λ (x : State). Ready (x .session)) (enlist-next st plan b) (entered-ready st plan r h))
-    (λ b. subst (λ (x : State). Ready (x .session)) (enlist-over st plan b)
-    (entered-ready (overflow st) plan (overflow-ready st r) (subst (λ (n : ℕ). n < 2048) (sym (overflow-plans st)) h)))
-
-pub enlisted-ready : (st : State) (plan : ℕ) (u : Session) (cs ps ns : List ℕ) → Ready (st .session) → st .session .progress .«n_plans» < 2048
-    → state u cs ps ns ≡ enlist st plan → Ready u
-enlisted-ready st plan u cs ps ns r h e = subst (λ (x : State). Ready (x .session)) (sym e) (enlist-ready st plan r h)
+pub enlisted-ready : (st : State) (plan : ℕ) (u : Session) (cs ps ns : List ℕ) → Ready (st .session) → state u cs ps ns ≡ enlist st plan → Ready u
+unfolding enter overflow
+enlisted-ready st plan u cs ps ns r e =
+    let ready : State → Type 0 = λ x. Ready (x .session) in
+    subst ready (sym e) (enlist-by ready st plan (λ h. record { dims = r .dims; some = r .some }) (λ h. record { dims = r .dims; some = r .some }))
 
 -- ---- answers
 

@@ -5,8 +5,7 @@ use mathlib.Core.Bool.{false}
 use mathlib.Core.List.{List}
 use Rattle.model.specs.declared.Session.{Session}
 use Rattle.model.specs.declared.Sampled.{Sampled}
-use Rattle.model.specs.declared.Sampling.the-variants as sampling
-use Rattle.model.specs.Session.{state, progress, dimensionOf, maxCome}
+use Rattle.model.specs.Session.{state, dimensionOf}
 use Rattle.model.specs.Refusal.{badDimensions}
 use Rattle.model.specs.Calls.{SampleExit}
 
@@ -18,4 +17,3 @@ exit r cs ps ns = record { answer = r .outcome; after = state (r .session) cs ps
 pub record Ready (s : Session) : Type 0 where
   pub dims : badDimensions (dimensionOf s) (s .progress .«n_dims») ≡ false
   pub some : 1 ≤ s .progress .«n_dims»
-  pub room : s .progress .«n_plans» ≤ maxCome

@@ -5,9 +5,9 @@ ghost use mathlib.Core.Bool.{true, false};
 ghost use mathlib.Core.List.{List};
 ghost use Prim.Native.Nat.{ℕ, _*_, _≤_, _<_};
 ghost use lib.ListN.{length};
-ghost use Rattle.model.specs.Setting.{validDimension};
+ghost use Rattle.model.specs.Setting.{validDimension, maxDims};
 ghost use Rattle.model.specs.Refusal.{badDimensions};
-ghost use Rattle.model.specs.Session.{dimensionOf, withRng, withProgress, renewed, state, discover, activate, overflow, enter, enlist, answer, isNew, sampleFromCandidate};
+ghost use Rattle.model.specs.Session.{dimensionOf, withRng, withProgress, renewed, state, discover, activate, overflow, enter, enlist, answer, isNew, sampleFromCandidate, maxCome, maxWords};
 ghost use Rattle.model.specs.Calls.{settled};
 ghost use Rattle.session_parts.specs.Exits.{exit, Ready};
 use model::DimensionInfo;
@@ -24,7 +24,7 @@ use model::Session;
 
 // The first plan's call: the dimension is entered, and a setting drawn from it.
 pub fn discover(session: Session, distribution: Distribution, plan: u64) -> Sampled
-    requires { ⌜ (session .progress .«n_dims» < 32) × (validDimension distribution ≡ true) ⌝ }
+    requires { ⌜ (session .progress .«n_dims» < maxDims) × (validDimension distribution ≡ true) ⌝ }
     ensures { λ r. ⌜ ((cs ps ns : List ℕ) → exit r cs ps ns ≡ settled (discover (state session cs ps ns) distribution plan)) ⌝ }
 {
     let rng = session.rng;
@@ -121,7 +121,7 @@ fn with_progress(session: Session, progress: Progress) -> Session
 
 // A candidate more, drawn, where every candidate has its plan.
 fn overflow(session: Session, candidates: &mut [u64]) -> Session
-    requires { ⌜ (badDimensions (dimensionOf session) (session .progress .«n_dims») ≡ false) × (session .progress .«n_candidates» < 2048) × (65536 ≤ length (now candidates)) ⌝ }
+    requires { ⌜ (badDimensions (dimensionOf session) (session .progress .«n_dims») ≡ false) × (session .progress .«n_candidates» < maxCome) × (maxWords ≤ length (now candidates)) ⌝ }
     ensures { λ r. ⌜ ((ps ns : List ℕ) → state r (now (candidates .exit)) ps ns ≡ overflow (state session (now (candidates .entry)) ps ns)) ⌝ }
 {
     let before = session.progress;
@@ -144,7 +144,7 @@ fn overflow(session: Session, candidates: &mut [u64]) -> Session
 
 // The plan is entered as the generation's next, at its first dimension.
 fn enter(session: Session, plan: u64, plans: &mut [u64], next_dims: &mut [usize]) -> Session
-    requires { ⌜ (session .progress .«n_plans» < 2048) × (2048 ≤ length (now plans)) × (2048 ≤ length (now «next_dims»)) ⌝ }
+    requires { ⌜ (session .progress .«n_plans» < maxCome) × (maxCome ≤ length (now plans)) × (maxCome ≤ length (now «next_dims»)) ⌝ }
     ensures { λ r. ⌜ ((cs : List ℕ) → state r cs (now (plans .exit)) (now («next_dims» .exit)) ≡ enter (state session cs (now (plans .entry)) (now («next_dims» .entry))) plan) ⌝ }
 {
     let before = session.progress;
@@ -168,7 +168,7 @@ fn enlist(
     plans: &mut [u64],
     next_dims: &mut [usize],
 ) -> Session
-    requires { ⌜ Ready session × (session .progress .«n_plans» < 2048) × (65536 ≤ length (now candidates)) × (2048 ≤ length (now plans)) × (2048 ≤ length (now «next_dims»)) ⌝ }
+    requires { ⌜ Ready session × (session .progress .«n_plans» < maxCome) × (maxWords ≤ length (now candidates)) × (maxCome ≤ length (now plans)) × (maxCome ≤ length (now «next_dims»)) ⌝ }
     ensures { λ r. ⌜ state r (now (candidates .exit)) (now (plans .exit)) (now («next_dims» .exit))
         ≡ enlist (state session (now (candidates .entry)) (now (plans .entry)) (now («next_dims» .entry))) plan ⌝ }
 {
@@ -184,7 +184,7 @@ fn enlist(
 
 // Plan i is answered its candidate's setting at its next dimension, or past the last a setting drawn from the last.
 fn answer(session: Session, i: usize, candidates: &[u64], next_dims: &mut [usize]) -> Sampled
-    requires { ⌜ Ready session × (i < 2048) × (65536 ≤ length (now candidates)) × (2048 ≤ length (now «next_dims»)) ⌝ }
+    requires { ⌜ Ready session × (i < maxCome) × (maxWords ≤ length (now candidates)) × (maxCome ≤ length (now «next_dims»)) ⌝ }
     ensures { λ r. ⌜ ((ps : List ℕ) → exit r (now (candidates .entry)) ps (now («next_dims» .exit))
         ≡ settled (answer (state session (now (candidates .entry)) ps (now («next_dims» .entry))) i)) ⌝ }
 {
@@ -220,8 +220,8 @@ pub fn sample_from_candidate(
     plans: &mut [u64],
     next_dims: &mut [usize],
 ) -> Sampled
-    requires { ⌜ Ready session × (65536 ≤ length (now candidates)) × (2048 ≤ length (now plans)) × (2048 ≤ length (now «next_dims»))
-        × (isNew (state session (now candidates) (now plans) (now «next_dims»)) plan ≡ true → session .progress .«n_plans» < 2048) ⌝ }
+    requires { ⌜ Ready session × (session .progress .«n_plans» ≤ maxCome) × (maxWords ≤ length (now candidates)) × (maxCome ≤ length (now plans)) × (maxCome ≤ length (now «next_dims»))
+        × (isNew (state session (now candidates) (now plans) (now «next_dims»)) plan ≡ true → session .progress .«n_plans» < maxCome) ⌝ }
     ensures { λ r. ⌜ exit r (now (candidates .exit)) (now (plans .exit)) (now («next_dims» .exit))
         ≡ settled (sampleFromCandidate (state session (now (candidates .entry)) (now (plans .entry)) (now («next_dims» .entry))) plan) ⌝ }
 {

@@ -1,15 +1,14 @@
 -- each way is as the definition has it
-use Prim.Native.Nat.{_≤_, _<_}
-use mathlib.Core.Path.{refl, sym, ap, _∙_}
+use mathlib.Core.Path.{_≡_, refl, sym, ap, _∙_}
 use mathlib.Core.Bool.{false, not}
 use mathlib.Core.List.{[]}
-use Rattle.model.specs.Plan.{planCount}
 use Rattle.list_laws.proofs.Bools.{and-not, and-fails}
 use Rattle.model.specs.declared.Phase.{Phase}
 use Rattle.model.specs.Session.{State, state, pastDiscovery}
+use Rattle.model.specs.Refusal.{badHistory}
 use Rattle.session_laws.proofs.Request.{refused-7}
+use Rattle.session_active.specs.Exits.{Called}
 use Rattle.session_active.proofs.Ways.{leaves-refused, adds-by, long-by, without-next, discovery-plans}
-use native.Mathlib.Omega.{arith}
 use borrow.Author.Needs.{needs}
 use Rattle.session.proofs.answered.Statement.{statement}
 use Rattle.session.proofs.answered.Tie as tie
@@ -38,8 +37,8 @@ returns c =
     let st = before s in
     c .sample-discovering .ensures (a .candidates .now) (a .plans .now) (a .next-dims .now) (long-by st _ (c .before .before .before .long-enough .ensures))
 
-plan-count-requires : tie.Need-plan-count-requires
-plan-count-requires c κs = tt
+bad-history-requires : tie.Need-bad-history-requires
+bad-history-requires c κs = tt
 
 refused-requires : tie.Need-refused-requires
 refused-requires c κs = tt
@@ -49,30 +48,32 @@ returns-2 c =
     let s = c .before .before .before .before .before .before .before .before .before .before in
     let a = s .args in
     let st = before s in
-    let many : 4096 < planCount (a .history .now) = omega (arith, c .before .if2 .taken, c .before .before .plan-count .ensures) in
     leaves-refused st (a .distribution) (a .plan) (a .history .now) 7 (a .session) (a .candidates .now) _ (c .refused .ensures) refl
-    (refused-7 st (a .distribution) (a .plan) (a .history .now) (and-not _ _ (adds-by st (a .plan) false (sym (c .before .before .before .before .discovers .ensures) ∙ c .before .before .before .if1 .left))) many)
+    (refused-7 st (a .distribution) (a .plan) (a .history .now) (and-not _ _ (adds-by st (a .plan) false (sym (c .before .before .before .before .discovers .ensures) ∙ c .before .before .before .if1 .left))) (sym (c .before .before .bad-history .ensures) ∙ c .before .if2 .taken))
+
+-- 7 does not apply
+few : (c : tie.Else2) → badHistory (c .before .before .before .before .before .before .before .before .before .args .history .now) ≡ false
+few c = sym (c .before .bad-history .ensures) ∙ c .if2 .left
+
+-- nor does 10
+called : (c : tie.Then3) → Called (before (c .before .before .before .before .before .before .before .before .before .before)) (c .before .before .before .before .before .before .before .before .before .before .args .history .now)
+called c =
+    let s = c .before .before .before .before .before .before .before .before .before .before in
+    record { ok = s .pre; room = long-by (before s) _ (c .before .before .before .before .before .long-enough .ensures) ∙ c .if3 .taken; few = few (c .before) }
 
 enum-told : tie.Need-enum-told
 enum-told c = search needs
 
 sample-first-requires : tie.Need-sample-first-requires
 sample-first-requires c κs =
-    let s = c .before .before .before .before .before .before .before .before .before .before .before .before .before .before .before in
-    let a = s .args in
-    let few : planCount (a .history .now) ≤ 4096 = omega (arith, c .before .before .before .before .before .before .if2 .left, c .before .before .before .before .before .before .before .plan-count .ensures) in
     let p = c .before .before .before .enum-told .given .1 in
-    (record { ok = s .pre; room = long-by (before s) _ (c .before .before .before .before .before .before .before .before .before .before .long-enough .ensures) ∙ c .before .before .before .before .before .if3 .taken; few = few }, p, and-fails _ _ (sym (c .before .before .before .before .before .before .before .before .before .discovers .ensures) ∙ c .before .before .before .before .before .before .before .before .if1 .left) (ap (λ (x : Phase). not (pastDiscovery x)) p))
+    (called (c .before .before .before .before .before), p, and-fails _ _ (sym (c .before .before .before .before .before .before .before .before .before .discovers .ensures) ∙ c .before .before .before .before .before .before .before .before .if1 .left) (ap (λ (x : Phase). not (pastDiscovery x)) p))
 
 enum-told-2 : tie.Need-enum-told-2
 enum-told-2 c = search needs
 
 sample-active-requires : tie.Need-sample-active-requires
-sample-active-requires c κs =
-    let s = c .before .before .before .before .before .before .before .before .before .before .before .before .before .before .before in
-    let a = s .args in
-    let few : planCount (a .history .now) ≤ 4096 = omega (arith, c .before .before .before .before .before .before .if2 .left, c .before .before .before .before .before .before .before .plan-count .ensures) in
-    (record { ok = s .pre; room = long-by (before s) _ (c .before .before .before .before .before .before .before .before .before .before .long-enough .ensures) ∙ c .before .before .before .before .before .if3 .taken; few = few }, c .before .before .before .enum-told2 .given .1)
+sample-active-requires c κs = (called (c .before .before .before .before .before), c .before .before .before .enum-told2 .given .1)
 
 same-length : tie.Need-same-length
 same-length c = c .before .before .before .before .before .before .sample-first .kept .1 .1 .1 .0
@@ -101,9 +102,7 @@ returns-4 c = c .before .before .before .before .before .before .sample-active .
 short-refusal-requires : tie.Need-short-refusal-requires
 short-refusal-requires c κs =
     let s = c .before .before .before .before .before .before .before .before .before .before .before in
-    let a = s .args in
-    let few : planCount (a .history .now) ≤ 4096 = omega (arith, c .before .before .if2 .left, c .before .before .before .plan-count .ensures) in
-    (without-next (before s) [] (s .pre), few)
+    (without-next (before s) [] (s .pre), few (c .before .before))
 
 refused-requires-2 : tie.Need-refused-requires-2
 refused-requires-2 c κs = tt
@@ -129,7 +128,7 @@ answered-spec =
     discovers-requires
     sample-discovering-requires
     returns
-    plan-count-requires
+    bad-history-requires
     refused-requires
     returns-2
     enum-told

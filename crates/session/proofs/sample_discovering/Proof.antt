@@ -1,10 +1,9 @@
 -- test by test
-use mathlib.Core.Bool.{true}
-use mathlib.Core.Path.{refl, sym, _∙_}
-use Prim.Native.Nat.{_≤_, _<_}
-use Rattle.model.specs.Plan.{planCount}
+use mathlib.Core.Bool.{true, false}
+use mathlib.Core.Path.{_≡_, refl, sym, _∙_}
 use Rattle.list_laws.proofs.Bools.{and-no}
 use Rattle.model.specs.Session.{state, discovers}
+use Rattle.model.specs.Refusal.{badNext, badHistory}
 use Rattle.session_laws.proofs.Request.{fit-dimension, refused-6, refused-7, refused-10, not-refused}
 use Rattle.session_active.proofs.Ways.{leaves-refused, leaves-accepted, adds-by, adds-unbred, adds-accepted}
 use native.Mathlib.Omega.{arith}
@@ -25,8 +24,12 @@ returns c cs ps ns l =
     leaves-refused st _ _ _ 6 (a .session) cs _ (c .refused .ensures) refl
     (refused-6 st _ _ _ (adds-by st _ true (s .pre .0)) (sym (c .before .before .bad-dimension .ensures) ∙ c .before .if1 .taken))
 
-plan-count-requires : tie.Need-plan-count-requires
-plan-count-requires c κs = tt
+-- 6 does not apply
+fit : (c : tie.Else1) → badNext (c .before .before .before .before .args .session .progress .«n_dims») (c .before .before .before .before .args .distribution) ≡ false
+fit c = sym (c .before .bad-dimension .ensures) ∙ c .if1 .left
+
+bad-history-requires : tie.Need-bad-history-requires
+bad-history-requires c κs = tt
 
 refused-requires-2 : tie.Need-refused-requires-2
 refused-requires-2 c κs = tt
@@ -36,22 +39,24 @@ returns-2 c cs ps ns l =
     let s = c .before .before .before .before .before .before .before in
     let a = s .args in
     let st = state (a .session) cs ps ns in
-    let many : 4096 < planCount (a .history .now) = omega (arith, c .before .if2 .taken, c .before .before .plan-count .ensures) in
     leaves-refused st _ _ _ 7 (a .session) cs _ (c .refused2 .ensures) refl
-    (refused-7 st _ _ _ (and-no (discovers st (a .plan)) _ (sym (c .before .before .before .before .bad-dimension .ensures) ∙ c .before .before .before .if1 .left)) many)
+    (refused-7 st _ _ _ (and-no (discovers st (a .plan)) _ (fit (c .before .before .before))) (sym (c .before .before .bad-history .ensures) ∙ c .before .if2 .taken))
+
+-- nor does 7
+few : (c : tie.Else2) → badHistory (c .before .before .before .before .before .before .args .history .now) ≡ false
+few c = sym (c .before .bad-history .ensures) ∙ c .if2 .left
 
 discover-requires : tie.Need-discover-requires
 discover-requires c κs =
-    fit-dimension _ _ (sym (c .before .before .before .before .bad-dimension .ensures) ∙ c .before .before .before .if1 .left)
+    fit-dimension _ _ (fit (c .before .before .before))
 
 returns-3 : tie.Need-returns-3
 returns-3 c cs ps ns l =
     let s = c .before .before .before .before .before .before .before .before in
     let a = s .args in
     let st = state (a .session) cs ps ns in
-    let few : planCount (a .history .now) ≤ 4096 = omega (arith, c .before .before .if2 .left, c .before .before .before .plan-count .ensures) in
     leaves-accepted st _ _ _ _ _ (c .discover .ensures cs ps ns)
-    (not-refused st _ _ _ (and-no (discovers st (a .plan)) _ (sym (c .before .before .before .before .before .bad-dimension .ensures) ∙ c .before .before .before .before .if1 .left)) few (adds-unbred st _ (a .plan) (s .pre .0))
+    (not-refused st _ _ _ (and-no (discovers st (a .plan)) _ (fit (c .before .before .before .before))) (few (c .before .before)) (adds-unbred st _ (a .plan) (s .pre .0))
     (l ∙ c .before .if3 .taken) (λ new. omega (arith, s .pre .1)))
     (adds-accepted st _ _ _ (adds-by st _ true (s .pre .0)))
 
@@ -63,9 +68,8 @@ returns-4 c cs ps ns l =
     let s = c .before .before .before .before .before .before .before .before in
     let a = s .args in
     let st = state (a .session) cs ps ns in
-    let few : planCount (a .history .now) ≤ 4096 = omega (arith, c .before .before .if2 .left, c .before .before .before .plan-count .ensures) in
     leaves-refused st _ _ _ 10 (a .session) cs _ (c .refused3 .ensures) refl
-    (refused-10 st _ _ _ (and-no (discovers st (a .plan)) _ (sym (c .before .before .before .before .before .bad-dimension .ensures) ∙ c .before .before .before .before .if1 .left)) few (adds-unbred st _ (a .plan) (s .pre .0))
+    (refused-10 st _ _ _ (and-no (discovers st (a .plan)) _ (fit (c .before .before .before .before))) (few (c .before .before)) (adds-unbred st _ (a .plan) (s .pre .0))
     (l ∙ c .before .if3 .left))
 
 pub sample-discovering-spec : {M : Type 1} → statement M
@@ -75,7 +79,7 @@ sample-discovering-spec =
     bad-dimension-requires
     refused-requires
     returns
-    plan-count-requires
+    bad-history-requires
     refused-requires-2
     returns-2
     discover-requires

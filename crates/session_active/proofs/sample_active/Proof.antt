@@ -65,6 +65,7 @@ sample-from-candidate-requires c κs =
     let st = before s in
     let l = long st (s .pre .0 .room) in (
       ready-active st (s .pre .0 .ok) (s .pre .1),
+      phase-ok st Active (s .pre .0 .ok) (s .pre .1) .room,
       l .words,
       l .plans,
       l .next,

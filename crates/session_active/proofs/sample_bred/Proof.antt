@@ -50,7 +50,7 @@ sample-from-candidate-requires c κs =
     let r = ready-bred st (a .history .now) _ _
     (ready-active st (s .pre .0 .ok) (active-phase _ (breeds-active st (a .history .now) (s .pre .1)))) (k .1) in
     let same : length (b .last .1 .1 .1 .1 .0) ≡ length (a .candidates .now) = b .kept .1 .1 .1 .1 .0 in
-    (r .0, omega (arith, l .words), l .plans, l .next, λ new. omega (arith, r .1))
+    (r .0, omega (arith, r .1), omega (arith, l .words), l .plans, l .next, λ new. omega (arith, r .1))
 
 same-length : tie.Need-same-length
 same-length c = c .before .before .before .before .before .before .before .before .breed .kept .1 .1 .1 .1 .0

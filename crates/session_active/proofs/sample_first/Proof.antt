@@ -34,7 +34,7 @@ sample-from-candidate-requires c κs =
     let e = c .before .before .before .before .before .activate in
     let r = ready-first st _ _ (s .pre .0 .ok) (some-dimension st (a .plan) (s .pre .0 .ok) (s .pre .1) (s .pre .2)) (e .ensures (a .plans .now) (a .next-dims .now)) in
     let same : length (e .last .1 .0) ≡ length (a .candidates .now) = e .kept .1 .0 in
-    (r .0, omega (arith, l .words), l .plans, l .next, λ new. omega (arith, r .1))
+    (r .0, omega (arith, r .1), omega (arith, l .words), l .plans, l .next, λ new. omega (arith, r .1))
 
 same-length : tie.Need-same-length
 same-length c = c .before .before .before .before .before .before .sample-from-candidate .kept .1 .1 .0 ∙ c .before .before .before .before .before .before .before .before .before .before .before .before .activate .kept .1 .0

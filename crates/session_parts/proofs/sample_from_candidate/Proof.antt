@@ -28,24 +28,24 @@ returns c =
     let s = c .before .before .before .before .before .before .before .before .before .before .before .before in
     let a = s .args in
     let st = state (a .session) (a .candidates .now) (a .plans .now) (a .next-dims .now) in
-    c .before .before .answer .ensures (a .plans .now) ∙ ap settled (known-plan st (a .plan) _ (omega (arith, s .pre .0 .room)) (c .before .before .before .before .before .before .place-in .ensures) (c .before .before .before .before .before .if1 .taken))
+    c .before .before .answer .ensures (a .plans .now) ∙ ap settled (known-plan st (a .plan) _ (omega arith) (c .before .before .before .before .before .before .place-in .ensures) (c .before .before .before .before .before .if1 .taken))
 
 enlist-requires : tie.Need-enlist-requires
 enlist-requires c κs =
     let s = c .before .before .before .before .before .before .before .before .before .before in
     let a = s .args in
     let st = state (a .session) (a .candidates .now) (a .plans .now) (a .next-dims .now) in
-    let new = is-new st (a .plan) _ (omega (arith, s .pre .0 .room)) (c .before .before .before .before .place-in .ensures) (c .before .before .before .if1 .left) in
-    (s .pre .0, s .pre .4 new, s .pre .1, s .pre .2, s .pre .3)
+    let new = is-new st (a .plan) _ (omega arith) (c .before .before .before .before .place-in .ensures) (c .before .before .before .if1 .left) in
+    (s .pre .0, s .pre .5 new, s .pre .2, s .pre .3, s .pre .4)
 
 answer-requires-2 : tie.Need-answer-requires-2
 answer-requires-2 c κs =
     let s = c .before .before .before .before .before .before .before .before .before .before .before .before .before .before .before .before .before .before .before in
     let a = s .args in
     let st = state (a .session) (a .candidates .now) (a .plans .now) (a .next-dims .now) in
-    let new = is-new st (a .plan) _ (omega (arith, s .pre .0 .room)) (c .before .before .before .before .before .before .before .before .before .before .before .before .before .place-in .ensures) (c .before .before .before .before .before .before .before .before .before .before .before .before .if1 .left) in
+    let new = is-new st (a .plan) _ (omega arith) (c .before .before .before .before .before .before .before .before .before .before .before .before .before .place-in .ensures) (c .before .before .before .before .before .before .before .before .before .before .before .before .if1 .left) in
     let e = c .before .before .before .before .before .before .before .before .enlist in
-    (enlisted-ready st (a .plan) _ _ _ _ (s .pre .0) (s .pre .4 new) (e .ensures), s .pre .4 new, omega arith, omega arith)
+    (enlisted-ready st (a .plan) _ _ _ _ (s .pre .0) (e .ensures), s .pre .5 new, omega arith, omega arith)
 
 same-length-4 : tie.Need-same-length-4
 same-length-4 c = search needs
@@ -64,7 +64,7 @@ returns-2 c =
     let e = c .before .before .before .before .before .before .before .before .before .before .before .enlist in
     c .before .before .answer2 .ensures _
     ∙ ap (λ (x : State). settled (answer x (a .session .progress .«n_plans»))) (e .ensures)
-    ∙ ap settled (new-plan st (a .plan) _ (omega (arith, s .pre .0 .room)) (c .before .before .before .before .before .before .before .before .before .before .before .before .before .before .before .before .place-in .ensures) (c .before .before .before .before .before .before .before .before .before .before .before .before .before .before .before .if1 .left))
+    ∙ ap settled (new-plan st (a .plan) _ (omega arith) (c .before .before .before .before .before .before .before .before .before .before .before .before .before .before .before .before .place-in .ensures) (c .before .before .before .before .before .before .before .before .before .before .before .before .before .before .before .if1 .left))
 
 pub sample-from-candidate-spec : {M : Type 1} → statement M
 sample-from-candidate-spec =
