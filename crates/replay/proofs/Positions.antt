@@ -2,13 +2,12 @@
 use Prim.Native.Nat.{ℕ, _≤_, _<_}
 use native.Mathlib.Omega.{arith}
 use Rattle.replay.specs.declared.Found.{Found}
-use Rattle.replay.specs.declared.Found.the-variants.{Number, EndOfLine, EndOfInput, Broken}
+use Rattle.replay.specs.declared.Found.the-variants.{Number, EndOfLine, Broken}
 use Rattle.replay.specs.Post.{Within, Ahead}
 
 pub wider : (a b high : ℕ) (f : Found) → a ≤ b → Within b high f → Within a high f
 wider a b high (Number v next) h w = (omega arith, w .1)
 wider a b high (EndOfLine next) h w = (omega arith, w .1)
-wider a b high EndOfInput h w = tt
 wider a b high Broken h w = tt
 
 pub earlier : (a b high next : ℕ) → a ≤ b → b < high → Ahead b high next → Ahead a high next

@@ -26,14 +26,19 @@ abbrev pub Compares : ℕ → List ℕ → ℕ → List ℕ → Verdict → Type
 Compares n given k ours Agrees = Alike n given k ours
 Compares n given k ours Differs = Alike n given k ours → ⊥
 Compares n given k ours PassedOver = k ≡ 0
-Compares n given k ours Broken = Unit
+Compares n given k ours Broken = ⊥
 
-abbrev up : ℕ → ℕ
+-- two lines that are whole are compared; where one is not, the case is broken
+abbrev pub Judges : Bool → ℕ → List ℕ → ℕ → List ℕ → Verdict → Type 0
+Judges true n given k ours v = Compares n given k ours v
+Judges false n given k ours v = v ≡ Broken
+
+abbrev pub up : ℕ → ℕ
 up n = (n + 1) % 2 ^ 64
 
 -- each verdict counts once, under its name
-abbrev pub Counts : Verdict → Tally → Tally → Type 0
-Counts Agrees t r = (r .agree ≡ up (t .agree)) × (r .differ ≡ t .differ)
-Counts Differs t r = (r .agree ≡ t .agree) × (r .differ ≡ up (t .differ))
-Counts PassedOver t r = (r .agree ≡ t .agree) × (r .differ ≡ t .differ)
-Counts Broken t r = (r .agree ≡ t .agree) × (r .differ ≡ t .differ)
+abbrev pub tallied : Verdict → Tally → Tally
+tallied Agrees t = record { agree = up (t .agree); differ = t .differ; «passed_over» = t .«passed_over»; broken = t .broken }
+tallied Differs t = record { agree = t .agree; differ = up (t .differ); «passed_over» = t .«passed_over»; broken = t .broken }
+tallied PassedOver t = record { agree = t .agree; differ = t .differ; «passed_over» = up (t .«passed_over»); broken = t .broken }
+tallied Broken t = record { agree = t .agree; differ = t .differ; «passed_over» = t .«passed_over»; broken = up (t .broken) }

@@ -1,20 +1,20 @@
 // The oracle's lines (oracle/README.md): numbers below 2^64 in decimal, parted by single spaces, an input line and its answer line by turns.
 // And the verdict on a case, with the tally of verdicts.
 ghost use mathlib.Core.Path.{_≡_};
-ghost use Prim.Native.Nat.{_+_, _%_, _^_, _<_, _≤_};
+ghost use mathlib.Core.Bool.{_&&_};
+ghost use Prim.Native.Nat.{_+_, _<_, _≤_};
 ghost use lib.ListN.{length};
 ghost use Rattle.replay.specs.Post.{Within, Ahead};
-ghost use Rattle.replay.specs.Verdicts.{SameFirst, Compares, Counts};
+ghost use Rattle.replay.specs.Verdicts.{SameFirst, Compares, Judges, up, tallied};
 
 // A line's numbers; the longest of the stored lines has 5,135.
 pub type Words = [u64; 8192];
 
-// What stands at a position: a number, with the position after it and after one space; the end of the line, with the start of the next one; the
-// end of the input; or something else.
+// What stands at a position: a number, with the position after it and after one space; the end of the line, with the start of the next one; or
+// something else.
 enum Found {
     Number(u64, usize),
     EndOfLine(usize),
-    EndOfInput,
     Broken,
 }
 
@@ -83,11 +83,9 @@ fn digits(bytes: &[u8], at: usize, first: u64) -> Found
 
 // What stands at a position.
 fn next_number(bytes: &[u8], at: usize) -> Found
+    requires { ⌜ at < length (now bytes) ⌝ }
     ensures { λ r. ⌜ Within (at + 1) (length (now (bytes .entry))) r ⌝ }
 {
-    if bytes.len() <= at {
-        return Found::EndOfInput;
-    }
     let b = bytes[at];
     if b == b'\n' {
         return Found::EndOfLine(at + 1);
@@ -159,7 +157,6 @@ pub fn read_line(bytes: &[u8], at: usize, line: &mut Words) -> Line
                     next,
                 };
             }
-            Found::EndOfInput => return broken(bytes, i),
             Found::Broken => return broken(bytes, i),
         }
     }
@@ -252,7 +249,7 @@ fn compared(given: &Words, n: usize, ours: &Words, k: usize) -> Verdict
 // The verdict on an input line, its answer line and the k numbers worked out.
 pub fn judged(input: Line, answer: Line, given: &Words, ours: &Words, k: usize) -> Verdict
     requires { ⌜ answer .count ≤ 8192 ⌝ }
-    ensures { λ r. ⌜ Compares (answer .count) (now (given .entry)) k (now (ours .entry)) r ⌝ }
+    ensures { λ r. ⌜ Judges (input .whole && answer .whole) (answer .count) (now (given .entry)) k (now (ours .entry)) r ⌝ }
 {
     if input.whole {
         if answer.whole {
@@ -270,14 +267,14 @@ pub struct Tally {
 }
 
 fn one_more(n: u64) -> u64
-    ensures { λ r. ⌜ r ≡ (n + 1) % 2 ^ 64 ⌝ }
+    ensures { λ r. ⌜ r ≡ up n ⌝ }
 {
     std::num::wrapping_add_u64(n, 1)
 }
 
 // The tally with one verdict more.
 pub fn counted(tally: Tally, verdict: Verdict) -> Tally
-    ensures { λ r. ⌜ Counts verdict tally r ⌝ }
+    ensures { λ r. ⌜ r ≡ tallied verdict tally ⌝ }
 {
     let mut t = tally;
     match verdict {

@@ -1,5 +1,4 @@
 -- `counted`. Assumes nothing.
-use mathlib.Core.Path.{refl}
 use borrow.Author.Needs.{needs}
 use Rattle.replay.proofs.counted.Statement.{statement}
 use Rattle.replay.proofs.counted.Tie as tie
@@ -29,16 +28,16 @@ one-more-requires-4 : tie.Need-one-more-requires-4
 one-more-requires-4 c κs = search needs
 
 returns : tie.Need-returns
-returns c = rw (c .before .enum-told .given .1) (c .one-more .ensures, refl)
+returns c = rw (c .before .enum-told .given .1, c .one-more .ensures)
 
 returns-2 : tie.Need-returns-2
-returns-2 c = rw (c .before .enum-told2 .given .1) (refl, c .one-more2 .ensures)
+returns-2 c = rw (c .before .enum-told2 .given .1, c .one-more2 .ensures)
 
 returns-3 : tie.Need-returns-3
-returns-3 c = rw (c .before .enum-told3 .given .1) (refl, refl)
+returns-3 c = rw (c .before .enum-told3 .given .1, c .one-more3 .ensures)
 
 returns-4 : tie.Need-returns-4
-returns-4 c = rw (c .before .enum-told4 .given .1) (refl, refl)
+returns-4 c = rw (c .before .enum-told4 .given .1, c .one-more4 .ensures)
 
 pub counted-spec : {M : Type 1} → statement M
 counted-spec =

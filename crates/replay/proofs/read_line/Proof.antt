@@ -58,17 +58,8 @@ broken-requires-2 c κs = search needs
 returns-3 : tie.Need-returns-3 Inv-loop μ-loop
 returns-3 c = let t = c .before .before .before .before .before in (c .broken2 .ensures .0, earlier (t .before .before .args .at) (t .loop .i) _ _ (omega arith) (omega arith) (c .broken2 .ensures .1))
 
-enum-told-2 : tie.Need-enum-told-2 Inv-loop μ-loop
-enum-told-2 c = search needs
-
-broken-requires-3 : tie.Need-broken-requires-3 Inv-loop μ-loop
-broken-requires-3 c κs = search needs
-
 returns-4 : tie.Need-returns-4 Inv-loop μ-loop
-returns-4 c = let t = c .before .before .before .before .before in (c .broken3 .ensures .0, earlier (t .before .before .args .at) (t .loop .i) _ _ (omega arith) (omega arith) (c .broken3 .ensures .1))
-
-returns-5 : tie.Need-returns-5 Inv-loop μ-loop
-returns-5 c = search needs
+returns-4 c = search needs
 
 pub read-line-spec : {M : Type 1} → statement M
 read-line-spec =
@@ -91,7 +82,4 @@ read-line-spec =
     enum-told
     broken-requires-2
     returns-3
-    enum-told-2
-    broken-requires-3
-    returns-4
-    returns-5)
+    returns-4)
