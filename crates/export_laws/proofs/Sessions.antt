@@ -1,6 +1,6 @@
 -- What opening and a session call hand out in words. Assumes nothing.
 use Prim.Native.Nat.{ℕ, _≤_, _<_}
-use mathlib.Core.Path.{_≡_, refl, sym, ap, ap₂, subst, _∙_}
+use mathlib.Core.Path.{_≡_, sym, ap, ap₂, subst, _∙_}
 use mathlib.Core.Bool.{Bool, true, false, cond}
 use mathlib.Core.List.{List}
 use mathlib.Core.Option.{Option, none, some}
@@ -19,12 +19,11 @@ use Rattle.model.specs.declared.Sampling.{Sampling}
 use Rattle.model.specs.declared.Sampling.the-variants as sampling
 use Rattle.model.specs.declared.Session.{Session}
 use Rattle.model.specs.Lists.{over}
-use Rattle.model.specs.Session.{State, Answered, state, given, opened, accepted}
+use Rattle.model.specs.Session.{State, state, given, accepted}
 use Rattle.model.specs.Setting.{kindOf, toWord}
 use Rattle.model.specs.Property.{SessionOk}
-use Rattle.model.specs.Refusal.{firstOf, badDirections, badSessionSize, badSessionDivisions, badOperators, openRefusal, sampleRefusal}
-use Rattle.model.specs.Calls.{openBy, openOf, Opens, SampleExit, sampleBy, sampleOf, Samples}
-use Rattle.session_laws.proofs.Opened.{opening-tells}
+use Rattle.model.specs.Refusal.{firstOf, badDirections, badSessionSize, badSessionDivisions, badOperators, openRefusal}
+use Rattle.model.specs.Calls.{openingRefusedBy, openOf, Opens, samplingRefusedBy, SampleExit, sampleBy, sampleOf, Samples}
 use Rattle.session_words.specs.Coding.{sessionWords, sessionOf, dimensionAt}
 use Rattle.export_laws.specs.Coded.{written, openedBy, OpensWords, sampledWords, sampledBy, sampledExit, sampleWords, SamplesWords}
 
@@ -53,13 +52,9 @@ module _ (marks : List ℕ) (seed : ℕ) (s t u v : OptionUsize) (p c m : Float)
   coded : (o : Opening) → r .outcome ≡ o → openedBy o (r .session) entry ≡ openedBy (answer .outcome) (answer .session) entry
   coded o e = sym (ap (λ x. openedBy x (r .session) entry) e) ∙ ap (λ (x : Opened). openedBy (x .outcome) (x .session) entry) (promise .whole)
 
-  refusal : (o : Opening) → r .outcome ≡ o → openBy (openRefusal marks (given t) (given v) p c m) (opened marks seed (given t) (given v) p c m) .outcome ≡ o
-  unfolding openOf
-  refusal o e = sym (ap (λ (x : Opened). x .outcome) (promise .whole)) ∙ e
-
   pub open-refused : (n k : ℕ) → r .outcome ≡ opening.Refused n → k ≡ n → OpensWords marks seed t v p c m entry k entry
   open-refused n k e h =
-      let never : k ≡ 0 → ⊥ = λ z. open-above marks (given t) (given v) p c m (opening-tells _ _ (opening.Refused 0) (refusal (opening.Refused 0) (e ∙ ap opening.Refused (sym h ∙ z)))) in
+      let never : k ≡ 0 → ⊥ = λ z. open-above marks (given t) (given v) p c m (sym (promise .refused) ∙ ap openingRefusedBy (e ∙ ap opening.Refused (sym h ∙ z))) in
       record {
         whole = ap (λ x. written x entry) h ∙ coded (opening.Refused n) e;
         holds = λ z. absurd (never z);
@@ -81,15 +76,10 @@ module _ (marks : List ℕ) (seed : ℕ) (s t u v : OptionUsize) (p c m : Float)
         whole = ap (written 0) x
             ∙ sym (ap (λ b. cond b (written 10 entry) (written 0 (over (sessionWords (r .session)) entry))) (le-ltb (length entry) 222 h)) ∙ coded opening.Ready e;
         holds = λ z. b ∙ ap (λ (x : Opened). x .session) (promise .whole);
-        gives = λ z cs ps ns. subst (λ y. SessionOk (state y cs ps ns)) (sym b) (promise .gives (opening-tells _ _ opening.Ready (refusal opening.Ready e)) cs ps ns);
+        gives = λ z cs ps ns. subst (λ y. SessionOk (state y cs ps ns)) (sym b) (promise .gives (sym (promise .refused) ∙ ap openingRefusedBy e) cs ps ns);
       }
 
 -- ---- a session call
-
--- a refusal leaves the state
-refused-keeps : (o : Option ℕ) (st : State) (a : Answered) (n : ℕ) → sampleBy o st a .answer ≡ sampling.Refused n → sampleBy o st a .after ≡ st
-refused-keeps none st a n e = absurd (let z : _≡_ {A = ℕ} 0 1 = cc in omega arith)
-refused-keeps (some m) st a n e = refl
 
 module _ (ws ds : List ℕ) (plan : ℕ) (history cs ps ns : List ℕ) (k v : ℕ) where
   abbrev before : State
@@ -122,8 +112,7 @@ module _ (ws ds : List ℕ) (plan : ℕ) (history cs ps ns : List ℕ) (k v : �
     unfolding sampleOf
     same n e =
         ap (λ (x : SampleExit). x .after) (promise' .whole)
-        ∙ refused-keeps (sampleRefusal before (dimensionAt ds 0) plan history) before (accepted before (dimensionAt ds 0) plan history) n
-        (sym (ap (λ (x : SampleExit). x .answer) (promise' .whole)) ∙ e)
+        ∙ ap (λ o. sampleBy o before (accepted before (dimensionAt ds 0) plan history) .after) (sym (promise' .refused) ∙ ap samplingRefusedBy e)
 
     -- the promise, of words that stand for the session left
     kept-promise : (c kind value : ℕ) (exit : List ℕ) → sessionOf exit ≡ r .session

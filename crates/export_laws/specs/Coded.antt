@@ -24,7 +24,7 @@ use Rattle.model.specs.Calls.{Lent, roomOf, SelectExit, StepExit, ChooseExit, S
 use Rattle.model.specs.Demand3.{Demand3}
 use Rattle.model.specs.Kept as keeping
 use Rattle.model.specs.Lists.{over}
-use Rattle.model.specs.PoolFile.{PoolFile, parse, fileRequest}
+use Rattle.model.specs.PoolFile.{PoolFile, parse, fileRequest, listingText}
 use Rattle.model.specs.Refusal.{selectRefusal, stepRefusal, sampleRefusal, chooseRefusal}
 use Rattle.model.specs.Setting.{Operators, WordsWithin, generation, kindOf, toWord, operators}
 use Rattle.model.specs.Session.{State, state, breeds, requestOf, operatorsOf}
@@ -36,7 +36,7 @@ rngOf n = record { s = n }
 
 -- ---- selection and generation step
 
--- 0 where a list is kept; else the refusal's number, which is never 0
+-- 0 where a list is kept; else the refusal's number
 abbrev pub codeOf : Outcome → ℕ
 codeOf (outcome.Kept n) = 0
 codeOf (outcome.Refused n) = n
@@ -185,8 +185,10 @@ listedAs code length e = record { code = code; length = length; out = e .out }
 abbrev pub listed : ℕ → ChooseExit → Listed
 listed old e = listedAs (chosenCode (e .answer)) (chosenLength (e .answer) old) e
 
--- THE PROMISE of `locustdomino_choose`; `old` is the number that `length` had
+-- THE PROMISE of `locustdomino_choose`; `old` is the number that `length` had. The text that it hands out is the first `length` bytes of `out`
 pub record ListsWords (bytes entry : List ℕ) (old : ℕ) (exit : Listed) : Type 0 where
   pub whole : exit ≡ listed old (chooseOf bytes entry)
+  pub listing : chooseRefusal bytes (length entry) ≡ none → (f : PoolFile) → parse bytes ≡ some f
+      → take (exit .length) (exit .out) ≡ listingText (f .count) (keeping.selected (fileRequest f))
   pub demand3 : chooseRefusal bytes (length entry) ≡ none → (f : PoolFile) → parse bytes ≡ some f → f .size ≤ f .count
       → Demand3 (fileRequest f) (keeping.selected (fileRequest f) .kept)
