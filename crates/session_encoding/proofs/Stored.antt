@@ -28,22 +28,13 @@ use Rattle.model.specs.Lists.{one, listBelow, joinBelow, over}
 use Rattle.model.specs.Real.{real, bits}
 use Rattle.model.specs.Session.{dimensionOf}
 use Rattle.model.specs.Setting.{noDimension}
-use Rattle.settings.proofs.InBounds.{Held}
+use Rattle.settings.proofs.InBounds.{Held, HeldStepF64}
 use Rattle.session_words.specs.Coding.{marked, hasStepF64, stepWordF64, hasStepI64, stepWordI64, dimensionWords, stepF64, stepI64, dimensionAt, infoAt, dimensionsAt, phaseWord, phaseOf, hasFirst, firstWord, firstOf, configWords, stateWords, idealWords, sessionWords, marksAt, idealAt, configAt, sessionOf}
-use Rattle.session_words.proofs.Marks.{float-is, int-is, dimension-same, config-same, session-same}
+use Rattle.session_words.proofs.Parts.{float-is, int-is, dimension-same, config-same, session-same}
 use Rattle.session_encoding.proofs.Laid.{dimension-length}
 use Rattle.list_laws.proofs.Rows.{joinBelow-front}
 
 -- ---- what is asked of a value that is stored: its reals are doubles, its directions bytes, and its arrays of their lengths
-
-abbrev pub DoubleStep : OptionF64 → Type 0
-DoubleStep optF64.None = Unit
-DoubleStep (optF64.Some x) = T (fits binary64 x)
-
-abbrev pub DoubleSteps : Distribution → Type 0
-DoubleSteps (dist.Float d) = DoubleStep (d .step)
-DoubleSteps (dist.Int d) = Unit
-DoubleSteps (dist.Categorical d) = Unit
 
 pub record ConfigStored (c : Config) : Type 0 where
   pub marks : length (c .directions) ≡ 8
@@ -56,7 +47,6 @@ pub record Stored (s : Session) : Type 0 where
   pub config : ConfigStored (s .config)
   pub dimensions : length (s .dimensions) ≡ 32
   pub held : (d : ℕ) → d < 32 → Held (dimensionOf s d)
-  pub steps : (d : ℕ) → d < 32 → DoubleSteps (dimensionOf s d)
   pub ideal : length (s .«ideal_point») ≡ 8
   pub reals : (i : ℕ) → i < 8 → T (fits binary64 (getD (s .«ideal_point») i nan))
 
@@ -66,7 +56,7 @@ marked-back : (b : Bool) → b ≡ marked (one b)
 marked-back true = refl
 marked-back false = refl
 
-stepF64-back : (o : OptionF64) → DoubleStep o → o ≡ stepF64 (hasStepF64 o) (stepWordF64 o)
+stepF64-back : (o : OptionF64) → HeldStepF64 o → o ≡ stepF64 (hasStepF64 o) (stepWordF64 o)
 stepF64-back optF64.None h = refl
 stepF64-back (optF64.Some x) h = ap optF64.Some (sym (ofBits-toBits binary64 x h))
 
@@ -74,14 +64,14 @@ stepI64-back : (o : OptionI64) → o ≡ stepI64 (hasStepI64 o) (stepWordI64 o)
 stepI64-back optI64.None = refl
 stepI64-back (optI64.Some n) = ap optI64.Some (sym (int-of-word-of n))
 
-dimension-back : (x : Distribution) → Held x → DoubleSteps x → x ≡ dimensionAt (dimensionWords x) 0
-dimension-back (dist.Float d) h t =
+dimension-back : (x : Distribution) → Held x → x ≡ dimensionAt (dimensionWords x) 0
+dimension-back (dist.Float d) h =
     float-is 0 _ _ (one (d .«log_scale»)) (hasStepF64 (d .step)) (stepWordF64 (d .step)) (d .low) (d .high) (d .«log_scale») (d .step) refl (sym (ofBits-toBits binary64 (d .low) (h .0))) (sym (ofBits-toBits binary64 (d .high) (h .1)))
-    (marked-back (d .«log_scale»)) (stepF64-back (d .step) t)
-dimension-back (dist.Int d) h t =
+    (marked-back (d .«log_scale»)) (stepF64-back (d .step) (h .2))
+dimension-back (dist.Int d) h =
     int-is 1 _ _ (one (d .«log_scale»)) (hasStepI64 (d .step)) (stepWordI64 (d .step)) (d .low) (d .high) (d .«log_scale») (d .step) refl (sym (int-of-word-of (d .low))) (sym (int-of-word-of (d .high))) (marked-back (d .«log_scale»))
     (stepI64-back (d .step))
-dimension-back (dist.Categorical d) h t = refl
+dimension-back (dist.Categorical d) h = refl
 
 -- words that agree in six places stand for one dimension
 same-six : (v w : List ℕ) (at : ℕ) → ((j : ℕ) → j < 6 → getD v (at + j) 0 ≡ getD w j 0) → dimensionAt v at ≡ dimensionAt w 0
@@ -133,7 +123,7 @@ module _ (s : Session) (old : List ℕ) (ok : Stored s) where
   info-back : (d : ℕ) → d < 32 → infoAt words 30 d ≡ getD (s .dimensions) d noDimension
   info-back d h =
       ap (λ x. record { distribution = x })
-      (same-six words (block d) (30 + d * 6) (λ j i. word-of d j h i) ∙ sym (dimension-back (dimensionOf s d) (ok .held d h) (ok .steps d h)))
+      (same-six words (block d) (30 + d * 6) (λ j i. word-of d j h i) ∙ sym (dimension-back (dimensionOf s d) (ok .held d h)))
 
   dimensions-back : dimensionsAt words 30 ≡ s .dimensions
   unfolding dimensionsAt

@@ -18,6 +18,8 @@ use Rattle.model.specs.declared.Distribution.the-variants as dist
 use Rattle.model.specs.declared.FloatDistribution.{FloatDistribution}
 use Rattle.model.specs.declared.IntDistribution.{IntDistribution}
 use Rattle.model.specs.declared.CategoricalDistribution.{CategoricalDistribution}
+use Rattle.model.specs.declared.OptionF64.{OptionF64}
+use Rattle.model.specs.declared.OptionF64.the-variants as optF64
 use Rattle.model.specs.declared.OptionI64.{OptionI64}
 use Rattle.model.specs.declared.OptionI64.the-variants as optI64
 use Rattle.model.specs.Draw.{drawWord}
@@ -27,13 +29,17 @@ use Rattle.settings.proofs.Valid.{FloatBounds, float-bounds, IntBounds,
 use Rattle.settings.proofs.Stepped.{Stepping, rise, rise-le, stepped-is}
 
 -- the numbers of a dimension are such as the machine holds
-abbrev pub HeldStep : OptionI64 → Type 0
-HeldStep optI64.None = Unit
-HeldStep (optI64.Some n) = SFits w64 n
+abbrev pub HeldStepF64 : OptionF64 → Type 0
+HeldStepF64 optF64.None = Unit
+HeldStepF64 (optF64.Some x) = T (fits binary64 x)
+
+abbrev pub HeldStepI64 : OptionI64 → Type 0
+HeldStepI64 optI64.None = Unit
+HeldStepI64 (optI64.Some n) = SFits w64 n
 
 abbrev pub Held : Distribution → Type 0
-Held (dist.Float d) = T (fits binary64 (d .low)) × T (fits binary64 (d .high))
-Held (dist.Int d) = SFits w64 (d .low) × SFits w64 (d .high) × HeldStep (d .step)
+Held (dist.Float d) = T (fits binary64 (d .low)) × T (fits binary64 (d .high)) × HeldStepF64 (d .step)
+Held (dist.Int d) = SFits w64 (d .low) × SFits w64 (d .high) × HeldStepI64 (d .step)
 Held (dist.Categorical d) = Unit
 
 pub between : (low high n : ℤ) → low ≤ℤ n → n ≤ℤ high → (leZ low n && leZ n high) ≡ true
@@ -43,7 +49,7 @@ float-in : (d : FloatDistribution) (s : ℕ) → Held (dist.Float d) → FloatBo
 unfolding inBounds sampleRandom ofBits
 float-in d s h b = T-true _ (f64Range-within (d .low) (d .high) s (h .0) (h .1) (b .ordered) (b .low-end) (b .high-end))
 
-whole-in : (low high : ℤ) (step : OptionI64) (s : ℕ) → SFits w64 low → SFits w64 high → HeldStep step → Spanned low high → stepAbove0 step ≡ true
+whole-in : (low high : ℤ) (step : OptionI64) (s : ℕ) → SFits w64 low → SFits w64 high → HeldStepI64 step → Spanned low high → stepAbove0 step ≡ true
     → (leZ low (sampleInt low high step s .value) && leZ (sampleInt low high step s .value) high) ≡ true
 unfolding sampleInt
 whole-in low high optI64.None s fl fh fs b p = let w = drawI64-within low high s fl fh b in between low high _ (w .0) (w .1)

@@ -13,10 +13,13 @@ use denote.Array.{each, Array}
 use denote.Struct.Declared as struct
 use denote.Enum.Declared as enum
 use Rattle.list_laws.proofs.Bools.{true-T}
-use Rattle.model.proofs.OptionI64 as step
+use Rattle.model.proofs.OptionF64 as step-f64
+use Rattle.model.proofs.OptionI64 as step-i64
 use Rattle.model.proofs.Distribution as distribution
 use Rattle.model.proofs.DimensionInfo as info
 use Rattle.model.proofs.Session as session
+use Rattle.model.specs.declared.OptionF64.{OptionF64}
+use Rattle.model.specs.declared.OptionF64.the-variants as optF64
 use Rattle.model.specs.declared.OptionI64.{OptionI64}
 use Rattle.model.specs.declared.OptionI64.the-variants as optI64
 use Rattle.model.specs.declared.Distribution.{Distribution}
@@ -25,21 +28,25 @@ use Rattle.model.specs.declared.DimensionInfo.{DimensionInfo}
 use Rattle.model.specs.declared.Session.{Session}
 use Rattle.model.specs.Session.{dimensionOf}
 use Rattle.model.specs.Setting.{noDimension, dimensionsOf}
-use Rattle.settings.proofs.InBounds.{Held, HeldStep}
+use Rattle.settings.proofs.InBounds.{Held, HeldStepI64, HeldStepF64}
 
 -- ---- a dimension
 
-step-held : (o : OptionI64) (vs : List Val) → Is (enum.row step.the-type) o vs → HeldStep o
-step-held optI64.None vs p = tt
-step-held (optI64.Some n) vs p = record { sfits = p .1 .1 .1 .1 .0 .1 }
+step-f64-held : (o : OptionF64) (vs : List Val) → Is (enum.row step-f64.the-type) o vs → HeldStepF64 o
+step-f64-held optF64.None vs p = tt
+step-f64-held (optF64.Some x) vs p = true-T _ (p .1 .1 .1 .1 .0 .1)
+
+step-i64-held : (o : OptionI64) (vs : List Val) → Is (enum.row step-i64.the-type) o vs → HeldStepI64 o
+step-i64-held optI64.None vs p = tt
+step-i64-held (optI64.Some n) vs p = record { sfits = p .1 .1 .1 .1 .0 .1 }
 
 pub dimension-held : (d : Distribution) (vs : List Val) → Is (enum.row distribution.the-type) d vs → Held d
 dimension-held (dist.Float d) vs p =
     let q = p .1 .1 .1 .1 .0 .1 .1 in
-    (true-T _ (q .0 .1), true-T _ (q .1 .0 .1))
+    (true-T _ (q .0 .1), true-T _ (q .1 .0 .1), step-f64-held (d .step) _ (q .1 .1 .1 .0))
 dimension-held (dist.Int d) vs p =
     let q = p .1 .1 .1 .1 .0 .1 .1 in
-    (record { sfits = q .0 .1 }, record { sfits = q .1 .0 .1 }, step-held (d .step) _ (q .1 .1 .1 .0))
+    (record { sfits = q .0 .1 }, record { sfits = q .1 .0 .1 }, step-i64-held (d .step) _ (q .1 .1 .1 .0))
 dimension-held (dist.Categorical d) vs p = tt
 
 info-held : (x : DimensionInfo) (vs : List Val) → Is (struct.row info.the-type) x vs → Held (x .distribution)
