@@ -4,7 +4,7 @@ use mathlib.Core.Path.{_≡_, refl, sym, ap, ap₂, subst, _∙_}
 use mathlib.Core.List.{List}
 use mathlib.Core.Option.{none}
 use native.Mathlib.Omega.{arith}
-use lib.ListN.{length, take}
+use lib.ListN.{take}
 use Rattle.model.specs.declared.Chosen.{Chosen}
 use Rattle.model.specs.declared.Chosen.the-variants as chosen
 use Rattle.model.specs.declared.Outcome.{Outcome}

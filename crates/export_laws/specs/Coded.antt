@@ -24,7 +24,7 @@ use Rattle.model.specs.Calls.{Lent, roomOf, SelectExit, StepExit, ChooseExit, S
 use Rattle.model.specs.Demand3.{Demand3}
 use Rattle.model.specs.Kept as keeping
 use Rattle.model.specs.Lists.{over}
-use Rattle.model.specs.PoolFile.{PoolFile, parse, fileRequest, listingText}
+use Rattle.model.specs.PoolFile.{PoolFile, parse, fileRequest, fileText}
 use Rattle.model.specs.Refusal.{selectRefusal, stepRefusal, sampleRefusal, chooseRefusal}
 use Rattle.model.specs.Setting.{Operators, WordsWithin, generation, kindOf, toWord, operators}
 use Rattle.model.specs.Session.{State, state, breeds, requestOf, operatorsOf}
@@ -189,6 +189,6 @@ listed old e = listedAs (chosenCode (e .answer)) (chosenLength (e .answer) old) 
 pub record ListsWords (bytes entry : List ℕ) (old : ℕ) (exit : Listed) : Type 0 where
   pub whole : exit ≡ listed old (chooseOf bytes entry)
   pub listing : chooseRefusal bytes (length entry) ≡ none → (f : PoolFile) → parse bytes ≡ some f
-      → take (exit .length) (exit .out) ≡ listingText (f .count) (keeping.selected (fileRequest f))
+      → take (exit .length) (exit .out) ≡ fileText f
   pub demand3 : chooseRefusal bytes (length entry) ≡ none → (f : PoolFile) → parse bytes ≡ some f → f .size ≤ f .count
       → Demand3 (fileRequest f) (keeping.selected (fileRequest f) .kept)

@@ -9,7 +9,7 @@ use Rattle.model.specs.Lists.{has}
 use Rattle.model.specs.Front.{front, frontOf, frontList}
 use Rattle.model.specs.Association.{Request, lineCount, dominance, lineOf}
 use Rattle.model.specs.Kept.{selected, selectedSplit, selectedWhole, noLine}
-use Rattle.model.specs.PoolFile.{listingText}
+use Rattle.model.specs.PoolFile.{requestText}
 use Rattle.model.specs.Refusal.{maxSize}
 use Rattle.model.specs.Calls.{maxText}
 use Rattle.list_laws.proofs.First.{firstBelow-le}
@@ -38,5 +38,5 @@ module _ (r : Request) (size : r .size ≤ maxSize) (count : r .count ≤ maxSiz
   pub selected-small : Small (r .count) (selected r)
   selected-small = record { plans = count; kept = omega (arith, kept-length r); fronts = fronts-small; lines = lines-small }
 
-  pub selected-short : length (listingText (r .count) (selected r)) ≤ maxText
+  pub selected-short : length (requestText r) ≤ maxText
   selected-short = listing-short (r .count) (selected r) selected-small

@@ -1,6 +1,5 @@
 // `sample`, in numbers and lists alone: what its C name does.
 use model::Sampling;
-ghost use mathlib.Core.Path.{_≡_};
 ghost use Prim.Native.Nat.{_≤_};
 ghost use lib.ListN.{length};
 ghost use Rattle.model.specs.Session.{state};
