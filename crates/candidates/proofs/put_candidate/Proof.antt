@@ -2,7 +2,6 @@
 use Prim.Native.Nat.{_-_, _≤_}
 use mathlib.Core.Path.{_≡_, refl, sym, ap, _∙_}
 use native.Mathlib.Omega.{arith}
-use borrow.Author.Needs.{needs}
 use lib.ListN.{length, length-set}
 use lib.Seq.{sets}
 use Rattle.model.specs.Lists.{listBelow}
@@ -29,7 +28,7 @@ array-copy-out-slot : tie.Need-array-copy-out-slot Inv-loop μ-loop
 array-copy-out-slot c = omega arith
 
 to-word-requires : tie.Need-to-word-requires Inv-loop μ-loop
-to-word-requires c κs = search needs
+to-word-requires c κs = tt
 
 add-out : tie.Need-add-out Inv-loop μ-loop
 add-out c = omega arith

@@ -13,7 +13,7 @@ distance-squared-requires : tie.Need-distance-squared-requires
 distance-squared-requires c κs = search needs
 
 sqrt-requires : tie.Need-sqrt-requires
-sqrt-requires c κs = search needs
+sqrt-requires c κs = tt
 
 returns : tie.Need-returns
 returns c = c .sqrt .ensures ∙ ap sqrtOf (c .before .distance-squared .ensures) ∙ sym (distance-root _ _ _)

@@ -7,13 +7,13 @@ use Rattle.divisions.proofs.divisions_of.Statement.{statement}
 use Rattle.divisions.proofs.divisions_of.Tie as tie
 
 or-else-requires : tie.Need-or-else-requires
-or-else-requires c κs = search needs
+or-else-requires c κs = tt
 
 auto-divisions-requires : tie.Need-auto-divisions-requires
 auto-divisions-requires c κs = search needs
 
 or-else-requires-2 : tie.Need-or-else-requires-2
-or-else-requires-2 c κs = search needs
+or-else-requires-2 c κs = tt
 
 returns : tie.Need-returns
 unfolding divisionsOf

@@ -17,7 +17,7 @@ point-count-requires c κs =
     omega (arith, c .divisions-of .ensures, session-allowed (s .args .m) _ _ (s .pre .1))
 
 or-else-requires : tie.Need-or-else-requires
-or-else-requires c κs = search needs
+or-else-requires c κs = tt
 
 -- the size given, or else the point count
 sized : (c : tie.After-or-else) →

@@ -42,7 +42,7 @@ shared-slice-read-v : tie.Need-shared-slice-read-v
 shared-slice-read-v c = search needs
 
 winner-of-requires : tie.Need-winner-of-requires
-winner-of-requires c κs = search needs
+winner-of-requires c κs = tt
 
 returns-4 : tie.Need-returns-4
 unfolding flatBeats

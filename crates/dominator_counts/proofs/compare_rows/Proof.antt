@@ -3,7 +3,6 @@ use Prim.Native.Nat.{_-_, _≤_}
 use mathlib.Core.Path.{_≡_, sym, _∙_}
 use mathlib.Core.Logic.{⊎-elim}
 use native.Mathlib.Omega.{arith}
-use borrow.Author.Needs.{needs}
 use lib.Ieee.{lt}
 use Rattle.model.specs.Lists.{anyBelow}
 use Rattle.model.specs.Row.{dominates}
@@ -62,7 +61,7 @@ loop-again c =
     )
 
 winner-of-requires : tie.Need-winner-of-requires Inv-loop μ-loop
-winner-of-requires c κs = search needs
+winner-of-requires c κs = tt
 
 returns : tie.Need-returns Inv-loop μ-loop
 unfolding dominates

@@ -23,7 +23,7 @@ held : (s : tie.Start) → badDimensions (dimensionsOf (s .args .dimensions)) (s
 held s = dimensions-held (s .args .dimensions) _ (s .good .1 .1 .1 .1 .1 .0) (s .args .n-dims)
 
 refusal-requires : tie.Need-refusal-requires
-refusal-requires c κs = search needs
+refusal-requires c κs = tt
 
 enum-known-check : tie.Need-enum-known-check
 enum-known-check c = search needs

@@ -34,7 +34,7 @@ given s = passed (ops s) (request s) (roomOf (at s)) (room s) (s .pre)
 -- ---- a pool of one
 
 plan-count-requires : tie.Need-plan-count-requires
-plan-count-requires c κs = search needs
+plan-count-requires c κs = tt
 
 sample-candidates-requires : tie.Need-sample-candidates-requires
 sample-candidates-requires c κs =
@@ -55,7 +55,7 @@ returns c =
 -- ---- a pool of two or more
 
 nsga3-select-requires : tie.Need-nsga3-select-requires
-nsga3-select-requires c κs = search needs
+nsga3-select-requires c κs = tt
 
 two : (c : tie.Else1) → 2 ≤ planCount (c .before .before .before .before .before .before .before .before .before .args .pool .now)
 two c = omega (arith, c .before .plan-count .ensures, c .if1 .left)

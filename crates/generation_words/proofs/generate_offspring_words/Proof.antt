@@ -15,7 +15,7 @@ nsga3-generate-offspring-requires : tie.Need-nsga3-generate-offspring-requires
 nsga3-generate-offspring-requires c κs = tt
 
 count-requires : tie.Need-count-requires
-count-requires c κs = search needs
+count-requires c κs = tt
 
 code-requires : tie.Need-code-requires
 code-requires c κs = tt

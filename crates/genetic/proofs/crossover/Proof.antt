@@ -9,7 +9,7 @@ use Rattle.genetic.proofs.crossover.Statement.{statement}
 use Rattle.genetic.proofs.crossover.Tie as tie
 
 f64-range-requires : tie.Need-f64-range-requires
-f64-range-requires c κs = search needs
+f64-range-requires c κs = tt
 
 returns : tie.Need-returns
 returns c =

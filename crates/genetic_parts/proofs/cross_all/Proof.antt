@@ -5,7 +5,6 @@ use mathlib.Core.Path.{_≡_, ap₂, _∙_}
 use mathlib.Core.List.{List}
 use lib.ListN.{length, length-set}
 use native.Mathlib.Omega.{arith}
-use borrow.Author.Needs.{needs}
 use Rattle.model.specs.declared.ParamValue.{ParamValue}
 use Rattle.model.specs.Draw.{drawn}
 use Rattle.model.specs.Setting.{children, crossAll, dimensionsOf}
@@ -51,7 +50,7 @@ array-copy-out-y : tie.Need-array-copy-out-y Inv-loop μ-loop
 array-copy-out-y c = omega arith
 
 cross-one-requires : tie.Need-cross-one-requires Inv-loop μ-loop
-cross-one-requires c κs = search needs
+cross-one-requires c κs = tt
 
 mul-first : tie.Need-mul-first Inv-loop μ-loop
 mul-first c = omega arith

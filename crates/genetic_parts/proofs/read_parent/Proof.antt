@@ -4,7 +4,6 @@ use mathlib.Core.Path.{_≡_, sym, ap, ap₂, _∙_}
 use mathlib.Core.List.{[], _∷_, _++_}
 use lib.ListN.{length, getD, length-set}
 use native.Mathlib.Omega.{arith}
-use borrow.Author.Needs.{needs}
 use Rattle.list_laws.proofs.Built.{listBelow-none, listBelow-more}
 use Rattle.model.specs.Lists.{listBelow}
 use Rattle.model.specs.Setting.{ofWord, dimensionsOf, storedAt}
@@ -37,7 +36,7 @@ array-copy-out-info : tie.Need-array-copy-out-info Inv-loop μ-loop
 array-copy-out-info c = omega arith
 
 kind-of-dimension-requires : tie.Need-kind-of-dimension-requires Inv-loop μ-loop
-kind-of-dimension-requires c κs = search needs
+kind-of-dimension-requires c κs = tt
 
 add-of-word : tie.Need-add-of-word Inv-loop μ-loop
 add-of-word c = omega arith
@@ -49,7 +48,7 @@ shared-slice-read-of-word : tie.Need-shared-slice-read-of-word Inv-loop μ-loop
 shared-slice-read-of-word c = omega arith
 
 of-word-requires : tie.Need-of-word-requires Inv-loop μ-loop
-of-word-requires c κs = search needs
+of-word-requires c κs = tt
 
 mul-params : tie.Need-mul-params Inv-loop μ-loop
 mul-params c = omega arith

@@ -33,7 +33,7 @@ shared-slice-read-intercept : tie.Need-shared-slice-read-intercept Inv-loop μ-l
 shared-slice-read-intercept c = omega arith
 
 intercept-requires : tie.Need-intercept-requires Inv-loop μ-loop
-intercept-requires c κs = search needs
+intercept-requires c κs = tt
 
 mul-intercepts : tie.Need-mul-intercepts Inv-loop μ-loop
 mul-intercepts c = omega arith

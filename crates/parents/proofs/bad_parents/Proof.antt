@@ -19,7 +19,7 @@ abbrev μ-loop : tie.MeasureT-loop
 μ-loop pool dims n count p₀ p = planCount pool - p
 
 plan-count-requires : tie.Need-plan-count-requires Inv-loop μ-loop
-plan-count-requires c κs = search needs
+plan-count-requires c κs = tt
 
 loop-holds : tie.Need-loop-holds Inv-loop μ-loop
 loop-holds c = (omega arith, c .plan-count .ensures, allBelow-none _)

@@ -2,7 +2,6 @@
 use Prim.Native.Nat.{_-_, _≤_}
 use mathlib.Core.Path.{_≡_, sym}
 use native.Mathlib.Omega.{arith}
-use borrow.Author.Needs.{needs}
 use lib.ListN.{length}
 use Rattle.model.specs.Lists.{listBelow, over}
 use Rattle.model.specs.Row.{minimised}
@@ -34,7 +33,7 @@ shared-slice-read-to-minimize-2 : tie.Need-shared-slice-read-to-minimize-2 Inv-l
 shared-slice-read-to-minimize-2 c = omega arith
 
 to-minimize-requires : tie.Need-to-minimize-requires Inv-loop μ-loop
-to-minimize-requires c κs = search needs
+to-minimize-requires c κs = tt
 
 mul-row : tie.Need-mul-row Inv-loop μ-loop
 mul-row c = omega arith

@@ -2,7 +2,6 @@
 use Prim.Native.Nat.{ℕ, _+_, _-_, _≤_}
 use mathlib.Core.Path.{_≡_, sym}
 use native.Mathlib.Omega.{arith}
-use borrow.Author.Needs.{needs}
 use lib.Ieee.{Float}
 use lib.ListN.{length, getD}
 use Rattle.model.specs.Lists.{listBelow, over}
@@ -34,7 +33,7 @@ shared-slice-read-real-of-word : tie.Need-shared-slice-read-real-of-word Inv-loo
 shared-slice-read-real-of-word c = omega arith
 
 real-of-word-requires : tie.Need-real-of-word-requires Inv-loop μ-loop
-real-of-word-requires c κs = search needs
+real-of-word-requires c κs = tt
 
 mul-out : tie.Need-mul-out Inv-loop μ-loop
 mul-out c = omega arith

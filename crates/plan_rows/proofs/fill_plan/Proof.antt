@@ -49,7 +49,7 @@ slice-aggregate-is-feasible : tie.Need-slice-aggregate-is-feasible
 slice-aggregate-is-feasible c = sym (length-take-le _ _ (counted (c .before .before)))
 
 is-feasible-requires : tie.Need-is-feasible-requires
-is-feasible-requires c κs = search needs
+is-feasible-requires c κs = tt
 
 slice-write-feasible : tie.Need-slice-write-feasible
 slice-write-feasible c = search needs
@@ -61,7 +61,7 @@ slice-aggregate-total-violation : tie.Need-slice-aggregate-total-violation
 slice-aggregate-total-violation c = sym (length-take-le _ _ (counted (c .before .before .before .before)))
 
 total-violation-requires : tie.Need-total-violation-requires
-total-violation-requires c κs = search needs
+total-violation-requires c κs = tt
 
 mul-violations : tie.Need-mul-violations
 mul-violations c = search needs

@@ -25,13 +25,13 @@ shared-slice-read-real-of-word : tie.Need-shared-slice-read-real-of-word
 shared-slice-read-real-of-word c = search needs
 
 real-of-word-requires : tie.Need-real-of-word-requires
-real-of-word-requires c κs = search needs
+real-of-word-requires c κs = tt
 
 shared-slice-read-to-minimize : tie.Need-shared-slice-read-to-minimize
 shared-slice-read-to-minimize c = search needs
 
 to-minimize-requires : tie.Need-to-minimize-requires
-to-minimize-requires c κs = search needs
+to-minimize-requires c κs = tt
 
 returns : tie.Need-returns
 returns c =

@@ -14,13 +14,13 @@ plans-told : (c : tie.After-good-plans)
 plans-told c = c .good-plans .ensures ∙ ap (allBelow _) (c .before .plan-count .ensures)
 
 plan-count-requires : tie.Need-plan-count-requires
-plan-count-requires c κs = search needs
+plan-count-requires c κs = tt
 
 good-plans-requires : tie.Need-good-plans-requires
 good-plans-requires c κs = search needs
 
 good-ideal-requires : tie.Need-good-ideal-requires
-good-ideal-requires c κs = search needs
+good-ideal-requires c κs = tt
 
 returns : tie.Need-returns
 returns c = ap₂ (λ a b. not (a && b)) (sym (c .before .before .if1 .taken) ∙ plans-told (c .before .before .before)) (sym (c .if2 .taken) ∙ c .before .good-ideal .ensures)

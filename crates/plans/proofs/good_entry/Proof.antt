@@ -1,12 +1,11 @@
 -- `good_entry`: measurable, or plus infinity, which is 1 / 0
 use mathlib.Core.Path.{sym, _∙_}
-use borrow.Author.Needs.{needs}
 use lib.Ieee.{div, ofBits}
 use Rattle.plans.proofs.good_entry.Statement.{statement}
 use Rattle.plans.proofs.good_entry.Tie as tie
 
 measurable-requires : tie.Need-measurable-requires
-measurable-requires c κs = search needs
+measurable-requires c κs = tt
 
 returns : tie.Need-returns
 returns c = let e = sym (c .before .measurable .ensures) ∙ c .if1 .taken in rw e

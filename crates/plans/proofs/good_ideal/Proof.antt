@@ -3,7 +3,6 @@ use Prim.Native.Nat.{_-_, _≤_}
 use mathlib.Core.Path.{_≡_, sym, _∙_}
 use mathlib.Core.Bool.{true}
 use native.Mathlib.Omega.{arith}
-use borrow.Author.Needs.{needs}
 use lib.Ieee.{nan}
 use lib.ListN.{length, getD}
 use Rattle.model.specs.Lists.{allBelow}
@@ -32,7 +31,7 @@ shared-slice-read-x : tie.Need-shared-slice-read-x Inv-loop μ-loop
 shared-slice-read-x c = omega arith
 
 good-entry-requires : tie.Need-good-entry-requires Inv-loop μ-loop
-good-entry-requires c κs = search needs
+good-entry-requires c κs = tt
 
 add-j : tie.Need-add-j Inv-loop μ-loop
 add-j c = omega arith

@@ -3,7 +3,6 @@ use Prim.Native.Nat.{_-_, _≤_}
 use mathlib.Core.Path.{_≡_, ap, sym, _∙_}
 use mathlib.Core.Bool.{true}
 use native.Mathlib.Omega.{arith}
-use borrow.Author.Needs.{needs}
 use Rattle.model.specs.Refusal.{measurable}
 use Rattle.list_laws.proofs.Tests.{allBelow-none, allBelow-yes, allBelow-no}
 use Rattle.plans.proofs.Refused.{measurableTo}
@@ -29,10 +28,10 @@ shared-slice-read-real-of-word : tie.Need-shared-slice-read-real-of-word Inv-loo
 shared-slice-read-real-of-word c = omega arith
 
 real-of-word-requires : tie.Need-real-of-word-requires Inv-loop μ-loop
-real-of-word-requires c κs = search needs
+real-of-word-requires c κs = tt
 
 measurable-requires : tie.Need-measurable-requires Inv-loop μ-loop
-measurable-requires c κs = search needs
+measurable-requires c κs = tt
 
 add-j : tie.Need-add-j Inv-loop μ-loop
 add-j c = omega arith

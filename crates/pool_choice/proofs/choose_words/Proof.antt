@@ -64,7 +64,7 @@ slice-aggregate-nsga3-select-4 : tie.Need-slice-aggregate-nsga3-select-4
 slice-aggregate-nsga3-select-4 c = search needs
 
 nsga3-select-requires : tie.Need-nsga3-select-requires
-nsga3-select-requires c κs = search needs
+nsga3-select-requires c κs = tt
 
 enum-known-outcome : tie.Need-enum-known-outcome
 enum-known-outcome c = search needs
@@ -73,7 +73,7 @@ enum-known-outcome-2 : tie.Need-enum-known-outcome-2
 enum-known-outcome-2 c = search needs
 
 plan-count-requires : tie.Need-plan-count-requires
-plan-count-requires c κs = search needs
+plan-count-requires c κs = tt
 
 array-share-prefix-kept : tie.Need-array-share-prefix-kept
 array-share-prefix-kept c = omega (arith, kept-few (c .before .before))

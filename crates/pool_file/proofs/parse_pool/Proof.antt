@@ -9,7 +9,7 @@ returns : tie.Need-returns
 returns c = parse-long _ (omega arith)
 
 read-header-requires : tie.Need-read-header-requires
-read-header-requires c κs = search needs
+read-header-requires c κs = tt
 
 enum-known-header : tie.Need-enum-known-header
 enum-known-header c = search needs

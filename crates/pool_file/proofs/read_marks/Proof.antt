@@ -23,7 +23,7 @@ loop-holds : tie.Need-loop-holds Inv-loop μ-loop
 loop-holds c = (omega arith, refl, words-none capped _ _ 8 0 _)
 
 read-number-requires : tie.Need-read-number-requires Inv-loop μ-loop
-read-number-requires c κs = search needs
+read-number-requires c κs = tt
 
 enum-known-v : tie.Need-enum-known-v Inv-loop μ-loop
 enum-known-v c = search needs
@@ -41,7 +41,7 @@ returns c =
     reads-stop number _ _ _ (l .i) (l .p) (l .inv .2) _ (r .before .loop-test .taken) (told _ (l .p) _ _ (r .read-number .ensures) (c .enum-told .given .1))
 
 capped-requires : tie.Need-capped-requires Inv-loop μ-loop
-capped-requires c κs = search needs
+capped-requires c κs = tt
 
 slice-write-directions : tie.Need-slice-write-directions Inv-loop μ-loop
 slice-write-directions c = omega arith

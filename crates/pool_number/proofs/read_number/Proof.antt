@@ -1,5 +1,4 @@
 -- `read_number`: the groups so far have k bits and form n; what model reads from here with them is what it reads from the start.
-use borrow.Author.Needs.{needs}
 use mathlib.Core.Path.{_≡_, refl, sym, ap, _∙_}
 use mathlib.Core.Logic.{_⊎_, ⊎-elim, inl, inr}
 use mathlib.Core.List.{_∷_}
@@ -26,7 +25,7 @@ shared-slice-read-wide : tie.Need-shared-slice-read-wide Inv-loop μ-loop
 shared-slice-read-wide c = omega arith
 
 wide-requires : tie.Need-wide-requires Inv-loop μ-loop
-wide-requires c κs = search needs
+wide-requires c κs = tt
 
 -- what model reads with the byte that comes next
 turn : (w : tie.After-wide Inv-loop μ-loop) → let l = w .before .before .before .loop in

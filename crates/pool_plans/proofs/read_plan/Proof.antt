@@ -27,7 +27,7 @@ returns c =
     block-none (s .args .file .now) (s .args .at) (s .args .m) (s .args .base) (s .args .pool .now) _ _ (w .read-words .ensures) (c .enum-told .given .1)
 
 read-number-requires : tie.Need-read-number-requires
-read-number-requires c κs = search needs
+read-number-requires c κs = tt
 
 enum-known-c : tie.Need-enum-known-c
 enum-known-c c = search needs

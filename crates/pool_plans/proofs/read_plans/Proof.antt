@@ -19,7 +19,7 @@ loop-holds : tie.Need-loop-holds Inv-loop μ-loop
 loop-holds c = (omega arith, refl, plans-none _ _ _ (c .before .before .args .pool .now))
 
 block-of-requires : tie.Need-block-of-requires Inv-loop μ-loop
-block-of-requires c κs = search needs
+block-of-requires c κs = tt
 
 read-plan-requires : tie.Need-read-plan-requires Inv-loop μ-loop
 read-plan-requires c κs = omega (arith, c .before .block-of .ensures .0)

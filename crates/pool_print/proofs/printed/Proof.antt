@@ -6,7 +6,7 @@ use Rattle.pool_print.proofs.printed.Statement.{statement}
 use Rattle.pool_print.proofs.printed.Tie as tie
 
 choose-requires : tie.Need-choose-requires
-choose-requires c κs = search needs
+choose-requires c κs = tt
 
 enum-known-chosen : tie.Need-enum-known-chosen
 enum-known-chosen c = search needs

@@ -14,7 +14,7 @@ use Rattle.ranks.proofs.front_ranks.Statement.{statement}
 use Rattle.ranks.proofs.front_ranks.Tie as tie
 
 plan-count-requires : tie.Need-plan-count-requires
-plan-count-requires c κs = search needs
+plan-count-requires c κs = tt
 
 slice-aggregate-fill-rows : tie.Need-slice-aggregate-fill-rows
 slice-aggregate-fill-rows c = search needs

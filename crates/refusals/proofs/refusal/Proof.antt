@@ -8,7 +8,6 @@ use Rattle.model.specs.Calls.{wordRequest}
 use Rattle.model.specs.Refusal.{Room, firstOf, badDirections, badCount, badPool, tooShort, noRoom, selectChecks, selectRefusal}
 use Rattle.demand3_laws.proofs.Passed.{some-objectives}
 use Rattle.list_laws.proofs.Checks.{passed-over, applies-first}
-use borrow.Author.Needs.{needs}
 use Rattle.refusals.proofs.refusal.Statement.{statement}
 use Rattle.refusals.proofs.refusal.Tie as tie
 
@@ -56,14 +55,14 @@ past-6 : (c : tie.Else6) → Past (c .before .before .before .before .before .be
 past-6 c = past-5 (c .before .before) ∙ passed-over _ _ (sym (slices (c .before)) ∙ c .if6 .left)
 
 bad-directions-requires : tie.Need-bad-directions-requires
-bad-directions-requires c κs = search needs
+bad-directions-requires c κs = tt
 
 returns : tie.Need-returns
 unfolding selectRefusal
 returns c = sym (applies-first _ _ (sym (c .before .bad-directions .ensures) ∙ c .if1 .taken))
 
 bad-count-requires : tie.Need-bad-count-requires
-bad-count-requires c κs = search needs
+bad-count-requires c κs = tt
 
 returns-2 : tie.Need-returns-2
 returns-2 c = sym (past-1 (c .before .before) ∙ applies-first _ _ (sym (c .before .bad-count .ensures) ∙ c .if2 .taken))
@@ -75,10 +74,10 @@ returns-3 : tie.Need-returns-3
 returns-3 c = sym (past-2 (c .before .before) ∙ applies-first _ _ (sym (c .before .bad-divisions .ensures) ∙ c .if3 .taken))
 
 plan-count-requires : tie.Need-plan-count-requires
-plan-count-requires c κs = search needs
+plan-count-requires c κs = tt
 
 bad-count-requires-2 : tie.Need-bad-count-requires-2
-bad-count-requires-2 c κs = search needs
+bad-count-requires-2 c κs = tt
 
 returns-4 : tie.Need-returns-4
 returns-4 c = sym (past-3 (c .before .before .before) ∙ applies-first _ _ (sym (counted (c .before)) ∙ c .if4 .taken))
@@ -91,7 +90,7 @@ unfolding badPool
 returns-5 c = sym (past-4 (c .before .before) ∙ applies-first _ _ (sym (c .before .bad-pool .ensures) ∙ c .if5 .taken))
 
 no-room-requires : tie.Need-no-room-requires
-no-room-requires c κs = search needs
+no-room-requires c κs = tt
 
 returns-6 : tie.Need-returns-6
 returns-6 c = sym (past-5 (c .before .before) ∙ applies-first _ _ (sym (slices (c .before)) ∙ c .if6 .taken))

@@ -7,25 +7,25 @@ enum-told : tie.Need-enum-told
 enum-told c = search needs
 
 one-more-requires : tie.Need-one-more-requires
-one-more-requires c κs = search needs
+one-more-requires c κs = tt
 
 enum-told-2 : tie.Need-enum-told-2
 enum-told-2 c = search needs
 
 one-more-requires-2 : tie.Need-one-more-requires-2
-one-more-requires-2 c κs = search needs
+one-more-requires-2 c κs = tt
 
 enum-told-3 : tie.Need-enum-told-3
 enum-told-3 c = search needs
 
 one-more-requires-3 : tie.Need-one-more-requires-3
-one-more-requires-3 c κs = search needs
+one-more-requires-3 c κs = tt
 
 enum-told-4 : tie.Need-enum-told-4
 enum-told-4 c = search needs
 
 one-more-requires-4 : tie.Need-one-more-requires-4
-one-more-requires-4 c κs = search needs
+one-more-requires-4 c κs = tt
 
 returns : tie.Need-returns
 returns c = rw (c .before .enum-told .given .1, c .one-more .ensures)

@@ -20,7 +20,7 @@ shared-slice-read-with-digit : tie.Need-shared-slice-read-with-digit Inv-loop μ
 shared-slice-read-with-digit c = search needs
 
 with-digit-requires : tie.Need-with-digit-requires Inv-loop μ-loop
-with-digit-requires c κs = search needs
+with-digit-requires c κs = tt
 
 enum-known-step : tie.Need-enum-known-step Inv-loop μ-loop
 enum-known-step c = search needs

@@ -5,7 +5,7 @@ use Rattle.replay_breeding.proofs.put_extract.Statement.{statement}
 use Rattle.replay_breeding.proofs.put_extract.Tie as tie
 
 bad-dimensions-requires : tie.Need-bad-dimensions-requires
-bad-dimensions-requires c κs = search needs
+bad-dimensions-requires c κs = tt
 
 returns : tie.Need-returns
 returns c = tt

@@ -31,7 +31,7 @@ slice-aggregate-text-of : tie.Need-slice-aggregate-text-of
 slice-aggregate-text-of c = sym (length-take-le _ _ (omega arith))
 
 text-of-requires : tie.Need-text-of-requires
-text-of-requires c κs = search needs
+text-of-requires c κs = tt
 
 returns-3 : tie.Need-returns-3
 returns-3 c = tt

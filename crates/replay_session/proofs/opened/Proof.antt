@@ -43,7 +43,7 @@ slice-aggregate-opened : tie.Need-slice-aggregate-opened
 slice-aggregate-opened c = sym (length-take-le _ _ (omega arith))
 
 opened-requires : tie.Need-opened-requires
-opened-requires c κs = search needs
+opened-requires c κs = tt
 
 returns : tie.Need-returns
 returns c = search needs

@@ -1,6 +1,5 @@
 -- `no_step_room`: slice after slice
 use native.Mathlib.Omega.{arith}
-use borrow.Author.Needs.{needs}
 use Prim.Native.Nat.{_*_, _≤_}
 use native.Mathlib.Nat.{mul-le-mul}
 use Rattle.generation_laws.proofs.Refusals.{room-offspring, room-of-one, room-of-many}
@@ -21,7 +20,7 @@ returns-2 c =
     room-of-one (a .size) (a .n) (a .n-dims) (record { kept = a .kept; fronts = a .fronts; lines = a .lines }) (a .offspring) (c .before .if1 .left) (c .if2 .taken)
 
 no-room-requires : tie.Need-no-room-requires
-no-room-requires c κs = search needs
+no-room-requires c κs = tt
 
 returns-3 : tie.Need-returns-3
 returns-3 c =

@@ -2,7 +2,6 @@
 use Prim.Native.Nat.{ℕ}
 use mathlib.Core.Path.{_≡_, ap, sym, _∙_}
 use mathlib.Core.Bool.{false}
-use borrow.Author.Needs.{needs}
 use lib.ListN.{drop}
 use Rattle.model.specs.Calls.{wordRequest}
 use Rattle.model.specs.Association.{Request}
@@ -77,14 +76,14 @@ past-9 c = past-8 (c .before .before) ∙ passed-over _ _ (sym (slices (c .befor
 -- ---- the needs
 
 bad-directions-requires : tie.Need-bad-directions-requires
-bad-directions-requires c κs = search needs
+bad-directions-requires c κs = tt
 
 returns : tie.Need-returns
 unfolding stepRefusal
 returns c = sym (applies-first _ _ (sym (c .before .bad-directions .ensures) ∙ c .if1 .taken))
 
 bad-count-requires : tie.Need-bad-count-requires
-bad-count-requires c κs = search needs
+bad-count-requires c κs = tt
 
 returns-2 : tie.Need-returns-2
 returns-2 c =
@@ -98,24 +97,24 @@ returns-3 c =
     sym (past-2 (c .before .before) ∙ applies-first _ _ (sym (c .before .bad-divisions .ensures) ∙ c .if3 .taken))
 
 bad-operators-requires : tie.Need-bad-operators-requires
-bad-operators-requires c κs = search needs
+bad-operators-requires c κs = tt
 
 returns-4 : tie.Need-returns-4
 returns-4 c =
     sym (past-3 (c .before .before) ∙ applies-first _ _ (sym (c .before .bad-operators .ensures) ∙ c .if4 .taken))
 
 bad-dimensions-requires : tie.Need-bad-dimensions-requires
-bad-dimensions-requires c κs = search needs
+bad-dimensions-requires c κs = tt
 
 returns-5 : tie.Need-returns-5
 returns-5 c =
     sym (past-4 (c .before .before) ∙ applies-first _ _ (sym (c .before .bad-dimensions .ensures) ∙ c .if5 .taken))
 
 plan-count-requires : tie.Need-plan-count-requires
-plan-count-requires c κs = search needs
+plan-count-requires c κs = tt
 
 bad-count-requires-2 : tie.Need-bad-count-requires-2
-bad-count-requires-2 c κs = search needs
+bad-count-requires-2 c κs = tt
 
 returns-6 : tie.Need-returns-6
 returns-6 c =
