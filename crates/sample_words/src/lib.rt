@@ -4,7 +4,7 @@ ghost use Prim.Native.Nat.{_≤_};
 ghost use lib.ListN.{length};
 ghost use Rattle.model.specs.Session.{state};
 ghost use Rattle.model.specs.Property.{SessionOk};
-ghost use Rattle.session_words.specs.Coding.{sessionOf};
+ghost use Rattle.session_words.specs.Coding.{sessionWidth, sessionOf};
 ghost use Rattle.export_laws.specs.Coded.{sampledWords, SamplesWords};
 
 // `sample`: the session's words are read, and those of the session that it answers are written; a refusal writes none. Asked of the caller is the session
@@ -21,7 +21,7 @@ pub fn sample_words(
     kind: &mut u64,
     value: &mut u64,
 ) -> u64
-    requires { ⌜ (222 ≤ length (now session) → SessionOk (state (sessionOf (now session)) (now candidates) (now plans) (now «next_dims»))) ⌝ }
+    requires { ⌜ (sessionWidth ≤ length (now session) → SessionOk (state (sessionOf (now session)) (now candidates) (now plans) (now «next_dims»))) ⌝ }
     ensures { λ r. ⌜ SamplesWords (now (session .entry)) (now (dimension .entry)) plan (now (history .entry)) (now (candidates .entry)) (now (plans .entry)) (now («next_dims» .entry))
         (now (kind .entry)) (now (value .entry))
         (sampledWords r (now (kind .exit)) (now (value .exit)) (now (session .exit)) (state (sessionOf (now (session .exit))) (now (candidates .exit)) (now (plans .exit)) (now («next_dims» .exit)))) ⌝ }

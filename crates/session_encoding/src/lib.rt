@@ -3,10 +3,10 @@ ghost use mathlib.Core.Path.{_≡_};
 ghost use Prim.Native.Nat.{_≤_};
 ghost use lib.ListN.{length};
 ghost use Rattle.model.specs.declared.Distribution.the-variants as dist;
-ghost use Rattle.model.specs.Lists.{one, joinBelow, over};
-ghost use Rattle.model.specs.Setting.{dimensionsOf};
+ghost use Rattle.model.specs.Lists.{joinBelow, over};
+ghost use Rattle.model.specs.Setting.{maxDims, dimensionsOf};
 ghost use lib.Seq.{sets};
-ghost use Rattle.session_words.specs.Coding.{hasStepF64, stepWordF64, hasStepI64, stepWordI64, dimensionWords, phaseWord, hasFirst, firstWord, configWords, stateWords, idealWords, sessionWords, sessionOf};
+ghost use Rattle.session_words.specs.Coding.{hasStepF64, stepWordF64, hasStepI64, stepWordI64, dimensionWords, phaseWord, hasFirst, firstWord, configWords, stateWords, idealWords, headWidth, sessionWidth, sessionWords, sessionOf};
 use model::Config;
 use model::DimensionInfo;
 use model::Distribution;
@@ -23,15 +23,6 @@ use words::put;
 use words::wide;
 
 // ---- a dimension
-
-fn mark(b: bool) -> u64
-    ensures { λ r. ⌜ r ≡ one b ⌝ }
-{
-    if b {
-        return 1;
-    }
-    0
-}
 
 fn has_step_f64(step: OptionF64) -> u64
     ensures { λ r. ⌜ r ≡ hasStepF64 step ⌝ }
@@ -75,7 +66,7 @@ fn float_words(d: FloatDistribution) -> [u64; 6]
     let step = d.step;
     let low = real::word_of_real(d.low);
     let high = real::word_of_real(d.high);
-    let log = mark(d.log_scale);
+    let log = session_words::mark(d.log_scale);
     let has_step = has_step_f64(step);
     let step = step_word_f64(step);
     [0, low, high, log, has_step, step]
@@ -87,7 +78,7 @@ fn int_words(d: IntDistribution) -> [u64; 6]
     let step = d.step;
     let low = real::word_of_int(d.low);
     let high = real::word_of_int(d.high);
-    let log = mark(d.log_scale);
+    let log = session_words::mark(d.log_scale);
     let has_step = has_step_i64(step);
     let step = step_word_i64(step);
     [1, low, high, log, has_step, step]
@@ -185,8 +176,8 @@ fn state_words(session: Session) -> [u64; 8]
 }
 
 fn put_dimensions(dims: [DimensionInfo; 32], words: &mut [u64])
-    requires { ⌜ 222 ≤ length (now words) ⌝ }
-    ensures { λ _. ⌜ now (words .exit) ≡ sets (now (words .entry)) 30 (joinBelow (λ d. dimensionWords (dimensionsOf dims d)) 32) ⌝ }
+    requires { ⌜ sessionWidth ≤ length (now words) ⌝ }
+    ensures { λ _. ⌜ now (words .exit) ≡ sets (now (words .entry)) headWidth (joinBelow (λ d. dimensionWords (dimensionsOf dims d)) maxDims) ⌝ }
 {
     let mut d = 0;
     while d < 32 {
@@ -200,7 +191,7 @@ fn put_dimensions(dims: [DimensionInfo; 32], words: &mut [u64])
 
 // A session's words at a slice's front. Read back, they are the session.
 pub fn words_of_session(session: Session, words: &mut [u64])
-    requires { ⌜ 222 ≤ length (now words) ⌝ }
+    requires { ⌜ sessionWidth ≤ length (now words) ⌝ }
     ensures laid { λ _. ⌜ now (words .exit) ≡ over (sessionWords session) (now (words .entry)) ⌝ }
     ensures back { λ _. ⌜ sessionOf (now (words .exit)) ≡ session ⌝ }
 {

@@ -20,7 +20,7 @@ use Rattle.model.specs.declared.Progress.{Progress}
 use Rattle.model.specs.declared.Session.{Session}
 use Rattle.model.specs.Lists.{one, listBelow, joinBelow}
 use Rattle.model.specs.Real.{real, bits}
-use Rattle.model.specs.Setting.{wordOfInt, intOfWord}
+use Rattle.model.specs.Setting.{wordOfInt, intOfWord, maxDims}
 use Rattle.model.specs.Session.{dimensionOf, progress}
 
 -- a mark: 0 is no, any other word is yes
@@ -76,12 +76,13 @@ abbrev pub dimensionAt : List ℕ → ℕ → Distribution
 dimensionAt ws at =
     distributionOf (getD ws at 0) (getD ws (at + 1) 0) (getD ws (at + 2) 0) (getD ws (at + 3) 0) (getD ws (at + 4) 0) (getD ws (at + 5) 0)
 
--- the first 32 dimensions from a place on
+-- dimension d from a place on
 abbrev pub infoAt : List ℕ → ℕ → ℕ → DimensionInfo
 infoAt ws from d = record { distribution = dimensionAt ws (from + d * dimensionWidth) }
 
+-- and as many as a session holds
 unfoldable pub dimensionsAt : List ℕ → ℕ → List DimensionInfo
-dimensionsAt ws from = listBelow (infoAt ws from) 32
+dimensionsAt ws from = listBelow (infoAt ws from) maxDims
 
 -- how many dimensions a slice holds: those that are there whole
 abbrev pub dimensionCount : List ℕ → ℕ
@@ -139,7 +140,7 @@ idealWords ideal = eight (λ i. bits (getD ideal i nan))
 -- and from 30 on the dimensions
 unfoldable pub sessionWords : Session → List ℕ
 sessionWords s =
-    configWords (s .config) ++ (stateWords s ++ (idealWords (s .«ideal_point») ++ joinBelow (λ d. dimensionWords (dimensionOf s d)) 32))
+    configWords (s .config) ++ (stateWords s ++ (idealWords (s .«ideal_point») ++ joinBelow (λ d. dimensionWords (dimensionOf s d)) maxDims))
 
 -- a direction is a byte
 unfoldable pub marksAt : List ℕ → List ℕ

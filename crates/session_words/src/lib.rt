@@ -4,6 +4,7 @@ ghost use mathlib.Core.Path.{_≡_};
 ghost use Prim.Native.Nat.{_%_, _≤_};
 ghost use lib.Ieee.{binary64, ofBits};
 ghost use lib.ListN.{getD};
+ghost use Rattle.model.specs.Lists.{one};
 ghost use Rattle.session_words.specs.Coding.{marked, stepF64, stepI64, distributionOf, dimensionAt, dimensionsAt, phaseOf, firstOf, marksAt, idealAt, configAt, progressAt, sessionOf};
 use model::CategoricalDistribution;
 use model::Config;
@@ -50,6 +51,15 @@ fn marked(w: u64) -> bool
     true
 }
 
+pub fn mark(b: bool) -> u64
+    ensures { λ r. ⌜ r ≡ one b ⌝ }
+{
+    if b {
+        return 1;
+    }
+    0
+}
+
 // ---- a dimension
 
 fn step_f64(has: u64, w: u64) -> OptionF64
@@ -71,7 +81,7 @@ fn step_i64(has: u64, w: u64) -> OptionI64
 }
 
 // The dimension of a kind (0 Float, 1 Int, else Categorical) that words stand for.
-fn distribution_of(
+pub fn distribution_of(
     kind: u64,
     low: u64,
     high: u64,

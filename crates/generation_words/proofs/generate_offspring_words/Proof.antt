@@ -1,12 +1,11 @@
 -- `generate_offspring_words`. Assumes nothing.
-use Prim.Native.Nat.{_/_}
 use mathlib.Core.Path.{ap}
-use lib.ListN.{length}
 use Rattle.export_laws.proofs.Export.{step-coded}
 use borrow.Author.Needs.{needs}
 use Rattle.generation_words.proofs.generate_offspring_words.Statement.{statement}
 use Rattle.generation_words.proofs.generate_offspring_words.Tie as tie
 use Rattle.model.specs.Setting.{operators}
+use Rattle.session_words.specs.Coding.{dimensionCount}
 
 dimensions-of-words-requires : tie.Need-dimensions-of-words-requires
 dimensions-of-words-requires c κs = search needs
@@ -39,7 +38,7 @@ returns : tie.Need-returns
 returns c =
     let a = c .before .before .before .before .before .before .before .before .before .before .before .before .before .before .before .before .before .before .before .before .before .before .before .before .before .before .before .before .before .before .args in
     let e =
-    ap (λ x. operators x (length (a .dimensions .now) / 6) (a .crossover-prob) (a .crossover-eta) (a .mutation-eta))
+    ap (λ x. operators x (dimensionCount (a .dimensions .now)) (a .crossover-prob) (a .crossover-eta) (a .mutation-eta))
     (c .before .before .before .before .before .before .before .before .before .before .before .before .before .before .before .before .before .before .before .before .before .dimensions-of-words .ensures) in
     step-coded _ _ _ _ _ _ _ _ _ e (c .before .before .before .before .before .before .before .before .before .before .before .before .before .before .nsga3-generate-offspring .ensures) (c .before .count .ensures) (c .code .ensures)
 

@@ -1,7 +1,7 @@
 -- Field by field.
 use native.Mathlib.Omega.{arith}
 use lib.ListN.{getD}
-use Rattle.session_words.proofs.Marks.{eight-same}
+use Rattle.session_words.proofs.Parts.{eight-same}
 use Rattle.session_encoding.proofs.Laid.{config-laid}
 use Rattle.session_encoding.proofs.config_words.Statement.{statement}
 use Rattle.session_encoding.proofs.config_words.Tie as tie

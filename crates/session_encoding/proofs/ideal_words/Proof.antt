@@ -4,7 +4,7 @@ use native.Mathlib.Omega.{arith}
 use lib.Ieee.{nan}
 use lib.ListN.{getD}
 use Rattle.model.specs.Real.{bits}
-use Rattle.session_words.proofs.Marks.{eight-same}
+use Rattle.session_words.proofs.Parts.{eight-same}
 use Rattle.session_encoding.proofs.ideal_words.Statement.{statement}
 use Rattle.session_encoding.proofs.ideal_words.Tie as tie
 

@@ -1,6 +1,6 @@
 -- Field by field.
 use Rattle.session_words.specs.Coding.{configAt}
-use Rattle.session_words.proofs.Marks.{config-same}
+use Rattle.session_words.proofs.Parts.{config-same}
 use Rattle.session_words.proofs.config_at.Statement.{statement}
 use Rattle.session_words.proofs.config_at.Tie as tie
 

@@ -1,7 +1,7 @@
 -- Word by word.
 use native.Mathlib.Omega.{arith}
 use mathlib.Core.Path.{_∙_}
-use Rattle.session_words.proofs.Marks.{dimension-same}
+use Rattle.session_words.proofs.Parts.{dimension-same}
 use Rattle.session_words.proofs.dimension_of_words.Statement.{statement}
 use Rattle.session_words.proofs.dimension_of_words.Tie as tie
 

@@ -1,6 +1,6 @@
 -- By the kind.
 use mathlib.Core.Path.{refl, sym, _∙_}
-use Rattle.session_words.proofs.Marks.{float-is, int-is}
+use Rattle.session_words.proofs.Parts.{float-is, int-is}
 use Rattle.session_words.specs.Coding.{distributionOf}
 use Rattle.settings.proofs.Signed.{back}
 use Rattle.session_words.proofs.distribution_of.Statement.{statement}

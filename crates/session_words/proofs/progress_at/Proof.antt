@@ -1,6 +1,6 @@
 -- Field by field.
 use Rattle.session_words.specs.Coding.{progressAt}
-use Rattle.session_words.proofs.Marks.{progress-same}
+use Rattle.session_words.proofs.Parts.{progress-same}
 use Rattle.session_words.proofs.progress_at.Statement.{statement}
 use Rattle.session_words.proofs.progress_at.Tie as tie
 

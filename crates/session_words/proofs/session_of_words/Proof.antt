@@ -2,7 +2,7 @@
 use mathlib.Core.Path.{ap, ap₂, _∙_}
 use Rattle.session_words.specs.Coding.{phaseOf, firstOf, sessionOf}
 use borrow.Author.Needs.{needs}
-use Rattle.session_words.proofs.Marks.{session-same}
+use Rattle.session_words.proofs.Parts.{session-same}
 use Rattle.session_words.proofs.session_of_words.Statement.{statement}
 use Rattle.session_words.proofs.session_of_words.Tie as tie
 

@@ -1,4 +1,4 @@
--- Words are read as the coding says: a mark that is not 0 is yes, and parts that are a whole's make the whole.
+-- Parts that are a whole's make the whole: of a dimension, an array of eight, and a session.
 use Prim.Native.Nat.{ℕ, _+_}
 use mathlib.Core.Path.{_≡_}
 use mathlib.Core.Bool.{Bool}
