@@ -1,12 +1,10 @@
 // The answers to the oracle's lines of association: normalisation, the nearest lines, and the distance from a line.
 use replay::Words;
-use replay_fronts::Rows;
-use replay_reference::Table;
+use replay_fronts::Places;
 use replay_values::Reals;
+use replay_values::Rows;
 ghost use mathlib.Core.Path.{_≡_};
 ghost use Prim.Native.Nat.{_*_, _≤_};
-
-type Places = [usize; 1024];
 
 type Distances = [f64; 1024];
 
@@ -43,17 +41,9 @@ fn put_normalized(rows: &Rows, n: usize, m: usize, k: usize, start: Reals, out: 
     let mut intercepts = [0.0; 16];
     let mut normalized = [0.0; 8192];
     normalized_of(rows, n, m, &mut ideal, &mut intercepts, &mut normalized);
-    let a = put_first(out, 0, &ideal, m);
-    let b = put_first(out, a, &intercepts, m);
-    put_rows(out, b, &normalized, k)
-}
-
-fn put_first(out: &mut Words, at: usize, reals: &Reals, m: usize) -> usize {
-    replay_values::put_reals(out, at, reals, m)
-}
-
-fn put_rows(out: &mut Words, at: usize, rows: &Rows, k: usize) -> usize {
-    replay_values::put_reals(out, at, rows, k)
+    let a = replay_values::put_row(out, 0, &ideal, m);
+    let b = replay_values::put_row(out, a, &intercepts, m);
+    replay_values::put_rows(out, b, &normalized, k)
 }
 
 // 60: after the marks stand the ideal, n and n rows.
@@ -83,7 +73,7 @@ fn nearest(
     rows: &Rows,
     n: usize,
     m: usize,
-    table: &Table,
+    table: &Rows,
     n_lines: usize,
     lines: &mut Places,
     distances: &mut Distances,

@@ -1,8 +1,10 @@
 // The answers to the oracle's lines of breeding: draws of settings, crossover, mutation, the tournament, and the generation step, for which a line's plans
 // are laid out as the pool of words that the function takes.
+use model::CANDIDATE_WORDS;
 use model::DimensionInfo;
 use model::Distribution;
 use model::Outcome;
+use model::PLAN_WORDS;
 use model::Rng;
 use model::Selection;
 use replay::Words;
@@ -19,7 +21,7 @@ ghost use Prim.Native.Nat.{_*_, _<_, _≤_};
 ghost use lib.ListN.{length};
 
 // The words of 1,024 candidates.
-type Offspring = [u64; 32768];
+type Offspring = [u64; CANDIDATE_WORDS];
 
 // ---- settings and operators
 
@@ -57,7 +59,7 @@ fn put_candidate(drawn: DrawnCandidate, n: usize, out: &mut Words) -> usize
 
 // The settings of the one plan of a pool.
 fn put_extract(
-    pool: &[u64; 124],
+    pool: &[u64; PLAN_WORDS],
     dims: [DimensionInfo; 32],
     n: usize,
     rng: Rng,
@@ -80,7 +82,7 @@ fn extract(input: &Words, n: usize, out: &mut Words) -> usize {
     }
     let read = replay_values::read_dimensions(input, 3, count);
     let dims = read.dims;
-    let mut pool = [0u64; 124];
+    let mut pool = [0u64; PLAN_WORDS];
     let end = replay_values::read_plan(input, read.next, 0, &mut pool);
     if end != n {
         return 0;
@@ -214,9 +216,7 @@ fn polynomial(input: &Words, n: usize, out: &mut Words) -> usize {
     let low = replay_values::real_at(input, 3);
     let high = replay_values::real_at(input, 4);
     let drawn = real_variation::polynomial_mutation_f64(x, low, high, k, Rng { s });
-    let rng = drawn.rng;
-    let place = replay_values::put_real(out, 0, drawn.value);
-    replay::put(out, place, rng.s)
+    replay_values::put_drawn(out, real::word_of_real(drawn.value), drawn.rng)
 }
 
 fn read_places(input: &Words, at: usize, n: usize, places: &mut Places)
@@ -251,8 +251,7 @@ fn tournament(input: &Words, n: usize, out: &mut Words) -> usize {
     read_places(input, 3, count, &mut ranks);
     let s = replay::word(input, 1);
     let drawn = winner(&ranks, count, Rng { s });
-    let rng = drawn.rng;
-    replay_values::put_two(out, 0, drawn.value as u64, rng.s)
+    replay_values::put_drawn(out, drawn.value as u64, drawn.rng)
 }
 
 // ---- the generation step
@@ -283,7 +282,7 @@ fn stepped(
         × (room .offspring ≤ length (now offspring)) ⌝ }
 {
     let call = step.call;
-    let words = call.plans * 124;
+    let words = call.plans * PLAN_WORDS;
     let m = call.m;
     let k = call.ideal;
     let a = room.kept;
@@ -385,7 +384,7 @@ fn answered(
     let mut kept = [0usize; 1025];
     let mut fronts = [0usize; 1025];
     let mut lines = [0usize; 1025];
-    let mut offspring = [0u64; 32768];
+    let mut offspring = [0u64; CANDIDATE_WORDS];
     let room = replay_values::room_for(call.size, call.plans, step.n_dims, short);
     let s = step_of(
         pool,

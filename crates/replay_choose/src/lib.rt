@@ -1,4 +1,5 @@
 // The answers to the oracle's lines of pool files, good and damaged, through the public call.
+use model::MAX_TEXT;
 use replay::Words;
 ghost use Prim.Native.Nat.{_≤_};
 ghost use lib.ListN.{length};
@@ -20,11 +21,11 @@ fn fill_file(input: &Words, count: usize, file: &mut [u8]) -> bool
 }
 
 // The first n bytes of a text: how many they are, and each.
-fn put_text(text: &[u8; 20501], n: usize, out: &mut Words) -> usize {
+fn put_text(text: &[u8; MAX_TEXT], n: usize, out: &mut Words) -> usize {
     let mut place = replay::put(out, 0, n as u64);
     let mut i: usize = 0;
     while i < n {
-        if i < 20501 {
+        if i < MAX_TEXT {
             place = replay::put(out, place, words::wide(text[i]));
         }
         i += 1;
@@ -34,7 +35,7 @@ fn put_text(text: &[u8; 20501], n: usize, out: &mut Words) -> usize {
 
 // The text of a file.
 fn text_of(file: &[u8], out: &mut Words) -> usize {
-    let mut text = [0u8; 20501];
+    let mut text = [0u8; MAX_TEXT];
     let n = pool_print::printed(file, &mut text);
     put_text(&text, n, out)
 }

@@ -3,19 +3,19 @@
 use replay::Words;
 use replay_values::Marks;
 use replay_values::Reals;
+use replay_values::Rows;
 ghost use mathlib.Core.Path.{_≡_};
 ghost use mathlib.Core.Bool.{true};
 ghost use Prim.Native.Nat.{_*_, _≤_};
+ghost use lib.ListN.{length};
 ghost use Rattle.front_laws.specs.Flat.{KnownRows};
-
-// The rows of 1,024 plans of 8 values.
-pub type Rows = [f64; 8192];
 
 type Sums = [f64; 1024];
 
 type Flags = [bool; 1024];
 
-type Places = [usize; 1024];
+// A number for each of 1,024 plans.
+pub type Places = [usize; 1024];
 
 fn set_real(rows: &mut Rows, i: usize, x: f64) {
     if i < 8192 {
@@ -169,13 +169,13 @@ pub fn read_rows(
 fn first_beats(rows: &Rows, m: usize) -> u64
     requires { ⌜ m ≤ 8 ⌝ }
 {
-    replay_values::as_word(domination::dominates(rows, m, 0, 1))
+    session_words::mark(domination::dominates(rows, m, 0, 1))
 }
 
 fn first_beats_constrained(rows: &Rows, m: usize, flags: &Flags, sums: &Sums) -> u64
     requires { ⌜ m ≤ 8 ⌝ }
 {
-    replay_values::as_word(domination::constrained_dominates(rows, m, flags, sums, 0, 1))
+    session_words::mark(domination::constrained_dominates(rows, m, flags, sums, 0, 1))
 }
 
 // 31 after its rows: the constraints of the first and of the second, from `at` on.
@@ -217,22 +217,16 @@ fn dominance(input: &Words, n: usize, m: usize, constrained: bool, out: &mut Wor
 }
 
 // The first m values in minimise-space.
-fn minimised(values: &[f64], marks: &[u8], m: usize, row: &mut [f64]) {
-    if m <= marks.len() {
-        if m <= values.len() {
-            if m <= row.len() {
-                pareto::to_minimize_space(values, &marks[..m], row);
-            }
-        }
-    }
+fn minimised(values: &[f64], marks: &[u8], m: usize, row: &mut [f64])
+    requires { ⌜ (m ≤ length (now values)) × (m ≤ length (now marks)) × (m ≤ length (now row)) ⌝ }
+{
+    pareto::to_minimize_space(values, &marks[..m], row);
 }
 
-fn minimised_row(values: &Reals, marks: &Marks, m: usize, row: &mut Reals) {
+fn minimised_row(values: &Reals, marks: &Marks, m: usize, row: &mut Reals)
+    requires { ⌜ m ≤ 16 ⌝ }
+{
     minimised(values, marks, m, row)
-}
-
-fn put_row(row: &Reals, m: usize, out: &mut Words) -> usize {
-    replay_values::put_reals(out, 0, row, m)
 }
 
 // 32: a row.
@@ -248,7 +242,7 @@ fn minimize_space(input: &Words, n: usize, m: usize, out: &mut Words) -> usize
     replay_values::read_reals(input, m + 2, m, &mut values);
     replay_values::read_marks(input, 2, m, &mut marks);
     minimised_row(&values, &marks, m, &mut row);
-    put_row(&row, m, out)
+    replay_values::put_row(out, 0, &row, m)
 }
 
 // Whether no value of the n rows is a NaN.
@@ -300,26 +294,14 @@ fn put_fronts(order: &Places, ends: &Places, k: usize, out: &mut Words) -> usize
     place
 }
 
-// The fronts by rows only.
-fn sorted(rows: &Rows, m: usize, n: usize, out: &mut Words) -> usize
-    requires { ⌜ (n ≤ 1024) × (n * m ≤ 8192) ⌝ }
-{
-    if known(rows, m, n) {
-        let mut order = [0usize; 1024];
-        let mut rank = [0usize; 1024];
-        let mut ends = [0usize; 1024];
-        let k = pareto::fast_non_dominated_sort(rows, m, n, &mut order, &mut rank, &mut ends);
-        return put_fronts(&order, &ends, k, out);
-    }
-    0
-}
-
-fn sorted_constrained(
+// The fronts, by rows only or with the constraints.
+fn sorted(
     rows: &Rows,
     m: usize,
     flags: &Flags,
     sums: &Sums,
     n: usize,
+    constrained: bool,
     out: &mut Words,
 ) -> usize
     requires { ⌜ (n ≤ 1024) × (n * m ≤ 8192) ⌝ }
@@ -328,16 +310,20 @@ fn sorted_constrained(
         let mut order = [0usize; 1024];
         let mut rank = [0usize; 1024];
         let mut ends = [0usize; 1024];
-        let k = pareto::fast_non_dominated_sort_constrained(
-            rows,
-            m,
-            flags,
-            sums,
-            n,
-            &mut order,
-            &mut rank,
-            &mut ends,
-        );
+        let k = if constrained {
+            pareto::fast_non_dominated_sort_constrained(
+                rows,
+                m,
+                flags,
+                sums,
+                n,
+                &mut order,
+                &mut rank,
+                &mut ends,
+            )
+        } else {
+            pareto::fast_non_dominated_sort(rows, m, n, &mut order, &mut rank, &mut ends)
+        };
         return put_fronts(&order, &ends, k, out);
     }
     0
@@ -370,11 +356,7 @@ fn fronts(input: &Words, words: usize, m: usize, constrained: bool, out: &mut Wo
     if place != words {
         return 0;
     }
-    if constrained {
-        sorted_constrained(&rows, m, &flags, &sums, n, out)
-    } else {
-        sorted(&rows, m, n, out)
-    }
+    sorted(&rows, m, &flags, &sums, n, constrained, out)
 }
 
 // The answer to an input line of n numbers; how many numbers it has, 0 for a case passed over.

@@ -1,5 +1,6 @@
 // The answers to the oracle's lines of selection. A line's plans are laid out as the pool of words that the function takes.
 use model::Outcome;
+use model::PLAN_WORDS;
 use model::Rng;
 use model::Selection;
 use replay::Words;
@@ -25,7 +26,7 @@ fn selection(
     requires { ⌜ (call .m ≤ length (now marks)) × (call .ideal ≤ length (now ideal)) × (call .plans ≤ 1025) × (127100 ≤ length (now pool)) ⌝ }
     requires { ⌜ (room .kept ≤ length (now kept)) × (room .fronts ≤ length (now fronts)) × (room .lines ≤ length (now lines)) ⌝ }
 {
-    let words = call.plans * 124;
+    let words = call.plans * PLAN_WORDS;
     let m = call.m;
     let k = call.ideal;
     let a = room.kept;

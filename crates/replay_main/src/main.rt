@@ -35,9 +35,14 @@ fn record_of(command: u64) -> usize
     }
 }
 
-// The answer to an input line of n numbers; how many numbers it has, 0 for a case passed over.
+// The answer to an input line of n numbers; how many numbers it has, 0 for a case passed over. A session answers a line of the reference table too, 53.
 fn answer(record: usize, input: &Words, n: usize, out: &mut Words) -> usize {
-    match record {
+    let asked = if replay::word(input, 0) == 53 {
+        9
+    } else {
+        record
+    };
+    match asked {
         0 | 1 => replay_numbers::answer(input, n, out),
         2 | 3 => replay_fronts::answer(input, n, out),
         4 | 5 => replay_reference::answer(input, n, out),

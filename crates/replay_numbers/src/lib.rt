@@ -17,11 +17,6 @@ fn put_real(out: &mut Words, x: f64) -> usize {
     replay_values::put_real(out, 0, x)
 }
 
-// A value and the generator's state after it.
-fn put_drawn(out: &mut Words, value: u64, rng: Rng) -> usize {
-    replay_values::put_two(out, 0, value, rng.s)
-}
-
 // 10: the next words.
 fn words(state: u64, count: u64, out: &mut Words) -> usize {
     if 4000 < count {
@@ -46,7 +41,7 @@ fn below(s: u64, n: u64, out: &mut Words) -> usize {
         return 0;
     }
     let d = rng_util::draw_usize(Rng { s }, n as usize);
-    put_drawn(out, d.value as u64, d.rng)
+    replay_values::put_drawn(out, d.value as u64, d.rng)
 }
 
 // 13
@@ -55,7 +50,7 @@ fn between(s: u64, a: i64, b: i64, out: &mut Words) -> usize {
         if -9007199254740992 <= a {
             if b <= 9007199254740992 {
                 let d = rng_util::draw_i64(Rng { s }, a, b);
-                return put_drawn(out, real::word_of_int(d.value), d.rng);
+                return replay_values::put_drawn(out, real::word_of_int(d.value), d.rng);
             }
         }
     }
@@ -65,12 +60,12 @@ fn between(s: u64, a: i64, b: i64, out: &mut Words) -> usize {
 // 11 and 14
 fn unit(s: u64, out: &mut Words) -> usize {
     let d = rng_util::draw_f64(Rng { s });
-    put_drawn(out, real::word_of_real(d.value), d.rng)
+    replay_values::put_drawn(out, real::word_of_real(d.value), d.rng)
 }
 
 fn range(s: u64, low: f64, high: f64, out: &mut Words) -> usize {
     let d = rng_util::f64_range(Rng { s }, low, high);
-    put_drawn(out, real::word_of_real(d.value), d.rng)
+    replay_values::put_drawn(out, real::word_of_real(d.value), d.rng)
 }
 
 // 20, the power, and 21, the root, take k from 1 to 100.

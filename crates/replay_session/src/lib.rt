@@ -1,4 +1,4 @@
-// The answers to the oracle's lines of sessions. A line is one session: its opening and its calls, each with the history that is handed in; after every call
+// The answers to the oracle's lines of sessions, and of an opening alone. A line of sessions is one session: its opening and its calls, each with the history that is handed in; after every call
 // the answer and the state are written.
 use model::DimensionInfo;
 use model::Distribution;
@@ -136,7 +136,7 @@ fn put_ideal(out: &mut Words, at: usize, ideal: [f64; 8], m: usize) -> usize {
 fn put_found(out: &mut Words, at: usize, active: bool, session: Session, n: usize) -> usize {
     let first = session.discovery_trial_id;
     let dims = session.dimensions;
-    let mark = replay::put(out, at, replay_values::as_word(active));
+    let mark = replay::put(out, at, session_words::mark(active));
     let place = put_option(out, mark, first);
     put_dimensions(out, place, dims, n)
 }
@@ -210,13 +210,7 @@ fn take_history(
     requires { ⌜ at ≤ 8193 ⌝ }
     ensures { λ r. ⌜ (r .next ≤ 8193) × (r .held ≤ 4097) ⌝ }
 {
-    if 4097 < keep {
-        return Taken {
-            next: 8193,
-            held: 0,
-        };
-    }
-    if 4097 < count {
+    if 4097 < keep || 4097 < count {
         return Taken {
             next: 8193,
             held: 0,
@@ -409,33 +403,48 @@ fn calls(input: &Words, n: usize, at: usize, count: u64, session: Session, out: 
 
 // ---- the opening
 
-// The opening by the first m marks; what stands after them begins at `at`.
-fn opened(input: &Words, at: usize, marks: &[u8], m: usize) -> Opened
+// What an opening is given beside marks, size and divisions.
+struct Given {
+    probability: f64,
+    crossover_eta: f64,
+    mutation_eta: f64,
+    seed: u64,
+}
+
+fn given_at(input: &Words, at: usize) -> Given
+    requires { ⌜ at ≤ 8193 ⌝ }
+{
+    Given {
+        probability: replay_values::real_at(input, at),
+        crossover_eta: replay_values::real_at(input, at + 1),
+        mutation_eta: replay_values::real_at(input, at + 2),
+        seed: replay::word(input, at + 3),
+    }
+}
+
+// The opening by the first m marks; size and divisions stand at `at`.
+fn opened(input: &Words, at: usize, marks: &[u8], m: usize, given: Given) -> Opened
     requires { ⌜ (at ≤ 19) × (m ≤ length (now marks)) ⌝ }
     ensures { λ r. ⌜ usableBy (r .outcome) (r .session) ⌝ }
 {
     let size = replay_values::option_at(input, at);
     let divisions = replay_values::option_at(input, at + 2);
-    let probability = replay_values::real_at(input, at + 4);
-    let crossover_eta = replay_values::real_at(input, at + 5);
-    let mutation_eta = replay_values::real_at(input, at + 6);
-    let seed = replay::word(input, at + 7);
     session_calls::opened(
         &marks[..m],
-        seed,
+        given.seed,
         size,
         divisions,
-        probability,
-        crossover_eta,
-        mutation_eta,
+        given.probability,
+        given.crossover_eta,
+        given.mutation_eta,
     )
 }
 
-fn opened_by(input: &Words, at: usize, marks: &Marks, m: usize) -> Opened
+fn opened_by(input: &Words, at: usize, marks: &Marks, m: usize, given: Given) -> Opened
     requires { ⌜ (at ≤ 19) × (m ≤ 16) ⌝ }
     ensures { λ r. ⌜ usableBy (r .outcome) (r .session) ⌝ }
 {
-    opened(input, at, marks, m)
+    opened(input, at, marks, m, given)
 }
 
 // An opening and what follows it; an opening that is to be short, which `open` cannot be, is passed over where nothing else refuses it.
@@ -457,14 +466,58 @@ fn follow(input: &Words, n: usize, at: usize, opened: Opened, out: &mut Words) -
     }
 }
 
-// 90. The answer to an input line of n numbers; how many numbers it has, 0 for a case passed over.
-pub fn answer(input: &Words, n: usize, out: &mut Words) -> usize {
+// 90
+fn session(input: &Words, n: usize, out: &mut Words) -> usize {
     let m = replay::word(input, 2) as usize;
     if 16 < m {
         return 0;
     }
     let mut marks = [0u8; 16];
     replay_values::read_marks(input, 3, m, &mut marks);
-    let opened = opened_by(input, m + 3, &marks, m);
+    let opened = opened_by(input, m + 3, &marks, m, given_at(input, m + 7));
     follow(input, n, m + 3, opened, out)
+}
+
+// Divisions, lines and size of a session that is opened, or the refusal.
+fn put_opening(opened: Opened, m: usize, out: &mut Words) -> usize {
+    let outcome = opened.outcome;
+    let session = opened.session;
+    match outcome {
+        Opening::Refused(number) => replay::put(out, 0, number as u64),
+        Opening::Ready => {
+            let config = session.config;
+            let h = config.divisions;
+            if m < 1 || 8 < m || 199 < h {
+                return 0;
+            }
+            let lines = divisions::point_count(m, h);
+            let place = replay_values::put_two(out, 0, 0, h as u64);
+            replay_values::put_two(out, place, lines as u64, config.population_size as u64)
+        }
+    }
+}
+
+// 53: an opening by marks, size and divisions alone.
+fn population(input: &Words, n: usize, out: &mut Words) -> usize {
+    let m = replay::word(input, 1) as usize;
+    if 16 < m || n != replay::ahead(m, 6) {
+        return 0;
+    }
+    let mut marks = [0u8; 16];
+    replay_values::read_marks(input, 2, m, &mut marks);
+    let given = Given {
+        probability: 1.0,
+        crossover_eta: 30.0,
+        mutation_eta: 20.0,
+        seed: 0,
+    };
+    put_opening(opened_by(input, m + 2, &marks, m, given), m, out)
+}
+
+// The answer to an input line of n numbers; how many numbers it has, 0 for a case passed over.
+pub fn answer(input: &Words, n: usize, out: &mut Words) -> usize {
+    if replay::word(input, 0) == 53 {
+        return population(input, n, out);
+    }
+    session(input, n, out)
 }

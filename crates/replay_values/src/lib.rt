@@ -5,10 +5,12 @@ use model::DimensionInfo;
 use model::Distribution;
 use model::FloatDistribution;
 use model::IntDistribution;
-use model::OptionF64;
+use model::MAX_VALUES;
 use model::OptionI64;
 use model::OptionUsize;
+use model::PLAN_WORDS;
 use model::ParamValue;
+use model::Rng;
 use replay::Words;
 use settings::Slot;
 ghost use mathlib.Core.Path.{_≡_};
@@ -17,6 +19,9 @@ ghost use Prim.Native.Nat.{_*_, _≤_};
 pub type Marks = [u8; 16];
 
 pub type Reals = [f64; 16];
+
+// The rows of 1,024 plans or lines of 8 values.
+pub type Rows = [f64; MAX_VALUES];
 
 // 1,025 plans of 124 words, one plan more than is accepted, and a number for each.
 pub type Pool = [u64; 127100];
@@ -29,10 +34,6 @@ pub fn real_at(input: &Words, i: usize) -> f64 {
     real::real_of_word(replay::word(input, i))
 }
 
-pub fn int_at(input: &Words, i: usize) -> i64 {
-    real::int_of_word(replay::word(input, i))
-}
-
 // A mark and a number: none where the mark is 0.
 pub fn option_at(input: &Words, at: usize) -> OptionUsize
     requires { ⌜ at ≤ 8193 ⌝ }
@@ -41,10 +42,6 @@ pub fn option_at(input: &Words, at: usize) -> OptionUsize
         return OptionUsize::None;
     }
     OptionUsize::Some(replay::word(input, at + 1) as usize)
-}
-
-pub fn as_word(b: bool) -> u64 {
-    if b { 1 } else { 0 }
 }
 
 pub fn least(a: usize, b: usize) -> usize
@@ -110,6 +107,19 @@ pub fn put_reals(out: &mut Words, at: usize, reals: &[f64], k: usize) -> usize {
         j += 1;
     }
     place
+}
+
+pub fn put_row(out: &mut Words, at: usize, row: &Reals, m: usize) -> usize {
+    put_reals(out, at, row, m)
+}
+
+pub fn put_rows(out: &mut Words, at: usize, rows: &Rows, k: usize) -> usize {
+    put_reals(out, at, rows, k)
+}
+
+// A value and the generator's state after it.
+pub fn put_drawn(out: &mut Words, value: u64, rng: Rng) -> usize {
+    put_two(out, 0, value, rng.s)
 }
 
 // The first k places of a slice.
@@ -196,7 +206,7 @@ pub fn read_plans(input: &Words, at: usize, n: usize, first: usize, pool: &mut [
     let mut place = at;
     let mut p: usize = 0;
     while p < n {
-        let base = least(first + p, 4096) * 124;
+        let base = least(first + p, 4096) * PLAN_WORDS;
         place = read_plan(input, place, base, pool);
         p += 1;
     }
@@ -210,54 +220,9 @@ pub struct ReadDimension {
     pub next: usize,
 }
 
-// Of dimensions the first n count.
 pub struct ReadDimensions {
     pub dims: [DimensionInfo; 32],
     pub next: usize,
-}
-
-fn float(input: &Words, at: usize, log_scale: bool, step: OptionF64) -> Distribution
-    requires { ⌜ at ≤ 8193 ⌝ }
-{
-    Distribution::Float(FloatDistribution {
-        low: real_at(input, at + 1),
-        high: real_at(input, at + 2),
-        log_scale,
-        step,
-    })
-}
-
-fn int(input: &Words, at: usize, log_scale: bool, step: OptionI64) -> Distribution
-    requires { ⌜ at ≤ 8193 ⌝ }
-{
-    Distribution::Int(IntDistribution {
-        low: int_at(input, at + 1),
-        high: int_at(input, at + 2),
-        log_scale,
-        step,
-    })
-}
-
-fn categorical(n_choices: usize) -> Distribution {
-    Distribution::Categorical(CategoricalDistribution { n_choices })
-}
-
-// A Float's step, where the mark at `at` says that there is one.
-fn float_step(input: &Words, at: usize) -> OptionF64
-    requires { ⌜ at ≤ 9000 ⌝ }
-{
-    if replay::word(input, at) == 0 {
-        return OptionF64::None;
-    }
-    OptionF64::Some(real_at(input, at + 1))
-}
-
-// An Int's step, which stands at `at` where the number at `mark` is not 0; in the short form the two are one place.
-fn int_step(input: &Words, mark: usize, at: usize) -> OptionI64 {
-    if replay::word(input, mark) == 0 {
-        return OptionI64::None;
-    }
-    OptionI64::Some(int_at(input, at))
 }
 
 fn read(distribution: Distribution, at: usize, words: usize) -> ReadDimension
@@ -273,26 +238,18 @@ pub fn read_dimension(input: &Words, at: usize) -> ReadDimension
     ensures { λ r. ⌜ r .next ≤ 8193 ⌝ }
 {
     let form = replay::word(input, at);
-    let log_scale = replay::word(input, at + 3) == 1;
+    let a = replay::word(input, at + 1);
+    let b = replay::word(input, at + 2);
+    let c = replay::word(input, at + 3);
+    let d = replay::word(input, at + 4);
+    let e = replay::word(input, at + 5);
     match form {
-        0 => read(float(input, at, false, OptionF64::None), at, 3),
-        1 => read(
-            int(input, at, false, int_step(input, at + 3, at + 3)),
-            at,
-            4,
-        ),
-        2 => read(categorical(replay::word(input, at + 1) as usize), at, 2),
-        3 => read(
-            float(input, at, log_scale, float_step(input, at + 4)),
-            at,
-            6,
-        ),
-        4 => read(
-            int(input, at, log_scale, int_step(input, at + 4, at + 5)),
-            at,
-            6,
-        ),
-        _ => read(categorical(0), 8193, 0),
+        0 => read(session_words::distribution_of(0, a, b, 0, 0, 0), at, 3),
+        1 => read(session_words::distribution_of(1, a, b, 0, c, c), at, 4),
+        2 => read(session_words::distribution_of(2, a, 0, 0, 0, 0), at, 2),
+        3 => read(session_words::distribution_of(0, a, b, c, d, e), at, 6),
+        4 => read(session_words::distribution_of(1, a, b, c, d, e), at, 6),
+        _ => read(session_words::distribution_of(2, 0, 0, 0, 0, 0), 8193, 0),
     }
 }
 

@@ -25,17 +25,11 @@ read-plans-requires c κs = search needs
 returns-2 : tie.Need-returns-2
 returns-2 c = tt
 
-sorted-constrained-requires : tie.Need-sorted-constrained-requires
-sorted-constrained-requires c κs = let e = c .before .before .before .before .before .before .before .before .before .before .before .before .before in (e .if1 .left, mul-le-mul (e .if1 .left) (e .before .before .pre))
-
 sorted-requires : tie.Need-sorted-requires
-sorted-requires c κs = let e = c .before .before .before .before .before .before .before .before .before .before .before in (e .if1 .left, mul-le-mul (e .if1 .left) (e .before .before .pre))
+sorted-requires c κs = let e = c .before .before .before .before .before .before .before .before .before .before .before .before in (e .if1 .left, mul-le-mul (e .if1 .left) (e .before .before .pre))
 
 returns-3 : tie.Need-returns-3
 returns-3 c = tt
-
-returns-4 : tie.Need-returns-4
-returns-4 c = tt
 
 pub fronts-spec : {M : Type 1} → statement M
 fronts-spec =
@@ -48,7 +42,5 @@ fronts-spec =
     add-read-plans
     read-plans-requires
     returns-2
-    sorted-constrained-requires
     sorted-requires
-    returns-3
-    returns-4)
+    returns-3)

@@ -13,9 +13,6 @@ abbrev μ-loop : tie.MeasureT-loop
 returns : tie.Need-returns Inv-loop μ-loop
 returns c = search needs
 
-returns-2 : tie.Need-returns-2 Inv-loop μ-loop
-returns-2 c = search needs
-
 read-plans-requires : tie.Need-read-plans-requires Inv-loop μ-loop
 read-plans-requires c κs = search needs
 
@@ -40,8 +37,8 @@ loop-less c = search needs
 loop-again : tie.Need-loop-again Inv-loop μ-loop
 loop-again c = search needs
 
-returns-3 : tie.Need-returns-3 Inv-loop μ-loop
-returns-3 c = search needs
+returns-2 : tie.Need-returns-2 Inv-loop μ-loop
+returns-2 c = search needs
 
 pub take-history-spec : {M : Type 1} → statement M
 take-history-spec =
@@ -50,7 +47,6 @@ take-history-spec =
     Inv-loop
     μ-loop
     returns
-    returns-2
     read-plans-requires
     loop-holds
     read-plans-requires-2
@@ -59,4 +55,4 @@ take-history-spec =
     add-c
     loop-less
     loop-again
-    returns-3)
+    returns-2)
