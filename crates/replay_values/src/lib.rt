@@ -1,6 +1,5 @@
 // What the oracle's lines are made of beside numbers (oracle/README.md): marks, reals, plans, dimensions and settings, read from a line at a place and
 // written to one; and what the lines of the two calls on a pool have in common.
-use model::CategoricalDistribution;
 use model::DimensionInfo;
 use model::Distribution;
 use model::FloatDistribution;
@@ -253,18 +252,12 @@ pub fn read_dimension(input: &Words, at: usize) -> ReadDimension
     }
 }
 
-fn blank_dimensions() -> [DimensionInfo; 32] {
-    [DimensionInfo {
-        distribution: Distribution::Categorical(CategoricalDistribution { n_choices: 1 }),
-    }; 32]
-}
-
 // The n dimensions from `at` on, of which the first 32 are kept; the place after them.
 pub fn read_dimensions(input: &Words, at: usize, n: usize) -> ReadDimensions
     requires { ⌜ at ≤ 8193 ⌝ }
     ensures { λ r. ⌜ r .next ≤ 8193 ⌝ }
 {
-    let mut dims = blank_dimensions();
+    let mut dims = settings::blank_dimensions();
     let mut next = at;
     let mut i: usize = 0;
     while i < n {
@@ -316,18 +309,12 @@ pub struct ReadSettings {
     pub next: usize,
 }
 
-fn blank_settings() -> [Slot; 32] {
-    [Slot {
-        value: ParamValue::Float(0.0),
-    }; 32]
-}
-
 // The n settings from `at` on; the place after them.
 pub fn read_settings(input: &Words, at: usize, n: usize) -> ReadSettings
     requires { ⌜ (at ≤ 8193) × (n ≤ 32) ⌝ }
     ensures { λ r. ⌜ r .next ≤ 8193 ⌝ }
 {
-    let mut params = blank_settings();
+    let mut params = settings::blank_candidate();
     let mut next = at;
     let mut i: usize = 0;
     while i < n {

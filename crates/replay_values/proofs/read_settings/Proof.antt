@@ -10,8 +10,8 @@ Inv-loop input at n params₀ next₀ i₀ params next i = (i ≤ n) × ((n ≤ 
 abbrev μ-loop : tie.MeasureT-loop
 μ-loop input at n params₀ next₀ i₀ params next i = n - i
 
-blank-settings-requires : tie.Need-blank-settings-requires Inv-loop μ-loop
-blank-settings-requires c κs = tt
+blank-candidate-requires : tie.Need-blank-candidate-requires Inv-loop μ-loop
+blank-candidate-requires c κs = tt
 
 loop-holds : tie.Need-loop-holds Inv-loop μ-loop
 loop-holds c = search needs
@@ -55,7 +55,7 @@ read-settings-spec =
     (tie.spec
     Inv-loop
     μ-loop
-    blank-settings-requires
+    blank-candidate-requires
     loop-holds
     word-requires
     add-word
