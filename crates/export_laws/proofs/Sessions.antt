@@ -5,7 +5,6 @@ use mathlib.Core.Bool.{Bool, true, false, cond}
 use mathlib.Core.List.{List}
 use mathlib.Core.Option.{Option, none, some}
 use native.Mathlib.Omega.{arith}
-use borrow.Author.Tests.{lt-ltb, le-ltb}
 use lib.Ieee.{Float}
 use lib.ListN.{length}
 use Rattle.model.specs.declared.Distribution.{Distribution}
@@ -24,7 +23,8 @@ use Rattle.model.specs.Setting.{kindOf, toWord}
 use Rattle.model.specs.Property.{SessionOk}
 use Rattle.model.specs.Refusal.{firstOf, badDirections, badSessionSize, badSessionDivisions, badOperators, openRefusal}
 use Rattle.model.specs.Calls.{openingRefusedBy, openOf, Opens, samplingRefusedBy, SampleExit, sampleBy, sampleOf, Samples}
-use Rattle.session_words.specs.Coding.{sessionWords, sessionOf, dimensionAt}
+use Rattle.session_words.specs.Coding.{sessionWidth, sessionWords, sessionOf, dimensionAt}
+use Rattle.list_laws.proofs.Below.{cond-lt, cond-le}
 use Rattle.export_laws.specs.Coded.{written, openedBy, OpensWords, sampledWords, sampledBy, sampledExit, sampleWords, SamplesWords}
 
 -- ---- opening
@@ -61,20 +61,20 @@ module _ (marks : List ℕ) (seed : ℕ) (s t u v : OptionUsize) (p c m : Float)
         gives = λ z. absurd (never z);
       }
 
-  pub open-short : r .outcome ≡ opening.Ready → length entry < 222 → OpensWords marks seed t v p c m entry 10 entry
+  pub open-short : r .outcome ≡ opening.Ready → length entry < sessionWidth → OpensWords marks seed t v p c m entry 10 entry
   open-short e h =
       record {
-        whole = sym (ap (λ b. cond b (written 10 entry) (written 0 (over (sessionWords (r .session)) entry))) (lt-ltb (length entry) 222 h)) ∙ coded opening.Ready e;
+        whole = sym (cond-lt (length entry) sessionWidth _ _ h) ∙ coded opening.Ready e;
         holds = λ z. absurd (omega arith);
         gives = λ z. absurd (omega arith);
       }
 
-  pub open-ready : (exit : List ℕ) → r .outcome ≡ opening.Ready → 222 ≤ length entry → exit ≡ over (sessionWords (r .session)) entry → sessionOf exit ≡ r .session
+  pub open-ready : (exit : List ℕ) → r .outcome ≡ opening.Ready → sessionWidth ≤ length entry → exit ≡ over (sessionWords (r .session)) entry → sessionOf exit ≡ r .session
       → OpensWords marks seed t v p c m entry 0 exit
   open-ready exit e h x b =
       record {
         whole = ap (written 0) x
-            ∙ sym (ap (λ b. cond b (written 10 entry) (written 0 (over (sessionWords (r .session)) entry))) (le-ltb (length entry) 222 h)) ∙ coded opening.Ready e;
+            ∙ sym (cond-le (length entry) sessionWidth _ _ h) ∙ coded opening.Ready e;
         holds = λ z. b ∙ ap (λ (x : Opened). x .session) (promise .whole);
         gives = λ z cs ps ns. subst (λ y. SessionOk (state y cs ps ns)) (sym b) (promise .gives (sym (promise .refused) ∙ ap openingRefusedBy e) cs ps ns);
       }
@@ -85,16 +85,16 @@ module _ (ws ds : List ℕ) (plan : ℕ) (history cs ps ns : List ℕ) (k v : �
   abbrev before : State
   before = state (sessionOf ws) cs ps ns
 
-  pub sample-short : length ws < 222 → SamplesWords ws ds plan history cs ps ns k v (sampledWords 10 k v ws before)
+  pub sample-short : length ws < sessionWidth → SamplesWords ws ds plan history cs ps ns k v (sampledWords 10 k v ws before)
   unfolding sampleWords
   sample-short h =
       record {
-        whole = sym (ap (λ b. cond b (sampledWords 10 k v ws before) (sampledExit (sampleOf before (dimensionAt ds 0) plan history) k v ws)) (lt-ltb (length ws) 222 h));
+        whole = sym (cond-lt (length ws) sessionWidth _ _ h);
         keeps = λ z. absurd (omega arith);
         demand3 = λ z. absurd (omega arith);
       }
 
-  module _ (h : 222 ≤ length ws) (s : Session) (d : Distribution) (es : s ≡ sessionOf ws) (ed : d ≡ dimensionAt ds 0) (r : Sampled) (xs ys zs : List ℕ)
+  module _ (h : sessionWidth ≤ length ws) (s : Session) (d : Distribution) (es : s ≡ sessionOf ws) (ed : d ≡ dimensionAt ds 0) (r : Sampled) (xs ys zs : List ℕ)
       (samples : Samples (state s cs ps ns) d plan history (record { answer = r .outcome; after = state (r .session) xs ys zs })) where
     abbrev left : State
     left = state (r .session) xs ys zs
@@ -106,7 +106,7 @@ module _ (ws ds : List ℕ) (plan : ℕ) (history cs ps ns : List ℕ) (k v : �
     unfolding sampleWords
     is o e =
         sym (ap (λ x. sampledBy x left k v ws) e) ∙ ap (λ (x : SampleExit). sampledExit x k v ws) (promise' .whole)
-        ∙ sym (ap (λ b. cond b (sampledWords 10 k v ws before) (sampledExit (sampleOf before (dimensionAt ds 0) plan history) k v ws)) (le-ltb (length ws) 222 h))
+        ∙ sym (cond-le (length ws) sessionWidth _ _ h)
 
     same : (n : ℕ) → r .outcome ≡ sampling.Refused n → left ≡ before
     unfolding sampleOf

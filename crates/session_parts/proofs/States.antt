@@ -8,6 +8,7 @@ use borrow.Author.Tests.{lt-ltb, le-ltb, le-leb, lt-leb}
 use lib.Dec.{leb}
 use lib.ListN.{length, getD, set}
 use Rattle.list_laws.proofs.Rows.{row-within}
+use Rattle.list_laws.proofs.Below.{cond-lt, cond-le}
 use Rattle.model.specs.declared.Distribution.{Distribution}
 use Rattle.model.specs.declared.ParamValue.{ParamValue}
 use Rattle.model.specs.declared.Session.{Session}
@@ -66,11 +67,11 @@ enter-is s plan cs ps ns u e = ap (λ (x : Session). state x cs (set ps (s .prog
 
 pub enlist-next : (st : State) (plan : ℕ) → st .session .progress .«n_plans» < st .session .progress .«n_candidates» → enter st plan ≡ enlist st plan
 unfolding enlist
-enlist-next st plan h = ap (λ (b : Bool). enter (cond b st (overflow st)) plan) (sym (lt-ltb _ _ h))
+enlist-next st plan h = ap (λ (x : State). enter x plan) (sym (cond-lt _ _ st (overflow st) h))
 
 pub enlist-over : (st : State) (plan : ℕ) → st .session .progress .«n_candidates» ≤ st .session .progress .«n_plans» → enter (overflow st) plan ≡ enlist st plan
 unfolding enlist
-enlist-over st plan h = ap (λ (b : Bool). enter (cond b st (overflow st)) plan) (sym (le-ltb _ _ h))
+enlist-over st plan h = ap (λ (x : State). enter x plan) (sym (cond-le _ _ st (overflow st) h))
 
 overflow-plans : (st : State) → overflow st .session .progress .«n_plans» ≡ st .session .progress .«n_plans»
 unfolding overflow

@@ -25,7 +25,7 @@ use Rattle.model.specs.Real as real
 use Rattle.model.specs.Real.{_⊖_, _⊗_, unit, two, within, clamp, ofWhole}
 use Rattle.model.specs.Numbers.{roundOf, midpoint, R}
 use Rattle.model.specs.Draw.{Drawn}
-use Rattle.model.specs.Setting.{Pair, smallGap, validDimension, inBounds, drawUnit, spread, clampInt, toInt, crossFloat, crossInt, crossCategorical, crossFloats, crossInts, crossOne, mutationShift, polynomialMutation, mutateOne}
+use Rattle.model.specs.Setting.{Pair, smallGap, validDimension, inBounds, sampleRandom, drawUnit, spread, clampInt, toInt, crossFloat, crossInt, crossCategorical, crossFloats, crossInts, crossOne, mutationShift, polynomialMutation, mutateOne}
 use Rattle.settings.proofs.Valid.{FloatBounds, float-bounds, IntBounds, int-bounds}
 use Rattle.settings.proofs.InBounds.{Held, between, sampled-in-bounds}
 
@@ -162,7 +162,7 @@ mutation-fit d x k s h b i = by-bool (le (d .high ⊖ d .low) real.nought)
     clamped d _ h b (add-fits binary64 _ _) (within-not-nan 108 _ (add-within 107 x _ (lit≤ tt) (within-wider 53 107 x (lit≤ tt) (c .within)) m))))
 
 pub mutated-in-bounds : (d : Distribution) (a : ParamValue) (k s : ℕ) → Held d → validDimension d ≡ true → Fit d a → Fit d (mutateOne d a k s .value)
-unfolding inBounds
+unfolding inBounds sampleRandom
 mutated-in-bounds (dist.Float d) (value.Float x) k s h v i = mutation-fit d x k s h (float-bounds d v) i
 mutated-in-bounds (dist.Float d) (value.Int n) k s h v i = i
 mutated-in-bounds (dist.Float d) (value.Categorical c) k s h v i = i
