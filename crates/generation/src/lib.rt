@@ -1,5 +1,5 @@
 // The generation step (Rust: nsga3_generate_offspring of sampler/nsga3.rs; document 01, "Setting and dimension").
-ghost use Rattle.model.specs.Calls.{wordRequest, lent, Steps};
+ghost use Rattle.model.specs.Calls.{wordRequest, lent, stepExit, Steps};
 ghost use Rattle.model.specs.Setting.{operators};
 use model::DimensionInfo;
 use model::Outcome;
@@ -29,7 +29,7 @@ pub fn nsga3_generate_offspring(
     ensures { λ r. ⌜ Steps (operators dimensions «n_dims» «crossover_prob» «crossover_eta» «mutation_eta»)
         (wordRequest (now (pool .entry)) (now (directions .entry)) divisions size rng (now (ideal .entry)))
         (lent (now (kept .entry)) (now (fronts .entry)) (now (lines .entry))) (now (offspring .entry))
-        (record { answer = r; ideal = now (ideal .exit); slices = lent (now (kept .exit)) (now (fronts .exit)) (now (lines .exit)); offspring = now (offspring .exit) }) ⌝ }
+        (stepExit r (now (ideal .exit)) (lent (now (kept .exit)) (now (fronts .exit)) (now (lines .exit))) (now (offspring .exit))) ⌝ }
 {
     let check = step_refusal::refusal(
         pool,

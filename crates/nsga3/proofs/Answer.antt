@@ -17,7 +17,7 @@ use Rattle.model.specs.Association.{Request}
 use Rattle.model.specs.Refusal.{selectRefusal}
 use Rattle.niching_laws.proofs.KeptLength.{kept-length, fronts-all}
 use Rattle.model.specs.Kept.{before, isSplit, bySplit, selectedWhole, selected, padding, noLine}
-use Rattle.model.specs.Calls.{Lent, lent, roomOf, SelectExit, wordRequest, answered, selectAccepted, selectBy, selectOf, Selects}
+use Rattle.model.specs.Calls.{Lent, lent, roomOf, SelectExit, selectExit, laid, wordRequest, answered, selectAccepted, selectBy, selectOf, Selects}
 use Rattle.demand3_laws.proofs.Calls.{planAt-row, selects}
 use Rattle.front_cut.specs.declared.Cut.{Cut}
 use Rattle.plan_rows.specs.Filled.{RowsFilled}
@@ -25,7 +25,7 @@ use Rattle.plan_rows.proofs.Rows.{rows-values}
 use Rattle.pool_sort.specs.Laid.{RowsIn, OrderIn, Sorts}
 use Rattle.nsga3_laws.specs.Admitted.{Admitted}
 use Rattle.nsga3_laws.proofs.Admitted.{admitted}
-use Rattle.nsga3.specs.Handed.{Hands, exit}
+use Rattle.nsga3.specs.Handed.{Hands}
 
 module _ (r : Request) (i : List Float) (k₀ k l₀ l : List ℕ) (s : ℕ) where
   -- ---- by whether a front is split
@@ -58,14 +58,14 @@ rows-in marks plans n k e old rows h f = record { table = h; values = λ p j a b
 
 pub accepted-exit : (r : Request) (o : List ℕ) (c : Cut) (i : List Float) (k₀ k f₀ f l₀ l : List ℕ) (g : Rng) → Sorts r o c f₀ f
     → Hands (selected r) i k₀ k l₀ l (g .s)
-    → exit (record { outcome = outcome.Kept (r .size); rng = g }) i k f l ≡ selectAccepted r (lent k₀ f₀ l₀)
+    → selectExit (record { outcome = outcome.Kept (r .size); rng = g }) i (lent k f l) ≡ selectAccepted r (lent k₀ f₀ l₀)
 unfolding selectAccepted
 accepted-exit r o c i k₀ k f₀ f l₀ l g a h =
-    ap₂ (λ s j. exit (answered (outcome.Kept (r .size)) s) j k f l) (h .state) (h .ideal)
-    ∙ ap₂ (λ x y. exit (answered (outcome.Kept (r .size)) (selected r .state)) (selected r .ideal) x f y) (h .kept) (h .lines)
-    ∙ ap (λ x. exit (answered (outcome.Kept (r .size)) (selected r .state)) (selected r .ideal) (over (selected r .kept) k₀) x (over (selected r .lines) l₀))
+    ap₂ (λ s j. selectExit (answered (outcome.Kept (r .size)) s) j (lent k f l)) (h .state) (h .ideal)
+    ∙ ap₂ (λ x y. selectExit (answered (outcome.Kept (r .size)) (selected r .state)) (selected r .ideal) (lent x f y)) (h .kept) (h .lines)
+    ∙ ap (λ x. selectExit (answered (outcome.Kept (r .size)) (selected r .state)) (selected r .ideal) (lent (over (selected r .kept) k₀) x (over (selected r .lines) l₀)))
     (a .ranks ∙ ap (λ t. over t f₀) (sym (fronts-all r)))
-    ∙ ap (λ n. exit (answered (outcome.Kept n) (selected r .state)) (selected r .ideal) (over (selected r .kept) k₀) (over (selected r .fronts) f₀) (over (selected r .lines) l₀))
+    ∙ ap (λ n. selectExit (answered (outcome.Kept n) (selected r .state)) (selected r .ideal) (laid (selected r) (lent k₀ f₀ l₀)))
     (sym (kept-length r))
 
 module _ (pool directions : List ℕ) (divisions size : ℕ) (g : Rng) (ideal : List Float) (entry : Lent) where

@@ -6,8 +6,6 @@ use lib.Ieee.{Float}
 use Rattle.model.specs.Lists.{over}
 use Rattle.model.specs.Association.{Request}
 use Rattle.model.specs.Kept.{Selected}
-use Rattle.model.specs.Calls.{lent, SelectExit}
-use Rattle.model.specs.declared.Selection.{Selection}
 use Rattle.front_cut.specs.declared.Cut.{Cut}
 use Rattle.nsga3_laws.specs.Admitted.{Admitted}
 use Rattle.pool_sort.specs.Laid.{RowsIn, OrderIn}
@@ -25,7 +23,3 @@ pub record Hands (sel : Selected) (i : List Float) (k₀ k l₀ l : List ℕ) (s
   pub kept : k ≡ over (sel .kept) k₀
   pub lines : l ≡ over (sel .lines) l₀
   pub state : s ≡ sel .state
-
--- what a call leaves: its answer, the ideal and the lent slices
-abbrev pub exit : Selection → List Float → List ℕ → List ℕ → List ℕ → SelectExit
-exit answer ideal kept fronts lines = record { answer = answer; ideal = ideal; slices = lent kept fronts lines }

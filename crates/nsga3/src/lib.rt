@@ -3,9 +3,9 @@ ghost use mathlib.Core.Path.{_≡_};
 ghost use mathlib.Core.Bool.{true};
 ghost use lib.ListN.{length};
 ghost use Rattle.model.specs.Kept.{selectedSplit, selected};
-ghost use Rattle.model.specs.Calls.{wordRequest, lent, roomOf, selectAccepted, Selects};
+ghost use Rattle.model.specs.Calls.{wordRequest, lent, roomOf, selectExit, selectAccepted, Selects};
 ghost use Rattle.nsga3_laws.specs.Admitted.{Admitted};
-ghost use Rattle.nsga3.specs.Handed.{SortedPool, Hands, exit};
+ghost use Rattle.nsga3.specs.Handed.{SortedPool, Hands};
 use front_cut::Cut;
 use model::MAX_PLANS;
 use model::MAX_VALUES;
@@ -110,7 +110,7 @@ fn select(
 ) -> Selection
     requires { ⌜ Admitted (wordRequest (now pool) (now directions) divisions size rng (now ideal))
         (roomOf (lent (now kept) (now fronts) (now lines))) ⌝ }
-    ensures { λ r. ⌜ exit r (now (ideal .exit)) (now (kept .exit)) (now (fronts .exit)) (now (lines .exit))
+    ensures { λ r. ⌜ selectExit r (now (ideal .exit)) (lent (now (kept .exit)) (now (fronts .exit)) (now (lines .exit)))
         ≡ selectAccepted (wordRequest (now (pool .entry)) (now (directions .entry)) divisions size rng (now (ideal .entry)))
         (lent (now (kept .entry)) (now (fronts .entry)) (now (lines .entry))) ⌝ }
 {
@@ -152,7 +152,7 @@ pub fn nsga3_select(
 ) -> Selection
     ensures { λ r. ⌜ Selects (wordRequest (now (pool .entry)) (now (directions .entry)) divisions size rng (now (ideal .entry)))
         (lent (now (kept .entry)) (now (fronts .entry)) (now (lines .entry)))
-        (record { answer = r; ideal = now (ideal .exit); slices = lent (now (kept .exit)) (now (fronts .exit)) (now (lines .exit)) }) ⌝ }
+        (selectExit r (now (ideal .exit)) (lent (now (kept .exit)) (now (fronts .exit)) (now (lines .exit)))) ⌝ }
 {
     let check = refusals::refusal(
         pool,

@@ -11,7 +11,7 @@ use Rattle.model.specs.Real.{infinity}
 use Rattle.model.specs.Association.{Request}
 use Rattle.model.specs.PoolFile.{listingText}
 use Rattle.model.specs.Refusal.{maxSize}
-use Rattle.model.specs.Calls.{Lent, lent, roomOf, SelectExit, Selects, wordRequest}
+use Rattle.model.specs.Calls.{Lent, lent, roomOf, SelectExit, selectExit, Selects, wordRequest}
 use Rattle.pool_laws.specs.Text.{listed}
 use Rattle.pool_laws.specs.Choice.{roomy, textExit}
 use Rattle.pool_laws.proofs.Words.{ideal-start, refused-exit, few-kept, few-plans, text-short, listed-exit}
@@ -37,7 +37,7 @@ objectives s = length (s .before .before .before .before .before .before .before
 abbrev left : tie.After-nsga3-select → SelectExit
 left s =
     let l = s .nsga3-select .last .1 .1 .1 .1 .1 in
-    record { answer = s .nsga3-select .result; ideal = l .0; slices = lent (l .1 .0) (l .1 .1 .0) (l .1 .1 .1 .0) }
+    selectExit (s .nsga3-select .result) (l .0) (lent (l .1 .0) (l .1 .1 .0) (l .1 .1 .1 .0))
 
 -- what the selection promises, of the ideal at infinity
 promised : (s : tie.After-nsga3-select) → Selects (asked s (replicate (objectives s) infinity)) zeros (left s)
