@@ -16,13 +16,13 @@ sample-requires : tie.Need-sample-requires
 sample-requires c κs = search needs
 
 same-length : tie.Need-same-length
-same-length c = c .before .before .before .before .before .before .sample .kept .1 .1 .1 .1 .0
+same-length c = search needs
 
 same-length-2 : tie.Need-same-length-2
-same-length-2 c = c .before .before .before .before .before .before .sample .kept .1 .1 .1 .1 .1 .0
+same-length-2 c = search needs
 
 same-length-3 : tie.Need-same-length-3
-same-length-3 c = c .before .before .before .before .before .before .sample .kept .1 .1 .1 .1 .1 .1 .0
+same-length-3 c = search needs
 
 returns : tie.Need-returns
 returns c = search needs
