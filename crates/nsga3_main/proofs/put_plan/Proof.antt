@@ -35,6 +35,9 @@ slice-write-pool-3 c = simp length-set (omega arith)
 add-pool-3 : tie.Need-add-pool-3
 add-pool-3 c = search needs
 
+add-pool-4 : tie.Need-add-pool-4
+add-pool-4 c = search needs
+
 mul-pool-4 : tie.Need-mul-pool-4
 mul-pool-4 c = search needs
 
@@ -61,6 +64,7 @@ put-plan-spec =
     mul-pool-3
     slice-write-pool-3
     add-pool-3
+    add-pool-4
     mul-pool-4
     slice-write-pool-4
     same-length
