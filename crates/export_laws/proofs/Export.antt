@@ -2,8 +2,7 @@
 use Prim.Native.Nat.{ℕ}
 use mathlib.Core.Path.{_≡_, refl, sym, ap, ap₂, subst, _∙_}
 use mathlib.Core.List.{List}
-use mathlib.Core.Option.{none}
-use native.Mathlib.Omega.{arith}
+use mathlib.Core.Option.{none, Option·some-ne-none}
 use lib.ListN.{take}
 use Rattle.model.specs.declared.Chosen.{Chosen}
 use Rattle.model.specs.declared.Chosen.the-variants as chosen
@@ -20,11 +19,11 @@ use Rattle.export_laws.specs.Coded.{SelectsWords, StepsWords, ListsWords
 -- what an answer hands out that is no refusal is as long as the answer says
 handed : (q : Request) (o : Outcome) (before : ℕ) (kept : List ℕ) → refusedBy o ≡ none → Demand3 q (handedOut o kept) → Demand3 q (take (keptOf o before) kept)
 handed q (outcome.Kept n) before kept h d = d
-handed q (outcome.Refused n) before kept h d = absurd (let z : _≡_ {A = ℕ} 0 1 = cc in omega arith)
+handed q (outcome.Refused n) before kept h d = absurd (Option·some-ne-none n h)
 
 text-handed : (o : Chosen) (before : ℕ) (out : List ℕ) → chosenRefusedBy o ≡ none → textHandedOut o out ≡ take (chosenLength o before) out
 text-handed (chosen.Written n) before out h = refl
-text-handed (chosen.Refused n) before out h = absurd (let z : _≡_ {A = ℕ} 0 1 = cc in omega arith)
+text-handed (chosen.Refused n) before out h = absurd (Option·some-ne-none n h)
 
 select-kept : (q : Request) (at : Lent) → selectRefusal q (roomOf at) ≡ none → selectOf q at .answer .outcome ≡ outcome.Kept (q .size)
 unfolding selectOf selectAccepted

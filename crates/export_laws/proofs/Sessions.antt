@@ -3,7 +3,7 @@ use Prim.Native.Nat.{ℕ, _≤_, _<_}
 use mathlib.Core.Path.{_≡_, sym, ap, ap₂, subst, _∙_}
 use mathlib.Core.Bool.{Bool, true, false, cond}
 use mathlib.Core.List.{List}
-use mathlib.Core.Option.{Option, none, some}
+use mathlib.Core.Option.{Option, none, some, Option·none-ne-some}
 use native.Mathlib.Omega.{arith}
 use lib.Ieee.{Float}
 use lib.ListN.{length}
@@ -35,7 +35,7 @@ first-above true b c d e = let z : _≡_ {A = ℕ} 2 0 = cc in omega arith
 first-above false true c d e = let z : _≡_ {A = ℕ} 3 0 = cc in omega arith
 first-above false false true d e = let z : _≡_ {A = ℕ} 4 0 = cc in omega arith
 first-above false false false true e = let z : _≡_ {A = ℕ} 5 0 = cc in omega arith
-first-above false false false false e = let z : _≡_ {A = ℕ} 0 1 = cc in omega arith
+first-above false false false false e = Option·none-ne-some 0 e
 
 open-above : (marks : List ℕ) (size divisions : Option ℕ) (p c m : Float) → openRefusal marks size divisions p c m ≡ some 0 → ⊥
 unfolding openRefusal firstOf

@@ -9,7 +9,7 @@ use native.Mathlib.Omega.{arith}
 use borrow.Author.Tests.{le-ltb, ltb-true, ltb-false}
 use lib.Dec.{ltb}
 use lib.ListN.{length, getD}
-use Rattle.model.specs.Lists.{bestFrom, In}
+use Rattle.model.specs.Lists.{bestFrom, bestIn, In}
 use Rattle.list_laws.proofs.Bools.{by-cond}
 use Rattle.list_laws.proofs.Below.{same-below, last-or}
 use Rattle.list_laws.proofs.Members.{getD-in, place-of}
@@ -68,9 +68,6 @@ best-map beats h b f (suc n) =
     either false = refl
 
 -- ---- the best of a list, which is in it where anything is, and which nothing in it beats
-
-abbrev pub bestIn : (ℕ → ℕ → Bool) → List ℕ → ℕ
-bestIn beats ps = bestFrom beats (getD ps 0 0) (λ i. getD ps i 0) (length ps)
 
 pub best-member : (beats : ℕ → ℕ → Bool) → ((x : ℕ) → beats x x ≡ false) → ((x y z : ℕ) → beats x y ≡ false → beats z y ≡ true → beats x z ≡ false)
     → {p : ℕ} (ps : List ℕ) → In p ps → In (bestIn beats ps) ps × ((q : ℕ) → In q ps → beats q (bestIn beats ps) ≡ false)

@@ -33,7 +33,7 @@ put-length o₀ o₁ at r a p = ap length (p .stored) ∙ length-sets o₀ at a
 pub put-as : (o₀ o₁ : List ℕ) (at r : ℕ) (a b : List ℕ) → a ≡ b → Put o₀ at a o₁ r → Put o₀ at b o₁ r
 put-as o₀ o₁ at r a b e p = record { stored = p .stored ∙ ap (λ (l : List ℕ). sets o₀ at l) e; ends = p .ends ∙ ap (λ (l : List ℕ). at + length l) e }
 
--- a text at the front
+-- what is put at the front stands over what was there
 pub put-over : (o₀ o₁ : List ℕ) (r : ℕ) (a : List ℕ) → length a ≤ length o₀ → Put o₀ 0 a o₁ r → o₁ ≡ over a o₀
 put-over o₀ o₁ r a h p = p .stored ∙ over-front a o₀ h
 

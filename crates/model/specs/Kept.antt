@@ -5,7 +5,7 @@ use mathlib.Core.List.{List, [], _++_, map}
 use lib.Dec.{eqb, leb, ltb}
 use lib.Ieee.{Float, lt}
 use lib.ListN.{length, getD, replicate}
-use Rattle.model.specs.Lists.{bestFrom, listBelow, keepBelow, firstBelow, allIn, has, keep, tally}
+use Rattle.model.specs.Lists.{bestIn, listBelow, keepBelow, firstBelow, allIn, has, keep, tally}
 use Rattle.model.specs.Draw.{Drawn, drawn, drawUsize, drawAll}
 use Rattle.model.specs.Front.{front, listing, frontList}
 use Rattle.model.specs.Association.{Request, objectives, lineCount, dominance, idealOf, association, lineOf}
@@ -39,7 +39,7 @@ nearerPlan distance p q = lt (distance p) (distance q)
 
 -- the nearest of a list, the first listed on a tie
 unfoldable pub nearest : (ℕ → Float) → List ℕ → ℕ
-nearest distance ps = bestFrom (nearerPlan distance) (getD ps 0 0) (λ i. getD ps i 0) (length ps)
+nearest distance ps = bestIn (nearerPlan distance) ps
 
 -- "at count 0 take the nearest member, first listed on a tie, else draw a member in listed order"
 unfoldable pub drawMember : (ℕ → Float) → ℕ → List ℕ → ℕ → Drawn ℕ

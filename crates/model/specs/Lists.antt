@@ -88,6 +88,10 @@ placeIn list p = firstBelow (λ i. eqb (getD list i 0) p) (length list)
 abbrev pub Distinct : List ℕ → Type 0
 Distinct list = List·Nodup list
 
+-- the best of a list by such a test as `bestFrom` takes, the first listed on a tie
+abbrev pub bestIn : (ℕ → ℕ → Bool) → List ℕ → ℕ
+bestIn beats list = bestFrom beats (getD list 0 0) (λ i. getD list i 0) (length list)
+
 -- those of a list that pass, in listed order
 unfoldable pub keep : (ℕ → Bool) → List ℕ → List ℕ
 keep f [] = []

@@ -378,7 +378,7 @@ brood o parents ranks s =
     let b = mutate (o .dims) (o .dimCount) (c .value .second) (exponentOf (o .mutationEta)) (a .state) in
     drawn (children (a .value) (b .value)) (b .state)
 
--- the children of so many broods, one after the other
+-- the children of so many broods, one after the other: both of each
 abbrev pub withBoth : List (List ParamValue) → Children → List (List ParamValue)
 withBoth born c = born ++ (c .first ∷ c .second ∷ [])
 

@@ -9,10 +9,10 @@ use lib.Dec.{eqb, leb, ltb}
 use lib.Ieee.{Float, lt}
 use lib.ListN.{length}
 use borrow.Author.Tests.{eqb-true, eq-eqb, leb-true, le-leb, ltb-false}
-use Rattle.model.specs.Lists.{In, has, keep, allIn}
+use Rattle.model.specs.Lists.{In, bestIn, has, keep, allIn}
 use Rattle.model.specs.Draw.{drawWord, drawUsize}
 use Rattle.model.specs.Kept.{openLines, leastLines, drawFrom, nearest, drawMember, pickFrom, nearerPlan}
-use Rattle.list_laws.proofs.Best.{bestIn, best-member, ltb-self, ltb-down}
+use Rattle.list_laws.proofs.Best.{best-member, ltb-self, ltb-down}
 use Rattle.list_laws.proofs.Members.{in-has, has-in, keep-in, in-keep, getD-in, place-of, allIn-member}
 use Rattle.list_laws.proofs.Kept.{keepBelow-in, in-keepBelow}
 use Rattle.list_laws.proofs.Tests.{allIn-every}

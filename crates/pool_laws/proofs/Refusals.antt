@@ -14,7 +14,7 @@ use Rattle.model.specs.Refusal.{check, firstOf, maxSize, badDirections, badSize
 use Rattle.list_laws.proofs.Checks.{applies-first}
 use Rattle.demand3_laws.proofs.Passed.{one-to-1024}
 use Rattle.model.specs.Calls.{chooseBy}
-use Rattle.pool_laws.specs.Choice.{exit, textRefusal, textExit, roomy, orElse, listRefusal, listExit}
+use Rattle.pool_laws.specs.Choice.{exit, textRefusal, textExit, roomy, firstSome, listRefusal, listExit}
 
 enough : (r : Request) → badSize (r .size) ≡ false → badCount (r .count) ≡ false → noRoom r roomy ≡ false
 unfolding noRoom
@@ -24,7 +24,7 @@ abbrev six : Bool → Bool → Bool → Bool → Bool → Bool → Option ℕ
 six a b c d e f = firstOf (check 2 a ∷ check 3 b ∷ check 4 c ∷ check 7 d ∷ check 8 e ∷ check 10 f ∷ [])
 
 -- where 10 applies only after 3 or 7, another 10 may follow
-ten-last : (a b c d e x y : Bool) → (b ≡ false → d ≡ false → x ≡ false) → six a b c d e y ≡ orElse (six a b c d e x) (cond y (some 10) none)
+ten-last : (a b c d e x y : Bool) → (b ≡ false → d ≡ false → x ≡ false) → six a b c d e y ≡ firstSome (six a b c d e x) (cond y (some 10) none)
 unfolding firstOf
 ten-last true b c d e x y f = refl
 ten-last false true c d e x y f = refl
@@ -44,7 +44,7 @@ file-refusal f out =
 pub file-selects : (f : PoolFile) (out : ℕ) → fileRefusal f out ≡ none → selectRefusal (fileRequest f) roomy ≡ none
 file-selects f out e = first-none (selectRefusal (fileRequest f) roomy) _ (sym (file-refusal f out) ∙ e)
   where
-    first-none : (a b : Option ℕ) → orElse a b ≡ none → a ≡ none
+    first-none : (a b : Option ℕ) → firstSome a b ≡ none → a ≡ none
     first-none none b h = refl
     first-none (some n) b h = h
 
@@ -58,7 +58,7 @@ pub many-plans : (n : ℕ) → maxSize < n → badCount n ≡ true
 many-plans n h = rw (lt-ltb maxSize n h, or-true)
 
 -- where 7 applies, neither a later test nor a text is looked at
-seven-stops : (a b c e f x y : Bool) (o : Option ℕ) (s t out : List ℕ) → chooseBy (orElse (six a b c true e f) o) s out ≡ chooseBy (six a b c true x y) t out
+seven-stops : (a b c e f x y : Bool) (o : Option ℕ) (s t out : List ℕ) → chooseBy (firstSome (six a b c true e f) o) s out ≡ chooseBy (six a b c true x y) t out
 unfolding firstOf
 seven-stops true b c e f x y o s t out = refl
 seven-stops false true c e f x y o s t out = refl
@@ -77,8 +77,8 @@ refused-alike w f out two three four empty many =
 -- ---- the listing's answer, by the selection's
 
 module _ (r : Request) (out : List ℕ) where
-  list-by : (o : Option ℕ) → selectRefusal r roomy ≡ o → listExit r out ≡ chooseBy (orElse o (textRefusal (requestText r) (length out))) (requestText r) out
-  list-by o e = ap (λ (t : Option ℕ). chooseBy (orElse t (textRefusal (requestText r) (length out))) (requestText r) out) e
+  list-by : (o : Option ℕ) → selectRefusal r roomy ≡ o → listExit r out ≡ chooseBy (firstSome o (textRefusal (requestText r) (length out))) (requestText r) out
+  list-by o e = ap (λ (t : Option ℕ). chooseBy (firstSome t (textRefusal (requestText r) (length out))) (requestText r) out) e
 
   pub list-refused : (n : ℕ) → selectRefusal r roomy ≡ some n → listExit r out ≡ exit (chosen.Refused n) out
   list-refused n e = list-by (some n) e

@@ -25,13 +25,14 @@ textExit text out = chooseBy (textRefusal text (length out)) text out
 abbrev pub roomy : Room
 roomy = record { kept = maxSize; fronts = maxSize; lines = maxSize }
 
-abbrev pub orElse : Option ℕ → Option ℕ → Option ℕ
-orElse none o = o
-orElse (some n) o = some n
+-- the first of two refusals
+abbrev pub firstSome : Option ℕ → Option ℕ → Option ℕ
+firstSome none o = o
+firstSome (some n) o = some n
 
 -- the refusal of a request whose listing is to be written: the selection's, or the text's; `fileRefusal` is that of a file's request (`file-refusal`)
 abbrev pub listRefusal : Request → ℕ → Option ℕ
-listRefusal r out = orElse (selectRefusal r roomy) (textRefusal (requestText r) out)
+listRefusal r out = firstSome (selectRefusal r roomy) (textRefusal (requestText r) out)
 
 abbrev pub listExit : Request → List ℕ → ChooseExit
 listExit r out = chooseBy (listRefusal r (length out)) (requestText r) out

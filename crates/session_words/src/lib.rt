@@ -51,6 +51,7 @@ fn marked(w: u64) -> bool
     true
 }
 
+// A yes or no as a word, 1 or 0.
 pub fn mark(b: bool) -> u64
     ensures { λ r. ⌜ r ≡ one b ⌝ }
 {
