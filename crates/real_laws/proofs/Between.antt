@@ -23,7 +23,8 @@ use Rattle.model.specs.Numbers.{powerUp, P, Ends, ends, halved, halvings, R}
 use Rattle.real_laws.proofs.Roots.Pattern.{read-low, read-normal}
 use Rattle.real_laws.proofs.Powers.{inf-mul, fits-power, power-from, power-mono, same-power}
 use Rattle.real_laws.proofs.Nan.{rise, below-inf}
-use Rattle.real_laws.proofs.Halving.{Top, by-halves, gap, adjacent, root-by}
+use Rattle.real_laws.specs.Parting.{Top}
+use Rattle.real_laws.proofs.Halving.{by-halves, gap, adjacent, root-by}
 
 -- ---- the real of a pattern up to that of 2^52
 pattern : (b : ℕ) → b ≤ Top → T (unsigned (real b))

@@ -1,24 +1,20 @@
--- The root R by halving: how the ends go on, that they become neighbours, and that further halvings leave neighbours alone. Assumes nothing.
-use mathlib.Core.Path.{_≡_, refl, sym, ap, _∙_, subst}
+-- The root R by halving: how the ends go on, and that they become neighbours. Assumes nothing.
+use mathlib.Core.Path.{_≡_, sym, ap, _∙_, subst}
 use mathlib.Core.Bool.{Bool, true, false, cond}
 use Prim.Native.Nat.{ℕ, zero, suc, _+_, _-_, _*_, _/_, _^_, _≤_, _<_}
-use native.Mathlib.Nat.{pow-suc, mul-assoc, mul-comm, mul-le-mul-right, add-zero, add-suc, lt-of-not-le}
+use native.Mathlib.Nat.{pow-suc, mul-assoc, mul-comm, mul-le-mul-right}
 use native.Mathlib.Omega.{arith}
 use borrow.Author.Tests.{le-leb, lt-leb}
-use lib.Pow.{pow-mono}
 use lib.Ieee.{Float, le, eq}
 use Rattle.list_laws.proofs.Bools.{by-bool}
 use Rattle.list_laws.proofs.Below.{by-lt}
 use Rattle.model.specs.Real.{real, nought}
 use Rattle.model.specs.Numbers.{P, Ends, ends, halfBy, halved, halvings, R}
-
--- the upper end at the start: the pattern of 2^52
-abbrev pub Top : ℕ
-Top = 0x4330_0000_0000_0000
+use Rattle.real_laws.specs.Parting.{Top}
 
 module _ (v : Float) (k : ℕ) where
   -- ---- one halving
-  pub neighbours : (l u : ℕ) → u ≤ suc l → halved v k (ends l u) ≡ ends l u
+  neighbours : (l u : ℕ) → u ≤ suc l → halved v k (ends l u) ≡ ends l u
   unfolding halved
   neighbours l u h = ap (λ (b : Bool). cond b (ends l u) (halfBy v k (ends l u) ((l + u) / 2))) (le-leb u (suc l) h)
 
@@ -68,53 +64,7 @@ module _ (v : Float) (k : ℕ) where
   pub adjacent : halvings v k 63 .upper ≡ suc (halvings v k 63 .lower)
   adjacent = let g = gap 63 in let o = g .order in let l = g .left in omega arith
 
-  -- ---- ends that some halvings lead to
-  pub record Reached (l u : ℕ) : Type 0 where
-    pub turns : ℕ
-    pub few : turns ≤ 63
-    pub are : ends l u ≡ halvings v k turns
-
-  pub start : Reached 0 Top
-  unfolding halvings
-  start = record { turns = 0; few = omega arith; are = refl }
-
-  pub shape : (l u : ℕ) (r : Reached l u) → Gap (r .turns) (ends l u)
-  shape l u r = subst (Gap (r .turns)) (sym (r .are)) (gap (r .turns))
-
-  -- ends that are no neighbours have not been halved 63 times
-  some : (l u : ℕ) (r : Reached l u) → l + 1 < u → r .turns < 63
-  some l u r h = lt-of-not-le (λ (q : 63 ≤ r .turns). none (u - l - 1) (2 ^ r .turns) (omega arith) (pow-mono q) (shape l u r .left))
-    where
-      none : (g p : ℕ) → 0 < g → 2 ^ 63 ≤ p → g * p < 2 ^ 63 → ⊥
-      none g p G h l = let b : 1 * p ≤ g * p = mul-le-mul-right p G in omega arith
-
-  -- one halving further
-  further : (l u l' u' : ℕ) → Reached l u → l + 1 < u → halved v k (ends l u) ≡ ends l' u' → Reached l' u'
-  unfolding halvings
-  further l u l' u' r h e = record { turns = suc (r .turns); few = some l u r h; are = sym e ∙ ap (halved v k) (r .are) }
-
-  pub on-upper : (l u : ℕ) → Reached l u → l + 1 < u → le (P (real ((l + u) / 2)) k) v ≡ true → Reached ((l + u) / 2) u
-  on-upper l u r h t = further l u ((l + u) / 2) u r h (half-is l u true (omega arith) t)
-
-  pub on-lower : (l u : ℕ) → Reached l u → l + 1 < u → le (P (real ((l + u) / 2)) k) v ≡ false → Reached l ((l + u) / 2)
-  on-lower l u r h t = further l u l ((l + u) / 2) r h (half-is l u false (omega arith) t)
-
-  -- ---- neighbours stay
-  stay : (l u n d : ℕ) → u ≤ suc l → ends l u ≡ halvings v k n → ends l u ≡ halvings v k (n + d)
-  unfolding halvings
-  stay l u n zero h e = e ∙ ap (halvings v k) (sym (add-zero n))
-  stay l u n (suc d) h e =
-      sym (neighbours l u h) ∙ ap (halved v k) (stay l u n d h e) ∙ ap (halvings v k) (sym (add-suc n d))
-
-  pub finished : (l u : ℕ) → Reached l u → u ≤ l + 1 → ends l u ≡ halvings v k 63
-  finished l u r h =
-      let few = r .few in
-      stay l u (r .turns) (63 - r .turns) (omega arith) (r .are) ∙ ap (halvings v k) (omega arith)
-
   -- ---- R
   pub root-by : (b : Bool) → eq v nought ≡ b → R v k ≡ cond b nought (real (halvings v k 63 .lower))
   unfolding R
   root-by b e = ap (λ (c : Bool). cond c nought (real (halvings v k 63 .lower))) e
-
-  pub root-is : (l u : ℕ) → eq v nought ≡ false → Reached l u → u ≤ l + 1 → real l ≡ R v k
-  root-is l u e r h = ap (λ (d : Ends). real (d .lower)) (finished l u r h) ∙ sym (root-by false e)

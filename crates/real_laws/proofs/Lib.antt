@@ -7,3 +7,4 @@ pub mod Roots
 pub mod Powers
 pub mod Halving
 pub mod Between
+pub mod Parting

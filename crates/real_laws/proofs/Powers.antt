@@ -3,7 +3,7 @@
 use mathlib.Core.Path.{_≡_, refl, ap, _∙_, subst}
 use mathlib.Core.Logic.{inl, inr}
 use mathlib.Core.Bool.{Bool, true, false, cond}
-use Prim.Native.Nat.{ℕ, zero, suc, _*_, _^_, _<_, zero-le}
+use Prim.Native.Nat.{ℕ, zero, suc, _+_, _-_, _*_, _^_, _≤_, _<_, zero-le}
 use native.Mathlib.Nat.{le-antisymm, zero-mul}
 use native.Mathlib.Omega.{arith}
 use borrow.Author.Tests.{ne-eqb}
@@ -18,8 +18,20 @@ use Rattle.float_laws.proofs.Rounding.{between-finite, rounded-exact}
 use Rattle.float_laws.proofs.Constants.{nought, nought-counts, nought-fits, nought-not-nan, one, one-number}
 use Rattle.float_laws.proofs.Arithmetic.{count, mul-mono, mul-from-zero, mul-rounded}
 use Rattle.float_laws.proofs.FromZero.{Upto, mul-upto, one-times-one}
-use Rattle.model.specs.Numbers.{powerUp}
+use Rattle.model.specs.Numbers.{powerUp, P}
 use Rattle.real_laws.proofs.Nan.{rise, below-inf}
+
+-- ---- by a loop that counts the factors from 1 on: one factor more, and all of them
+pub factor-more : (y p : Float) (j : ℕ) → 1 ≤ j → p ≡ P y j → mul binary64 p y ≡ P y (j + 1)
+unfolding powerUp
+factor-more y p j h e =
+    let n : suc (j - 1) ≡ j + 1 - 1 = omega arith in
+    ap (λ (x : Float). mul binary64 x y) e ∙ ap (powerUp y) n
+
+pub factors-all : (y p : Float) (j k : ℕ) → 1 ≤ j → j - 1 ≤ k - 1 → k ≤ j → p ≡ P y j → p ≡ P y k
+factors-all y p j k a b c e =
+    let n : j - 1 ≡ k - 1 = omega arith in
+    e ∙ ap (powerUp y) n
 
 -- the infinity times what is above zero
 inf-times : (z : Float) → T (lt nought z) → mul binary64 (inf false) z ≡ inf false

@@ -1,9 +1,9 @@
 -- The invariant: after j factors the product is P(y, j). Assumes nothing.
-use mathlib.Core.Path.{_≡_, refl, ap, _∙_}
-use Prim.Native.Nat.{ℕ, suc, _+_, _-_, _≤_}
+use mathlib.Core.Path.{_≡_, refl}
+use Prim.Native.Nat.{_-_, _≤_}
 use native.Mathlib.Omega.{arith}
-use lib.Ieee.{Float, binary64, mul}
 use Rattle.model.specs.Numbers.{powerUp, P}
+use Rattle.real_laws.proofs.Powers.{factor-more, factors-all}
 use Rattle.powers.proofs.power.Statement.{statement}
 use Rattle.powers.proofs.power.Tie as tie
 
@@ -12,17 +12,6 @@ Inv-loop y k p₀ j₀ p j = (1 ≤ j) × (j - 1 ≤ k - 1) × (p ≡ P y j)
 
 abbrev μ-loop : tie.MeasureT-loop
 μ-loop y k p₀ j₀ p j = k - j
-
-once-more : (y p : Float) (j : ℕ) → 1 ≤ j → p ≡ P y j → mul binary64 p y ≡ P y (j + 1)
-unfolding powerUp
-once-more y p j h e =
-    let n : suc (j - 1) ≡ j + 1 - 1 = omega arith in
-    ap (λ (x : Float). mul binary64 x y) e ∙ ap (powerUp y) n
-
-all : (y p : Float) (j k : ℕ) → 1 ≤ j → j - 1 ≤ k - 1 → k ≤ j → p ≡ P y j → p ≡ P y k
-all y p j k a b c e =
-    let n : j - 1 ≡ k - 1 = omega arith in
-    e ∙ ap (powerUp y) n
 
 loop-holds : tie.Need-loop-holds Inv-loop μ-loop
 unfolding powerUp
@@ -37,12 +26,12 @@ loop-less c = omega arith
 loop-again : tie.Need-loop-again Inv-loop μ-loop
 loop-again c =
     let l = c .before .loop in
-    (omega arith, omega arith, once-more (c .before .before .args .y) (l .p) (l .j) (l .inv .0) (l .inv .2))
+    (omega arith, omega arith, factor-more (c .before .before .args .y) (l .p) (l .j) (l .inv .0) (l .inv .2))
 
 returns : tie.Need-returns Inv-loop μ-loop
 returns c =
     let l = c .before .loop in
-    all (c .before .before .args .y) (l .p) (l .j) (c .before .before .args .k) (l .inv .0) (l .inv .1) (c .loop-test .left) (l .inv .2)
+    factors-all (c .before .before .args .y) (l .p) (l .j) (c .before .before .args .k) (l .inv .0) (l .inv .1) (c .loop-test .left) (l .inv .2)
 
 pub power-spec : {M : Type 1} → statement M
 power-spec = tie.close (tie.spec Inv-loop μ-loop loop-holds add-j loop-less loop-again returns)
