@@ -5,55 +5,20 @@ use model::MAX_OBJECTIVES;
 use model::MAX_VALUES;
 use square_root;
 ghost use mathlib.Core.Path.{_≡_};
-ghost use Prim.Native.Nat.{ℕ, _+_, _*_, _<_, _≤_, min};
-ghost use lib.Ieee.{Float};
+ghost use Prim.Native.Nat.{_+_, _*_, _≤_, min};
 ghost use lib.ListN.{length};
-ghost use Rattle.model.specs.Numbers.{sqrtOf};
 ghost use Rattle.model.specs.Plan.{maxObjectives};
 ghost use Rattle.model.specs.Association.{nearestOf, Request, lineCount};
 ghost use Rattle.model.specs.Refusal.{maxLines};
 ghost use Rattle.association_laws.specs.Flat.{NormsIn, distanceAt, NearestAll};
-ghost use Rattle.association_laws.specs.Search.{Square, Found};
 ghost use Rattle.association_laws.specs.Request.{Pool, StartIn, LinesIn, Associates};
 
 // ---- the nearest line
-
-// A line, and the square of the distance from it.
-struct Best {
-    line: usize,
-    squares: f64,
-}
 
 // A line, and the distance from it.
 struct Nearest {
     line: usize,
     distance: f64,
-}
-
-// The nearer of the best line so far and the next one, which must be strictly nearer. Distances decide, since two squares can have one root; but no root need be
-// taken of a square that is not below the best one, nor of one that is below it by one in 2^30 (0.9999999990686774 is 1 - 2^-30).
-fn nearer(best: Best, line: usize, squares: f64) -> Best
-    ensures { λ r. ⌜ ((d : ℕ → Float) → Found d line (best .line) (best .squares) → Square squares → sqrtOf squares ≡ d line
-        → Found d (line + 1) (r .line) (r .squares)) ⌝ }
-{
-    let least_squares = best.squares;
-    if squares < least_squares {
-        if squares < least_squares * 0.9999999990686774 {
-            return Best {
-                line: line,
-                squares: squares,
-            };
-        }
-        let distance = square_root::sqrt(squares);
-        let least = square_root::sqrt(least_squares);
-        if distance < least {
-            return Best {
-                line: line,
-                squares: squares,
-            };
-        }
-    }
-    best
 }
 
 // The line nearest to a point: the first strictly smaller distance wins, from line 0.
@@ -71,7 +36,7 @@ fn nearest_line(
     ensures { λ r. ⌜ (r .line ≡ nearestOf (distanceAt (now (points .entry)) at m (now (table .entry))) «n_lines» .line)
         × (r .distance ≡ nearestOf (distanceAt (now (points .entry)) at m (now (table .entry))) «n_lines» .distance) ⌝ }
 {
-    let mut best = Best {
+    let mut best = block_search::Best {
         line: 0,
         squares: 1.0 / 0.0,
     };
@@ -80,7 +45,7 @@ fn nearest_line(
     while l < n_lines {
         let norm = distances::line_norm(table, m, l, norms, known);
         let squares = distances::distance_squared(points, at, table, line_at, m, norm);
-        best = nearer(best, l, squares);
+        best = block_search::nearer(best, l, squares);
         l += 1;
         line_at += m;
     }
@@ -90,8 +55,8 @@ fn nearest_line(
     }
 }
 
-// Each plan's nearest line, and its distance from it.
-fn nearest_lines(
+// Each plan's nearest line, and its distance from it, plan by plan.
+fn nearest_each(
     normalized: &[f64],
     n: usize,
     m: usize,
@@ -114,6 +79,50 @@ fn nearest_lines(
         distances[p] = near.distance;
         p += 1;
     }
+}
+
+// Each plan's nearest line, and its distance from it: by blocks of plans, of no more objectives than those have room for.
+fn nearest_lines(
+    normalized: &[f64],
+    n: usize,
+    m: usize,
+    table: &[f64],
+    n_lines: usize,
+    norms: &[f64],
+    known: usize,
+    lines: &mut [usize],
+    distances: &mut [f64],
+)
+    requires { ⌜ (n * m ≤ length (now normalized)) × («n_lines» * m ≤ length (now table)) × (known ≤ length (now norms))
+        × NormsIn (now table) m (now norms) known × (n ≤ length (now lines)) × (n ≤ length (now distances)) ⌝ }
+    ensures { λ _. ⌜ NearestAll (now (normalized .entry)) m (now (table .entry)) «n_lines» n (now (lines .entry)) (now (lines .exit))
+        (now (distances .entry)) (now (distances .exit)) ⌝ }
+{
+    if m <= MAX_OBJECTIVES {
+        block_lines::nearest_by_blocks(
+            normalized,
+            n,
+            m,
+            table,
+            n_lines,
+            norms,
+            known,
+            lines,
+            distances,
+        );
+        return;
+    }
+    nearest_each(
+        normalized,
+        n,
+        m,
+        table,
+        n_lines,
+        norms,
+        known,
+        lines,
+        distances,
+    );
 }
 
 // How many lines' r·r find room in an array of MAX_LINES.

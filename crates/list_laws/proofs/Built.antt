@@ -2,7 +2,7 @@
 use Prim.Native.Nat.{ℕ, zero, suc, _+_, _-_, _≤_, _<_}
 use mathlib.Core.Path.{_≡_, refl, ap, ap₂, sym, subst, _∙_}
 use mathlib.Core.List.{List, [], _∷_, _++_, map, map-append, append-assoc, append-nil}
-use native.Mathlib.Nat.{not-suc-le-zero}
+use native.Mathlib.Nat.{not-suc-le-zero, add-zero, add-suc}
 use native.Mathlib.Numerals.{add-one}
 use native.Mathlib.Omega.{arith}
 use borrow.Rule.Slice.PartMut.{midOf, putMid}
@@ -49,6 +49,14 @@ module _ {A : Type 0} where
       let u = listBelow-length f n in
       ext-getD d (take n l) (listBelow f n) (omega arith)
       (λ i v. getD-take n l i d (omega arith) ∙ g i (omega arith) ∙ sym (listBelow-at f n d i (omega arith)))
+
+  -- what is built up to n, and then k more
+  pub listBelow-join : (f : ℕ → A) (n k : ℕ) → listBelow f n ++ listBelow (λ b. f (n + b)) k ≡ listBelow f (n + k)
+  unfolding listBelow
+  listBelow-join f n zero = append-nil (listBelow f n) ∙ ap (listBelow f) (sym (add-zero n))
+  listBelow-join f n (suc k) =
+      sym (append-assoc (listBelow f n) (listBelow (λ b. f (n + b)) k) (f (n + k) ∷ [])) ∙ ap (λ l. l ++ (f (n + k) ∷ [])) (listBelow-join f n k)
+      ∙ sym (ap (listBelow f) (add-suc n k))
 
   pub joinBelow-none : (f : ℕ → List A) → joinBelow f 0 ≡ []
   unfolding joinBelow

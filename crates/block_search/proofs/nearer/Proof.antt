@@ -1,8 +1,8 @@
 -- a root decides where the square is below the best one, but not clearly; elsewhere the squares do
 use lib.Ieee.{ofBits}
 use Rattle.association_laws.proofs.Search.{found-clear, found-nearer, found-same, found-farther}
-use Rattle.association.proofs.nearer.Statement.{statement}
-use Rattle.association.proofs.nearer.Tie as tie
+use Rattle.block_search.proofs.nearer.Statement.{statement}
+use Rattle.block_search.proofs.nearer.Tie as tie
 
 returns : tie.Need-returns
 unfolding ofBits

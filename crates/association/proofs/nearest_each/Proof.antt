@@ -6,8 +6,8 @@ use lib.ListN.{length, length-set}
 use Rattle.list_laws.proofs.Built.{over-none, over-set}
 use Rattle.association_laws.specs.Flat.{NearestAll}
 use Rattle.list_laws.proofs.Rows.{row-inside}
-use Rattle.association.proofs.nearest_lines.Statement.{statement}
-use Rattle.association.proofs.nearest_lines.Tie as tie
+use Rattle.association.proofs.nearest_each.Statement.{statement}
+use Rattle.association.proofs.nearest_each.Tie as tie
 
 abbrev Inv-loop : tie.InvT-loop
 Inv-loop normalized n m table n-lines norms known lines₀ distances₀ p₀ lines distances p =
@@ -74,8 +74,8 @@ returns c =
     let e : l .p ≡ c .before .before .before .before .before .before .before .args .n = omega arith in
     rw e at (l .inv .3)
 
-pub nearest-lines-spec : {M : Type 1} → statement M
-nearest-lines-spec =
+pub nearest-each-spec : {M : Type 1} → statement M
+nearest-each-spec =
     tie.close
     (tie.spec
     Inv-loop

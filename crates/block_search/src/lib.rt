@@ -1,0 +1,178 @@
+// The search for the nearest lines of a block of plans (document 01, "Association"): line by line, for all plans of the block at a time.
+use columns::BLOCK;
+use square_root;
+ghost use mathlib.Core.Path.{_≡_};
+ghost use mathlib.Core.Bool.{cond};
+ghost use Prim.Native.Nat.{ℕ, _+_, _*_, _≤_};
+ghost use lib.Ieee.{Float};
+ghost use lib.ListN.{length};
+ghost use Rattle.model.specs.Lists.{anyBelow};
+ghost use Rattle.model.specs.Numbers.{sqrtOf};
+ghost use Rattle.association_laws.specs.Flat.{NormsIn, normAt};
+ghost use Rattle.association_laws.specs.Search.{Square, Found};
+ghost use Rattle.columns.specs.Block.{maxBlock};
+ghost use Rattle.block_search.specs.Turn.{closeTo, closeAt, blockDistance, FoundAll, NextAll, KeptLess};
+
+// A line, and the square of the distance from it.
+pub struct Best {
+    pub line: usize,
+    pub squares: f64,
+}
+
+// The nearer of the best line so far and the next one, which must be strictly nearer. Distances decide, since two squares can have one root; but no root need be
+// taken of a square that is not below the best one, nor of one that is below it by one in 2^30 (0.9999999990686774 is 1 - 2^-30).
+pub fn nearer(best: Best, line: usize, squares: f64) -> Best
+    ensures { λ r. ⌜ ((d : ℕ → Float) → Found d line (best .line) (best .squares) → Square squares → sqrtOf squares ≡ d line
+        → Found d (line + 1) (r .line) (r .squares)) ⌝ }
+{
+    let least_squares = best.squares;
+    if squares < least_squares {
+        if squares < least_squares * 0.9999999990686774 {
+            return Best {
+                line: line,
+                squares: squares,
+            };
+        }
+        let distance = square_root::sqrt(squares);
+        let least = square_root::sqrt(least_squares);
+        if distance < least {
+            return Best {
+                line: line,
+                squares: squares,
+            };
+        }
+    }
+    best
+}
+
+// ---- each plan of a block
+
+// The nearer for each plan, one by one.
+fn keep_nearer(line: usize, squares: &[f64], len: usize, lines: &mut [usize], best: &mut [f64])
+    requires { ⌜ (len ≤ length (now squares)) × (len ≤ length (now lines)) × (len ≤ length (now best)) ⌝ }
+    ensures { λ _. ⌜ ((d : ℕ → ℕ → Float) → FoundAll d line len (now (lines .entry)) (now (best .entry)) → NextAll d line len (now (squares .entry))
+        → FoundAll d (line + 1) len (now (lines .exit)) (now (best .exit))) ⌝ }
+{
+    let mut b = 0;
+    while b < len {
+        let was = Best {
+            line: lines[b],
+            squares: best[b],
+        };
+        let near = nearer(was, line, squares[b]);
+        lines[b] = near.line;
+        best[b] = near.squares;
+        b += 1;
+    }
+}
+
+// A square that is below the best one, but not clearly: only the roots tell.
+fn is_close(squares: f64, best: f64) -> bool
+    ensures { λ r. ⌜ r ≡ closeTo squares best ⌝ }
+{
+    squares < best && !(squares < best * 0.9999999990686774)
+}
+
+// Some plan's square is so close to its best one.
+fn any_close(squares: &[f64], best: &[f64], len: usize) -> bool
+    requires { ⌜ (len ≤ length (now squares)) × (len ≤ length (now best)) ⌝ }
+    ensures { λ r. ⌜ r ≡ anyBelow (closeAt (now (squares .entry)) (now (best .entry))) len ⌝ }
+{
+    let mut any = false;
+    let mut b = 0;
+    while b < len {
+        any = any | is_close(squares[b], best[b]);
+        b += 1;
+    }
+    any
+}
+
+// One of two values.
+fn pick(first: bool, a: f64, b: f64) -> f64
+    ensures { λ r. ⌜ r ≡ cond first a b ⌝ }
+{
+    if first { a } else { b }
+}
+
+// One of two numbers.
+fn pick_line(first: bool, a: usize, b: usize) -> usize
+    ensures { λ r. ⌜ r ≡ cond first a b ⌝ }
+{
+    if first { a } else { b }
+}
+
+// The lesser square for each plan, without a branch.
+fn keep_less(line: usize, squares: &[f64], len: usize, lines: &mut [usize], best: &mut [f64])
+    requires { ⌜ (len ≤ length (now squares)) × (len ≤ length (now lines)) × (len ≤ length (now best)) ⌝ }
+    ensures { λ _. ⌜ KeptLess line (now (squares .entry)) len (now (lines .entry)) (now (lines .exit)) (now (best .entry)) (now (best .exit)) ⌝ }
+{
+    let mut b = 0;
+    while b < len {
+        let s = squares[b];
+        let less = s < best[b];
+        lines[b] = pick_line(less, line, lines[b]);
+        best[b] = pick(less, s, best[b]);
+        b += 1;
+    }
+}
+
+// The nearer for each plan: by the squares alone, where none is close.
+fn keep(line: usize, squares: &[f64], len: usize, lines: &mut [usize], best: &mut [f64])
+    requires { ⌜ (len ≤ length (now squares)) × (len ≤ length (now lines)) × (len ≤ length (now best)) ⌝ }
+    ensures { λ _. ⌜ ((d : ℕ → ℕ → Float) → FoundAll d line len (now (lines .entry)) (now (best .entry)) → NextAll d line len (now (squares .entry))
+        → FoundAll d (line + 1) len (now (lines .exit)) (now (best .exit))) ⌝ }
+{
+    if any_close(squares, best, len) {
+        keep_nearer(line, squares, len, lines, best);
+        return;
+    }
+    keep_less(line, squares, len, lines, best);
+}
+
+// The next line, for each plan of a block. One that is too short is infinitely far.
+fn next_line(
+    x: &[f64],
+    m: usize,
+    len: usize,
+    table: &[f64],
+    line: usize,
+    norm: f64,
+    lines: &mut [usize],
+    best: &mut [f64],
+)
+    requires { ⌜ (m * len ≤ length (now x)) × (line * m + m ≤ length (now table)) × (len ≤ maxBlock) × (norm ≡ normAt (now table) m line)
+        × (len ≤ length (now lines)) × (len ≤ length (now best)) × FoundAll (blockDistance (now x) m len (now table)) line len (now lines) (now best) ⌝ }
+    ensures { λ _. ⌜ FoundAll (blockDistance (now (x .entry)) m len (now (table .entry))) (line + 1) len (now (lines .exit)) (now (best .exit)) ⌝ }
+{
+    if norm < 1e-30 {
+        return;
+    }
+    let mut squares = [-0.0; BLOCK];
+    columns::line_squares(x, m, len, table, line * m, norm, &mut squares);
+    keep(line, &squares, len, lines, best);
+}
+
+// All lines.
+pub fn search(
+    x: &[f64],
+    m: usize,
+    len: usize,
+    table: &[f64],
+    n_lines: usize,
+    norms: &[f64],
+    known: usize,
+    lines: &mut [usize],
+    best: &mut [f64],
+)
+    requires { ⌜ (m * len ≤ length (now x)) × («n_lines» * m ≤ length (now table)) × (len ≤ maxBlock) × (known ≤ length (now norms))
+        × NormsIn (now table) m (now norms) known × (len ≤ length (now lines)) × (len ≤ length (now best))
+        × FoundAll (blockDistance (now x) m len (now table)) 0 len (now lines) (now best) ⌝ }
+    ensures { λ _. ⌜ FoundAll (blockDistance (now (x .entry)) m len (now (table .entry))) «n_lines» len (now (lines .exit)) (now (best .exit)) ⌝ }
+{
+    let mut l = 0;
+    while l < n_lines {
+        let norm = distances::line_norm(table, m, l, norms, known);
+        next_line(x, m, len, table, l, norm, lines, best);
+        l += 1;
+    }
+}
