@@ -1,14 +1,16 @@
 -- The public calls: what each answers, and what every lent slice holds at exit, refusals too.
 -- "the answer is the number alone, with nothing written and no word drawn": a refusal leaves state, generator and slices as they were found.
-use Prim.Native.Nat.{ℕ, _≤_}
+use Prim.Native.Nat.{ℕ, _≤_, _<_}
 use mathlib.Core.Path.{_≡_}
 use mathlib.Core.Bool.{true}
+use mathlib.Core.Logic.{_⊎_}
 use mathlib.Core.List.{List, []}
 use mathlib.Core.Option.{Option, none, some}
 use lib.Ieee.{Float}
-use lib.ListN.{length, take}
+use lib.ListN.{length, getD, take}
 use Rattle.model.specs.declared.Distribution.{Distribution}
 use Rattle.model.specs.declared.OptionUsize.{OptionUsize}
+use Rattle.model.specs.declared.ParamValue.{ParamValue}
 use Rattle.model.specs.declared.Rng.{Rng}
 use Rattle.model.specs.declared.Outcome.{Outcome}
 use Rattle.model.specs.declared.Outcome.the-variants as outcome
@@ -24,12 +26,12 @@ use Rattle.model.specs.declared.Chosen.the-variants as chosen
 use Rattle.model.specs.Lists.{over}
 use Rattle.model.specs.Plan.{planAt, planCount}
 use Rattle.model.specs.Association.{Request}
-use Rattle.model.specs.Kept.{Selected, selected}
+use Rattle.model.specs.Kept.{Selected, selected, noLine}
 use Rattle.model.specs.Demand3.{Demand3}
-use Rattle.model.specs.Setting.{Operators, Generation, generation, wordsOf, WordsWithin}
-use Rattle.model.specs.Session.{State, Answered, given, opened, blank, accepted, state, breeds, requestOf, operatorsOf}
-use Rattle.model.specs.PoolFile.{PoolFile, parse, fileRequest, fileText, refusedText}
-use Rattle.model.specs.Refusal.{Room, selectRefusal, stepRefusal, openRefusal, sampleRefusal, chooseRefusal}
+use Rattle.model.specs.Setting.{Operators, Generation, generation, inBounds, wordsOf, WordsWithin}
+use Rattle.model.specs.Session.{State, Answered, given, opened, blank, accepted, state, breeds, requestOf, bredBy, sampleFromCandidate, asked}
+use Rattle.model.specs.PoolFile.{PoolFile, parse, fileRequest, listingText, fileText, refusedText}
+use Rattle.model.specs.Refusal.{Room, maxSize, selectRefusal, stepRefusal, openRefusal, sampleRefusal, chooseRefusal}
 use Rattle.model.specs.Property.{SessionOk}
 
 -- ---- the answers' cases: the number of a refusal, or none
@@ -165,12 +167,11 @@ openOf directions seed size divisions probability crossoverEta mutationEta =
     openBy (openRefusal directions (given size) (given divisions) probability crossoverEta mutationEta)
     (opened directions seed (given size) (given divisions) probability crossoverEta mutationEta)
 
--- THE PROMISE of `open`: a session that is opened has the session property, whatever the slices hold that are lent with it
+-- THE PROMISE of `open`: what it answers has the session property, refused or not, whatever the slices hold that are lent with it
 pub record Opens (directions : List ℕ) (seed : ℕ) (size divisions : OptionUsize) (probability crossoverEta mutationEta : Float) (r : Opened) : Type 0 where
   pub whole : r ≡ openOf directions seed size divisions probability crossoverEta mutationEta
   pub refused : openingRefusedBy (r .outcome) ≡ openRefusal directions (given size) (given divisions) probability crossoverEta mutationEta
-  pub gives : openRefusal directions (given size) (given divisions) probability crossoverEta mutationEta ≡ none
-      → (candidates plans nextDims : List ℕ) → SessionOk (state (r .session) candidates plans nextDims)
+  pub gives : (candidates plans nextDims : List ℕ) → SessionOk (state (r .session) candidates plans nextDims)
 
 -- ---- `sample`
 
@@ -189,13 +190,20 @@ sampleBy (some n) st a = record { answer = sampling.Refused n; after = st }
 unfoldable pub sampleOf : State → Distribution → ℕ → List ℕ → SampleExit
 sampleOf st d plan history = sampleBy (sampleRefusal st d plan history) st (accepted st d plan history)
 
--- THE PROMISE of `sample`, for a state with the session property. Where it breeds, its list is selection's.
+-- a state that a breeding call leaves: it is the one bred from a kept list that meets demand 3, with the plan's next setting handed out
+pub record Bred (st : State) (plan : ℕ) (history : List ℕ) (after : State) : Type 0 where
+  pub kept : List ℕ
+  pub demand3 : Demand3 (requestOf st history) kept
+  pub from : after ≡ sampleFromCandidate (bredBy st history kept) plan .after
+
+-- THE PROMISE of `sample`, for a state with the session property. Where it breeds, its list is selection's; and a setting that it answers is of its
+-- dimension's kind and within its bounds.
 pub record Samples (st : State) (d : Distribution) (plan : ℕ) (history : List ℕ) (exit : SampleExit) : Type 0 where
   pub whole : exit ≡ sampleOf st d plan history
   pub refused : samplingRefusedBy (exit .answer) ≡ sampleRefusal st d plan history
   pub keeps : SessionOk (exit .after)
-  pub demand3 : sampleRefusal st d plan history ≡ none → breeds st history ≡ true
-      → Demand3 (requestOf st history) (generation (operatorsOf (st .session)) (requestOf st history) .selection .kept)
+  pub demand3 : sampleRefusal st d plan history ≡ none → breeds st history ≡ true → Bred st plan history (exit .after)
+  pub bounds : (v : ParamValue) → exit .answer ≡ sampling.Setting v → inBounds (asked st d plan history) v ≡ true
 
 -- ---- `choose`
 
@@ -227,11 +235,25 @@ maxText = 20501
 unfoldable pub printed : List ℕ → List ℕ
 printed bytes = printedBy (chooseRefusal bytes maxText) (textOf (parse bytes))
 
--- THE PROMISE of `choose`: the text that it hands out is the listing of a selection, and that selection's kept list meets demand 3
+-- a selection whose listing tells it: its plan count, list, fronts and lines are within document 01's limits
+pub record Listable (count : ℕ) (sel : Selected) : Type 0 where
+  pub plans : count ≤ maxSize
+  pub kept : length (sel .kept) ≤ maxSize
+  pub fronts : (p : ℕ) → p < count → getD (sel .fronts) p 0 ≤ maxSize
+  pub lines : (p : ℕ) → p < count → (getD (sel .lines) p 0 ≤ maxSize) ⊎ (getD (sel .lines) p 0 ≡ noLine)
+
+-- DEMAND 3 of a text, for a file: the text is the listing of what the file selects, and every selection of which it is the listing has a kept list that meets
+-- the demand
+pub record Tells (f : PoolFile) (text : List ℕ) : Type 0 where
+  pub listing : text ≡ fileText f
+  pub some : Listable (f .count) (selected (fileRequest f))
+  pub every : (n : ℕ) (s : Selected) → Listable n s → listingText n s ≡ text → Demand3 (fileRequest f) (s .kept)
+
+-- THE PROMISE of `choose`: the text that it hands out is the listing of a selection, and the kept list that it tells meets demand 3
 pub record Chooses (bytes entry : List ℕ) (exit : ChooseExit) : Type 0 where
   pub whole : exit ≡ chooseOf bytes entry
   pub refused : chosenRefusedBy (exit .answer) ≡ chooseRefusal bytes (length entry)
   pub listing : chooseRefusal bytes (length entry) ≡ none → (f : PoolFile) → parse bytes ≡ some f
       → textHandedOut (exit .answer) (exit .out) ≡ fileText f
   pub demand3 : chooseRefusal bytes (length entry) ≡ none → (f : PoolFile) → parse bytes ≡ some f → f .size ≤ f .count
-      → Demand3 (fileRequest f) (selected (fileRequest f) .kept)
+      → Tells f (textHandedOut (exit .answer) (exit .out))

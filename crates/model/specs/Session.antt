@@ -1,6 +1,6 @@
 -- Document 01, "Session": the state, what opening answers, and what an accepted call does.
-use Prim.Native.Nat.{ℕ, _+_, _-_, _*_, _%_, _^_}
-use mathlib.Core.Bool.{Bool, true, false, cond, not, _&&_}
+use Prim.Native.Nat.{ℕ, _+_, _-_, _*_, _%_, _^_, min}
+use mathlib.Core.Bool.{Bool, true, false, cond, not, _&&_, _||_}
 use mathlib.Core.List.{List, map}
 use mathlib.Core.Option.{Option, none, some}
 use lib.Dec.{eqb, leb, ltb}
@@ -25,7 +25,8 @@ use Rattle.model.specs.Real.{nought, infinity}
 use Rattle.model.specs.Plan.{planAt, planCount, planWords, maxObjectives}
 use Rattle.model.specs.Reference.{divisionsOf, populationSize}
 use Rattle.model.specs.Association.{Request}
-use Rattle.model.specs.Setting.{toWord, maxDims, dimensionsOf, storedAt, sampleRandom, sampleAll, sampleCandidates, Operators, operators, generation, wordsOf}
+use Rattle.model.specs.Kept.{selected}
+use Rattle.model.specs.Setting.{toWord, maxDims, dimensionsOf, storedAt, sampleRandom, sampleAll, sampleCandidates, Operators, operators, rankOf, bredOf, generation, wordsOf}
 
 -- ---- the state
 
@@ -141,13 +142,13 @@ opened marks seed size divisions probability crossoverEta mutationEta = start (r
   «mutation_eta» = mutationEta;
 }) seed
 
--- the session beside a refusal: nothing of what was given is in it
+-- the session beside a refusal: nothing of what was given is in it. It is the smallest that could be opened, so that it has the session property too.
 abbrev pub blank : Session
 blank = start (record {
-  «n_obj» = 0;
+  «n_obj» = 1;
   directions = replicate maxObjectives 0;
-  divisions = 0;
-  «population_size» = 0;
+  divisions = 1;
+  «population_size» = 4;
   «crossover_prob» = nought;
   «crossover_eta» = nought;
   «mutation_eta» = nought;
@@ -274,6 +275,14 @@ breed st history =
     let g = generation (operatorsOf s) (requestOf st history) in
     state (bredSession s (g .state) (over (g .selection .ideal) (s .«ideal_point»))) (over (wordsOf (g .offspring)) (st .candidates)) (st .plans) (st .nextDims)
 
+-- the same, said of a kept list: the state bred from the plans at its places, by the generator and the ideal that the selection leaves
+unfoldable pub bredBy : State → List ℕ → List ℕ → State
+bredBy st history kept =
+    let s = st .session in
+    let r = requestOf st history in
+    let off = bredOf (operatorsOf s) (r .plans) (rankOf r kept) kept (r .size) (selected r .state) in
+    state (bredSession s (off .state) (over (selected r .ideal) (s .«ideal_point»))) (over (wordsOf (off .value)) (st .candidates)) (st .plans) (st .nextDims)
+
 -- ---- which of these a call does
 
 abbrev pub pastDiscovery : Phase → Bool
@@ -311,3 +320,11 @@ unfoldable pub accepted : State → Distribution → ℕ → List ℕ → Answer
 accepted st d plan history =
     cond (discovers st plan) (discover st d plan)
     (sampleFromCandidate (cond (isActive (st .session)) (cond (breeds st history) (breed st history) st) (activate st)) plan)
+
+-- The dimension that an accepted call answers a setting of: the one passed, where it adds it; else its plan's next one, which of a plan that is new to the
+-- generation, as all are once one is bred, is the first, and beyond the last the last one.
+unfoldable pub asked : State → Distribution → ℕ → List ℕ → Distribution
+asked st d plan history =
+    let s = st .session in
+    let next = cond (breeds st history || isNew st plan) 0 (getD (st .nextDims) (placeIn (plansOf st) plan) 0) in
+    cond (discovers st plan) d (dimensionOf s (min next (s .progress .«n_dims» - 1)))

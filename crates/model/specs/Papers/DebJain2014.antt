@@ -2,16 +2,34 @@
 -- association with reference lines, and the niching procedure as a relation that leaves its random choices open.
 use Prim.Native.Nat.{ℕ, _≤_, _<_}
 use mathlib.Core.Path.{_≡_}
-use mathlib.Core.Bool.{false}
 use mathlib.Core.List.{List, [], _∷_, _++_}
-use lib.Dec.{eqb}
-use lib.Ieee.{Float, lt}
+use lib.Dec.{T, eqb}
+use lib.Ieee.{Float, le}
 use Rattle.model.specs.Lists.{In, tally}
+use Rattle.model.specs.Real.{_⊖_, _⊗_, _⊘_, sumTo}
+use Rattle.model.specs.Numbers.{sqrtOf}
 
--- Association: a member belongs to the line, of `lines`, from which its distance is least; d p l is the distance of member p from line l.
-pub record Associated (d : ℕ → ℕ → Float) (lines p l : ℕ) : Type 0 where
+-- ---- association
+-- Points and reference points have m coordinates. The paper's numbers are exact; here each operation is rounded once, as doubles have it.
+
+-- the inner product of two points
+abbrev pub inner : ℕ → (ℕ → Float) → (ℕ → Float) → Float
+inner m s w = sumTo (λ j. s j ⊗ w j) m
+
+-- the length of a point
+abbrev pub norm : ℕ → (ℕ → Float) → Float
+norm m s = sqrtOf (inner m s s)
+
+-- the perpendicular distance of the point s from the line through the origin and the reference point w, ‖s - (w·s / ‖w‖²) w‖: the length of what is left of s
+-- once its part along w is taken away
+unfoldable pub perpendicular : ℕ → (ℕ → Float) → (ℕ → Float) → Float
+perpendicular m s w = norm m (λ j. s j ⊖ ((inner m s w ⊘ inner m w w) ⊗ w j))
+
+-- A member belongs to the line, of `lines`, from which its perpendicular distance is least; `point` gives each member's normalised point, and `reference` the
+-- reference point of each line. No NaN is least, since none is at most anything.
+pub record Associated (m : ℕ) (point reference : ℕ → ℕ → Float) (lines p l : ℕ) : Type 0 where
   pub inside : l < lines
-  pub least : (j : ℕ) → j < lines → lt (d p j) (d p l) ≡ false
+  pub least : (j : ℕ) → j < lines → T (le (perpendicular m (point p) (reference l)) (perpendicular m (point p) (reference j)))
 
 -- ---- niching
 -- `before` are the members accepted from the fronts before, `last` is the front from which the rest is picked, and `line` gives each member its line.
@@ -41,6 +59,6 @@ module _ (before last : List ℕ) (line : ℕ → ℕ) (distance : ℕ → Float
     exclude : {excluded picked : List ℕ} {j : ℕ} → Reached excluded picked → Least before last line lines excluded picked j
         → ((p : ℕ) → Candidate before last line lines picked j p → ⊥) → Reached (j ∷ excluded) picked
     pickNearest : {excluded picked : List ℕ} {j p : ℕ} → Reached excluded picked → Least before last line lines excluded picked j → niche before last line lines picked j ≡ 0
-        → Candidate before last line lines picked j p → ((q : ℕ) → Candidate before last line lines picked j q → lt (distance q) (distance p) ≡ false) → Reached excluded (picked ++ (p ∷ []))
+        → Candidate before last line lines picked j p → ((q : ℕ) → Candidate before last line lines picked j q → T (le (distance p) (distance q))) → Reached excluded (picked ++ (p ∷ []))
     pickAny : {excluded picked : List ℕ} {j p : ℕ} → Reached excluded picked → Least before last line lines excluded picked j → 1 ≤ niche before last line lines picked j
         → Candidate before last line lines picked j p → Reached excluded (picked ++ (p ∷ []))
