@@ -1,2 +1,3 @@
+pub mod Xor
 pub mod Words
 pub mod Lent

@@ -1,17 +1,46 @@
-// One generator serves every step of a call and is moved on in place (document 01, "Draw"): the draw over a generator that is lent.
+// The generator (document 01, "Draw"): its step and a state's word by value, and above them the draw that moves a lent generator on in its place.
 ghost use mathlib.Core.Path.{_≡_};
-ghost use Rattle.model.specs.Draw.{drawn, drawWord};
+ghost use Prim.Native.Nat.{_*_, _%_, _^_};
+ghost use Rattle.model.specs.Draw.{drawn, step, wordOf, drawWord};
 use model::Rng;
+
+// a * b modulo 2^64, by halves of 32 bits: the product of the two upper halves falls out.
+pub fn wrapping_mul_u64(a: u64, b: u64) -> u64
+    ensures { λ r. ⌜ r ≡ (a * b) % 2 ^ 64 ⌝ }
+{
+    let a0 = a % 0x1_0000_0000;
+    let a1 = a / 0x1_0000_0000;
+    let b0 = b % 0x1_0000_0000;
+    let b1 = b / 0x1_0000_0000;
+    let x = (a1 * b0) % 0x1_0000_0000;
+    let y = (a0 * b1) % 0x1_0000_0000;
+    let m = (x + y) % 0x1_0000_0000;
+    std::num::wrapping_add_u64(m * 0x1_0000_0000, a0 * b0)
+}
+
+// The generator's next state.
+fn step(s: u64) -> u64
+    ensures { λ r. ⌜ r ≡ step s ⌝ }
+{
+    let p = wrapping_mul_u64(s, 6364136223846793005);
+    std::num::wrapping_add_u64(p, 1442695040888963407)
+}
+
+// The word of a state.
+fn word_of(s: u64) -> u64
+    ensures { λ r. ⌜ r ≡ wordOf s ⌝ }
+{
+    s ^ (s >> 32)
+}
 
 // The next word, over the state alone.
 fn draw_word(s: &mut u64) -> u64
     ensures { λ r. ⌜ drawn r (now (s .exit)) ≡ drawWord (now (s .entry)) ⌝ }
 {
     let before = *s;
-    let d = rng_util::next(Rng { s: before });
-    let after = d.rng;
-    *s = after.s;
-    d.value
+    let after = step(before);
+    *s = after;
+    word_of(after)
 }
 
 // The next word. The generator's one word of state is lent in its place.
@@ -19,25 +48,4 @@ pub fn draw(rng: &mut Rng) -> u64
     ensures { λ r. ⌜ drawn r (now (rng .exit) .s) ≡ drawWord (now (rng .entry) .s) ⌝ }
 {
     draw_word(&mut rng.s)
-}
-
-// Two words in a row, and the state after them.
-pub struct Twice {
-    pub first: u64,
-    pub second: u64,
-    pub state: u64,
-}
-
-// One generator, started at the seed, is lent to two draws.
-pub fn draw_twice(seed: u64) -> Twice
-    ensures { λ r. ⌜ (r .first ≡ drawWord seed .value) × (drawn (r .second) (r .state) ≡ drawWord (drawWord seed .state)) ⌝ }
-{
-    let mut rng = Rng { s: seed };
-    let first = draw(&mut rng);
-    let second = draw(&mut rng);
-    Twice {
-        first,
-        second,
-        state: rng.s,
-    }
 }

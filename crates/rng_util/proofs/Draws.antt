@@ -1,4 +1,4 @@
--- What holds of every draw, whatever the state: words are words, a draw below n is below n, a draw from a to b lies there. Assumes nothing.
+-- What holds of every draw, whatever the state: a draw below n is below n, a draw from a to b lies there. Assumes nothing.
 use mathlib.Core.Path.{_≡_}
 use Prim.Native.Nat.{ℕ, _/_, _^_, _<_}
 use native.Mathlib.Nat.{mod-lt}
@@ -14,26 +14,12 @@ use Rattle.float_laws.proofs.Magnitude.{within-number, within-wider, ends-withi
 use Rattle.float_laws.proofs.InRange as in-range
 use Rattle.model.specs.Real.{within}
 use Rattle.model.specs.Draw.{drawn, step, wordOf, drawWord, unitOf, drawF64, drawUsize, drawI64, f64Range}
-use Rattle.list_laws.proofs.Draws.{drawn-value, drawn-state}
+use Rattle.list_laws.proofs.Draws.{drawn-value}
 use Rattle.list_laws.proofs.Bools.{and-i}
 use Rattle.rng_util.specs.Span.{Spanned}
-use Rattle.rng_util.proofs.Xor.{xorLow-below}
+pub use Rattle.rng_lent.proofs.Words.{word-below}
 use Rattle.rng_util.proofs.Unit.{upper-below, unit-counts}
 use Rattle.rng_util.proofs.Span.{rest-le, pick-low, pick-high}
-
--- ---- the draws
-pub step-below : (s : ℕ) → step s < 2 ^ 64
-unfolding step
-step-below s = omega arith
-
-pub word-below : (s : ℕ) → wordOf s < 2 ^ 64
-unfolding wordOf
-word-below s = xorLow-below 64 s (s / 2 ^ 32)
-
--- what a call of `next` hands out, and the state after it
-pub drawn-word : (s w t : ℕ) → drawn w t ≡ drawWord s → (w < 2 ^ 64) × (t < 2 ^ 64)
-unfolding drawWord
-drawn-word s w t e = (omega (arith, drawn-value e, word-below (step s)), omega (arith, drawn-state e, step-below s))
 
 pub drawUsize-below : (n s : ℕ) → 0 < n → drawUsize n s .value < n
 unfolding drawUsize

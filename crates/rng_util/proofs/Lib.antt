@@ -1,4 +1,3 @@
-pub mod Xor
 pub mod Shifted
 pub mod Span
 pub mod Unit

@@ -1,9 +1,10 @@
-// The generator and its draws (document 01, "Draw"), by value: each takes the generator and answers the value with the generator moved on.
+// The draws (document 01, "Draw") with plain parameters: each takes the generator by value and answers the value with the generator moved on.
 ghost use mathlib.Core.Path.{_≡_};
-ghost use Prim.Native.Nat.{_*_, _%_, _^_, _<_};
-ghost use Rattle.model.specs.Draw.{drawn, step, drawWord, drawF64, drawUsize, drawI64, f64Range};
+ghost use Prim.Native.Nat.{_<_};
+ghost use Rattle.model.specs.Draw.{drawn, drawWord, drawF64, drawUsize, drawI64, f64Range};
 ghost use Rattle.rng_util.specs.Span.{Spanned};
 use model::Rng;
+pub use rng_lent::wrapping_mul_u64;
 
 pub struct DrawnU64 {
     pub value: u64,
@@ -25,37 +26,13 @@ pub struct DrawnI64 {
     pub rng: Rng,
 }
 
-// a * b modulo 2^64, by halves of 32 bits: the product of the two upper halves falls out.
-pub fn wrapping_mul_u64(a: u64, b: u64) -> u64
-    ensures { λ r. ⌜ r ≡ (a * b) % 2 ^ 64 ⌝ }
-{
-    let a0 = a % 0x1_0000_0000;
-    let a1 = a / 0x1_0000_0000;
-    let b0 = b % 0x1_0000_0000;
-    let b1 = b / 0x1_0000_0000;
-    let x = (a1 * b0) % 0x1_0000_0000;
-    let y = (a0 * b1) % 0x1_0000_0000;
-    let m = (x + y) % 0x1_0000_0000;
-    std::num::wrapping_add_u64(m * 0x1_0000_0000, a0 * b0)
-}
-
-// The generator's next state.
-fn step(s: u64) -> u64
-    ensures { λ r. ⌜ r ≡ step s ⌝ }
-{
-    let p = wrapping_mul_u64(s, 6364136223846793005);
-    std::num::wrapping_add_u64(p, 1442695040888963407)
-}
-
-// The next word.
+// The next word: the generator is lent to the draw, and handed on.
 pub fn next(rng: Rng) -> DrawnU64
     ensures { λ r. ⌜ drawn (r .value) (r .rng .s) ≡ drawWord (rng .s) ⌝ }
 {
-    let s = step(rng.s);
-    DrawnU64 {
-        value: s ^ (s >> 32),
-        rng: Rng { s },
-    }
+    let mut rng = rng;
+    let value = rng_lent::draw(&mut rng);
+    DrawnU64 { value, rng }
 }
 
 // A double of 0..1, 1 excluded.

@@ -1,12 +1,16 @@
--- What `next` answers by value is what is put back. Assumes nothing.
+-- The state moves on by one step, and the word is that of the state reached. Assumes nothing.
+use Rattle.rng_lent.proofs.Words.{is-drawn}
 use Rattle.rng_lent.proofs.draw_word.Statement.{statement}
 use Rattle.rng_lent.proofs.draw_word.Tie as tie
 
-next-requires : tie.Need-next-requires
-next-requires c κs = tt
+step-requires : tie.Need-step-requires
+step-requires c κs = tt
+
+word-of-requires : tie.Need-word-of-requires
+word-of-requires c κs = tt
 
 returns : tie.Need-returns
-returns c = c .before .next .ensures
+returns c = is-drawn _ _ _ (c .before .step .ensures) (c .word-of .ensures)
 
 pub draw-word-spec : {M : Type 1} → statement M
-draw-word-spec = tie.close (tie.spec next-requires returns)
+draw-word-spec = tie.close (tie.spec step-requires word-of-requires returns)

@@ -7,7 +7,7 @@ use lib.IntN.{pos}
 use lib.Ieee.{Float, binary64, ofBits, ofInt, inFloat, div}
 use Rattle.model.specs.Draw.{drawn, drawWord, unitOf, drawF64}
 use Rattle.list_laws.proofs.Draws.{drawn-by}
-use Rattle.rng_util.proofs.Draws.{drawn-word}
+use Rattle.rng_lent.proofs.Words.{drawn-word}
 use Rattle.rng_util.proofs.Unit.{quotient, upper-below}
 use Rattle.rng_util.proofs.draw_f64.Statement.{statement}
 use Rattle.rng_util.proofs.draw_f64.Tie as tie

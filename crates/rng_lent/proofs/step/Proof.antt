@@ -3,8 +3,8 @@ use mathlib.Core.Path.{_≡_}
 use Prim.Native.Nat.{ℕ, _+_, _*_, _%_, _^_}
 use native.Mathlib.Omega.{arith}
 use Rattle.model.specs.Draw.{step}
-use Rattle.rng_util.proofs.step.Statement.{statement}
-use Rattle.rng_util.proofs.step.Tie as tie
+use Rattle.rng_lent.proofs.step.Statement.{statement}
+use Rattle.rng_lent.proofs.step.Tie as tie
 
 wrapping-mul-u64-requires : tie.Need-wrapping-mul-u64-requires
 wrapping-mul-u64-requires c κs = tt

@@ -5,8 +5,8 @@ use Prim.Native.Nat.{ℕ, _+_, _*_, _/_, _%_, _^_, _<_}
 use native.Mathlib.Nat.{mul-add, add-mul, mul-assoc, mul-comm, mul-left-comm, add-assoc, add-comm, add-left-comm, le-of-lt, lt-of-le-of-lt, mul-le-mul-left, div-add-mod'}
 use native.Mathlib.Omega.{arith}
 use lib.Pow.{shl-lt}
-use Rattle.rng_util.proofs.wrapping_mul_u64.Statement.{statement}
-use Rattle.rng_util.proofs.wrapping_mul_u64.Tie as tie
+use Rattle.rng_lent.proofs.wrapping_mul_u64.Statement.{statement}
+use Rattle.rng_lent.proofs.wrapping_mul_u64.Tie as tie
 
 below : {x y : ℕ} → x < 2 ^ 32 → y < 2 ^ 32 → x * y < 2 ^ 64
 below {x} hx hy = lt-of-le-of-lt (mul-le-mul-left x (le-of-lt hy)) (shl-lt 32 32 hx)
