@@ -1,6 +1,7 @@
 -- A pool file in good form that meets no refusal: every normalised value lies within 0..1, and its association and niching are the paper's.
 use Prim.Native.Nat.{ℕ, _<_}
 use mathlib.Core.Path.{_≡_, sym, subst}
+use mathlib.Core.Bool.{false}
 use mathlib.Core.List.{List}
 use mathlib.Core.Option.{none, some}
 use native.Mathlib.Omega.{arith}
