@@ -1,4 +1,5 @@
--- THEOREM: every distance of an accepted pool is a number. Assumes nothing.
+-- THEOREM: every distance of a plan from a line of the table, of a request whose numbers refusal 8 lets pass and that has 1 to 8 objectives and 1 to 199
+-- divisions, is the paper's, no NaN and below infinity. Assumes nothing.
 use Prim.Native.Nat.{ℕ, _≤_, _<_}
 use mathlib.Core.Path.{_≡_}
 use mathlib.Core.Bool.{true, false}
@@ -7,14 +8,16 @@ use lib.Ieee.{Float, binary64, lt, le, ofBits, fits, isNan}
 use Rattle.model.specs.Real.{_⊗_, _⊘_, infinity}
 use Rattle.model.specs.Numbers.{sqrtOf}
 use Rattle.model.specs.Association.{Request, objectives, lineCount, normalised, coordinate, dot, offSquares, distance, distanceTo, smallNorm}
+use Rattle.model.specs.Papers.DebJain2014.{perpendicular}
 use Rattle.list_laws.proofs.Bools.{T-true, T-false}
 use Rattle.float_laws.proofs.Order.{le-trans, le-not-nan, le-lt-trans}
 use Rattle.float_laws.proofs.Constants.{nought, one, exp2}
 use Rattle.float_laws.proofs.FromZero.{Upto, upto-within}
 use Rattle.float_laws.proofs.Magnitude.{Within, within-number, sub-within, mul-within, div-within, within-wider}
 use Rattle.real_laws.proofs.Roots.Monotone.{sqrt-mono, sqrt-from-zero}
-use Rattle.association_laws.proofs.Search.{distance-long}
-use Rattle.association_laws.proofs.Within.{Measurable, normalised-unit}
+use Rattle.association_laws.specs.Measurable.{Measurable}
+use Rattle.association_laws.proofs.Search.{distance-long, distance-perpendicular}
+use Rattle.association_laws.proofs.Within.{normalised-unit}
 use Rattle.association_laws.proofs.Squares.{squares-from-zero}
 use Rattle.float_laws.proofs.Sums.{product-unit, sum-within}
 use Rattle.association_laws.proofs.Coordinates.{sixtyFourth, usable}
@@ -62,11 +65,17 @@ module _ (m : ℕ) (few : m ≤ 8) (p r : ℕ → Float) (P : (j : ℕ) → j < 
 
 -- ---- a request
 
-module _ (r : Request) (M : Measurable r) (wide : 1 ≤ objectives r) (narrow : objectives r ≤ 8) (some : 1 ≤ r .divisions) (few : r .divisions ≤ 199)
-    (p : ℕ) (h : p < r .count) where
-  -- THEOREM: no distance is a NaN, and each is below infinity
-  pub distanceTo-number : (l : ℕ) → l < lineCount r → (isNan (distanceTo r p l) ≡ false) × (lt (distanceTo r p l) infinity ≡ true)
+module _ (r : Request) (wide : 1 ≤ objectives r) (narrow : objectives r ≤ 8) (some : 1 ≤ r .divisions) (few : r .divisions ≤ 199) where
+  -- no line is short, so each distance is the paper's, whatever the plans' values are
+  pub distanceTo-perpendicular : (p l : ℕ) → l < lineCount r → distanceTo r p l ≡ perpendicular (objectives r) (normalised r p) (coordinate r l)
   unfolding distanceTo coordinate
-  distanceTo-number l k =
+  distanceTo-perpendicular p l k =
+      distance-perpendicular (objectives r) (normalised r p) (coordinate r l) (usable (objectives r) (r .divisions) l wide narrow some few k .notSmall)
+
+  -- THEOREM: no distance is a NaN, and each is below infinity
+  pub distanceTo-number : Measurable r → (p : ℕ) → p < r .count → (l : ℕ) → l < lineCount r
+      → (isNan (distanceTo r p l) ≡ false) × (lt (distanceTo r p l) infinity ≡ true)
+  unfolding distanceTo coordinate
+  distanceTo-number M p h l k =
       let u = usable (objectives r) (r .divisions) l wide narrow some few k in
       distance-number (objectives r) narrow (normalised r p) (coordinate r l) (λ j g. normalised-unit r M p j h g) (u .inUnit) (u .norm) (u .notSmall)

@@ -46,7 +46,7 @@ module _ (r : Request) (rows : List Float) (n m : ℕ) (P : Pool r rows n m) whe
     intercepts-at intercepts old e j h = over-below (interceptAt rows n m ideal) m intercepts old j nan e h ∙ intercept-is j h
 
     -- ---- what `normalize_objectives` leaves, from both
-    normalised-at : (intercepts : List Float) → InterceptsIn r intercepts m → (normalized old : List Float)
+    pub normalised-at : (intercepts : List Float) → InterceptsIn r intercepts m → (normalized old : List Float)
         → normalized ≡ over (flatRows (normalAt rows m ideal intercepts) n m) old → NormalisedIn r normalized n m
     unfolding normalised
     normalised-at intercepts a normalized old e p j h k =

@@ -10,6 +10,7 @@ use Rattle.model.specs.Real.{_⊗_, _⊘_, infinity}
 use Rattle.model.specs.Numbers.{sqrtOf}
 use Rattle.model.specs.Association.{dot, smallNorm, offSquares, distance, near, nearestOf, nearer}
 use Rattle.model.specs.Lists.{bestFrom}
+use Rattle.model.specs.Papers.DebJain2014.{perpendicular}
 use Rattle.list_laws.proofs.Bools.{by-bool, T-true, true-T, T-false, false-T}
 use Rattle.float_laws.proofs.Order.{le→nlt, nlt→le, le-not-nan, lt-not-nan}
 use Rattle.float_laws.proofs.Compared.{nan-below, below-nan}
@@ -40,6 +41,11 @@ module _ (m : ℕ) (p r : ℕ → Float) where
 
   pub distance-long : lt (dot m r r) smallNorm ≡ false → distance m p r ≡ sqrtOf (offSquares m p r (dot m p r ⊘ dot m r r))
   distance-long h = distance-root ∙ ap sqrtOf (squares-long (dot m r r) refl h)
+
+  -- which is the paper's perpendicular distance
+  pub distance-perpendicular : lt (dot m r r) smallNorm ≡ false → distance m p r ≡ perpendicular m p r
+  unfolding perpendicular
+  distance-perpendicular h = distance-long h
 
 pub squares-fit : (m : ℕ) (p r : ℕ → Float) → T (fits binary64 (squaresOf m p r))
 unfolding squaresOf

@@ -1,13 +1,17 @@
--- THEOREM: every normalised value lies within 0..1. Assumes nothing.
+-- THEOREM: every normalised value of a request whose numbers refusal 8 lets pass lies within 0..1. Assumes nothing.
 use Prim.Native.Nat.{ℕ, _<_}
-use mathlib.Core.Path.{_≡_, refl}
-use mathlib.Core.Bool.{true, not}
+use mathlib.Core.Path.{_≡_, refl, ap, sym, subst, _∙_}
+use mathlib.Core.Bool.{true, false, not, _&&_, true≢false}
+use mathlib.Core.List.{List}
 use lib.Dec.{T, lit≤}
-use lib.Ieee.{Float, nan, inf, binary64, lt, le, ofBits, fits, isNan}
-use lib.Ieee.Fits.{inf-fits}
+use lib.Ieee.{Float, nan, inf, fin, binary64, lt, le, eq, ofBits, fits, isNan}
+use lib.Ieee.Fits.{inf-fits, and-l, and-r}
 use lib.ListN.{getD}
+use Rattle.model.specs.Lists.{over}
 use Rattle.model.specs.Real.{_⊖_, _⊘_, nought, unit, within, above}
 use Rattle.model.specs.Association.{Request, objectives, valueOf, idealOf, interceptOf, normalised, leastFrom, greatest, smallSpan, interceptFrom}
+use Rattle.model.specs.Refusal.{measurable, isInfinity, goodEntry}
+use Rattle.list_laws.specs.Rows.{flatRows}
 use Rattle.list_laws.proofs.Bools.{by-bool, and-both, T-true, true-T, false-T}
 use Rattle.float_laws.proofs.Order.{le-trans, lt-trans, le-not-nan, nlt→le}
 use Rattle.float_laws.proofs.Constants.{exp2, minus-exp2, one, one-number, nought-lt-one}
@@ -15,13 +19,43 @@ use Rattle.float_laws.proofs.Constants as constants
 use Rattle.float_laws.proofs.Arithmetic.{itself}
 use Rattle.float_laws.proofs.FromZero.{Upto, upto-wider, sub-upto, share}
 use Rattle.float_laws.proofs.Magnitude.{Within, within-number, within-not-nan, sub-within}
-use Rattle.association_laws.proofs.Extremes.{Known, least-le, greatest-ge}
 use Rattle.list_laws.proofs.Best.{best-all}
+use Rattle.association_laws.specs.Flat.{normalAt}
+use Rattle.association_laws.specs.Measurable.{Measurable}
+use Rattle.association_laws.specs.Request.{Pool, IdealIn, InterceptsIn, InUnit}
+use Rattle.association_laws.proofs.Extremes.{Known, least-le, greatest-ge}
+use Rattle.association_laws.proofs.Request.{normalised-at}
+
+-- ---- what the tests of refusal 8 say of a double
+
+pub measured-within : (x : Float) → T (fits binary64 x) → measurable x ≡ true → Within 1000 x
+unfolding measurable ofBits
+measured-within x h e = let t = true-T (le (minus-exp2 1000) x && le x (exp2 1000)) e in record {
+  held = h;
+  low = and-l (le (minus-exp2 1000) x) (le x (exp2 1000)) t;
+  high = and-r (le (minus-exp2 1000) x) (le x (exp2 1000)) t;
+}
+
+pub within-measured : (x : Float) → Within 1000 x → measurable x ≡ true
+unfolding measurable ofBits
+within-measured x w = and-both _ _ (T-true (le (minus-exp2 1000) x) (w .low)) (T-true (le x (exp2 1000)) (w .high))
 
 -- a double from -2 ^ 1000 up, plus infinity among them
-pub record Start (x : Float) : Type 0 where
-  pub held : T (fits binary64 x)
-  pub low : T (le (minus-exp2 1000) x)
+record Start (x : Float) : Type 0 where
+  held : T (fits binary64 x)
+  low : T (le (minus-exp2 1000) x)
+
+infinite-low : (x : Float) → isInfinity x ≡ true → T (le (minus-exp2 1000) x)
+unfolding eq le
+infinite-low nan e = absurd (true≢false (sym e))
+infinite-low (inf true) e = absurd (true≢false (sym e))
+infinite-low (inf false) e = tt
+infinite-low (fin s m k) e = absurd (true≢false (sym e))
+
+start-of : (x : Float) → T (fits binary64 x) → goodEntry x ≡ true → Start x
+start-of x h e = by-bool (measurable x)
+    (λ v. record { held = h; low = measured-within x h v .low })
+    (λ v. let i : isInfinity x ≡ true = rw v at e in record { held = h; low = infinite-low x i })
 
 -- ---- one objective: its values f, and the ideal b that it starts from
 module _ (b : Float) (f : ℕ → Float) (n : ℕ) (B : Start b) (F : (t : ℕ) → t < n → Within 1000 (f t)) (p : ℕ) (h : p < n) where
@@ -84,17 +118,22 @@ module _ (b : Float) (f : ℕ → Float) (n : ℕ) (B : Start b) (F : (t : ℕ) 
 
 -- ---- a request
 
--- its values and the ideal that it starts from are within 2 ^ 1000; the ideal may be plus infinity
-pub record Measurable (r : Request) : Type 0 where
-  pub values : (p j : ℕ) → p < r .count → j < objectives r → Within 1000 (valueOf r p j)
-  pub start : (j : ℕ) → j < objectives r → Start (getD (r .ideal) j nan)
-
 module _ (r : Request) (M : Measurable r) (p j : ℕ) (h : p < r .count) (k : j < objectives r) where
   pub normalised-unit : Upto one (normalised r p j)
   unfolding normalised idealOf interceptOf
-  normalised-unit = normal-unit (getD (r .ideal) j nan) (λ q. valueOf r q j) (r .count) (M .start j k) (λ q l. M .values q j l k) p h
+  normalised-unit =
+      normal-unit (getD (r .ideal) j nan) (λ q. valueOf r q j) (r .count) (start-of (getD (r .ideal) j nan) (M .startDoubles j k) (M .start j k))
+      (λ q l. measured-within (valueOf r q j) (M .doubles q j l k) (M .values q j l k)) p h
 
   -- THEOREM
   pub normalised-within : within nought unit (normalised r p j) ≡ true
   unfolding ofBits
   normalised-within = and-both _ _ (T-true (le nought (normalised r p j)) (normalised-unit .from)) (T-true (le (normalised r p j) unit) (normalised-unit .to))
+
+-- ---- what `normalize_objectives` leaves in flat rows
+pub rows-in-unit : (r : Request) → Measurable r → (rows : List Float) (n m : ℕ) (P : Pool r rows n m) (ideal : List Float) → IdealIn r ideal m
+    → (intercepts : List Float) → InterceptsIn r intercepts m → (normalized old : List Float)
+    → normalized ≡ over (flatRows (normalAt rows m ideal intercepts) n m) old → InUnit normalized n m
+rows-in-unit r M rows n m P ideal z intercepts a normalized old e p j h k =
+    ap (λ x. within nought unit x) (normalised-at r rows n m P ideal z intercepts a normalized old e p j h k)
+    ∙ normalised-within r M p j (subst (λ t. p < t) (P .count) h) (subst (λ t. j < t) (P .width) k)

@@ -1,3 +1,4 @@
 pub mod Flat
 pub mod Request
+pub mod Measurable
 pub mod Search

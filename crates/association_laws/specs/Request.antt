@@ -1,10 +1,12 @@
 -- A request of document 01 in flat lists: what they hold before its association and after it.
 use Prim.Native.Nat.{ℕ, _<_}
 use mathlib.Core.Path.{_≡_}
+use mathlib.Core.Bool.{true}
 use mathlib.Core.List.{List}
 use lib.Ieee.{Float, nan}
 use lib.ListN.{getD}
 use Rattle.model.specs.Lists.{listBelow, over}
+use Rattle.model.specs.Real.{nought, unit, within}
 use Rattle.front_laws.specs.Flat.{rowAt}
 use Rattle.model.specs.Association.{Request, objectives, valueOf, idealOf, interceptOf, normalised, coordinate, association, lineOf}
 
@@ -29,6 +31,10 @@ NormalisedIn r normalized n m = (p j : ℕ) → p < n → j < m → rowAt normal
 
 abbrev pub LinesIn : Request → List Float → ℕ → ℕ → Type 0
 LinesIn r table k m = (l j : ℕ) → l < k → j < m → rowAt table m l j ≡ coordinate r l j
+
+-- flat rows whose values all lie within 0..1
+abbrev pub InUnit : List Float → ℕ → ℕ → Type 0
+InUnit normalized n m = (p j : ℕ) → p < n → j < m → within nought unit (rowAt normalized m p j) ≡ true
 
 -- the ideal moved, and each plan's line and its distance from it; what lies past them in a lent slice is as it was
 pub record Associates (r : Request) (n m : ℕ) (ideal₀ ideal : List Float) (lines₀ lines : List ℕ) (distances₀ distances : List Float) : Type 0 where

@@ -1,22 +1,21 @@
 -- DEMAND 3 of every accepted request from a pool of at least the size wanted: there is a line, and no value is a NaN.
 use Prim.Native.Nat.{ℕ, _≤_, _<_}
 use mathlib.Core.Path.{_≡_}
-use mathlib.Core.Bool.{true, false}
+use mathlib.Core.Bool.{false}
 use lib.Ieee.{isNan}
-use Rattle.model.specs.Association.{Request, objectives, lineCount, valueOf, dominance, distanceTo, lineOf}
-use Rattle.model.specs.Kept.{before, isSplit, splitFront, filled, selected}
+use Rattle.model.specs.Association.{Request, objectives, lineCount, valueOf, dominance}
+use Rattle.model.specs.Kept.{selected}
 use Rattle.model.specs.Demand3.{Demand3}
-use Rattle.niching_laws.specs.Niching.{ByProcedure}
 use Rattle.list_laws.proofs.Checks.{pool-plan}
 use Rattle.front_laws.proofs.Plans.{accepted-known, beats-strict}
 use Rattle.reference_laws.proofs.Count.{lines-some}
 use Rattle.front_laws.specs.Strict.{Strict}
 use Rattle.demand3_laws.specs.Facts.{Accepted}
 use Rattle.demand3_laws.proofs.Passed.{some-objectives}
-use Rattle.demand3_laws.proofs.Demand3.{demand3-strict, filled-procedure}
+use Rattle.demand3_laws.proofs.Demand3.{demand3-strict}
 
 module _ (r : Request) (accepted : Accepted r) where
-  accepted-lines : 0 < lineCount r
+  pub accepted-lines : 0 < lineCount r
   accepted-lines = lines-some (objectives r) (r .divisions) (some-objectives (r .marks) (accepted .directions) .0)
 
   values-real : (p j : ℕ) → p < r .count → j < objectives r → isNan (valueOf r p j) ≡ false
@@ -29,7 +28,3 @@ module _ (r : Request) (accepted : Accepted r) where
   -- THE THEOREM, split or not
   pub demand3 : r .size ≤ r .count → Demand3 r (selected r .kept)
   demand3 enough = demand3-strict r dominance-strict enough accepted-lines
-
-  -- and where a front is split, the plans picked from it are those of the paper's niching procedure
-  pub niching-procedure : isSplit r ≡ true → ByProcedure (before r) (splitFront r) (lineOf r) (λ p. distanceTo r p (lineOf r p)) (lineCount r) (filled r .value)
-  niching-procedure split = filled-procedure r accepted-lines split

@@ -66,7 +66,7 @@ generation-selects o r h = ap (λ (g : Generation). g .selection) (generation-ma
 -- ---- `nsga3_select`
 
 module _ (r : Request) (words : (p : ℕ) → InWords (r .plans p)) where
-  select-accepted : (room : Room) → selectRefusal r room ≡ none → Accepted r
+  pub select-accepted : (room : Room) → selectRefusal r room ≡ none → Accepted r
   select-accepted room e = let p = select-passed r room e in word-accepted r words (p .directions) (p .divisions) (p .pool)
 
   pub selects : (entry : Lent) → Selects r entry (selectOf r entry)
@@ -83,7 +83,7 @@ module _ (r : Request) (words : (p : ℕ) → InWords (r .plans p)) where
 
   -- ---- `nsga3_generate_offspring`
 
-  step-accepted : (o : Operators) (room : Room) (offspring : ℕ) → stepRefusal o r room offspring ≡ none → Accepted r
+  pub step-accepted : (o : Operators) (room : Room) (offspring : ℕ) → stepRefusal o r room offspring ≡ none → Accepted r
   step-accepted o room offspring e = let p = passed o r room offspring e in word-accepted r words (p .directions) (p .divisions) (p .pool)
 
   -- what a step owes beside: its offspring lie within their bounds

@@ -6,10 +6,11 @@ use mathlib.Core.Bool.{true, false, true≢false}
 use mathlib.Core.List.{List, _++_, Memᴰ·append-left, Memᴰ·append-right, List·Memᴰ·append-cases}
 use native.Mathlib.Omega.{arith}
 use lib.Dec.{eqb}
+use lib.Ieee.{Float, isNan}
 use lib.ListN.{length, length-append}
 use Rattle.model.specs.Lists.{In, Distinct}
 use Rattle.model.specs.Papers.Deb2002.{inFirst, inFront}
-use Rattle.model.specs.Association.{Request, dominance, lineCount, distanceTo, association, lineOf}
+use Rattle.model.specs.Association.{Request, dominance, lineCount, association, lineOf}
 use Rattle.model.specs.Kept.{nicheCount, wholeFronts, before, isSplit, splitFront, filled, selected}
 use Rattle.model.specs.Demand3.{Split, Filling, finalCount, fillingCount, sumOfSquares, Served, Waits, Demand3}
 use Rattle.niching_laws.specs.Niching as Niching
@@ -17,7 +18,7 @@ use Rattle.niching_laws.specs.Niching.{ByProcedure}
 use Rattle.list_laws.proofs.Members.{tally-append, tally-below, distinct-append}
 use Rattle.niching_laws.proofs.Picks.{picks-niched}
 use Rattle.niching_laws.proofs.Procedure.{picks-procedure, procedure-other}
-use Rattle.niching_laws.proofs.Association.{lineOf-inside, kept-distance}
+use Rattle.niching_laws.proofs.Association.{lineOf-inside}
 use Rattle.front_laws.specs.Strict.{Strict}
 use Rattle.list_laws.proofs.Bools.{by-bool, no-pass}
 use Rattle.front_laws.proofs.Rounds.{inFirst-more}
@@ -68,12 +69,14 @@ module _ (r : Request) where
     unfolding filled
     niched = picks-niched (λ p. association r p .distance) setting (r .size - length (before r)) (r .state) (split-room r split)
 
-    -- the picks are those of the paper's procedure, by each plan's distance from its line
-    pub filled-procedure : ByProcedure (before r) (splitFront r) (lineOf r) (λ p. distanceTo r p (lineOf r p)) (lineCount r) (filled r .value)
+    -- the picks are those of the paper's procedure by the distances that are kept beside the plans, where none of them is a NaN
+    pub filled-procedure : (d : ℕ → Float) → ((p : ℕ) → p < r .count → association r p .distance ≡ d p) → ((p : ℕ) → p < r .count → isNan (d p) ≡ false)
+        → ByProcedure (before r) (splitFront r) (lineOf r) d (lineCount r) (filled r .value)
     unfolding filled
-    filled-procedure =
-        procedure-other (λ p. distanceTo r p (lineOf r p)) (λ p q. kept-distance r p q some)
-        (picks-procedure (λ p. association r p .distance) setting (r .size - length (before r)) (r .state) (split-room r split))
+    filled-procedure d same known =
+        procedure-other d (λ p m. same p (split-exactly r .below p m))
+        (picks-procedure (λ p. association r p .distance) setting
+        (λ p m. let h = split-exactly r .below p m in ap isNan (same p h) ∙ known p h) (r .size - length (before r)) (r .state) (split-room r split))
 
     abbrev list : List ℕ
     list = before r ++ filled r .value

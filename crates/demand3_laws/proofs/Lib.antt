@@ -4,5 +4,7 @@ pub mod Sizes
 pub mod Cut
 pub mod Demand3
 pub mod Accepted
+pub mod Paper
 pub mod Calls
+pub mod Words
 pub mod ListedOrder

@@ -1,8 +1,8 @@
 -- The order of floats as tests give it: `lt x y ≡ true`, `lt x y ≡ false`.
 use mathlib.Core.Path.{_≡_, sym, _∙_}
 use mathlib.Core.Bool.{true, false, true≢false}
-use lib.Dec.{T-not}
-use lib.Ieee.{Float, lt, isNan}
+use lib.Dec.{T, T-not}
+use lib.Ieee.{Float, lt, le, isNan}
 use Rattle.list_laws.proofs.Bools.{T-true, true-T, false-T, no-pass}
 use Rattle.float_laws.proofs.Order as order
 
@@ -25,6 +25,10 @@ pub lt-past : (x y z : Float) → lt x y ≡ true → lt z y ≡ false → isNan
 lt-past x y z h k v =
     let l = true-T (lt x y) h in
     T-true (lt x z) (order.lt-le-trans x y z l (order.nlt→le z y (false-T (isNan z) v) (order.lt-not-nan x y l .1) (false-T (lt z y) k)))
+
+-- what nothing but a NaN could hide: where y is not below x, x is at most y
+pub lt-le : (x y : Float) → isNan x ≡ false → isNan y ≡ false → lt y x ≡ false → T (le x y)
+lt-le x y a b h = order.nlt→le y x (false-T (isNan y) b) (false-T (isNan x) a) (false-T (lt y x) h)
 
 -- a NaN is below nothing, and nothing is below a NaN
 pub nan-below : (x y : Float) → isNan x ≡ true → lt x y ≡ false

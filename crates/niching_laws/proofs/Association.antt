@@ -1,17 +1,17 @@
--- The line that a plan is associated with is the paper's: no line is nearer. It is the first such line, and its distance is the one kept beside it.
+-- No line is nearer than the one that a plan is associated with, whatever its distances are; it is the first such line but for NaNs, and its distance is the
+-- one kept beside it, unless that is a NaN. That the distances are the paper's, and no NaN, is proved above (`demand3_laws/proofs/Paper.antt`).
 use Prim.Native.Nat.{ℕ, zero, suc, _<_}
-use mathlib.Core.Path.{_≡_, refl, sym, ap, ap₂, _∙_}
+use mathlib.Core.Path.{_≡_, refl, sym, ap, _∙_}
 use mathlib.Core.Logic.{_⊎_, inl, inr}
 use mathlib.Core.Bool.{Bool, true, false, cond, true≢false}
 use native.Mathlib.Omega.{arith}
 use lib.Ieee.{Float, nan, inf, fin, lt, isNan}
 use Rattle.model.specs.Real.{infinity}
 use Rattle.model.specs.Association.{Request, lineCount, distanceTo, Near, near, nearestOf, association, lineOf, nearer}
-use Rattle.model.specs.Papers.DebJain2014.{Associated}
 use Rattle.model.specs.Lists.{bestFrom}
 use Rattle.list_laws.proofs.Best.{best-all, best-least}
 use Rattle.niching_laws.specs.Nearest.{NearestLine}
-use Rattle.float_laws.proofs.Compared.{lt-self, lt-down, lt-past, nan-below, below-nan}
+use Rattle.float_laws.proofs.Compared.{lt-self, lt-down, lt-past, below-nan}
 
 -- ---- what is not below infinity is a NaN or infinity
 
@@ -97,23 +97,3 @@ module _ (r : Request) (p : ℕ) (some : 0 < lineCount r) where
 
   pub lineOf-inside : lineOf r p < lineCount r
   lineOf-inside = association-nearest .inside
-
-  -- so it is one that Deb and Jain associate the plan with
-  pub association-associated : Associated (distanceTo r) (lineCount r) p (lineOf r p)
-  association-associated = record { inside = association-nearest .inside; least = association-nearest .nearest }
-
--- of two plans, one is not nearer to its line than the other by the distances kept, so neither by the distances from their lines
-pub kept-distance : (r : Request) (p q : ℕ) → 0 < lineCount r → lt (association r q .distance) (association r p .distance) ≡ false
-    → lt (distanceTo r q (lineOf r q)) (distanceTo r p (lineOf r p)) ≡ false
-kept-distance r p q some h = go (isNan (d q)) refl (isNan (d p)) refl
-  where
-    d : ℕ → Float
-    d t = distanceTo r t (lineOf r t)
-
-    kept : (t : ℕ) → isNan (d t) ≡ false → association r t .distance ≡ d t
-    kept t = association-nearest r t some .distance
-
-    go : (a : Bool) → isNan (d q) ≡ a → (b : Bool) → isNan (d p) ≡ b → lt (d q) (d p) ≡ false
-    go true e b k = nan-below (d q) (d p) e
-    go false e true k = below-nan (d q) (d p) k
-    go false e false k = sym (ap₂ lt (kept q e) (kept p k)) ∙ h

@@ -1,4 +1,4 @@
--- One open place: what is picked is a waiting member of a line with the least count, and the nearest of that line's members at count 0.
+-- One open place: what is picked is a waiting member of a line with the least count, and at count 0 one that no other of that line's members is nearer than.
 use Prim.Native.Nat.{ℕ, zero, suc, _%_, _≤_, _<_}
 use mathlib.Core.Path.{_≡_, sym, ap, _∙_}
 use mathlib.Core.Bool.{Bool, true, false}

@@ -1,4 +1,4 @@
--- Every run of niching meets demand 3.
+-- Every run of niching meets what demand 3 asks of the plans picked.
 use Prim.Native.Nat.{ℕ}
 use mathlib.Core.List.{List}
 use Rattle.niching_laws.specs.Niching.{Run, Niched, Split}

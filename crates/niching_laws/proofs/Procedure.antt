@@ -1,13 +1,13 @@
--- The picks are those of the paper's niching procedure: its random choices are taken, the nearest candidate at niche count 0, and a line is set aside only
--- while it has the least niche count and no candidate.
+-- Where no distance of the front's plans is a NaN, the picks are those of the paper's niching procedure: its random choices are taken, the nearest candidate at
+-- niche count 0, and a line is set aside only while it has the least niche count and no candidate.
 use Prim.Native.Nat.{ℕ, zero, suc, _≤_, _<_}
-use mathlib.Core.Path.{_≡_, refl, sym, ap, _∙_}
+use mathlib.Core.Path.{_≡_, refl, sym, ap, ap₂, subst, _∙_}
 use mathlib.Core.Logic.{_≢_, ⊎-elim}
 use mathlib.Core.Bool.{Bool, true, false}
 use mathlib.Core.List.{List, [], _∷_, _++_, List·Memᴰ·head, List·Memᴰ·tail, List·Memᴰ·not-nil, List·Memᴰ·cases-cons, Memᴰ·append-left, Memᴰ·cast}
 use native.Mathlib.Omega.{arith}
-use lib.Dec.{eqb}
-use lib.Ieee.{Float, lt}
+use lib.Dec.{T, eqb}
+use lib.Ieee.{Float, le, isNan}
 use lib.ListN.{length}
 use borrow.Author.Tests.{eqb-true, eqb-false}
 use Rattle.model.specs.Lists.{In, has}
@@ -17,6 +17,7 @@ use Rattle.niching_laws.specs.Niching.{Split, ByProcedure}
 use Rattle.list_laws.proofs.Below.{last-or, by-lt}
 use Rattle.list_laws.proofs.Draws.{drawAll-keeps}
 use Rattle.list_laws.proofs.Members.{has-in, has-not}
+use Rattle.float_laws.proofs.Compared.{lt-le}
 use Rattle.niching_laws.proofs.Choice.{Chosen}
 use Rattle.niching_laws.proofs.Picks.{waiting-in, in-waiting, pickOne-chosen}
 
@@ -113,8 +114,8 @@ module _ (before front : List ℕ) (line : ℕ → ℕ) (distance : ℕ → Floa
     chosen-least : line p < lines → (t : Cleared picked (nicheCount line (before ++ picked) (line p)) 0) → Least before front line lines (t .here .excluded) picked (line p)
     chosen-least h t = level-least picked t (line p) h refl (λ i. t .barren (line p) i p candidate)
 
-    picked-once : line p < lines → Cleared picked 0 0 → Cleared (picked ++ (p ∷ [])) 0 0
-    picked-once h begin =
+    picked-once : line p < lines → ((q : ℕ) → In q front → isNan (distance q) ≡ false) → Cleared picked 0 0 → Cleared (picked ++ (p ∷ [])) 0 0
+    picked-once h known begin =
         cleared (record { excluded = t .here .excluded; reached = go (nicheCount line (before ++ picked) (line p)) refl })
         (λ j i q k. t .barren j i q (candidate-before j q k))
       where
@@ -123,19 +124,25 @@ module _ (before front : List ℕ) (line : ℕ → ℕ) (distance : ℕ → Floa
             clear-below picked begin (nicheCount line (before ++ picked) (line p))
             (λ j q k. rw (k .onLine) at (chosen .least q (candidate-waits j q k)))
 
+        -- no candidate of p's line is nearer
+        near : nicheCount line (before ++ picked) (line p) ≡ 0 → (q : ℕ) → Candidate before front line lines picked (line p) q → T (le (distance p) (distance q))
+        near e q k =
+            lt-le (distance p) (distance q) (known p (candidate .member)) (known q (k .member)) (chosen .nearest e q (candidate-waits (line p) q k) (k .onLine))
+
         go : (c : ℕ) → nicheCount line (before ++ picked) (line p) ≡ c → Reached before front line distance lines (t .here .excluded) (picked ++ (p ∷ []))
-        go zero e = pickNearest (t .here .reached) (chosen-least h t) e candidate (λ q k. chosen .nearest e q (candidate-waits (line p) q k) (k .onLine))
+        go zero e = pickNearest (t .here .reached) (chosen-least h t) e candidate (near e)
         go (suc c) e = pickAny (t .here .reached) (chosen-least h t) (omega arith) candidate
 
 -- ---- all picks
 
-module _ (distance : ℕ → Float) {before front : List ℕ} {line : ℕ → ℕ} {lines : ℕ} (split : Split before front line lines) where
+module _ (distance : ℕ → Float) {before front : List ℕ} {line : ℕ → ℕ} {lines : ℕ} (split : Split before front line lines)
+    (known : (p : ℕ) → In p front → isNan (distance p) ≡ false) where
   picks-cleared : (n s : ℕ) → n ≤ length front → Cleared before front line distance lines (picks line distance lines before front n s .value) 0 0
   picks-cleared n s h =
       drawAll-keeps (λ place picked. pickOne line distance lines before front picked) (λ k picked. Cleared before front line distance lines picked 0 0) s n
       (cleared before front line distance lines (record { excluded = []; reached = start }) (λ j i. absurd (List·Memᴰ·not-nil i)))
       (λ k picked t u e cleared. let c = pickOne-chosen distance split t picked (omega arith) in
-      picked-once before front line distance lines picked _ c (split .inside _ (in-waiting front picked _ (c .listed) .member)) cleared) .1
+      picked-once before front line distance lines picked _ c (split .inside _ (in-waiting front picked _ (c .listed) .member)) known cleared) .1
 
   -- with no more open places than the front has plans, the procedure of Deb and Jain can pick what `picks` picks
   pub picks-procedure : (n s : ℕ) → n ≤ length front → ByProcedure before front line distance lines (picks line distance lines before front n s .value)
@@ -143,14 +150,14 @@ module _ (distance : ℕ → Float) {before front : List ℕ} {line : ℕ → �
 
 -- ---- other distances
 
--- distances by which no candidate is nearer that was not nearer before serve as well
+-- only the distances of the front's plans are looked at
 module _ {before front : List ℕ} {line : ℕ → ℕ} {distance : ℕ → Float} {lines : ℕ} (other : ℕ → Float)
-    (weaker : (p q : ℕ) → lt (distance q) (distance p) ≡ false → lt (other q) (other p) ≡ false) where
+    (same : (p : ℕ) → In p front → distance p ≡ other p) where
   reached-other : {excluded picked : List ℕ} → Reached before front line distance lines excluded picked → Reached before front line other lines excluded picked
   reached-other start = start
   reached-other (exclude r l none) = exclude (reached-other r) l none
   reached-other (pickNearest {p = p} r l z c nearest) =
-      pickNearest (reached-other r) l z c (λ q k. weaker p q (nearest q k))
+      pickNearest (reached-other r) l z c (λ q k. subst (λ b. T b) (ap₂ le (same p (c .member)) (same q (k .member))) (nearest q k))
   reached-other (pickAny r l z c) = pickAny (reached-other r) l z c
 
   pub procedure-other : {picked : List ℕ} → ByProcedure before front line distance lines picked → ByProcedure before front line other lines picked

@@ -5,9 +5,11 @@ ghost use Prim.Native.Nat.{_+_, _*_, _<_, _≤_};
 ghost use lib.ListN.{length};
 ghost use lib.Seq.{sets};
 ghost use Rattle.model.specs.Lists.{listBelow, over};
-ghost use Rattle.model.specs.Association.{leastFrom, greatest, interceptFrom};
+ghost use Rattle.model.specs.Association.{leastFrom, greatest, interceptFrom, Request};
 ghost use Rattle.list_laws.specs.Rows.{flatRows};
 ghost use Rattle.association_laws.specs.Flat.{column, leastAt, interceptAt, normalAt};
+ghost use Rattle.association_laws.specs.Measurable.{Measurable};
+ghost use Rattle.association_laws.specs.Request.{Pool, IdealIn, InterceptsIn, InUnit};
 
 // The smaller of `start` and the least value of objective j; `start` stands where they are equal.
 fn least_of(rows: &[f64], n: usize, m: usize, j: usize, start: f64) -> f64
@@ -97,7 +99,7 @@ fn normalize_row(
     }
 }
 
-// Each value becomes (value - ideal) / intercept.
+// Each value becomes (value - ideal) / intercept; within 0..1, for a pool that refusal 8 lets pass and its own ideal and intercepts.
 pub fn normalize_objectives(
     rows: &[f64],
     n: usize,
@@ -109,6 +111,8 @@ pub fn normalize_objectives(
     requires { ⌜ (n * m ≤ length (now rows)) × (m ≤ length (now ideal)) × (m ≤ length (now intercepts)) × (n * m ≤ length (now normalized)) ⌝ }
     ensures { λ _. ⌜ now (normalized .exit)
         ≡ over (flatRows (normalAt (now (rows .entry)) m (now (ideal .entry)) (now (intercepts .entry))) n m) (now (normalized .entry)) ⌝ }
+    ensures in_unit { λ _. ⌜ ((r : Request) → Measurable r → Pool r (now (rows .entry)) n m → IdealIn r (now (ideal .entry)) m
+        → InterceptsIn r (now (intercepts .entry)) m → InUnit (now (normalized .exit)) n m) ⌝ }
 {
     let mut p = 0;
     while p < n {

@@ -30,7 +30,7 @@ file-accepted f whole e =
     }
 
 -- a file in good form is refused as its bytes are
-file-passes : (bytes : List ℕ) (out : ℕ) → chooseRefusal bytes out ≡ none → (f : PoolFile) → parse bytes ≡ some f → fileRefusal f out ≡ none
+pub file-passes : (bytes : List ℕ) (out : ℕ) → chooseRefusal bytes out ≡ none → (f : PoolFile) → parse bytes ≡ some f → fileRefusal f out ≡ none
 unfolding chooseRefusal
 file-passes bytes out e f read = subst (λ (o : Option PoolFile). refusalOfParsed o out ≡ none) read e
 

@@ -11,6 +11,7 @@ pub mod Shapes
 pub mod Carried
 pub mod Refusals
 pub mod Demand3
+pub mod Paper
 pub mod Texts
 pub mod Words
 pub mod Files

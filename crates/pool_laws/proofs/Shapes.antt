@@ -1,16 +1,19 @@
--- What holds of every file in good form: as many marks and plans as it says, and the shape of each plan.
+-- What holds of every file in good form: as many marks and plans as it says, and of each plan as many values and constraints, its values doubles.
 use Prim.Native.Nat.{ℕ, zero, suc, _<_}
 use mathlib.Core.Path.{_≡_, sym, _∙_, subst}
-use mathlib.Core.List.{List, [], _∷_}
+use mathlib.Core.List.{List, [], _∷_, map}
 use mathlib.Core.Option.{some, Option·none-ne-some, Option·some-injective}
 use native.Mathlib.Nat.{not-suc-le-zero}
 use native.Mathlib.Omega.{arith}
-use lib.Dec.{leb}
+use lib.Dec.{T, leb}
+use lib.Ieee.{nan, binary64, fits}
+use lib.Ieee.Bits.{ofBits-fits}
 use lib.ListN.{length, getD, length-map}
 use Rattle.model.specs.Real.{real}
 use Rattle.model.specs.Plan.{Plan}
 use Rattle.model.specs.PoolFile.{Parsed, Reader, PoolFile, pure, number, many, plan, poolFile, parse, ifNoneLeft, maxFile, noPlan}
 use Rattle.list_laws.proofs.Bools.{by-bool, by-option}
+use Rattle.list_laws.proofs.Built.{map-at}
 use Rattle.pool_file.specs.declared.Header.{Header}
 use Rattle.pool_file.specs.Parsing.{headerOf, afterHeader}
 use Rattle.pool_file.proofs.Whole.{header-first}
@@ -33,7 +36,13 @@ module _ {A : Type 0} (r : Reader A) (Q : A → Type 0) (each : (bytes : List �
 
 pub record Shape (m : ℕ) (p : Plan) : Type 0 where
   pub row : length (p .row) ≡ m
+  pub values : (j : ℕ) → j < length (p .row) → T (fits binary64 (getD (p .row) j nan))
   pub constraints : length (p .constraints) ≡ p .constraintCount
+
+-- what the words of a list stand for are doubles
+reals-held : (words : List ℕ) (j : ℕ) → j < length (map real words) → T (fits binary64 (getD (map real words) j nan))
+reals-held words j h =
+    subst (λ x. T (fits binary64 x)) (sym (map-at real words j nan 0 (omega (arith, length-map words real)))) (ofBits-fits binary64 (getD words j 0))
 
 plan-shape : (m : ℕ) (bytes : List ℕ) (p : Parsed Plan) → plan m bytes ≡ some p → Shape m (p .value)
 unfolding plan
@@ -43,6 +52,7 @@ plan-shape m bytes p e =
     let k = both-read (many (c .0 .value) number (c .0 .rest)) _ _ (c .2) in
     subst (λ (t : Parsed Plan). Shape m (t .value)) (Option·some-injective _ _ (k .2)) (record {
       row = length-map (v .0 .value) real ∙ many-length number m bytes (v .0 .value) (v .0 .rest) (v .1);
+      values = reals-held (v .0 .value);
       constraints = length-map (k .0 .value) real ∙ many-length number (c .0 .value) (c .0 .rest) (k .0 .value) (k .0 .rest) (k .1);
     })
 

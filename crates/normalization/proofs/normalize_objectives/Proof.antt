@@ -1,4 +1,4 @@
--- the rows before p are normalised
+-- the rows before p are normalised; what is left is within 0..1 by the law of requests
 use Prim.Native.Nat.{_-_, _≤_}
 use mathlib.Core.Path.{_≡_, refl, _∙_}
 use native.Mathlib.Omega.{arith}
@@ -7,6 +7,7 @@ use Rattle.model.specs.Lists.{over}
 use Rattle.list_laws.specs.Rows.{flatRows}
 use Rattle.list_laws.proofs.Rows.{row-inside, row-within, rows-none, rows-more}
 use Rattle.association_laws.specs.Flat.{normalAt}
+use Rattle.association_laws.proofs.Within.{rows-in-unit}
 use Rattle.normalization.proofs.normalize_objectives.Statement.{statement}
 use Rattle.normalization.proofs.normalize_objectives.Tie as tie
 
@@ -45,8 +46,12 @@ same-length c = c .before .loop .inv .1
 
 returns : tie.Need-returns Inv-loop μ-loop
 returns c =
-    let e : c .before .loop .p ≡ c .before .before .before .before .before .before .args .n = omega arith in
-    rw e at (c .before .loop .inv .2)
+    let a = c .before .before .before .before .before .before .args in
+    let l = c .before .loop in
+    let e : l .p ≡ a .n = omega arith in
+    let left : l .normalized ≡ over (flatRows (normalAt (a .rows .now) (a .m) (a .ideal .now) (a .intercepts .now)) (a .n) (a .m)) (a .normalized .now) =
+    rw e at (l .inv .2) in
+    (left, λ r M P z i. rows-in-unit r M (a .rows .now) (a .n) (a .m) P (a .ideal .now) z (a .intercepts .now) i _ (a .normalized .now) left)
 
 pub normalize-objectives-spec : {M : Type 1} → statement M
 normalize-objectives-spec =

@@ -1,0 +1,65 @@
+-- THEOREM: association and niching of an accepted selection are those of Deb and Jain 2014, where its numbers are those that refusal 8 lets pass: then no
+-- distance is a NaN, and none is infinite for its line being short.
+use Prim.Native.Nat.{ℕ, _≤_, _<_}
+use mathlib.Core.Path.{_≡_, ap, ap₂, sym, subst, _∙_}
+use mathlib.Core.Bool.{true, false}
+use lib.Dec.{T}
+use lib.Ieee.{le, isNan}
+use Rattle.model.specs.Plan.{maxObjectives}
+use Rattle.model.specs.Papers.DebJain2014.{perpendicular, Associated}
+use Rattle.model.specs.Association.{Request, objectives, lineCount, normalised, coordinate, distanceTo, association, lineOf}
+use Rattle.model.specs.Kept.{before, isSplit, splitFront, filled}
+use Rattle.float_laws.proofs.Compared.{lt-le}
+use Rattle.reference_laws.proofs.Divisions.{Allowed, allowed}
+use Rattle.niching_laws.specs.Nearest.{NearestLine}
+use Rattle.niching_laws.specs.Niching.{ByProcedure}
+use Rattle.niching_laws.proofs.Association.{association-nearest}
+use Rattle.association_laws.specs.Measurable.{Measurable}
+use Rattle.association_laws.proofs.Finite.{distanceTo-perpendicular, distanceTo-number}
+use Rattle.demand3_laws.specs.Facts.{Accepted}
+use Rattle.demand3_laws.specs.Paper.{fromLine, ByPaper}
+use Rattle.demand3_laws.proofs.Passed.{some-objectives}
+use Rattle.demand3_laws.proofs.Accepted.{accepted-lines}
+use Rattle.demand3_laws.proofs.Demand3.{filled-procedure}
+
+module _ (r : Request) (accepted : Accepted r) (measured : Measurable r) where
+  width : (1 ≤ objectives r) × (objectives r ≤ maxObjectives)
+  width = some-objectives (r .marks) (accepted .directions)
+
+  divided : Allowed (objectives r) (r .divisions)
+  divided = allowed (objectives r) (r .divisions) (accepted .divisions)
+
+  -- each distance is the paper's, and no NaN
+  perpendicular-to : (p l : ℕ) → l < lineCount r → distanceTo r p l ≡ perpendicular (objectives r) (normalised r p) (coordinate r l)
+  perpendicular-to = distanceTo-perpendicular r (width .0) (width .1) (divided .least) (divided .most)
+
+  known : (p l : ℕ) → p < r .count → l < lineCount r → isNan (distanceTo r p l) ≡ false
+  known p l h k = distanceTo-number r (width .0) (width .1) (divided .least) (divided .most) measured p h l k .0
+
+  nearest : (p : ℕ) → NearestLine (distanceTo r p) (lineCount r) (lineOf r p) (association r p .distance)
+  nearest p = association-nearest r p (accepted-lines r accepted)
+
+  -- the distance that is kept beside a plan is the paper's from its line
+  kept-distance : (p : ℕ) → p < r .count → association r p .distance ≡ fromLine r p
+  kept-distance p h =
+      let inside = nearest p .inside in
+      nearest p .distance (known p (lineOf r p) h inside) ∙ perpendicular-to p (lineOf r p) inside
+
+  pub association-associated : (p : ℕ) → p < r .count → Associated (objectives r) (normalised r) (coordinate r) (lineCount r) p (lineOf r p)
+  association-associated p h =
+      let l = lineOf r p in
+      let inside = nearest p .inside in
+      record {
+        inside = inside;
+        least = λ j k. subst (λ b. T b) (ap₂ le (perpendicular-to p l inside) (perpendicular-to p j k))
+            (lt-le (distanceTo r p l) (distanceTo r p j) (known p l h inside) (known p j h k) (nearest p .nearest j k));
+      }
+
+  pub niching-procedure : isSplit r ≡ true → ByProcedure (before r) (splitFront r) (lineOf r) (fromLine r) (lineCount r) (filled r .value)
+  niching-procedure split =
+      filled-procedure r (accepted-lines r accepted) split (fromLine r) kept-distance
+      (λ p h. let inside = nearest p .inside in ap isNan (sym (perpendicular-to p (lineOf r p) inside)) ∙ known p (lineOf r p) h inside)
+
+  -- THE THEOREM
+  pub by-paper : ByPaper r
+  by-paper = record { associated = association-associated; niched = niching-procedure }
