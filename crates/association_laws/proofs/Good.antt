@@ -1,13 +1,11 @@
 -- A pool that refusal 8 lets pass is measured: its values and its ideal are doubles within 2 ^ 1000.
 use Prim.Native.Nat.{ℕ, _+_, _≤_, _<_, min}
 use mathlib.Core.Path.{_≡_, ap, sym, subst, _∙_}
-use mathlib.Core.Bool.{true, false, _&&_, true≢false}
+use mathlib.Core.Bool.{true, false, true≢false}
 use mathlib.Core.List.{List}
 use native.Mathlib.Omega.{arith}
 use lib.Dec.{T, eqb}
-use lib.Ieee.{Float, nan, inf, fin, binary64, ofBits, fits, le, eq}
-use lib.Ieee.Bits.{ofBits-fits}
-use lib.Ieee.Fits.{and-l, and-r}
+use lib.Ieee.{Float, nan, inf, fin, binary64, fits, le, eq}
 use lib.ListN.{length, getD}
 use Rattle.model.specs.declared.Direction.{Direction}
 use Rattle.model.specs.declared.Direction.the-variants.{Minimize, Maximize}
@@ -17,24 +15,17 @@ use Rattle.model.specs.Real.{real}
 use Rattle.model.specs.Row.{directionOf, toMinimize, rowOf}
 use Rattle.model.specs.Association.{Request, objectives}
 use Rattle.model.specs.Refusal.{measurable, isInfinity, goodEntry, goodPlan, goodIdeal, badPool}
-use Rattle.list_laws.proofs.Bools.{by-bool, true-T, and-right}
-use Rattle.list_laws.proofs.Built.{listBelow-length, listBelow-at}
+use Rattle.list_laws.proofs.Bools.{by-bool, and-right}
+use Rattle.list_laws.proofs.Built.{listBelow-length}
 use Rattle.list_laws.proofs.Tests.{allIn-each}
 use Rattle.list_laws.proofs.Checks.{good-values, good-ideal-length, pool-plan, pool-ideal}
+use Rattle.front_laws.proofs.Feasible.{measurable-within, reals-fit}
 use Rattle.front_laws.proofs.Plans.{in-words, words-accepted}
-use Rattle.float_laws.proofs.Constants.{exp2, minus-exp2}
+use Rattle.float_laws.proofs.Constants.{minus-exp2}
 use Rattle.float_laws.proofs.Magnitude.{Within, neg-within}
 use Rattle.association_laws.proofs.Within.{Start, Measurable}
 
 -- ---- a value
-
-real-of : (x : Float) → T (fits binary64 x) → measurable x ≡ true → Within 1000 x
-unfolding measurable ofBits
-real-of x h e = let t = true-T (le (minus-exp2 1000) x && le x (exp2 1000)) e in record {
-  held = h;
-  low = and-l (le (minus-exp2 1000) x) (le x (exp2 1000)) t;
-  high = and-r (le (minus-exp2 1000) x) (le x (exp2 1000)) t;
-}
 
 real-toMinimize : (d : Direction) (x : Float) → Within 1000 x → Within 1000 (toMinimize d x)
 real-toMinimize Minimize x h = h
@@ -51,7 +42,7 @@ infinite-low (fin s m k) e = absurd (true≢false (sym e))
 
 start-of : (x : Float) → T (fits binary64 x) → goodEntry x ≡ true → Start x
 start-of x h e = by-bool (measurable x)
-    (λ v. record { held = h; low = real-of x h v .low })
+    (λ v. record { held = h; low = measurable-within x h v .low })
     (λ v. let i : isInfinity x ≡ true = rw v at e in record { held = h; low = infinite-low x i })
 
 -- ---- a request
@@ -64,8 +55,8 @@ word-value marks m word few good j l =
     let row = listBelow values (min (word 1) maxObjectives) in
     let n : m ≤ length row = words-accepted m (planOf word) few (in-words word) good .whole in
     let x = getD row j nan in
-    let held = subst (λ y. T (fits binary64 y)) (sym (listBelow-at values (min (word 1) maxObjectives) nan j (omega (arith, listBelow-length values (min (word 1) maxObjectives))))) (ofBits-fits binary64 (word (2 + j))) in
-    real-toMinimize (directionOf (getD marks j 0)) x (real-of x held (allIn-each measurable nan row (good-values m (planOf word) good) j (omega arith)))
+    let held = reals-fit (λ i. word (2 + i)) (min (word 1) maxObjectives) j (omega (arith, listBelow-length values (min (word 1) maxObjectives))) in
+    real-toMinimize (directionOf (getD marks j 0)) x (measurable-within x held (allIn-each measurable nan row (good-values m (planOf word) good) j (omega arith)))
 
 good-start : (m : ℕ) (ideal : List Float) → goodIdeal m ideal ≡ true → ((j : ℕ) → j < m → T (fits binary64 (getD ideal j nan)))
     → (j : ℕ) → j < m → Start (getD ideal j nan)
