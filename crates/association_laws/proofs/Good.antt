@@ -6,7 +6,6 @@ use mathlib.Core.List.{List}
 use native.Mathlib.Omega.{arith}
 use lib.Dec.{T, eqb}
 use lib.Ieee.{Float, nan, binary64, fits}
-use lib.Ieee.Bits.{ofBits-fits}
 use lib.ListN.{length, getD}
 use Rattle.model.specs.declared.Direction.{Direction}
 use Rattle.model.specs.declared.Direction.the-variants.{Minimize, Maximize}
@@ -16,13 +15,14 @@ use Rattle.model.specs.Row.{directionOf, toMinimize, rowOf}
 use Rattle.model.specs.Association.{Request, objectives, valueOf}
 use Rattle.model.specs.Refusal.{measurable, goodEntry, goodPlan, goodIdeal, badPool}
 use Rattle.list_laws.proofs.Bools.{and-right}
-use Rattle.list_laws.proofs.Built.{listBelow-length, listBelow-at}
+use Rattle.list_laws.proofs.Built.{listBelow-length}
 use Rattle.list_laws.proofs.Tests.{allIn-each}
 use Rattle.list_laws.proofs.Checks.{good-values, good-ideal-length, pool-plan, pool-ideal}
+use Rattle.front_laws.proofs.Feasible.{measurable-within, reals-fit}
 use Rattle.front_laws.proofs.Plans.{InWords, in-words, words-accepted}
 use Rattle.float_laws.proofs.Magnitude.{Within, neg-within}
 use Rattle.association_laws.specs.Measurable.{Measurable}
-use Rattle.association_laws.proofs.Within.{measured-within, within-measured}
+use Rattle.association_laws.proofs.Within.{within-measured}
 
 -- ---- a value
 
@@ -36,7 +36,7 @@ plan-value : (marks : List ℕ) (m : ℕ) (plan : Plan) → goodPlan m plan ≡ 
 unfolding rowOf
 plan-value marks m plan good whole j l held =
     let x = getD (plan .row) j nan in
-    real-toMinimize (directionOf (getD marks j 0)) x (measured-within x held (allIn-each measurable nan (plan .row) (good-values m plan good) j (omega arith)))
+    real-toMinimize (directionOf (getD marks j 0)) x (measurable-within x held (allIn-each measurable nan (plan .row) (good-values m plan good) j (omega arith)))
 
 -- ---- a request
 
@@ -63,9 +63,8 @@ measured r pool whole doubles startDoubles =
 word-double : (word : ℕ → ℕ) (j : ℕ) → j < length (planOf word .row) → T (fits binary64 (getD (planOf word .row) j nan))
 unfolding planOf
 word-double word j l =
-    let value : ℕ → Float = λ i. real (word (2 + i)) in
     let n = min (word 1) maxObjectives in
-    subst (λ y. T (fits binary64 y)) (sym (listBelow-at value n nan j (omega (arith, listBelow-length value n)))) (ofBits-fits binary64 (word (2 + j)))
+    reals-fit (λ i. word (2 + i)) n j (omega (arith, listBelow-length (λ i. real (word (2 + i))) n))
 
 -- so a pool of words that refusal 8 lets pass is measured, where the ideal's entries are doubles
 pub measured-words : (r : Request) (word : ℕ → ℕ → ℕ) → ((p : ℕ) → r .plans p ≡ planOf (word p)) → objectives r ≤ maxObjectives → badPool r ≡ false

@@ -53,13 +53,9 @@ unfolding sumTo
 sum-squares-low f zero = unfold lt ofBits in tt
 sum-squares-low f (suc n) = add-low (sumTo (λ j. square (f j)) n) (square (f n)) (sum-fits _ n) (mul-fits binary64 (f n) (f n)) (sum-squares-low f n) (square-low (f n))
 
--- so they are from 0 up where they are numbers
-module _ (k : ℕ) where
-  pub square-from-zero : (x : Float) → Within k (square x) → T (le nought (square x))
-  square-from-zero x w = nlt→le (square x) nought (within-not-nan k (square x) w) nought-not-nan (square-low x)
-
-  pub squares-from-zero : (f : ℕ → Float) (n : ℕ) → Within k (sumTo (λ j. square (f j)) n) → T (le nought (sumTo (λ j. square (f j)) n))
-  squares-from-zero f n w = nlt→le _ nought (within-not-nan k _ w) nought-not-nan (sum-squares-low f n)
+-- so their sum is from 0 up where it is a number
+pub squares-from-zero : (k : ℕ) (f : ℕ → Float) (n : ℕ) → Within k (sumTo (λ j. square (f j)) n) → T (le nought (sumTo (λ j. square (f j)) n))
+squares-from-zero k f n w = nlt→le _ nought (within-not-nan k _ w) nought-not-nan (sum-squares-low f n)
 
 pub squares-square : (m : ℕ) (p r : ℕ → Float) → Square (squaresOf m p r)
 squares-square m p r = record { held = squares-fit m p r; low = low }

@@ -1,11 +1,11 @@
 -- THEOREM: every normalised value of a request whose numbers refusal 8 lets pass lies within 0..1. Assumes nothing.
 use Prim.Native.Nat.{ℕ, _<_}
 use mathlib.Core.Path.{_≡_, refl, ap, sym, subst, _∙_}
-use mathlib.Core.Bool.{true, false, not, _&&_, true≢false}
+use mathlib.Core.Bool.{true, false, not, true≢false}
 use mathlib.Core.List.{List}
 use lib.Dec.{T, lit≤}
 use lib.Ieee.{Float, nan, inf, fin, binary64, lt, le, eq, ofBits, fits, isNan}
-use lib.Ieee.Fits.{inf-fits, and-l, and-r}
+use lib.Ieee.Fits.{inf-fits}
 use lib.ListN.{getD}
 use Rattle.model.specs.Lists.{over}
 use Rattle.model.specs.Real.{_⊖_, _⊘_, nought, unit, within, above}
@@ -20,6 +20,7 @@ use Rattle.float_laws.proofs.Arithmetic.{itself}
 use Rattle.float_laws.proofs.FromZero.{Upto, upto-wider, sub-upto, share}
 use Rattle.float_laws.proofs.Magnitude.{Within, within-number, within-not-nan, sub-within}
 use Rattle.list_laws.proofs.Best.{best-all}
+use Rattle.front_laws.proofs.Feasible.{measurable-within}
 use Rattle.association_laws.specs.Flat.{normalAt}
 use Rattle.association_laws.specs.Measurable.{Measurable}
 use Rattle.association_laws.specs.Request.{Pool, IdealIn, InterceptsIn, InUnit}
@@ -27,14 +28,6 @@ use Rattle.association_laws.proofs.Extremes.{Known, least-le, greatest-
 use Rattle.association_laws.proofs.Request.{normalised-at}
 
 -- ---- what the tests of refusal 8 say of a double
-
-pub measured-within : (x : Float) → T (fits binary64 x) → measurable x ≡ true → Within 1000 x
-unfolding measurable ofBits
-measured-within x h e = let t = true-T (le (minus-exp2 1000) x && le x (exp2 1000)) e in record {
-  held = h;
-  low = and-l (le (minus-exp2 1000) x) (le x (exp2 1000)) t;
-  high = and-r (le (minus-exp2 1000) x) (le x (exp2 1000)) t;
-}
 
 pub within-measured : (x : Float) → Within 1000 x → measurable x ≡ true
 unfolding measurable ofBits
@@ -54,7 +47,7 @@ infinite-low (fin s m k) e = absurd (true≢false (sym e))
 
 start-of : (x : Float) → T (fits binary64 x) → goodEntry x ≡ true → Start x
 start-of x h e = by-bool (measurable x)
-    (λ v. record { held = h; low = measured-within x h v .low })
+    (λ v. record { held = h; low = measurable-within x h v .low })
     (λ v. let i : isInfinity x ≡ true = rw v at e in record { held = h; low = infinite-low x i })
 
 -- ---- one objective: its values f, and the ideal b that it starts from
@@ -123,7 +116,7 @@ module _ (r : Request) (M : Measurable r) (p j : ℕ) (h : p < r .count) (k : j 
   unfolding normalised idealOf interceptOf
   normalised-unit =
       normal-unit (getD (r .ideal) j nan) (λ q. valueOf r q j) (r .count) (start-of (getD (r .ideal) j nan) (M .startDoubles j k) (M .start j k))
-      (λ q l. measured-within (valueOf r q j) (M .doubles q j l k) (M .values q j l k)) p h
+      (λ q l. measurable-within (valueOf r q j) (M .doubles q j l k) (M .values q j l k)) p h
 
   -- THEOREM
   pub normalised-within : within nought unit (normalised r p j) ≡ true

@@ -65,6 +65,7 @@ fn das_dennis_recursive(
 }
 
 // The reference table, row after row at the front of the slice lent; answers how many lines it has. What lies past them stays.
+// The rows are Das and Dennis's points in parts of h, each once: `table-of-doubles` (reference_laws).
 pub fn das_dennis(m: usize, h: usize, table: &mut [f64]) -> usize
     requires { ⌜ (1 ≤ m) × (m ≤ 8) × (1 ≤ h) × (h ≤ 199) ⌝ }
     requires { ⌜ pointCount m h * m ≤ length (now table) ⌝ }

@@ -64,6 +64,24 @@ add-from-zero f x y X Y h k =
     let b = count f y Y k in
     rounded-from-zero f (add f x y) (a .0 + b .0) 0 (2 ^ low f) (pow-pos (low f)) (add-rounded f x y (a .0) 0 (b .0) 0 (a .1) (b .1)) zero-le
 
+-- a sum is at least each part where the other is from 0 up
+module _ (f : Format) (x y : Float) (X : Number f x) (Y : Number f y) where
+  pub left-below-sum : T (le nought y) → T (le x (add f x y))
+  left-below-sum h =
+      let a = counts-of f x X in
+      let b = count f y Y h in
+      le-rounded f (add f x y) x (a .0 + b .0) (a .1 + 0) (2 ^ low f) (a .0) (a .1) (pow-pos (low f))
+      (add-rounded f x y (a .0) (a .1) (b .0) 0 (a .2) (b .1)) (X .held) (a .2)
+      (scaled (a .0) (a .1 + 0) (a .0 + b .0) (a .1) (2 ^ low f) (omega arith))
+
+  pub right-below-sum : T (le nought x) → T (le y (add f x y))
+  right-below-sum h =
+      let a = count f x X h in
+      let b = counts-of f y Y in
+      le-rounded f (add f x y) y (a .0 + b .0) (0 + b .1) (2 ^ low f) (b .0) (b .1) (pow-pos (low f))
+      (add-rounded f x y (a .0) 0 (b .0) (b .1) (a .1) (b .2)) (Y .held) (b .2)
+      (scaled (b .0) (0 + b .1) (a .0 + b .0) (b .1) (2 ^ low f) (omega arith))
+
 -- ---- differences
 pub sub-from-zero : (f : Format) (x y : Float) → Number f x → Number f y → T (le y x) → T (le nought (sub f x y))
 sub-from-zero f x y X Y h =

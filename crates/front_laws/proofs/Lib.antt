@@ -8,6 +8,7 @@ pub mod Theorems
 pub mod Listings
 pub mod Domination
 pub mod Violation
+pub mod Feasible
 pub mod Plans
 pub mod Flat
 pub mod Counting

@@ -11,7 +11,7 @@ use Rattle.model.specs.declared.Direction.{Direction}
 use Rattle.model.specs.declared.Direction.the-variants.{Minimize, Maximize}
 use Rattle.model.specs.Papers.Deb2002.{Dominates, Solution, ConstrainedDominates, onlyFeasible, lessViolation, bothFeasible}
 use Rattle.model.specs.Plan.{Plan, maxObjectives, planOf}
-use Rattle.model.specs.Real.{real}
+use Rattle.model.specs.Real.{real, nought}
 use Rattle.model.specs.Refusal.{leastMeasured, mostMeasured, measurable, goodPlan}
 use Rattle.model.specs.Row.{directionOf, toMinimize, rowOf, dominates, feasible, violation, byFeasibility, constrainedDominates, rowBeats, beats}
 use Rattle.list_laws.proofs.Below.{by-suc}
@@ -25,6 +25,7 @@ use Rattle.front_laws.proofs.Same.{Agree}
 use Rattle.front_laws.proofs.Domination.{dominates-paper, rule-strict}
 use Rattle.float_laws.proofs.Order.{le-not-nan}
 use Rattle.front_laws.proofs.Violation.{feasible-none}
+use Rattle.front_laws.proofs.Feasible.{feasible-violation, words-constraints}
 
 -- ---- constrainedDominates, of any rows and constraints
 
@@ -114,6 +115,11 @@ module _ (marks : List ℕ) (plans : ℕ → Plan) (n : ℕ) (known : KnownPlans
 -- a plan as the paper's rule sees it
 abbrev pub solutionOf : List ℕ → Plan → Solution
 solutionOf marks plan = solution (rowOf marks plan) (plan .constraints)
+
+-- its two facts of the constraints agree: where refusal 8 lets a plan of words pass, it is feasible exactly where its overall violation is at most 0
+pub solution-feasible : (marks : List ℕ) (m : ℕ) (word : ℕ → ℕ) → goodPlan m (planOf word) ≡ true
+    → solutionOf marks (planOf word) .isFeasible ≡ le (solutionOf marks (planOf word) .overall) nought
+solution-feasible marks m word good = feasible-violation (planOf word .constraints) (words-constraints m word good)
 
 -- of accepted plans both are the paper's
 pub rowBeats-paper : (marks : List ℕ) (plans : ℕ → Plan) (p q : ℕ) → Accepted (length marks) (plans p) → Accepted (length marks) (plans q)

@@ -46,6 +46,11 @@ pub no-fail : (b : Bool) → (b ≡ false → ⊥) → b ≡ true
 no-fail true h = refl
 no-fail false h = absurd (h refl)
 
+-- two tests of which each passes where the other does are one
+pub both-ways : (a b : Bool) → (a ≡ true → b ≡ true) → (b ≡ true → a ≡ true) → a ≡ b
+both-ways true b f g = sym (f refl)
+both-ways false b f g = sym (no-pass b (λ e. false≢true (g e)))
+
 pub one-le : (b : Bool) → one b ≤ 1
 one-le true = omega arith
 one-le false = omega arith

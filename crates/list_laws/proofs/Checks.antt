@@ -39,7 +39,7 @@ pub after-two : (a b : Check) (cs ds : List Check) → firstOf cs ≡ firstOf ds
 unfolding firstOf
 after-two a b cs ds e = rw e
 
--- ---- refusal 8: the number of values, the number of constraints, and the values of a plan that it lets pass
+-- ---- refusal 8: the number of values, the number of constraints, the values and the constraints of a plan that it lets pass
 
 module _ (m : ℕ) (p : Plan) (good : goodPlan m p ≡ true) where
   pub good-length : p .rowLength ≡ m
@@ -53,8 +53,14 @@ module _ (m : ℕ) (p : Plan) (good : goodPlan m p ≡ true) where
   pub good-constraints : p .constraintCount ≤ maxConstraints
   good-constraints = leb-true (p .constraintCount) maxConstraints (and-left (leb (p .constraintCount) maxConstraints) _ after-length)
 
+  after-count : (allIn measurable (p .row) && allIn measurable (p .constraints)) ≡ true
+  after-count = and-right (leb (p .constraintCount) maxConstraints) _ after-length
+
   pub good-values : allIn measurable (p .row) ≡ true
-  good-values = and-left (allIn measurable (p .row)) _ (and-right (leb (p .constraintCount) maxConstraints) _ after-length)
+  good-values = and-left (allIn measurable (p .row)) _ after-count
+
+  pub good-constraint-values : allIn measurable (p .constraints) ≡ true
+  good-constraint-values = and-right (allIn measurable (p .row)) _ after-count
 
 -- an ideal that it lets pass has as many entries as there are objectives
 pub good-ideal-length : (m : ℕ) (ideal : List Float) → goodIdeal m ideal ≡ true → length ideal ≡ m

@@ -1,10 +1,10 @@
 -- Laws of `tally`, `occ`, `has`, `In`, `Distinct` and `keep`.
 use Prim.Native.Nat.{ℕ, zero, suc, _+_, _≤_, _<_}
-use mathlib.Core.Path.{_≡_, refl, ap, sym, _∙_}
+use mathlib.Core.Path.{_≡_, refl, ap, ap₂, sym, _∙_}
 use mathlib.Core.Bool.{Bool, true, false, cond, _&&_, _||_, and-true, or-assoc, true≢false}
-use mathlib.Core.List.{List, [], _∷_, _++_, map, List·Memᴰ, List·Memᴰ·head, List·Memᴰ·tail, List·Memᴰ·not-nil, List·Memᴰ·cases-cons, List·Memᴰ·append-cases, List·Memᴰ·eq-of-singleton, Memᴰ·cast, Pairwise·nil, Pairwise·cons, List·Nodup, nodup-cons, nodup-nil, nodup-append}
-use mathlib.Core.Logic.{_⊎_, inl, inr, ⊎-elim, ∥∥₁-elim}
-use mathlib.Core.HLevel.{⊥-prop}
+use mathlib.Core.List.{List, [], _∷_, _++_, map, List·Memᴰ, List·Memᴰ·head, List·Memᴰ·tail, List·Memᴰ·not-nil, List·Memᴰ·cases-cons, List·Memᴰ·append-cases, List·Memᴰ·eq-of-singleton, Memᴰ·cast, head-eq-of-cons-eq, tail-eq-of-cons-eq, Pairwise·nil, Pairwise·cons, Pairwise·map′, Pairwise·imp-of-mem, List·Nodup, nodup-cons, nodup-nil, nodup-append}
+use mathlib.Core.Logic.{_⊎_, inl, inr, ⊎-elim, _≢_, ∥∥₁-elim}
+use mathlib.Core.HLevel.{⊥-prop, ¬-prop}
 use native.Mathlib.Nat.{not-suc-le-zero, zero-add}
 use native.Mathlib.Omega.{arith}
 use borrow.Author.Tests.{eq-eqb, ne-eqb, eqb-true, lt-ltb, ltb-true}
@@ -303,3 +303,19 @@ distinct-snoc l p d h =
 -- what every entry passes each member does
 pub allIn-member : (f : ℕ → Bool) (l : List ℕ) → allIn f l ≡ true → (q : ℕ) → In q l → f q ≡ true
 allIn-member f l e q m = let r = place-of m in ap f (sym (r .2)) ∙ allIn-each f 0 l e (r .0) (r .1)
+
+-- ---- images: where a map tells the entries of lists apart, it tells the lists apart, and keeps a list of different entries so
+
+module _ {A B : Type 0} (f : A → B) where
+  pub map-apart : (s t : List A) → ((a b : A) → List·Memᴰ a s → List·Memᴰ b t → f a ≡ f b → a ≡ b) → map f s ≡ map f t → s ≡ t
+  map-apart [] [] h e = refl
+  map-apart [] (b ∷ t) h e = absurd (omega (arith, ap length e))
+  map-apart (a ∷ s) [] h e = absurd (omega (arith, ap length e))
+  map-apart (a ∷ s) (b ∷ t) h e =
+      ap₂ (λ x l. x ∷ l) (h a b (List·Memᴰ·head refl) (List·Memᴰ·head refl) (head-eq-of-cons-eq e))
+      (map-apart s t (λ x y m k. h x y (List·Memᴰ·tail m) (List·Memᴰ·tail k)) (tail-eq-of-cons-eq e))
+
+  pub distinct-map : (l : List A) → ((a b : A) → List·Memᴰ a l → List·Memᴰ b l → f a ≡ f b → a ≡ b) → List·Nodup l → List·Nodup (map f l)
+  distinct-map l h d =
+      Pairwise·map′ {S = λ (x y : B). x ≢ y} f (λ x y. ¬-prop) {l = l}
+      (Pairwise·imp-of-mem {R = λ (a b : A). a ≢ b} {S = λ (a b : A). f a ≢ f b} {l = l} (λ a b m k ne e. ∥∥₁-elim m ⊥-prop (λ m′. ∥∥₁-elim k ⊥-prop (λ k′. ne (h a b m′ k′ e)))) d)

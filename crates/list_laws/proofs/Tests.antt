@@ -8,7 +8,7 @@ use native.Mathlib.Numerals.{add-one}
 use native.Mathlib.Omega.{arith}
 use lib.ListN.{length, getD}
 use Rattle.model.specs.Lists.{anyBelow, allBelow, allIn, listBelow}
-use Rattle.list_laws.proofs.Bools.{by-bool, no-pass, no-fail, and-left, and-right}
+use Rattle.list_laws.proofs.Bools.{by-bool, no-pass, no-fail, both-ways, and-left, and-right}
 use Rattle.list_laws.proofs.Below.{same-below, last-or}
 use Rattle.list_laws.proofs.Built.{listBelow-length, listBelow-at}
 
@@ -114,9 +114,9 @@ module _ {A : Type 0} where
 
   -- the same test, place by place
   pub allIn-below : (f : A → Bool) (d : A) (l : List A) → allIn f l ≡ allBelow (λ k. f (getD l k d)) (length l)
-  allIn-below f d l = by-bool (allIn f l)
-      (λ e. e ∙ sym (allBelow-every _ (length l) (allIn-each f d l e)))
-      (λ e. e ∙ sym (no-pass (allBelow (λ k. f (getD l k d)) (length l)) (λ v. true≢false (sym (allIn-every f d l (allBelow-each _ (length l) v)) ∙ e))))
+  allIn-below f d l = both-ways (allIn f l) (allBelow (λ k. f (getD l k d)) (length l))
+      (λ e. allBelow-every _ (length l) (allIn-each f d l e))
+      (λ e. allIn-every f d l (allBelow-each _ (length l) e))
 
 -- and of a list that is given place by place
 pub allIn-listBelow : {A : Type 0} (test : A → Bool) (f : ℕ → A) (n : ℕ) → allIn test (listBelow f n) ≡ allBelow (λ j. test (f j)) n

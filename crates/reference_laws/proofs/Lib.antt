@@ -3,3 +3,5 @@ pub mod Table
 pub mod First
 pub mod Rows
 pub mod Divisions
+pub mod Ratios
+pub mod Doubles

@@ -2,13 +2,12 @@
 use Prim.Native.Nat.{ℕ, zero, suc, _-_, _≤_, _<_}
 use mathlib.Core.Path.{_≡_, sym, ap, subst, _∙_}
 use mathlib.Core.Logic.{⊎-elim, _≢_}
-use mathlib.Core.HLevel.{¬-prop}
-use mathlib.Core.List.{List, [], _∷_, List·Memᴰ, List·Memᴰ·head, List·Memᴰ·not-nil, List·Memᴰ·eq-of-singleton, List·Memᴰ·append-cases, Memᴰ·append-left, Memᴰ·append-right, Memᴰ·map, Memᴰ·of-map, head-eq-of-cons-eq, tail-eq-of-cons-eq, List·Nodup, Pairwise·nil, Pairwise·map, pairwise-singleton}
+use mathlib.Core.List.{List, [], _∷_, List·Memᴰ, List·Memᴰ·head, List·Memᴰ·not-nil, List·Memᴰ·eq-of-singleton, List·Memᴰ·append-cases, Memᴰ·append-left, Memᴰ·append-right, Memᴰ·map, Memᴰ·of-map, head-eq-of-cons-eq, tail-eq-of-cons-eq, List·Nodup, Pairwise·nil, pairwise-singleton}
 use native.Mathlib.Nat.{add-zero}
 use native.Mathlib.Omega.{arith}
-use lib.ListN.{length}
+use lib.ListN.{length, getD}
 use Rattle.list_laws.proofs.Below.{later}
-use Rattle.list_laws.proofs.Members.{distinct-append}
+use Rattle.list_laws.proofs.Members.{distinct-append, distinct-map}
 use Rattle.model.specs.Lists.{joinBelow}
 use Rattle.model.specs.Reference.{tuples, lattice}
 use Rattle.model.specs.Papers.DasDennis1998.{total, IsPoint, IsTable}
@@ -62,6 +61,13 @@ points-listed (suc d) r (i ∷ t) p =
     let q : IsPoint (suc d) (r - i) t = record { coordinates = omega (arith, p .coordinates); onSimplex = omega (arith, p .onSimplex) } in
     join-mem (branch d r) i (suc r) (omega arith) (Memᴰ·map (λ t. i ∷ t) (points-listed d (r - i) t q))
 
+-- no coordinate is above the sum
+pub part-most : (t : List ℕ) (j : ℕ) → getD t j 0 ≤ total t
+unfolding total
+part-most [] j = omega arith
+part-most (a ∷ t) zero = omega arith
+part-most (a ∷ t) (suc j) = let i = part-most t j in omega arith
+
 -- two branches differ in the first coordinate
 branches-apart : (d r i j : ℕ) (t : List ℕ) → i < j → List·Memᴰ t (branch d r i) → List·Memᴰ t (branch d r j) → ⊥
 branches-apart d r i j t h a b =
@@ -75,7 +81,7 @@ unfolding tuples
 listed-once zero r = pairwise-singleton _≢_ (r ∷ [])
 listed-once (suc d) r =
     join-once (branch d r) (suc r)
-    (λ i h. Pairwise·map (λ a b. ¬-prop) (λ t. i ∷ t) (λ a b ne e. ne (tail-eq-of-cons-eq e)) (listed-once d (r - i)))
+    (λ i h. distinct-map (λ t. i ∷ t) (tuples d (r - i)) (λ a b m k e. tail-eq-of-cons-eq e) (listed-once d (r - i)))
     (branches-apart d r)
 
 -- THEOREM: `lattice m h` is a table of Das and Dennis's points
