@@ -13,7 +13,8 @@ pub record Dominates (m : ℕ) (a b : ℕ → Float) : Type 0 where
   pub inside : objective < m
   pub better : T (lt (a objective) (b objective))
 
--- A solution as the constraint rule sees it: its objectives, whether it is feasible, and its overall constraint violation.
+-- A solution as the constraint rule sees it: its objectives, whether it is feasible, and its overall constraint violation. Of an accepted plan the last two agree:
+-- it is feasible exactly where its overall violation is at most 0 (`solution-feasible`, front_laws).
 pub record Solution : Type 0 where
   pub values : ℕ → Float
   pub isFeasible : Bool
