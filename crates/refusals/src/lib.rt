@@ -39,18 +39,20 @@ pub fn refusal(
     ensures { λ r. ⌜ checked r ≡ selectRefusal (wordRequest (now (pool .entry)) (now (directions .entry)) divisions size rng (now (ideal .entry)))
         (record { kept = kept; fronts = fronts; lines = lines }) ⌝ }
 {
+    let n = plans::plan_count(pool);
+    let bad_size = plans::bad_count(size);
+    let bad_count = plans::bad_count(n);
     if plans::bad_directions(directions) {
         return Check::Refused(2);
     }
-    if plans::bad_count(size) {
+    if bad_size {
         return Check::Refused(3);
     }
     let m = directions.len();
     if divisions::bad_divisions(m, divisions) {
         return Check::Refused(4);
     }
-    let n = plans::plan_count(pool);
-    if plans::bad_count(n) {
+    if bad_count {
         return Check::Refused(7);
     }
     if plans::bad_pool(pool, m, ideal) {

@@ -3,10 +3,11 @@ use Prim.Native.Nat.{_*_, _≤_}
 use mathlib.Core.Path.{_≡_, ap, _∙_}
 use native.Mathlib.Omega.{arith}
 use borrow.Author.Needs.{needs}
-use lib.ListN.{length}
+use lib.ListN.{length, getD}
 use native.Mathlib.Nat.{mul-le-mul}
 use Rattle.model.specs.Lists.{over}
-use Rattle.model.specs.Setting.{Operators, wordsOf, operators}
+use Rattle.model.specs.Setting.{Operators, wordsOf, operators, offspringOf}
+use Rattle.settings.specs.Candidate.{parentsIn}
 use Rattle.settings.proofs.Valid.{few}
 use Rattle.generation_laws.proofs.Dimensions.{dimensions-held}
 use Rattle.generation_laws.proofs.Breeding.{bred-is}
@@ -59,10 +60,13 @@ returns c =
     let s = c .before .before .before .before .before .before .before .before .before .before .before .before .before .before .before .before in
     let a = s .args in
     let p = c .before .before .before .before .before .before .before .before .before .before .fill-parents in
+    let r = c .before .before .before .before .before .before .before .fill-ranks in
     let w = c .before .before .write-offspring in
+    -- it draws on from where the parents' draws ended
+    let drawn : w .result .s ≡ offspringOf (ops s) (parentsIn (ops s .dims) (a .n-dims) (p .last .1 .1 .1 .1 .1 .1 .0) (a .size)) (λ i. getD (r .last .1 .1 .1 .1 .0) i 0) (a .size) (p .result .s) .state = w .ensures .1 in
     let e = bred-is (ops s) (dimensions-held (a .dims) _ (s .good .1 .1 .1 .1 .0) (a .n-dims) (s .pre .0 .2)) (s .pre .0 .2) (a .pool .now) (a .directions .now) (a .kept .now) (a .size) (a .rng .s) (s .pre .0 .1) (s .pre .1 .2) (s .pre .1 .3)
-    (s .pre .1 .0) _ _ _ _ _ (p .ensures .0) (p .ensures .1) (c .before .before .before .before .before .before .before .fill-ranks .ensures) in
-    (w .ensures .0 ∙ ap (λ d. over (wordsOf (d .value)) (a .offspring .now)) e, w .ensures .1 ∙ ap (λ d. d .state) e)
+    (s .pre .1 .0) _ _ _ _ _ (p .ensures .0) (p .ensures .1) (r .ensures) in
+    (w .ensures .0 ∙ ap (λ d. over (wordsOf (d .value)) (a .offspring .now)) e, drawn ∙ ap (λ d. d .state) e)
 
 pub breed-spec : {M : Type 1} → statement M
 breed-spec =

@@ -31,7 +31,11 @@ opened-requires c κs =
     (directions-good _ 0 _ _ _ _ _ r, divisions-good _ 0 _ _ _ _ _ r)
 
 returns-2 : tie.Need-returns-2
-returns-2 c = by-answer _ _ _ _ _ _ _ _ opening.Ready _ _ (c .before .before .before .open-refusal .ensures) (c .before .enum-told .given .1) (c .opened .ensures) refl
+returns-2 c =
+    let r = c .before .before .before in
+    let a = r .before .before .args in
+    by-answer (a .directions .now) (a .seed) (a .size) (a .divisions) (a .probability) (a .crossover-eta) (a .mutation-eta) _ opening.Ready _ _
+    (r .open-refusal .ensures) (c .before .enum-told .given .1) (c .opened .ensures) refl
 
 pub open-spec : {M : Type 1} → statement M
 open-spec =
