@@ -10,8 +10,8 @@
  *     of the plans bred from are 1,015,808 bytes of it), locustdomino_choose 1.3, locustdomino_generate_offspring 0.61,
  *     locustdomino_select 0.24. The pages are touched one by one, so that a call with too little left meets the stack's guard
  *     page, where there is one.
- * What every call answers: LOCUSTDOMINO_ACCEPTED, or the number of the first refusal that applies. A refused call writes
- * nothing, and leaves the generator where it was.
+ * What every call answers: LOCUSTDOMINO_ACCEPTED where no refusal applies, and else the number of the first that does, which is
+ * never 0. A refused call writes nothing, and leaves the generator where it was.
  *
  * A real as a word is its 64 IEEE bits; every NaN is one. An Int n as a word is 2n from zero up and -2n - 1 below. */
 #ifndef LOCUSTDOMINO_H
@@ -34,7 +34,7 @@ enum {
     LOCUSTDOMINO_BAD_SIZE = 3,       /* a session's size is above 1,024; another's is 0 or above 1,024 */
     LOCUSTDOMINO_BAD_DIVISIONS = 4,  /* divisions are not 1 to 199, or there would be over 1,024 lines */
     LOCUSTDOMINO_BAD_OPERATORS = 5,  /* an eta is no whole number 0 to 99, or the probability is not within 0..1 */
-    LOCUSTDOMINO_BAD_DIMENSION = 6,  /* a dimension is not valid, or is the 33rd */
+    LOCUSTDOMINO_BAD_DIMENSION = 6,  /* a dimension is not valid, is the 33rd, or is to be added and has fewer than six words */
     LOCUSTDOMINO_BAD_COUNT = 7,      /* a pool is empty or above 1,024 plans, or a history is above 4,096 */
     LOCUSTDOMINO_BAD_PLAN = 8,       /* a plan's row, constraints or the ideal: a wrong length, a NaN, or beyond 2^1000 (but the
                                         ideal's plus infinity, which passes) */
@@ -46,7 +46,11 @@ enum {
 /* A plan is 124 words. Pools and histories are plans one after the other; words after the last whole plan are not looked at.
  *   0 number · 1 row length · 2.. 8 values · 10 constraint count · 11.. 16 constraints · 27 setting count ·
  *   28.. 32 settings of three words: parameter number, kind, value
- * What stands past a count is not looked at. */
+ * What stands past a count is not looked at.
+ * A plan that is bred from has its settings sorted by parameter number and matched to the dimensions by position. So parameter
+ * numbers must rise in the order of the dimensions: of a session, the order in which its first plan asked for them. A plan with
+ * other numbers meets 9 where a kind or a bound does not fit, and else is bred from with its settings exchanged. Where a plan
+ * lacks settings, whichever they are, those of the last dimensions are drawn. */
 #define LOCUSTDOMINO_PLAN_WORDS 124
 #define LOCUSTDOMINO_PLAN_NUMBER 0
 #define LOCUSTDOMINO_PLAN_ROW_LENGTH 1
@@ -107,8 +111,8 @@ uint64_t locustdomino_generate_offspring(
     uint64_t *offspring, size_t offspring_words,
     size_t *n_kept);
 
-/* Opens a session: its LOCUSTDOMINO_SESSION_WORDS words go to `session`. A size and divisions count where their mark is not 0.
- * Refusals: 2, 3, 4, 5, 10. */
+/* Opens a session: its LOCUSTDOMINO_SESSION_WORDS words go to `session`, and a shorter slice meets 10 where no lower number
+ * applies. A size and divisions count where their mark is not 0. Refusals: 2, 3, 4, 5, 10. */
 uint64_t locustdomino_open(
     const uint8_t *directions, size_t objectives,
     uint64_t seed,
@@ -118,13 +122,14 @@ uint64_t locustdomino_open(
     uint64_t *session, size_t session_words);
 
 /* The next setting of plan `plan`. Its kind goes to `kind` and its word to `value`. While the first plan asks, each call adds
- * `dimension` (six words) to the session; afterwards the dimension is ignored. Words that a dimension lacks count as 0, so that an
- * empty one is a Float from 0 to 0. `history` has the plans that were tried, with their values; once it has the present
- * generation's plans, the next is bred.
+ * `dimension` to the session: six words, of which fewer meet 6 and more are not looked at. Afterwards the dimension is ignored, and
+ * may have no words. `history` has the plans that were tried, with their values; once it has the present generation's plans, the
+ * next is bred.
  * `candidates`, `plans` and `next_dims` are lent with every call and are the session's: 65,536, 2,048 and 2,048 entries at least.
  * ASKED of the caller, and not checked: the session's words are as an accepted locustdomino_open or the last locustdomino_sample
  * left them, with the same three slices as that call left them (after opening the three may hold anything). Words or slices that
- * were changed may have any effect. A session slice of fewer than 222 words meets 10, whatever else applies.
+ * were changed may have any effect. A session slice of fewer than 222 words meets 7 where the history is above 4,096, and else 10:
+ * nothing else can be told without the session.
  * Refusals: 6 to 11. */
 uint64_t locustdomino_sample(
     uint64_t *session, size_t session_words,

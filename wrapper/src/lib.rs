@@ -29,7 +29,8 @@ const BOUND: i64 = 1 << 53;
 
 // ---- refusals
 
-/// Why a call is turned down: the first reason that applies, in this order.
+/// Why a call is turned down: the first reason that applies, in this order. What [`Directions`], [`Dimension`] and [`Plan`] cannot
+/// hold is turned down when they are made, before any call.
 #[derive(Clone, Copy, Debug, PartialEq, Eq)]
 #[repr(u8)]
 pub enum Refusal {
@@ -209,11 +210,19 @@ impl Dimension {
 }
 
 /// A plan: its number, its objectives' values, its constraints (above 0 is violated) and its settings by parameter number.
+///
+/// A plan that is bred from has its settings sorted by parameter number and matched to the dimensions by position. So parameter
+/// numbers must rise in the order of the dimensions: of a [`Session`], the order in which its first plan asked for them. A plan with
+/// other numbers meets [`Refusal::Parent`] where a kind or a bound does not fit, and else is bred from with its settings exchanged.
+/// Where a plan lacks settings, whichever they are, those of the last dimensions are drawn.
 #[derive(Clone, Copy, PartialEq, Eq)]
 #[repr(transparent)]
 pub struct Plan([u64; PLAN_WORDS]);
 
 impl Plan {
+    /// Counts that a plan's words cannot hold are refused here, before any call, and also where a call would not look at them:
+    /// over 8 values or 16 constraints with [`Refusal::Plan`], over 32 settings with [`Refusal::Parent`]. All else, as the row's
+    /// length, a NaN and the settings' kinds and bounds, is for the call to refuse.
     pub fn new(
         number: u64,
         row: &[f64],
@@ -474,7 +483,8 @@ impl Session {
     }
 
     /// The next setting of a plan. While the first plan asks, each call adds its dimension; afterwards the dimension passed is
-    /// ignored. Once the history has the present generation's plans, the next generation is bred.
+    /// ignored. Once the history has the present generation's plans, the next generation is bred. The records' parameter numbers
+    /// must rise in the order in which the first plan asked: see [`Plan`].
     pub fn sample(&mut self, dimension: &Dimension, plan: u64, history: &[Plan]) -> Result<Setting, Refusal> {
         let sampled = self.0.sample(&dimension.0, plan, words(history), raw::CANDIDATE_WORDS);
         sampled.map(|[kind, word]| Setting::of(kind, word)).map_err(Refusal::from_code)

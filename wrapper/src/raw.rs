@@ -133,7 +133,8 @@ impl Session {
         }
     }
 
-    /// Kind and word of a plan's next setting, or the refusal; of the candidates' words so many are lent.
+    /// Kind and word of a plan's next setting, or the refusal; of the candidates' words so many are lent. A call that adds a
+    /// dimension takes six words of it, and meets 6 where there are fewer; another does not look at it.
     #[rustfmt::skip]
     pub fn sample(&mut self, dimension: &[u64], plan: u64, history: &[u64], candidate_words: usize) -> Result<[u64; 2], u64> {
         let candidates = &mut self.candidates[..candidate_words];
@@ -181,4 +182,50 @@ pub fn plan_words(number: u64, row: &[f64], constraints: &[f64], settings: &[[u6
         to.copy_from_slice(setting);
     }
     words
+}
+
+#[cfg(test)]
+mod tests {
+    use super::*;
+
+    const MAX_HISTORY: usize = 4096;
+
+    fn open(session_words: usize) -> Result<Session, u64> {
+        Session::open(&[0, 0], 1, Some(4), None, [1.0, 30.0, 20.0], session_words)
+    }
+
+    /// A Float from 0 to 1.
+    fn dimension() -> [u64; DIMENSION_WORDS] {
+        [FLOAT, 0, 1.0_f64.to_bits(), 0, 0, 0]
+    }
+
+    fn history(records: usize) -> Vec<u64> {
+        vec![0; records * PLAN_WORDS]
+    }
+
+    #[test]
+    fn a_dimension_to_be_added_has_six_words() {
+        let mut session = open(SESSION_WORDS).unwrap();
+        let before = session.words.clone();
+        assert_eq!(session.sample(&dimension()[..5], 0, &[], CANDIDATE_WORDS), Err(6));
+        assert_eq!(session.sample(&[], 0, &history(MAX_HISTORY + 1), CANDIDATE_WORDS), Err(6));
+        assert_eq!(session.words, before);
+        let longer = [&dimension()[..], &[9; 3]].concat();
+        assert!(session.sample(&longer, 0, &[], CANDIDATE_WORDS).is_ok());
+        // Another plan ends discovery: its call adds no dimension.
+        assert!(session.sample(&[], 1, &[], CANDIDATE_WORDS).is_ok());
+        assert_eq!(session.sample(&[], 1, &history(MAX_HISTORY + 1), CANDIDATE_WORDS), Err(7));
+    }
+
+    #[test]
+    fn too_few_words_for_a_session() {
+        assert_eq!(open(SESSION_WORDS - 1).err(), Some(10));
+        let mut session = open(SESSION_WORDS).unwrap();
+        session.words.truncate(SESSION_WORDS - 1);
+        let before = session.words.clone();
+        assert_eq!(session.sample(&dimension(), 0, &history(MAX_HISTORY + 1), CANDIDATE_WORDS), Err(7));
+        assert_eq!(session.sample(&dimension(), 0, &history(MAX_HISTORY), CANDIDATE_WORDS), Err(10));
+        assert_eq!(session.sample(&[], 0, &[], CANDIDATE_WORDS), Err(10));
+        assert_eq!(session.words, before);
+    }
 }

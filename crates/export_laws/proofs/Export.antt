@@ -2,8 +2,8 @@
 use Prim.Native.Nat.{ℕ}
 use mathlib.Core.Path.{_≡_, refl, sym, ap, ap₂, subst, _∙_}
 use mathlib.Core.List.{List}
-use mathlib.Core.Option.{none, Option·some-ne-none}
-use lib.ListN.{take}
+use mathlib.Core.Option.{Option, none, some, Option·some-ne-none}
+use lib.ListN.{length, take}
 use Rattle.model.specs.declared.Chosen.{Chosen}
 use Rattle.model.specs.declared.Chosen.the-variants as chosen
 use Rattle.model.specs.declared.Outcome.{Outcome}
@@ -14,7 +14,12 @@ use Rattle.model.specs.Refusal.{selectRefusal}
 use Rattle.model.specs.Setting.{Operators}
 use Rattle.model.specs.Calls.{Lent, roomOf, refusedBy, chosenRefusedBy, handedOut, textHandedOut, SelectExit, Selects, selectOf, selectAccepted, StepExit, Steps, ChooseExit, Chooses}
 use Rattle.niching_laws.proofs.KeptLength.{kept-length}
-use Rattle.export_laws.specs.Coded.{SelectsWords, StepsWords, ListsWords, codeOf, keptOf, selectedAs, selected, steppedAs, stepped, chosenCode, chosenLength, listedAs, listed}
+use Rattle.export_laws.specs.Coded.{SelectsWords, StepsWords, ListsWords, numberOf, refusalOf, codeOf, keptOf, selectedAs, selected, steppedAs, stepped, chosenCode, chosenLength, listedAs, listed}
+use Rattle.export_laws.proofs.Refusals.{select-above, step-above, choose-above, told}
+
+-- the number that is told of an answer is that of the call's refusal
+number-told : (n : ℕ) (given refusal : Option ℕ) → (refusal ≡ some 0 → ⊥) → n ≡ numberOf given → given ≡ refusal → refusalOf n ≡ refusal
+number-told n given refusal above h e = ap refusalOf (h ∙ ap numberOf e) ∙ told refusal above
 
 -- what an answer hands out that is no refusal is as long as the answer says
 handed : (q : Request) (o : Outcome) (before : ℕ) (kept : List ℕ) → refusedBy o ≡ none → Demand3 q (handedOut o kept) → Demand3 q (take (keptOf o before) kept)
@@ -34,6 +39,7 @@ pub select-coded : (q : Request) (at : Lent) (e : SelectExit) (n : ℕ) → Sele
 select-coded q at e n s h =
     record {
       whole = ap (λ k. selectedAs k e) h ∙ ap selected (s .whole);
+      refused = number-told n _ _ (select-above q (roomOf at)) h (s .refused);
       demand3 = λ a enough.
           subst (λ x. Demand3 q (handedOut x (e .slices .kept))) (ap (λ (x : SelectExit). x .answer .outcome) (s .whole) ∙ select-kept q at a) (s .demand3 a enough);
     }
@@ -44,6 +50,7 @@ module _ (p : Operators) (q : Request) (at : Lent) (old : List ℕ) (e : StepExi
   step-promise =
       record {
         whole = ap₂ (λ x y. steppedAs x y e) h i ∙ ap (stepped before) (s .whole);
+        refused = number-told n _ _ (step-above p q (roomOf at) (length old)) h (s .refused);
         demand3 = λ a two enough.
             subst (λ x. Demand3 q (take x (e .slices .kept))) (sym i) (handed q (e .answer .outcome) before (e .slices .kept) (s .refused ∙ a) (s .demand3 a two enough));
         bounds = s .bounds;
@@ -59,6 +66,7 @@ pub choose-coded : (file old : List ℕ) (e : ChooseExit) (n k before : ℕ) →
 choose-coded file old e n k before s i h =
     record {
       whole = ap₂ (λ x y. listedAs x y e) h i ∙ ap (listed before) (s .whole);
+      refused = number-told n _ _ (choose-above file (length old)) h (s .refused);
       listing = λ a f g. ap (λ x. take x (e .out)) i ∙ sym (text-handed (e .answer) before (e .out) (s .refused ∙ a)) ∙ s .listing a f g;
       demand3 = s .demand3;
     }

@@ -1,2 +1,3 @@
 pub mod Export
+pub mod Refusals
 pub mod Sessions

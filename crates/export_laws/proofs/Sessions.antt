@@ -1,10 +1,12 @@
 -- What opening and a session call hand out in words. Assumes nothing.
 use Prim.Native.Nat.{ℕ, _≤_, _<_}
-use mathlib.Core.Path.{_≡_, sym, ap, ap₂, subst, _∙_}
-use mathlib.Core.Bool.{Bool, true, false, cond}
-use mathlib.Core.List.{List}
-use mathlib.Core.Option.{Option, none, some, Option·none-ne-some}
+use mathlib.Core.Path.{_≡_, refl, sym, ap, ap₂, subst, _∙_}
+use mathlib.Core.Bool.{Bool, true, false, cond, true≢false}
+use mathlib.Core.List.{List, [], _∷_}
+use mathlib.Core.Option.{Option, none, some, Option·some-injective}
 use native.Mathlib.Omega.{arith}
+use borrow.Author.Tests.{lt-ltb, le-ltb}
+use lib.Dec.{ltb}
 use lib.Ieee.{Float}
 use lib.ListN.{length}
 use Rattle.model.specs.declared.Distribution.{Distribution}
@@ -18,29 +20,20 @@ use Rattle.model.specs.declared.Sampling.{Sampling}
 use Rattle.model.specs.declared.Sampling.the-variants as sampling
 use Rattle.model.specs.declared.Session.{Session}
 use Rattle.model.specs.Lists.{over}
-use Rattle.model.specs.Session.{State, state, given, accepted}
+use Rattle.model.specs.Session.{State, Answered, state, given, discovers, accepted}
 use Rattle.model.specs.Setting.{kindOf, toWord}
 use Rattle.model.specs.Property.{SessionOk}
-use Rattle.model.specs.Refusal.{firstOf, badDirections, badSessionSize, badSessionDivisions, badOperators, openRefusal}
+use Rattle.model.specs.Refusal.{check, firstOf, badHistory, openRefusal, sampleRefusal}
 use Rattle.model.specs.Calls.{openingRefusedBy, openOf, Opens, samplingRefusedBy, SampleExit, sampleBy, sampleOf, Samples}
-use Rattle.session_words.specs.Coding.{sessionWidth, sessionWords, sessionOf, dimensionAt}
+use Rattle.session_words.specs.Coding.{dimensionWidth, sessionWidth, sessionWords, sessionOf, dimensionAt}
 use Rattle.list_laws.proofs.Below.{cond-lt, cond-le}
-use Rattle.export_laws.specs.Coded.{written, openedBy, OpensWords, sampledWords, sampledBy, sampledExit, sampleWords, SamplesWords}
+use Rattle.list_laws.proofs.Bools.{and-left}
+use Rattle.list_laws.proofs.Checks.{passed-over, applies-first}
+use Rattle.session_laws.proofs.Request.{breeds-active, active-discovers}
+use Rattle.export_laws.specs.Coded.{numberOf, refusalOf, orRefusal, written, openedBy, openWordsRefusal, OpensWords, SampledWords, sampledWords, sampledBy, sampledExit, sampledAfter, lacksWords, wordChecks, wordRefusal, sampleWordsRefusal, sampleWords, SamplesWords}
+use Rattle.export_laws.proofs.Refusals.{open-above, sample-above, word-above, or-above, told}
 
 -- ---- opening
-
--- no refusal has the number 0
-first-above : (a b c d : Bool) → cond {A = Option ℕ} a (some 2) (cond b (some 3) (cond c (some 4) (cond d (some 5) none))) ≡ some 0 → ⊥
-first-above true b c d e = let z : _≡_ {A = ℕ} 2 0 = cc in omega arith
-first-above false true c d e = let z : _≡_ {A = ℕ} 3 0 = cc in omega arith
-first-above false false true d e = let z : _≡_ {A = ℕ} 4 0 = cc in omega arith
-first-above false false false true e = let z : _≡_ {A = ℕ} 5 0 = cc in omega arith
-first-above false false false false e = Option·none-ne-some 0 e
-
-open-above : (marks : List ℕ) (size divisions : Option ℕ) (p c m : Float) → openRefusal marks size divisions p c m ≡ some 0 → ⊥
-unfolding openRefusal firstOf
-open-above marks size divisions p c m e =
-    first-above (badDirections marks) (badSessionSize size) (badSessionDivisions (length marks) size divisions) (badOperators p c m) e
 
 module _ (marks : List ℕ) (seed : ℕ) (s t u v : OptionUsize) (p c m : Float) (r : Opened) (es : s ≡ t) (eu : u ≡ v) (opens : Opens marks seed s u p c m r) (entry : List ℕ) where
   promise : Opens marks seed t v p c m r
@@ -52,49 +45,127 @@ module _ (marks : List ℕ) (seed : ℕ) (s t u v : OptionUsize) (p c m : Float)
   coded : (o : Opening) → r .outcome ≡ o → openedBy o (r .session) entry ≡ openedBy (answer .outcome) (answer .session) entry
   coded o e = sym (ap (λ x. openedBy x (r .session) entry) e) ∙ ap (λ (x : Opened). openedBy (x .outcome) (x .session) entry) (promise .whole)
 
+  abbrev refusal : Option ℕ
+  refusal = openRefusal marks (given t) (given v) p c m
+
+  abbrev room : Option ℕ
+  room = firstOf (check 10 (ltb (length entry) sessionWidth) ∷ [])
+
+  -- the refusal of an opening, as its outcome has it
+  by-outcome : (o : Opening) → r .outcome ≡ o → refusal ≡ openingRefusedBy o
+  by-outcome o e = sym (promise .refused) ∙ ap openingRefusedBy e
+
+  -- and in words, where the slice too is looked at
+  in-words : (o : Opening) → r .outcome ≡ o → orRefusal (openingRefusedBy o) room ≡ openWordsRefusal marks (given t) (given v) p c m (length entry)
+  unfolding openWordsRefusal
+  in-words o e = sym (ap (λ x. orRefusal x room) (by-outcome o e))
+
   pub open-refused : (n k : ℕ) → r .outcome ≡ opening.Refused n → k ≡ n → OpensWords marks seed t v p c m entry k entry
   open-refused n k e h =
-      let never : k ≡ 0 → ⊥ = λ z. open-above marks (given t) (given v) p c m (sym (promise .refused) ∙ ap openingRefusedBy (e ∙ ap opening.Refused (sym h ∙ z))) in
+      let never : n ≡ 0 → ⊥ = λ z. open-above marks (given t) (given v) p c m (by-outcome (opening.Refused n) e ∙ ap some z) in
       record {
         whole = ap (λ x. written x entry) h ∙ coded (opening.Refused n) e;
-        holds = λ z. absurd (never z);
-        gives = λ z. absurd (never z);
+        refused = ap refusalOf h ∙ told (some n) (λ z. never (Option·some-injective n 0 z)) ∙ in-words (opening.Refused n) e;
+        holds = λ z. absurd (never (sym h ∙ z));
+        gives = λ z. absurd (never (sym h ∙ z));
       }
 
   pub open-short : r .outcome ≡ opening.Ready → length entry < sessionWidth → OpensWords marks seed t v p c m entry 10 entry
   open-short e h =
       record {
         whole = sym (cond-lt (length entry) sessionWidth _ _ h) ∙ coded opening.Ready e;
+        refused = sym (applies-first (check 10 (ltb (length entry) sessionWidth)) [] (lt-ltb (length entry) sessionWidth h)) ∙ in-words opening.Ready e;
         holds = λ z. absurd (omega arith);
         gives = λ z. absurd (omega arith);
       }
 
   pub open-ready : (exit : List ℕ) → r .outcome ≡ opening.Ready → sessionWidth ≤ length entry → exit ≡ over (sessionWords (r .session)) entry → sessionOf exit ≡ r .session
       → OpensWords marks seed t v p c m entry 0 exit
+  unfolding firstOf
   open-ready exit e h x b =
       record {
         whole = ap (written 0) x
             ∙ sym (cond-le (length entry) sessionWidth _ _ h) ∙ coded opening.Ready e;
+        refused = sym (passed-over (check 10 (ltb (length entry) sessionWidth)) [] (le-ltb (length entry) sessionWidth h)) ∙ in-words opening.Ready e;
         holds = λ z. b ∙ ap (λ (x : Opened). x .session) (promise .whole);
         gives = λ z cs ps ns. subst (λ y. SessionOk (state y cs ps ns)) (sym b) (promise .gives (sym (promise .refused) ∙ ap openingRefusedBy e) cs ps ns);
       }
 
 -- ---- a session call
 
+-- the number told is that of the first refusal, of the words or of the call
+number-after : (o q : Option ℕ) (a : Answered) (st : State) (k v : ℕ) (ws : List ℕ) → sampledAfter o (sampleBy q st a) st k v ws .code ≡ numberOf (orRefusal o q)
+number-after none none a st k v ws = refl
+number-after none (some n) a st k v ws = refl
+number-after (some n) q a st k v ws = refl
+
+-- the first of what is looked at before the call
+first-short : (short lacks bad : Bool) → short ≡ true → firstOf (wordChecks short lacks bad) ≡ some (cond bad 7 10)
+unfolding firstOf
+first-short true lacks true e = refl
+first-short true lacks false e = refl
+first-short false lacks bad e = absurd (true≢false (sym e))
+
+first-lacks : (short lacks bad : Bool) → short ≡ false → lacks ≡ true → firstOf (wordChecks short lacks bad) ≡ some 6
+unfolding firstOf
+first-lacks short lacks bad e h = rw (e, h)
+
+first-passed : (short lacks bad : Bool) → short ≡ false → lacks ≡ false → firstOf (wordChecks short lacks bad) ≡ none
+unfolding firstOf
+first-passed short lacks bad e h = rw (e, h)
+
 module _ (ws ds : List ℕ) (plan : ℕ) (history cs ps ns : List ℕ) (k v : ℕ) where
   abbrev before : State
   before = state (sessionOf ws) cs ps ns
 
-  pub sample-short : length ws < sessionWidth → SamplesWords ws ds plan history cs ps ns k v (sampledWords 10 k v ws before)
+  abbrev called : SampleExit
+  called = sampleOf before (dimensionAt ds 0) plan history
+
+  -- six words are lacking, by the session that the words stand for
+  abbrev lacking : Session → Bool
+  lacking s = lacksWords (s .phase) (s .«discovery_trial_id») plan (length ds)
+
+  -- the number that is told is that of the refusal
+  tells : (exit : SampledWords) → exit ≡ sampleWords ws ds plan history cs ps ns k v → refusalOf (exit .code) ≡ sampleWordsRefusal ws ds plan history cs ps ns
+  unfolding sampleWords sampleWordsRefusal sampleOf
+  tells exit e =
+      let words = wordRefusal ws ds plan history in
+      let call = sampleRefusal before (dimensionAt ds 0) plan history in
+      ap (λ (x : SampledWords). refusalOf (x .code)) e ∙ ap refusalOf (number-after words call (accepted before (dimensionAt ds 0) plan history) before k v ws)
+      ∙ told (orRefusal words call) (or-above words call (word-above ws ds plan history) (sample-above before (dimensionAt ds 0) plan history))
+
+  -- where the words are refused, all stays as it was
+  turned-down : (n : ℕ) → wordRefusal ws ds plan history ≡ some n → sampledWords n k v ws before ≡ sampleWords ws ds plan history cs ps ns k v
   unfolding sampleWords
-  sample-short h =
+  turned-down n e = sym (ap (λ o. sampledAfter o called before k v ws) e)
+
+  pub sample-short : (n : ℕ) → length ws < sessionWidth → n ≡ cond (badHistory history) 7 10 → SamplesWords ws ds plan history cs ps ns k v (sampledWords n k v ws before)
+  unfolding wordRefusal
+  sample-short n h e =
+      let whole = turned-down n (first-short (ltb (length ws) sessionWidth) (lacking (sessionOf ws)) (badHistory history) (lt-ltb (length ws) sessionWidth h) ∙ ap some (sym e)) in
       record {
-        whole = sym (cond-lt (length ws) sessionWidth _ _ h);
+        whole = whole;
+        refused = tells _ whole;
         keeps = λ z. absurd (omega arith);
         demand3 = λ z. absurd (omega arith);
       }
 
-  module _ (h : sessionWidth ≤ length ws) (s : Session) (d : Distribution) (es : s ≡ sessionOf ws) (ed : d ≡ dimensionAt ds 0) (r : Sampled) (xs ys zs : List ℕ)
+  -- a call that adds a dimension does not breed
+  pub sample-lacks : (s : Session) → sessionWidth ≤ length ws → s ≡ sessionOf ws → SessionOk before → lacking s ≡ true
+      → SamplesWords ws ds plan history cs ps ns k v (sampledWords 6 k v ws before)
+  unfolding wordRefusal discovers
+  sample-lacks s h es ok lacks =
+      let short = sym (ap lacking es) ∙ lacks in
+      let adds : discovers before plan ≡ true = and-left (discovers before plan) (ltb (length ds) dimensionWidth) short in
+      let whole = turned-down 6 (first-lacks (ltb (length ws) sessionWidth) (lacking (sessionOf ws)) (badHistory history) (le-ltb (length ws) sessionWidth h) short) in
+      record {
+        whole = whole;
+        refused = tells _ whole;
+        keeps = λ z. ok;
+        demand3 = λ z e bred. absurd (true≢false (sym adds ∙ active-discovers before plan (breeds-active before history bred)));
+      }
+
+  module _ (h : sessionWidth ≤ length ws) (s : Session) (d : Distribution) (es : s ≡ sessionOf ws) (ed : d ≡ dimensionAt ds 0) (has : lacking s ≡ false) (r : Sampled) (xs ys zs : List ℕ)
       (samples : Samples (state s cs ps ns) d plan history (record { answer = r .outcome; after = state (r .session) xs ys zs })) where
     abbrev left : State
     left = state (r .session) xs ys zs
@@ -102,11 +173,15 @@ module _ (ws ds : List ℕ) (plan : ℕ) (history cs ps ns : List ℕ) (k v : �
     promise' : Samples before (dimensionAt ds 0) plan history (record { answer = r .outcome; after = left })
     promise' = subst (λ x. Samples before x plan history (record { answer = r .outcome; after = left })) ed (subst (λ x. Samples (state x cs ps ns) d plan history (record { answer = r .outcome; after = left })) es samples)
 
+    passed : wordRefusal ws ds plan history ≡ none
+    unfolding wordRefusal
+    passed = first-passed (ltb (length ws) sessionWidth) (lacking (sessionOf ws)) (badHistory history) (le-ltb (length ws) sessionWidth h) (sym (ap lacking es) ∙ has)
+
     is : (o : Sampling) → r .outcome ≡ o → sampledBy o left k v ws ≡ sampleWords ws ds plan history cs ps ns k v
     unfolding sampleWords
     is o e =
         sym (ap (λ x. sampledBy x left k v ws) e) ∙ ap (λ (x : SampleExit). sampledExit x k v ws) (promise' .whole)
-        ∙ sym (cond-le (length ws) sessionWidth _ _ h)
+        ∙ sym (ap (λ x. sampledAfter x called before k v ws) passed)
 
     same : (n : ℕ) → r .outcome ≡ sampling.Refused n → left ≡ before
     unfolding sampleOf
@@ -119,7 +194,7 @@ module _ (ws ds : List ℕ) (plan : ℕ) (history cs ps ns : List ℕ) (k v : �
         → sampledWords c kind value exit (state (sessionOf exit) xs ys zs) ≡ sampleWords ws ds plan history cs ps ns k v
         → SamplesWords ws ds plan history cs ps ns k v (sampledWords c kind value exit (state (sessionOf exit) xs ys zs))
     kept-promise c kind value exit b e =
-        record { whole = e; keeps = λ z. subst (λ y. SessionOk (state y xs ys zs)) (sym b) (promise' .keeps); demand3 = λ z. promise' .demand3 }
+        record { whole = e; refused = tells _ e; keeps = λ z. subst (λ y. SessionOk (state y xs ys zs)) (sym b) (promise' .keeps); demand3 = λ z. promise' .demand3 }
 
     pub sample-refused : (n c : ℕ) → r .outcome ≡ sampling.Refused n → c ≡ n
         → SamplesWords ws ds plan history cs ps ns k v (sampledWords c k v ws (state (sessionOf ws) xs ys zs))

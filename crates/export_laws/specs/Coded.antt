@@ -1,9 +1,9 @@
 -- What each public call leaves, in numbers and lists alone, as a program in another language takes it.
 use Prim.Native.Nat.{ℕ, zero, suc, _≤_}
 use mathlib.Core.Path.{_≡_}
-use mathlib.Core.Bool.{true, cond}
-use mathlib.Core.List.{List}
-use mathlib.Core.Option.{none, some}
+use mathlib.Core.Bool.{Bool, true, not, cond, _&&_}
+use mathlib.Core.List.{List, [], _∷_}
+use mathlib.Core.Option.{Option, none, some}
 use lib.Dec.{ltb}
 use lib.Ieee.{Float}
 use lib.ListN.{length, take}
@@ -11,35 +11,52 @@ use Rattle.model.specs.declared.Chosen.{Chosen}
 use Rattle.model.specs.declared.Chosen.the-variants as chosen
 use Rattle.model.specs.declared.Opening.{Opening}
 use Rattle.model.specs.declared.Opening.the-variants as opening
+use Rattle.model.specs.declared.OptionU64.{OptionU64}
 use Rattle.model.specs.declared.OptionUsize.{OptionUsize}
 use Rattle.model.specs.declared.OptionUsize.the-variants as optUsize
 use Rattle.model.specs.declared.Sampling.{Sampling}
 use Rattle.model.specs.declared.Sampling.the-variants as sampling
+use Rattle.model.specs.declared.Phase.{Phase}
 use Rattle.model.specs.declared.Session.{Session}
 use Rattle.model.specs.declared.Outcome.{Outcome}
 use Rattle.model.specs.declared.Outcome.the-variants as outcome
 use Rattle.model.specs.declared.Rng.{Rng}
 use Rattle.model.specs.Association.{Request}
-use Rattle.model.specs.Calls.{Lent, roomOf, SelectExit, StepExit, ChooseExit, SampleExit, selectOf, stepOf, openOf, sampleOf, chooseOf}
+use Rattle.model.specs.Calls.{Lent, roomOf, refusedBy, chosenRefusedBy, SelectExit, StepExit, ChooseExit, SampleExit, selectOf, stepOf, openOf, sampleOf, chooseOf}
 use Rattle.model.specs.Demand3.{Demand3}
 use Rattle.model.specs.Kept as keeping
 use Rattle.model.specs.Lists.{over}
 use Rattle.model.specs.PoolFile.{PoolFile, parse, fileRequest, fileText}
-use Rattle.model.specs.Refusal.{selectRefusal, stepRefusal, sampleRefusal, chooseRefusal}
+use Rattle.model.specs.Reference.{orElse}
+use Rattle.model.specs.Refusal.{Check, check, firstOf, badHistory, selectRefusal, stepRefusal, openRefusal, sampleRefusal, chooseRefusal}
 use Rattle.model.specs.Setting.{Operators, WordsWithin, generation, kindOf, toWord, operators}
-use Rattle.model.specs.Session.{State, state, breeds, requestOf, operatorsOf}
+use Rattle.model.specs.Session.{State, state, given, addsFor, breeds, requestOf, operatorsOf}
 use Rattle.model.specs.Property.{SessionOk}
-use Rattle.session_words.specs.Coding.{dimensionAt, dimensionsAt, dimensionCount, sessionWidth, sessionWords, sessionOf}
+use Rattle.session_words.specs.Coding.{dimensionWidth, dimensionAt, dimensionsAt, dimensionCount, sessionWidth, sessionWords, sessionOf}
 
 abbrev pub rngOf : ℕ → Rng
 rngOf n = record { s = n }
 
+-- ---- the number that a call answers
+
+-- 0 where nothing is refused; else the refusal's number
+abbrev pub numberOf : Option ℕ → ℕ
+numberOf r = orElse r 0
+
+-- what a number says: 0 that nothing is refused, any other that refusal
+abbrev pub refusalOf : ℕ → Option ℕ
+refusalOf zero = none
+refusalOf (suc n) = some (suc n)
+
+-- the first of two refusals that there is
+abbrev pub orRefusal : Option ℕ → Option ℕ → Option ℕ
+orRefusal none q = q
+orRefusal (some n) q = some n
+
 -- ---- selection and generation step
 
--- 0 where a list is kept; else the refusal's number
 abbrev pub codeOf : Outcome → ℕ
-codeOf (outcome.Kept n) = 0
-codeOf (outcome.Refused n) = n
+codeOf o = numberOf (refusedBy o)
 
 -- how many plans are kept; a refusal leaves the number that was there
 abbrev pub keptOf : Outcome → ℕ → ℕ
@@ -61,6 +78,7 @@ selected e = selectedAs (codeOf (e .answer .outcome)) e
 -- THE PROMISE of `locustdomino_select`. The list that it hands out is the first `size` entries of `kept`
 pub record SelectsWords (r : Request) (entry : Lent) (exit : Selected) : Type 0 where
   pub whole : exit ≡ selected (selectOf r entry)
+  pub refused : refusalOf (exit .code) ≡ selectRefusal r (roomOf entry)
   pub demand3 : selectRefusal r (roomOf entry) ≡ none → r .size ≤ r .count → Demand3 r (take (r .size) (exit .slices .kept))
 
 pub record Stepped : Type 0 where
@@ -88,6 +106,7 @@ stepped old e = steppedAs (codeOf (e .answer .outcome)) (keptOf (e .answer .outc
 -- it selects from a pool of two plans on, and hands out no setting outside its bounds
 pub record StepsWords (o : Operators) (r : Request) (entry : Lent) (offspring : List ℕ) (old : ℕ) (exit : Stepped) : Type 0 where
   pub whole : exit ≡ stepped old (stepOf o r entry offspring)
+  pub refused : refusalOf (exit .code) ≡ stepRefusal o r (roomOf entry) (length offspring)
   pub demand3 : stepRefusal o r (roomOf entry) (length offspring) ≡ none → 2 ≤ r .count → r .size ≤ r .count
       → Demand3 r (take (exit .kept) (exit .slices .kept))
   pub bounds : stepRefusal o r (roomOf entry) (length offspring) ≡ none → WordsWithin (o .dims) (o .dimCount) (r .size) (exit .offspring)
@@ -118,10 +137,16 @@ abbrev pub openedBy : Opening → Session → List ℕ → Written
 openedBy opening.Ready s ws = putSession s ws
 openedBy (opening.Refused n) s ws = written n ws
 
+-- the opening's refusal, and else 10 for a slice that is too short
+unfoldable pub openWordsRefusal : List ℕ → Option ℕ → Option ℕ → Float → Float → Float → ℕ → Option ℕ
+openWordsRefusal marks size divisions probability crossoverEta mutationEta room =
+    orRefusal (openRefusal marks size divisions probability crossoverEta mutationEta) (firstOf (check 10 (ltb room sessionWidth) ∷ []))
+
 -- THE PROMISE of `locustdomino_open`: where it answers 0, the words stand for the session that is opened, which has the session property
 pub record OpensWords (directions : List ℕ) (seed : ℕ) (size divisions : OptionUsize) (probability crossoverEta mutationEta : Float) (entry : List ℕ) (code : ℕ) (exit : List ℕ) : Type 0 where
   pub whole : written code exit
       ≡ openedBy (openOf directions seed size divisions probability crossoverEta mutationEta .outcome) (openOf directions seed size divisions probability crossoverEta mutationEta .session) entry
+  pub refused : refusalOf code ≡ openWordsRefusal directions (given size) (given divisions) probability crossoverEta mutationEta (length entry)
   pub holds : code ≡ 0 → sessionOf exit ≡ openOf directions seed size divisions probability crossoverEta mutationEta .session
   pub gives : code ≡ 0 → (candidates plans nextDims : List ℕ) → SessionOk (state (sessionOf exit) candidates plans nextDims)
 
@@ -146,17 +171,44 @@ sampledBy (sampling.Refused n) st k v ws = sampledWords n k v ws st
 abbrev pub sampledExit : SampleExit → ℕ → ℕ → List ℕ → SampledWords
 sampledExit e k v ws = sampledBy (e .answer) (e .after) k v ws
 
--- too few words for a session meet 10. The dimension is an input and no answer: of its words those past the slice's end are 0, so that an empty slice
--- stands for a Float from 0 to 0
+-- a call that adds a dimension is lent fewer words for it than six: by the session's phase, its first plan, the call's plan and how many are lent
+abbrev pub lacksWords : Phase → OptionU64 → ℕ → ℕ → Bool
+lacksWords phase first plan words = addsFor phase first plan && ltb words dimensionWidth
+
+-- What is looked at before the call: six words for a dimension that it adds, and the session's 222. Where these are too few, nobody can tell whether the call
+-- adds a dimension, so that 6 is not looked at, and the history is before 10
+abbrev pub wordChecks : Bool → Bool → Bool → List Check
+wordChecks short lacks bad =
+    check 6 (not short && lacks)
+    ∷ check 7 (short && bad)
+    ∷ check 10 short
+    ∷ []
+
+unfoldable pub wordRefusal : List ℕ → List ℕ → ℕ → List ℕ → Option ℕ
+wordRefusal ws ds plan history =
+    let s = sessionOf ws in
+    firstOf (wordChecks (ltb (length ws) sessionWidth) (lacksWords (s .phase) (s .«discovery_trial_id») plan (length ds)) (badHistory history))
+
+-- and then what the call looks at. A dimension that is not added is not looked at, so that its slice may be empty
+unfoldable pub sampleWordsRefusal : List ℕ → List ℕ → ℕ → List ℕ → List ℕ → List ℕ → List ℕ → Option ℕ
+sampleWordsRefusal ws ds plan history cs ps ns =
+    orRefusal (wordRefusal ws ds plan history) (sampleRefusal (state (sessionOf ws) cs ps ns) (dimensionAt ds 0) plan history)
+
+-- what is left: where the words are refused, all as it was, and else what the call leaves
+abbrev pub sampledAfter : Option ℕ → SampleExit → State → ℕ → ℕ → List ℕ → SampledWords
+sampledAfter none e st k v ws = sampledExit e k v ws
+sampledAfter (some n) e st k v ws = sampledWords n k v ws st
+
 unfoldable pub sampleWords : List ℕ → List ℕ → ℕ → List ℕ → List ℕ → List ℕ → List ℕ → ℕ → ℕ → SampledWords
 sampleWords ws ds plan history cs ps ns k v =
     let st = state (sessionOf ws) cs ps ns in
-    cond (ltb (length ws) sessionWidth) (sampledWords 10 k v ws st) (sampledExit (sampleOf st (dimensionAt ds 0) plan history) k v ws)
+    sampledAfter (wordRefusal ws ds plan history) (sampleOf st (dimensionAt ds 0) plan history) st k v ws
 
 -- THE PROMISE of `locustdomino_sample`. `after` is what the words and slices at exit stand for: the state that the call leaves, which has the property again.
 -- Where it breeds, its list is selection's
 pub record SamplesWords (ws ds : List ℕ) (plan : ℕ) (history cs ps ns : List ℕ) (k v : ℕ) (exit : SampledWords) : Type 0 where
   pub whole : exit ≡ sampleWords ws ds plan history cs ps ns k v
+  pub refused : refusalOf (exit .code) ≡ sampleWordsRefusal ws ds plan history cs ps ns
   pub keeps : sessionWidth ≤ length ws → SessionOk (exit .after)
   pub demand3 : sessionWidth ≤ length ws → sampleRefusal (state (sessionOf ws) cs ps ns) (dimensionAt ds 0) plan history ≡ none
       → breeds (state (sessionOf ws) cs ps ns) history ≡ true
@@ -166,8 +218,7 @@ pub record SamplesWords (ws ds : List ℕ) (plan : ℕ) (history cs ps ns : List
 -- ---- the choice for a pool file
 
 abbrev pub chosenCode : Chosen → ℕ
-chosenCode (chosen.Written n) = 0
-chosenCode (chosen.Refused n) = n
+chosenCode o = numberOf (chosenRefusedBy o)
 
 -- the text's length; a refusal leaves the number that was there
 abbrev pub chosenLength : Chosen → ℕ → ℕ
@@ -188,6 +239,7 @@ listed old e = listedAs (chosenCode (e .answer)) (chosenLength (e .answer) old) 
 -- THE PROMISE of `locustdomino_choose`; `old` is the number that `length` had. The text that it hands out is the first `length` bytes of `out`
 pub record ListsWords (bytes entry : List ℕ) (old : ℕ) (exit : Listed) : Type 0 where
   pub whole : exit ≡ listed old (chooseOf bytes entry)
+  pub refused : refusalOf (exit .code) ≡ chooseRefusal bytes (length entry)
   pub listing : chooseRefusal bytes (length entry) ≡ none → (f : PoolFile) → parse bytes ≡ some f
       → take (exit .length) (exit .out) ≡ fileText f
   pub demand3 : chooseRefusal bytes (length entry) ≡ none → (f : PoolFile) → parse bytes ≡ some f → f .size ≤ f .count

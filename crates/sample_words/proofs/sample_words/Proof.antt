@@ -1,25 +1,54 @@
 -- `sample_words`. Assumes nothing.
-use mathlib.Core.Path.{sym, subst}
+use mathlib.Core.Path.{sym, subst, _∙_}
 use borrow.Author.Needs.{needs}
 use Rattle.model.specs.Session.{state}
 use Rattle.model.specs.Property.{SessionOk}
-use Rattle.export_laws.proofs.Sessions.{sample-short, sample-refused, sample-set}
+use Rattle.export_laws.proofs.Sessions.{sample-short, sample-lacks, sample-refused, sample-set}
 use Rattle.sample_words.proofs.sample_words.Statement.{statement}
 use Rattle.sample_words.proofs.sample_words.Tie as tie
 
+-- the places that a call passes, from one to the one before: its session is read, the session's slice is long enough, it starts
+abbrev long : tie.After-session-of-words → tie.Else1
+long s = s .before .before
+
+abbrev start : tie.Else1 → tie.Start
+start e = e .before .before .before .before .before .before .before
+
+-- what the words at the start stand for has the property
+ok-read : (s : tie.After-session-of-words) → SessionOk (state (s .session-of-words .result) (start (long s) .args .candidates .now) (start (long s) .args .plans .now) (start (long s) .args .next-dims .now))
+ok-read s =
+    let a = start (long s) .args in
+    subst (λ x. SessionOk (state x (a .candidates .now) (a .plans .now) (a .next-dims .now))) (sym (s .session-of-words .ensures)) (start (long s) .pre (long s .if1 .left))
+
+short-session-requires : tie.Need-short-session-requires
+short-session-requires c κs = tt
+
 returns : tie.Need-returns
-returns c = sample-short _ _ _ _ _ _ _ _ _ (c .if1 .taken)
+returns c = sample-short _ _ _ _ _ _ _ _ _ _ (c .before .if1 .taken) (c .short-session .ensures)
 
 session-of-words-requires : tie.Need-session-of-words-requires
 session-of-words-requires c κs = tt
+
+lacks-words-requires : tie.Need-lacks-words-requires
+lacks-words-requires c κs = tt
+
+same-length : tie.Need-same-length
+same-length c = search needs
+
+returns-2 : tie.Need-returns-2
+returns-2 c =
+    let tested = c .before in
+    let read = tested .before in
+    sample-lacks _ _ _ _ _ _ _ _ _ _ (long read .if1 .left) (read .session-of-words .ensures) (start (long read) .pre (long read .if1 .left))
+    (sym (tested .lacks-words .ensures) ∙ c .if2 .taken)
 
 dimension-of-words-requires : tie.Need-dimension-of-words-requires
 dimension-of-words-requires c κs = search needs
 
 sample-requires : tie.Need-sample-requires
 sample-requires c κs =
-    let a = c .before .before .before .before .before .before .before .before .before .before .before .before .before .args in
-    subst (λ x. SessionOk (state x (a .candidates .now) (a .plans .now) (a .next-dims .now))) (sym (c .before .before .before .before .session-of-words .ensures)) (c .before .before .before .before .before .before .before .before .before .before .before .before .before .pre (c .before .before .before .before .before .before .if1 .left))
+    let whole = c .before .before .before .before in
+    ok-read (whole .before .before)
 
 enum-known-outcome : tie.Need-enum-known-outcome
 enum-known-outcome c = search needs
@@ -39,9 +68,6 @@ kind-of-requires c κs = tt
 to-word-requires : tie.Need-to-word-requires
 to-word-requires c κs = tt
 
-same-length : tie.Need-same-length
-same-length c = search needs
-
 same-length-2 : tie.Need-same-length-2
 same-length-2 c = search needs
 
@@ -51,16 +77,19 @@ same-length-3 c = search needs
 same-length-4 : tie.Need-same-length-4
 same-length-4 c = search needs
 
-returns-2 : tie.Need-returns-2
-returns-2 c =
-    let y = c .before .before .before .before .before .before .before .before .before .before in
-    let w = y .before .before .before .before .before in
-    let d = y .before .before .before .before in
-    sample-refused _ _ _ _ _ _ _ _ _ (y .before .before .before .before .before .before .before .if1 .left) _ _ (w .session-of-words .ensures) (d .dimension-of-words .ensures)
-    (y .sample .result) _ _ _ (y .sample .ensures) _ _ (c .before .before .outcome .given .1) (c .wide .ensures)
-
 same-length-5 : tie.Need-same-length-5
 same-length-5 c = search needs
+
+returns-3 : tie.Need-returns-3
+returns-3 c =
+    let called = c .before .before .before .before .before .before .before .before .before .before in
+    let dimension = called .before .before .before .before in
+    let whole = dimension .before in
+    let tested = whole .before in
+    let read = tested .before in
+    sample-refused _ _ _ _ _ _ _ _ _ (long read .if1 .left) _ _ (read .session-of-words .ensures) (dimension .dimension-of-words .ensures)
+    (sym (tested .lacks-words .ensures) ∙ whole .if2 .left)
+    (called .sample .result) _ _ _ (called .sample .ensures) _ _ (c .before .before .outcome .given .1) (c .wide .ensures)
 
 same-length-6 : tie.Need-same-length-6
 same-length-6 c = search needs
@@ -71,21 +100,33 @@ same-length-7 c = search needs
 same-length-8 : tie.Need-same-length-8
 same-length-8 c = search needs
 
-returns-3 : tie.Need-returns-3
-returns-3 c =
-    let y = c .before .before .before .before .before .before .before .before .before .before .before .before .before .before .before .before in
-    let w = y .before .before .before .before .before in
-    let d = y .before .before .before .before in
-    let e = c .before .before .before .before .words-of-session .ensures in
-    sample-set _ _ _ _ _ _ _ _ _ (y .before .before .before .before .before .before .before .if1 .left) _ _ (w .session-of-words .ensures) (d .dimension-of-words .ensures)
-    (y .sample .result) _ _ _ (y .sample .ensures) _ _ _ _ (c .before .before .before .before .before .before .before .before .outcome2 .given .1) (c .before .kind-of .ensures) (c .to-word .ensures) (e .0) (e .1)
+same-length-9 : tie.Need-same-length-9
+same-length-9 c = search needs
+
+returns-4 : tie.Need-returns-4
+returns-4 c =
+    let put = c .before .before .before .before in
+    let told = put .before .before .before .before in
+    let called = told .before .before .before .before .before .before .before .before in
+    let dimension = called .before .before .before .before in
+    let whole = dimension .before in
+    let tested = whole .before in
+    let read = tested .before in
+    sample-set _ _ _ _ _ _ _ _ _ (long read .if1 .left) _ _ (read .session-of-words .ensures) (dimension .dimension-of-words .ensures)
+    (sym (tested .lacks-words .ensures) ∙ whole .if2 .left)
+    (called .sample .result) _ _ _ (called .sample .ensures) _ _ _ _ (told .outcome2 .given .1) (c .before .kind-of .ensures) (c .to-word .ensures)
+    (put .words-of-session .ensures .0) (put .words-of-session .ensures .1)
 
 pub sample-words-spec : {M : Type 1} → statement M
 sample-words-spec =
     tie.close
     (tie.spec
+    short-session-requires
     returns
     session-of-words-requires
+    lacks-words-requires
+    same-length
+    returns-2
     dimension-of-words-requires
     sample-requires
     enum-known-outcome
@@ -94,13 +135,13 @@ sample-words-spec =
     words-of-session-requires
     kind-of-requires
     to-word-requires
-    same-length
     same-length-2
     same-length-3
     same-length-4
-    returns-2
     same-length-5
+    returns-3
     same-length-6
     same-length-7
     same-length-8
-    returns-3)
+    same-length-9
+    returns-4)
