@@ -3,7 +3,7 @@ use Prim.Native.Nat.{ℕ, _≤_, _<_}
 use mathlib.Core.Path.{_≡_, sym, ap, ap₂, subst, _∙_}
 use mathlib.Core.Bool.{Bool, true, false, cond}
 use mathlib.Core.List.{List}
-use mathlib.Core.Option.{Option, none, some, Option·none-ne-some}
+use mathlib.Core.Option.{Option, none, some, Option·none-ne-some, Option·some-ne-none}
 use native.Mathlib.Omega.{arith}
 use lib.Ieee.{Float}
 use lib.ListN.{length}
@@ -18,11 +18,11 @@ use Rattle.model.specs.declared.Sampling.{Sampling}
 use Rattle.model.specs.declared.Sampling.the-variants as sampling
 use Rattle.model.specs.declared.Session.{Session}
 use Rattle.model.specs.Lists.{over}
-use Rattle.model.specs.Session.{State, state, given, accepted}
-use Rattle.model.specs.Setting.{kindOf, toWord}
+use Rattle.model.specs.Session.{State, state, given, accepted, asked}
+use Rattle.model.specs.Setting.{inBounds, kindOf, toWord, ofWord}
 use Rattle.model.specs.Property.{SessionOk}
-use Rattle.model.specs.Refusal.{firstOf, badDirections, badSessionSize, badSessionDivisions, badOperators, openRefusal}
-use Rattle.model.specs.Calls.{openingRefusedBy, openOf, Opens, samplingRefusedBy, SampleExit, sampleBy, sampleOf, Samples}
+use Rattle.model.specs.Refusal.{firstOf, badDirections, badSessionSize, badSessionDivisions, badOperators, openRefusal, sampleRefusal}
+use Rattle.model.specs.Calls.{openingRefusedBy, openOf, Opens, samplingRefusedBy, SampleExit, sampleBy, sampleOf, Bred, Samples}
 use Rattle.session_words.specs.Coding.{sessionWidth, sessionWords, sessionOf, dimensionAt}
 use Rattle.list_laws.proofs.Below.{cond-lt, cond-le}
 use Rattle.export_laws.specs.Coded.{written, openedBy, OpensWords, sampledWords, sampledBy, sampledExit, sampleWords, SamplesWords}
@@ -76,7 +76,7 @@ module _ (marks : List ℕ) (seed : ℕ) (s t u v : OptionUsize) (p c m : Float)
         whole = ap (written 0) x
             ∙ sym (cond-le (length entry) sessionWidth _ _ h) ∙ coded opening.Ready e;
         holds = λ z. b ∙ ap (λ (x : Opened). x .session) (promise .whole);
-        gives = λ z cs ps ns. subst (λ y. SessionOk (state y cs ps ns)) (sym b) (promise .gives (sym (promise .refused) ∙ ap openingRefusedBy e) cs ps ns);
+        gives = λ z cs ps ns. subst (λ y. SessionOk (state y cs ps ns)) (sym b) (promise .gives cs ps ns);
       }
 
 -- ---- a session call
@@ -92,12 +92,17 @@ module _ (ws ds : List ℕ) (plan : ℕ) (history cs ps ns : List ℕ) (k v : �
         whole = sym (cond-lt (length ws) sessionWidth _ _ h);
         keeps = λ z. absurd (omega arith);
         demand3 = λ z. absurd (omega arith);
+        bounds = λ z. absurd (omega arith);
       }
 
   module _ (h : sessionWidth ≤ length ws) (s : Session) (d : Distribution) (es : s ≡ sessionOf ws) (ed : d ≡ dimensionAt ds 0) (r : Sampled) (xs ys zs : List ℕ)
       (samples : Samples (state s cs ps ns) d plan history (record { answer = r .outcome; after = state (r .session) xs ys zs })) where
     abbrev left : State
     left = state (r .session) xs ys zs
+
+    -- the dimension that it asks a setting of
+    abbrev asks : Distribution
+    asks = asked before (dimensionAt ds 0) plan history
 
     promise' : Samples before (dimensionAt ds 0) plan history (record { answer = r .outcome; after = left })
     promise' = subst (λ x. Samples before x plan history (record { answer = r .outcome; after = left })) ed (subst (λ x. Samples (state x cs ps ns) d plan history (record { answer = r .outcome; after = left })) es samples)
@@ -116,21 +121,27 @@ module _ (ws ds : List ℕ) (plan : ℕ) (history cs ps ns : List ℕ) (k v : �
 
     -- the promise, of words that stand for the session left
     kept-promise : (c kind value : ℕ) (exit : List ℕ) → sessionOf exit ≡ r .session
+        → (sampleRefusal before (dimensionAt ds 0) plan history ≡ none → inBounds asks (ofWord kind value) ≡ true)
         → sampledWords c kind value exit (state (sessionOf exit) xs ys zs) ≡ sampleWords ws ds plan history cs ps ns k v
         → SamplesWords ws ds plan history cs ps ns k v (sampledWords c kind value exit (state (sessionOf exit) xs ys zs))
-    kept-promise c kind value exit b e =
-        record { whole = e; keeps = λ z. subst (λ y. SessionOk (state y xs ys zs)) (sym b) (promise' .keeps); demand3 = λ z. promise' .demand3 }
+    kept-promise c kind value exit b within e =
+        record {
+          whole = e;
+          keeps = λ z. subst (λ y. SessionOk (state y xs ys zs)) (sym b) (promise' .keeps);
+          demand3 = λ z a bred. subst (λ y. Bred before plan history (state y xs ys zs)) (sym b) (promise' .demand3 a bred);
+          bounds = λ z. within;
+        }
 
     pub sample-refused : (n c : ℕ) → r .outcome ≡ sampling.Refused n → c ≡ n
         → SamplesWords ws ds plan history cs ps ns k v (sampledWords c k v ws (state (sessionOf ws) xs ys zs))
     sample-refused n c e h =
         let b : sessionOf ws ≡ r .session = sym (ap (λ (x : State). x .session) (same n e)) in
-        kept-promise c k v ws b (ap₂ (λ x y. sampledWords x k v ws (state y xs ys zs)) h b ∙ is (sampling.Refused n) e)
+        kept-promise c k v ws b (λ a. absurd (Option·some-ne-none n (sym (ap samplingRefusedBy e) ∙ promise' .refused ∙ a))) (ap₂ (λ x y. sampledWords x k v ws (state y xs ys zs)) h b ∙ is (sampling.Refused n) e)
 
-    pub sample-set : (x : ParamValue) (kind value : ℕ) (exit : List ℕ) → r .outcome ≡ sampling.Setting x → kind ≡ kindOf x → value ≡ toWord x
+    pub sample-set : (x : ParamValue) (kind value : ℕ) (exit : List ℕ) → r .outcome ≡ sampling.Setting x → kind ≡ kindOf x → value ≡ toWord x → ofWord (kindOf x) value ≡ x
         → exit ≡ over (sessionWords (r .session)) ws → sessionOf exit ≡ r .session
         → SamplesWords ws ds plan history cs ps ns k v (sampledWords 0 kind value exit (state (sessionOf exit) xs ys zs))
-    sample-set x kind value exit e hk hv hx b =
-        kept-promise 0 kind value exit b
+    sample-set x kind value exit e hk hv back hx b =
+        kept-promise 0 kind value exit b (λ a. ap (inBounds asks) (ap (λ j. ofWord j value) hk ∙ back) ∙ promise' .bounds x e)
         (ap₂ (λ p q. sampledWords 0 p q exit (state (sessionOf exit) xs ys zs)) hk hv
         ∙ ap₂ (λ p q. sampledWords 0 (kindOf x) (toWord x) p (state q xs ys zs)) hx b ∙ is (sampling.Setting x) e)

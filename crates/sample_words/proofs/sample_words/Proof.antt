@@ -36,8 +36,8 @@ words-of-session-requires c κs = search needs
 kind-of-requires : tie.Need-kind-of-requires
 kind-of-requires c κs = tt
 
-to-word-requires : tie.Need-to-word-requires
-to-word-requires c κs = tt
+word-of-setting-requires : tie.Need-word-of-setting-requires
+word-of-setting-requires c κs = tt
 
 same-length : tie.Need-same-length
 same-length c = search needs
@@ -78,7 +78,7 @@ returns-3 c =
     let d = y .before .before .before .before in
     let e = c .before .before .before .before .words-of-session .ensures in
     sample-set _ _ _ _ _ _ _ _ _ (y .before .before .before .before .before .before .before .if1 .left) _ _ (w .session-of-words .ensures) (d .dimension-of-words .ensures)
-    (y .sample .result) _ _ _ (y .sample .ensures) _ _ _ _ (c .before .before .before .before .before .before .before .before .outcome2 .given .1) (c .before .kind-of .ensures) (c .to-word .ensures) (e .0) (e .1)
+    (y .sample .result) _ _ _ (y .sample .ensures) _ _ _ _ (c .before .before .before .before .before .before .before .before .outcome2 .given .1) (c .before .kind-of .ensures) (c .word-of-setting .ensures .0) (c .word-of-setting .ensures .1) (e .0) (e .1)
 
 pub sample-words-spec : {M : Type 1} → statement M
 sample-words-spec =
@@ -93,7 +93,7 @@ sample-words-spec =
     enum-known-outcome-2
     words-of-session-requires
     kind-of-requires
-    to-word-requires
+    word-of-setting-requires
     same-length
     same-length-2
     same-length-3
