@@ -12,7 +12,7 @@ use Rattle.model.specs.Plan.{planAt, planWords}
 use Rattle.model.specs.Association.{Request, objectives}
 use Rattle.model.specs.Kept.{Selected, selected}
 use Rattle.model.specs.Setting.{Operators, Generation, generation, generationOf, WordsWithin}
-use Rattle.model.specs.Session.{State, bredFrom, breeds, requestOf, operatorsOf}
+use Rattle.model.specs.Session.{State, bredFrom, breeds, requestOf}
 use Rattle.model.specs.Property.{SessionOk}
 use Rattle.model.specs.Refusal.{Room, badDirections, badDivisions, badPool, selectRefusal, stepRefusal, sampleRefusal}
 use Rattle.model.specs.Demand3.{Demand3}
@@ -113,11 +113,11 @@ module _ (st : State) (history : List ℕ) (ok : SessionOk st) where
   pub request-divisions : badDivisions (objectives (requestOf st history)) (st .session .config .divisions) ≡ false
   request-divisions = rw request-objectives (ok .config .divisions)
 
+-- the list of the selection that it makes, where a call breeds
 pub sample-demand3 : (st : State) (d : Distribution) (plan : ℕ) (history : List ℕ) → SessionOk st → sampleRefusal st d plan history ≡ none → breeds st history ≡ true
-    → Demand3 (requestOf st history) (generation (operatorsOf (st .session)) (requestOf st history) .selection .kept)
+    → Demand3 (requestOf st history) (selected (requestOf st history) .kept)
 sample-demand3 st d plan history ok e bred =
-    subst (Demand3 r) (sym (ap (λ (s : Selected). s .kept) (generation-selects (operatorsOf (st .session)) r (omega (arith, ok .config .atLeast4)))))
-    (demand3 r (word-accepted r words (ok .config .directions) (request-divisions st history ok) pool) (omega arith))
+    demand3 r (word-accepted r words (ok .config .directions) (request-divisions st history ok) pool) (omega arith)
   where
     r : Request
     r = requestOf st history

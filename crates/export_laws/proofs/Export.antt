@@ -12,7 +12,7 @@ use Rattle.model.specs.Association.{Request}
 use Rattle.model.specs.Demand3.{Demand3}
 use Rattle.model.specs.Refusal.{selectRefusal}
 use Rattle.model.specs.Setting.{Operators}
-use Rattle.model.specs.Calls.{Lent, roomOf, refusedBy, chosenRefusedBy, handedOut, textHandedOut, SelectExit, Selects, selectOf, selectAccepted, StepExit, Steps, ChooseExit, Chooses}
+use Rattle.model.specs.Calls.{Lent, roomOf, refusedBy, chosenRefusedBy, handedOut, textHandedOut, SelectExit, Selects, selectOf, selectAccepted, StepExit, Steps, ChooseExit, Tells, Chooses}
 use Rattle.niching_laws.proofs.KeptLength.{kept-length}
 use Rattle.export_laws.specs.Coded.{SelectsWords, StepsWords, ListsWords, numberOf, refusalOf, codeOf, keptOf, selectedAs, selected, steppedAs, stepped, chosenCode, chosenLength, listedAs, listed}
 use Rattle.export_laws.proofs.Refusals.{select-above, step-above, choose-above, told}
@@ -68,5 +68,6 @@ choose-coded file old e n k before s i h =
       whole = ap₂ (λ x y. listedAs x y e) h i ∙ ap (listed before) (s .whole);
       refused = number-told n _ _ (choose-above file (length old)) h (s .refused);
       listing = λ a f g. ap (λ x. take x (e .out)) i ∙ sym (text-handed (e .answer) before (e .out) (s .refused ∙ a)) ∙ s .listing a f g;
-      demand3 = s .demand3;
+      demand3 = λ a f g enough.
+          subst (Tells f) (text-handed (e .answer) before (e .out) (s .refused ∙ a) ∙ sym (ap (λ x. take x (e .out)) i)) (s .demand3 a f g enough);
     }

@@ -20,16 +20,14 @@ use Rattle.model.specs.declared.Sampling.{Sampling}
 use Rattle.model.specs.declared.Sampling.the-variants as sampling
 use Rattle.model.specs.declared.Session.{Session}
 use Rattle.model.specs.Lists.{over}
-use Rattle.model.specs.Session.{State, Answered, state, given, discovers, accepted}
-use Rattle.model.specs.Setting.{kindOf, toWord}
+use Rattle.model.specs.Session.{State, Answered, state, given, accepted, asked}
+use Rattle.model.specs.Setting.{inBounds, kindOf, toWord, ofWord}
 use Rattle.model.specs.Property.{SessionOk}
 use Rattle.model.specs.Refusal.{check, firstOf, badHistory, openRefusal, sampleRefusal}
-use Rattle.model.specs.Calls.{openingRefusedBy, openOf, Opens, samplingRefusedBy, SampleExit, sampleBy, sampleOf, Samples}
+use Rattle.model.specs.Calls.{openingRefusedBy, openOf, Opens, samplingRefusedBy, SampleExit, sampleBy, sampleOf, Bred, Samples}
 use Rattle.session_words.specs.Coding.{dimensionWidth, sessionWidth, sessionWords, sessionOf, dimensionAt}
 use Rattle.list_laws.proofs.Below.{cond-lt, cond-le}
-use Rattle.list_laws.proofs.Bools.{and-left}
 use Rattle.list_laws.proofs.Checks.{passed-over, applies-first}
-use Rattle.session_laws.proofs.Request.{breeds-active, active-discovers}
 use Rattle.export_laws.specs.Coded.{numberOf, refusalOf, orRefusal, written, openedBy, openWordsRefusal, OpensWords, SampledWords, sampledWords, sampledBy, sampledExit, sampledAfter, lacksWords, wordChecks, wordRefusal, sampleWordsRefusal, sampleWords, SamplesWords}
 use Rattle.export_laws.proofs.Refusals.{open-above, sample-above, word-above, or-above, told}
 
@@ -88,7 +86,7 @@ module _ (marks : List ℕ) (seed : ℕ) (s t u v : OptionUsize) (p c m : Float)
             ∙ sym (cond-le (length entry) sessionWidth _ _ h) ∙ coded opening.Ready e;
         refused = sym (passed-over (check 10 (ltb (length entry) sessionWidth)) [] (le-ltb (length entry) sessionWidth h)) ∙ in-words opening.Ready e;
         holds = λ z. b ∙ ap (λ (x : Opened). x .session) (promise .whole);
-        gives = λ z cs ps ns. subst (λ y. SessionOk (state y cs ps ns)) (sym b) (promise .gives (sym (promise .refused) ∙ ap openingRefusedBy e) cs ps ns);
+        gives = λ z cs ps ns. subst (λ y. SessionOk (state y cs ps ns)) (sym b) (promise .gives cs ps ns);
       }
 
 -- ---- a session call
@@ -105,6 +103,10 @@ unfolding firstOf
 first-short true lacks true e = refl
 first-short true lacks false e = refl
 first-short false lacks bad e = absurd (true≢false (sym e))
+
+short-number : (bad : Bool) (n : ℕ) → n ≡ cond bad 7 10 → n ≡ 0 → ⊥
+short-number true n e z = omega arith
+short-number false n e z = omega arith
 
 first-lacks : (short lacks bad : Bool) → short ≡ false → lacks ≡ true → firstOf (wordChecks short lacks bad) ≡ some 6
 unfolding firstOf
@@ -147,28 +149,32 @@ module _ (ws ds : List ℕ) (plan : ℕ) (history cs ps ns : List ℕ) (k v : �
         whole = whole;
         refused = tells _ whole;
         keeps = λ z. absurd (omega arith);
-        demand3 = λ z. absurd (omega arith);
+        demand3 = λ z. absurd (short-number (badHistory history) n e z);
+        bounds = λ z. absurd (short-number (badHistory history) n e z);
       }
 
-  -- a call that adds a dimension does not breed
   pub sample-lacks : (s : Session) → sessionWidth ≤ length ws → s ≡ sessionOf ws → SessionOk before → lacking s ≡ true
       → SamplesWords ws ds plan history cs ps ns k v (sampledWords 6 k v ws before)
-  unfolding wordRefusal discovers
+  unfolding wordRefusal
   sample-lacks s h es ok lacks =
       let short = sym (ap lacking es) ∙ lacks in
-      let adds : discovers before plan ≡ true = and-left (discovers before plan) (ltb (length ds) dimensionWidth) short in
       let whole = turned-down 6 (first-lacks (ltb (length ws) sessionWidth) (lacking (sessionOf ws)) (badHistory history) (le-ltb (length ws) sessionWidth h) short) in
       record {
         whole = whole;
         refused = tells _ whole;
         keeps = λ z. ok;
-        demand3 = λ z e bred. absurd (true≢false (sym adds ∙ active-discovers before plan (breeds-active before history bred)));
+        demand3 = λ z. absurd (omega arith);
+        bounds = λ z. absurd (omega arith);
       }
 
   module _ (h : sessionWidth ≤ length ws) (s : Session) (d : Distribution) (es : s ≡ sessionOf ws) (ed : d ≡ dimensionAt ds 0) (has : lacking s ≡ false) (r : Sampled) (xs ys zs : List ℕ)
       (samples : Samples (state s cs ps ns) d plan history (record { answer = r .outcome; after = state (r .session) xs ys zs })) where
     abbrev left : State
     left = state (r .session) xs ys zs
+
+    -- the dimension that it asks a setting of
+    abbrev asks : Distribution
+    asks = asked before (dimensionAt ds 0) plan history
 
     promise' : Samples before (dimensionAt ds 0) plan history (record { answer = r .outcome; after = left })
     promise' = subst (λ x. Samples before x plan history (record { answer = r .outcome; after = left })) ed (subst (λ x. Samples (state x cs ps ns) d plan history (record { answer = r .outcome; after = left })) es samples)
@@ -191,21 +197,29 @@ module _ (ws ds : List ℕ) (plan : ℕ) (history cs ps ns : List ℕ) (k v : �
 
     -- the promise, of words that stand for the session left
     kept-promise : (c kind value : ℕ) (exit : List ℕ) → sessionOf exit ≡ r .session
+        → (c ≡ 0 → sampleRefusal before (dimensionAt ds 0) plan history ≡ none) → (c ≡ 0 → inBounds asks (ofWord kind value) ≡ true)
         → sampledWords c kind value exit (state (sessionOf exit) xs ys zs) ≡ sampleWords ws ds plan history cs ps ns k v
         → SamplesWords ws ds plan history cs ps ns k v (sampledWords c kind value exit (state (sessionOf exit) xs ys zs))
-    kept-promise c kind value exit b e =
-        record { whole = e; refused = tells _ e; keeps = λ z. subst (λ y. SessionOk (state y xs ys zs)) (sym b) (promise' .keeps); demand3 = λ z. promise' .demand3 }
+    kept-promise c kind value exit b passes within e =
+        record {
+          whole = e;
+          refused = tells _ e;
+          keeps = λ z. subst (λ y. SessionOk (state y xs ys zs)) (sym b) (promise' .keeps);
+          demand3 = λ z bred. subst (λ y. Bred before plan history (state y xs ys zs)) (sym b) (promise' .demand3 (passes z) bred);
+          bounds = within;
+        }
 
     pub sample-refused : (n c : ℕ) → r .outcome ≡ sampling.Refused n → c ≡ n
         → SamplesWords ws ds plan history cs ps ns k v (sampledWords c k v ws (state (sessionOf ws) xs ys zs))
     sample-refused n c e h =
         let b : sessionOf ws ≡ r .session = sym (ap (λ (x : State). x .session) (same n e)) in
-        kept-promise c k v ws b (ap₂ (λ x y. sampledWords x k v ws (state y xs ys zs)) h b ∙ is (sampling.Refused n) e)
+        let never : c ≡ 0 → ⊥ = λ z. sample-above before (dimensionAt ds 0) plan history (sym (promise' .refused) ∙ ap samplingRefusedBy e ∙ ap some (sym h ∙ z)) in
+        kept-promise c k v ws b (λ z. absurd (never z)) (λ z. absurd (never z)) (ap₂ (λ x y. sampledWords x k v ws (state y xs ys zs)) h b ∙ is (sampling.Refused n) e)
 
-    pub sample-set : (x : ParamValue) (kind value : ℕ) (exit : List ℕ) → r .outcome ≡ sampling.Setting x → kind ≡ kindOf x → value ≡ toWord x
+    pub sample-set : (x : ParamValue) (kind value : ℕ) (exit : List ℕ) → r .outcome ≡ sampling.Setting x → kind ≡ kindOf x → value ≡ toWord x → ofWord (kindOf x) value ≡ x
         → exit ≡ over (sessionWords (r .session)) ws → sessionOf exit ≡ r .session
         → SamplesWords ws ds plan history cs ps ns k v (sampledWords 0 kind value exit (state (sessionOf exit) xs ys zs))
-    sample-set x kind value exit e hk hv hx b =
-        kept-promise 0 kind value exit b
+    sample-set x kind value exit e hk hv back hx b =
+        kept-promise 0 kind value exit b (λ z. sym (promise' .refused) ∙ ap samplingRefusedBy e) (λ z. ap (inBounds asks) (ap (λ j. ofWord j value) hk ∙ back) ∙ promise' .bounds x e)
         (ap₂ (λ p q. sampledWords 0 p q exit (state (sessionOf exit) xs ys zs)) hk hv
         ∙ ap₂ (λ p q. sampledWords 0 (kindOf x) (toWord x) p (state q xs ys zs)) hx b ∙ is (sampling.Setting x) e)

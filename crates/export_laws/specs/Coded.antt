@@ -22,15 +22,14 @@ use Rattle.model.specs.declared.Outcome.{Outcome}
 use Rattle.model.specs.declared.Outcome.the-variants as outcome
 use Rattle.model.specs.declared.Rng.{Rng}
 use Rattle.model.specs.Association.{Request}
-use Rattle.model.specs.Calls.{Lent, roomOf, refusedBy, chosenRefusedBy, SelectExit, StepExit, ChooseExit, SampleExit, selectOf, stepOf, openOf, sampleOf, chooseOf}
+use Rattle.model.specs.Calls.{Lent, roomOf, refusedBy, chosenRefusedBy, SelectExit, StepExit, ChooseExit, SampleExit, selectOf, stepOf, openOf, sampleOf, chooseOf, Bred, Tells}
 use Rattle.model.specs.Demand3.{Demand3}
-use Rattle.model.specs.Kept as keeping
 use Rattle.model.specs.Lists.{over}
-use Rattle.model.specs.PoolFile.{PoolFile, parse, fileRequest, fileText}
+use Rattle.model.specs.PoolFile.{PoolFile, parse, fileText}
 use Rattle.model.specs.Reference.{orElse}
 use Rattle.model.specs.Refusal.{Check, check, firstOf, badHistory, selectRefusal, stepRefusal, openRefusal, sampleRefusal, chooseRefusal}
-use Rattle.model.specs.Setting.{Operators, WordsWithin, generation, kindOf, toWord, operators}
-use Rattle.model.specs.Session.{State, state, given, addsFor, breeds, requestOf, operatorsOf}
+use Rattle.model.specs.Setting.{Operators, WordsWithin, inBounds, kindOf, toWord, ofWord, operators}
+use Rattle.model.specs.Session.{State, state, given, addsFor, breeds, asked}
 use Rattle.model.specs.Property.{SessionOk}
 use Rattle.session_words.specs.Coding.{dimensionWidth, dimensionAt, dimensionsAt, dimensionCount, sessionWidth, sessionWords, sessionOf}
 
@@ -205,15 +204,13 @@ sampleWords ws ds plan history cs ps ns k v =
     sampledAfter (wordRefusal ws ds plan history) (sampleOf st (dimensionAt ds 0) plan history) st k v ws
 
 -- THE PROMISE of `locustdomino_sample`. `after` is what the words and slices at exit stand for: the state that the call leaves, which has the property again.
--- Where it breeds, its list is selection's
+-- Where it breeds, its list is selection's; and a setting that it answers is of its dimension's kind and within its bounds
 pub record SamplesWords (ws ds : List ℕ) (plan : ℕ) (history cs ps ns : List ℕ) (k v : ℕ) (exit : SampledWords) : Type 0 where
   pub whole : exit ≡ sampleWords ws ds plan history cs ps ns k v
   pub refused : refusalOf (exit .code) ≡ sampleWordsRefusal ws ds plan history cs ps ns
   pub keeps : sessionWidth ≤ length ws → SessionOk (exit .after)
-  pub demand3 : sessionWidth ≤ length ws → sampleRefusal (state (sessionOf ws) cs ps ns) (dimensionAt ds 0) plan history ≡ none
-      → breeds (state (sessionOf ws) cs ps ns) history ≡ true
-      → Demand3 (requestOf (state (sessionOf ws) cs ps ns) history)
-      (generation (operatorsOf (sessionOf ws)) (requestOf (state (sessionOf ws) cs ps ns) history) .selection .kept)
+  pub demand3 : exit .code ≡ 0 → breeds (state (sessionOf ws) cs ps ns) history ≡ true → Bred (state (sessionOf ws) cs ps ns) plan history (exit .after)
+  pub bounds : exit .code ≡ 0 → inBounds (asked (state (sessionOf ws) cs ps ns) (dimensionAt ds 0) plan history) (ofWord (exit .kind) (exit .value)) ≡ true
 
 -- ---- the choice for a pool file
 
@@ -243,4 +240,4 @@ pub record ListsWords (bytes entry : List ℕ) (old : ℕ) (exit : Listed) : Typ
   pub listing : chooseRefusal bytes (length entry) ≡ none → (f : PoolFile) → parse bytes ≡ some f
       → take (exit .length) (exit .out) ≡ fileText f
   pub demand3 : chooseRefusal bytes (length entry) ≡ none → (f : PoolFile) → parse bytes ≡ some f → f .size ≤ f .count
-      → Demand3 (fileRequest f) (keeping.selected (fileRequest f) .kept)
+      → Tells f (take (exit .length) (exit .out))

@@ -1,20 +1,21 @@
 -- Laws of `tally`, `occ`, `has`, `In`, `Distinct` and `keep`.
 use Prim.Native.Nat.{ℕ, zero, suc, _+_, _≤_, _<_}
-use mathlib.Core.Path.{_≡_, refl, ap, ap₂, sym, _∙_}
+use mathlib.Core.Path.{_≡_, refl, ap, ap₂, sym, _∙_, subst}
 use mathlib.Core.Bool.{Bool, true, false, cond, _&&_, _||_, and-true, or-assoc, true≢false}
 use mathlib.Core.List.{List, [], _∷_, _++_, map, List·Memᴰ, List·Memᴰ·head, List·Memᴰ·tail, List·Memᴰ·not-nil, List·Memᴰ·cases-cons, List·Memᴰ·append-cases, List·Memᴰ·eq-of-singleton, Memᴰ·cast, head-eq-of-cons-eq, tail-eq-of-cons-eq, Pairwise·nil, Pairwise·cons, Pairwise·map′, Pairwise·imp-of-mem, List·Nodup, nodup-cons, nodup-nil, nodup-append}
 use mathlib.Core.Logic.{_⊎_, inl, inr, ⊎-elim, _≢_, ∥∥₁-elim}
 use mathlib.Core.HLevel.{⊥-prop, ¬-prop}
 use native.Mathlib.Nat.{not-suc-le-zero, zero-add}
 use native.Mathlib.Omega.{arith}
-use borrow.Author.Tests.{eq-eqb, ne-eqb, eqb-true, lt-ltb, ltb-true}
+use borrow.Author.Tests.{eq-eqb, ne-eqb, eqb-true, lt-ltb, le-ltb, ltb-true}
 use lib.Dec.{eqb, ltb}
 use lib.ListN.{length, getD}
-use Rattle.model.specs.Lists.{one, countBelow, sumBelow, allIn, has, keep, tally, In, Distinct}
+use Rattle.model.specs.Lists.{one, countBelow, sumBelow, allIn, has, placeIn, keep, tally, In, Distinct}
 use Rattle.list_laws.specs.Occ.{occ, Below, Exactly}
 use Rattle.list_laws.proofs.Bools.{by-bool, no-pass, one-le, one-true}
 use Rattle.list_laws.proofs.Below.{by-lt}
 use Rattle.list_laws.proofs.Tests.{allIn-each}
+use Rattle.list_laws.proofs.First.{firstBelow-passes, firstBelow-before}
 use Rattle.list_laws.proofs.Counts.{countBelow-sum, countBelow-same, countBelow-one, sumBelow-same, sumBelow-add, sumBelow-zero}
 
 -- ---- tally: how many entries pass
@@ -260,6 +261,14 @@ getD-in l i h = getD-member 0 l i h
 pub place-of : {p : ℕ} {l : List ℕ} → In p l → (i : ℕ) × (i < length l) × (getD l i 0 ≡ p)
 place-of (List·Memᴰ·head e) = (0, omega arith, sym e)
 place-of (List·Memᴰ·tail m) = let r = place-of m in (suc (r .0), omega (arith, r .1), r .2)
+
+-- a number is listed just where its place is within the list
+pub has-place : (l : List ℕ) (q : ℕ) → has l q ≡ ltb (placeIn l q) (length l)
+has-place l q = by-lt (placeIn l q) (length l)
+    (λ h. in-has l q (subst (λ p. In p l) (eqb-true _ q (firstBelow-passes _ (length l) h)) (getD-in l (placeIn l q) h)) ∙ sym (lt-ltb _ (length l) h))
+    (λ h. not-has l q (λ m. let r = place-of m in
+    true≢false (sym (eq-eqb _ q (r .2)) ∙ firstBelow-before (λ i. eqb (getD l i 0) q) (length l) (r .0) (omega (arith, r .1))))
+    ∙ sym (le-ltb _ (length l) h))
 
 -- different entries stand at different places
 pub different-places : (l : List ℕ) → Distinct l → (i j : ℕ) → i < length l → j < length l → getD l i 0 ≡ getD l j 0 → i ≡ j

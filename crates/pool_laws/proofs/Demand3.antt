@@ -1,6 +1,6 @@
 -- DEMAND 3 as `choose` promises it: the plans of a pool file in good form have as many values as there are objectives.
 use Prim.Native.Nat.{ℕ, _≤_}
-use mathlib.Core.Path.{_≡_, sym, subst}
+use mathlib.Core.Path.{_≡_, sym, subst, _∙_}
 use mathlib.Core.List.{List}
 use mathlib.Core.Option.{Option, none, some}
 use native.Mathlib.Omega.{arith}
@@ -8,14 +8,14 @@ use Rattle.model.specs.Kept.{Selected, selected}
 use Rattle.model.specs.PoolFile.{PoolFile, parse, fileRequest, listingText, fileText}
 use Rattle.model.specs.Refusal.{selectRefusal, fileRefusal, refusalOfParsed, chooseRefusal}
 use Rattle.model.specs.Demand3.{Demand3}
+use Rattle.model.specs.Calls.{Listable, Tells}
 use Rattle.demand3_laws.proofs.Passed.{select-passed}
 use Rattle.demand3_laws.specs.Facts.{Accepted}
 use Rattle.demand3_laws.proofs.Accepted.{demand3}
 use Rattle.nsga3_laws.proofs.Admitted.{admitted}
 use Rattle.pool_laws.specs.Choice.{roomy}
 use Rattle.pool_laws.proofs.Shapes.{Whole, parse-whole}
-use Rattle.pool_laws.proofs.Lengths.{Small}
-use Rattle.pool_laws.proofs.Printed.{selected-small}
+use Rattle.pool_laws.proofs.Printed.{selected-listable}
 use Rattle.pool_laws.proofs.Refusals.{file-selects}
 use Rattle.pool_laws.proofs.FromText.{text-tells, same-list}
 
@@ -41,29 +41,38 @@ choose-demand3 bytes out e f read enough =
 
 -- ---- the list that is printed
 
--- the numbers of what a file selects are small
-file-small : (f : PoolFile) (out : ℕ) → fileRefusal f out ≡ none → Small (f .count) (selected (fileRequest f))
-file-small f out e =
+-- what a file selects is told by its listing
+file-listable : (f : PoolFile) (out : ℕ) → fileRefusal f out ≡ none → Listable (f .count) (selected (fileRequest f))
+file-listable f out e =
     let a = admitted (fileRequest f) roomy (file-selects f out e) in
-    selected-small (fileRequest f) (a .few) (a .fewPlans) (a .someLines) (a .fewLines)
+    selected-listable (fileRequest f) (a .few) (a .fewPlans) (a .someLines) (a .fewLines)
 
 -- THE TEXT DETERMINES THE LIST: whatever selection has the listing that is printed for a file has the file's kept list
 pub text-kept : (f : PoolFile) (out : ℕ) → Whole f → fileRefusal f out ≡ none → f .size ≤ f .count
-    → (n : ℕ) (s : Selected) → Small n s → listingText n s ≡ fileText f → s .kept ≡ selected (fileRequest f) .kept
+    → (n : ℕ) (s : Selected) → Listable n s → listingText n s ≡ fileText f → s .kept ≡ selected (fileRequest f) .kept
 text-kept f out whole e enough n s small t =
     let d = demand3 (fileRequest f) (file-accepted f whole (file-selects f out e)) enough in
-    let told = text-tells (f .count) n (selected (fileRequest f)) s (file-small f out e) small (sym t) in
+    let told = text-tells (f .count) n (selected (fileRequest f)) s (file-listable f out e) small (sym t) in
     sym (same-list (f .count) (selected (fileRequest f) .kept) (s .kept) (d .distinct) (d .inPool) (told .size) (λ p h. told .plans p h .place))
 
 -- so two files with one text have one kept list
 pub one-list : (f g : PoolFile) (out room : ℕ) → Whole f → fileRefusal f out ≡ none → fileRefusal g room ≡ none → f .size ≤ f .count → fileText g ≡ fileText f
     → selected (fileRequest g) .kept ≡ selected (fileRequest f) .kept
-one-list f g out room whole e h enough t = text-kept f out whole e enough (g .count) (selected (fileRequest g)) (file-small g room h) t
+one-list f g out room whole e h enough t = text-kept f out whole e enough (g .count) (selected (fileRequest g)) (file-listable g room h) t
 
 -- and demand 3 holds of the list that is printed
 pub printed-demand3 : (bytes : List ℕ) (out : ℕ) → chooseRefusal bytes out ≡ none → (f : PoolFile) → parse bytes ≡ some f → f .size ≤ f .count
-    → (n : ℕ) (s : Selected) → Small n s → listingText n s ≡ fileText f → Demand3 (fileRequest f) (s .kept)
+    → (n : ℕ) (s : Selected) → Listable n s → listingText n s ≡ fileText f → Demand3 (fileRequest f) (s .kept)
 printed-demand3 bytes out e f read enough n s small t =
     subst (λ (l : List ℕ). Demand3 (fileRequest f) l)
     (sym (text-kept f out (parse-whole bytes f read) (file-passes bytes out e f read) enough n s small t))
     (choose-demand3 bytes out e f read enough)
+
+-- which is what a text tells that is the file's listing
+pub file-tells : (bytes : List ℕ) (out : ℕ) → chooseRefusal bytes out ≡ none → (f : PoolFile) → parse bytes ≡ some f → f .size ≤ f .count
+    → (text : List ℕ) → text ≡ fileText f → Tells f text
+file-tells bytes out e f read enough text t = record {
+  listing = t;
+  some = file-listable f out (file-passes bytes out e f read);
+  every = λ n s small u. printed-demand3 bytes out e f read enough n s small (u ∙ t);
+}

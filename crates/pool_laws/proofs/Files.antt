@@ -23,22 +23,28 @@ use Rattle.pool_laws.specs.Choice.{exit, roomy, listExit}
 use Rattle.pool_laws.proofs.Shapes.{Whole, parse-whole}
 use Rattle.pool_laws.proofs.Carried.{Carried, select-same, stored, two-same, four-same, carried}
 use Rattle.pool_laws.proofs.Refusals.{file-refusal, directions-first, many-plans, refused-alike, list-refused}
-use Rattle.pool_laws.proofs.Demand3.{file-accepted, choose-demand3}
+use Rattle.pool_laws.proofs.Demand3.{file-accepted, file-tells}
 
 -- an answer tells the refusal, or that there is none
 told : (o : Option ℕ) (text out : List ℕ) → chosenRefusedBy (chooseBy o text out .answer) ≡ o
 told none text out = refl
 told (some n) text out = refl
 
+-- the text that it hands out is the file's listing
+listed : (file out : List ℕ) (x : ChooseExit) → x ≡ chooseOf file out → chooseRefusal file (length out) ≡ none → (f : PoolFile) → parse file ≡ some f
+    → textHandedOut (x .answer) (x .out) ≡ fileText f
+unfolding chooseOf
+listed file out x e o f read =
+    ap (λ (t : ChooseExit). textHandedOut (t .answer) (t .out)) (e ∙ ap₂ (λ (n : Option ℕ) (g : Option PoolFile). chooseBy n (textOf g) out) o read)
+    ∙ over-take (fileText f) out (length (fileText f)) refl
+
 promise : (file out : List ℕ) (x : ChooseExit) → x ≡ chooseOf file out → Chooses file out x
 unfolding chooseOf
 promise file out x e = record {
   whole = e;
   refused = ap (λ (t : ChooseExit). chosenRefusedBy (t .answer)) e ∙ told (chooseRefusal file (length out)) (textOf (parse file)) out;
-  listing = λ o f read.
-      ap (λ (t : ChooseExit). textHandedOut (t .answer) (t .out)) (e ∙ ap₂ (λ (n : Option ℕ) (g : Option PoolFile). chooseBy n (textOf g) out) o read)
-      ∙ over-take (fileText f) out (length (fileText f)) refl;
-  demand3 = choose-demand3 file (length out);
+  listing = listed file out x e;
+  demand3 = λ o f read enough. file-tells file (length out) o f read enough _ (listed file out x e o f read);
 }
 
 -- what a file answers, by what it is read as

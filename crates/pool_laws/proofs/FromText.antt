@@ -14,13 +14,13 @@ use lib.Seq.{ext-getD}
 use Rattle.model.specs.Lists.{listBelow, joinBelow, firstBelow, In, Distinct}
 use Rattle.model.specs.Kept.{Selected, noLine}
 use Rattle.model.specs.PoolFile.{ascii, digitsOf, decimal, lineText, placeOf, planText, listingText}
+use Rattle.model.specs.Calls.{Listable}
 use Rattle.model.specs.Refusal.{maxSize}
 use Rattle.list_laws.proofs.Bools.{by-bool}
 use Rattle.list_laws.proofs.Members.{getD-in}
 use Rattle.pool_laws.specs.Text.{listed, fieldsText, plansWord, keptWord}
 use Rattle.pool_laws.proofs.Decimals.{digits-by, limit, line-by}
 use Rattle.pool_laws.proofs.Places.{place-le, kept-there, place-once}
-use Rattle.pool_laws.proofs.Lengths.{Small}
 use Rattle.pool_laws.proofs.Listing.{header-text, plan-text}
 
 -- ---- words, each ended by a space or a newline
@@ -118,7 +118,7 @@ plan-words : (a : Selected) (p : ℕ) (s : List ℕ) → planText a p ++ s
 unfolding fieldsText
 plan-words a p s = rw plan-text (simp append-assoc)
 
-line-told : (n m : ℕ) (a b : Selected) → Small n a → Small m b → (p : ℕ) → p < n → p < m → (s t : List ℕ) → planText a p ++ s ≡ planText b p ++ t → Line a b p × (s ≡ t)
+line-told : (n m : ℕ) (a b : Selected) → Listable n a → Listable m b → (p : ℕ) → p < n → p < m → (s t : List ℕ) → planText a p ++ s ≡ planText b p ++ t → Line a b p × (s ≡ t)
 line-told n m a b x y p h g s t e =
     let w = numbers p p 32 _ _ (omega arith) (sym (plan-words a p s) ∙ e ∙ plan-words b p t) in
     let f = numbers (getD (a .fronts) p 0) (getD (b .fronts) p 0) 32 _ _ (omega arith) (w .rest) in
@@ -163,7 +163,7 @@ listing-words : (n : ℕ) (a : Selected) → listingText n a
 unfolding listingText
 listing-words n a = rw header-text (simp append-assoc)
 
-pub text-tells : (n m : ℕ) (a b : Selected) → Small n a → Small m b → listingText n a ≡ listingText m b → Told n m a b
+pub text-tells : (n m : ℕ) (a b : Selected) → Listable n a → Listable m b → listingText n a ≡ listingText m b → Told n m a b
 text-tells n m a b x y e =
     let c = numbers n m 32 _ _ (omega arith) (append-cancel-left plansWord _ _ (sym (listing-words n a) ∙ e ∙ listing-words m b)) in
     let k = numbers (length (a .kept)) (length (b .kept)) 10 _ _ (omega arith) (append-cancel-left keptWord _ _ (c .rest)) in

@@ -9,7 +9,7 @@ use Rattle.model.specs.Lists.{joinBelow}
 use Rattle.model.specs.Kept.{Selected, noLine}
 use Rattle.model.specs.PoolFile.{lineText, placeOf, headerText, planText, listingText, refusedText}
 use Rattle.model.specs.Refusal.{maxSize}
-use Rattle.model.specs.Calls.{maxText}
+use Rattle.model.specs.Calls.{maxText, Listable}
 use Rattle.pool_laws.specs.Text.{fieldsText}
 use Rattle.pool_laws.proofs.Decimals.{decimal-four, line-by}
 use Rattle.pool_laws.proofs.Places.{place-le}
@@ -18,20 +18,13 @@ use Rattle.pool_laws.proofs.Listing.{header-text, plan-text, refused-te
 line-four : (l : ℕ) → (l ≤ maxSize) ⊎ (l ≡ noLine) → length (lineText l) ≤ 4
 line-four l h = line-by (λ t. length t ≤ 4) l (omega arith) (λ z. decimal-four l (⊎-elim (λ u. omega arith) (λ u. absurd (z u)) h))
 
--- what the numbers of a listing are to be
-pub record Small (count : ℕ) (sel : Selected) : Type 0 where
-  pub plans : count ≤ maxSize
-  pub kept : length (sel .kept) ≤ maxSize
-  pub fronts : (p : ℕ) → p < count → getD (sel .fronts) p 0 ≤ maxSize
-  pub lines : (p : ℕ) → p < count → (getD (sel .lines) p 0 ≤ maxSize) ⊎ (getD (sel .lines) p 0 ≡ noLine)
-
 header-short : (count kept : ℕ) → count ≤ maxSize → kept ≤ maxSize → length (headerText count kept) ≤ 21
 header-short count kept h g =
     let a = decimal-four count (omega arith) in
     let b = decimal-four kept (omega arith) in
     rw header-text (simp length-append (omega arith))
 
-plan-short : (count : ℕ) (sel : Selected) → Small count sel → (p : ℕ) → p < count → length (planText sel p) ≤ 20
+plan-short : (count : ℕ) (sel : Selected) → Listable count sel → (p : ℕ) → p < count → length (planText sel p) ≤ 20
 unfolding fieldsText
 plan-short count sel s p h =
     let m = s .plans in
@@ -48,7 +41,7 @@ unfolding joinBelow
 rows-short f zero h = omega arith
 rows-short f (suc n) h = rw length-append (omega (arith, rows-short f n (λ p l. h p (omega arith)), h n (omega arith)))
 
-pub listing-short : (count : ℕ) (sel : Selected) → Small count sel → length (listingText count sel) ≤ maxText
+pub listing-short : (count : ℕ) (sel : Selected) → Listable count sel → length (listingText count sel) ≤ maxText
 unfolding listingText
 listing-short count sel s =
     let m = s .plans in

@@ -11,12 +11,12 @@ use Rattle.model.specs.Association.{Request, lineCount, dominance, lineOf}
 use Rattle.model.specs.Kept.{selected, selectedSplit, selectedWhole, noLine}
 use Rattle.model.specs.PoolFile.{requestText}
 use Rattle.model.specs.Refusal.{maxSize}
-use Rattle.model.specs.Calls.{maxText}
+use Rattle.model.specs.Calls.{maxText, Listable}
 use Rattle.list_laws.proofs.First.{firstBelow-le}
 use Rattle.list_laws.proofs.Built.{listBelow-at}
 use Rattle.niching_laws.proofs.Association.{lineOf-inside}
 use Rattle.niching_laws.proofs.KeptLength.{kept-length, by-split, fronts-all}
-use Rattle.pool_laws.proofs.Lengths.{Small, listing-short}
+use Rattle.pool_laws.proofs.Lengths.{listing-short}
 
 front-le : (d : ℕ → ℕ → Bool) (n p : ℕ) → p < n → getD (frontList d n) p 0 ≤ n
 unfolding frontList frontOf
@@ -35,8 +35,8 @@ module _ (r : Request) (size : r .size ≤ maxSize) (count : r .count ≤ maxSiz
       (inl (omega (arith, listBelow-at (lineOf r) (r .count) 0 p h, lineOf-inside r p some)))
       (inr (getD-replicate (r .count) p noLine 0 h))
 
-  pub selected-small : Small (r .count) (selected r)
-  selected-small = record { plans = count; kept = omega (arith, kept-length r); fronts = fronts-small; lines = lines-small }
+  pub selected-listable : Listable (r .count) (selected r)
+  selected-listable = record { plans = count; kept = omega (arith, kept-length r); fronts = fronts-small; lines = lines-small }
 
   pub selected-short : length (requestText r) ≤ maxText
-  selected-short = listing-short (r .count) (selected r) selected-small
+  selected-short = listing-short (r .count) (selected r) selected-listable

@@ -22,7 +22,7 @@ ghost use Prim.Native.Nat.{ℕ, _≤_};
 ghost use lib.ListN.{length};
 ghost use Rattle.model.specs.Session.{state, longEnough};
 ghost use Rattle.model.specs.Property.{SessionOk};
-ghost use Rattle.session_calls.specs.Usable.{usableBy};
+ghost use Rattle.session_calls.specs.Usable.{Usable};
 
 // ---- the calls of `sample`
 
@@ -369,7 +369,7 @@ fn next_call(
 
 // The calls of a line of n numbers; how many numbers the answer has.
 fn calls(input: &Words, n: usize, at: usize, count: u64, session: Session, out: &mut Words) -> usize
-    requires { ⌜ ((cs ps ns : List ℕ) → SessionOk (state session cs ps ns)) ⌝ }
+    requires { ⌜ Usable session ⌝ }
     requires { ⌜ at ≤ 8193 ⌝ }
 {
     let mut history = [0u64; 508028];
@@ -425,7 +425,7 @@ fn given_at(input: &Words, at: usize) -> Given
 // The opening by the first m marks; size and divisions stand at `at`.
 fn opened(input: &Words, at: usize, marks: &[u8], m: usize, given: Given) -> Opened
     requires { ⌜ (at ≤ 19) × (m ≤ length (now marks)) ⌝ }
-    ensures { λ r. ⌜ usableBy (r .outcome) (r .session) ⌝ }
+    ensures { λ r. ⌜ Usable (r .session) ⌝ }
 {
     let size = replay_values::option_at(input, at);
     let divisions = replay_values::option_at(input, at + 2);
@@ -442,7 +442,7 @@ fn opened(input: &Words, at: usize, marks: &[u8], m: usize, given: Given) -> Ope
 
 fn opened_by(input: &Words, at: usize, marks: &Marks, m: usize, given: Given) -> Opened
     requires { ⌜ (at ≤ 19) × (m ≤ 16) ⌝ }
-    ensures { λ r. ⌜ usableBy (r .outcome) (r .session) ⌝ }
+    ensures { λ r. ⌜ Usable (r .session) ⌝ }
 {
     opened(input, at, marks, m, given)
 }
@@ -450,7 +450,7 @@ fn opened_by(input: &Words, at: usize, marks: &Marks, m: usize, given: Given) ->
 // An opening and what follows it; an opening that is to be short, which `open` cannot be, is passed over where nothing else refuses it.
 fn follow(input: &Words, n: usize, at: usize, opened: Opened, out: &mut Words) -> usize
     requires { ⌜ at ≤ 19 ⌝ }
-    requires { ⌜ usableBy (opened .outcome) (opened .session) ⌝ }
+    requires { ⌜ Usable (opened .session) ⌝ }
 {
     let outcome = opened.outcome;
     let session = opened.session;

@@ -78,7 +78,7 @@ pub fn sample_words(
             let after = sampled.session;
             session_encoding::words_of_session(after, session);
             *kind = settings::kind_of(v);
-            *value = settings::to_word(v);
+            *value = session_encoding::word_of_setting(v);
             0
         }
     }

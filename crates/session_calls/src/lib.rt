@@ -1,5 +1,5 @@
 // A session as a caller holds it: lent arrays of full length, and a history of which the first records count. Calls keep the session property, which an
-// opening that is ready gives.
+// opening gives, refused or not.
 use model::Distribution;
 use model::MAX_COME;
 use model::MAX_WORDS;
@@ -13,7 +13,7 @@ ghost use Prim.Native.Nat.{_*_, _≤_};
 ghost use lib.ListN.{length};
 ghost use Rattle.model.specs.Session.{state};
 ghost use Rattle.model.specs.Property.{SessionOk};
-ghost use Rattle.session_calls.specs.Usable.{usableBy};
+ghost use Rattle.session_calls.specs.Usable.{Usable};
 
 pub type Candidates = [u64; MAX_WORDS];
 
@@ -34,7 +34,7 @@ pub fn opened(
     crossover_eta: f64,
     mutation_eta: f64,
 ) -> Opened
-    ensures { λ r. ⌜ usableBy (r .outcome) (r .session) ⌝ }
+    ensures { λ r. ⌜ Usable (r .session) ⌝ }
 {
     session_opening::open(
         directions,

@@ -4,7 +4,7 @@ ghost use Prim.Native.Nat.{_≤_};
 ghost use lib.ListN.{length};
 ghost use Rattle.model.specs.declared.Distribution.the-variants as dist;
 ghost use Rattle.model.specs.Lists.{joinBelow, over};
-ghost use Rattle.model.specs.Setting.{maxDims, dimensionsOf};
+ghost use Rattle.model.specs.Setting.{maxDims, dimensionsOf, kindOf, toWord, ofWord};
 ghost use lib.Seq.{sets};
 ghost use Rattle.session_words.specs.Coding.{hasStepF64, stepWordF64, hasStepI64, stepWordI64, dimensionWords, phaseWord, hasFirst, firstWord, configWords, stateWords, idealWords, headWidth, sessionWidth, sessionWords, sessionOf};
 use model::Config;
@@ -15,6 +15,7 @@ use model::IntDistribution;
 use model::OptionF64;
 use model::OptionI64;
 use model::OptionU64;
+use model::ParamValue;
 use model::Phase;
 use model::Session;
 use session_words::DIMENSION_WORDS;
@@ -187,6 +188,14 @@ fn put_dimensions(dims: [DimensionInfo; 32], words: &mut [u64])
         put(&block, HEAD_WORDS + d * DIMENSION_WORDS, words);
         d += 1;
     }
+}
+
+// The word of a setting. Read back as its kind, it is the setting.
+pub fn word_of_setting(v: ParamValue) -> u64
+    ensures word { λ r. ⌜ r ≡ toWord v ⌝ }
+    ensures back { λ r. ⌜ ofWord (kindOf v) r ≡ v ⌝ }
+{
+    settings::to_word(v)
 }
 
 // A session's words at a slice's front. Read back, they are the session.

@@ -13,12 +13,12 @@ use Rattle.front_laws.proofs.Order.{listing-room}
 use Rattle.model.specs.Lists.{over}
 use Rattle.model.specs.Association.{Request, dominance}
 use Rattle.model.specs.Kept.{Selected, exceedsSize, wholeFronts, before, isSplit, selectedWhole, selected}
-use Rattle.model.specs.Setting.{Operators, generation, wordsOf}
-use Rattle.model.specs.Session.{State, dimensionOf, breed, requestOf, operatorsOf}
+use Rattle.model.specs.Setting.{Operators, Generation, generation, generationOf, wordsOf}
+use Rattle.model.specs.Session.{State, state, dimensionOf, bredSession, breed, bredBy, requestOf, operatorsOf}
 use Rattle.model.specs.Refusal.{goodIdeal, badParents}
 use Rattle.model.specs.Property.{SessionOk}
 use Rattle.list_laws.proofs.Checks.{good-ideal-length}
-use Rattle.demand3_laws.proofs.Calls.{generation-selects}
+use Rattle.demand3_laws.proofs.Calls.{generation-many, generation-selects}
 use Rattle.candidate_laws.proofs.Sound.{AllHeld}
 use Rattle.candidate_laws.proofs.Generations.{generation-words}
 use Rattle.session_laws.proofs.Steps.{renewed-ok}
@@ -44,6 +44,14 @@ module _ (r : Request) (whole : r .size ≡ r .count) where
   generation-ideal o two = ap (λ (s : Selected). s .ideal) (generation-selects o r two) ∙ whole-ideal
 
 -- ---- breeding
+
+-- it is from the selection's kept list, as a session's size is above one plan
+pub breed-kept : (st : State) (history : List ℕ) → SessionOk st → breed st history ≡ bredBy st history (selected (requestOf st history) .kept)
+unfolding breed bredBy generationOf
+breed-kept st history ok =
+    let s = st .session in
+    ap (λ (g : Generation). state (bredSession s (g .state) (over (g .selection .ideal) (s .«ideal_point»))) (over (wordsOf (g .offspring)) (st .candidates)) (st .plans) (st .nextDims))
+    (generation-many (operatorsOf s) (requestOf st history) (omega (arith, ok .config .atLeast4)))
 
 module _ (st : State) (history : List ℕ) (ok : SessionOk st) where
   -- the ideal as it was, entry for entry

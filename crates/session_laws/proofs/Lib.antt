@@ -3,4 +3,5 @@ pub mod Opened
 pub mod Request
 pub mod Steps
 pub mod Breed
+pub mod Bounds
 pub mod Sample

@@ -1,4 +1,4 @@
--- What `open` gives: a session that is opened has the session property.
+-- What `open` gives: the session that it answers has the session property, opened or not.
 use Prim.Native.Nat.{ℕ, _≤_}
 use mathlib.Core.Path.{_≡_, refl, ap, _∙_, sym}
 use mathlib.Core.Bool.{true, false}
@@ -9,7 +9,7 @@ use lib.Dec.{ltb}
 use lib.Ieee.{Float, binary64, eq, le, lt, ofBits, ofInt, toUnsigned}
 use lib.ListN.{length, take, drop, replicate, length-append, length-replicate, getD-replicate}
 use borrow.Author.Tests.{ltb-false, eq-eqb}
-use Rattle.list_laws.proofs.Bools.{or-right, and-both}
+use Rattle.list_laws.proofs.Bools.{or-right, and-both, by-option}
 use Rattle.list_laws.proofs.Tests.{allIn-every}
 use Rattle.list_laws.proofs.Built.{over-take, take-replicate}
 use Rattle.list_laws.proofs.Checks.{applies-at}
@@ -20,9 +20,9 @@ use Rattle.model.specs.Plan.{maxObjectives}
 use Rattle.model.specs.Reference.{binomial, pointCount, autoDivisions, divisionsOf, populationSize}
 use Rattle.model.specs.declared.OptionUsize.{OptionUsize}
 use Rattle.model.specs.declared.Session.{Session}
-use Rattle.model.specs.Session.{state, given, opened}
+use Rattle.model.specs.Session.{state, given, opened, blank}
 use Rattle.model.specs.Calls.{openBy, openOf, Opens, openingRefusedBy}
-use Rattle.model.specs.Refusal.{firstOf, wholeEta, openRefusal, badDirections, badSessionSize, badSessionDivisions, badGivenDivisions, badOperators, measurable, goodIdeal, maxSize, maxLines, goodEntry, badDimensions}
+use Rattle.model.specs.Refusal.{firstOf, wholeEta, openRefusal, badDirections, badSessionSize, badSessionDivisions, badGivenDivisions, badDivisions, badOperators, measurable, goodIdeal, maxSize, maxLines, goodEntry, badDimensions}
 use Rattle.model.specs.Property.{ConfigOk, SessionOk}
 use Rattle.model.specs.declared.Opening.{Opening}
 use Rattle.session_laws.proofs.Lists.{lent-empty}
@@ -97,6 +97,30 @@ module _ (marks : List ℕ) (seed : ℕ) (size divisions : Option ℕ) (probabil
         lent = λ e. lent-empty _ refl refl;
       }
 
+-- ---- a refused opening
+
+blank-config : ConfigOk (blank .config)
+unfolding badDirections badDivisions badOperators wholeEta pointCount binomial allIn eq le lt ofBits ofInt toUnsigned
+blank-config = record {
+  directions = ap badDirections (take-replicate 1 maxObjectives 0 (omega arith));
+  objectives = omega (arith, length-replicate {A = ℕ} maxObjectives 0);
+  divisions = refl;
+  atLeast4 = omega arith;
+  atMost = omega arith;
+  operators = refl;
+}
+
+-- its session has the property too
+pub blank-ok : (candidates plans nextDims : List ℕ) → SessionOk (state blank candidates plans nextDims)
+unfolding badDimensions allBelow
+blank-ok candidates plans nextDims = record {
+  config = blank-config;
+  dimensions = refl;
+  phase = record { first = refl; noCandidates = refl; noPlans = refl };
+  ideal = infinite-ideal 1 (omega arith);
+  lent = λ e. lent-empty _ refl refl;
+}
+
 -- ---- an answer tells the refusal, or that there is none
 
 pub opening-tells : (o : Option ℕ) (s : Session) (t : Opening) → openBy o s .outcome ≡ t → o ≡ openingRefusedBy t
@@ -111,7 +135,9 @@ opens directions seed size divisions probability crossoverEta mutationEta =
     record {
       whole = refl;
       refused = sym (opening-tells (openRefusal directions (given size) (given divisions) probability crossoverEta mutationEta) _ _ refl);
-      gives = λ e candidates plans nextDims. rw e (opened-ok directions seed (given size) (given divisions) probability crossoverEta mutationEta e candidates plans nextDims);
+      gives = λ candidates plans nextDims. by-option (openRefusal directions (given size) (given divisions) probability crossoverEta mutationEta)
+          (λ e. rw e (opened-ok directions seed (given size) (given divisions) probability crossoverEta mutationEta e candidates plans nextDims))
+          (λ n e. rw e (blank-ok candidates plans nextDims));
     }
 
 -- ---- the property can be met: document 01's defaults for two objectives

@@ -47,16 +47,16 @@ fn start(config: Config, rng: Rng) -> Session
     }
 }
 
-// The session beside a refusal.
+// The session beside a refusal: the smallest that could be opened.
 fn blank() -> Session
     ensures { λ r. ⌜ r ≡ blank ⌝ }
 {
     let directions = [0u8; MAX_OBJECTIVES];
     let config = Config {
-        n_obj: 0,
+        n_obj: 1,
         directions,
-        divisions: 0,
-        population_size: 0,
+        divisions: 1,
+        population_size: 4,
         crossover_prob: 0.0,
         crossover_eta: 0.0,
         mutation_eta: 0.0,
@@ -147,7 +147,8 @@ fn open_refusal(
     Opening::Ready
 }
 
-// A session for directions (0 minimise, 1 maximise) and a seed, with a size, divisions and operators; or the number of what is wrong with them.
+// A session for directions (0 minimise, 1 maximise) and a seed, with a size, divisions and operators; or the number of what is wrong with them, beside a
+// session that has the session property too.
 pub fn open(
     directions: &[u8],
     seed: u64,

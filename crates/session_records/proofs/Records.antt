@@ -1,24 +1,23 @@
 -- Plans found by their numbers: the last record of one in a history, its place in a generation, and the records bred from.
 use Prim.Native.Nat.{ℕ, _+_, _-_, _*_, _≤_, _<_}
-use mathlib.Core.Path.{_≡_, sym, ap, ap₂, _∙_, subst}
-use mathlib.Core.Bool.{Bool, false, not, true≢false}
+use mathlib.Core.Path.{_≡_, sym, ap, ap₂, _∙_}
+use mathlib.Core.Bool.{Bool, false, not}
 use mathlib.Core.List.{List}
 use mathlib.Core.Logic.{⊎-elim}
 use native.Mathlib.Nat.{eq-or-lt-of-le, add-zero}
 use native.Mathlib.Omega.{arith}
-use borrow.Author.Tests.{eq-eqb, ne-eqb, lt-ltb, le-ltb, leb-true, leb-false, eqb-true}
+use borrow.Author.Tests.{eq-eqb, ne-eqb, lt-ltb, le-ltb, leb-true, leb-false}
 use lib.Dec.{eqb, leb, ltb}
 use lib.ListN.{length, getD, take, drop, length-drop}
 use lib.Seq.{length-take-le, sets, getD-drop}
 use Rattle.list_laws.proofs.Bools.{by-bool}
 use Rattle.list_laws.proofs.Built.{listBelow-length, listBelow-take}
-use Rattle.list_laws.proofs.First.{lastBelow-nowhere, lastBelow-at, lastBelow-same, firstBelow-passes, firstBelow-before}
-use Rattle.model.specs.Lists.{lastBelow, joinBelow, has, over, placeIn, In}
+use Rattle.list_laws.proofs.First.{lastBelow-nowhere, lastBelow-at, lastBelow-same}
+use Rattle.model.specs.Lists.{lastBelow, joinBelow, has, over, placeIn}
 use Rattle.model.specs.Plan.{planOf, planAt, planCount, planWords}
 use Rattle.model.specs.Session.{recordOf, blockOf}
 use Rattle.list_laws.proofs.Rows.{joinBelow-run}
-use Rattle.list_laws.proofs.Members.{in-has, not-has, getD-in, place-of}
-use Rattle.list_laws.proofs.Below.{by-lt}
+use Rattle.list_laws.proofs.Members.{has-place}
 
 -- ---- the last record of a number
 
@@ -50,15 +49,7 @@ others-more history plan n j l e h t a b =
     (λ m. h t (omega arith) b)
     (eq-or-lt-of-le a)
 
--- a number is listed just where its place is within the list
-has-place : (l : List ℕ) (plan : ℕ) → has l plan ≡ ltb (placeIn l plan) (length l)
-has-place l plan = by-lt (placeIn l plan) (length l)
-    (λ h. in-has l plan (subst (λ q. In q l) (eqb-true _ plan (firstBelow-passes _ (length l) h)) (getD-in l (placeIn l plan) h)) ∙ sym (lt-ltb _ (length l) h))
-    (λ h. not-has l plan (λ m. let r = place-of m in
-    true≢false (sym (eq-eqb _ plan (r .2)) ∙ firstBelow-before (λ i. eqb (getD l i 0) plan) (length l) (r .0) (omega (arith, r .1))))
-    ∙ sym (le-ltb _ (length l) h))
-
--- so it is new among the first n where its place is past them
+-- a number is new among the first n where its place is past them
 pub is-new-by : (ps : List ℕ) (n plan i : ℕ) → n ≤ length ps → i ≡ placeIn (take n ps) plan → not (has (take n ps) plan) ≡ leb n i
 is-new-by ps n plan i h e =
     ap not (has-place (take n ps) plan ∙ ap₂ (λ (a b : ℕ). ltb a b) (sym e) (length-take-le n ps h))

@@ -65,8 +65,8 @@ words-of-session-requires c κs = search needs
 kind-of-requires : tie.Need-kind-of-requires
 kind-of-requires c κs = tt
 
-to-word-requires : tie.Need-to-word-requires
-to-word-requires c κs = tt
+word-of-setting-requires : tie.Need-word-of-setting-requires
+word-of-setting-requires c κs = tt
 
 same-length-2 : tie.Need-same-length-2
 same-length-2 c = search needs
@@ -114,7 +114,7 @@ returns-4 c =
     let read = tested .before in
     sample-set _ _ _ _ _ _ _ _ _ (long read .if1 .left) _ _ (read .session-of-words .ensures) (dimension .dimension-of-words .ensures)
     (sym (tested .lacks-words .ensures) ∙ whole .if2 .left)
-    (called .sample .result) _ _ _ (called .sample .ensures) _ _ _ _ (told .outcome2 .given .1) (c .before .kind-of .ensures) (c .to-word .ensures)
+    (called .sample .result) _ _ _ (called .sample .ensures) _ _ _ _ (told .outcome2 .given .1) (c .before .kind-of .ensures) (c .word-of-setting .ensures .0) (c .word-of-setting .ensures .1)
     (put .words-of-session .ensures .0) (put .words-of-session .ensures .1)
 
 pub sample-words-spec : {M : Type 1} → statement M
@@ -134,7 +134,7 @@ sample-words-spec =
     enum-known-outcome-2
     words-of-session-requires
     kind-of-requires
-    to-word-requires
+    word-of-setting-requires
     same-length-2
     same-length-3
     same-length-4

@@ -1,5 +1,6 @@
 -- the answer is the definition's, of which the rest is proved
 use Rattle.model.specs.Session.{state}
+use Rattle.typed_laws.proofs.Held.{dimension-held}
 use Rattle.session_laws.proofs.Sample.{samples}
 use Rattle.session.proofs.sample.Statement.{statement}
 use Rattle.session.proofs.sample.Tie as tie
@@ -20,7 +21,8 @@ returns : tie.Need-returns
 returns c =
     let s = c .before .before .before .before .before .before .before .before .before .before .before .before .before .before in
     let a = s .args in
-    samples (state (a .session) (a .candidates .now) (a .plans .now) (a .next-dims .now)) (a .distribution) (a .plan) (a .history .now) (s .pre) _ (s .good .0) _ (c .before .before .before .before .before .before .answered .ensures)
+    samples (state (a .session) (a .candidates .now) (a .plans .now) (a .next-dims .now)) (a .distribution) (a .plan) (a .history .now) (s .pre) _ (s .good .0)
+    (dimension-held (a .distribution) _ (s .good .1 .0)) _ (c .before .before .before .before .before .before .answered .ensures)
 
 pub sample-spec : {M : Type 1} → statement M
 sample-spec =

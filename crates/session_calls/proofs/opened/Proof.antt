@@ -1,5 +1,4 @@
 -- `opened`. Assumes nothing.
-use Rattle.session_calls.proofs.Property.{usable}
 use Rattle.session_calls.proofs.opened.Statement.{statement}
 use Rattle.session_calls.proofs.opened.Tie as tie
 
@@ -7,7 +6,7 @@ open-requires : tie.Need-open-requires
 open-requires c κs = tt
 
 returns : tie.Need-returns
-returns c = usable _ _ _ _ _ _ _ (c .«open» .result) (c .«open» .ensures)
+returns c = c .«open» .ensures .gives
 
 pub opened-spec : {M : Type 1} → statement M
 opened-spec = tie.close (tie.spec open-requires returns)
