@@ -54,6 +54,7 @@ orRefusal (some n) q = some n
 
 -- ---- selection and generation step
 
+-- the number of a selection's or a step's answer
 abbrev pub codeOf : Outcome → ℕ
 codeOf o = numberOf (refusedBy o)
 
@@ -136,7 +137,7 @@ abbrev pub openedBy : Opening → Session → List ℕ → Written
 openedBy opening.Ready s ws = putSession s ws
 openedBy (opening.Refused n) s ws = written n ws
 
--- the opening's refusal, and else 10 for a slice that is too short
+-- THE REFUSALS of `locustdomino_open`: the opening's, and else 10 for a slice that is too short
 unfoldable pub openWordsRefusal : List ℕ → Option ℕ → Option ℕ → Float → Float → Float → ℕ → Option ℕ
 openWordsRefusal marks size divisions probability crossoverEta mutationEta room =
     orRefusal (openRefusal marks size divisions probability crossoverEta mutationEta) (firstOf (check 10 (ltb room sessionWidth) ∷ []))
@@ -183,12 +184,13 @@ wordChecks short lacks bad =
     ∷ check 10 short
     ∷ []
 
+-- the first of these that applies to a session's words, a dimension's and a history
 unfoldable pub wordRefusal : List ℕ → List ℕ → ℕ → List ℕ → Option ℕ
 wordRefusal ws ds plan history =
     let s = sessionOf ws in
     firstOf (wordChecks (ltb (length ws) sessionWidth) (lacksWords (s .phase) (s .«discovery_trial_id») plan (length ds)) (badHistory history))
 
--- and then what the call looks at. A dimension that is not added is not looked at, so that its slice may be empty
+-- THE REFUSALS of `locustdomino_sample`: these, and then what the call looks at. A dimension that is not added is not looked at, so that its slice may be empty
 unfoldable pub sampleWordsRefusal : List ℕ → List ℕ → ℕ → List ℕ → List ℕ → List ℕ → List ℕ → Option ℕ
 sampleWordsRefusal ws ds plan history cs ps ns =
     orRefusal (wordRefusal ws ds plan history) (sampleRefusal (state (sessionOf ws) cs ps ns) (dimensionAt ds 0) plan history)
@@ -214,6 +216,7 @@ pub record SamplesWords (ws ds : List ℕ) (plan : ℕ) (history cs ps ns : List
 
 -- ---- the choice for a pool file
 
+-- the number of its answer
 abbrev pub chosenCode : Chosen → ℕ
 chosenCode o = numberOf (chosenRefusedBy o)
 
