@@ -18,24 +18,47 @@ const ROUNDS: usize = 60;
 /// Plans of a front, where there are many.
 const FRONT: usize = 16;
 
-/// n plans on the plane of sum 1, which dominate no other there; with many
-/// fronts, each 16 of them 2 further out than the 16 before.
-fn pool(n: usize, m: usize, many: bool, mix: &mut Mix) -> Vec<Plan> {
-    let plan = |number: usize| {
+/// How a pool's rows lie.
+#[derive(Clone, Copy)]
+enum Rows {
+    /// On the plane of sum 1, where no plan dominates another.
+    Plane,
+    /// So too, each 16 plans 2 further out than the 16 before.
+    Planes,
+    /// Every value drawn from 0 to 1.
+    Uniform,
+}
+
+impl Rows {
+    fn name(self) -> &'static str {
+        match self {
+            Rows::Plane => "one plane",
+            Rows::Planes => "many planes",
+            Rows::Uniform => "uniform",
+        }
+    }
+
+    fn of(self, number: usize, m: usize, mix: &mut Mix) -> Vec<f64> {
         let draws: Vec<f64> = (0..m).map(|_| mix.unit() + 0.01).collect();
         let sum: f64 = draws.iter().sum();
-        let out = if many { 2.0 * (number / FRONT) as f64 } else { 0.0 };
-        let values: Vec<f64> = draws.iter().map(|d| d / sum + out).collect();
-        Plan::record(number as u64, &values, &[])
-    };
+        match self {
+            Rows::Plane => draws.iter().map(|d| d / sum).collect(),
+            Rows::Planes => draws.iter().map(|d| d / sum + 2.0 * (number / FRONT) as f64).collect(),
+            Rows::Uniform => draws,
+        }
+    }
+}
+
+fn pool(n: usize, m: usize, rows: Rows, mix: &mut Mix) -> Vec<Plan> {
+    let plan = |number: usize| Plan::record(number as u64, &rows.of(number, m, mix), &[]);
     (0..n).map(plan).collect()
 }
 
 /// A selection of some more than half of the pool, so that a front is split.
-fn selection(n: usize, m: usize, many: bool, mix: &mut Mix) -> Call {
+fn selection(n: usize, m: usize, rows: Rows, mix: &mut Mix) -> Call {
     let size = n / 2 + FRONT / 2;
     let divisions = genetic::auto_divisions(m, size) as u64;
-    Call::new(m, divisions, size as u64, 7, pool(n, m, many, mix))
+    Call::new(m, divisions, size as u64, 7, pool(n, m, rows, mix))
 }
 
 /// Whether both hand out the same kept list, fronts, lines, ideal and state.
@@ -61,27 +84,28 @@ fn rust_select(state: &mut Nsga3State, population: &[&MultiObjectiveTrial], dire
 }
 
 /// Times a selection and prints its row; answers whether the two agree.
-fn compared(n: usize, m: usize, many: bool, mix: &mut Mix) -> bool {
-    let call = selection(n, m, many, mix);
+fn compared(n: usize, m: usize, rows: Rows, mix: &mut Mix) -> bool {
+    let call = selection(n, m, rows, mix);
     if call.refused(answers::SELECT).is_some() || !agree(&call) {
-        println!("N {n}, m {m}, many fronts {many}: the answers differ");
+        println!("N {n}, m {m}, {}: the answers differ", rows.name());
         return false;
     }
     let [ours, theirs] = timed(&call, ROUNDS, proved_select, rust_select);
     let divisions = call.divisions as usize;
     let table = || drop(black_box(genetic::das_dennis(m, black_box(divisions))));
     let table = (0..ROUNDS).map(|_| ns(table)).fold(f64::INFINITY, f64::min);
-    let fronts = if many { n / FRONT } else { 1 };
+    let fronts = answers::select(&call).fronts.iter().max().map_or(0, |last| last + 1);
     let lines = genetic::das_dennis(m, divisions).len();
     let [ours, theirs, ratio] = timing::beside(ours, theirs);
     let counts = [n, m, fronts, lines].map(timing::count);
-    timing::row(&[&counts[..], &[ours, theirs, ratio, timing::time(table)]].concat());
+    let [n, m, fronts, lines] = counts;
+    timing::row(&[n, m, rows.name().to_string(), fronts, lines, ours, theirs, ratio, timing::time(table)]);
     true
 }
 
 /// One selection by one side.
 fn one(side: &str, n: usize, m: usize) {
-    let call = selection(n, m, true, &mut Mix(1));
+    let call = selection(n, m, Rows::Planes, &mut Mix(1));
     match side {
         "proved" => proved_select(&mut Proved::of(&call)),
         "rust" => answers::with_state(&call, rust_select),
@@ -97,15 +121,15 @@ fn main() {
     }
     let mut mix = Mix(1);
     let mut wrong = 0;
-    timing::head(&["N", "m", "fronts", "lines", "proved", "Rust", "ratio", "the Rust's table"]);
+    timing::head(&["N", "m", "rows", "fronts", "lines", "proved", "Rust", "ratio", "the Rust's table"]);
     for n in [128, 512, 1024] {
         for m in [3, 8] {
-            for many in [true, false] {
-                wrong += usize::from(!compared(n, m, many, &mut mix));
+            for rows in [Rows::Planes, Rows::Plane, Rows::Uniform] {
+                wrong += usize::from(!compared(n, m, rows, &mut mix));
             }
         }
     }
-    println!("\n{wrong} of 12 pools answered differently");
+    println!("\n{wrong} of 18 pools answered differently");
     if wrong > 0 {
         std::process::exit(1);
     }
