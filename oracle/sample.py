@@ -14,6 +14,9 @@ STORED = os.path.join(TOP, "oracle", "stored")
 # What the program replay_main reads: the stored files, joined in the order below.
 REPLAYED = os.path.join(TOP, "crates", "replay_main", "stdin")
 
+# The programs that are `choose` on a stored file.
+CHOOSES = ["choose", "choose_longest", "choose_too_long"]
+
 # Each record, and how many generated inputs it has.
 RECORDS = {
     "draw": 40,

@@ -162,7 +162,7 @@ fn report(tallies: Tallies) {
 
 // Reads as much as there is and tells the tallies.
 fn told(buffer: &mut [u8]) {
-    let n = io::read_full(0, buffer);
+    let n = standard_input::read_input(buffer);
     report(replayed(&buffer[..n]));
 }
 
