@@ -26,7 +26,44 @@ ghost use Rattle.session_calls.specs.Usable.{usableBy};
 
 // ---- the calls of `sample`
 
-// Slices of their own are lent: candidates and next dimensions each one place short, and the generation's plan numbers.
+// Whether every word is 7.
+fn sevens(words: &[u64]) -> bool {
+    let mut i: usize = 0;
+    while i < words.len() {
+        if words[i] != 7 {
+            return false;
+        }
+        i += 1;
+    }
+    true
+}
+
+// Whether every next dimension is 7.
+fn next_sevens(next_dims: &[usize]) -> bool {
+    let mut i: usize = 0;
+    while i < next_dims.len() {
+        if next_dims[i] != 7 {
+            return false;
+        }
+        i += 1;
+    }
+    true
+}
+
+// Whether two lists of plan numbers are the same.
+fn same_numbers(a: &Numbers, b: &Numbers) -> bool {
+    let mut i: usize = 0;
+    while i < 2048 {
+        if a[i] != b[i] {
+            return false;
+        }
+        i += 1;
+    }
+    true
+}
+
+// Slices of their own are lent: candidates and next dimensions each one place short and full of sevens, and the generation's plan numbers. Where any of them
+// is not left as it was, the answer is 99, which is no refusal.
 fn tried_short(
     session: Session,
     distribution: Distribution,
@@ -38,10 +75,10 @@ fn tried_short(
     requires { ⌜ ((cs ps ns : List ℕ) → longEnough (state session cs ps ns) ≡ false → SessionOk (state session cs ps ns)) ⌝ }
     requires { ⌜ n ≤ 4097 ⌝ }
 {
-    let mut candidates = [0u64; 65535];
+    let mut candidates = [7u64; 65535];
     let mut plans = numbers;
-    let mut next_dims = [0usize; 2047];
-    session_calls::sampled(
+    let mut next_dims = [7usize; 2047];
+    let r = session_calls::sampled(
         session,
         distribution,
         plan,
@@ -50,7 +87,15 @@ fn tried_short(
         &mut candidates,
         &mut plans,
         &mut next_dims,
-    )
+    );
+    if sevens(&candidates) && next_sevens(&next_dims) && same_numbers(&plans, &numbers) {
+        return r;
+    }
+    let session = r.session;
+    Sampled {
+        outcome: Sampling::Refused(99),
+        session,
+    }
 }
 
 // ---- what is answered

@@ -3,8 +3,8 @@ use mathlib.Core.Path.{sym}
 use native.Mathlib.Omega.{arith}
 use lib.Seq.{length-take-le}
 use borrow.Author.Needs.{needs}
-use Rattle.replay_main.proofs.told.Statement.{statement}
-use Rattle.replay_main.proofs.told.Tie as tie
+use Rattle.replay_program.proofs.told.Statement.{statement}
+use Rattle.replay_program.proofs.told.Tie as tie
 
 read-input-requires : tie.Need-read-input-requires
 read-input-requires c κs = tt
