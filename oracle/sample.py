@@ -11,8 +11,8 @@ OUT = os.path.join(TOP, "target", "oracle")
 ORACLE = os.path.join(OUT, "oracle")
 
 STORED = os.path.join(TOP, "oracle", "stored")
-# What the program replay_main reads: the stored files, joined in the order below.
-REPLAYED = os.path.join(TOP, "crates", "replay_main", "stdin")
+# The programs that are `choose` on a stored file.
+CHOOSES = ["choose", "choose_longest", "choose_too_long"]
 
 # Each record, and how many generated inputs it has.
 RECORDS = {
@@ -27,7 +27,20 @@ RECORDS = {
     "breeding": 40,
     "session": 10,
     "choose": 24,
+    "long": 0,
 }
+
+# The programs that replay, and the records whose stored files each reads, joined.
+REPLAYS = {
+    "replay_main": [record for record in RECORDS if record != "long"],
+    "replay_long_main": ["long"],
+}
+
+
+def replayed(program):
+    """What a program reads."""
+    return os.path.join(TOP, "crates", program, "stdin")
+
 
 # A step of the generator's state: times the one, plus the other, modulo 2^64.
 MULTIPLIER = 6364136223846793005

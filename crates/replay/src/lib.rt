@@ -7,7 +7,7 @@ ghost use lib.ListN.{length};
 ghost use Rattle.replay.specs.Post.{Within, Ahead};
 ghost use Rattle.replay.specs.Verdicts.{SameFirst, Compares, Judges, up, tallied};
 
-// A line's numbers; the longest of the stored lines has 5,135.
+// A line's numbers; the longest of the stored lines has 7,859.
 pub type Words = [u64; 8192];
 
 // What stands at a position: a number, with the position after it and after one space; the end of the line, with the start of the next one; or

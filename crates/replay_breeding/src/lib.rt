@@ -1,5 +1,5 @@
-// The answers to the oracle's lines of breeding: draws of settings, crossover, mutation, the tournament, and the generation step, for which a line's plans
-// are laid out as the pool of words that the function takes.
+// The answers to the oracle's lines of breeding: draws of settings, crossover, mutation, the tournament, and the generation step, by its C name, for which a
+// line's plans are laid out as the pool of words that the function takes.
 use model::CANDIDATE_WORDS;
 use model::DimensionInfo;
 use model::Distribution;
@@ -291,7 +291,7 @@ fn stepped(
     let d = room.offspring;
     let s = call.state;
     let dims = step.dims;
-    generation::nsga3_generate_offspring(
+    c_calls::generate_offspring(
         &pool[..words],
         &marks[..m],
         call.divisions,

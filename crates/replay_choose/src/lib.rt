@@ -1,4 +1,5 @@
-// The answers to the oracle's lines of pool files, good and damaged, through the public call.
+// The answers to the oracle's lines of pool files, good and damaged, by the C name of `choose`.
+use model::Chosen;
 use model::MAX_TEXT;
 use replay::Words;
 ghost use Prim.Native.Nat.{_≤_};
@@ -36,7 +37,11 @@ fn put_text(text: &[u8; MAX_TEXT], n: usize, out: &mut Words) -> usize {
 // The text of a file.
 fn text_of(file: &[u8], out: &mut Words) -> usize {
     let mut text = [0u8; MAX_TEXT];
-    let n = pool_print::printed(file, &mut text);
+    let chosen = c_calls::choose(file, &mut text);
+    let n = match chosen {
+        Chosen::Written(n) => n,
+        Chosen::Refused(number) => pool_text::write_refused(number as usize, &mut text),
+    };
     put_text(&text, n, out)
 }
 

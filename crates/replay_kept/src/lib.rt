@@ -1,4 +1,4 @@
-// The answers to the oracle's lines of selection. A line's plans are laid out as the pool of words that the function takes.
+// The answers to the oracle's lines of selection, by its C name. A line's plans are laid out as the pool of words that the function takes.
 use model::Outcome;
 use model::PLAN_WORDS;
 use model::Rng;
@@ -33,7 +33,7 @@ fn selection(
     let b = room.fronts;
     let c = room.lines;
     let s = call.state;
-    nsga3::nsga3_select(
+    c_calls::select(
         &pool[..words],
         &marks[..m],
         call.divisions,

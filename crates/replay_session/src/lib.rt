@@ -22,11 +22,48 @@ ghost use Prim.Native.Nat.{ℕ, _≤_};
 ghost use lib.ListN.{length};
 ghost use Rattle.model.specs.Session.{state, longEnough};
 ghost use Rattle.model.specs.Property.{SessionOk};
-ghost use Rattle.session_calls.specs.Usable.{Usable};
+ghost use Rattle.session_calls.specs.Usable.{usableBy};
 
 // ---- the calls of `sample`
 
-// Slices of their own are lent: candidates and next dimensions each one place short, and the generation's plan numbers.
+// Whether every word is 7.
+fn sevens(words: &[u64]) -> bool {
+    let mut i: usize = 0;
+    while i < words.len() {
+        if words[i] != 7 {
+            return false;
+        }
+        i += 1;
+    }
+    true
+}
+
+// Whether every next dimension is 7.
+fn next_sevens(next_dims: &[usize]) -> bool {
+    let mut i: usize = 0;
+    while i < next_dims.len() {
+        if next_dims[i] != 7 {
+            return false;
+        }
+        i += 1;
+    }
+    true
+}
+
+// Whether two lists of plan numbers are the same.
+fn same_numbers(a: &Numbers, b: &Numbers) -> bool {
+    let mut i: usize = 0;
+    while i < 2048 {
+        if a[i] != b[i] {
+            return false;
+        }
+        i += 1;
+    }
+    true
+}
+
+// Slices of their own are lent: candidates and next dimensions each one place short and full of sevens, and the generation's plan numbers. Where any of them
+// is not left as it was, the answer is 99, which is no refusal.
 fn tried_short(
     session: Session,
     distribution: Distribution,
@@ -38,10 +75,10 @@ fn tried_short(
     requires { ⌜ ((cs ps ns : List ℕ) → longEnough (state session cs ps ns) ≡ false → SessionOk (state session cs ps ns)) ⌝ }
     requires { ⌜ n ≤ 4097 ⌝ }
 {
-    let mut candidates = [0u64; 65535];
+    let mut candidates = [7u64; 65535];
     let mut plans = numbers;
-    let mut next_dims = [0usize; 2047];
-    session_calls::sampled(
+    let mut next_dims = [7usize; 2047];
+    let r = session_calls::sampled(
         session,
         distribution,
         plan,
@@ -50,7 +87,15 @@ fn tried_short(
         &mut candidates,
         &mut plans,
         &mut next_dims,
-    )
+    );
+    if sevens(&candidates) && next_sevens(&next_dims) && same_numbers(&plans, &numbers) {
+        return r;
+    }
+    let session = r.session;
+    Sampled {
+        outcome: Sampling::Refused(99),
+        session,
+    }
 }
 
 // ---- what is answered
@@ -369,7 +414,7 @@ fn next_call(
 
 // The calls of a line of n numbers; how many numbers the answer has.
 fn calls(input: &Words, n: usize, at: usize, count: u64, session: Session, out: &mut Words) -> usize
-    requires { ⌜ Usable session ⌝ }
+    requires { ⌜ ((cs ps ns : List ℕ) → SessionOk (state session cs ps ns)) ⌝ }
     requires { ⌜ at ≤ 8193 ⌝ }
 {
     let mut history = [0u64; 508028];
@@ -425,7 +470,7 @@ fn given_at(input: &Words, at: usize) -> Given
 // The opening by the first m marks; size and divisions stand at `at`.
 fn opened(input: &Words, at: usize, marks: &[u8], m: usize, given: Given) -> Opened
     requires { ⌜ (at ≤ 19) × (m ≤ length (now marks)) ⌝ }
-    ensures { λ r. ⌜ Usable (r .session) ⌝ }
+    ensures { λ r. ⌜ usableBy (r .outcome) (r .session) ⌝ }
 {
     let size = replay_values::option_at(input, at);
     let divisions = replay_values::option_at(input, at + 2);
@@ -442,7 +487,7 @@ fn opened(input: &Words, at: usize, marks: &[u8], m: usize, given: Given) -> Ope
 
 fn opened_by(input: &Words, at: usize, marks: &Marks, m: usize, given: Given) -> Opened
     requires { ⌜ (at ≤ 19) × (m ≤ 16) ⌝ }
-    ensures { λ r. ⌜ Usable (r .session) ⌝ }
+    ensures { λ r. ⌜ usableBy (r .outcome) (r .session) ⌝ }
 {
     opened(input, at, marks, m, given)
 }
@@ -450,7 +495,7 @@ fn opened_by(input: &Words, at: usize, marks: &Marks, m: usize, given: Given) ->
 // An opening and what follows it; an opening that is to be short, which `open` cannot be, is passed over where nothing else refuses it.
 fn follow(input: &Words, n: usize, at: usize, opened: Opened, out: &mut Words) -> usize
     requires { ⌜ at ≤ 19 ⌝ }
-    requires { ⌜ Usable (opened .session) ⌝ }
+    requires { ⌜ usableBy (opened .outcome) (opened .session) ⌝ }
 {
     let outcome = opened.outcome;
     let session = opened.session;

@@ -1,6 +1,6 @@
--- A slice that is too short. Assumes nothing.
+-- The session property of a session that words stand for, and a slice that is too short. Assumes nothing.
 use Prim.Native.Nat.{ℕ, _<_}
-use mathlib.Core.Path.{_≡_}
+use mathlib.Core.Path.{_≡_, sym, subst}
 use mathlib.Core.Bool.{false}
 use mathlib.Core.List.{List}
 use borrow.Author.Tests.{lt-leb}
@@ -8,6 +8,11 @@ use Rattle.list_laws.proofs.Bools.{and-not}
 use lib.ListN.{length}
 use Rattle.model.specs.declared.Session.{Session}
 use Rattle.model.specs.Session.{state, longEnough}
+use Rattle.model.specs.Property.{SessionOk}
+
+-- an equal session has the property too
+pub same-session : (r s : Session) (cs ps ns : List ℕ) → r ≡ s → SessionOk (state s cs ps ns) → SessionOk (state r cs ps ns)
+same-session r s cs ps ns e ok = subst (λ x. SessionOk (state x cs ps ns)) (sym e) ok
 
 -- one slice that is too short is enough
 pub too-short : (s : Session) (cs ps ns : List ℕ) → length cs < 65536 → longEnough (state s cs ps ns) ≡ false

@@ -1,19 +1,21 @@
-// A session as a caller holds it: lent arrays of full length, and a history of which the first records count. Calls keep the session property, which an
-// opening gives, refused or not.
+// A session as a caller holds it: lent arrays of full length, and a history of which the first records count. Calls go by their C names: a session's words are
+// written for each, and read back. They keep the session property, which an opening that is ready gives.
 use model::Distribution;
 use model::MAX_COME;
 use model::MAX_WORDS;
 use model::Opened;
+use model::Opening;
 use model::OptionUsize;
 use model::PLAN_WORDS;
 use model::Sampled;
 use model::Sampling;
 use model::Session;
+use session_words::SESSION_WORDS;
 ghost use Prim.Native.Nat.{_*_, _≤_};
 ghost use lib.ListN.{length};
 ghost use Rattle.model.specs.Session.{state};
 ghost use Rattle.model.specs.Property.{SessionOk};
-ghost use Rattle.session_calls.specs.Usable.{Usable};
+ghost use Rattle.session_calls.specs.Usable.{usableBy};
 
 pub type Candidates = [u64; MAX_WORDS];
 
@@ -23,6 +25,22 @@ pub type NextDims = [usize; MAX_COME];
 
 // 4,097 records of 124 words: one more than is accepted.
 pub type History = [u64; 508028];
+
+// Whether a number is given, as a C name takes it: 0 for no.
+fn given(x: OptionUsize) -> u8 {
+    match x {
+        OptionUsize::None => 0,
+        OptionUsize::Some(_) => 1,
+    }
+}
+
+// The number; any where none is given.
+fn number_of(x: OptionUsize) -> usize {
+    match x {
+        OptionUsize::None => 0,
+        OptionUsize::Some(n) => n,
+    }
+}
 
 // An opening.
 pub fn opened(
@@ -34,17 +52,41 @@ pub fn opened(
     crossover_eta: f64,
     mutation_eta: f64,
 ) -> Opened
-    ensures { λ r. ⌜ Usable (r .session) ⌝ }
+    ensures { λ r. ⌜ usableBy (r .outcome) (r .session) ⌝ }
 {
-    session_opening::open(
+    let mut words = [0u64; SESSION_WORDS];
+    let code = locustdomino::locustdomino_open(
         directions,
         seed,
-        size,
-        divisions,
+        given(size),
+        number_of(size),
+        given(divisions),
+        number_of(divisions),
         probability,
         crossover_eta,
         mutation_eta,
-    )
+        &mut words,
+    );
+    let session = session_words::session_of_words(&words);
+    if code == 0 {
+        return Opened {
+            outcome: Opening::Ready,
+            session,
+        };
+    }
+    let number = c_calls::refusal(code);
+    Opened {
+        outcome: Opening::Refused(number),
+        session,
+    }
+}
+
+// What a call answers: the setting of a kind and a word, or the refusal.
+fn outcome_of(code: u64, kind: u64, value: u64) -> Sampling {
+    if code == 0 {
+        return Sampling::Setting(settings::of_word(kind, value));
+    }
+    Sampling::Refused(c_calls::refusal(code))
 }
 
 // A call on the first n records of a history.
@@ -62,16 +104,26 @@ pub fn sampled(
     requires { ⌜ (n ≤ 4097) × (508028 ≤ length (now history)) ⌝ }
     ensures { λ r. ⌜ SessionOk (state (r .session) (now (candidates .exit)) (now (plans .exit)) (now («next_dims» .exit))) ⌝ }
 {
-    let words = n * PLAN_WORDS;
-    session::sample(
-        session,
-        distribution,
+    let used = n * PLAN_WORDS;
+    let mut words = [0u64; SESSION_WORDS];
+    session_encoding::words_of_session(session, &mut words);
+    let dimension = session_encoding::dimension_words(distribution);
+    let mut kind: u64 = 0;
+    let mut value: u64 = 0;
+    let code = locustdomino::locustdomino_sample(
+        &mut words,
+        &dimension,
         plan,
-        &history[..words],
+        &history[..used],
         candidates,
         plans,
         next_dims,
-    )
+        &mut kind,
+        &mut value,
+    );
+    let outcome = outcome_of(code, kind, value);
+    let session = session_words::session_of_words(&words);
+    Sampled { outcome, session }
 }
 
 // The call made so many times, the plan's number rising by one; the last answer.

@@ -1,12 +1,12 @@
 // A session's words, written into a lent slice (specs/Coding.antt of `session_words` has the layout). All functions are internal.
 ghost use mathlib.Core.Path.{_≡_};
-ghost use Prim.Native.Nat.{_≤_};
+ghost use Prim.Native.Nat.{_+_, _≤_};
 ghost use lib.ListN.{length};
 ghost use Rattle.model.specs.declared.Distribution.the-variants as dist;
 ghost use Rattle.model.specs.Lists.{joinBelow, over};
 ghost use Rattle.model.specs.Setting.{maxDims, dimensionsOf, kindOf, toWord, ofWord};
 ghost use lib.Seq.{sets};
-ghost use Rattle.session_words.specs.Coding.{hasStepF64, stepWordF64, hasStepI64, stepWordI64, dimensionWords, phaseWord, hasFirst, firstWord, configWords, stateWords, idealWords, headWidth, sessionWidth, sessionWords, sessionOf};
+ghost use Rattle.session_words.specs.Coding.{hasStepF64, stepWordF64, hasStepI64, stepWordI64, dimensionWords, phaseWord, hasFirst, firstWord, configWords, stateWords, idealWords, sessionWidth, sessionWords, sessionOf};
 use model::Config;
 use model::DimensionInfo;
 use model::Distribution;
@@ -86,7 +86,7 @@ fn int_words(d: IntDistribution) -> [u64; 6]
 }
 
 // A dimension's six words.
-fn dimension_words(d: Distribution) -> [u64; 6]
+pub fn dimension_words(d: Distribution) -> [u64; 6]
     ensures { λ r. ⌜ r ≡ dimensionWords d ⌝ }
 {
     match d {
@@ -176,16 +176,17 @@ fn state_words(session: Session) -> [u64; 8]
     [p, has, plan, rng.s, d, c, n, progress.generation]
 }
 
-fn put_dimensions(dims: [DimensionInfo; 32], words: &mut [u64])
-    requires { ⌜ sessionWidth ≤ length (now words) ⌝ }
-    ensures { λ _. ⌜ now (words .exit) ≡ sets (now (words .entry)) headWidth (joinBelow (λ d. dimensionWords (dimensionsOf dims d)) maxDims) ⌝ }
+// The words of 32 dimensions, from a place on.
+pub fn put_dimensions(dims: [DimensionInfo; 32], from: usize, words: &mut [u64])
+    requires { ⌜ from + 192 ≤ length (now words) ⌝ }
+    ensures { λ _. ⌜ now (words .exit) ≡ sets (now (words .entry)) from (joinBelow (λ d. dimensionWords (dimensionsOf dims d)) maxDims) ⌝ }
 {
     let mut d = 0;
     while d < 32 {
         let info = dims[d];
         let distribution = info.distribution;
         let block = dimension_words(distribution);
-        put(&block, HEAD_WORDS + d * DIMENSION_WORDS, words);
+        put(&block, from + d * DIMENSION_WORDS, words);
         d += 1;
     }
 }
@@ -213,5 +214,5 @@ pub fn words_of_session(session: Session, words: &mut [u64])
     put(&state, 14, words);
     let ideal = ideal_words(ideal);
     put(&ideal, 22, words);
-    put_dimensions(dims, words);
+    put_dimensions(dims, HEAD_WORDS, words);
 }

@@ -226,6 +226,19 @@ pub(super) fn breeding_cases() -> Vec<Line> {
         }),
         good.but(|c| c.pool.clear()),
         good.but(|c| c.size = 0),
+        // 2 and 4, and both before what comes later.
+        good.but(|c| c.marks = vec![0, 2]),
+        good.but(|c| c.marks = Vec::new()),
+        good.but(|c| c.divisions = 0),
+        good.but(|c| c.divisions = 200),
+        good.but(|c| {
+            c.divisions = 0;
+            c.operators.probability = f64::NAN;
+        }),
+        good.but(|c| {
+            c.marks = vec![0; 9];
+            c.divisions = 0;
+        }),
     ]);
     for dimension in bad_dimensions() {
         let mut call = good.clone();

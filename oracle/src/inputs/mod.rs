@@ -4,6 +4,7 @@
 mod breeding;
 mod files;
 mod kept;
+mod long;
 mod numbers;
 mod rows;
 mod sessions;
@@ -51,14 +52,16 @@ fn record(kind: &str) -> Result<usize, String> {
     place.ok_or(format!("the records are {}", names.join(", ")))
 }
 
-/// The named cases of a record; every table; and those too long to be stored.
+/// The named cases of a record; every table; long inputs; and those too long to
+/// be stored.
 pub fn cases(kind: &str) -> Result<Vec<Line>, String> {
     match kind {
         "tables" => Ok(rows::table_cases()),
+        "long" => Ok(long::long_cases()),
         "large" => Ok(files::large_cases()),
         _ => match record(kind) {
             Ok(place) => Ok(RECORDS[place].1()),
-            Err(message) => Err(message + ", tables, large"),
+            Err(message) => Err(message + ", tables, long, large"),
         },
     }
 }

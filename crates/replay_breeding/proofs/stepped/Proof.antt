@@ -9,49 +9,49 @@ use Rattle.replay_breeding.proofs.stepped.Tie as tie
 mul-words : tie.Need-mul-words
 mul-words c = search needs
 
-slice-aggregate-nsga3-generate-offspring : tie.Need-slice-aggregate-nsga3-generate-offspring
-slice-aggregate-nsga3-generate-offspring c = sym (length-take-le _ _ (omega arith))
+slice-aggregate-generate-offspring : tie.Need-slice-aggregate-generate-offspring
+slice-aggregate-generate-offspring c = sym (length-take-le _ _ (omega arith))
 
-slice-aggregate-nsga3-generate-offspring-2 : tie.Need-slice-aggregate-nsga3-generate-offspring-2
-slice-aggregate-nsga3-generate-offspring-2 c = sym (length-take-le _ _ (omega arith))
+slice-aggregate-generate-offspring-2 : tie.Need-slice-aggregate-generate-offspring-2
+slice-aggregate-generate-offspring-2 c = sym (length-take-le _ _ (omega arith))
 
-slice-relend-prefix-nsga3-generate-offspring :
-    tie.Need-slice-relend-prefix-nsga3-generate-offspring
-slice-relend-prefix-nsga3-generate-offspring c = omega arith
+slice-relend-prefix-generate-offspring :
+    tie.Need-slice-relend-prefix-generate-offspring
+slice-relend-prefix-generate-offspring c = omega arith
 
-slice-aggregate-nsga3-generate-offspring-3 : tie.Need-slice-aggregate-nsga3-generate-offspring-3
-slice-aggregate-nsga3-generate-offspring-3 c = sym (length-take-le _ _ (omega arith))
+slice-aggregate-generate-offspring-3 : tie.Need-slice-aggregate-generate-offspring-3
+slice-aggregate-generate-offspring-3 c = sym (length-take-le _ _ (omega arith))
 
-slice-relend-prefix-nsga3-generate-offspring-2 :
-    tie.Need-slice-relend-prefix-nsga3-generate-offspring-2
-slice-relend-prefix-nsga3-generate-offspring-2 c = omega arith
+slice-relend-prefix-generate-offspring-2 :
+    tie.Need-slice-relend-prefix-generate-offspring-2
+slice-relend-prefix-generate-offspring-2 c = omega arith
 
-slice-aggregate-nsga3-generate-offspring-4 : tie.Need-slice-aggregate-nsga3-generate-offspring-4
-slice-aggregate-nsga3-generate-offspring-4 c = sym (length-take-le _ _ (omega arith))
+slice-aggregate-generate-offspring-4 : tie.Need-slice-aggregate-generate-offspring-4
+slice-aggregate-generate-offspring-4 c = sym (length-take-le _ _ (omega arith))
 
-slice-relend-prefix-nsga3-generate-offspring-3 :
-    tie.Need-slice-relend-prefix-nsga3-generate-offspring-3
-slice-relend-prefix-nsga3-generate-offspring-3 c = omega arith
+slice-relend-prefix-generate-offspring-3 :
+    tie.Need-slice-relend-prefix-generate-offspring-3
+slice-relend-prefix-generate-offspring-3 c = omega arith
 
-slice-aggregate-nsga3-generate-offspring-5 : tie.Need-slice-aggregate-nsga3-generate-offspring-5
-slice-aggregate-nsga3-generate-offspring-5 c = sym (length-take-le _ _ (omega arith))
+slice-aggregate-generate-offspring-5 : tie.Need-slice-aggregate-generate-offspring-5
+slice-aggregate-generate-offspring-5 c = sym (length-take-le _ _ (omega arith))
 
-slice-relend-prefix-nsga3-generate-offspring-4 :
-    tie.Need-slice-relend-prefix-nsga3-generate-offspring-4
-slice-relend-prefix-nsga3-generate-offspring-4 c = omega arith
+slice-relend-prefix-generate-offspring-4 :
+    tie.Need-slice-relend-prefix-generate-offspring-4
+slice-relend-prefix-generate-offspring-4 c = omega arith
 
-slice-aggregate-nsga3-generate-offspring-6 : tie.Need-slice-aggregate-nsga3-generate-offspring-6
-slice-aggregate-nsga3-generate-offspring-6 c = sym (length-take-le _ _ (omega arith))
+slice-aggregate-generate-offspring-6 : tie.Need-slice-aggregate-generate-offspring-6
+slice-aggregate-generate-offspring-6 c = sym (length-take-le _ _ (omega arith))
 
-slice-relend-prefix-nsga3-generate-offspring-5 :
-    tie.Need-slice-relend-prefix-nsga3-generate-offspring-5
-slice-relend-prefix-nsga3-generate-offspring-5 c = omega arith
+slice-relend-prefix-generate-offspring-5 :
+    tie.Need-slice-relend-prefix-generate-offspring-5
+slice-relend-prefix-generate-offspring-5 c = omega arith
 
-slice-aggregate-nsga3-generate-offspring-7 : tie.Need-slice-aggregate-nsga3-generate-offspring-7
-slice-aggregate-nsga3-generate-offspring-7 c = sym (length-take-le _ _ (omega arith))
+slice-aggregate-generate-offspring-7 : tie.Need-slice-aggregate-generate-offspring-7
+slice-aggregate-generate-offspring-7 c = sym (length-take-le _ _ (omega arith))
 
-nsga3-generate-offspring-requires : tie.Need-nsga3-generate-offspring-requires
-nsga3-generate-offspring-requires c κs = tt
+generate-offspring-requires : tie.Need-generate-offspring-requires
+generate-offspring-requires c κs = tt
 
 same-length : tie.Need-same-length
 same-length c = search needs
@@ -76,19 +76,19 @@ stepped-spec =
     tie.close
     (tie.spec
     mul-words
-    slice-aggregate-nsga3-generate-offspring
-    slice-aggregate-nsga3-generate-offspring-2
-    slice-relend-prefix-nsga3-generate-offspring
-    slice-aggregate-nsga3-generate-offspring-3
-    slice-relend-prefix-nsga3-generate-offspring-2
-    slice-aggregate-nsga3-generate-offspring-4
-    slice-relend-prefix-nsga3-generate-offspring-3
-    slice-aggregate-nsga3-generate-offspring-5
-    slice-relend-prefix-nsga3-generate-offspring-4
-    slice-aggregate-nsga3-generate-offspring-6
-    slice-relend-prefix-nsga3-generate-offspring-5
-    slice-aggregate-nsga3-generate-offspring-7
-    nsga3-generate-offspring-requires
+    slice-aggregate-generate-offspring
+    slice-aggregate-generate-offspring-2
+    slice-relend-prefix-generate-offspring
+    slice-aggregate-generate-offspring-3
+    slice-relend-prefix-generate-offspring-2
+    slice-aggregate-generate-offspring-4
+    slice-relend-prefix-generate-offspring-3
+    slice-aggregate-generate-offspring-5
+    slice-relend-prefix-generate-offspring-4
+    slice-aggregate-generate-offspring-6
+    slice-relend-prefix-generate-offspring-5
+    slice-aggregate-generate-offspring-7
+    generate-offspring-requires
     same-length
     same-length-2
     same-length-3

@@ -9,38 +9,38 @@ use Rattle.replay_kept.proofs.selection.Tie as tie
 mul-words : tie.Need-mul-words
 mul-words c = search needs
 
-slice-aggregate-nsga3-select : tie.Need-slice-aggregate-nsga3-select
-slice-aggregate-nsga3-select c = sym (length-take-le _ _ (omega arith))
+slice-aggregate-select : tie.Need-slice-aggregate-select
+slice-aggregate-select c = sym (length-take-le _ _ (omega arith))
 
-slice-aggregate-nsga3-select-2 : tie.Need-slice-aggregate-nsga3-select-2
-slice-aggregate-nsga3-select-2 c = sym (length-take-le _ _ (omega arith))
+slice-aggregate-select-2 : tie.Need-slice-aggregate-select-2
+slice-aggregate-select-2 c = sym (length-take-le _ _ (omega arith))
 
-slice-relend-prefix-nsga3-select : tie.Need-slice-relend-prefix-nsga3-select
-slice-relend-prefix-nsga3-select c = omega arith
+slice-relend-prefix-select : tie.Need-slice-relend-prefix-select
+slice-relend-prefix-select c = omega arith
 
-slice-aggregate-nsga3-select-3 : tie.Need-slice-aggregate-nsga3-select-3
-slice-aggregate-nsga3-select-3 c = sym (length-take-le _ _ (omega arith))
+slice-aggregate-select-3 : tie.Need-slice-aggregate-select-3
+slice-aggregate-select-3 c = sym (length-take-le _ _ (omega arith))
 
-slice-relend-prefix-nsga3-select-2 : tie.Need-slice-relend-prefix-nsga3-select-2
-slice-relend-prefix-nsga3-select-2 c = omega arith
+slice-relend-prefix-select-2 : tie.Need-slice-relend-prefix-select-2
+slice-relend-prefix-select-2 c = omega arith
 
-slice-aggregate-nsga3-select-4 : tie.Need-slice-aggregate-nsga3-select-4
-slice-aggregate-nsga3-select-4 c = sym (length-take-le _ _ (omega arith))
+slice-aggregate-select-4 : tie.Need-slice-aggregate-select-4
+slice-aggregate-select-4 c = sym (length-take-le _ _ (omega arith))
 
-slice-relend-prefix-nsga3-select-3 : tie.Need-slice-relend-prefix-nsga3-select-3
-slice-relend-prefix-nsga3-select-3 c = omega arith
+slice-relend-prefix-select-3 : tie.Need-slice-relend-prefix-select-3
+slice-relend-prefix-select-3 c = omega arith
 
-slice-aggregate-nsga3-select-5 : tie.Need-slice-aggregate-nsga3-select-5
-slice-aggregate-nsga3-select-5 c = sym (length-take-le _ _ (omega arith))
+slice-aggregate-select-5 : tie.Need-slice-aggregate-select-5
+slice-aggregate-select-5 c = sym (length-take-le _ _ (omega arith))
 
-slice-relend-prefix-nsga3-select-4 : tie.Need-slice-relend-prefix-nsga3-select-4
-slice-relend-prefix-nsga3-select-4 c = omega arith
+slice-relend-prefix-select-4 : tie.Need-slice-relend-prefix-select-4
+slice-relend-prefix-select-4 c = omega arith
 
-slice-aggregate-nsga3-select-6 : tie.Need-slice-aggregate-nsga3-select-6
-slice-aggregate-nsga3-select-6 c = sym (length-take-le _ _ (omega arith))
+slice-aggregate-select-6 : tie.Need-slice-aggregate-select-6
+slice-aggregate-select-6 c = sym (length-take-le _ _ (omega arith))
 
-nsga3-select-requires : tie.Need-nsga3-select-requires
-nsga3-select-requires c κs = tt
+select-requires : tie.Need-select-requires
+select-requires c κs = tt
 
 same-length : tie.Need-same-length
 same-length c = search needs
@@ -62,17 +62,17 @@ selection-spec =
     tie.close
     (tie.spec
     mul-words
-    slice-aggregate-nsga3-select
-    slice-aggregate-nsga3-select-2
-    slice-relend-prefix-nsga3-select
-    slice-aggregate-nsga3-select-3
-    slice-relend-prefix-nsga3-select-2
-    slice-aggregate-nsga3-select-4
-    slice-relend-prefix-nsga3-select-3
-    slice-aggregate-nsga3-select-5
-    slice-relend-prefix-nsga3-select-4
-    slice-aggregate-nsga3-select-6
-    nsga3-select-requires
+    slice-aggregate-select
+    slice-aggregate-select-2
+    slice-relend-prefix-select
+    slice-aggregate-select-3
+    slice-relend-prefix-select-2
+    slice-aggregate-select-4
+    slice-relend-prefix-select-3
+    slice-aggregate-select-5
+    slice-relend-prefix-select-4
+    slice-aggregate-select-6
+    select-requires
     same-length
     same-length-2
     same-length-3

@@ -31,7 +31,7 @@ add-calls : tie.Need-add-calls
 add-calls c = search needs
 
 calls-requires : tie.Need-calls-requires
-calls-requires c κs = (c .before .before .before .before .before .before .before .pre .1, search needs)
+calls-requires c κs = let k = c .before .before .before .before in (rw (k .enum-told .given .1) at (k .before .before .before .pre .1), search needs)
 
 returns-2 : tie.Need-returns-2
 returns-2 c = tt

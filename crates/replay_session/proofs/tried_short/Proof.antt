@@ -9,19 +9,37 @@ use Rattle.replay_session.proofs.tried_short.Statement.{statement}
 use Rattle.replay_session.proofs.tried_short.Tie as tie
 
 slice-aggregate-sampled : tie.Need-slice-aggregate-sampled
-slice-aggregate-sampled c = sym (length-replicate {A = ℕ} 65535 0)
+slice-aggregate-sampled c = sym (length-replicate {A = ℕ} 65535 7)
 
 slice-aggregate-sampled-2 : tie.Need-slice-aggregate-sampled-2
 slice-aggregate-sampled-2 c = search needs
 
 slice-aggregate-sampled-3 : tie.Need-slice-aggregate-sampled-3
-slice-aggregate-sampled-3 c = sym (length-replicate {A = ℕ} 2047 0)
+slice-aggregate-sampled-3 c = sym (length-replicate {A = ℕ} 2047 7)
 
 sampled-requires : tie.Need-sampled-requires
-sampled-requires c κs = (c .before .before .before .before .pre .0 _ _ _ (too-short _ _ _ _ (omega (arith, length-replicate {A = ℕ} 65535 0))), search needs)
+sampled-requires c κs = (c .before .before .before .before .pre .0 _ _ _ (too-short _ _ _ _ (omega (arith, length-replicate {A = ℕ} 65535 7))), search needs)
+
+slice-aggregate-sevens : tie.Need-slice-aggregate-sevens
+slice-aggregate-sevens c = search needs
+
+sevens-requires : tie.Need-sevens-requires
+sevens-requires c κs = tt
+
+slice-aggregate-next-sevens : tie.Need-slice-aggregate-next-sevens
+slice-aggregate-next-sevens c = search needs
+
+next-sevens-requires : tie.Need-next-sevens-requires
+next-sevens-requires c κs = tt
+
+same-numbers-requires : tie.Need-same-numbers-requires
+same-numbers-requires c κs = tt
 
 returns : tie.Need-returns
 returns c = tt
+
+returns-2 : tie.Need-returns-2
+returns-2 c = tt
 
 pub tried-short-spec : {M : Type 1} → statement M
 tried-short-spec =
@@ -31,4 +49,10 @@ tried-short-spec =
     slice-aggregate-sampled-2
     slice-aggregate-sampled-3
     sampled-requires
-    returns)
+    slice-aggregate-sevens
+    sevens-requires
+    slice-aggregate-next-sevens
+    next-sevens-requires
+    same-numbers-requires
+    returns
+    returns-2)

@@ -16,16 +16,16 @@ use Rattle.session_encoding.proofs.put_dimensions.Statement.{statement}
 use Rattle.session_encoding.proofs.put_dimensions.Tie as tie
 
 abbrev Inv-loop : tie.InvT-loop
-Inv-loop words₀ dims d₀ words d =
-    (d ≤ 32) × (length words ≡ length words₀) × (words ≡ sets words₀ 30 (joinBelow (λ i. dimensionWords (dimensionsOf dims i)) d))
+Inv-loop from words₀ dims d₀ words d =
+    (d ≤ 32) × (length words ≡ length words₀) × (words ≡ sets words₀ from (joinBelow (λ i. dimensionWords (dimensionsOf dims i)) d))
 
 abbrev μ-loop : tie.MeasureT-loop
-μ-loop words₀ dims d₀ words d = 32 - d
+μ-loop from words₀ dims d₀ words d = 32 - d
 
 loop-holds : tie.Need-loop-holds Inv-loop μ-loop
 loop-holds c =
     let a = c .before .args in
-    (omega arith, refl, ap (sets (a .words .now) 30) (sym (joinBelow-none _)))
+    (omega arith, refl, ap (sets (a .words .now) (a .from)) (sym (joinBelow-none _)))
 
 mul-info : tie.Need-mul-info Inv-loop μ-loop
 mul-info c = omega arith
@@ -63,9 +63,9 @@ loop-again c =
     let a = c .before .before .before .before .before .before .before .before .before .before .args in
     let f : ℕ → List ℕ = λ i. dimensionWords (dimensionsOf (a .t1) i) in
     let each : (d : ℕ) → length (f d) ≡ 6 = λ d. dimension-length (dimensionsOf (a .t1) d) in
-    let w = c .before .before .put .ensures ∙ ap₂ (λ x y. sets y (30 + l .d * 6) x) (c .before .before .before .before .before .dimension-words .ensures) (l .inv .2)
-    ∙ run-join f 6 each 30 (l .d) (a .words .now) in
-    (omega arith, ap length w ∙ length-sets (a .words .now) 30 (joinBelow f (l .d + 1)), w)
+    let w = c .before .before .put .ensures ∙ ap₂ (λ x y. sets y (a .from + l .d * 6) x) (c .before .before .before .before .before .dimension-words .ensures) (l .inv .2)
+    ∙ run-join f 6 each (a .from) (l .d) (a .words .now) in
+    (omega arith, ap length w ∙ length-sets (a .words .now) (a .from) (joinBelow f (l .d + 1)), w)
 
 same-length : tie.Need-same-length Inv-loop μ-loop
 same-length c = c .before .loop .inv .1
@@ -75,7 +75,7 @@ returns c =
     let l = c .before .loop in
     let a = c .before .before .before .args in
     let e : l .d ≡ 32 = omega arith in
-    l .inv .2 ∙ ap (λ x. sets (a .words .now) 30 (joinBelow (λ i. dimensionWords (dimensionsOf (a .t1) i)) x)) e
+    l .inv .2 ∙ ap (λ x. sets (a .words .now) (a .from) (joinBelow (λ i. dimensionWords (dimensionsOf (a .t1) i)) x)) e
 
 pub put-dimensions-spec : {M : Type 1} → statement M
 put-dimensions-spec =

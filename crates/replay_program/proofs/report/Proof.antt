@@ -1,8 +1,8 @@
 -- `report`. Assumes nothing.
 use Prim.Native.Nat.{_-_, _≤_}
 use borrow.Author.Needs.{needs}
-use Rattle.replay_main.proofs.report.Statement.{statement}
-use Rattle.replay_main.proofs.report.Tie as tie
+use Rattle.replay_program.proofs.report.Statement.{statement}
+use Rattle.replay_program.proofs.report.Tie as tie
 
 abbrev Inv-loop : tie.InvT-loop
 Inv-loop of r₀ r = r ≤ 12

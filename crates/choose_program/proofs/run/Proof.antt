@@ -1,23 +1,18 @@
--- `main`: what is read and what is written lie within their arrays
-use Prim.Native.Nat.{ℕ}
+-- `run`: what is read and what is written lie within their arrays
 use mathlib.Core.Path.{sym}
-use lib.ListN.{length-replicate}
 use lib.Seq.{length-take-le}
 use borrow.Author.Needs.{needs}
-use Rattle.choose.proofs.main.Statement.{statement}
-use Rattle.choose.proofs.main.Tie as tie
+use Rattle.choose_program.proofs.run.Statement.{statement}
+use Rattle.choose_program.proofs.run.Tie as tie
 
-slice-aggregate-read-input : tie.Need-slice-aggregate-read-input
-slice-aggregate-read-input c = sym (length-replicate {A = ℕ} 65537 0)
-
-read-input-requires : tie.Need-read-input-requires
-read-input-requires c κs = tt
+read-file-requires : tie.Need-read-file-requires
+read-file-requires c κs = tt
 
 array-share-prefix-buffer : tie.Need-array-share-prefix-buffer
-array-share-prefix-buffer c = c .before .read-input .ensures
+array-share-prefix-buffer c = c .read-file .ensures .within
 
 slice-aggregate-printed : tie.Need-slice-aggregate-printed
-slice-aggregate-printed c = let r = c .before .before .read-input in sym (length-take-le (r .result) (r .last .0) (r .ensures))
+slice-aggregate-printed c = let r = c .before .read-file in sym (length-take-le (r .result) (r .last .0) (r .ensures .within))
 
 printed-requires : tie.Need-printed-requires
 printed-requires c κs = tt
@@ -43,12 +38,11 @@ returns c = tt
 returns-2 : tie.Need-returns-2
 returns-2 c = tt
 
-pub main-spec : {M : Type 1} → statement M
-main-spec =
+pub run-spec : {M : Type 1} → statement M
+run-spec =
     tie.close
     (tie.spec
-    slice-aggregate-read-input
-    read-input-requires
+    read-file-requires
     array-share-prefix-buffer
     slice-aggregate-printed
     printed-requires

@@ -3,8 +3,8 @@ use Prim.Native.Nat.{_-_, _≤_}
 use native.Mathlib.Omega.{arith}
 use lib.ListN.{length}
 use borrow.Author.Needs.{needs}
-use Rattle.replay_main.proofs.replayed.Statement.{statement}
-use Rattle.replay_main.proofs.replayed.Tie as tie
+use Rattle.replay_program.proofs.replayed.Statement.{statement}
+use Rattle.replay_program.proofs.replayed.Tie as tie
 
 abbrev Inv-loop : tie.InvT-loop
 Inv-loop bytes tallies₀ at₀ tallies at = at ≤ length bytes

@@ -1,8 +1,8 @@
 -- `case`. Assumes nothing.
 use Rattle.replay.proofs.Positions.{both}
 use borrow.Author.Needs.{needs}
-use Rattle.replay_main.proofs.case.Statement.{statement}
-use Rattle.replay_main.proofs.case.Tie as tie
+use Rattle.replay_program.proofs.case.Statement.{statement}
+use Rattle.replay_program.proofs.case.Tie as tie
 
 read-line-requires : tie.Need-read-line-requires
 read-line-requires c κs = search needs
