@@ -8,7 +8,7 @@ use lib.Ieee.{Float, nan, binary64, lt, le, isNan, fits}
 use lib.Ieee.Fits.{inf-fits, cond-fits}
 use Rattle.model.specs.Real.{_⊗_, _⊘_, infinity}
 use Rattle.model.specs.Numbers.{sqrtOf}
-use Rattle.model.specs.Association.{dot, smallNorm, offSquares, distance, near, nearestOf, nearer}
+use Rattle.model.specs.Association.{dot, smallNorm, offSquares, squaresOf, distance, near, nearestOf, nearer}
 use Rattle.model.specs.Lists.{bestFrom}
 use Rattle.model.specs.Papers.DebJain2014.{perpendicular}
 use Rattle.list_laws.proofs.Bools.{by-bool, T-true, true-T, T-false, false-T}
@@ -19,7 +19,6 @@ use Rattle.float_laws.proofs.Sums.{sum-fits}
 use Rattle.real_laws.proofs.Roots.Nearest.{no-root}
 use Rattle.real_laws.proofs.Roots.Monotone.{sqrt-mono}
 use Rattle.real_laws.proofs.Roots.Apart.{nearlyOne, sqrt-apart}
-use Rattle.association_laws.specs.Flat.{squaresOf}
 use Rattle.association_laws.specs.Search.{Square, Found}
 use Rattle.list_laws.proofs.Best.{best-more}
 
@@ -27,8 +26,8 @@ use Rattle.list_laws.proofs.Best.{best-more}
 
 module _ (m : ℕ) (p r : ℕ → Float) where
   pub distance-root : distance m p r ≡ sqrtOf (squaresOf m p r)
-  unfolding distance squaresOf sqrtOf
-  distance-root = by-bool (lt (dot m r r) smallNorm) (λ e. rw e) (λ e. rw e)
+  unfolding distance
+  distance-root = refl
 
   module _ (norm : Float) (e : norm ≡ dot m r r) where
     pub squares-short : lt norm smallNorm ≡ true → squaresOf m p r ≡ infinity

@@ -7,7 +7,7 @@ use lib.Ieee.{Float, nan, inf, fin, binary64, up, down, lt, le, add, mul, isNan,
 use lib.Ieee.Fits.{mul-fits}
 use Rattle.model.specs.Real.{_⊕_, _⊗_, sumTo}
 use Rattle.model.specs.Numbers.{square}
-use Rattle.model.specs.Association.{dot, smallNorm}
+use Rattle.model.specs.Association.{dot, smallNorm, squaresOf}
 use Rattle.list_laws.proofs.Bools.{by-bool}
 use Rattle.float_laws.proofs.Order.{le→nlt, nlt→le}
 use Rattle.float_laws.proofs.Rounding.{unsigned, round-unsigned}
@@ -15,7 +15,6 @@ use Rattle.float_laws.proofs.Constants.{nought, nought-not-nan, unsigned-from}
 use Rattle.float_laws.proofs.Arithmetic.{add-from-zero}
 use Rattle.float_laws.proofs.Magnitude.{Within, within-not-nan}
 use Rattle.float_laws.proofs.Sums.{sum-fits}
-use Rattle.association_laws.specs.Flat.{squaresOf}
 use Rattle.association_laws.specs.Search.{Square}
 use Rattle.association_laws.proofs.Search.{squares-short, squares-long, squares-fit}
 
