@@ -38,13 +38,10 @@ module _ (m : ℕ) (p r : ℕ → Float) where
     unfolding squaresOf
     squares-long h = rw (← e, h)
 
-  pub distance-long : lt (dot m r r) smallNorm ≡ false → distance m p r ≡ sqrtOf (offSquares m p r (dot m p r ⊘ dot m r r))
-  distance-long h = distance-root ∙ ap sqrtOf (squares-long (dot m r r) refl h)
-
-  -- which is the paper's perpendicular distance
+  -- from a line that is not short it is the paper's perpendicular distance
   pub distance-perpendicular : lt (dot m r r) smallNorm ≡ false → distance m p r ≡ perpendicular m p r
   unfolding perpendicular
-  distance-perpendicular h = distance-long h
+  distance-perpendicular h = distance-root ∙ ap sqrtOf (squares-long (dot m r r) refl h)
 
 pub squares-fit : (m : ℕ) (p r : ℕ → Float) → T (fits binary64 (squaresOf m p r))
 unfolding squaresOf
