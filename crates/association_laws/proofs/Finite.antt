@@ -1,66 +1,81 @@
 -- THEOREM: every distance of a plan from a line of the table, of a request whose numbers refusal 8 lets pass and that has 1 to 8 objectives and 1 to 199
 -- divisions, is the paper's, no NaN and below infinity. Assumes nothing.
 use Prim.Native.Nat.{ℕ, _≤_, _<_}
-use mathlib.Core.Path.{_≡_}
+use mathlib.Core.Path.{_≡_, refl, sym, subst}
 use mathlib.Core.Bool.{true, false}
 use lib.Dec.{T, lit≤, lit<}
 use lib.Ieee.{Float, binary64, lt, le, ofBits, fits, isNan}
 use Rattle.model.specs.Real.{_⊗_, _⊘_, infinity}
 use Rattle.model.specs.Numbers.{sqrtOf}
-use Rattle.model.specs.Association.{Request, objectives, lineCount, normalised, coordinate, dot, offSquares, distance, distanceTo, smallNorm}
+use Rattle.model.specs.Association.{Request, objectives, lineCount, normalised, coordinate, dot, offSquares, squaresOf, distance, distanceTo, smallNorm}
 use Rattle.model.specs.Papers.DebJain2014.{perpendicular}
 use Rattle.list_laws.proofs.Bools.{T-true, T-false}
-use Rattle.float_laws.proofs.Order.{le-trans, le-not-nan, le-lt-trans}
-use Rattle.float_laws.proofs.Constants.{nought, one, exp2}
+use Rattle.float_laws.proofs.Order.{le-trans, le-not-nan, le-lt-trans, nlt→le}
+use Rattle.float_laws.proofs.Constants.{nought, nought-not-nan, one, exp2}
 use Rattle.float_laws.proofs.FromZero.{Upto, upto-within}
-use Rattle.float_laws.proofs.Magnitude.{Within, within-number, sub-within, mul-within, div-within, within-wider}
+use Rattle.float_laws.proofs.Magnitude.{Within, within-number, within-not-nan, sub-within, mul-within, div-within, within-wider}
 use Rattle.real_laws.proofs.Roots.Monotone.{sqrt-mono, sqrt-from-zero}
 use Rattle.association_laws.specs.Measurable.{Measurable}
-use Rattle.association_laws.proofs.Search.{distance-long, distance-perpendicular}
+use Rattle.association_laws.proofs.Search.{squares-long, distance-root, distance-perpendicular}
 use Rattle.association_laws.proofs.Within.{normalised-unit}
-use Rattle.association_laws.proofs.Squares.{squares-from-zero}
-use Rattle.float_laws.proofs.Sums.{product-unit, sum-within}
+use Rattle.association_laws.proofs.Squares.{squares-square}
+use Rattle.float_laws.proofs.Sums.{sum-within}
 use Rattle.association_laws.proofs.Coordinates.{sixtyFourth, usable}
 
--- ---- one point p and one line r of m coordinates within 0..1, of which the line is not short
+-- ---- a point p of m coordinates within 0..2 ^ k, for any k up to 100, and a line r of m coordinates within 0..1 that is not short
 
-closed : T (fits binary64 (exp2 38)) × T (lt (exp2 19) infinity)
+closed : T (fits binary64 (exp2 238)) × T (lt (exp2 119) infinity)
 unfolding fits lt
 closed = (tt, tt)
 
-root-top : T (le (sqrtOf (exp2 38)) (exp2 19))
+root-top : T (le (sqrtOf (exp2 238)) (exp2 119))
 unfolding sqrtOf le
 root-top = tt
 
-module _ (m : ℕ) (few : m ≤ 8) (p r : ℕ → Float) (P : (j : ℕ) → j < m → Upto one (p j)) (R : (j : ℕ) → j < m → Upto one (r j))
+module _ (m : ℕ) (few : m ≤ 8) (k : ℕ) (small : k ≤ 100) (p r : ℕ → Float) (P : (j : ℕ) → j < m → Upto (exp2 k) (p j)) (R : (j : ℕ) → j < m → Upto one (r j))
     (norm : T (le sixtyFourth (dot m r r))) (long : lt (dot m r r) smallNorm ≡ false) where
-  dot-within : (q : ℕ → Float) → ((j : ℕ) → j < m → Upto one (q j)) → Within 8 (dot m q r)
-  dot-within q Q = sum-within 0 (λ j. q j ⊗ r j) m 8 few (lit≤ tt) (λ j h. product-unit (q j) (r j) (Q j h) (R j h))
+  -- every bound below is that of k = 100
+  point-within : (j : ℕ) → j < m → Within 100 (p j)
+  point-within j h = within-wider k 100 (p j) small (upto-within k (p j) (P j h))
 
-  projected : Within 14 (dot m p r ⊘ dot m r r)
+  line-within : (j : ℕ) → j < m → Within 0 (r j)
+  line-within j h = upto-within 0 (r j) (R j h)
+
+  dot-within : (q : ℕ → Float) → ((j : ℕ) → j < m → Within 100 (q j)) → Within 108 (dot m q r)
+  dot-within q Q = sum-within 100 (λ j. q j ⊗ r j) m 8 few (lit≤ tt) (λ j h. mul-within 100 0 (q j) (r j) (lit≤ tt) (Q j h) (line-within j h))
+
+  projected : Within 114 (dot m p r ⊘ dot m r r)
   unfolding ofBits
-  projected = div-within 8 5 (dot m p r) (dot m r r) (lit< tt) (lit≤ tt) (dot-within p P) (within-number 8 (dot m r r) (dot-within r R)) norm
+  projected =
+      let own = dot-within r (λ j h. within-wider 0 100 (r j) (lit≤ tt) (line-within j h)) in
+      div-within 108 5 (dot m p r) (dot m r r) (lit< tt) (lit≤ tt) (dot-within p point-within) (within-number 108 (dot m r r) own) norm
 
-  off : Within 38 (offSquares m p r (dot m p r ⊘ dot m r r))
+  off : Within 238 (offSquares m p r (dot m p r ⊘ dot m r r))
   off =
       let t = dot m p r ⊘ dot m r r in
-      sum-within 30 _ m 8 few (lit≤ tt)
-      (λ j h. let d = sub-within 14 (p j) (t ⊗ r j) (lit≤ tt) (within-wider 0 14 (p j) (lit≤ tt) (upto-within 0 (p j) (P j h))) (mul-within 14 0 t (r j) (lit≤ tt) projected (upto-within 0 (r j) (R j h))) in
-      mul-within 15 15 _ _ (lit≤ tt) d d)
+      sum-within 230 _ m 8 few (lit≤ tt)
+      (λ j h. let d = sub-within 114 (p j) (t ⊗ r j) (lit≤ tt) (within-wider 100 114 (p j) (lit≤ tt) (point-within j h)) (mul-within 114 0 t (r j) (lit≤ tt) projected (line-within j h)) in
+      mul-within 115 115 _ _ (lit≤ tt) d d)
 
-  distance-bounds : T (le nought (distance m p r)) × T (le (distance m p r) (exp2 19))
+  squares-within : Within 238 (squaresOf m p r)
+  squares-within = subst (Within 238) (sym (squares-long m p r (dot m r r) refl long)) off
+
+  squares-from : T (le nought (squaresOf m p r))
+  squares-from = nlt→le (squaresOf m p r) nought (within-not-nan 238 (squaresOf m p r) squares-within) nought-not-nan (squares-square m p r .low)
+
+  distance-bounds : T (le nought (distance m p r)) × T (le (distance m p r) (exp2 119))
   distance-bounds =
-      let S = offSquares m p r (dot m p r ⊘ dot m r r) in
-      let low = squares-from-zero 38 _ m off in
-      rw (distance-long m p r long) (
-        sqrt-from-zero S (off .held) low,
-        le-trans (sqrtOf S) (sqrtOf (exp2 38)) (exp2 19) (sqrt-mono S (exp2 38) (off .held) (closed .0) low (off .high)) root-top,
+      let S = squaresOf m p r in
+      let w = squares-within in
+      rw (distance-root m p r) (
+        sqrt-from-zero S (w .held) squares-from,
+        le-trans (sqrtOf S) (sqrtOf (exp2 238)) (exp2 119) (sqrt-mono S (exp2 238) (w .held) (closed .0) squares-from (w .high)) root-top,
       )
 
   distance-number : (isNan (distance m p r) ≡ false) × (lt (distance m p r) infinity ≡ true)
   distance-number = (
     T-false (isNan (distance m p r)) (le-not-nan nought (distance m p r) (distance-bounds .0) .1),
-    T-true (lt (distance m p r) infinity) (le-lt-trans (distance m p r) (exp2 19) infinity (distance-bounds .1) (closed .1)),
+    T-true (lt (distance m p r) infinity) (le-lt-trans (distance m p r) (exp2 119) infinity (distance-bounds .1) (closed .1)),
   )
 
 -- ---- a request
@@ -72,10 +87,10 @@ module _ (r : Request) (wide : 1 ≤ objectives r) (narrow : objectives r ≤ 8)
   distanceTo-perpendicular p l k =
       distance-perpendicular (objectives r) (normalised r p) (coordinate r l) (usable (objectives r) (r .divisions) l wide narrow some few k .notSmall)
 
-  -- THEOREM: no distance is a NaN, and each is below infinity
+  -- THEOREM: no distance is a NaN, and each is below infinity: normalised values lie within 0..2 ^ 0
   pub distanceTo-number : Measurable r → (p : ℕ) → p < r .count → (l : ℕ) → l < lineCount r
       → (isNan (distanceTo r p l) ≡ false) × (lt (distanceTo r p l) infinity ≡ true)
   unfolding distanceTo coordinate
   distanceTo-number M p h l k =
       let u = usable (objectives r) (r .divisions) l wide narrow some few k in
-      distance-number (objectives r) narrow (normalised r p) (coordinate r l) (λ j g. normalised-unit r M p j h g) (u .inUnit) (u .norm) (u .notSmall)
+      distance-number (objectives r) narrow 0 (lit≤ tt) (normalised r p) (coordinate r l) (λ j g. normalised-unit r M p j h g) (u .inUnit) (u .norm) (u .notSmall)

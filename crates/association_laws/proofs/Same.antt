@@ -5,7 +5,7 @@ use mathlib.Core.Bool.{cond}
 use lib.Ieee.{Float, lt}
 use Rattle.model.specs.Real.{_⊖_, _⊗_, _⊘_, infinity}
 use Rattle.model.specs.Numbers.{sqrtOf, square}
-use Rattle.model.specs.Association.{dot, offSquares, distance, smallNorm, near, nearestOf, nearer}
+use Rattle.model.specs.Association.{dot, offSquares, squaresOf, distance, smallNorm, near, nearestOf, nearer}
 use Rattle.float_laws.proofs.Sums.{sum-same}
 use Rattle.list_laws.proofs.Best.{best-same}
 
@@ -19,9 +19,13 @@ module _ (m : ℕ) (p q r s : ℕ → Float) (f : (j : ℕ) → j < m → p j �
   off-same : (t u : Float) → t ≡ u → offSquares m p r t ≡ offSquares m q s u
   off-same t u e = sum-same _ _ m (λ j h. ap square (ap₂ (λ x y. x ⊖ y) (f j h) (ap₂ (λ x y. x ⊗ y) e (g j h))))
 
-pub distance-same : (m : ℕ) (p q r s : ℕ → Float) → ((j : ℕ) → j < m → p j ≡ q j) → ((j : ℕ) → j < m → r j ≡ s j) → distance m p r ≡ distance m q s
-unfolding distance
-distance-same m p q r s f g =
+pub squares-same : (m : ℕ) (p q r s : ℕ → Float) → ((j : ℕ) → j < m → p j ≡ q j) → ((j : ℕ) → j < m → r j ≡ s j) → squaresOf m p r ≡ squaresOf m q s
+unfolding squaresOf
+squares-same m p q r s f g =
     let norm = dot-same m r s r s g g in
     let t = ap₂ (λ x y. x ⊘ y) (dot-same m p q r s f g) norm in
-    ap₂ (λ n x. cond (lt n smallNorm) infinity (sqrtOf x)) norm (off-same m p q r s f g _ _ t)
+    ap₂ (λ n x. cond (lt n smallNorm) infinity x) norm (off-same m p q r s f g _ _ t)
+
+pub distance-same : (m : ℕ) (p q r s : ℕ → Float) → ((j : ℕ) → j < m → p j ≡ q j) → ((j : ℕ) → j < m → r j ≡ s j) → distance m p r ≡ distance m q s
+unfolding distance
+distance-same m p q r s f g = ap sqrtOf (squares-same m p q r s f g)

@@ -8,7 +8,7 @@ use lib.Ieee.{Float, nan, binary64, lt, le, isNan, fits}
 use lib.Ieee.Fits.{inf-fits, cond-fits}
 use Rattle.model.specs.Real.{_⊗_, _⊘_, infinity}
 use Rattle.model.specs.Numbers.{sqrtOf}
-use Rattle.model.specs.Association.{dot, smallNorm, offSquares, distance, near, nearestOf, nearer}
+use Rattle.model.specs.Association.{dot, smallNorm, offSquares, squaresOf, distance, near, nearestOf, nearer}
 use Rattle.model.specs.Lists.{bestFrom}
 use Rattle.model.specs.Papers.DebJain2014.{perpendicular}
 use Rattle.list_laws.proofs.Bools.{by-bool, T-true, true-T, T-false, false-T}
@@ -19,7 +19,6 @@ use Rattle.float_laws.proofs.Sums.{sum-fits}
 use Rattle.real_laws.proofs.Roots.Nearest.{no-root}
 use Rattle.real_laws.proofs.Roots.Monotone.{sqrt-mono}
 use Rattle.real_laws.proofs.Roots.Apart.{nearlyOne, sqrt-apart}
-use Rattle.association_laws.specs.Flat.{squaresOf}
 use Rattle.association_laws.specs.Search.{Square, Found}
 use Rattle.list_laws.proofs.Best.{best-more}
 
@@ -27,8 +26,8 @@ use Rattle.list_laws.proofs.Best.{best-more}
 
 module _ (m : ℕ) (p r : ℕ → Float) where
   pub distance-root : distance m p r ≡ sqrtOf (squaresOf m p r)
-  unfolding distance squaresOf sqrtOf
-  distance-root = by-bool (lt (dot m r r) smallNorm) (λ e. rw e) (λ e. rw e)
+  unfolding distance
+  distance-root = refl
 
   module _ (norm : Float) (e : norm ≡ dot m r r) where
     pub squares-short : lt norm smallNorm ≡ true → squaresOf m p r ≡ infinity
@@ -39,13 +38,10 @@ module _ (m : ℕ) (p r : ℕ → Float) where
     unfolding squaresOf
     squares-long h = rw (← e, h)
 
-  pub distance-long : lt (dot m r r) smallNorm ≡ false → distance m p r ≡ sqrtOf (offSquares m p r (dot m p r ⊘ dot m r r))
-  distance-long h = distance-root ∙ ap sqrtOf (squares-long (dot m r r) refl h)
-
-  -- which is the paper's perpendicular distance
+  -- from a line that is not short it is the paper's perpendicular distance
   pub distance-perpendicular : lt (dot m r r) smallNorm ≡ false → distance m p r ≡ perpendicular m p r
   unfolding perpendicular
-  distance-perpendicular h = distance-long h
+  distance-perpendicular h = distance-root ∙ ap sqrtOf (squares-long (dot m r r) refl h)
 
 pub squares-fit : (m : ℕ) (p r : ℕ → Float) → T (fits binary64 (squaresOf m p r))
 unfolding squaresOf

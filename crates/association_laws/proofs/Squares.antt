@@ -3,19 +3,17 @@ use Prim.Native.Nat.{ℕ, zero, suc, _*_}
 use mathlib.Core.Path.{refl, sym, subst}
 use mathlib.Core.Bool.{true, false, not}
 use lib.Dec.{T}
-use lib.Ieee.{Float, nan, inf, fin, binary64, up, down, lt, le, add, mul, isNan, ofBits, fits}
+use lib.Ieee.{Float, nan, inf, fin, binary64, up, down, lt, add, mul, isNan, ofBits, fits}
 use lib.Ieee.Fits.{mul-fits}
 use Rattle.model.specs.Real.{_⊕_, _⊗_, sumTo}
 use Rattle.model.specs.Numbers.{square}
-use Rattle.model.specs.Association.{dot, smallNorm}
+use Rattle.model.specs.Association.{dot, smallNorm, squaresOf}
 use Rattle.list_laws.proofs.Bools.{by-bool}
 use Rattle.float_laws.proofs.Order.{le→nlt, nlt→le}
 use Rattle.float_laws.proofs.Rounding.{unsigned, round-unsigned}
 use Rattle.float_laws.proofs.Constants.{nought, nought-not-nan, unsigned-from}
 use Rattle.float_laws.proofs.Arithmetic.{add-from-zero}
-use Rattle.float_laws.proofs.Magnitude.{Within, within-not-nan}
 use Rattle.float_laws.proofs.Sums.{sum-fits}
-use Rattle.association_laws.specs.Flat.{squaresOf}
 use Rattle.association_laws.specs.Search.{Square}
 use Rattle.association_laws.proofs.Search.{squares-short, squares-long, squares-fit}
 
@@ -52,10 +50,6 @@ sum-squares-low : (f : ℕ → Float) (n : ℕ) → T (not (lt (sumTo (λ j. squ
 unfolding sumTo
 sum-squares-low f zero = unfold lt ofBits in tt
 sum-squares-low f (suc n) = add-low (sumTo (λ j. square (f j)) n) (square (f n)) (sum-fits _ n) (mul-fits binary64 (f n) (f n)) (sum-squares-low f n) (square-low (f n))
-
--- so their sum is from 0 up where it is a number
-pub squares-from-zero : (k : ℕ) (f : ℕ → Float) (n : ℕ) → Within k (sumTo (λ j. square (f j)) n) → T (le nought (sumTo (λ j. square (f j)) n))
-squares-from-zero k f n w = nlt→le _ nought (within-not-nan k _ w) nought-not-nan (sum-squares-low f n)
 
 pub squares-square : (m : ℕ) (p r : ℕ → Float) → Square (squaresOf m p r)
 squares-square m p r = record { held = squares-fit m p r; low = low }

@@ -29,10 +29,6 @@ use Rattle.association_laws.proofs.Request.{normalised-at}
 
 -- ---- what the tests of refusal 8 say of a double
 
-pub within-measured : (x : Float) → Within 1000 x → measurable x ≡ true
-unfolding measurable ofBits
-within-measured x w = and-both _ _ (T-true (le (minus-exp2 1000) x) (w .low)) (T-true (le x (exp2 1000)) (w .high))
-
 -- a double from -2 ^ 1000 up, plus infinity among them
 record Start (x : Float) : Type 0 where
   held : T (fits binary64 x)

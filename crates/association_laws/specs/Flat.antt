@@ -1,14 +1,13 @@
 -- Document 01's association over flat lists: plan p's value at objective j is entry p * m + j of its rows, coordinate j of line l entry l * m + j of its table.
 use Prim.Native.Nat.{ℕ, _*_, _<_}
 use mathlib.Core.Path.{_≡_}
-use mathlib.Core.Bool.{cond}
 use mathlib.Core.List.{List}
-use lib.Ieee.{Float, nan, lt}
+use lib.Ieee.{Float, nan}
 use lib.ListN.{getD}
 use Rattle.model.specs.Lists.{listBelow, over}
-use Rattle.model.specs.Real.{_⊖_, _⊘_, infinity}
+use Rattle.model.specs.Real.{_⊖_, _⊘_}
 pub use Rattle.front_laws.specs.Flat.{from, rowAt}
-use Rattle.model.specs.Association.{leastFrom, greatest, interceptFrom, dot, offSquares, smallNorm, distance, Near, nearestOf}
+use Rattle.model.specs.Association.{leastFrom, greatest, interceptFrom, dot, distance, Near, nearestOf}
 
 -- the values of objective j, plan by plan
 abbrev pub column : List Float → ℕ → ℕ → ℕ → Float
@@ -25,10 +24,6 @@ interceptAt rows n m ideal j = interceptFrom (greatest (column rows m j) n ⊖ g
 -- plan p's normalised value at objective j
 abbrev pub normalAt : List Float → ℕ → List Float → List Float → ℕ → ℕ → Float
 normalAt rows m ideal intercepts p j = (column rows m j p ⊖ getD ideal j nan) ⊘ getD intercepts j nan
-
--- the square of a distance, before its root is taken
-unfoldable pub squaresOf : ℕ → (ℕ → Float) → (ℕ → Float) → Float
-squaresOf m p r = cond (lt (dot m r r) smallNorm) infinity (offSquares m p r (dot m p r ⊘ dot m r r))
 
 -- r·r of line l of a table, and a list that holds it for each of the first n lines
 abbrev pub normAt : List Float → ℕ → ℕ → Float

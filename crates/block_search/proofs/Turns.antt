@@ -9,12 +9,12 @@ use lib.ListN.{length, getD, set}
 use Rattle.model.specs.Lists.{anyBelow}
 use Rattle.model.specs.Real.{_⊗_, infinity}
 use Rattle.model.specs.Numbers.{sqrtOf}
-use Rattle.model.specs.Association.{smallNorm}
+use Rattle.model.specs.Association.{smallNorm, squaresOf}
 use Rattle.list_laws.proofs.Bools.{by-bool, and-fails}
 use Rattle.list_laws.proofs.Built.{over-below}
 use Rattle.list_laws.proofs.Tests.{anyBelow-each}
 use Rattle.list_laws.proofs.Stores.{set-cases}
-use Rattle.association_laws.specs.Flat.{rowAt, normAt, squaresOf}
+use Rattle.association_laws.specs.Flat.{rowAt, normAt}
 use Rattle.association_laws.specs.Search.{Square, Found}
 use Rattle.association_laws.proofs.Search.{distance-root, squares-short, found-clear, found-farther}
 use Rattle.association_laws.proofs.Squares.{squares-square}

@@ -8,11 +8,10 @@ use lib.Ieee.{Float, nan, lt}
 use lib.ListN.{getD}
 use Rattle.model.specs.Lists.{listBelow, over}
 use Rattle.model.specs.Real.{_⊕_, _⊘_, sumTo}
-use Rattle.model.specs.Association.{dot, offSquares, smallNorm}
+use Rattle.model.specs.Association.{dot, offSquares, squaresOf, smallNorm}
 use Rattle.list_laws.proofs.Built.{over-below}
 use Rattle.list_laws.proofs.Rows.{row-within}
 use Rattle.float_laws.proofs.Sums.{sum-none, sum-more}
-use Rattle.association_laws.specs.Flat.{squaresOf}
 use Rattle.association_laws.proofs.Search.{squares-long}
 use Rattle.columns.specs.Block.{planAt, quotient, Each, Empty, Dots, OffSquares, LineSquares}
 

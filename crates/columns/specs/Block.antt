@@ -6,8 +6,8 @@ use lib.Ieee.{Float, nan}
 use lib.ListN.{getD}
 use Rattle.model.specs.Real.{_⊕_, _⊖_, _⊗_, _⊘_, minusNought}
 use Rattle.model.specs.Numbers.{square}
-use Rattle.model.specs.Association.{dot, offSquares}
-use Rattle.association_laws.specs.Flat.{from, rowAt, squaresOf}
+use Rattle.model.specs.Association.{dot, offSquares, squaresOf}
+use Rattle.association_laws.specs.Flat.{from, rowAt}
 
 -- the most plans of a block
 abbrev pub maxBlock : ℕ

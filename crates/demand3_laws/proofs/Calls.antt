@@ -105,25 +105,20 @@ module _ (r : Request) (words : (p : ℕ) → InWords (r .plans p)) where
 
 -- ---- `sample`
 
--- the objectives and divisions of the selection that a session makes
+-- the objectives and divisions of the selection that a session makes, which is accepted where 8 does not apply
 module _ (st : State) (history : List ℕ) (ok : SessionOk st) where
-  request-objectives : objectives (requestOf st history) ≡ st .session .config .«n_obj»
+  pub request-objectives : objectives (requestOf st history) ≡ st .session .config .«n_obj»
   request-objectives = omega (arith, length-take (st .session .config .«n_obj») (st .session .config .directions), ok .config .objectives)
 
   pub request-divisions : badDivisions (objectives (requestOf st history)) (st .session .config .divisions) ≡ false
   request-divisions = rw request-objectives (ok .config .divisions)
 
+  pub request-accepted : badPool (requestOf st history) ≡ false → Accepted (requestOf st history)
+  request-accepted pool = word-accepted (requestOf st history) (planAt-row (bredFrom st history)) (ok .config .directions) request-divisions pool
+
 -- the list of the selection that it makes, where a call breeds
 pub sample-demand3 : (st : State) (d : Distribution) (plan : ℕ) (history : List ℕ) → SessionOk st → sampleRefusal st d plan history ≡ none → breeds st history ≡ true
     → Demand3 (requestOf st history) (selected (requestOf st history) .kept)
 sample-demand3 st d plan history ok e bred =
-    demand3 r (word-accepted r words (ok .config .directions) (request-divisions st history ok) pool) (omega arith)
-  where
-    r : Request
-    r = requestOf st history
-
-    words : (p : ℕ) → InWords (r .plans p)
-    words p = planAt-row (bredFrom st history) p
-
-    pool : badPool r ≡ false
-    pool = rw bred at (sample-passed st d plan history e .pool)
+    let pool : badPool (requestOf st history) ≡ false = rw bred at (sample-passed st d plan history e .pool) in
+    demand3 (requestOf st history) (request-accepted st history ok pool) (omega arith)

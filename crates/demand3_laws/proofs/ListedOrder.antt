@@ -33,7 +33,7 @@ unfolding add sub mul div lt le eq ofBits ofInt neg Deb.undominatedOfRest Deb.in
     Lists.allIn Lists.tally Real.sumTo Numbers.grown Numbers.rootIn Numbers.wholeRoot Numbers.closer Numbers.nearRoot Numbers.rooted Numbers.sqrtOf Row.rowOf
     Row.dominates Row.feasible Row.violation Row.constrainedDominates Row.beats Reference.tuples Reference.dasDennis Reference.binomial
     Reference.pointCount Lists.bestFrom Association.idealOf Association.interceptOf Association.normalised
-    Association.coordinate Association.distance Association.distanceTo Association.association Cases.planWith Cases.requestWith
+    Association.coordinate Association.squaresOf Association.distance Association.distanceTo Association.association Cases.planWith Cases.requestWith
     Cases.example
 computed = record { wanted = refl; pool = refl; first = refl; second = refl; member = refl; inOrder = refl; other = refl }
 

@@ -5,8 +5,8 @@ ghost use mathlib.Core.Path.{_≡_};
 ghost use Prim.Native.Nat.{_+_, _*_, _≤_};
 ghost use lib.ListN.{length};
 ghost use Rattle.model.specs.Lists.{listBelow, over};
-ghost use Rattle.model.specs.Association.{dot, offSquares, distance};
-ghost use Rattle.association_laws.specs.Flat.{from, squaresOf, normAt, NormsIn};
+ghost use Rattle.model.specs.Association.{dot, offSquares, squaresOf, distance};
+ghost use Rattle.association_laws.specs.Flat.{from, normAt, NormsIn};
 
 // The sum of the products of m entries, from left to right.
 fn dot_product(a: &[f64], i: usize, b: &[f64], k: usize, m: usize) -> f64

@@ -1,21 +1,21 @@
--- Sums, from left to right: term by term, of doubles within a power of two, and of doubles from 0 up, of which each is at most the sum; products of doubles
--- within 0..1. Assumes nothing.
+-- Sums, from left to right: term by term, of doubles within a power of two, and of doubles from 0 up, of which each is at most the sum.
+-- Assumes nothing.
 use Prim.Native.Nat.{ℕ, zero, suc, _+_, _≤_, _<_, zero-le}
 use mathlib.Core.Path.{_≡_, refl, ap, ap₂, sym, subst, _∙_}
 use native.Mathlib.Nat.{not-suc-le-zero, add-zero, add-suc}
 use native.Mathlib.Numerals.{add-one}
 use native.Mathlib.Omega.{arith}
-use lib.Dec.{T, lit≤}
+use lib.Dec.{T}
 use lib.Ieee.{Float, binary64, add, le, ofBits, fits}
 use lib.Ieee.Fits.{add-fits}
 use Rattle.list_laws.proofs.Below.{same-below, last-or}
-use Rattle.model.specs.Real.{_⊕_, _⊗_, minusNought, sumTo}
+use Rattle.model.specs.Real.{_⊕_, minusNought, sumTo}
 use Rattle.float_laws.proofs.Units.{Number}
 use Rattle.float_laws.proofs.Order.{le-trans}
-use Rattle.float_laws.proofs.Constants.{nought, nought-number, one, exp2}
+use Rattle.float_laws.proofs.Constants.{nought, nought-number, exp2}
 use Rattle.float_laws.proofs.Arithmetic.{add-from-zero, left-below-sum, right-below-sum}
 use Rattle.float_laws.proofs.FromZero.{Upto, upto-within, add-upto}
-use Rattle.float_laws.proofs.Magnitude.{Within, within-number, within-wider, add-within, mul-within}
+use Rattle.float_laws.proofs.Magnitude.{Within, within-number, within-wider, add-within}
 
 pub sum-none : (f : ℕ → Float) → sumTo f 0 ≡ minusNought
 unfolding sumTo
@@ -36,9 +36,6 @@ sum-fits f zero = tt
 sum-fits f (suc n) = add-fits binary64 (sumTo f n) (f n)
 
 -- ---- within powers of two
-
-pub product-unit : (x y : Float) → Upto one x → Upto one y → Within 0 (x ⊗ y)
-product-unit x y u v = mul-within 0 0 x y (lit≤ tt) (upto-within 0 x u) (upto-within 0 y v)
 
 nought-within : Within 0 minusNought
 unfolding ofBits fits le

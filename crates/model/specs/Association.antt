@@ -87,9 +87,13 @@ dot m p r = sumTo (λ j. p j ⊗ r j) m
 abbrev pub offSquares : ℕ → (ℕ → Float) → (ℕ → Float) → Float → Float
 offSquares m p r t = sumTo (λ j. square (p j ⊖ (t ⊗ r j))) m
 
--- ".. root taken; r·r below 1e-30 gives infinity"
+-- "r·r below 1e-30 gives infinity": the sum of squares for p·r / r·r, whose root is the distance
+unfoldable pub squaresOf : ℕ → (ℕ → Float) → (ℕ → Float) → Float
+squaresOf m p r = cond (lt (dot m r r) smallNorm) infinity (offSquares m p r (dot m p r ⊘ dot m r r))
+
+-- ".. root taken"; the root of infinity is infinity
 unfoldable pub distance : ℕ → (ℕ → Float) → (ℕ → Float) → Float
-distance m p r = cond (lt (dot m r r) smallNorm) infinity (sqrtOf (offSquares m p r (dot m p r ⊘ dot m r r)))
+distance m p r = sqrtOf (squaresOf m p r)
 
 -- plan p's distance from line l
 unfoldable pub distanceTo : Request → ℕ → ℕ → Float

@@ -10,7 +10,7 @@ use Rattle.model.specs.declared.ParamValue.the-variants as value
 use Rattle.model.specs.declared.Distribution.{Distribution}
 use Rattle.model.specs.declared.Distribution.the-variants as dist
 use Rattle.model.specs.Lists.{keepBelow}
-use Rattle.model.specs.Real.{nought, half, unit, infinity, _⊘_}
+use Rattle.model.specs.Real.{nought, half, unit, infinity}
 use Rattle.model.specs.Draw.{drawn, step, drawWord}
 use Rattle.model.specs.Numbers.{roundOf, R}
 use Rattle.model.specs.Plan.{Plan, Setting, measuredPlan}
@@ -18,7 +18,7 @@ use Rattle.model.specs.Row.{dominates, feasible, constrainedDominates}
 use Rattle.model.specs.Front.{front, frontOf}
 use Rattle.model.specs.Papers.Deb2002.{inFront}
 use Rattle.model.specs.Reference.{dasDennis, lattice, pointCount, autoDivisions}
-use Rattle.model.specs.Association.{Request, smallSpan, dominance, interceptOf, normalised, coordinate, dot, offSquares, nearestOf, lineOf}
+use Rattle.model.specs.Association.{Request, smallSpan, dominance, interceptOf, normalised, coordinate, squaresOf, nearestOf, lineOf}
 use Rattle.model.specs.Kept.{before, splitFront, openLines, leastLines, nicheCount, selected}
 use Rattle.model.specs.Setting.{extract, sortByParam, crossover, children, rankOf}
 use Rattle.model.specs.PoolFile.{written, ascii}
@@ -137,10 +137,7 @@ nearTie = requestWith 2 2 (planWith (nought ∷ unit ∷ []) []
 
 -- the sum of squares of plan 2's distance from a line
 abbrev pub squaresTo : ℕ → Float
-squaresTo l =
-    let p = normalised nearTie 2 in
-    let r = coordinate nearTie l in
-    offSquares 2 p r (dot 2 p r ⊘ dot 2 r r)
+squaresTo l = squaresOf 2 (normalised nearTie 2) (coordinate nearTie l)
 
 -- (0,1), (1,0), (1.5,0.5) and (0.5,1.5): plan 3 is freed by plan 0, plan 2 only later by plan 1
 unfoldable pub freedLater : Request

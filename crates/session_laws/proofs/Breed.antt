@@ -1,24 +1,26 @@
--- Breeding keeps the session property: the pool is as large as the size, so no front is split and the ideal stays; the offspring lie within their bounds.
+-- Breeding keeps the session property: the ideal that its selection leaves is good, and the offspring lie within their bounds. The pool is as large as the
+-- size, so no front is split.
 use Prim.Native.Nat.{ℕ, suc, _≤_}
-use mathlib.Core.Path.{_≡_, refl, ap, _∙_}
-use mathlib.Core.Bool.{Bool, false, _&&_}
-use mathlib.Core.List.{List, _++_}
+use mathlib.Core.Path.{_≡_, ap, ap₂, sym, _∙_}
+use mathlib.Core.Bool.{Bool, true, false, _&&_}
+use mathlib.Core.List.{List}
 use native.Mathlib.Omega.{arith}
 use lib.Dec.{ltb}
-use lib.Ieee.{Float}
-use lib.ListN.{length, take, drop, take-append-drop}
+use lib.ListN.{length, take}
 use borrow.Author.Tests.{le-ltb}
 use Rattle.list_laws.proofs.First.{firstBelow-nowhere}
 use Rattle.front_laws.proofs.Order.{listing-room}
 use Rattle.model.specs.Lists.{over}
 use Rattle.model.specs.Association.{Request, dominance}
-use Rattle.model.specs.Kept.{Selected, exceedsSize, wholeFronts, before, isSplit, selectedWhole, selected}
-use Rattle.model.specs.Setting.{Operators, Generation, generation, generationOf, wordsOf}
+use Rattle.model.specs.Kept.{Selected, exceedsSize, wholeFronts, before, isSplit, selected}
+use Rattle.model.specs.Setting.{Generation, generation, generationOf, wordsOf}
 use Rattle.model.specs.Session.{State, state, dimensionOf, bredSession, breed, bredBy, requestOf, operatorsOf}
-use Rattle.model.specs.Refusal.{goodIdeal, badParents}
+use Rattle.model.specs.Refusal.{goodIdeal, badPool, badParents}
 use Rattle.model.specs.Property.{SessionOk}
+use Rattle.list_laws.proofs.Built.{over-take}
 use Rattle.list_laws.proofs.Checks.{good-ideal-length}
-use Rattle.demand3_laws.proofs.Calls.{generation-many, generation-selects}
+use Rattle.demand3_laws.proofs.Accepted.{selected-ideal}
+use Rattle.demand3_laws.proofs.Calls.{generation-many, generation-selects, request-objectives, request-accepted}
 use Rattle.candidate_laws.proofs.Sound.{AllHeld}
 use Rattle.candidate_laws.proofs.Generations.{generation-words}
 use Rattle.session_laws.proofs.Steps.{renewed-ok}
@@ -35,14 +37,6 @@ module _ (r : Request) (whole : r .size ≡ r .count) where
   unfolding isSplit
   whole-pool = ap (λ (b : Bool). b && ltb (length (before r)) (r .size)) (le-ltb (wholeFronts r) (r .count) (omega (arith, all-fronts)))
 
-  -- so the ideal stays
-  pub whole-ideal : selected r .ideal ≡ r .ideal
-  unfolding selected selectedWhole
-  whole-ideal = rw whole-pool
-
-  pub generation-ideal : (o : Operators) → 2 ≤ r .count → generation o r .selection .ideal ≡ r .ideal
-  generation-ideal o two = ap (λ (s : Selected). s .ideal) (generation-selects o r two) ∙ whole-ideal
-
 -- ---- breeding
 
 -- it is from the selection's kept list, as a session's size is above one plan
@@ -53,22 +47,26 @@ breed-kept st history ok =
     ap (λ (g : Generation). state (bredSession s (g .state) (over (g .selection .ideal) (s .«ideal_point»))) (over (wordsOf (g .offspring)) (st .candidates)) (st .plans) (st .nextDims))
     (generation-many (operatorsOf s) (requestOf st history) (omega (arith, ok .config .atLeast4)))
 
-module _ (st : State) (history : List ℕ) (ok : SessionOk st) where
-  -- the ideal as it was, entry for entry
-  pub breed-ideal : breed st history .session .«ideal_point» ≡ st .session .«ideal_point»
+-- 8 does not apply to the pool bred from
+module _ (st : State) (history : List ℕ) (ok : SessionOk st) (pool : badPool (requestOf st history) ≡ false) where
+  -- so the ideal that its selection leaves is good, and it is put in front
+  breed-ideal : goodIdeal (st .session .config .«n_obj») (take (st .session .config .«n_obj») (breed st history .session .«ideal_point»)) ≡ true
   unfolding breed
   breed-ideal =
-      ap (λ (l : List Float). over l (st .session .«ideal_point»)) (generation-ideal (requestOf st history) refl (operatorsOf (st .session)) (omega (arith, ok .config .atLeast4)))
-      ∙ ap (λ (n : ℕ). take (st .session .config .«n_obj») (st .session .«ideal_point») ++ drop n (st .session .«ideal_point»)) (good-ideal-length (st .session .config .«n_obj») _ (ok .ideal))
-      ∙ take-append-drop (st .session .config .«n_obj») (st .session .«ideal_point»)
+      let m = st .session .config .«n_obj» in
+      let r = requestOf st history in
+      let ideal = generation (operatorsOf (st .session)) r .selection .ideal in
+      let left = ap (λ (s : Selected). s .ideal) (generation-selects (operatorsOf (st .session)) r (omega (arith, ok .config .atLeast4))) in
+      let good : goodIdeal m ideal ≡ true =
+      ap₂ goodIdeal (sym (request-objectives st history ok)) left ∙ selected-ideal r (request-accepted st history ok pool) in
+      ap (goodIdeal m) (over-take ideal (st .session .«ideal_point») m (good-ideal-length m ideal good)) ∙ good
 
-  -- 9 does not apply to the plans bred from
+  -- nor 9 to the plans
   module _ (some : 1 ≤ st .session .progress .«n_dims») (held : AllHeld (dimensionOf (st .session)) (st .session .progress .«n_dims»))
       (parents : badParents (operatorsOf (st .session)) (requestOf st history) ≡ false) where
     pub breed-ok : SessionOk (breed st history)
     unfolding breed
     breed-ok =
         let g = generation (operatorsOf (st .session)) (requestOf st history) in
-        renewed-ok st (g .state) _ _ (wordsOf (g .offspring)) ok some
-        (ap (λ (l : List Float). goodIdeal (st .session .config .«n_obj») (take (st .session .config .«n_obj») l)) breed-ideal ∙ ok .ideal)
+        renewed-ok st (g .state) _ _ (wordsOf (g .offspring)) ok some breed-ideal
         (generation-words (operatorsOf (st .session)) (requestOf st history) held (ok .dimensions) parents (st .candidates))

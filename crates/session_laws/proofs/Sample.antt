@@ -86,9 +86,10 @@ module _ (st : State) (d : Distribution) (plan : ℕ) (history : List ℕ) (ok :
     unfolding breed
     bred-ready h =
         let some = phase-ok st Active ok (active-phase (st .session .phase) (breeds-active st history h)) .someDimension in
+        let pool = and-fails (breeds st history) _ (sample-passed st d plan history e .pool) h in
         let parents = and-fails (breeds st history) _ (sample-passed st d plan history e .parents) h in
         record {
-          ok = breed-ok st history ok some held parents;
+          ok = breed-ok st history ok pool some held parents;
           active = refl;
           long = renewed-long st _ (wordsOf _) lengths;
           room = λ new. omega arith;

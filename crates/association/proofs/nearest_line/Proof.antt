@@ -5,8 +5,8 @@ use native.Mathlib.Nat.{zero-mul, one-mul, add-mul}
 use native.Mathlib.Omega.{arith}
 use lib.Ieee.{div, ofBits}
 use Rattle.model.specs.Numbers.{sqrtOf}
-use Rattle.model.specs.Association.{dot}
-use Rattle.association_laws.specs.Flat.{from, squaresOf, distanceAt}
+use Rattle.model.specs.Association.{dot, squaresOf}
+use Rattle.association_laws.specs.Flat.{from, distanceAt}
 use Rattle.association_laws.specs.Search.{Square, Found}
 use Rattle.list_laws.proofs.Rows.{row-inside}
 use Rattle.association_laws.proofs.Search.{distance-root, found-none}

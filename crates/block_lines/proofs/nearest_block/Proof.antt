@@ -15,11 +15,27 @@ use Rattle.block_lines.proofs.nearest_block.Tie as tie
 small : (c : tie.Start) → c .args .m * c .args .len ≤ 1024
 small c = mul-le-mul {n₂ = maxObjectives} {m₂ = maxBlock} (omega arith) (omega arith)
 
+-- ---- the places, each from the next: the call starts, the columns are laid, searched, and what is found is handed out
+
+abbrev start : tie.After-x → tie.Start
+start c = c .before .before .before .before .before .before
+
+abbrev laid : tie.After-best → tie.After-lay
+laid c = c .before .before .before .before
+
+abbrev searched : tie.After-hand-out-arg2 → tie.After-search
+searched c = c .before .before .before .before .before .before
+
+abbrev handed : tie.After-slice-known4 → tie.After-hand-out
+handed c = c .before .before .before .before
+
+-- ---- the needs
+
 slice-aggregate-lay : tie.Need-slice-aggregate-lay
 slice-aggregate-lay c = refl
 
 lay-requires : tie.Need-lay-requires
-lay-requires c κs = (omega arith, small (c .before .before .before .before .before .before))
+lay-requires c κs = (omega arith, small (start c))
 
 slice-aggregate-search : tie.Need-slice-aggregate-search
 slice-aggregate-search c = search needs
@@ -33,7 +49,7 @@ slice-aggregate-search-3 c = refl
 search-requires : tie.Need-search-requires
 unfolding div ofBits
 search-requires c κs =
-    let e = c .before .before .before .before .before .before .before .before .before .before .before in
+    let e = start (laid c .before) in
     let s = small e in
     (omega arith, omega arith, omega arith, omega arith, e .pre .5, omega arith, omega arith, start-found _ _ maxBlock (omega arith))
 
@@ -54,11 +70,10 @@ same-length-2 c = search needs
 
 returns : tie.Need-returns
 returns c =
-    let handed = c .before .before .before .before in
-    let searched = handed .before .before .before .before .before .before .before in
-    let laid = searched .before .before .before .before .before in
-    let a = laid .before .before .before .before .before .before .before .args in
-    block-handed (a .points .now) (a .m) (a .start) (a .len) _ _ (a .table .now) (a .n-lines) (laid .lay .ensures) _ _ _ _ _ _ (searched .search .ensures) (handed .hand-out .ensures)
+    let found = searched (handed c .before) in
+    let block = laid (found .before) in
+    let a = start (block .before) .args in
+    block-handed (a .points .now) (a .m) (a .start) (a .len) _ _ (a .table .now) (a .n-lines) (block .lay .ensures) _ _ _ _ _ _ (found .search .ensures) (handed c .hand-out .ensures)
 
 pub nearest-block-spec : {M : Type 1} → statement M
 nearest-block-spec =

@@ -17,6 +17,19 @@ Inv-loop points n m table n-lines norms known lines₀ distances₀ start₀ lin
 abbrev μ-loop : tie.MeasureT-loop
 μ-loop points n m table n-lines norms known lines₀ distances₀ start₀ lines distances start = n - start
 
+-- ---- the places, each from the next: the call starts, a turn of the loop, and a block that is handed out
+
+abbrev entry : tie.At-loop Inv-loop μ-loop → tie.Start Inv-loop μ-loop
+entry c = c .before .before .before .before .before .before
+
+abbrev turn : tie.After-nearest-block-arg2 Inv-loop μ-loop → tie.At-loop Inv-loop μ-loop
+turn c = c .before .before .before .before
+
+abbrev handed : tie.After-slice-known4 Inv-loop μ-loop → tie.After-nearest-block Inv-loop μ-loop
+handed c = c .before .before .before .before
+
+-- ---- the needs
+
 loop-holds : tie.Need-loop-holds Inv-loop μ-loop
 loop-holds c = (omega arith, refl, refl, record { line = sym (over-none _ _); distance = sym (over-none _ _) })
 
@@ -28,10 +41,10 @@ block-length-requires c κs = tt
 
 nearest-block-requires : tie.Need-nearest-block-requires Inv-loop μ-loop
 nearest-block-requires c κs =
-    let a = c .before .before .before .before .before .before .before .before .before .before .args in
-    let l = c .before .before .before .before .loop in
+    let a = entry (turn c) .args in
+    let l = turn c .loop in
     let h : l .start + c .before .before .block-length .result ≤ a .n = omega arith in
-    (omega (arith, mul-le-mul-right (a .m) h), omega arith, omega arith, omega arith, omega arith, c .before .before .before .before .before .before .before .before .before .before .pre .4, omega arith, omega arith)
+    (omega (arith, mul-le-mul-right (a .m) h), omega arith, omega arith, omega arith, omega arith, entry (turn c) .pre .4, omega arith, omega arith)
 
 add-start : tie.Need-add-start Inv-loop μ-loop
 add-start c = omega arith
@@ -41,9 +54,9 @@ loop-less c = omega arith
 
 loop-again : tie.Need-loop-again Inv-loop μ-loop
 loop-again c =
-    let l = c .before .before .before .before .before .before .before .before .before .loop in
-    let a = c .before .before .before .before .before .before .before .before .before .before .before .before .before .before .before .args in
-    let f = c .before .before .before .before .nearest-block in (
+    let l = turn (handed c .before) .loop in
+    let a = entry (turn (handed c .before)) .args in
+    let f = handed c .nearest-block in (
       omega arith,
       f .kept .1 .1 .1 .1 .1 .1 .1 .1 .0 ∙ l .inv .1,
       f .kept .1 .1 .1 .1 .1 .1 .1 .1 .1 .0 ∙ l .inv .2,
@@ -59,7 +72,7 @@ same-length-2 c = c .before .loop .inv .2
 returns : tie.Need-returns Inv-loop μ-loop
 returns c =
     let l = c .before .loop in
-    let e : l .start ≡ c .before .before .before .before .before .before .before .args .n = omega arith in
+    let e : l .start ≡ entry (c .before) .args .n = omega arith in
     rw e at (l .inv .3)
 
 pub nearest-by-blocks-spec : {M : Type 1} → statement M

@@ -5,8 +5,9 @@ use lib.Ieee.{nan, neg, ofBits}
 use lib.ListN.{length, length-set}
 use Rattle.model.specs.Lists.{listBelow, over}
 use Rattle.model.specs.Real.{sumTo}
+use Rattle.model.specs.Association.{squaresOf}
 use Rattle.list_laws.proofs.Built.{over-none, over-set, over-below}
-use Rattle.association_laws.specs.Flat.{from, squaresOf}
+use Rattle.association_laws.specs.Flat.{from}
 use Rattle.association_laws.proofs.Search.{squares-long}
 use Rattle.columns.specs.Block.{planAt}
 use native.Mathlib.Omega.{arith}

@@ -22,6 +22,22 @@ at s = lent (s .args .kept .now) (s .args .fronts .now) (s .args .lines .now)
 held : (s : tie.Start) → badDimensions (dimensionsOf (s .args .dimensions)) (s .args .n-dims) ≡ false → AllHeld (dimensionsOf (s .args .dimensions)) (s .args .n-dims)
 held s = dimensions-held (s .args .dimensions) _ (s .good .1 .1 .1 .1 .1 .0) (s .args .n-dims)
 
+-- ---- the places, each from the next: the call starts, is checked, is found good, and the step is made
+
+abbrev start : tie.After-refusal → tie.Start
+start c = c .before .before .before .before .before .before .before .before .before
+
+abbrev asked : tie.After-enum-told → tie.After-refusal
+asked c = c .before .before
+
+abbrev good : tie.After-step-arg5 → tie.After-enum-told
+good c = c .before .before .before .before .before
+
+abbrev stepped : tie.After-slice-known10 → tie.After-step
+stepped c = c .before .before .before .before .before .before .before .before .before .before
+
+-- ---- the needs
+
 refusal-requires : tie.Need-refusal-requires
 refusal-requires c κs = tt
 
@@ -32,17 +48,19 @@ enum-told : tie.Need-enum-told
 enum-told c = search needs
 
 step-requires : tie.Need-step-requires
-step-requires c κs = sym (sym (ap checked (c .before .before .before .before .before .enum-told .given .1)) ∙ c .before .before .before .before .before .before .before .refusal .ensures)
+step-requires c κs = sym (sym (ap checked (good c .enum-told .given .1)) ∙ asked (good c) .refusal .ensures)
 
 same-length : tie.Need-same-length
 same-length c = search needs
 
 returns : tie.Need-returns
 returns c =
-    let s = c .before .before .before .before .before .before .before .before .before .before .before .before in
+    let told = c .before in
+    let checks = told .before .before in
+    let s = start checks in
     let a = s .args in
     refused-so (ops s) (a .pool .now) (a .directions .now) (a .divisions) (a .size) (a .rng) (a .ideal .now) (at s) (a .offspring .now) (held s) _
-    (sym (ap checked (c .before .check .given .1)) ∙ c .before .before .before .refusal .ensures)
+    (sym (ap checked (told .check .given .1)) ∙ checks .refusal .ensures)
 
 same-length-2 : tie.Need-same-length-2
 same-length-2 c = search needs
@@ -61,10 +79,11 @@ same-length-6 c = search needs
 
 returns-2 : tie.Need-returns-2
 returns-2 c =
-    let s = c .before .before .before .before .before .before .before .before .before .before .before .before .before .before .before .before .before .before .before .before .before .before .before .before .before .before .before in
+    let told = good (stepped c .before) in
+    let s = start (asked told) in
     let a = s .args in
     stepped-so (ops s) (a .pool .now) (a .directions .now) (a .divisions) (a .size) (a .rng) (a .ideal .now) (at s) (a .offspring .now) (held s)
-    (sym (ap checked (c .before .before .before .before .before .before .before .before .before .before .before .before .before .before .before .before .enum-told .given .1)) ∙ c .before .before .before .before .before .before .before .before .before .before .before .before .before .before .before .before .before .before .refusal .ensures) _ (c .before .before .before .before .before .before .before .before .before .before .step .ensures)
+    (sym (ap checked (told .enum-told .given .1)) ∙ asked told .refusal .ensures) _ (stepped c .step .ensures)
 
 pub nsga3-generate-offspring-spec : {M : Type 1} → statement M
 nsga3-generate-offspring-spec =

@@ -31,6 +31,29 @@ room s = length (s .args .offspring .now)
 abbrev given : (s : tie.Start) → Passed (ops s) (request s) (roomOf (at s)) (room s)
 given s = passed (ops s) (request s) (roomOf (at s)) (room s) (s .pre)
 
+-- ---- the places, each from the next
+
+-- the call starts, and the plans are counted
+abbrev start : tie.After-plan-count → tie.Start
+start c = c .before .before .before .before .before .before .before .before
+
+-- a pool of one: every setting is drawn
+abbrev one : tie.After-sample-candidates-arg → tie.Then1
+one c = c .before
+
+abbrev drawn : tie.After-slice-known6 → tie.After-sample-candidates
+drawn c = c .before .before
+
+-- a pool of two or more: the plans to breed from are selected, and bred from
+abbrev more : tie.After-nsga3-select → tie.Else1
+more c = c .before .before .before .before .before
+
+abbrev selected : tie.After-breed-arg2 → tie.After-nsga3-select
+selected c = c .before .before .before .before .before .before .before .before .before .before
+
+abbrev bred : tie.After-slice-known11 → tie.After-breed
+bred c = c .before .before
+
 -- ---- a pool of one
 
 plan-count-requires : tie.Need-plan-count-requires
@@ -38,7 +61,7 @@ plan-count-requires c κs = tt
 
 sample-candidates-requires : tie.Need-sample-candidates-requires
 sample-candidates-requires c κs =
-    let s = c .before .before .before .before .before .before .before .before .before .before in
+    let s = start (one c .before) in
     (given s .dimensions, offspring-room (given s))
 
 same-length : tie.Need-same-length
@@ -46,26 +69,27 @@ same-length c = search needs
 
 returns : tie.Need-returns
 returns c =
-    let s = c .before .before .before .before .before .before .before .before .before .before .before .before .before in
+    let t = one (drawn c .before) in
+    let s = start (t .before) in
     let a = s .args in
-    let d = c .before .before .sample-candidates in
+    let d = drawn c .sample-candidates in
     one-exit (ops s) (a .pool .now) (a .directions .now) (a .divisions) (a .size) (a .rng) (a .ideal .now) (at s) (a .offspring .now)
-    (omega (arith, c .before .before .before .before .before .plan-count .ensures, c .before .before .before .before .if1 .taken)) _ _ (d .ensures .0) (d .ensures .1)
+    (omega (arith, t .before .plan-count .ensures, t .if1 .taken)) _ _ (d .ensures .0) (d .ensures .1)
 
 -- ---- a pool of two or more
 
 nsga3-select-requires : tie.Need-nsga3-select-requires
 nsga3-select-requires c κs = tt
 
-two : (c : tie.Else1) → 2 ≤ planCount (c .before .before .before .before .before .before .before .before .before .args .pool .now)
+two : (c : tie.Else1) → 2 ≤ planCount (start (c .before) .args .pool .now)
 two c = omega (arith, c .before .plan-count .ensures, c .if1 .left)
 
 breed-requires : tie.Need-breed-requires
 breed-requires c κs =
-    let s = c .before .before .before .before .before .before .before .before .before .before .before .before .before .before .before .before .before .before .before .before .before .before .before .before in
+    let s = start (more (selected c) .before) in
     let a = s .args in
-    let h = two (c .before .before .before .before .before .before .before .before .before .before .before .before .before .before .before) in
-    let n = c .before .before .before .before .before .before .before .before .before .before .nsga3-select in
+    let h = two (more (selected c)) in
+    let n = selected c .nsga3-select in
     let e = select-exit (ops s) (a .pool .now) (a .directions .now) (a .divisions) (a .size) (a .rng) (a .ideal .now) (at s) (a .offspring .now) (s .pre) h _ (n .ensures) in
     let ok = given s in
     let kept : length (n .last .1 .1 .1 .1 .1 .1 .0) ≡ length (a .kept .now) = n .kept .1 .1 .1 .1 .1 .1 .0 in (
@@ -101,11 +125,12 @@ same-length-6 c = search needs
 
 returns-2 : tie.Need-returns-2
 returns-2 c =
-    let s = c .before .before .before .before .before .before .before .before .before .before .before .before .before .before .before .before .before .before .before .before .before .before .before .before .before .before .before in
+    let n = selected (bred c .before) in
+    let s = start (more n .before) in
     let a = s .args in
-    let h = two (c .before .before .before .before .before .before .before .before .before .before .before .before .before .before .before .before .before .before) in
-    let b = c .before .before .breed in
-    let e = select-exit (ops s) (a .pool .now) (a .directions .now) (a .divisions) (a .size) (a .rng) (a .ideal .now) (at s) (a .offspring .now) (s .pre) h _ (c .before .before .before .before .before .before .before .before .before .before .before .before .before .nsga3-select .ensures) in
+    let h = two (more n) in
+    let b = bred c .breed in
+    let e = select-exit (ops s) (a .pool .now) (a .directions .now) (a .divisions) (a .size) (a .rng) (a .ideal .now) (at s) (a .offspring .now) (s .pre) h _ (n .nsga3-select .ensures) in
     bred-exit (ops s) (a .pool .now) (a .directions .now) (a .divisions) (a .size) (a .rng) (a .ideal .now) (at s) (a .offspring .now) (s .pre) h _ e _ _ (b .ensures .0) (b .ensures .1)
 
 pub step-spec : {M : Type 1} → statement M

@@ -36,11 +36,11 @@ same-length-5 c = search needs
 
 returns : tie.Need-returns
 returns c =
-    let a = c .before .before .before .before .before .before .before .before .before .before .before .before .before .before .before .before .before .before .before .before .before .before .before .before .before .before .before .before .before .before .args in
-    let e =
-    ap (λ x. operators x (dimensionCount (a .dimensions .now)) (a .crossover-prob) (a .crossover-eta) (a .mutation-eta))
-    (c .before .before .before .before .before .before .before .before .before .before .before .before .before .before .before .before .before .before .before .before .before .dimensions-of-words .ensures) in
-    step-coded _ _ _ _ _ _ _ _ _ e (c .before .before .before .before .before .before .before .before .before .before .before .before .before .before .nsga3-generate-offspring .ensures) (c .before .count .ensures) (c .code .ensures)
+    let called = c .before .before .before .before .before .before .before .before .before .before .before .before .before .before in
+    let read = called .before .before .before .before .before .before .before in
+    let a = read .before .before .before .before .before .before .before .before .before .args in
+    let e = ap (λ x. operators x (dimensionCount (a .dimensions .now)) (a .crossover-prob) (a .crossover-eta) (a .mutation-eta)) (read .dimensions-of-words .ensures) in
+    step-coded _ _ _ _ _ _ _ _ _ e (called .nsga3-generate-offspring .ensures) (c .before .count .ensures) (c .code .ensures)
 
 pub generate-offspring-words-spec : {M : Type 1} → statement M
 generate-offspring-words-spec =

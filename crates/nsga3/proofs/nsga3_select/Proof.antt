@@ -5,6 +5,22 @@ use borrow.Author.Needs.{needs}
 use Rattle.nsga3.proofs.nsga3_select.Statement.{statement}
 use Rattle.nsga3.proofs.nsga3_select.Tie as tie
 
+-- ---- the places, each from the next: the call starts, is checked, is found good, and the selection is made
+
+abbrev start : tie.After-refusal → tie.Start
+start c = c .before .before .before .before .before .before .before .before
+
+abbrev asked : tie.After-enum-told → tie.After-refusal
+asked c = c .before .before
+
+abbrev good : tie.After-select-arg4 → tie.After-enum-told
+good c = c .before .before .before .before
+
+abbrev selected : tie.After-slice-known8 → tie.After-select
+selected c = c .before .before .before .before .before .before .before .before
+
+-- ---- the needs
+
 refusal-requires : tie.Need-refusal-requires
 refusal-requires c κs = tt
 
@@ -16,18 +32,21 @@ enum-told c = search needs
 
 select-requires : tie.Need-select-requires
 select-requires c κs =
-    let a = c .before .before .before .before .before .before .before .before .before .before .before .before .before .before .args in
+    let told = good c in
+    let a = start (asked told) .args in
     limits-kept (a .pool .now) (a .directions .now) (a .divisions) (a .size) (a .rng) (a .ideal .now) (lent (a .kept .now) (a .fronts .now) (a .lines .now))
-    (c .before .before .before .before .before .before .refusal .ensures) (c .before .before .before .before .enum-told .given .1)
+    (asked told .refusal .ensures) (told .enum-told .given .1)
 
 same-length : tie.Need-same-length
 same-length c = search needs
 
 returns : tie.Need-returns
 returns c =
-    let a = c .before .before .before .before .before .before .before .before .before .before .before .args in
+    let check = c .before in
+    let asks = check .before .before in
+    let a = start asks .args in
     refused (a .pool .now) (a .directions .now) (a .divisions) (a .size) (a .rng) (a .ideal .now) (lent (a .kept .now) (a .fronts .now) (a .lines .now))
-    (c .before .before .before .refusal .ensures) _ (c .before .check .given .1)
+    (asks .refusal .ensures) _ (check .check .given .1)
 
 same-length-2 : tie.Need-same-length-2
 same-length-2 c = search needs
@@ -43,10 +62,10 @@ same-length-5 c = search needs
 
 returns-2 : tie.Need-returns-2
 returns-2 c =
-    let a = c .before .before .before .before .before .before .before .before .before .before .before .before .before .before .before .before .before .before .before .before .before .before .before .args in
+    let told = good (selected c .before) in
+    let a = start (asked told) .args in
     selected-so (a .pool .now) (a .directions .now) (a .divisions) (a .size) (a .rng) (a .ideal .now) (lent (a .kept .now) (a .fronts .now) (a .lines .now))
-    (c .before .before .before .before .before .before .before .before .before .before .before .before .before .before .before .refusal .ensures)
-    (c .before .before .before .before .before .before .before .before .before .before .before .before .before .enum-told .given .1) _ (c .before .before .before .before .before .before .before .before .select .ensures)
+    (asked told .refusal .ensures) (told .enum-told .given .1) _ (selected c .select .ensures)
 
 pub nsga3-select-spec : {M : Type 1} → statement M
 nsga3-select-spec =

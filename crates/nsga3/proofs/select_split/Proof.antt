@@ -18,17 +18,58 @@ use Rattle.nsga3.proofs.select_split.Tie as tie
 abbrev request : tie.Start → Request
 request s = wordRequest (s .args .pool .now) (s .args .directions .now) (s .args .divisions) (s .args .size) (s .args .rng) (s .args .ideal .now)
 
+-- ---- the places, each from the next: the call starts, the plans are counted, the table filled, the plans associated, the whole fronts copied, and the rest picked
+
+abbrev start : tie.After-plan-count → tie.Start
+start c = c .before .before .before .before .before .before .before .before
+
+abbrev counted : tie.After-das-dennis → tie.After-plan-count
+counted c = c .before .before
+
+abbrev tabled : tie.After-distances → tie.After-das-dennis
+tabled c = c .before .before .before .before .before
+
+abbrev joined : tie.After-copy-first-arg → tie.After-associate
+joined c = c .before .before .before .before .before .before
+
+abbrev copied : tie.After-distances3 → tie.After-copy-first
+copied c = c .before .before .before .before
+
+abbrev picked : tie.After-slice-known7 → tie.After-niching-select
+picked c = c .before .before
+
+-- ---- the same from further on
+
+abbrev start-joined : tie.After-associate → tie.Start
+start-joined c = start (counted (tabled (c .before)))
+
+abbrev start-copied : tie.After-copy-first → tie.Start
+start-copied c = start-joined (joined (c .before))
+
+abbrev copied-last : tie.After-slice-known7 → tie.After-copy-first
+copied-last c = copied (picked c .before .before)
+
+-- ---- what they leave
+
 -- what the call of `associate` leaves, in the request's words
 associated : (c : tie.After-associate) →
     let a = c .associate in
-    let s = c .before .before .before .before .before .before .before .before .before .before .before .before .before .before .before .before in
-    Associates (request s) (c .before .before .before .before .before .before .before .before .plan-count .result) (objectives (request s)) (s .args .ideal .now) (a .last .1 .1 .1 .1 .1 .0) (s .args .lines .now) (a .last .1 .1 .1 .1 .1 .1 .0) (replicate 1024 (ofBits binary64 0)) (a .last .1 .1 .1 .1 .1 .1 .1 .0)
+    let s = start-joined c in
+    Associates (request s) (counted (tabled (c .before)) .plan-count .result) (objectives (request s)) (s .args .ideal .now) (a .last .1 .1 .1 .1 .1 .0) (s .args .lines .now) (a .last .1 .1 .1 .1 .1 .1 .0) (replicate 1024 (ofBits binary64 0)) (a .last .1 .1 .1 .1 .1 .1 .1 .0)
 associated c =
-    let s = c .before .before .before .before .before .before .before .before .before .before .before .before .before .before .before .before in
-    let d = c .before .before .before .before .before .before .das-dennis in
-    let e = c .before .before .before .before .before .before .before .before .plan-count .ensures in
+    let s = start-joined c in
+    let d = tabled (c .before) .das-dennis in
+    let e = counted (tabled (c .before)) .plan-count .ensures in
     c .associate .ensures (request s)
     (pool-rows (s .pre .0) _ e) (λ j h. refl) (lines-at (request s) (s .pre .0 .limits .wide) _ (d .ensures .0) _ _ (d .ensures .1)) (d .ensures .0)
+
+-- the whole fronts are within the kept list
+whole-fits : (c : tie.After-copy-first) → start-copied c .args .cut .whole ≤ length (c .copy-first .last .1 .1 .0)
+whole-fits c =
+    let s = start-copied c in
+    omega (arith, s .pre .0 .listed .cut .fits, s .pre .0 .limits .kept, c .copy-first .kept .1 .1 .0)
+
+-- ---- the needs
 
 plan-count-requires : tie.Need-plan-count-requires
 plan-count-requires c κs = tt
@@ -38,7 +79,7 @@ slice-aggregate-das-dennis c = search needs
 
 das-dennis-requires : tie.Need-das-dennis-requires
 das-dennis-requires c κs =
-    let ok = c .before .before .before .before .before .before .before .before .before .pre .0 .limits in
+    let ok = start (c .before) .pre .0 .limits in
     ((ok .wide, ok .narrow, ok .divided, ok .coarse), few-values _ _ (ok .fewLines) (ok .narrow))
 
 slice-aggregate-associate : tie.Need-slice-aggregate-associate
@@ -49,10 +90,10 @@ slice-aggregate-associate-2 c = search needs
 
 associate-requires : tie.Need-associate-requires
 associate-requires c κs =
-    let s = c .before .before .before .before .before .before .before .before .before .before .before .before .before .before .before in
+    let s = start (counted (tabled c)) in
     let ok = s .pre .0 .limits in
-    let e = c .before .before .before .before .before .before .before .plan-count .ensures in
-    let d = c .before .before .before .before .before .das-dennis in
+    let e = counted (tabled c) .plan-count .ensures in
+    let d = tabled c .das-dennis in
     let size : length (d .last .1 .1 .0) ≡ 8192 = d .kept .1 .1 .0 in (
       ok .narrow,
       few-values _ _ (omega (arith, e, ok .fewPlans)) (ok .narrow),
@@ -65,67 +106,65 @@ associate-requires c κs =
 
 copy-first-requires : tie.Need-copy-first-requires
 copy-first-requires c κs =
-    let s = c .before .before .before .before .before .before .before .before .before .before .before .before .before .before .before .before .before .before .before .before .before .before in
+    let s = start-joined (joined c) in
     let o = s .pre .0 .listed in
     (omega (arith, o .cut .ahead, o .cut .within, o .places), omega (arith, o .cut .fits, s .pre .0 .limits .kept))
-
--- the whole fronts are within the kept list
-whole-fits : (c : tie.After-copy-first) → let s = c .before .before .before .before .before .before .before .before .before .before .before .before .before .before .before .before .before .before .before .before .before .before .before in
-    s .args .cut .whole ≤ length (c .copy-first .last .1 .1 .0)
-whole-fits c =
-    let s = c .before .before .before .before .before .before .before .before .before .before .before .before .before .before .before .before .before .before .before .before .before .before .before in
-    omega (arith, s .pre .0 .listed .cut .fits, s .pre .0 .limits .kept, c .copy-first .kept .1 .1 .0)
 
 slice-aggregate-niching-select : tie.Need-slice-aggregate-niching-select
 slice-aggregate-niching-select c = search needs
 
 sub-niching-select : tie.Need-sub-niching-select
-sub-niching-select c = c .before .before .before .before .before .before .before .before .before .before .before .before .before .before .before .before .before .before .before .before .before .before .before .before .before .before .before .pre .0 .listed .cut .fits
+sub-niching-select c = start-copied (copied c) .pre .0 .listed .cut .fits
 
 mul-niching-select : tie.Need-mul-niching-select
-mul-niching-select c = let s = c .before .before .before .before .before .before .before .before .before .before .before .before .before .before .before .before .before .before .before .before .before .before .before .before .before .before .before in record { fits = omega (arith, s .pre .0 .listed .cut .fits, s .pre .0 .limits .few) }
+mul-niching-select c = let s = start-copied (copied c) in record { fits = omega (arith, s .pre .0 .listed .cut .fits, s .pre .0 .limits .few) }
 
 sub-niching-select-2 : tie.Need-sub-niching-select-2
-sub-niching-select-2 c = whole-fits (c .before .before .before .before)
+sub-niching-select-2 c = whole-fits (copied c)
 
 part-niching-select-start : tie.Need-part-niching-select-start
-part-niching-select-start c = whole-fits (c .before .before .before .before)
+part-niching-select-start c = whole-fits (copied c)
 
 part-niching-select-end : tie.Need-part-niching-select-end
 part-niching-select-end c = search needs
 
 niching-select-requires : tie.Need-niching-select-requires
 niching-select-requires c κs =
-    let s = c .before .before .before .before .before .before .before .before .before .before .before .before .before .before .before .before .before .before .before .before .before .before .before .before .before .before .before .before in
+    let copy = copied (c .before) in
+    let join = joined (copy .before) in
+    let table = tabled (join .before) in
+    let s = start (counted table) in
     let ok = s .pre .0 .limits in
-    let o = s .pre .0 .listed in
-    let a = c .before .before .before .before .before .before .before .before .before .before .before .before .associate in
-    let f = c .before .before .before .before .before .copy-first in
+    let a = join .associate in
+    let f = copy .copy-first in
     let far : length (a .last .1 .1 .1 .1 .1 .1 .1 .0) ≡ 1024 = a .kept .1 .1 .1 .1 .1 .1 .1 .0 in
-    splits (s .pre .0) (s .pre .1) _ _ (c .before .before .before .before .before .before .before .before .before .before .before .before .before .before .before .before .before .before .before .before .plan-count .ensures) (c .before .before .before .before .before .before .before .before .before .before .before .before .before .before .before .before .before .before .das-dennis .ensures .0) _ _ _ _ _ _ (associated (c .before .before .before .before .before .before .before .before .before .before .before .before)) _
+    splits (s .pre .0) (s .pre .1) _ _ (counted table .plan-count .ensures) (table .das-dennis .ensures .0) _ _ _ _ _ _ (associated join) _
     (omega (arith, a .kept .1 .1 .1 .1 .1 .1 .0, ok .lines)) (omega (arith, far, ok .fewPlans))
     (omega (arith, mid-len (s .args .cut .whole) (length (f .last .1 .1 .0)) (f .last .1 .1 .0) (omega arith), f .kept .1 .1 .0, ok .kept))
 
 same-length : tie.Need-same-length
-same-length c = c .before .before .before .before .before .before .before .before .before .before .before .before .before .before .before .associate .kept .1 .1 .1 .1 .1 .0
+same-length c = joined (copied-last c .before) .associate .kept .1 .1 .1 .1 .1 .0
 
 same-length-2 : tie.Need-same-length-2
 same-length-2 c =
-    let f = c .before .before .before .before .before .before .before .before .copy-first in
-    let p = c .before .before .niching-select in
-    let w = c .before .before .before .before .before .before .before .before .before .before .before .before .before .before .before .before .before .before .before .before .before .before .before .before .before .before .before .before .before .before .before .args .cut .whole in
+    let f = copied-last c .copy-first in
+    let p = picked c .niching-select in
+    let w = start-copied (copied-last c) .args .cut .whole in
     same-len-mid w (length (f .last .1 .1 .0) - w) (f .last .1 .1 .0) (p .last .1 .1 .1 .1 .1 .1 .1 .1 .0) (p .kept .1 .1 .1 .1 .1 .1 .1 .1 .0) ∙ f .kept .1 .1 .0
 
 same-length-3 : tie.Need-same-length-3
-same-length-3 c = c .before .before .before .before .before .before .before .before .before .before .before .before .before .before .before .associate .kept .1 .1 .1 .1 .1 .1 .0
+same-length-3 c = joined (copied-last c .before) .associate .kept .1 .1 .1 .1 .1 .1 .0
 
 returns : tie.Need-returns
 returns c =
-    let s = c .before .before .before .before .before .before .before .before .before .before .before .before .before .before .before .before .before .before .before .before .before .before .before .before .before .before .before .before .before .before .before in
+    let copy = copied-last c in
+    let join = joined (copy .before) in
+    let table = tabled (join .before) in
+    let s = start (counted table) in
     let ok = s .pre .0 .limits in
-    let f = c .before .before .before .before .before .before .before .before .copy-first in
-    hands (s .pre .0) (s .pre .1) _ _ (c .before .before .before .before .before .before .before .before .before .before .before .before .before .before .before .before .before .before .before .before .before .before .before .plan-count .ensures) (c .before .before .before .before .before .before .before .before .before .before .before .before .before .before .before .before .before .before .before .before .before .das-dennis .ensures .0) _ _ _ _ _ _ (associated (c .before .before .before .before .before .before .before .before .before .before .before .before .before .before .before))
-    (ok .ideal) (s .args .kept .now) (f .last .1 .1 .0) _ _ (whole-fits (c .before .before .before .before .before .before .before .before)) (f .ensures) (c .before .before .niching-select .ensures)
+    let f = copy .copy-first in
+    hands (s .pre .0) (s .pre .1) _ _ (counted table .plan-count .ensures) (table .das-dennis .ensures .0) _ _ _ _ _ _ (associated join)
+    (ok .ideal) (s .args .kept .now) (f .last .1 .1 .0) _ _ (whole-fits copy) (f .ensures) (picked c .niching-select .ensures)
 
 pub select-split-spec : {M : Type 1} → statement M
 select-split-spec =

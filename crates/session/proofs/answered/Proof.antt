@@ -17,6 +17,52 @@ use Rattle.session.proofs.answered.Tie as tie
 abbrev before : tie.Start → State
 before s = state (s .args .session) (s .args .candidates .now) (s .args .plans .now) (s .args .next-dims .now)
 
+-- ---- the places, each from the next
+
+-- the call starts, its slices are measured, and it is asked whether it discovers
+abbrev start : tie.After-long-enough → tie.Start
+start c = c .before .before .before .before .before
+
+abbrev measured : tie.After-discovers → tie.After-long-enough
+measured c = c .before
+
+-- it does not, and the history is short enough
+abbrev other : tie.Else2 → tie.Else1
+other c = c .before .before
+
+-- the slices are long enough: by the phase
+abbrev first : tie.After-sample-first-arg3 → tie.After-enum-told
+first c = c .before .before .before
+
+abbrev roomy : tie.After-enum-told → tie.Then3
+roomy c = c .before .before
+
+abbrev active : tie.After-sample-active-arg3 → tie.After-enum-told2
+active c = c .before .before .before
+
+abbrev roomy-2 : tie.After-enum-told2 → tie.Then3
+roomy-2 c = c .before .before
+
+abbrev sampled-first : tie.After-slice-known6 → tie.After-sample-first
+sampled-first c = c .before .before .before .before .before .before
+
+abbrev sampled-active : tie.After-slice-known9 → tie.After-sample-active
+sampled-active c = c .before .before .before .before .before .before
+
+-- they are not
+abbrev short : tie.After-short-refusal-arg → tie.Else3
+short c = c .before
+
+-- ---- the same from further on
+
+abbrev entry : tie.After-discovers → tie.Start
+entry c = start (measured c)
+
+abbrev entry-2 : tie.Else2 → tie.Start
+entry-2 c = entry (other c .before)
+
+-- ---- the needs
+
 long-enough-requires : tie.Need-long-enough-requires
 long-enough-requires c κs = tt
 
@@ -25,17 +71,18 @@ discovers-requires c κs = tt
 
 sample-discovering-requires : tie.Need-sample-discovering-requires
 sample-discovering-requires c κs =
-    let s = c .before .before .before .before .before .before .before in
+    let s = entry (c .before) in
     let a = s .args in
     let e = sym (c .before .discovers .ensures) ∙ c .if1 .taken in
     (e, discovery-plans (before s) (a .plan) (s .pre) e)
 
 returns : tie.Need-returns
 returns c =
-    let s = c .before .before .before .before .before .before .before .before in
+    let asked = c .before .before in
+    let s = entry asked in
     let a = s .args in
     let st = before s in
-    c .sample-discovering .ensures (a .candidates .now) (a .plans .now) (a .next-dims .now) (long-by st _ (c .before .before .before .long-enough .ensures))
+    c .sample-discovering .ensures (a .candidates .now) (a .plans .now) (a .next-dims .now) (long-by st _ (measured asked .long-enough .ensures))
 
 bad-history-requires : tie.Need-bad-history-requires
 bad-history-requires c κs = tt
@@ -45,64 +92,69 @@ refused-requires c κs = tt
 
 returns-2 : tie.Need-returns-2
 returns-2 c =
-    let s = c .before .before .before .before .before .before .before .before .before .before in
+    let asked = c .before .before in
+    let e = asked .before in
+    let s = entry (e .before) in
     let a = s .args in
     let st = before s in
     leaves-refused st (a .distribution) (a .plan) (a .history .now) 7 (a .session) (a .candidates .now) _ (c .refused .ensures) refl
-    (refused-7 st (a .distribution) (a .plan) (a .history .now) (and-not _ _ (adds-by st (a .plan) false (sym (c .before .before .before .before .discovers .ensures) ∙ c .before .before .before .if1 .left))) (sym (c .before .before .bad-history .ensures) ∙ c .before .if2 .taken))
+    (refused-7 st (a .distribution) (a .plan) (a .history .now) (and-not _ _ (adds-by st (a .plan) false (sym (e .before .discovers .ensures) ∙ e .if1 .left))) (sym (asked .bad-history .ensures) ∙ c .before .if2 .taken))
 
 -- 7 does not apply
-few : (c : tie.Else2) → badHistory (c .before .before .before .before .before .before .before .before .before .args .history .now) ≡ false
+few : (c : tie.Else2) → badHistory (entry-2 c .args .history .now) ≡ false
 few c = sym (c .before .bad-history .ensures) ∙ c .if2 .left
 
 -- nor does 10
-called : (c : tie.Then3) → Called (before (c .before .before .before .before .before .before .before .before .before .before)) (c .before .before .before .before .before .before .before .before .before .before .args .history .now)
+called : (c : tie.Then3) → Called (before (entry-2 (c .before))) (entry-2 (c .before) .args .history .now)
 called c =
-    let s = c .before .before .before .before .before .before .before .before .before .before in
-    record { ok = s .pre; room = long-by (before s) _ (c .before .before .before .before .before .long-enough .ensures) ∙ c .if3 .taken; few = few (c .before) }
+    let s = entry-2 (c .before) in
+    record { ok = s .pre; room = long-by (before s) _ (measured (other (c .before) .before) .long-enough .ensures) ∙ c .if3 .taken; few = few (c .before) }
 
 enum-told : tie.Need-enum-told
 enum-told c = search needs
 
 sample-first-requires : tie.Need-sample-first-requires
 sample-first-requires c κs =
-    let p = c .before .before .before .enum-told .given .1 in
-    (called (c .before .before .before .before .before), p, and-fails _ _ (sym (c .before .before .before .before .before .before .before .before .before .discovers .ensures) ∙ c .before .before .before .before .before .before .before .before .if1 .left) (ap (λ (x : Phase). not (pastDiscovery x)) p))
+    let p = first c .enum-told .given .1 in
+    let t = roomy (first c) in
+    let e = other (t .before) in
+    (called t, p, and-fails _ _ (sym (e .before .discovers .ensures) ∙ e .if1 .left) (ap (λ (x : Phase). not (pastDiscovery x)) p))
 
 enum-told-2 : tie.Need-enum-told-2
 enum-told-2 c = search needs
 
 sample-active-requires : tie.Need-sample-active-requires
-sample-active-requires c κs = (called (c .before .before .before .before .before), c .before .before .before .enum-told2 .given .1)
+sample-active-requires c κs = (called (roomy-2 (active c)), active c .enum-told2 .given .1)
 
 same-length : tie.Need-same-length
-same-length c = c .before .before .before .before .before .before .sample-first .kept .1 .1 .1 .0
+same-length c = sampled-first c .sample-first .kept .1 .1 .1 .0
 
 same-length-2 : tie.Need-same-length-2
-same-length-2 c = c .before .before .before .before .before .before .sample-first .kept .1 .1 .1 .1 .0
+same-length-2 c = sampled-first c .sample-first .kept .1 .1 .1 .1 .0
 
 same-length-3 : tie.Need-same-length-3
-same-length-3 c = c .before .before .before .before .before .before .sample-first .kept .1 .1 .1 .1 .1 .0
+same-length-3 c = sampled-first c .sample-first .kept .1 .1 .1 .1 .1 .0
 
 returns-3 : tie.Need-returns-3
-returns-3 c = c .before .before .before .before .before .before .sample-first .ensures _
+returns-3 c = sampled-first c .sample-first .ensures _
 
 same-length-4 : tie.Need-same-length-4
-same-length-4 c = c .before .before .before .before .before .before .sample-active .kept .1 .1 .1 .0
+same-length-4 c = sampled-active c .sample-active .kept .1 .1 .1 .0
 
 same-length-5 : tie.Need-same-length-5
-same-length-5 c = c .before .before .before .before .before .before .sample-active .kept .1 .1 .1 .1 .0
+same-length-5 c = sampled-active c .sample-active .kept .1 .1 .1 .1 .0
 
 same-length-6 : tie.Need-same-length-6
-same-length-6 c = c .before .before .before .before .before .before .sample-active .kept .1 .1 .1 .1 .1 .0
+same-length-6 c = sampled-active c .sample-active .kept .1 .1 .1 .1 .1 .0
 
 returns-4 : tie.Need-returns-4
-returns-4 c = c .before .before .before .before .before .before .sample-active .ensures _
+returns-4 c = sampled-active c .sample-active .ensures _
 
 short-refusal-requires : tie.Need-short-refusal-requires
 short-refusal-requires c κs =
-    let s = c .before .before .before .before .before .before .before .before .before .before .before in
-    (without-next (before s) [] (s .pre), few (c .before .before))
+    let few-past = short c .before in
+    let s = entry-2 few-past in
+    (without-next (before s) [] (s .pre), few few-past)
 
 refused-requires-2 : tie.Need-refused-requires-2
 refused-requires-2 c κs = tt
@@ -112,13 +164,15 @@ same-length-7 c = refl
 
 returns-5 : tie.Need-returns-5
 returns-5 c =
-    let s = c .before .before .before .before .before .before .before .before .before .before .before .before .before in
+    let t = short (c .before .before) in
+    let e = other (t .before) in
+    let s = entry (e .before) in
     let a = s .args in
     let st = before s in
     leaves-refused st (a .distribution) (a .plan) (a .history .now) _ (a .session) (a .candidates .now) _ (c .refused2 .ensures) refl
     (c .before .short-refusal .ensures (a .candidates .now) (a .next-dims .now) (a .distribution) (a .plan)
-    (adds-by st (a .plan) false (sym (c .before .before .before .before .before .before .before .discovers .ensures) ∙ c .before .before .before .before .before .before .if1 .left))
-    (long-by st _ (c .before .before .before .before .before .before .before .before .long-enough .ensures) ∙ c .before .before .before .if3 .left))
+    (adds-by st (a .plan) false (sym (e .before .discovers .ensures) ∙ e .if1 .left))
+    (long-by st _ (measured (e .before) .long-enough .ensures) ∙ t .if3 .left))
 
 pub answered-spec : {M : Type 1} → statement M
 answered-spec =

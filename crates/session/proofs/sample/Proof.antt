@@ -5,24 +5,31 @@ use Rattle.session_laws.proofs.Sample.{samples}
 use Rattle.session.proofs.sample.Statement.{statement}
 use Rattle.session.proofs.sample.Tie as tie
 
+-- the places, each from the next: the call starts, and is answered
+abbrev start : tie.After-answered-arg3 → tie.Start
+start c = c .before .before .before .before .before .before .before
+
+abbrev answered : tie.After-slice-known6 → tie.After-answered
+answered c = c .before .before .before .before .before .before
+
 answered-requires : tie.Need-answered-requires
-answered-requires c κs = c .before .before .before .before .before .before .before .pre
+answered-requires c κs = start c .pre
 
 same-length : tie.Need-same-length
-same-length c = c .before .before .before .before .before .before .answered .kept .1 .1 .1 .1 .0
+same-length c = answered c .answered .kept .1 .1 .1 .1 .0
 
 same-length-2 : tie.Need-same-length-2
-same-length-2 c = c .before .before .before .before .before .before .answered .kept .1 .1 .1 .1 .1 .0
+same-length-2 c = answered c .answered .kept .1 .1 .1 .1 .1 .0
 
 same-length-3 : tie.Need-same-length-3
-same-length-3 c = c .before .before .before .before .before .before .answered .kept .1 .1 .1 .1 .1 .1 .0
+same-length-3 c = answered c .answered .kept .1 .1 .1 .1 .1 .1 .0
 
 returns : tie.Need-returns
 returns c =
-    let s = c .before .before .before .before .before .before .before .before .before .before .before .before .before .before in
+    let s = start (answered c .before) in
     let a = s .args in
     samples (state (a .session) (a .candidates .now) (a .plans .now) (a .next-dims .now)) (a .distribution) (a .plan) (a .history .now) (s .pre) _ (s .good .0)
-    (dimension-held (a .distribution) _ (s .good .1 .0)) _ (c .before .before .before .before .before .before .answered .ensures)
+    (dimension-held (a .distribution) _ (s .good .1 .0)) _ (answered c .answered .ensures)
 
 pub sample-spec : {M : Type 1} → statement M
 sample-spec =

@@ -14,30 +14,56 @@ use Rattle.session_active.proofs.sample_active.Tie as tie
 abbrev before : tie.Start → State
 before s = state (s .args .session) (s .args .candidates .now) (s .args .plans .now) (s .args .next-dims .now)
 
+-- ---- the places, each from the next
+
+-- the call starts, and is asked whether it breeds
+abbrev start : tie.After-evaluated → tie.Start
+start c = c .before .before .before .before .before .before .before .before
+
+-- it breeds
+abbrev breeds : tie.After-sample-bred-arg3 → tie.Then1
+breeds c = c .before .before .before
+
+abbrev bred : tie.After-slice-known6 → tie.After-sample-bred
+bred c = c .before .before .before .before .before .before
+
+-- it does not, and the generation is full or not
+abbrev unbred : tie.After-full → tie.Else1
+unbred c = c .before .before
+
+abbrev free : tie.After-sample-from-candidate-arg3 → tie.Else2
+free c = c .before .before .before
+
+abbrev taken : tie.After-slice-known9 → tie.After-sample-from-candidate
+taken c = c .before .before .before .before .before .before
+
+-- ---- the needs
+
 evaluated-requires : tie.Need-evaluated-requires
 evaluated-requires c κs = tt
 
 sample-bred-requires : tie.Need-sample-bred-requires
 sample-bred-requires c κs =
-    let s = c .before .before .before .before .before .before .before .before .before .before .before .before in
+    let t = breeds c in
+    let s = start (t .before) in
     let a = s .args in
-    (s .pre .0, breeds-by (before s) (a .history .now) _ true (ap pastDiscovery (s .pre .1)) (c .before .before .before .before .evaluated .ensures) (c .before .before .before .if1 .taken))
+    (s .pre .0, breeds-by (before s) (a .history .now) _ true (ap pastDiscovery (s .pre .1)) (t .before .evaluated .ensures) (t .if1 .taken))
 
 same-length : tie.Need-same-length
-same-length c = c .before .before .before .before .before .before .sample-bred .kept .1 .1 .1 .0
+same-length c = bred c .sample-bred .kept .1 .1 .1 .0
 
 same-length-2 : tie.Need-same-length-2
-same-length-2 c = c .before .before .before .before .before .before .sample-bred .kept .1 .1 .1 .1 .0
+same-length-2 c = bred c .sample-bred .kept .1 .1 .1 .1 .0
 
 same-length-3 : tie.Need-same-length-3
-same-length-3 c = c .before .before .before .before .before .before .sample-bred .kept .1 .1 .1 .1 .1 .0
+same-length-3 c = bred c .sample-bred .kept .1 .1 .1 .1 .1 .0
 
 returns : tie.Need-returns
-returns c d = c .before .before .before .before .before .before .sample-bred .ensures d
+returns c d = bred c .sample-bred .ensures d
 
 full-requires : tie.Need-full-requires
 full-requires c κs =
-    let s = c .before .before .before .before .before .before .before .before .before .before in
+    let s = start (c .before .before) in
     let a = s .args in
     let st = before s in
     omega (arith, phase-ok st Active (s .pre .0 .ok) (s .pre .1) .room, long st (s .pre .0 .room) .plans)
@@ -50,17 +76,20 @@ same-length-4 c = refl
 
 returns-2 : tie.Need-returns-2
 returns-2 c d =
-    let s = c .before .before .before .before .before .before .before .before .before .before .before .before .before in
+    let full = c .before .before in
+    let e = unbred full in
+    let s = start (e .before) in
     let a = s .args in
     let st = before s in
     let i = ap pastDiscovery (s .pre .1) in
-    let b = breeds-by st (a .history .now) _ false i (c .before .before .before .before .before .evaluated .ensures) (c .before .before .before .before .if1 .left) in
+    let b = breeds-by st (a .history .now) _ false i (e .before .evaluated .ensures) (e .if1 .left) in
     leaves-refused st d (a .plan) (a .history .now) 11 (a .session) (a .candidates .now) _ (c .refused .ensures) refl
-    (refused-11 st d (a .plan) (a .history .now) (active-good st (a .plan) _ i) (s .pre .0 .few) b (s .pre .0 .room) (sym (c .before .before .full .ensures) ∙ c .before .if2 .taken))
+    (refused-11 st d (a .plan) (a .history .now) (active-good st (a .plan) _ i) (s .pre .0 .few) b (s .pre .0 .room) (sym (full .full .ensures) ∙ c .before .if2 .taken))
 
 sample-from-candidate-requires : tie.Need-sample-from-candidate-requires
 sample-from-candidate-requires c κs =
-    let s = c .before .before .before .before .before .before .before .before .before .before .before .before .before .before .before in
+    let f = free c in
+    let s = start (unbred (f .before) .before) in
     let a = s .args in
     let st = before s in
     let l = long st (s .pre .0 .room) in (
@@ -69,28 +98,30 @@ sample-from-candidate-requires c κs =
       l .words,
       l .plans,
       l .next,
-      room-left (a .session .progress .«n_plans») _ (sym (c .before .before .before .before .full .ensures) ∙ c .before .before .before .if2 .left),
+      room-left (a .session .progress .«n_plans») _ (sym (f .before .full .ensures) ∙ f .if2 .left),
     )
 
 same-length-5 : tie.Need-same-length-5
-same-length-5 c = c .before .before .before .before .before .before .sample-from-candidate .kept .1 .1 .0
+same-length-5 c = taken c .sample-from-candidate .kept .1 .1 .0
 
 same-length-6 : tie.Need-same-length-6
-same-length-6 c = c .before .before .before .before .before .before .sample-from-candidate .kept .1 .1 .1 .0
+same-length-6 c = taken c .sample-from-candidate .kept .1 .1 .1 .0
 
 same-length-7 : tie.Need-same-length-7
-same-length-7 c = c .before .before .before .before .before .before .sample-from-candidate .kept .1 .1 .1 .1 .0
+same-length-7 c = taken c .sample-from-candidate .kept .1 .1 .1 .1 .0
 
 returns-3 : tie.Need-returns-3
 returns-3 c d =
-    let s = c .before .before .before .before .before .before .before .before .before .before .before .before .before .before .before .before .before .before .before .before .before .before in
+    let f = free (taken c .before) in
+    let e = unbred (f .before) in
+    let s = start (e .before) in
     let a = s .args in
     let st = before s in
     let i = ap pastDiscovery (s .pre .1) in
-    let b = breeds-by st (a .history .now) _ false i (c .before .before .before .before .before .before .before .before .before .before .before .before .before .before .evaluated .ensures) (c .before .before .before .before .before .before .before .before .before .before .before .before .before .if1 .left) in
-    leaves-accepted st d (a .plan) (a .history .now) _ _ (c .before .before .before .before .before .before .sample-from-candidate .ensures)
+    let b = breeds-by st (a .history .now) _ false i (e .before .evaluated .ensures) (e .if1 .left) in
+    leaves-accepted st d (a .plan) (a .history .now) _ _ (taken c .sample-from-candidate .ensures)
     (not-refused st d (a .plan) (a .history .now) (active-good st (a .plan) _ i) (s .pre .0 .few) b (s .pre .0 .room)
-    (room-left (a .session .progress .«n_plans») _ (sym (c .before .before .before .before .before .before .before .before .before .before .before .full .ensures) ∙ c .before .before .before .before .before .before .before .before .before .before .if2 .left)))
+    (room-left (a .session .progress .«n_plans») _ (sym (f .before .full .ensures) ∙ f .if2 .left)))
     (active-accepted st d (a .plan) (a .history .now) (active-discovers st (a .plan) i) i b)
 
 pub sample-active-spec : {M : Type 1} → statement M

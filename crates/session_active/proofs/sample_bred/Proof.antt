@@ -19,12 +19,43 @@ use Rattle.session_active.proofs.sample_bred.Tie as tie
 abbrev before : tie.Start → State
 before s = state (s .args .session) (s .args .candidates .now) (s .args .plans .now) (s .args .next-dims .now)
 
+-- ---- the places, each from the next
+
+-- the call starts, and breeds
+abbrev start : tie.After-breed-arg2 → tie.Start
+start c = c .before .before .before .before .before .before .before
+
+abbrev bred : tie.After-session → tie.After-breed
+bred c = c .before .before .before .before
+
+-- refused
+abbrev told : tie.After-refused → tie.After-outcome
+told c = c .before .before
+
+abbrev bred-told : tie.After-outcome → tie.After-breed
+bred-told c = bred (c .before .before)
+
+-- not, and the plan takes a candidate
+abbrev good : tie.After-sample-from-candidate-arg3 → tie.After-enum-told
+good c = c .before .before .before
+
+abbrev bred-good : tie.After-enum-told → tie.After-breed
+bred-good c = bred (c .before .before)
+
+abbrev taken : tie.After-slice-known7 → tie.After-sample-from-candidate
+taken c = c .before .before .before .before .before .before
+
+abbrev good-last : tie.After-slice-known7 → tie.After-enum-told
+good-last c = good (taken c .before)
+
+-- ---- the needs
+
 slice-aggregate-breed : tie.Need-slice-aggregate-breed
 slice-aggregate-breed c = refl
 
 breed-requires : tie.Need-breed-requires
 breed-requires c κs =
-    let s = c .before .before .before .before .before .before .before in
+    let s = start c in
     let a = s .args in
     let st = before s in
     let l = long st (s .pre .0 .room) in
@@ -41,54 +72,54 @@ enum-told c = search needs
 
 sample-from-candidate-requires : tie.Need-sample-from-candidate-requires
 sample-from-candidate-requires c κs =
-    let s = c .before .before .before .before .before .before .before .before .before .before .before .before .before .before .before .before .before in
+    let s = start (bred-good (good c) .before) in
     let a = s .args in
     let st = before s in
     let l = long st (s .pre .0 .room) in
-    let b = c .before .before .before .before .before .before .before .before .before .breed in
-    let k = breed-tells st (a .history .now) (breedRefusal st (a .history .now)) none _ _ (b .ensures (a .next-dims .now)) (ap refusedBy (c .before .before .before .enum-told .given .1)) in
+    let b = bred-good (good c) .breed in
+    let k = breed-tells st (a .history .now) (breedRefusal st (a .history .now)) none _ _ (b .ensures (a .next-dims .now)) (ap refusedBy (good c .enum-told .given .1)) in
     let r = ready-bred st (a .history .now) _ _
     (ready-active st (s .pre .0 .ok) (active-phase _ (breeds-active st (a .history .now) (s .pre .1)))) (k .1) in
     let same : length (b .last .1 .1 .1 .1 .0) ≡ length (a .candidates .now) = b .kept .1 .1 .1 .1 .0 in
     (r .0, omega (arith, r .1), omega (arith, l .words), l .plans, l .next, λ new. omega (arith, r .1))
 
 same-length : tie.Need-same-length
-same-length c = c .before .before .before .before .before .before .before .before .breed .kept .1 .1 .1 .1 .0
+same-length c = bred-told (told c) .breed .kept .1 .1 .1 .1 .0
 
 same-length-2 : tie.Need-same-length-2
 same-length-2 c = refl
 
 returns : tie.Need-returns
 returns c d =
-    let s = c .before .before .before .before .before .before .before .before .before .before .before .before .before .before .before .before in
+    let s = start (bred-told (told c) .before) in
     let a = s .args in
     let st = before s in
     let i = breeds-active st (a .history .now) (s .pre .1) in
-    let b = c .before .before .before .before .before .before .before .before .breed in
-    let told = c .before .before .outcome .given in
-    let k = breed-tells st (a .history .now) (breedRefusal st (a .history .now)) (some (told .0 .0)) _ _ (b .ensures (a .next-dims .now)) (ap refusedBy (told .1)) in
-    leaves-refused st d (a .plan) (a .history .now) (told .0 .0) _ _ _ (c .refused .ensures) (k .1)
+    let b = bred-told (told c) .breed in
+    let o = told c .outcome .given in
+    let k = breed-tells st (a .history .now) (breedRefusal st (a .history .now)) (some (o .0 .0)) _ _ (b .ensures (a .next-dims .now)) (ap refusedBy (o .1)) in
+    leaves-refused st d (a .plan) (a .history .now) (o .0 .0) _ _ _ (c .refused .ensures) (k .1)
     (breed-refusal st d (a .plan) (a .history .now) (active-good st (a .plan) _ i) (s .pre .0 .few) (s .pre .1) (s .pre .0 .room) ∙ k .0)
 
 same-length-3 : tie.Need-same-length-3
-same-length-3 c = c .before .before .before .before .before .before .sample-from-candidate .kept .1 .1 .0 ∙ c .before .before .before .before .before .before .before .before .before .before .before .before .before .before .before .before .breed .kept .1 .1 .1 .1 .0
+same-length-3 c = taken c .sample-from-candidate .kept .1 .1 .0 ∙ bred-good (good-last c) .breed .kept .1 .1 .1 .1 .0
 
 same-length-4 : tie.Need-same-length-4
-same-length-4 c = c .before .before .before .before .before .before .sample-from-candidate .kept .1 .1 .1 .0
+same-length-4 c = taken c .sample-from-candidate .kept .1 .1 .1 .0
 
 same-length-5 : tie.Need-same-length-5
-same-length-5 c = c .before .before .before .before .before .before .sample-from-candidate .kept .1 .1 .1 .1 .0
+same-length-5 c = taken c .sample-from-candidate .kept .1 .1 .1 .1 .0
 
 returns-2 : tie.Need-returns-2
 returns-2 c d =
-    let s = c .before .before .before .before .before .before .before .before .before .before .before .before .before .before .before .before .before .before .before .before .before .before .before .before in
+    let s = start (bred-good (good-last c) .before) in
     let a = s .args in
     let st = before s in
-    let b = c .before .before .before .before .before .before .before .before .before .before .before .before .before .before .before .before .breed in
-    let told = c .before .before .before .before .before .before .before .before .before .before .enum-told .given in
-    let k = breed-tells st (a .history .now) (breedRefusal st (a .history .now)) none _ _ (b .ensures (a .next-dims .now)) (ap refusedBy (told .1)) in
+    let b = bred-good (good-last c) .breed in
+    let o = good-last c .enum-told .given in
+    let k = breed-tells st (a .history .now) (breedRefusal st (a .history .now)) none _ _ (b .ensures (a .next-dims .now)) (ap refusedBy (o .1)) in
     let i = breeds-active st (a .history .now) (s .pre .1) in
-    leaves-taken st d (a .plan) (a .history .now) _ _ _ (c .before .before .before .before .before .before .sample-from-candidate .ensures) (k .1)
+    leaves-taken st d (a .plan) (a .history .now) _ _ _ (taken c .sample-from-candidate .ensures) (k .1)
     (breed-refusal st d (a .plan) (a .history .now) (active-good st (a .plan) _ i) (s .pre .0 .few) (s .pre .1) (s .pre .0 .room) ∙ k .0)
     (bred-accepted st d (a .plan) (a .history .now) (active-discovers st (a .plan) i) i (s .pre .1))
 

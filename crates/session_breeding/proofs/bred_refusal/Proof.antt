@@ -9,12 +9,30 @@ use borrow.Author.Needs.{needs}
 use Rattle.session_breeding.proofs.bred_refusal.Statement.{statement}
 use Rattle.session_breeding.proofs.bred_refusal.Tie as tie
 
+-- ---- the places, each from the next: the call starts, the plans' words are gathered, and the step is asked
+
+abbrev start : tie.After-pool → tie.Start
+start c = c .before .before .before .before .before .before .before .before .before
+
+abbrev gathered : tie.After-directions2 → tie.After-gather
+gathered c = c .before .before .before
+
+abbrev asked : tie.After-refusal → tie.After-directions2
+asked c = c .before .before
+
+-- ---- the same from further on
+
+abbrev entry : tie.After-directions2 → tie.Start
+entry c = start (gathered c .before)
+
+-- ---- the needs
+
 slice-aggregate-gather : tie.Need-slice-aggregate-gather
 slice-aggregate-gather c = refl
 
 gather-requires : tie.Need-gather-requires
 gather-requires c κs =
-    let s = c .before .before .before .before .before .before .before .before .before in
+    let s = start c in
     let room : s .args .session .config .«population_size» * 124 ≤ 126976 = omega (arith, s .pre .0 .config .atMost) in
     let e = evaluated-tells _ _ (s .pre .1) in
     (e .0, room, e .1)
@@ -32,13 +50,13 @@ array-share-prefix-directions : tie.Need-array-share-prefix-directions
 array-share-prefix-directions c = search needs
 
 slice-aggregate-refusal-2 : tie.Need-slice-aggregate-refusal-2
-slice-aggregate-refusal-2 c = sym (length-take-le _ _ (c .before .before .before .before .before .before .before .before .before .before .before .before .before .pre .0 .config .objectives))
+slice-aggregate-refusal-2 c = sym (length-take-le _ _ (entry c .pre .0 .config .objectives))
 
 array-share-prefix-ideal-point : tie.Need-array-share-prefix-ideal-point
-array-share-prefix-ideal-point c = ideal-room _ _ (c .before .before .before .before .before .before .before .before .before .before .before .before .before .pre .0 .ideal)
+array-share-prefix-ideal-point c = ideal-room _ _ (entry c .pre .0 .ideal)
 
 slice-aggregate-refusal-3 : tie.Need-slice-aggregate-refusal-3
-slice-aggregate-refusal-3 c = sym (length-take-le _ _ (ideal-room _ _ (c .before .before .before .before .before .before .before .before .before .before .before .before .before .before .pre .0 .ideal)))
+slice-aggregate-refusal-3 c = sym (length-take-le _ _ (ideal-room _ _ (entry (c .before) .pre .0 .ideal)))
 
 refusal-requires : tie.Need-refusal-requires
 refusal-requires c κs = tt
@@ -51,16 +69,18 @@ enum-told c = search needs
 
 returns : tie.Need-returns
 returns c =
-    let s = c .before .before .before .before .before .before .before .before .before .before .before .before .before .before .before .before .before .before in
+    let told = c .before in
+    let r = told .before .before in
+    let s = entry (asked r) in
     let a = s .args in
-    let told = c .before .check .given in
-    short-is (a .session) [] (a .plans .now) (a .history .now) (s .pre .0) _ _ (c .before .before .before .before .before .before .before .before .gather .ensures) _ (c .before .before .before .refusal .ensures) _ (told .1)
+    short-is (a .session) [] (a .plans .now) (a .history .now) (s .pre .0) _ _ (gathered (asked r) .gather .ensures) _ (r .refusal .ensures) _ (told .check .given .1)
 
 returns-2 : tie.Need-returns-2
 returns-2 c =
-    let s = c .before .before .before .before .before .before .before .before .before .before .before .before .before .before .before .before .before in
+    let r = c .before .before in
+    let s = entry (asked r) in
     let a = s .args in
-    short-is (a .session) [] (a .plans .now) (a .history .now) (s .pre .0) _ _ (c .before .before .before .before .before .before .before .gather .ensures) _ (c .before .before .refusal .ensures) _ (c .enum-told .given .1)
+    short-is (a .session) [] (a .plans .now) (a .history .now) (s .pre .0) _ _ (gathered (asked r) .gather .ensures) _ (r .refusal .ensures) _ (c .enum-told .given .1)
 
 pub bred-refusal-spec : {M : Type 1} → statement M
 bred-refusal-spec =

@@ -5,11 +5,21 @@ use Rattle.session_breeding.specs.Breeding.{takenOf}
 use Rattle.session_breeding.proofs.step.Statement.{statement}
 use Rattle.session_breeding.proofs.step.Tie as tie
 
+-- ---- the places, each from the next: the call starts, its parts are read, and the generation step is called
+
+abbrev start : tie.After-rng → tie.Start
+start c = c .before .before .before .before .before .before .before .before
+
+abbrev called : tie.After-slice-known4 → tie.After-nsga3-generate-offspring
+called c = c .before .before .before .before .before .before .before
+
+-- ---- the needs
+
 array-share-prefix-directions : tie.Need-array-share-prefix-directions
-array-share-prefix-directions c = c .before .before .before .before .before .before .before .before .pre
+array-share-prefix-directions c = start c .pre
 
 slice-aggregate-nsga3-generate-offspring : tie.Need-slice-aggregate-nsga3-generate-offspring
-slice-aggregate-nsga3-generate-offspring c = sym (length-take-le _ _ (c .before .before .before .before .before .before .before .before .before .pre))
+slice-aggregate-nsga3-generate-offspring c = sym (length-take-le _ _ (start (c .before) .pre))
 
 slice-aggregate-nsga3-generate-offspring-2 : tie.Need-slice-aggregate-nsga3-generate-offspring-2
 slice-aggregate-nsga3-generate-offspring-2 c = refl
@@ -24,13 +34,13 @@ nsga3-generate-offspring-requires : tie.Need-nsga3-generate-offspring-requires
 nsga3-generate-offspring-requires c κs = tt
 
 same-length : tie.Need-same-length
-same-length c = c .before .before .before .before .before .before .before .nsga3-generate-offspring .kept .1 .1 .1 .1 .1 .1 .1 .1 .1 .1 .0
+same-length c = called c .nsga3-generate-offspring .kept .1 .1 .1 .1 .1 .1 .1 .1 .1 .1 .0
 
 same-length-2 : tie.Need-same-length-2
-same-length-2 c = c .before .before .before .before .before .before .before .nsga3-generate-offspring .kept .1 .1 .1 .1 .1 .1 .1 .1 .1 .1 .1 .1 .1 .1 .0
+same-length-2 c = called c .nsga3-generate-offspring .kept .1 .1 .1 .1 .1 .1 .1 .1 .1 .1 .1 .1 .1 .1 .0
 
 returns : tie.Need-returns
-returns c = ap takenOf (c .before .before .before .before .before .before .before .nsga3-generate-offspring .ensures .whole)
+returns c = ap takenOf (called c .nsga3-generate-offspring .ensures .whole)
 
 pub step-spec : {M : Type 1} → statement M
 step-spec =

@@ -9,14 +9,49 @@ use Rattle.session_opening.proofs.Opening.{refused-2, refused-3, refuse
 use Rattle.session_opening.proofs.open_refusal.Statement.{statement}
 use Rattle.session_opening.proofs.open_refusal.Tie as tie
 
-good-directions : (c : tie.Else1) → badDirections (c .before .before .before .before .before .args .directions .now) ≡ false
+-- ---- the places, each from the next: where the call starts, the two tests that are read first, and where each test has passed
+
+abbrev start : tie.After-bad-session-size → tie.Start
+start c = c .before .before
+
+abbrev size-read : tie.After-bad-operators → tie.After-bad-session-size
+size-read c = c .before
+
+abbrev operators-read : tie.Else1 → tie.After-bad-operators
+operators-read c = c .before .before
+
+abbrev passed-1 : tie.Else2 → tie.Else1
+passed-1 c = c .before
+
+abbrev passed-2 : tie.Else3 → tie.Else2
+passed-2 c = c .before .before
+
+-- ---- the same from further on
+
+abbrev start-1 : tie.Else1 → tie.Start
+start-1 c = start (size-read (operators-read c))
+
+abbrev first-3 : tie.Else3 → tie.Else1
+first-3 c = passed-1 (passed-2 c)
+
+-- ---- what the tests say
+
+good-directions : (c : tie.Else1) → badDirections (start-1 c .args .directions .now) ≡ false
 good-directions c = sym (c .before .bad-directions .ensures) ∙ c .if1 .left
 
-good-size : (c : tie.Else2) → badSessionSize (given (c .before .before .before .before .before .before .args .size)) ≡ false
-good-size c = sym (c .before .before .before .before .bad-session-size .ensures) ∙ c .if2 .left
+size : (c : tie.Else1) → size-read (operators-read c) .bad-session-size .result ≡ badSessionSize (given (start-1 c .args .size))
+size c = size-read (operators-read c) .bad-session-size .ensures
 
-good-divisions : (c : tie.Else3) → let a = c .before .before .before .before .before .before .before .before .args in badSessionDivisions (length (a .directions .now)) (given (a .size)) (given (a .divisions)) ≡ false
+good-size : (c : tie.Else2) → badSessionSize (given (start-1 (passed-1 c) .args .size)) ≡ false
+good-size c = sym (size (passed-1 c)) ∙ c .if2 .left
+
+good-divisions : (c : tie.Else3) → let a = start-1 (first-3 c) .args in badSessionDivisions (length (a .directions .now)) (given (a .size)) (given (a .divisions)) ≡ false
 good-divisions c = sym (c .before .bad-session-divisions .ensures) ∙ c .if3 .left
+
+operators : (c : tie.Else1) → let a = start-1 c .args in operators-read c .bad-operators .result ≡ badOperators (a .probability) (a .crossover-eta) (a .mutation-eta)
+operators c = operators-read c .bad-operators .ensures
+
+-- ---- the needs
 
 bad-session-size-requires : tie.Need-bad-session-size-requires
 bad-session-size-requires c κs = tt
@@ -31,33 +66,25 @@ returns : tie.Need-returns
 returns c = refused-2 _ _ _ _ _ _ (sym (c .before .bad-directions .ensures) ∙ c .if1 .taken)
 
 returns-2 : tie.Need-returns-2
-returns-2 c =
-    let e1 = c .before in
-    refused-3 _ _ _ _ _ _ (good-directions e1) (sym (e1 .before .before .before .bad-session-size .ensures) ∙ c .if2 .taken)
+returns-2 c = refused-3 _ _ _ _ _ _ (good-directions (c .before)) (sym (size (c .before)) ∙ c .if2 .taken)
 
 bad-session-divisions-requires : tie.Need-bad-session-divisions-requires
-bad-session-divisions-requires c κs = some-objectives _ (good-directions (c .before))
+bad-session-divisions-requires c κs = some-objectives _ (good-directions (passed-1 c))
 
 returns-3 : tie.Need-returns-3
 returns-3 c =
-    let e2 = c .before .before in
-    refused-4 _ _ _ _ _ _ (good-directions (e2 .before)) (good-size e2) (sym (c .before .bad-session-divisions .ensures) ∙ c .if3 .taken)
-
--- what the operators' test says, read before the others
-operators : (c : tie.Else3) → let a = c .before .before .before .before .before .before .before .before .args in c .before .before .before .before .before .bad-operators .result ≡ badOperators (a .probability) (a .crossover-eta) (a .mutation-eta)
-operators c = c .before .before .before .before .before .bad-operators .ensures
+    let sized = c .before .before in
+    refused-4 _ _ _ _ _ _ (good-directions (passed-1 sized)) (good-size sized) (sym (c .before .bad-session-divisions .ensures) ∙ c .if3 .taken)
 
 returns-4 : tie.Need-returns-4
 returns-4 c =
-    let e3 = c .before in
-    let e2 = e3 .before .before in
-    refused-5 _ _ _ _ _ _ (good-directions (e2 .before)) (good-size e2) (good-divisions e3) (sym (operators e3) ∙ c .if4 .taken)
+    let divided = c .before in
+    refused-5 _ _ _ _ _ _ (good-directions (first-3 divided)) (good-size (passed-2 divided)) (good-divisions divided) (sym (operators (first-3 divided)) ∙ c .if4 .taken)
 
 returns-5 : tie.Need-returns-5
 returns-5 c =
-    let e3 = c .before in
-    let e2 = e3 .before .before in
-    ready _ _ _ _ _ _ (good-directions (e2 .before)) (good-size e2) (good-divisions e3) (sym (operators e3) ∙ c .if4 .left)
+    let divided = c .before in
+    ready _ _ _ _ _ _ (good-directions (first-3 divided)) (good-size (passed-2 divided)) (good-divisions divided) (sym (operators (first-3 divided)) ∙ c .if4 .left)
 
 pub open-refusal-spec : {M : Type 1} → statement M
 open-refusal-spec =

@@ -13,8 +13,6 @@ use Rattle.list_laws.proofs.Checks.{passed-over, applies-first}
 use Rattle.step_refusal.proofs.refusal.Statement.{statement}
 use Rattle.step_refusal.proofs.refusal.Tie as tie
 
--- ---- what each passed test shows
-
 abbrev request : tie.Start → Request
 request s = wordRequest (s .args .pool .now) (s .args .directions .now) (s .args .divisions) (s .args .size) (s .args .rng) (s .args .ideal .now)
 
@@ -28,49 +26,115 @@ room s = record { kept = s .args .kept; fronts = s .args .fronts; lines = s .arg
 abbrev Past : tie.Start → ℕ → Type 0
 Past s k = stepRefusal (ops s) (request s) (room s) (s .args .offspring) ≡ firstOf (drop k (stepChecks (ops s) (request s) (room s) (s .args .offspring)))
 
-good-directions : (c : tie.Else1) → badDirections (c .before .before .before .before .before .args .directions .now) ≡ false
+-- ---- the places, each from the next: where the call starts, and where each test has passed
+
+abbrev start : tie.Else1 → tie.Start
+start c = c .before .before .before .before .before
+
+abbrev passed-1 : tie.Else2 → tie.Else1
+passed-1 c = c .before .before
+
+abbrev passed-2 : tie.Else3 → tie.Else2
+passed-2 c = c .before .before
+
+abbrev passed-3 : tie.Else4 → tie.Else3
+passed-3 c = c .before .before
+
+abbrev passed-4 : tie.Else5 → tie.Else4
+passed-4 c = c .before .before
+
+-- the plans of the pool are counted before the sixth test
+abbrev counts : tie.After-bad-count2 → tie.After-plan-count
+counts c = c .before
+
+abbrev passed-5 : tie.After-bad-count2 → tie.Else5
+passed-5 c = counts c .before
+
+abbrev passed-6 : tie.Else7 → tie.Else6
+passed-6 c = c .before .before
+
+abbrev passed-7 : tie.Else8 → tie.Else7
+passed-7 c = c .before .before
+
+-- ---- the same from further on
+
+-- where the directions' test has passed
+abbrev first-3 : tie.Else3 → tie.Else1
+first-3 c = passed-1 (passed-2 c)
+
+abbrev first-4 : tie.Else4 → tie.Else1
+first-4 c = first-3 (passed-3 c)
+
+abbrev first-5 : tie.Else5 → tie.Else1
+first-5 c = first-4 (passed-4 c)
+
+abbrev first-6 : tie.Else6 → tie.Else1
+first-6 c = first-5 (passed-5 (c .before))
+
+abbrev first-7 : tie.Else7 → tie.Else1
+first-7 c = first-6 (passed-6 c)
+
+abbrev first-8 : tie.Else8 → tie.Else1
+first-8 c = first-7 (passed-7 c)
+
+-- where the size's has
+abbrev second-5 : tie.Else5 → tie.Else2
+second-5 c = passed-2 (passed-3 (passed-4 c))
+
+-- where the dimensions' has
+abbrev fifth-7 : tie.Else7 → tie.Else5
+fifth-7 c = passed-5 (passed-6 c .before)
+
+-- ---- what the tests say
+
+good-directions : (c : tie.Else1) → badDirections (start c .args .directions .now) ≡ false
 good-directions c = sym (c .before .bad-directions .ensures) ∙ c .if1 .left
 
-past-1 : (c : tie.Else1) → Past (c .before .before .before .before .before) 1
+good-size : (c : tie.Else2) → badSize (start (passed-1 c) .args .size) ≡ false
+good-size c = sym (c .before .bad-count .ensures) ∙ c .if2 .left
+
+good-dimensions : (c : tie.Else5) → let a = start (first-5 c) .args in badDimensions (dimensionsOf (a .dims)) (a .n-dims) ≡ false
+good-dimensions c = sym (c .before .bad-dimensions .ensures) ∙ c .if5 .left
+
+-- the pool's count
+counted : (c : tie.After-bad-count2) → c .bad-count2 .result ≡ badCount (request (start (first-5 (passed-5 c))) .count)
+counted c = c .bad-count2 .ensures ∙ ap badCount (counts c .plan-count .ensures)
+
+slices : (c : tie.After-no-step-room) → let s = start (first-8 (c .before)) in c .no-step-room .result ≡ noStepRoom (ops s) (request s) (room s) (s .args .offspring)
+unfolding noStepRoom
+slices c =
+    let s = start (first-8 (c .before)) in
+    c .no-step-room .ensures
+    ∙ ap (λ n. stepTooShort (room s) (s .args .offspring) (s .args .size) n (s .args .n-dims)) (counts (passed-6 (passed-7 (c .before)) .before) .plan-count .ensures)
+
+past-1 : (c : tie.Else1) → Past (start c) 1
 unfolding stepRefusal
 past-1 c = passed-over _ _ (good-directions c)
 
-good-size : (c : tie.Else2) → badSize (c .before .before .before .before .before .before .before .args .size) ≡ false
-good-size c = sym (c .before .bad-count .ensures) ∙ c .if2 .left
+past-2 : (c : tie.Else2) → Past (start (passed-1 c)) 2
+past-2 c = past-1 (passed-1 c) ∙ passed-over _ _ (good-size c)
 
-past-2 : (c : tie.Else2) → Past (c .before .before .before .before .before .before .before) 2
-past-2 c = past-1 (c .before .before) ∙ passed-over _ _ (good-size c)
+past-3 : (c : tie.Else3) → Past (start (first-3 c)) 3
+past-3 c = past-2 (passed-2 c) ∙ passed-over _ _ (sym (c .before .bad-divisions .ensures) ∙ c .if3 .left)
 
-past-3 : (c : tie.Else3) → Past (c .before .before .before .before .before .before .before .before .before) 3
-past-3 c = past-2 (c .before .before) ∙ passed-over _ _ (sym (c .before .bad-divisions .ensures) ∙ c .if3 .left)
+past-4 : (c : tie.Else4) → Past (start (first-4 c)) 4
+past-4 c = past-3 (passed-3 c) ∙ passed-over _ _ (sym (c .before .bad-operators .ensures) ∙ c .if4 .left)
 
-past-4 : (c : tie.Else4) → Past (c .before .before .before .before .before .before .before .before .before .before .before) 4
-past-4 c = past-3 (c .before .before) ∙ passed-over _ _ (sym (c .before .bad-operators .ensures) ∙ c .if4 .left)
+past-5 : (c : tie.Else5) → Past (start (first-5 c)) 5
+past-5 c = past-4 (passed-4 c) ∙ passed-over _ _ (good-dimensions c)
 
-good-dimensions : (c : tie.Else5) → badDimensions (dimensionsOf (c .before .before .before .before .before .before .before .before .before .before .before .before .before .args .dims)) (c .before .before .before .before .before .before .before .before .before .before .before .before .before .args .n-dims) ≡ false
-good-dimensions c = sym (c .before .bad-dimensions .ensures) ∙ c .if5 .left
+past-6 : (c : tie.Else6) → Past (start (first-6 c)) 6
+past-6 c = past-5 (passed-5 (c .before)) ∙ passed-over _ _ (sym (counted (c .before)) ∙ c .if6 .left)
 
-past-5 : (c : tie.Else5) → Past (c .before .before .before .before .before .before .before .before .before .before .before .before .before) 5
-past-5 c = past-4 (c .before .before) ∙ passed-over _ _ (good-dimensions c)
-
-past-6 : (c : tie.Else6) → Past (c .before .before .before .before .before .before .before .before .before .before .before .before .before .before .before .before) 6
-past-6 c = past-5 (c .before .before .before) ∙ passed-over _ _ (sym (c .before .bad-count2 .ensures ∙ ap badCount (c .before .before .plan-count .ensures)) ∙ c .if6 .left)
-
-past-7 : (c : tie.Else7) → Past (c .before .before .before .before .before .before .before .before .before .before .before .before .before .before .before .before .before .before) 7
+past-7 : (c : tie.Else7) → Past (start (first-7 c)) 7
 unfolding badPool
-past-7 c = past-6 (c .before .before) ∙ passed-over _ _ (sym (c .before .bad-pool .ensures) ∙ c .if7 .left)
+past-7 c = past-6 (passed-6 c) ∙ passed-over _ _ (sym (c .before .bad-pool .ensures) ∙ c .if7 .left)
 
-past-8 : (c : tie.Else8) → Past (c .before .before .before .before .before .before .before .before .before .before .before .before .before .before .before .before .before .before .before .before) 8
+past-8 : (c : tie.Else8) → Past (start (first-8 c)) 8
 unfolding badParents
-past-8 c = past-7 (c .before .before) ∙ passed-over _ _ (sym (c .before .bad-parents .ensures) ∙ c .if8 .left)
+past-8 c = past-7 (passed-7 c) ∙ passed-over _ _ (sym (c .before .bad-parents .ensures) ∙ c .if8 .left)
 
-slices : (c : tie.After-no-step-room) → c .no-step-room .result ≡ noStepRoom (ops (c .before .before .before .before .before .before .before .before .before .before .before .before .before .before .before .before .before .before .before .before .before)) (request (c .before .before .before .before .before .before .before .before .before .before .before .before .before .before .before .before .before .before .before .before .before)) (room (c .before .before .before .before .before .before .before .before .before .before .before .before .before .before .before .before .before .before .before .before .before)) (c .before .before .before .before .before .before .before .before .before .before .before .before .before .before .before .before .before .before .before .before .before .args .offspring)
-unfolding noStepRoom
-slices c =
-    let s = c .before .before .before .before .before .before .before .before .before .before .before .before .before .before .before .before .before .before .before .before .before in
-    c .no-step-room .ensures ∙ ap (λ n. stepTooShort (room s) (s .args .offspring) (s .args .size) n (s .args .n-dims)) (c .before .before .before .before .before .before .before .plan-count .ensures)
-
-past-9 : (c : tie.Else9) → Past (c .before .before .before .before .before .before .before .before .before .before .before .before .before .before .before .before .before .before .before .before .before .before) 9
+past-9 : (c : tie.Else9) → Past (start (first-8 (c .before .before))) 9
 past-9 c = past-8 (c .before .before) ∙ passed-over _ _ (sym (slices (c .before)) ∙ c .if9 .left)
 
 -- ---- the needs
@@ -86,29 +150,25 @@ bad-count-requires : tie.Need-bad-count-requires
 bad-count-requires c κs = tt
 
 returns-2 : tie.Need-returns-2
-returns-2 c =
-    sym (past-1 (c .before .before) ∙ applies-first _ _ (sym (c .before .bad-count .ensures) ∙ c .if2 .taken))
+returns-2 c = sym (past-1 (c .before .before) ∙ applies-first _ _ (sym (c .before .bad-count .ensures) ∙ c .if2 .taken))
 
 bad-divisions-requires : tie.Need-bad-divisions-requires
-bad-divisions-requires c κs = some-objectives _ (good-directions (c .before .before))
+bad-divisions-requires c κs = some-objectives _ (good-directions (passed-1 c))
 
 returns-3 : tie.Need-returns-3
-returns-3 c =
-    sym (past-2 (c .before .before) ∙ applies-first _ _ (sym (c .before .bad-divisions .ensures) ∙ c .if3 .taken))
+returns-3 c = sym (past-2 (c .before .before) ∙ applies-first _ _ (sym (c .before .bad-divisions .ensures) ∙ c .if3 .taken))
 
 bad-operators-requires : tie.Need-bad-operators-requires
 bad-operators-requires c κs = tt
 
 returns-4 : tie.Need-returns-4
-returns-4 c =
-    sym (past-3 (c .before .before) ∙ applies-first _ _ (sym (c .before .bad-operators .ensures) ∙ c .if4 .taken))
+returns-4 c = sym (past-3 (c .before .before) ∙ applies-first _ _ (sym (c .before .bad-operators .ensures) ∙ c .if4 .taken))
 
 bad-dimensions-requires : tie.Need-bad-dimensions-requires
 bad-dimensions-requires c κs = tt
 
 returns-5 : tie.Need-returns-5
-returns-5 c =
-    sym (past-4 (c .before .before) ∙ applies-first _ _ (sym (c .before .bad-dimensions .ensures) ∙ c .if5 .taken))
+returns-5 c = sym (past-4 (c .before .before) ∙ applies-first _ _ (sym (c .before .bad-dimensions .ensures) ∙ c .if5 .taken))
 
 plan-count-requires : tie.Need-plan-count-requires
 plan-count-requires c κs = tt
@@ -117,31 +177,29 @@ bad-count-requires-2 : tie.Need-bad-count-requires-2
 bad-count-requires-2 c κs = tt
 
 returns-6 : tie.Need-returns-6
-returns-6 c =
-    sym (past-5 (c .before .before .before) ∙ applies-first _ _ (sym (c .before .bad-count2 .ensures ∙ ap badCount (c .before .before .plan-count .ensures)) ∙ c .if6 .taken))
+returns-6 c = sym (past-5 (passed-5 (c .before)) ∙ applies-first _ _ (sym (counted (c .before)) ∙ c .if6 .taken))
 
 bad-pool-requires : tie.Need-bad-pool-requires
-bad-pool-requires c κs = some-objectives _ (good-directions (c .before .before .before .before .before .before .before .before .before .before .before)) .1
+bad-pool-requires c κs = some-objectives _ (good-directions (first-6 c)) .1
 
 returns-7 : tie.Need-returns-7
 unfolding badPool
-returns-7 c =
-    sym (past-6 (c .before .before) ∙ applies-first _ _ (sym (c .before .bad-pool .ensures) ∙ c .if7 .taken))
+returns-7 c = sym (past-6 (c .before .before) ∙ applies-first _ _ (sym (c .before .bad-pool .ensures) ∙ c .if7 .taken))
 
 bad-parents-requires : tie.Need-bad-parents-requires
-bad-parents-requires c κs = few _ _ (good-dimensions (c .before .before .before .before .before))
+bad-parents-requires c κs = few _ _ (good-dimensions (fifth-7 c))
 
 returns-8 : tie.Need-returns-8
 unfolding badParents
-returns-8 c =
-    sym (past-7 (c .before .before) ∙ applies-first _ _ (sym (c .before .bad-parents .ensures) ∙ c .if8 .taken))
+returns-8 c = sym (past-7 (c .before .before) ∙ applies-first _ _ (sym (c .before .bad-parents .ensures) ∙ c .if8 .taken))
 
 no-step-room-requires : tie.Need-no-step-room-requires
-no-step-room-requires c κs = (one-to-1024 _ (good-size (c .before .before .before .before .before .before .before .before .before .before .before .before .before)) .1, few _ _ (good-dimensions (c .before .before .before .before .before .before .before)))
+no-step-room-requires c κs =
+    let d = fifth-7 (passed-7 c) in
+    (one-to-1024 _ (good-size (second-5 d)) .1, few _ _ (good-dimensions d))
 
 returns-9 : tie.Need-returns-9
-returns-9 c =
-    sym (past-8 (c .before .before) ∙ applies-first _ _ (sym (slices (c .before)) ∙ c .if9 .taken))
+returns-9 c = sym (past-8 (c .before .before) ∙ applies-first _ _ (sym (slices (c .before)) ∙ c .if9 .taken))
 
 returns-10 : tie.Need-returns-10
 unfolding firstOf
