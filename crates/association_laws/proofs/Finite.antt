@@ -1,13 +1,14 @@
 -- THEOREM: every distance of a plan from a line of the table, of a request whose numbers refusal 8 lets pass and that has 1 to 8 objectives and 1 to 199
--- divisions, is the paper's, no NaN and below infinity. Assumes nothing.
+-- divisions, is the paper's, and, where the plan shapes the scale, no NaN and below infinity. Assumes nothing.
 use Prim.Native.Nat.{ℕ, _≤_, _<_}
 use mathlib.Core.Path.{_≡_, refl, sym, subst}
 use mathlib.Core.Bool.{true, false}
 use lib.Dec.{T, lit≤, lit<}
 use lib.Ieee.{Float, binary64, lt, le, ofBits, fits, isNan}
+use Rattle.model.specs.Lists.{In}
 use Rattle.model.specs.Real.{_⊗_, _⊘_, infinity}
 use Rattle.model.specs.Numbers.{sqrtOf}
-use Rattle.model.specs.Association.{Request, objectives, lineCount, normalised, coordinate, dot, offSquares, squaresOf, distance, distanceTo, smallNorm}
+use Rattle.model.specs.Association.{Request, objectives, lineCount, shapers, normalised, coordinate, dot, offSquares, squaresOf, distance, distanceTo, smallNorm}
 use Rattle.model.specs.Papers.DebJain2014.{perpendicular}
 use Rattle.list_laws.proofs.Bools.{T-true, T-false}
 use Rattle.float_laws.proofs.Order.{le-trans, le-not-nan, le-lt-trans, nlt→le}
@@ -87,8 +88,8 @@ module _ (r : Request) (wide : 1 ≤ objectives r) (narrow : objectives r ≤ 8)
   distanceTo-perpendicular p l k =
       distance-perpendicular (objectives r) (normalised r p) (coordinate r l) (usable (objectives r) (r .divisions) l wide narrow some few k .notSmall)
 
-  -- THEOREM: no distance is a NaN, and each is below infinity: normalised values lie within 0..2 ^ 0
-  pub distanceTo-number : Measurable r → (p : ℕ) → p < r .count → (l : ℕ) → l < lineCount r
+  -- THEOREM: no distance of a plan that shapes the scale is a NaN, and each is below infinity: its normalised values lie within 0..2 ^ 0
+  pub distanceTo-number : Measurable r → (p : ℕ) → In p (shapers r) → (l : ℕ) → l < lineCount r
       → (isNan (distanceTo r p l) ≡ false) × (lt (distanceTo r p l) infinity ≡ true)
   unfolding distanceTo coordinate
   distanceTo-number M p h l k =

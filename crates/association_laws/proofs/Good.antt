@@ -16,10 +16,10 @@ use Rattle.model.specs.Lists.{listBelow}
 use Rattle.model.specs.Plan.{Plan, maxObjectives, planOf}
 use Rattle.model.specs.Real.{real}
 use Rattle.model.specs.Row.{directionOf, toMinimize, rowOf}
-use Rattle.model.specs.Association.{Request, objectives, valueOf, idealOf}
+use Rattle.model.specs.Association.{Request, objectives, valueOf, shapers, idealOf}
 use Rattle.model.specs.Refusal.{measurable, isInfinity, goodEntry, goodPlan, goodIdeal, badPool}
 use Rattle.list_laws.proofs.Bools.{T-true, true-T, and-left, and-right, and-both}
-use Rattle.list_laws.proofs.Best.{best-all}
+use Rattle.list_laws.proofs.Best.{among-all}
 use Rattle.list_laws.proofs.Built.{listBelow-length}
 use Rattle.list_laws.proofs.Tests.{allBelow-every, allIn-each, allIn-listBelow}
 use Rattle.list_laws.proofs.Checks.{good-values, good-ideal-length, pool-plan, pool-ideal}
@@ -28,6 +28,7 @@ use Rattle.front_laws.proofs.Plans.{InWords, in-words, words-accepted}
 use Rattle.float_laws.proofs.Rounding.{le-neg}
 use Rattle.float_laws.proofs.Constants.{exp2, minus-exp2}
 use Rattle.association_laws.specs.Measurable.{Measurable}
+use Rattle.association_laws.proofs.Shapers.{shaper-below}
 
 -- ---- a value
 
@@ -84,8 +85,8 @@ module _ (r : Request) (pool : badPool r ≡ false) (whole : (p : ℕ) → p < r
   moved-entry : (j : ℕ) → j < objectives r → goodEntry (idealOf r j) ≡ true
   unfolding idealOf
   moved-entry j k =
-      best-all lt (λ (x : Float). goodEntry x ≡ true) (getD (r .ideal) j nan) (λ p. valueOf r p j) (r .count) (start-good j k)
-      (λ p h. ap (λ (b : Bool). b || isInfinity (valueOf r p j)) (value-measured p j h k))
+      among-all lt (λ (x : Float). goodEntry x ≡ true) (getD (r .ideal) j nan) (λ p. valueOf r p j) (shapers r) (start-good j k)
+      (λ p m. ap (λ (b : Bool). b || isInfinity (valueOf r p j)) (value-measured p j (shaper-below r p m) k))
 
   -- THEOREM: so refusal 8 lets that ideal pass
   pub moved-good : goodIdeal (objectives r) (listBelow (idealOf r) (objectives r)) ≡ true

@@ -1,5 +1,6 @@
 pub mod Search
 pub mod Same
+pub mod Shapers
 pub mod Request
 pub mod Extremes
 pub mod Within

@@ -1,19 +1,23 @@
 -- What the functions of `association` leave is what document 01 says of a request: its ideal, intercepts, normalised rows, lines and distances.
 use Prim.Native.Nat.{ℕ, _≤_, _<_}
 use mathlib.Core.Path.{_≡_, ap, ap₂, subst, _∙_}
+use mathlib.Core.Bool.{true}
 use mathlib.Core.List.{List, flatten}
-use lib.Ieee.{Float, nan}
-use Rattle.model.specs.Lists.{listBelow, over}
-use Rattle.model.specs.Real.{_⊖_, _⊘_}
+use lib.Ieee.{Float, nan, inf, lt}
+use lib.ListN.{getD}
+use Rattle.model.specs.Lists.{In, listBelow, over}
+use Rattle.model.specs.Real.{_⊖_, _⊘_, above}
 use Rattle.model.specs.Reference.{dasDennis}
 use Rattle.model.specs.Association.{Request, objectives, lineCount, valueOf, idealOf, interceptOf, normalised, coordinate, distanceTo, distance, association, leastFrom, greatest, interceptFrom, nearestOf}
 use Rattle.list_laws.specs.Rows.{flatRows}
-use Rattle.list_laws.proofs.Best.{best-same}
+use Rattle.list_laws.proofs.Best.{among-same}
+use Rattle.list_laws.proofs.Kept.{keepBelow-below}
 use Rattle.list_laws.proofs.Built.{over-same, over-below}
 use Rattle.list_laws.proofs.Rows.{rows-at}
 use Rattle.reference_laws.proofs.Rows.{table-at}
-use Rattle.association_laws.specs.Flat.{rowAt, leastAt, interceptAt, normalAt, nearestAt, NearestAll}
+use Rattle.association_laws.specs.Flat.{rowAt, column, shapersOf, leastAt, interceptAt, normalAt, nearestAt, NearestAll}
 use Rattle.association_laws.specs.Request.{Pool, StartIn, IdealIn, InterceptsIn, NormalisedIn, LinesIn, Associates}
+use Rattle.association_laws.proofs.Shapers.{shapers-are}
 use Rattle.association_laws.proofs.Same.{distance-same, nearest-same}
 
 -- ---- what `das_dennis` leaves: the request's k lines
@@ -24,13 +28,17 @@ lines-at r some k c table old e l j g i =
     ap (λ t. rowAt t (objectives r) l j) e ∙ table-at (objectives r) (r .divisions) l j old some (subst (λ t. l < t) c g) i
 
 module _ (r : Request) (rows : List Float) (n m : ℕ) (P : Pool r rows n m) where
+  -- the value of one that shapes the scale
+  shaper-value : (j : ℕ) → j < m → (p : ℕ) → In p (shapersOf n) → column rows m j p ≡ valueOf r p j
+  shaper-value j h p k = P .values p j (keepBelow-below (λ q. true) n p k) h
+
   -- ---- what `update_ideal_point` leaves, from the request's ideal
   module _ (old : List Float) (start : StartIn r old m) where
     least-is : (j : ℕ) → j < m → leastAt rows n m old j ≡ idealOf r j
     unfolding idealOf
     least-is j h =
-        best-same _ _ _ _ n (λ p k. P .values p j k h)
-        ∙ ap₂ (λ b k. leastFrom b (λ p. valueOf r p j) k) (start j h) (P .count)
+        among-same lt (getD old j nan) (column rows m j) (λ p. valueOf r p j) (shapersOf n) (shaper-value j h)
+        ∙ ap₂ (λ b ps. leastFrom b (λ p. valueOf r p j) ps) (start j h) (shapers-are r n (P .count))
 
     ideal-at : (ideal : List Float) → ideal ≡ over (listBelow (leastAt rows n m old) m) old → IdealIn r ideal m
     ideal-at ideal e j h = over-below (leastAt rows n m old) m ideal old j nan e h ∙ least-is j h
@@ -40,7 +48,10 @@ module _ (r : Request) (rows : List Float) (n m : ℕ) (P : Pool r rows n m) whe
     intercept-is : (j : ℕ) → j < m → interceptAt rows n m ideal j ≡ interceptOf r j
     unfolding interceptOf
     intercept-is j h =
-        ap₂ (λ g i. interceptFrom (g ⊖ i)) (best-same _ _ _ _ n (λ p k. P .values p j k h) ∙ ap (greatest (λ p. valueOf r p j)) (P .count)) (z j h)
+        ap₂ (λ g i. interceptFrom (g ⊖ i))
+        (among-same above (inf true) (column rows m j) (λ p. valueOf r p j) (shapersOf n) (shaper-value j h)
+        ∙ ap (greatest (λ p. valueOf r p j)) (shapers-are r n (P .count)))
+        (z j h)
 
     intercepts-at : (intercepts old : List Float) → intercepts ≡ over (listBelow (interceptAt rows n m ideal) m) old → InterceptsIn r intercepts m
     intercepts-at intercepts old e j h = over-below (interceptAt rows n m ideal) m intercepts old j nan e h ∙ intercept-is j h

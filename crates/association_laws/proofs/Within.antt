@@ -1,4 +1,4 @@
--- THEOREM: every normalised value of a request whose numbers refusal 8 lets pass lies within 0..1. Assumes nothing.
+-- THEOREM: every normalised value of a plan that shapes the scale lies within 0..1, in a request whose numbers refusal 8 lets pass. Assumes nothing.
 use Prim.Native.Nat.{ℕ, _<_}
 use mathlib.Core.Path.{_≡_, refl, ap, sym, subst, _∙_}
 use mathlib.Core.Bool.{true, false, not, true≢false}
@@ -7,9 +7,9 @@ use lib.Dec.{T, lit≤}
 use lib.Ieee.{Float, nan, inf, fin, binary64, lt, le, eq, ofBits, fits, isNan}
 use lib.Ieee.Fits.{inf-fits}
 use lib.ListN.{getD}
-use Rattle.model.specs.Lists.{over}
+use Rattle.model.specs.Lists.{In, over}
 use Rattle.model.specs.Real.{_⊖_, _⊘_, nought, unit, within, above}
-use Rattle.model.specs.Association.{Request, objectives, valueOf, idealOf, interceptOf, normalised, leastFrom, greatest, smallSpan, interceptFrom}
+use Rattle.model.specs.Association.{Request, objectives, valueOf, shapers, idealOf, interceptOf, normalised, leastFrom, greatest, smallSpan, interceptFrom}
 use Rattle.model.specs.Refusal.{measurable, isInfinity, goodEntry}
 use Rattle.list_laws.specs.Rows.{flatRows}
 use Rattle.list_laws.proofs.Bools.{by-bool, and-both, T-true, true-T, false-T}
@@ -19,11 +19,12 @@ use Rattle.float_laws.proofs.Constants as constants
 use Rattle.float_laws.proofs.Arithmetic.{itself}
 use Rattle.float_laws.proofs.FromZero.{Upto, upto-wider, sub-upto, share}
 use Rattle.float_laws.proofs.Magnitude.{Within, within-number, within-not-nan, sub-within}
-use Rattle.list_laws.proofs.Best.{best-all}
+use Rattle.list_laws.proofs.Best.{among-all}
 use Rattle.front_laws.proofs.Feasible.{measurable-within}
 use Rattle.association_laws.specs.Flat.{normalAt}
 use Rattle.association_laws.specs.Measurable.{Measurable}
 use Rattle.association_laws.specs.Request.{Pool, IdealIn, InterceptsIn, InUnit}
+use Rattle.association_laws.proofs.Shapers.{shaper-below, all-shape}
 use Rattle.association_laws.proofs.Extremes.{Known, least-le, greatest-ge}
 use Rattle.association_laws.proofs.Request.{normalised-at}
 
@@ -46,35 +47,35 @@ start-of x h e = by-bool (measurable x)
     (λ v. record { held = h; low = measurable-within x h v .low })
     (λ v. let i : isInfinity x ≡ true = rw v at e in record { held = h; low = infinite-low x i })
 
--- ---- one objective: its values f, and the ideal b that it starts from
-module _ (b : Float) (f : ℕ → Float) (n : ℕ) (B : Start b) (F : (t : ℕ) → t < n → Within 1000 (f t)) (p : ℕ) (h : p < n) where
+-- ---- one objective: its values f at the places ps, and the ideal b that it starts from
+module _ (b : Float) (f : ℕ → Float) (ps : List ℕ) (B : Start b) (F : (q : ℕ) → In q ps → Within 1000 (f q)) (p : ℕ) (h : In p ps) where
   abbrev least : Float
-  least = leastFrom b f n
+  least = leastFrom b f ps
 
   abbrev most : Float
-  most = greatest f n
+  most = greatest f ps
 
-  known : (t : ℕ) → t < n → Known (f t)
-  known t l = within-not-nan 1000 (f t) (F t l)
+  known : (q : ℕ) → In q ps → Known (f q)
+  known q m = within-not-nan 1000 (f q) (F q m)
 
   least-below : T (le least (f p))
-  least-below = least-le b f n (le-not-nan (minus-exp2 1000) b (B .low) .1) known p h
+  least-below = least-le b f ps (le-not-nan (minus-exp2 1000) b (B .low) .1) known p h
 
   most-above : T (le (f p) most)
-  most-above = greatest-ge f n known p h
+  most-above = greatest-ge f ps known p h
 
   least-within : Within 1000 least
   least-within =
-      let s : Start least = best-all lt Start b f n B (λ t l. record { held = F t l .held; low = F t l .low }) in
+      let s : Start least = among-all lt Start b f ps B (λ q m. record { held = F q m .held; low = F q m .low }) in
       record { held = s .held; low = s .low; high = le-trans least (f p) (exp2 1000) least-below (F p h .high) }
 
   -- so is the greatest; where it starts, at minus infinity, it is a double and at most 2 ^ 1000
   most-within : Within 1000 most
   unfolding le
   most-within = record {
-    held = best-all above (λ x. T (fits binary64 x)) (inf true) f n (inf-fits binary64 true) (λ t l. F t l .held);
+    held = among-all above (λ x. T (fits binary64 x)) (inf true) f ps (inf-fits binary64 true) (λ q m. F q m .held);
     low = le-trans (minus-exp2 1000) (f p) most (F p h .low) most-above;
-    high = best-all above (λ x. T (le x (exp2 1000))) (inf true) f n tt (λ t l. F t l .high);
+    high = among-all above (λ x. T (le x (exp2 1000))) (inf true) f ps tt (λ q m. F q m .high);
   }
 
   abbrev span : Float
@@ -105,14 +106,14 @@ module _ (b : Float) (f : ℕ → Float) (n : ℕ) (B : Start b) (F : (t : ℕ) 
       (λ e. rw e (wide (true-T (lt smallSpan span) e)))
       (λ e. rw e (narrow (false-T (lt smallSpan span) e)))
 
--- ---- a request
+-- ---- a request, and a plan that shapes its scale
 
-module _ (r : Request) (M : Measurable r) (p j : ℕ) (h : p < r .count) (k : j < objectives r) where
+module _ (r : Request) (M : Measurable r) (p j : ℕ) (h : In p (shapers r)) (k : j < objectives r) where
   pub normalised-unit : Upto one (normalised r p j)
   unfolding normalised idealOf interceptOf
   normalised-unit =
-      normal-unit (getD (r .ideal) j nan) (λ q. valueOf r q j) (r .count) (start-of (getD (r .ideal) j nan) (M .startDoubles j k) (M .start j k))
-      (λ q l. measurable-within (valueOf r q j) (M .doubles q j l k) (M .values q j l k)) p h
+      normal-unit (getD (r .ideal) j nan) (λ q. valueOf r q j) (shapers r) (start-of (getD (r .ideal) j nan) (M .startDoubles j k) (M .start j k))
+      (λ q m. let l = shaper-below r q m in measurable-within (valueOf r q j) (M .doubles q j l k) (M .values q j l k)) p h
 
   -- THEOREM
   pub normalised-within : within nought unit (normalised r p j) ≡ true
@@ -125,4 +126,4 @@ pub rows-in-unit : (r : Request) → Measurable r → (rows : List Float) (n m :
     → normalized ≡ over (flatRows (normalAt rows m ideal intercepts) n m) old → InUnit normalized n m
 rows-in-unit r M rows n m P ideal z intercepts a normalized old e p j h k =
     ap (λ x. within nought unit x) (normalised-at r rows n m P ideal z intercepts a normalized old e p j h k)
-    ∙ normalised-within r M p j (subst (λ t. p < t) (P .count) h) (subst (λ t. j < t) (P .width) k)
+    ∙ normalised-within r M p j (all-shape r p (subst (λ t. p < t) (P .count) h)) (subst (λ t. j < t) (P .width) k)

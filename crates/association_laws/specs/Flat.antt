@@ -1,10 +1,11 @@
 -- Document 01's association over flat lists: plan p's value at objective j is entry p * m + j of its rows, coordinate j of line l entry l * m + j of its table.
 use Prim.Native.Nat.{ℕ, _*_, _<_}
 use mathlib.Core.Path.{_≡_}
+use mathlib.Core.Bool.{true}
 use mathlib.Core.List.{List}
 use lib.Ieee.{Float, nan}
 use lib.ListN.{getD}
-use Rattle.model.specs.Lists.{listBelow, over}
+use Rattle.model.specs.Lists.{keepBelow, listBelow, over}
 use Rattle.model.specs.Real.{_⊖_, _⊘_}
 pub use Rattle.front_laws.specs.Flat.{from, rowAt}
 use Rattle.model.specs.Association.{leastFrom, greatest, interceptFrom, dot, distance, Near, nearestOf}
@@ -13,13 +14,17 @@ use Rattle.model.specs.Association.{leastFrom, greatest, interceptFrom, dot, di
 abbrev pub column : List Float → ℕ → ℕ → ℕ → Float
 column rows m j p = rowAt rows m p j
 
--- the smaller of an ideal's entry j and the least of the n plans
+-- the places of those of n plans that shape the scale: all of them
+abbrev pub shapersOf : ℕ → List ℕ
+shapersOf n = keepBelow (λ p. true) n
+
+-- the smaller of an ideal's entry j and the least of n plans
 abbrev pub leastAt : List Float → ℕ → ℕ → List Float → ℕ → Float
-leastAt rows n m ideal j = leastFrom (getD ideal j nan) (column rows m j) n
+leastAt rows n m ideal j = leastFrom (getD ideal j nan) (column rows m j) (shapersOf n)
 
 -- the intercept of objective j
 abbrev pub interceptAt : List Float → ℕ → ℕ → List Float → ℕ → Float
-interceptAt rows n m ideal j = interceptFrom (greatest (column rows m j) n ⊖ getD ideal j nan)
+interceptAt rows n m ideal j = interceptFrom (greatest (column rows m j) (shapersOf n) ⊖ getD ideal j nan)
 
 -- plan p's normalised value at objective j
 abbrev pub normalAt : List Float → ℕ → List Float → List Float → ℕ → ℕ → Float

@@ -15,12 +15,18 @@ use Rattle.niching_laws.specs.Nearest.{NearestLine}
 use Rattle.niching_laws.specs.Niching.{ByProcedure}
 use Rattle.niching_laws.proofs.Association.{association-nearest}
 use Rattle.association_laws.specs.Measurable.{Measurable}
+use Rattle.association_laws.proofs.Shapers.{all-shape}
+use Rattle.association_laws.proofs.Within.{normalised-within}
 use Rattle.association_laws.proofs.Finite.{distanceTo-perpendicular, distanceTo-number}
 use Rattle.demand3_laws.specs.Facts.{Accepted}
-use Rattle.demand3_laws.specs.Paper.{fromLine, ByPaper}
+use Rattle.demand3_laws.specs.Paper.{Scaled, fromLine, ByPaper}
 use Rattle.demand3_laws.proofs.Passed.{some-objectives}
 use Rattle.demand3_laws.proofs.Accepted.{accepted-lines}
 use Rattle.demand3_laws.proofs.Demand3.{filled-procedure}
+
+-- every plan shapes the scale, so every normalised value lies within 0..1
+pub scaled : (r : Request) → Measurable r → Scaled r
+scaled r measured p j h k = normalised-within r measured p j (all-shape r p h) k
 
 module _ (r : Request) (accepted : Accepted r) (measured : Measurable r) where
   width : (1 ≤ objectives r) × (objectives r ≤ maxObjectives)
@@ -34,7 +40,7 @@ module _ (r : Request) (accepted : Accepted r) (measured : Measurable r) where
   perpendicular-to = distanceTo-perpendicular r (width .0) (width .1) (divided .least) (divided .most)
 
   known : (p l : ℕ) → p < r .count → l < lineCount r → isNan (distanceTo r p l) ≡ false
-  known p l h k = distanceTo-number r (width .0) (width .1) (divided .least) (divided .most) measured p h l k .0
+  known p l h k = distanceTo-number r (width .0) (width .1) (divided .least) (divided .most) measured p (all-shape r p h) l k .0
 
   nearest : (p : ℕ) → NearestLine (distanceTo r p) (lineCount r) (lineOf r p) (association r p .distance)
   nearest p = association-nearest r p (accepted-lines r accepted)

@@ -12,13 +12,12 @@ use Rattle.model.specs.Setting.{Operators}
 use Rattle.model.specs.Refusal.{Room, selectRefusal, stepRefusal}
 use Rattle.front_laws.proofs.Plans.{InWords}
 use Rattle.association_laws.specs.Measurable.{Measurable}
-use Rattle.association_laws.proofs.Within.{normalised-within}
 use Rattle.association_laws.proofs.Good.{measured-words}
 use Rattle.demand3_laws.specs.Facts.{Accepted}
 use Rattle.demand3_laws.specs.Paper.{Scaled, ByPaper}
 use Rattle.demand3_laws.proofs.Passed.{some-objectives}
 use Rattle.demand3_laws.proofs.Calls.{planAt-row, select-accepted, step-accepted}
-use Rattle.demand3_laws.proofs.Paper.{by-paper}
+use Rattle.demand3_laws.proofs.Paper.{scaled, by-paper}
 
 -- the plans lie in a slice of words, and the ideal's entries are doubles, as those of every slice of f64 are
 module _ (r : Request) (words : List ℕ) (same : (p : ℕ) → r .plans p ≡ planAt words p)
@@ -33,7 +32,7 @@ module _ (r : Request) (words : List ℕ) (same : (p : ℕ) → r .plans p ≡ p
   -- ---- `nsga3_select`
   module _ (room : Room) (e : selectRefusal r room ≡ none) where
     pub select-scaled : Scaled r
-    select-scaled = normalised-within r (measured (select-accepted r in-slice room e))
+    select-scaled = scaled r (measured (select-accepted r in-slice room e))
 
     pub select-by-paper : ByPaper r
     select-by-paper = let a = select-accepted r in-slice room e in by-paper r a (measured a)
@@ -41,7 +40,7 @@ module _ (r : Request) (words : List ℕ) (same : (p : ℕ) → r .plans p ≡ p
   -- ---- `nsga3_generate_offspring`
   module _ (o : Operators) (room : Room) (offspring : ℕ) (e : stepRefusal o r room offspring ≡ none) where
     pub step-scaled : Scaled r
-    step-scaled = normalised-within r (measured (step-accepted r in-slice o room offspring e))
+    step-scaled = scaled r (measured (step-accepted r in-slice o room offspring e))
 
     pub step-by-paper : ByPaper r
     step-by-paper = let a = step-accepted r in-slice o room offspring e in by-paper r a (measured a)

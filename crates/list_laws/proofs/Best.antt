@@ -1,18 +1,20 @@
--- Laws of `bestFrom`: the steps of a search, and what holds of what it finds.
+-- Laws of `bestFrom` and `bestAmong`: the steps of a search, and what holds of what it finds.
 use Prim.Native.Nat.{ℕ, zero, suc, _+_, _<_}
 use mathlib.Core.Path.{_≡_, refl, ap, ap₂, sym, _∙_}
 use mathlib.Core.Bool.{Bool, true, false, cond}
-use mathlib.Core.List.{List}
+use mathlib.Core.List.{List, [], _∷_, _++_}
 use native.Mathlib.Nat.{not-suc-le-zero}
 use native.Mathlib.Numerals.{add-one}
 use native.Mathlib.Omega.{arith}
 use borrow.Author.Tests.{le-ltb, ltb-true, ltb-false}
 use lib.Dec.{ltb}
-use lib.ListN.{length, getD}
-use Rattle.model.specs.Lists.{bestFrom, bestIn, In}
+use lib.ListN.{length, getD, length-append, List·getD-append}
+use lib.Seq.{getD-append-seam}
+use Rattle.model.specs.Lists.{keepBelow, bestFrom, bestAmong, bestIn, In}
 use Rattle.list_laws.proofs.Bools.{by-cond}
 use Rattle.list_laws.proofs.Below.{same-below, last-or}
 use Rattle.list_laws.proofs.Members.{getD-in, place-of}
+use Rattle.list_laws.proofs.Kept.{keepBelow-none, keepBelow-more}
 
 module _ {A : Type 0} (beats : A → A → Bool) where
   pub best-none : (b : A) (f : ℕ → A) → bestFrom beats b f 0 ≡ b
@@ -67,14 +69,50 @@ best-map beats h b f (suc n) =
     either true = refl
     either false = refl
 
+-- ---- over listed places
+
+module _ {A : Type 0} (beats : A → A → Bool) where
+  pub among-none : (b : A) (f : ℕ → A) (t : ℕ → Bool) → bestAmong beats b f (keepBelow t 0) ≡ b
+  among-none b f t = ap (bestAmong beats b f) (keepBelow-none t) ∙ best-none beats b (λ i. f (getD [] i 0))
+
+  -- one place more, after the others
+  among-snoc : (b : A) (f : ℕ → A) (ps : List ℕ) (q : ℕ) {l : A} {c : Bool} → l ≡ bestAmong beats b f ps → beats (f q) l ≡ c
+      → cond c (f q) l ≡ bestAmong beats b f (ps ++ (q ∷ []))
+  among-snoc b f ps q {l} {c} g e =
+      let more = ps ++ (q ∷ []) in
+      let last : f (getD more (length ps) 0) ≡ f q = ap f (getD-append-seam ps q [] 0) in
+      let same = best-same beats b (λ i. f (getD ps i 0)) (λ i. f (getD more i 0)) (length ps) (λ i u. ap f (sym (List·getD-append ps (q ∷ []) 0 i u))) in
+      ap (λ x. cond c x l) (sym last)
+      ∙ best-more beats b (λ i. f (getD more i 0)) (length ps) (g ∙ same) (ap (λ x. beats x l) last ∙ e)
+      ∙ ap (bestFrom beats b (λ i. f (getD more i 0))) (sym (length-append ps (q ∷ [])))
+
+  -- a turn of the search over the numbers that pass, at one that does
+  pub among-more : (b : A) (f : ℕ → A) (t : ℕ → Bool) (n : ℕ) {l : A} {c : Bool} → t n ≡ true → l ≡ bestAmong beats b f (keepBelow t n) → beats (f n) l ≡ c
+      → cond c (f n) l ≡ bestAmong beats b f (keepBelow t (n + 1))
+  among-more b f t n e g v = among-snoc b f (keepBelow t n) n g v ∙ ap (bestAmong beats b f) (sym (keepBelow-more t n e))
+
+  -- only the values at the places listed matter
+  pub among-same : (b : A) (f g : ℕ → A) (ps : List ℕ) → ((q : ℕ) → In q ps → f q ≡ g q) → bestAmong beats b f ps ≡ bestAmong beats b g ps
+  among-same b f g ps h = best-same beats b (λ i. f (getD ps i 0)) (λ i. g (getD ps i 0)) (length ps) (λ t l. h (getD ps t 0) (getD-in ps t l))
+
+  -- what holds of where the search starts and at every place, holds of what is found
+  pub among-all : (P : A → Type 0) (b : A) (f : ℕ → A) (ps : List ℕ) → P b → ((q : ℕ) → In q ps → P (f q)) → P (bestAmong beats b f ps)
+  among-all P b f ps h g = best-all beats P b (λ i. f (getD ps i 0)) (length ps) h (λ t l. g (getD ps t 0) (getD-in ps t l))
+
+  -- by such a test as `best-least` asks for, nothing at a place listed beats what is found
+  pub among-least : ((x : A) → beats x x ≡ false) → ((x y z : A) → beats x y ≡ false → beats z y ≡ true → beats x z ≡ false)
+      → (b : A) (f : ℕ → A) (ps : List ℕ) {q : ℕ} → In q ps → beats (f q) (bestAmong beats b f ps) ≡ false
+  among-least itself down b f ps m =
+      let r = place-of m in
+      ap (λ t. beats (f t) (bestAmong beats b f ps)) (sym (r .2)) ∙ best-least beats itself down b (λ i. f (getD ps i 0)) (length ps) (r .0) (r .1)
+
 -- ---- the best of a list, which is in it where anything is, and which nothing in it beats
 
 pub best-member : (beats : ℕ → ℕ → Bool) → ((x : ℕ) → beats x x ≡ false) → ((x y z : ℕ) → beats x y ≡ false → beats z y ≡ true → beats x z ≡ false)
     → {p : ℕ} (ps : List ℕ) → In p ps → In (bestIn beats ps) ps × ((q : ℕ) → In q ps → beats q (bestIn beats ps) ≡ false)
 best-member beats itself down ps m = (
-  best-all beats (λ q. In q ps) (getD ps 0 0) (λ i. getD ps i 0) (length ps) (getD-in ps 0 (let r = place-of m in omega (arith, r .1))) (λ t l. getD-in ps t l),
-  λ q k. let r = place-of k in
-      ap (λ t. beats t (bestIn beats ps)) (sym (r .2)) ∙ best-least beats itself down (getD ps 0 0) (λ i. getD ps i 0) (length ps) (r .0) (r .1),
+  among-all beats (λ q. In q ps) (getD ps 0 0) (λ p. p) ps (getD-in ps 0 (let r = place-of m in omega (arith, r .1))) (λ q k. k),
+  λ q k. among-least beats itself down (getD ps 0 0) (λ p. p) ps k,
 )
 
 -- ---- "below" is such a test

@@ -28,7 +28,7 @@ unfolding flatten add sub mul div lt le eq ofBits ofInt neg Deb.undominatedOfRes
     Numbers.roundOf Numbers.powerUp Numbers.halfBy Numbers.halved Numbers.halvings Numbers.R Plan.planOf Row.rowOf Row.dominates Row.feasible
     Row.violation Row.constrainedDominates Row.rowBeats Row.beats Front.lower Front.freed Front.lowerAll Front.freedAll Front.firstRound
     Front.nextRound Front.round Front.frontOf Front.frontList Reference.tuples Reference.dasDennis Reference.binomial Reference.pointCount
-    Reference.autoDivisions Reference.divisionsOf Reference.populationSize Association.idealOf Association.interceptOf Association.normalised
+    Reference.autoDivisions Reference.divisionsOf Reference.populationSize Association.shapers Association.idealOf Association.interceptOf Association.normalised
     Association.coordinate Association.squaresOf Association.distance Association.distanceTo Association.association Kept.drawFrom Kept.nearest Kept.drawMember Kept.pickOne
     Kept.wholeFronts Kept.before Kept.isSplit Kept.splitFront Kept.filled Kept.selectedSplit Kept.selectedWhole Kept.selected Setting.intOfWord
     Setting.validDimension Setting.inBounds Setting.sampleInt Setting.sampleRandom Setting.insert Setting.sortByParam Setting.extractOne

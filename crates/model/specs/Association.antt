@@ -4,7 +4,7 @@ use mathlib.Core.Bool.{Bool, true, cond}
 use mathlib.Core.List.{List}
 use lib.Ieee.{Float, nan, inf, binary64, lt, ofBits}
 use lib.ListN.{length, getD}
-use Rattle.model.specs.Lists.{bestFrom}
+use Rattle.model.specs.Lists.{keepBelow, bestFrom, bestAmong}
 use Rattle.model.specs.Real.{_⊖_, _⊗_, _⊘_, unit, infinity, above, sumTo}
 use Rattle.model.specs.Numbers.{sqrtOf, square}
 use Rattle.model.specs.Plan.{Plan}
@@ -43,17 +43,21 @@ dominance r = beats (r .marks) (r .plans)
 
 -- ---- the scale
 
--- the smaller of b and the least of f 0 .. f (n - 1); b stands where they are equal, and else the first met
-abbrev pub leastFrom : Float → (ℕ → Float) → ℕ → Float
-leastFrom b f n = bestFrom lt b f n
+-- the places of the plans that shape the scale, in the pool's order: every plan of the pool does
+unfoldable pub shapers : Request → List ℕ
+shapers r = keepBelow (λ p. true) (r .count)
 
--- the greatest of f 0 .. f (n - 1)
-abbrev pub greatest : (ℕ → Float) → ℕ → Float
-greatest f n = bestFrom above (inf true) f n
+-- the smaller of b and the least of f at the places ps; b stands where they are equal, and else the first met
+abbrev pub leastFrom : Float → (ℕ → Float) → List ℕ → Float
+leastFrom b f ps = bestAmong lt b f ps
+
+-- the greatest of f at the places ps
+abbrev pub greatest : (ℕ → Float) → List ℕ → Float
+greatest f ps = bestAmong above (inf true) f ps
 
 -- "the ideal becomes, per objective, the smaller of itself and the pool's least"
 unfoldable pub idealOf : Request → ℕ → Float
-idealOf r j = leastFrom (getD (r .ideal) j nan) (λ p. valueOf r p j) (r .count)
+idealOf r j = leastFrom (getD (r .ideal) j nan) (λ p. valueOf r p j) (shapers r)
 
 -- 1e-10 and 1e-30
 abbrev pub smallSpan : Float
@@ -67,7 +71,7 @@ abbrev pub interceptFrom : Float → Float
 interceptFrom span = cond (lt smallSpan span) span unit
 
 unfoldable pub interceptOf : Request → ℕ → Float
-interceptOf r j = interceptFrom (greatest (λ p. valueOf r p j) (r .count) ⊖ idealOf r j)
+interceptOf r j = interceptFrom (greatest (λ p. valueOf r p j) (shapers r) ⊖ idealOf r j)
 
 -- "the row becomes (value - ideal) / intercept"
 unfoldable pub normalised : Request → ℕ → ℕ → Float

@@ -7,14 +7,14 @@ ghost use lib.Seq.{sets};
 ghost use Rattle.model.specs.Lists.{listBelow, over};
 ghost use Rattle.model.specs.Association.{leastFrom, greatest, interceptFrom, Request};
 ghost use Rattle.list_laws.specs.Rows.{flatRows};
-ghost use Rattle.association_laws.specs.Flat.{column, leastAt, interceptAt, normalAt};
+ghost use Rattle.association_laws.specs.Flat.{column, shapersOf, leastAt, interceptAt, normalAt};
 ghost use Rattle.association_laws.specs.Measurable.{Measurable};
 ghost use Rattle.association_laws.specs.Request.{Pool, IdealIn, InterceptsIn, InUnit};
 
 // The smaller of `start` and the least value of objective j; `start` stands where they are equal.
 fn least_of(rows: &[f64], n: usize, m: usize, j: usize, start: f64) -> f64
     requires { ⌜ (n * m ≤ length (now rows)) × (j < m) ⌝ }
-    ensures { λ r. ⌜ r ≡ leastFrom start (column (now (rows .entry)) m j) n ⌝ }
+    ensures { λ r. ⌜ r ≡ leastFrom start (column (now (rows .entry)) m j) (shapersOf n) ⌝ }
 {
     let mut least = start;
     let mut p = 0;
@@ -44,7 +44,7 @@ pub fn update_ideal_point(rows: &[f64], n: usize, m: usize, ideal: &mut [f64])
 // The greatest value of objective j.
 fn greatest_of(rows: &[f64], n: usize, m: usize, j: usize) -> f64
     requires { ⌜ (n * m ≤ length (now rows)) × (j < m) ⌝ }
-    ensures { λ r. ⌜ r ≡ greatest (column (now (rows .entry)) m j) n ⌝ }
+    ensures { λ r. ⌜ r ≡ greatest (column (now (rows .entry)) m j) (shapersOf n) ⌝ }
 {
     let mut best = -1.0 / 0.0;
     let mut p = 0;

@@ -13,10 +13,9 @@ use Rattle.model.specs.Real.{infinity}
 use Rattle.model.specs.PoolFile.{PoolFile, parse, fileRequest}
 use Rattle.model.specs.Refusal.{selectRefusal, chooseRefusal}
 use Rattle.association_laws.specs.Measurable.{Measurable}
-use Rattle.association_laws.proofs.Within.{normalised-within}
 use Rattle.association_laws.proofs.Good.{measured}
 use Rattle.demand3_laws.specs.Paper.{Scaled, ByPaper}
-use Rattle.demand3_laws.proofs.Paper.{by-paper}
+use Rattle.demand3_laws.proofs.Paper.{scaled, by-paper}
 use Rattle.pool_laws.specs.Choice.{roomy}
 use Rattle.pool_laws.proofs.Shapes.{Whole, parse-whole}
 use Rattle.pool_laws.proofs.Refusals.{file-selects}
@@ -35,7 +34,7 @@ module _ (f : PoolFile) (whole : Whole f) (e : selectRefusal (fileRequest f) roo
       (λ j k. start-held (f .objectives) j (omega (arith, whole .marks)))
 
   pub file-scaled : Scaled (fileRequest f)
-  file-scaled = normalised-within (fileRequest f) file-measurable
+  file-scaled = scaled (fileRequest f) file-measurable
 
   pub file-by-paper : ByPaper (fileRequest f)
   file-by-paper = by-paper (fileRequest f) (file-accepted f whole e) file-measurable

@@ -1,18 +1,19 @@
 -- the least so far is that of the plans before p
 use Prim.Native.Nat.{_+_, _*_, _-_, _≤_}
-use mathlib.Core.Path.{_≡_, sym, _∙_}
+use mathlib.Core.Path.{_≡_, refl, sym, _∙_}
+use mathlib.Core.Bool.{true}
 use mathlib.Core.Logic.{⊎-elim}
 use native.Mathlib.Omega.{arith}
 use lib.Ieee.{lt}
-use Rattle.association_laws.specs.Flat.{column}
+use Rattle.model.specs.Association.{leastFrom}
+use Rattle.association_laws.specs.Flat.{column, shapersOf}
 use Rattle.list_laws.proofs.Rows.{row-inside}
-use Rattle.list_laws.proofs.Best.{best-none, best-more}
+use Rattle.list_laws.proofs.Best.{among-none, among-more}
 use Rattle.normalization.proofs.least_of.Statement.{statement}
 use Rattle.normalization.proofs.least_of.Tie as tie
-use Rattle.model.specs.Lists.{bestFrom}
 
 abbrev Inv-loop : tie.InvT-loop
-Inv-loop rows n m j start least₀ p₀ least p = (p ≤ n) × (least ≡ bestFrom lt start (column rows m j) p)
+Inv-loop rows n m j start least₀ p₀ least p = (p ≤ n) × (least ≡ leastFrom start (column rows m j) (shapersOf p))
 
 abbrev μ-loop : tie.MeasureT-loop
 μ-loop rows n m j start least₀ p₀ least p = n - p
@@ -22,7 +23,7 @@ inside : (c : tie.In-loop Inv-loop μ-loop) → c .before .loop .p * c .before .
 inside c = row-inside _ _ _ (c .loop-test .taken)
 
 loop-holds : tie.Need-loop-holds Inv-loop μ-loop
-loop-holds c = (omega arith, sym (best-none lt _ _))
+loop-holds c = let a = c .args in (omega arith, sym (among-none lt (a .start) (column (a .rows .now) (a .m) (a .j)) (λ p. true)))
 
 mul-v : tie.Need-mul-v Inv-loop μ-loop
 mul-v c = omega (arith, inside c)
@@ -44,11 +45,13 @@ loop-less c = omega arith
 
 loop-again : tie.Need-loop-again Inv-loop μ-loop
 loop-again c =
-    let l = c .before .before .before .loop in (
+    let l = c .before .before .before .loop in
+    let a = c .before .before .before .before .args in
+    let f = column (a .rows .now) (a .m) (a .j) in (
       omega arith,
       ⊎-elim
-          (λ w. w .1 ∙ best-more lt _ _ _ (l .inv .1) (w .0 .taken))
-          (λ w. w .1 ∙ best-more lt _ _ _ (l .inv .1) (w .0 .left)) (c .if1 .came),
+          (λ w. w .1 ∙ among-more lt (a .start) f (λ p. true) (l .p) refl (l .inv .1) (w .0 .taken))
+          (λ w. w .1 ∙ among-more lt (a .start) f (λ p. true) (l .p) refl (l .inv .1) (w .0 .left)) (c .if1 .came),
     )
 
 returns : tie.Need-returns Inv-loop μ-loop
