@@ -2,7 +2,7 @@
 use Prim.Native.Nat.{ℕ, _<_}
 use mathlib.Core.Path.{_≡_, refl, ap}
 use mathlib.Core.Bool.{true}
-use Rattle.model.specs.Lists.{keepBelow, In}
+use Rattle.model.specs.Lists.{In}
 use Rattle.model.specs.Association.{Request, shapers}
 use Rattle.list_laws.proofs.Kept.{keepBelow-in, keepBelow-below}
 use Rattle.association_laws.specs.Flat.{shapersOf}

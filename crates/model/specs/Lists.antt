@@ -61,7 +61,7 @@ module _ {A : Type 0} where
   bestFrom beats b f zero = b
   bestFrom beats b f (suc n) = let so-far = bestFrom beats b f n in cond (beats (f n) so-far) (f n) so-far
 
-  -- the same of b and of f at each of a list of places, in listed order
+  -- the best of b and of f at each of a list of places, in listed order, by such a test
   abbrev pub bestAmong : (A → A → Bool) → A → (ℕ → A) → List ℕ → A
   bestAmong beats b f ps = bestFrom beats b (λ i. f (getD ps i 0)) (length ps)
 
@@ -92,7 +92,7 @@ placeIn list p = firstBelow (λ i. eqb (getD list i 0) p) (length list)
 abbrev pub Distinct : List ℕ → Type 0
 Distinct list = List·Nodup list
 
--- the best of a list by such a test, the first listed on a tie
+-- the best of a list by such a test as `bestFrom` takes, the first listed on a tie
 abbrev pub bestIn : (ℕ → ℕ → Bool) → List ℕ → ℕ
 bestIn beats list = bestAmong beats (getD list 0 0) (λ p. p) list
 

@@ -47,8 +47,9 @@ loop-less c = omega arith
 
 loop-again : tie.Need-loop-again Inv-loop μ-loop
 loop-again c =
-    let l = c .before .before .before .loop in
-    let a = c .before .before .before .before .args in
+    let head = c .before .before .before in
+    let l = head .loop in
+    let a = head .before .args in
     let f = column (a .rows .now) (a .m) (a .j) in (
       omega arith,
       ⊎-elim
