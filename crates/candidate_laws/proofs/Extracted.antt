@@ -12,7 +12,7 @@ use Rattle.list_laws.proofs.Bools.{by-bool, and-right}
 use Rattle.list_laws.proofs.Tests.{allBelow-each}
 use Rattle.list_laws.proofs.Draws.{places-drawn}
 use Rattle.model.specs.declared.Distribution.{Distribution}
-use Rattle.model.specs.Plan.{Plan, Setting}
+use Rattle.model.specs.Plan.{Plan, Setting, maxSettings}
 use Rattle.model.specs.Setting.{noValue, kindOfDimension, ofWord, validDimension, inBounds, noSetting, sortByParam, extractOne, extract, parentsOf}
 use Rattle.model.specs.Refusal.{badDimensions, namedOnce, fitsDimension, breedable, fitsAt}
 use Rattle.settings.proofs.Valid.{each}
@@ -30,7 +30,7 @@ word-held (suc (suc k)) w = tt
 
 breedable-fits : (dims : ℕ → Distribution) (n : ℕ) (p : Plan) → breedable dims n p ≡ true → (i : ℕ) → i < n → fitsAt dims (sortByParam (p .settings)) i ≡ true
 unfolding breedable
-breedable-fits dims n p h = allBelow-each _ n (and-right (namedOnce (p .settings)) _ (and-right (leb (p .settingCount) 32) _ h))
+breedable-fits dims n p h = allBelow-each _ n (and-right (namedOnce (p .settings)) _ (and-right (leb (p .settingCount) maxSettings) _ h))
 
 there : (d : Distribution) (x : Setting) → fitsDimension d x ≡ true → inBounds d (ofWord (x .kind) (x .value)) ≡ true
 unfolding fitsDimension

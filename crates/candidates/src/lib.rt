@@ -5,17 +5,18 @@ ghost use mathlib.Core.List.{map};
 ghost use Prim.Native.Nat.{_+_, _*_, _≤_};
 ghost use lib.ListN.{length};
 ghost use Rattle.model.specs.Lists.{over};
-ghost use Rattle.model.specs.Setting.{toWord, sampleCandidates, wordsOf, dimensionsOf};
+ghost use Rattle.model.specs.Setting.{toWord, maxDims, sampleCandidates, wordsOf, dimensionsOf};
 ghost use Rattle.model.specs.Refusal.{badDimensions};
 ghost use lib.Seq.{sets};
 ghost use Rattle.settings.specs.Candidate.{settingsOf};
 use model::DimensionInfo;
+use model::MAX_DIMS;
 use model::Rng;
 use settings::Slot;
 
 // The words of a candidate's first n settings, from place `at` on.
-pub fn put_candidate(params: [Slot; 32], n: usize, at: usize, out: &mut [u64])
-    requires { ⌜ (n ≤ 32) × (at + n ≤ length (now out)) ⌝ }
+pub fn put_candidate(params: [Slot; MAX_DIMS], n: usize, at: usize, out: &mut [u64])
+    requires { ⌜ (n ≤ maxDims) × (at + n ≤ length (now out)) ⌝ }
     ensures { λ _. ⌜ now (out .exit) ≡ sets (now (out .entry)) at (map toWord (settingsOf params n)) ⌝ }
 {
     let mut j = 0;
@@ -29,7 +30,7 @@ pub fn put_candidate(params: [Slot; 32], n: usize, at: usize, out: &mut [u64])
 
 // So many candidates drawn, one after the other, at the slice's front.
 pub fn sample_candidates(
-    dims: [DimensionInfo; 32],
+    dims: [DimensionInfo; MAX_DIMS],
     n: usize,
     count: usize,
     rng: Rng,

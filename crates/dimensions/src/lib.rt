@@ -114,8 +114,8 @@ pub fn valid_dimension(d: Distribution) -> bool
     }
 }
 
-// One of the first n dimensions is not such, or there are more than 32.
-pub fn bad_dimensions(dims: [DimensionInfo; 32], n: usize) -> bool
+// One of the first n dimensions is not such, or there are more than MAX_DIMS.
+pub fn bad_dimensions(dims: [DimensionInfo; MAX_DIMS], n: usize) -> bool
     ensures { λ r. ⌜ r ≡ badDimensions (dimensionsOf dims) n ⌝ }
 {
     if n > MAX_DIMS {

@@ -10,13 +10,13 @@ use Rattle.list_laws.proofs.Built.{listBelow-length, listBelow-at}
 use Rattle.model.specs.declared.Distribution.{Distribution}
 use Rattle.model.specs.Lists.{allBelow, listBelow}
 use Rattle.model.specs.Draw.{drawn}
-use Rattle.model.specs.Plan.{planOf, planAt}
+use Rattle.model.specs.Plan.{planOf, planAt, planWords, maxSettings}
 use Rattle.model.specs.Setting.{ofWord, sampleRandom, noSetting, sortByParam, extractOne}
 use Rattle.model.specs.Refusal.{namedOnce, fitsDimension, breedable, fitsAt}
 use Rattle.extraction.specs.declared.Entry.{Entry}
 use Rattle.extraction.specs.Entries.{settingAt, entryAt, entriesOf}
 
-pub plan-settings : (words : List ℕ) (i : ℕ) → planAt words i .settings ≡ listBelow (settingAt words (i * 124)) (min (getD words (i * 124 + 27) 0) 32)
+pub plan-settings : (words : List ℕ) (i : ℕ) → planAt words i .settings ≡ listBelow (settingAt words (i * planWords)) (min (getD words (i * planWords + 27) 0) maxSettings)
 unfolding planOf
 plan-settings words i = refl
 
@@ -38,12 +38,12 @@ one-missing d a count i s h = rw (listBelow-length (entryAt a) count, le-ltb i c
 
 -- ---- refusal 9
 
-pub breedable-many : (dims : ℕ → Distribution) (n : ℕ) (words : List ℕ) (i : ℕ) → 32 < getD words (i * 124 + 27) 0 → breedable dims n (planAt words i) ≡ false
+pub breedable-many : (dims : ℕ → Distribution) (n : ℕ) (words : List ℕ) (i : ℕ) → maxSettings < getD words (i * planWords + 27) 0 → breedable dims n (planAt words i) ≡ false
 unfolding breedable planOf
-breedable-many dims n words i h = rw (lt-leb (getD words (i * 124 + 27) 0) 32 h)
+breedable-many dims n words i h = rw (lt-leb (getD words (i * planWords + 27) 0) maxSettings h)
 
-pub breedable-is : (dims : ℕ → Distribution) (n : ℕ) (words : List ℕ) (i : ℕ) → getD words (i * 124 + 27) 0 ≤ 32
-    → breedable dims n (planAt words i) ≡ (namedOnce (listBelow (settingAt words (i * 124)) (getD words (i * 124 + 27) 0))
-    && allBelow (fitsAt dims (sortByParam (listBelow (settingAt words (i * 124)) (getD words (i * 124 + 27) 0)))) n)
+pub breedable-is : (dims : ℕ → Distribution) (n : ℕ) (words : List ℕ) (i : ℕ) → getD words (i * planWords + 27) 0 ≤ maxSettings
+    → breedable dims n (planAt words i) ≡ (namedOnce (listBelow (settingAt words (i * planWords)) (getD words (i * planWords + 27) 0))
+    && allBelow (fitsAt dims (sortByParam (listBelow (settingAt words (i * planWords)) (getD words (i * planWords + 27) 0)))) n)
 unfolding breedable planOf fitsAt
-breedable-is dims n words i h = rw (le-leb (getD words (i * 124 + 27) 0) 32 h, min-eq-left h)
+breedable-is dims n words i h = rw (le-leb (getD words (i * planWords + 27) 0) maxSettings h, min-eq-left h)

@@ -11,11 +11,11 @@ use denote.Struct.Declared as struct
 use Rattle.model.proofs.DimensionInfo as info
 use Rattle.model.specs.declared.DimensionInfo.{DimensionInfo}
 use Rattle.model.specs.Refusal.{badDimensions}
-use Rattle.model.specs.Setting.{dimensionsOf}
+use Rattle.model.specs.Setting.{maxDims, dimensionsOf}
 use Rattle.settings.proofs.Valid.{few}
 use Rattle.typed_laws.proofs.Held.{array-held}
 use Rattle.candidate_laws.proofs.Sound.{AllHeld}
 
-pub dimensions-held : (dims : List DimensionInfo) (vs : List Val) → Is (Array (struct.row info.the-type) 32) dims vs → (n : ℕ) → badDimensions (dimensionsOf dims) n ≡ false
+pub dimensions-held : (dims : List DimensionInfo) (vs : List Val) → Is (Array (struct.row info.the-type) maxDims) dims vs → (n : ℕ) → badDimensions (dimensionsOf dims) n ≡ false
     → AllHeld (dimensionsOf dims) n
 dimensions-held dims vs p n good d h = let f = few (dimensionsOf dims) n good in array-held dims vs p d (omega arith)

@@ -5,26 +5,27 @@ ghost use mathlib.Core.Bool.{false};
 ghost use Prim.Native.Nat.{_*_, _≤_, _<_};
 ghost use lib.ListN.{length, getD};
 ghost use Rattle.model.specs.Draw.{drawn};
-ghost use Rattle.model.specs.Setting.{children, crossover, tournament, brood, operators, dimensionsOf};
+ghost use Rattle.model.specs.Setting.{maxDims, children, crossover, tournament, brood, operators, dimensionsOf};
 ghost use Rattle.model.specs.Refusal.{badDimensions, badOperators};
 ghost use Rattle.settings.specs.Candidate.{settingsOf, parentsIn};
 use genetic_parts::DrawnChildren;
 use model::DimensionInfo;
+use model::MAX_DIMS;
 use model::Rng;
 use rng_util::DrawnUsize;
 use settings::Slot;
 
 // Two children of two parents. It runs unless its draw exceeds the probability.
 pub fn crossover(
-    dims: [DimensionInfo; 32],
+    dims: [DimensionInfo; MAX_DIMS],
     n: usize,
     probability: f64,
     k: u64,
-    p: [Slot; 32],
-    q: [Slot; 32],
+    p: [Slot; MAX_DIMS],
+    q: [Slot; MAX_DIMS],
     rng: Rng,
 ) -> DrawnChildren
-    requires { ⌜ n ≤ 32 ⌝ }
+    requires { ⌜ n ≤ maxDims ⌝ }
     ensures { λ r. ⌜ drawn (children (settingsOf (r .first) n) (settingsOf (r .second) n)) (r .rng .s)
         ≡ crossover (dimensionsOf dims) n probability k (settingsOf p n) (settingsOf q n) (rng .s) ⌝ }
 {
@@ -63,7 +64,7 @@ pub fn brood(
     parents: &[u64],
     count: usize,
     ranks: &[usize],
-    dims: [DimensionInfo; 32],
+    dims: [DimensionInfo; MAX_DIMS],
     n: usize,
     probability: f64,
     crossover_eta: f64,

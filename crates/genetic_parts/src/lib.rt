@@ -5,31 +5,32 @@ ghost use mathlib.Core.Bool.{false};
 ghost use Prim.Native.Nat.{_+_, _*_, _≤_};
 ghost use lib.ListN.{length};
 ghost use Rattle.model.specs.Draw.{drawn};
-ghost use Rattle.model.specs.Setting.{children, crossAll, mutate, dimensionsOf};
+ghost use Rattle.model.specs.Setting.{maxDims, children, crossAll, mutate, dimensionsOf};
 ghost use Rattle.model.specs.Refusal.{badDimensions};
 ghost use Rattle.settings.specs.Candidate.{settingsOf, parentAt};
 use model::DimensionInfo;
+use model::MAX_DIMS;
 use model::Rng;
 use settings::DrawnCandidate;
 use settings::Slot;
 
 // Two children, of which the first n places count, and the generator moved on.
 pub struct DrawnChildren {
-    pub first: [Slot; 32],
-    pub second: [Slot; 32],
+    pub first: [Slot; MAX_DIMS],
+    pub second: [Slot; MAX_DIMS],
     pub rng: Rng,
 }
 
 // The parents' settings crossed, dimension after dimension.
 pub fn cross_all(
-    dims: [DimensionInfo; 32],
+    dims: [DimensionInfo; MAX_DIMS],
     n: usize,
-    p: [Slot; 32],
-    q: [Slot; 32],
+    p: [Slot; MAX_DIMS],
+    q: [Slot; MAX_DIMS],
     k: u64,
     rng: Rng,
 ) -> DrawnChildren
-    requires { ⌜ n ≤ 32 ⌝ }
+    requires { ⌜ n ≤ maxDims ⌝ }
     ensures { λ r. ⌜ drawn (children (settingsOf (r .first) n) (settingsOf (r .second) n)) (r .rng .s)
         ≡ crossAll (dimensionsOf dims) n (settingsOf p n) (settingsOf q n) k (rng .s) ⌝ }
 {
@@ -57,9 +58,9 @@ pub fn cross_all(
 
 // A candidate mutated: each of its n settings with probability 1 / n.
 pub fn mutate(
-    dims: [DimensionInfo; 32],
+    dims: [DimensionInfo; MAX_DIMS],
     n: usize,
-    params: [Slot; 32],
+    params: [Slot; MAX_DIMS],
     k: u64,
     rng: Rng,
 ) -> DrawnCandidate
@@ -85,8 +86,13 @@ pub fn mutate(
 }
 
 // Parent p, as the words hold it.
-pub fn read_parent(parents: &[u64], dims: [DimensionInfo; 32], n: usize, p: usize) -> [Slot; 32]
-    requires { ⌜ (p * n + n ≤ length (now parents)) × (n ≤ 32) ⌝ }
+pub fn read_parent(
+    parents: &[u64],
+    dims: [DimensionInfo; MAX_DIMS],
+    n: usize,
+    p: usize,
+) -> [Slot; MAX_DIMS]
+    requires { ⌜ (p * n + n ≤ length (now parents)) × (n ≤ maxDims) ⌝ }
     ensures { λ r. ⌜ settingsOf r n ≡ parentAt (dimensionsOf dims) n (now (parents .entry)) p ⌝ }
 {
     let at = p * n;

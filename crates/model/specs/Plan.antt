@@ -28,7 +28,7 @@ abbrev pub measuredPlan : ℕ → List Float → ℕ → List Float → Plan
 measuredPlan m row c constraints =
     record { number = 0; rowLength = m; row = row; constraintCount = c; constraints = constraints; settingCount = 0; settings = [] }
 
--- what a plan has room for: 8 values, 16 constraints, 32 settings
+-- what a plan has room for: so many values, constraints and settings
 abbrev pub maxObjectives : ℕ
 maxObjectives = 8
 
@@ -38,10 +38,10 @@ maxConstraints = 16
 abbrev pub maxSettings : ℕ
 maxSettings = 32
 
--- A plan is 124 words: its number, its row length, 8 values, its constraint count, 16 constraints, its setting count, and 32 settings of three words.
+-- A plan's words: its number, its row length, 8 values, its constraint count, 16 constraints, its setting count, and three words for each of its settings.
 -- What stands past a count is not looked at.
 abbrev pub planWords : ℕ
-planWords = 124
+planWords = 28 + 3 * maxSettings
 
 -- setting j of the plan whose words are `word 0`, `word 1`, ..
 abbrev pub settingIn : (ℕ → ℕ) → ℕ → Setting

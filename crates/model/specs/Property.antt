@@ -53,7 +53,7 @@ pub record LentOk (st : State) : Type 0 where
 -- leaves all as it was.
 pub record SessionOk (st : State) : Type 0 where
   pub config : ConfigOk (st .session .config)
-  -- at most 32 dimensions are entered, each within its limits
+  -- at most `maxDims` dimensions are entered, each within its limits
   pub dimensions : badDimensions (dimensionOf (st .session)) (st .session .progress .«n_dims») ≡ false
   pub phase : PhaseOk (st .session .phase) (st .session)
   pub ideal : goodIdeal (st .session .config .«n_obj») (take (st .session .config .«n_obj») (st .session .«ideal_point»)) ≡ true

@@ -84,7 +84,7 @@ badOperators probability crossoverEta mutationEta = not (within nought unit prob
 unfoldable pub badDimensions : (ℕ → Distribution) → ℕ → Bool
 badDimensions dims n = ltb maxDims n || not (allBelow (λ d. validDimension (dims d)) n)
 
--- one dimension more, behind n, would be the 33rd or is not as `validDimension` asks
+-- one dimension more, behind n, would be past the limit or is not as `validDimension` asks
 abbrev pub badNext : ℕ → Distribution → Bool
 badNext n d = leb maxDims n || not (validDimension d)
 

@@ -39,7 +39,7 @@ pub record State : Type 0 where
   pub plans : List ℕ
   pub nextDims : List ℕ
 
--- what the lent slices have to have room for: the 2,048 plans that may come in a generation, of 32 settings each
+-- what the lent slices have to have room for: the 2,048 plans that may come in a generation, of `maxDims` settings each
 abbrev pub maxCome : ℕ
 maxCome = 2048
 

@@ -19,7 +19,7 @@ pub const MAX_SETTINGS: usize = 32;
 // The most plans that may come in a session's generation, and the words of their candidates.
 pub const MAX_COME: usize = 2048;
 
-pub const MAX_WORDS: usize = 65536;
+pub const MAX_WORDS: usize = MAX_COME * MAX_DIMS;
 
 // Where a plan's row length, values, constraint count, constraints and setting count stand among its words (docs/DECISIONS.md, "Plans as words").
 pub const ROW_LENGTH: usize = 1;
@@ -32,12 +32,12 @@ pub const CONSTRAINTS: usize = 11;
 
 pub const SETTING_COUNT: usize = 27;
 
-// The words of a plan, of a pool of MAX_PLANS of them, and of as many candidates of MAX_DIMS settings.
-pub const PLAN_WORDS: usize = 124;
+// The words of a plan, its settings three words each from word 28 on, of a pool of MAX_PLANS of them, and of as many candidates of MAX_DIMS settings.
+pub const PLAN_WORDS: usize = 28 + 3 * MAX_SETTINGS;
 
-pub const POOL_WORDS: usize = 126976;
+pub const POOL_WORDS: usize = MAX_PLANS * PLAN_WORDS;
 
-pub const CANDIDATE_WORDS: usize = 32768;
+pub const CANDIDATE_WORDS: usize = MAX_PLANS * MAX_DIMS;
 
 // The rows of a pool, and a table of lines.
 pub const MAX_VALUES: usize = 8192;

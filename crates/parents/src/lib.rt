@@ -1,23 +1,25 @@
-// Refusal 9: what the plans to breed from are asked (document 01, "Setting and dimension"). A plan is a block of 124 words; its settings stand
-// from word 28 on, three words each.
+// Refusal 9: what the plans to breed from are asked (document 01, "Setting and dimension"). A plan is a block of PLAN_WORDS words; its settings
+// stand from word 28 on, three words each.
 ghost use mathlib.Core.Path.{_≡_};
 ghost use mathlib.Core.Bool.{not};
 ghost use Prim.Native.Nat.{_+_, _≤_, _<_};
 ghost use lib.ListN.{length, drop};
 ghost use Rattle.model.specs.Lists.{allBelow, listBelow};
-ghost use Rattle.model.specs.Plan.{planAt, planCount};
+ghost use Rattle.model.specs.Plan.{planAt, planCount, planWords, maxSettings};
 ghost use Rattle.model.specs.Refusal.{othersDiffer, namedOnce, fitsDimension, breedable, fitsAt};
-ghost use Rattle.model.specs.Setting.{dimensionsOf};
+ghost use Rattle.model.specs.Setting.{maxDims, dimensionsOf};
 ghost use Rattle.extraction.specs.Entries.{settingAt, asSetting, entriesOf};
 use extraction::Entry;
 use model::DimensionInfo;
 use model::Distribution;
+use model::MAX_DIMS;
+use model::MAX_SETTINGS;
 use model::PLAN_WORDS;
 use model::SETTING_COUNT;
 
 // A setting after setting j has its parameter number.
 fn repeated(pool: &[u64], at: usize, j: usize, count: usize) -> bool
-    requires { ⌜ (at + 124 ≤ length (now pool)) × (j < count) × (count ≤ 32) ⌝ }
+    requires { ⌜ (at + planWords ≤ length (now pool)) × (j < count) × (count ≤ maxSettings) ⌝ }
     ensures { λ r. ⌜ r ≡ not (othersDiffer (settingAt (now (pool .entry)) at j) (drop (j + 1) (listBelow (settingAt (now (pool .entry)) at) count))) ⌝ }
 {
     let x = pool[at + (28 + 3 * j)];
@@ -33,7 +35,7 @@ fn repeated(pool: &[u64], at: usize, j: usize, count: usize) -> bool
 
 // No parameter number stands twice.
 fn named_once(pool: &[u64], at: usize, count: usize) -> bool
-    requires { ⌜ (at + 124 ≤ length (now pool)) × (count ≤ 32) ⌝ }
+    requires { ⌜ (at + planWords ≤ length (now pool)) × (count ≤ maxSettings) ⌝ }
     ensures { λ r. ⌜ r ≡ namedOnce (listBelow (settingAt (now (pool .entry)) at) count) ⌝ }
 {
     let mut j = count;
@@ -58,8 +60,13 @@ fn fits_dimension(d: Distribution, x: Entry) -> bool
 }
 
 // Dimension i has no setting, or one that fits.
-fn fits_at(sorted: [Entry; 32], count: usize, dims: [DimensionInfo; 32], i: usize) -> bool
-    requires { ⌜ (count ≤ 32) × (i < 32) ⌝ }
+fn fits_at(
+    sorted: [Entry; MAX_SETTINGS],
+    count: usize,
+    dims: [DimensionInfo; MAX_DIMS],
+    i: usize,
+) -> bool
+    requires { ⌜ (count ≤ maxSettings) × (i < maxDims) ⌝ }
     ensures { λ r. ⌜ r ≡ fitsAt (dimensionsOf dims) (entriesOf sorted count) i ⌝ }
 {
     if count <= i {
@@ -72,8 +79,13 @@ fn fits_at(sorted: [Entry; 32], count: usize, dims: [DimensionInfo; 32], i: usiz
 }
 
 // Each of the n dimensions has no setting, or one that fits.
-fn all_fit(sorted: [Entry; 32], count: usize, dims: [DimensionInfo; 32], n: usize) -> bool
-    requires { ⌜ (count ≤ 32) × (n ≤ 32) ⌝ }
+fn all_fit(
+    sorted: [Entry; MAX_SETTINGS],
+    count: usize,
+    dims: [DimensionInfo; MAX_DIMS],
+    n: usize,
+) -> bool
+    requires { ⌜ (count ≤ maxSettings) × (n ≤ maxDims) ⌝ }
     ensures { λ r. ⌜ r ≡ allBelow (fitsAt (dimensionsOf dims) (entriesOf sorted count)) n ⌝ }
 {
     let mut i = 0;
@@ -87,17 +99,16 @@ fn all_fit(sorted: [Entry; 32], count: usize, dims: [DimensionInfo; 32], n: usiz
     true
 }
 
-// Plan i can be bred from: at most 32 settings, no parameter number twice, each setting of its dimension's kind and within its bounds.
-fn breedable(pool: &[u64], i: usize, dims: [DimensionInfo; 32], n: usize) -> bool
-    requires { ⌜ (i < planCount (now pool)) × (n ≤ 32) ⌝ }
+// Plan i can be bred from: at most MAX_SETTINGS settings, no parameter number twice, each setting of its dimension's kind and within its bounds.
+fn breedable(pool: &[u64], i: usize, dims: [DimensionInfo; MAX_DIMS], n: usize) -> bool
+    requires { ⌜ (i < planCount (now pool)) × (n ≤ maxDims) ⌝ }
     ensures { λ r. ⌜ r ≡ breedable (dimensionsOf dims) n (planAt (now (pool .entry)) i) ⌝ }
 {
     let at = i * PLAN_WORDS;
-    let claimed = pool[at + SETTING_COUNT];
-    if claimed > 32 {
+    let count = pool[at + SETTING_COUNT] as usize;
+    if count > MAX_SETTINGS {
         return false;
     }
-    let count = claimed as usize;
     if named_once(pool, at, count) {
         let sorted = extraction::sort_by_param(pool, at, count);
         return all_fit(sorted, count, dims, n);
@@ -106,8 +117,8 @@ fn breedable(pool: &[u64], i: usize, dims: [DimensionInfo; 32], n: usize) -> boo
 }
 
 // Refusal 9: a plan of the pool cannot be bred from.
-pub fn bad_parents(pool: &[u64], dims: [DimensionInfo; 32], n: usize) -> bool
-    requires { ⌜ n ≤ 32 ⌝ }
+pub fn bad_parents(pool: &[u64], dims: [DimensionInfo; MAX_DIMS], n: usize) -> bool
+    requires { ⌜ n ≤ maxDims ⌝ }
     ensures { λ r. ⌜ r ≡ not (allBelow (λ p. breedable (dimensionsOf dims) n (planAt (now (pool .entry)) p)) (planCount (now (pool .entry)))) ⌝ }
 {
     let count = plans::plan_count(pool);

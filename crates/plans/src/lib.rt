@@ -1,4 +1,4 @@
-// The plans of a lent slice of words, a block of 124 words each: how many there are, and the refusals that look at directions, plans and the ideal (2, 7 and 8).
+// The plans of a lent slice of words, a block of PLAN_WORDS words each: how many there are, and the refusals that look at directions, plans and the ideal (2, 7 and 8).
 use model::CONSTRAINT_COUNT;
 use model::CONSTRAINTS;
 use model::MAX_CONSTRAINTS;

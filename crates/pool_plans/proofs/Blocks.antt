@@ -10,7 +10,7 @@ use lib.ListN.{length, getD, take, drop, set, length-take, length-map, length-se
 use lib.Seq.{sets, length-sets, getD-take, getD-set-same, getD-set-other}
 use Rattle.model.specs.Lists.{listBelow}
 use Rattle.model.specs.Real.{real}
-use Rattle.model.specs.Plan.{Plan, measuredPlan, settingIn, planOf, planFrom, planWords}
+use Rattle.model.specs.Plan.{Plan, measuredPlan, settingIn, planOf, planFrom, planWords, maxSettings}
 use Rattle.model.specs.PoolFile.{pure, number, many, plan}
 use Rattle.list_laws.proofs.Built.{listBelow-same, listBelow-whole}
 use Rattle.pool_plans.specs.declared.End.{End}
@@ -49,7 +49,7 @@ unfolding planOf
 planOf-same f g h =
     let r = min-le-right (g 1) 8 in
     let c = min-le-right (g 10) 16 in
-    let s = min-le-right (g 27) 32 in
+    let s = min-le-right (g 27) maxSettings in
     rw (
       h 0 (omega arith),
       h 1 (omega arith),
@@ -57,13 +57,13 @@ planOf-same f g h =
       h 27 (omega arith),
       listBelow-same (λ j. real (f (2 + j))) (λ j. real (g (2 + j))) (min (g 1) 8) (λ t l. ap real (h (2 + t) (omega arith))),
       listBelow-same (λ j. real (f (11 + j))) (λ j. real (g (11 + j))) (min (g 10) 16) (λ t l. ap real (h (11 + t) (omega arith))),
-      listBelow-same (settingIn f) (settingIn g) (min (g 27) 32) (λ t l. rw (h (28 + 3 * t) (omega arith), h (29 + 3 * t) (omega arith), h (30 + 3 * t) (omega arith))),
+      listBelow-same (settingIn f) (settingIn g) (min (g 27) maxSettings) (λ t l. rw (h (28 + 3 * t) (omega arith), h (29 + 3 * t) (omega arith), h (30 + 3 * t) (omega arith))),
     )
 
 -- ---- what is stored
 
 -- the counts stand at their four places, and the other words stay
-module _ (l : List ℕ) (base m c : ℕ) (room : base + 124 ≤ length l) where
+module _ (l : List ℕ) (base m c : ℕ) (room : base + planWords ≤ length l) where
   abbrev first-two : List ℕ
   first-two = set (set l base 0) (base + 1) m
 
@@ -99,7 +99,7 @@ taken-le room vs = omega (arith, length-take room vs, min-le-left room (length v
 taken-lt : (room n j : ℕ) (vs : List ℕ) → length vs ≡ n → j < n → j < room → j < length (take room vs)
 taken-lt room n j vs e h g = let m : suc j ≤ min room (length vs) = le-min (omega arith) (omega arith) in omega (arith, length-take room vs)
 
-module _ (l : List ℕ) (base m c : ℕ) (vs cs : List ℕ) (a : length vs ≡ m) (b : length cs ≡ c) (room : base + 124 ≤ length l) where
+module _ (l : List ℕ) (base m c : ℕ) (vs cs : List ℕ) (a : length vs ≡ m) (b : length cs ≡ c) (room : base + planWords ≤ length l) where
   rows : List ℕ
   rows = sets l (base + 2) (take 8 vs)
 
@@ -117,7 +117,7 @@ module _ (l : List ℕ) (base m c : ℕ) (vs cs : List ℕ) (a : length vs ≡ m
   block : List ℕ
   block = counted filled base m c
 
-  space : base + 124 ≤ length filled
+  space : base + planWords ≤ length filled
   space = omega (arith, filled-length)
 
   value-at : (j : ℕ) → j < m → j < 8 → getD block (base + (2 + j)) 0 ≡ getD vs j 0
@@ -145,7 +145,7 @@ module _ (l : List ℕ) (base m c : ℕ) (vs cs : List ℕ) (a : length vs ≡ m
       planOf-made (λ j. getD block (base + j) 0) m c vs cs a b (counted-0 filled base m c space) (counted-1 filled base m c space) value-at
       (counted-10 filled base m c space) constraint-at (counted-27 filled base m c space)
 
-  block-others : (i : ℕ) → (i < base) ⊎ (base + 124 ≤ i) → getD block i 0 ≡ getD l i 0
+  block-others : (i : ℕ) → (i < base) ⊎ (base + planWords ≤ i) → getD block i 0 ≡ getD l i 0
   unfolding block filled rows
   block-others i w =
       let n8 = taken-le 8 vs in

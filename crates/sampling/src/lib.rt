@@ -15,6 +15,7 @@ use model::DimensionInfo;
 use model::Distribution;
 use model::FloatDistribution;
 use model::IntDistribution;
+use model::MAX_DIMS;
 use model::OptionI64;
 use model::ParamValue;
 use model::Rng;
@@ -94,7 +95,7 @@ pub fn sample_random(d: Distribution, rng: Rng) -> DrawnValue
 }
 
 // A candidate: a setting for each of n dimensions, drawn in their order.
-pub fn sample_all(dims: [DimensionInfo; 32], n: usize, rng: Rng) -> DrawnCandidate
+pub fn sample_all(dims: [DimensionInfo; MAX_DIMS], n: usize, rng: Rng) -> DrawnCandidate
     requires { ⌜ badDimensions (dimensionsOf dims) n ≡ false ⌝ }
     ensures { λ r. ⌜ drawn (settingsOf (r .params) n) (r .rng .s) ≡ sampleAll (dimensionsOf dims) n (rng .s) ⌝ }
 {

@@ -57,7 +57,7 @@ answered-in d (some n) st a h v e = absurd (Option·some-ne-none n (ap samplingR
 
 -- ---- an accepted call
 
--- beside the property, what types promise of code's parameters: numbers of the dimensions that the machine holds, and an array of 32
+-- beside the property, what types promise of code's parameters: numbers of the dimensions that the machine holds, and an array of `maxDims`
 module _ (st : State) (d : Distribution) (plan : ℕ) (history : List ℕ) (ok : SessionOk st)
     (held : AllHeld (dimensionOf (st .session)) (st .session .progress .«n_dims»)) (array : length (st .session .dimensions) ≡ maxDims) where
   -- the state that a plan is answered from, by whether the session is active and the call breeds

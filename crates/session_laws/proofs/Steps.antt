@@ -76,7 +76,7 @@ short-ok s cs ps ns cs' ps' ns' ok short = record {
 pub phase-ok : (st : State) (p : Phase) → SessionOk st → st .session .phase ≡ p → PhaseOk p (st .session)
 phase-ok st p ok e = subst (λ (q : Phase). PhaseOk q (st .session)) e (ok .phase)
 
--- a dimension more, where there are fewer than 32 and it is valid
+-- a dimension more, where there are fewer than `maxDims` and it is valid
 module _ (st : State) (d : Distribution) (plan : ℕ) (ok : SessionOk st) (discovery : st .session .phase ≡ Discovery)
     (few : st .session .progress .«n_dims» < maxDims) (valid : validDimension d ≡ true) (array : length (st .session .dimensions) ≡ maxDims) where
   dimensions-more : badDimensions (dimensionOf (entered (st .session) d plan 0)) (st .session .progress .«n_dims» + 1) ≡ false

@@ -15,8 +15,8 @@ use Rattle.model.specs.declared.Session.{Session}
 use Rattle.model.specs.declared.Sampling.the-variants as sampling
 use Rattle.model.specs.Lists.{over, placeIn}
 use Rattle.model.specs.Draw.{Drawn, drawn}
-use Rattle.model.specs.Setting.{kindOfDimension, toWord, ofWord, sampleRandom, sampleAll, sampleCandidates, wordsOf}
-use Rattle.model.specs.Session.{State, Answered, state, progress, dimensionOf, withRng, withProgress, renewed, discover, activate, overflow, enter, enlist, answer, isNew, plansOf, sampleFromCandidate, entered}
+use Rattle.model.specs.Setting.{maxDims, kindOfDimension, toWord, ofWord, sampleRandom, sampleAll, sampleCandidates, wordsOf}
+use Rattle.model.specs.Session.{State, Answered, state, progress, dimensionOf, withRng, withProgress, renewed, discover, activate, overflow, enter, enlist, answer, isNew, plansOf, sampleFromCandidate, entered, maxCome, maxWords}
 use Rattle.model.specs.Calls.{settled}
 use lib.Seq.{sets}
 use Rattle.session_parts.specs.Exits.{exit, Ready}
@@ -43,9 +43,9 @@ module _ (s : Session) where
 
 -- ---- a plan's calls past discovery
 
--- a candidate fits where there are fewer than 2,048
-pub fits-more : {k n len : ℕ} → k < 2048 → n ≤ 32 → 65536 ≤ len → k * n + n ≤ len
-fits-more {k} {n} {len} h i l = row-within k 2048 n len h (omega arith)
+-- a candidate fits where there are fewer than may come
+pub fits-more : {k n len : ℕ} → k < maxCome → n ≤ maxDims → maxWords ≤ len → k * n + n ≤ len
+fits-more {k} {n} {len} h i l = row-within k maxCome n len h (omega arith)
 
 pub overflow-is : (s : Session) (c : List ParamValue) (g : ℕ) (cs ps ns after : List ℕ) (t u : Session)
     → drawn c g ≡ sampleAll (dimensionOf s) (s .progress .«n_dims») (s .rng .s)

@@ -6,6 +6,7 @@ ghost use Prim.Native.Nat.{_-_, _*_, _≤_, _<_};
 ghost use lib.Dec.{leb};
 ghost use lib.ListN.{length, take};
 ghost use Rattle.model.specs.Lists.{allBelow, has, over, placeIn};
+ghost use Rattle.model.specs.Plan.{planWords};
 ghost use Rattle.model.specs.Session.{recordOf, allStand, standsIn, recordsOf, addsFor, roomFor, maxCome};
 ghost use Rattle.model.specs.Refusal.{badNext, badHistory};
 use model::Distribution;
@@ -68,7 +69,7 @@ pub fn evaluated(history: &[u64], plans: &[u64], n_plans: usize, size: usize) ->
 
 // The plans bred from: the first `size` plans of the generation as history has them, at the pool's front.
 pub fn gather(history: &[u64], plans: &[u64], size: usize, pool: &mut [u64])
-    requires { ⌜ (size ≤ length (now plans)) × (size * 124 ≤ length (now pool))
+    requires { ⌜ (size ≤ length (now plans)) × (size * planWords ≤ length (now pool))
         × (allBelow (standsIn (now history) (now plans)) size ≡ true) ⌝ }
     ensures { λ _. ⌜ now (pool .exit) ≡ over (recordsOf (now (history .entry)) (now (plans .entry)) size) (now (pool .entry)) ⌝ }
 {

@@ -16,7 +16,7 @@ use Rattle.model.specs.declared.IntDistribution.{IntDistribution}
 use Rattle.model.specs.declared.CategoricalDistribution.{CategoricalDistribution}
 use Rattle.model.specs.Lists.{allBelow}
 use Rattle.model.specs.Real.{within}
-use Rattle.model.specs.Setting.{minBound, maxBound, minWhole, maxWhole, noStep, stepAbove0, validDimension}
+use Rattle.model.specs.Setting.{minBound, maxBound, minWhole, maxWhole, noStep, stepAbove0, maxDims, validDimension}
 use Rattle.model.specs.Refusal.{badDimensions}
 
 pub record FloatBounds (d : FloatDistribution) : Type 0 where
@@ -61,11 +61,11 @@ pub some-choice : (d : CategoricalDistribution) → validDimension (dist.Categor
 unfolding validDimension
 some-choice d h = leb-true 1 (d .«n_choices») (and-left (leb 1 (d .«n_choices»)) (leb (d .«n_choices») 65536) h)
 
--- dimensions that are not bad are at most 32, and each is valid
-pub few : (dims : ℕ → Distribution) (n : ℕ) → badDimensions dims n ≡ false → n ≤ 32
+-- dimensions that are not bad are at most `maxDims`, and each is valid
+pub few : (dims : ℕ → Distribution) (n : ℕ) → badDimensions dims n ≡ false → n ≤ maxDims
 unfolding badDimensions
-few dims n h = ltb-false 32 n (or-left (ltb 32 n) (not (allBelow (λ d. validDimension (dims d)) n)) h)
+few dims n h = ltb-false maxDims n (or-left (ltb maxDims n) (not (allBelow (λ d. validDimension (dims d)) n)) h)
 
 pub each : (dims : ℕ → Distribution) (n : ℕ) → badDimensions dims n ≡ false → (i : ℕ) → i < n → validDimension (dims i) ≡ true
 unfolding badDimensions
-each dims n h = allBelow-each (λ d. validDimension (dims d)) n (not-false _ (or-right (ltb 32 n) (not (allBelow (λ d. validDimension (dims d)) n)) h))
+each dims n h = allBelow-each (λ d. validDimension (dims d)) n (not-false _ (or-right (ltb maxDims n) (not (allBelow (λ d. validDimension (dims d)) n)) h))

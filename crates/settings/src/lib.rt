@@ -9,6 +9,7 @@ ghost use Rattle.settings.specs.Candidate.{blankSlot};
 use model::CategoricalDistribution;
 use model::DimensionInfo;
 use model::Distribution;
+use model::MAX_DIMS;
 use model::ParamValue;
 use model::Rng;
 
@@ -25,7 +26,7 @@ pub struct DrawnValue {
 
 // Of a candidate the first n places count, n being the number of dimensions.
 pub struct DrawnCandidate {
-    pub params: [Slot; 32],
+    pub params: [Slot; MAX_DIMS],
     pub rng: Rng,
 }
 
@@ -109,19 +110,19 @@ pub fn of_word(kind: u64, w: u64) -> ParamValue
 }
 
 // A candidate none of whose places is filled yet.
-pub fn blank_candidate() -> [Slot; 32]
+pub fn blank_candidate() -> [Slot; MAX_DIMS]
     ensures { λ r. ⌜ r ≡ replicate maxDims blankSlot ⌝ }
 {
     [Slot {
         value: ParamValue::Float(0.0),
-    }; 32]
+    }; MAX_DIMS]
 }
 
 // Dimensions of which none is entered yet.
-pub fn blank_dimensions() -> [DimensionInfo; 32]
+pub fn blank_dimensions() -> [DimensionInfo; MAX_DIMS]
     ensures { λ r. ⌜ r ≡ replicate maxDims blankDimension ⌝ }
 {
     [DimensionInfo {
         distribution: Distribution::Categorical(CategoricalDistribution { n_choices: 1 }),
-    }; 32]
+    }; MAX_DIMS]
 }

@@ -27,7 +27,7 @@ use Rattle.model.specs.declared.Distribution.the-variants as dist
 use Rattle.model.specs.declared.DimensionInfo.{DimensionInfo}
 use Rattle.model.specs.declared.Session.{Session}
 use Rattle.model.specs.Session.{dimensionOf}
-use Rattle.model.specs.Setting.{noDimension, dimensionsOf}
+use Rattle.model.specs.Setting.{maxDims, noDimension, dimensionsOf}
 use Rattle.settings.proofs.InBounds.{Held, HeldStepI64, HeldStepF64}
 
 -- ---- a dimension
@@ -74,12 +74,12 @@ pub each-field : {A D : Type 0} (f : D → List Val → Fml) (into : A → D) (P
     → (xs : List A) (us : List Val) → shadow (each D f (map into xs) us) → (i : ℕ) → i < length xs → P (getD xs i z)
 each-field f into P one z xs us p = each-at (λ x vs. f (into x) vs) P one z xs us (each-map f into xs us p)
 
--- `dims: [DimensionInfo; 32]`
-module _ (dims : List DimensionInfo) (vs : List Val) (p : Is (Array (struct.row info.the-type) 32) dims vs) where
-  array-length : length dims ≡ 32
+-- `dims: [DimensionInfo; MAX_DIMS]`
+module _ (dims : List DimensionInfo) (vs : List Val) (p : Is (Array (struct.row info.the-type) maxDims) dims vs) where
+  array-length : length dims ≡ maxDims
   array-length = p .1 .0 .1
 
-  pub array-held : (d : ℕ) → d < 32 → Held (dimensionsOf dims d)
+  pub array-held : (d : ℕ) → d < maxDims → Held (dimensionsOf dims d)
   array-held d h =
       let e = array-length in
       each-at (struct.row info.the-type .own) (λ (x : DimensionInfo). Held (x .distribution)) info-held noDimension dims (p .0) (p .1 .1) d (omega arith)
@@ -87,10 +87,10 @@ module _ (dims : List DimensionInfo) (vs : List Val) (p : Is (Array (struct.row 
 -- ---- a session's
 
 module _ (s : Session) (vs : List Val) (p : Is (struct.row session.the-type) s vs) where
-  pub session-dimensions : length (s .dimensions) ≡ 32
+  pub session-dimensions : length (s .dimensions) ≡ maxDims
   session-dimensions = sym (length-map (s .dimensions) _) ∙ p .1 .1 .1 .1 .1 .1 .0 .1 .0 .1
 
-  pub session-held : (d : ℕ) → d < 32 → Held (dimensionOf s d)
+  pub session-held : (d : ℕ) → d < maxDims → Held (dimensionOf s d)
   session-held d h =
       let e = session-dimensions in
       let q = p .1 .1 .1 .1 .1 .1 .0 in

@@ -6,20 +6,20 @@ use native.Mathlib.Omega.{arith}
 use borrow.Author.Tests.{lt-ltb, le-ltb}
 use Rattle.list_laws.proofs.Tests.{allBelow-none, allBelow-yes, allBelow-no}
 use Rattle.model.specs.Lists.{allBelow}
-use Rattle.model.specs.Setting.{validDimension, dimensionsOf}
+use Rattle.model.specs.Setting.{maxDims, validDimension, dimensionsOf}
 use Rattle.model.specs.Refusal.{badDimensions}
 use Rattle.dimensions.proofs.bad_dimensions.Statement.{statement}
 use Rattle.dimensions.proofs.bad_dimensions.Tie as tie
 
 abbrev Inv-loop : tie.InvT-loop
-Inv-loop n dims i₀ i = (i ≤ n) × (n ≤ 32) × (allBelow (λ d. validDimension (dimensionsOf dims d)) i ≡ true)
+Inv-loop n dims i₀ i = (i ≤ n) × (n ≤ maxDims) × (allBelow (λ d. validDimension (dimensionsOf dims d)) i ≡ true)
 
 abbrev μ-loop : tie.MeasureT-loop
 μ-loop n dims i₀ i = n - i
 
 returns : tie.Need-returns Inv-loop μ-loop
 unfolding badDimensions
-returns c = rw (lt-ltb 32 (c .before .args .n) (c .if1 .taken))
+returns c = rw (lt-ltb maxDims (c .before .args .n) (c .if1 .taken))
 
 loop-holds : tie.Need-loop-holds Inv-loop μ-loop
 loop-holds c = (omega arith, omega arith, allBelow-none _)
@@ -49,7 +49,7 @@ unfolding badDimensions
 returns-2 c =
     let l = c .before .before .before .before .loop in
     let n = c .before .before .before .before .before .before .args .n in
-    rw (le-ltb 32 n (omega arith), allBelow-no _ n (l .i) (omega arith) (sym (c .before .valid-dimension .ensures) ∙ c .if2 .left))
+    rw (le-ltb maxDims n (omega arith), allBelow-no _ n (l .i) (omega arith) (sym (c .before .valid-dimension .ensures) ∙ c .if2 .left))
 
 returns-3 : tie.Need-returns-3 Inv-loop μ-loop
 unfolding badDimensions
@@ -57,7 +57,7 @@ returns-3 c =
     let l = c .before .loop in
     let n = c .before .before .before .args .n in
     let e : l .i ≡ n = omega arith in
-    rw (le-ltb 32 n (omega arith), rw e at (l .inv .2))
+    rw (le-ltb maxDims n (omega arith), rw e at (l .inv .2))
 
 pub bad-dimensions-spec : {M : Type 1} → statement M
 bad-dimensions-spec =

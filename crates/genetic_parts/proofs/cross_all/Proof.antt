@@ -7,7 +7,7 @@ use lib.ListN.{length, length-set}
 use native.Mathlib.Omega.{arith}
 use Rattle.model.specs.declared.ParamValue.{ParamValue}
 use Rattle.model.specs.Draw.{drawn}
-use Rattle.model.specs.Setting.{children, crossAll, dimensionsOf}
+use Rattle.model.specs.Setting.{maxDims, children, crossAll, dimensionsOf}
 use Rattle.settings.specs.Candidate.{settingsOf}
 use Rattle.settings.proofs.Candidates.{settings-more}
 use Rattle.genetic_parts.proofs.Places.{setting-at, crossAll-none, crossAll-more}
@@ -16,7 +16,7 @@ use Rattle.genetic_parts.proofs.cross_all.Tie as tie
 
 abbrev Inv-loop : tie.InvT-loop
 Inv-loop n k dims p q rng₀ first₀ second₀ i₀ rng first second i =
-    (i ≤ n) × (n ≤ 32) × (length first ≡ 32) × (length second ≡ 32)
+    (i ≤ n) × (n ≤ maxDims) × (length first ≡ maxDims) × (length second ≡ maxDims)
     × (drawn (children (settingsOf first i) (settingsOf second i)) (rng .s) ≡ crossAll (dimensionsOf dims) i (settingsOf p n) (settingsOf q n) k (rng₀ .s))
 
 abbrev μ-loop : tie.MeasureT-loop

@@ -8,7 +8,7 @@ use native.Mathlib.Omega.{arith}
 use borrow.Author.Needs.{needs}
 use Rattle.model.specs.Real.{_⊘_, unit}
 use Rattle.model.specs.Draw.{drawn}
-use Rattle.model.specs.Setting.{mutateFirst, dimensionsOf}
+use Rattle.model.specs.Setting.{maxDims, mutateFirst, dimensionsOf}
 use Rattle.settings.specs.Candidate.{settingsOf}
 use Rattle.settings.proofs.Valid.{few, each}
 use Rattle.settings.proofs.Candidates.{candidate-none, candidate-more}
@@ -18,7 +18,7 @@ use Rattle.genetic_parts.proofs.mutate.Tie as tie
 
 abbrev Inv-loop : tie.InvT-loop
 Inv-loop n k dims params probability rng₀ out₀ i₀ rng out i =
-    (i ≤ n) × (n ≤ 32) × (length out ≡ 32) × (drawn (settingsOf out i) (rng .s) ≡ mutateFirst (dimensionsOf dims) n i (settingsOf params n) k (rng₀ .s))
+    (i ≤ n) × (n ≤ maxDims) × (length out ≡ maxDims) × (drawn (settingsOf out i) (rng .s) ≡ mutateFirst (dimensionsOf dims) n i (settingsOf params n) k (rng₀ .s))
 
 abbrev μ-loop : tie.MeasureT-loop
 μ-loop n k dims params probability rng₀ out₀ i₀ rng out i = n - i

@@ -6,7 +6,7 @@ use lib.ListN.{length, getD, length-set}
 use native.Mathlib.Omega.{arith}
 use Rattle.list_laws.proofs.Built.{listBelow-none, listBelow-more}
 use Rattle.model.specs.Lists.{listBelow}
-use Rattle.model.specs.Setting.{ofWord, dimensionsOf, storedAt}
+use Rattle.model.specs.Setting.{ofWord, maxDims, dimensionsOf, storedAt}
 use Rattle.settings.specs.Candidate.{settingsOf, parentAt}
 use Rattle.settings.proofs.Candidates.{settings-none, settings-more}
 use Rattle.genetic_parts.proofs.read_parent.Statement.{statement}
@@ -14,7 +14,7 @@ use Rattle.genetic_parts.proofs.read_parent.Tie as tie
 
 abbrev Inv-loop : tie.InvT-loop
 Inv-loop parents n p dims at params₀ j₀ params j =
-    (j ≤ n) × (n ≤ 32) × (length params ≡ 32) × (p * n + n ≤ length parents)
+    (j ≤ n) × (n ≤ maxDims) × (length params ≡ maxDims) × (p * n + n ≤ length parents)
     × (settingsOf params j ≡ listBelow (storedAt (dimensionsOf dims) n parents p) j)
 
 abbrev μ-loop : tie.MeasureT-loop

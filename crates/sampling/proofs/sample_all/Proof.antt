@@ -4,7 +4,7 @@ use mathlib.Core.Path.{_≡_, ap}
 use native.Mathlib.Omega.{arith}
 use lib.ListN.{length, length-set}
 use Rattle.model.specs.Draw.{drawn}
-use Rattle.model.specs.Setting.{sampleAll, dimensionsOf}
+use Rattle.model.specs.Setting.{maxDims, sampleAll, dimensionsOf}
 use Rattle.settings.specs.Candidate.{settingsOf}
 use Rattle.settings.proofs.Valid.{few, each}
 use Rattle.settings.proofs.Candidates.{candidate-none, candidate-more}
@@ -13,7 +13,7 @@ use Rattle.sampling.proofs.sample_all.Tie as tie
 
 abbrev Inv-loop : tie.InvT-loop
 Inv-loop n dims rng₀ params₀ i₀ rng params i =
-    (i ≤ n) × (n ≤ 32) × (length params ≡ 32) × (drawn (settingsOf params i) (rng .s) ≡ sampleAll (dimensionsOf dims) i (rng₀ .s))
+    (i ≤ n) × (n ≤ maxDims) × (length params ≡ maxDims) × (drawn (settingsOf params i) (rng .s) ≡ sampleAll (dimensionsOf dims) i (rng₀ .s))
 
 abbrev μ-loop : tie.MeasureT-loop
 μ-loop n dims rng₀ params₀ i₀ rng params i = n - i

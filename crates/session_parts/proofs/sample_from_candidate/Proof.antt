@@ -8,6 +8,32 @@ use borrow.Author.Needs.{needs}
 use Rattle.session_parts.proofs.sample_from_candidate.Statement.{statement}
 use Rattle.session_parts.proofs.sample_from_candidate.Tie as tie
 
+-- the state that the call is given
+abbrev given : tie.Start → State
+given s = state (s .args .session) (s .args .candidates .now) (s .args .plans .now) (s .args .next-dims .now)
+
+-- ---- the places, each from the next
+
+-- the call starts, and the plan's place is looked up
+abbrev start : tie.After-place-in → tie.Start
+start c = c .before .before .before .before .before .before
+
+-- it has come: it is answered
+abbrev known : tie.After-slice-known4 → tie.Then1
+known c = c .before .before .before .before .before
+
+-- it is new: it is enlisted and answered
+abbrev new : tie.After-enlist-arg3 → tie.Else1
+new c = c .before .before .before
+
+abbrev enlisted : tie.After-answer-arg4 → tie.After-enlist
+enlisted c = c .before .before .before .before .before .before .before .before
+
+abbrev answered : tie.After-slice-known8 → tie.After-answer2
+answered c = c .before .before
+
+-- ---- the needs
+
 place-in-requires : tie.Need-place-in-requires
 place-in-requires c κs = search needs
 
@@ -25,27 +51,24 @@ same-length-3 c = search needs
 
 returns : tie.Need-returns
 returns c =
-    let s = c .before .before .before .before .before .before .before .before .before .before .before .before in
-    let a = s .args in
-    let st = state (a .session) (a .candidates .now) (a .plans .now) (a .next-dims .now) in
-    c .before .before .answer .ensures (a .plans .now) ∙ ap settled (known-plan st (a .plan) _ (omega arith) (c .before .before .before .before .before .before .place-in .ensures) (c .before .before .before .before .before .if1 .taken))
+    let k = known c in
+    let s = start (k .before) in
+    c .before .before .answer .ensures (s .args .plans .now) ∙ ap settled (known-plan (given s) (s .args .plan) _ (omega arith) (k .before .place-in .ensures) (k .if1 .taken))
 
 enlist-requires : tie.Need-enlist-requires
 enlist-requires c κs =
-    let s = c .before .before .before .before .before .before .before .before .before .before in
-    let a = s .args in
-    let st = state (a .session) (a .candidates .now) (a .plans .now) (a .next-dims .now) in
-    let new = is-new st (a .plan) _ (omega arith) (c .before .before .before .before .place-in .ensures) (c .before .before .before .if1 .left) in
-    (s .pre .0, s .pre .5 new, s .pre .2, s .pre .3, s .pre .4)
+    let n = new c in
+    let s = start (n .before) in
+    let e = is-new (given s) (s .args .plan) _ (omega arith) (n .before .place-in .ensures) (n .if1 .left) in
+    (s .pre .0, s .pre .5 e, s .pre .2, s .pre .3, s .pre .4)
 
 answer-requires-2 : tie.Need-answer-requires-2
 answer-requires-2 c κs =
-    let s = c .before .before .before .before .before .before .before .before .before .before .before .before .before .before .before .before .before .before .before in
-    let a = s .args in
-    let st = state (a .session) (a .candidates .now) (a .plans .now) (a .next-dims .now) in
-    let new = is-new st (a .plan) _ (omega arith) (c .before .before .before .before .before .before .before .before .before .before .before .before .before .place-in .ensures) (c .before .before .before .before .before .before .before .before .before .before .before .before .if1 .left) in
-    let e = c .before .before .before .before .before .before .before .before .enlist in
-    (enlisted-ready st (a .plan) _ _ _ _ (s .pre .0) (e .ensures), s .pre .5 new, omega arith, omega arith)
+    let l = enlisted c in
+    let n = new (l .before) in
+    let s = start (n .before) in
+    let e = is-new (given s) (s .args .plan) _ (omega arith) (n .before .place-in .ensures) (n .if1 .left) in
+    (enlisted-ready (given s) (s .args .plan) _ _ _ _ (s .pre .0) (l .enlist .ensures), s .pre .5 e, omega arith, omega arith)
 
 same-length-4 : tie.Need-same-length-4
 same-length-4 c = search needs
@@ -58,13 +81,12 @@ same-length-6 c = search needs
 
 returns-2 : tie.Need-returns-2
 returns-2 c =
-    let s = c .before .before .before .before .before .before .before .before .before .before .before .before .before .before .before .before .before .before .before .before .before .before in
-    let a = s .args in
-    let st = state (a .session) (a .candidates .now) (a .plans .now) (a .next-dims .now) in
-    let e = c .before .before .before .before .before .before .before .before .before .before .before .enlist in
-    c .before .before .answer2 .ensures _
-    ∙ ap (λ (x : State). settled (answer x (a .session .progress .«n_plans»))) (e .ensures)
-    ∙ ap settled (new-plan st (a .plan) _ (omega arith) (c .before .before .before .before .before .before .before .before .before .before .before .before .before .before .before .before .place-in .ensures) (c .before .before .before .before .before .before .before .before .before .before .before .before .before .before .before .if1 .left))
+    let l = enlisted (answered c .before) in
+    let n = new (l .before) in
+    let s = start (n .before) in
+    answered c .answer2 .ensures _
+    ∙ ap (λ (x : State). settled (answer x (s .args .session .progress .«n_plans»))) (l .enlist .ensures)
+    ∙ ap settled (new-plan (given s) (s .args .plan) _ (omega arith) (n .before .place-in .ensures) (n .if1 .left))
 
 pub sample-from-candidate-spec : {M : Type 1} → statement M
 sample-from-candidate-spec =

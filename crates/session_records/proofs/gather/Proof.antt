@@ -4,7 +4,7 @@ use mathlib.Core.Path.{_≡_, refl, sym, ap, _∙_, subst}
 use lib.ListN.{length, getD}
 use borrow.Author.Tests.{ltb-true}
 use Rattle.model.specs.Lists.{over}
-use Rattle.model.specs.Plan.{planCount}
+use Rattle.model.specs.Plan.{planCount, planWords}
 use Rattle.model.specs.Session.{recordOf, blockOf, standsIn, recordsOf}
 use lib.Seq.{sets, length-sets}
 use Rattle.list_laws.proofs.Rows.{row-within}
@@ -23,8 +23,8 @@ abbrev μ-loop : tie.MeasureT-loop
 μ-loop history plans size pool₀ i₀ pool i = size - i
 
 -- plan i fits
-room : (s : tie.Start Inv-loop μ-loop) (i : ℕ) → i < s .args .size → i * 124 + 124 ≤ length (s .args .pool .now)
-room s i h = row-within i (s .args .size) 124 (length (s .args .pool .now)) h (s .pre .1)
+room : (s : tie.Start Inv-loop μ-loop) (i : ℕ) → i < s .args .size → i * planWords + planWords ≤ length (s .args .pool .now)
+room s i h = row-within i (s .args .size) planWords (length (s .args .pool .now)) h (s .pre .1)
 
 loop-holds : tie.Need-loop-holds Inv-loop μ-loop
 loop-holds c = (omega arith, refl, sym (ap (λ x. over x (c .before .before .before .args .pool .now)) (joinBelow-none _)))
@@ -72,7 +72,7 @@ put-requires c κs =
     let l = c .before .before .before .before .before .loop in
     let s = c .before .before .before .before .before .before .before .before .before in
     let k = c .before .before .record-of .result in
-    let e = ap length (part-block (s .args .history .now) k (stands (c .before .before))) ∙ listBelow-length _ 124 in
+    let e = ap length (part-block (s .args .history .now) k (stands (c .before .before))) ∙ listBelow-length _ planWords in
     omega (arith, e, room s (l .i) (c .before .before .before .before .loop-test .taken), l .inv .1)
 
 add-i : tie.Need-add-i Inv-loop μ-loop
@@ -88,9 +88,9 @@ loop-again c =
     let a = s .args in
     let k = c .before .before .before .before .before .record-of in
     let f : ℕ → ℕ = λ t. recordOf (a .history .now) (getD (a .plans .now) t 0) in
-    let p = c .before .before .put .ensures ∙ ap (sets (l .pool) (l .i * 124)) (part-block (a .history .now) (k .result) (stands (c .before .before .before .before .before))) in (
+    let p = c .before .before .put .ensures ∙ ap (sets (l .pool) (l .i * planWords)) (part-block (a .history .now) (k .result) (stands (c .before .before .before .before .before))) in (
       omega arith,
-      ap length p ∙ length-sets (l .pool) (l .i * 124) (blockOf (a .history .now) (k .result)) ∙ l .inv .1,
+      ap length p ∙ length-sets (l .pool) (l .i * planWords) (blockOf (a .history .now) (k .result)) ∙ l .inv .1,
       p ∙ records-more f (a .history .now) (a .pool .now) (l .pool) (l .i) (k .result) (room s (l .i) (c .before .before .before .before .before .before .before .loop-test .taken)) (k .ensures) (l .inv .2),
     )
 

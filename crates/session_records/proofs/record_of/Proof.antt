@@ -3,6 +3,7 @@ use Prim.Native.Nat.{ℕ, _-_, _*_, _≤_, _<_}
 use mathlib.Core.Path.{_≡_, sym, ap, _∙_}
 use mathlib.Core.Bool.{false}
 use lib.ListN.{getD}
+use Rattle.model.specs.Plan.{planWords}
 use Rattle.session_records.proofs.Records.{isRecord, record-found, record-nowhere, others-more}
 use native.Mathlib.Omega.{arith}
 use borrow.Author.Needs.{needs}
@@ -57,7 +58,7 @@ loop-again c =
     let k = c .before .before .from-end in (
       omega arith,
       others-more (a .history .now) (a .plan) (n .result) (l .j) (omega arith)
-          (λ e. c .if1 .left (ap (λ i. getD (a .history .now) (i * 124) 0) (k .ensures) ∙ e)) (l .inv .1),
+          (λ e. c .if1 .left (ap (λ i. getD (a .history .now) (i * planWords) 0) (k .ensures) ∙ e)) (l .inv .1),
     )
 
 returns-2 : tie.Need-returns-2 Inv-loop μ-loop
