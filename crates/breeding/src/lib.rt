@@ -3,21 +3,33 @@ ghost use mathlib.Core.Path.{_≡_};
 ghost use mathlib.Core.Bool.{true, false};
 ghost use Prim.Native.Nat.{ℕ, _*_, _≤_, _<_};
 ghost use lib.ListN.{length, getD};
-ghost use Rattle.model.specs.Lists.{allBelow, over};
+ghost use Rattle.model.specs.Lists.{allBelow, listBelow, over};
 ghost use Rattle.model.specs.Plan.{planAt, planCount};
 ghost use Rattle.model.specs.Setting.{wordsOf, operators, dimensionsOf};
 ghost use Rattle.model.specs.Refusal.{breedable, badDimensions, badOperators};
-ghost use Rattle.plan_rows.specs.Filled.{GoodPool};
 ghost use Rattle.generation_laws.specs.Bred.{bredOfWords};
 use model::CANDIDATE_WORDS;
 use model::DimensionInfo;
 use model::MAX_PLANS;
 use model::Rng;
 
-// The offspring of a kept list: its plans' settings are the parents, ranked by rows only.
+// The entries that the first `count` of a list point at.
+fn look_up(from: &[usize], places: &[usize], count: usize, to: &mut [usize])
+    requires { ⌜ (count ≤ length (now places)) × (count ≤ length (now to)) × ((i : ℕ) → i < count → getD (now places) i 0 < length (now from)) ⌝ }
+    ensures { λ _. ⌜ now (to .exit) ≡ over (listBelow (λ i. getD (now (from .entry)) (getD (now (places .entry)) i 0) 0) count) (now (to .entry)) ⌝ }
+{
+    let mut i = 0;
+    while i < count {
+        let p = places[i];
+        to[i] = from[p];
+        i += 1;
+    }
+}
+
+// The offspring of a kept list: its plans' settings are the parents, and each plan's front is its rank.
 pub fn breed(
     pool: &[u64],
-    directions: &[u8],
+    fronts: &[usize],
     kept: &[usize],
     size: usize,
     dims: [DimensionInfo; 32],
@@ -28,22 +40,22 @@ pub fn breed(
     rng: Rng,
     offspring: &mut [u64],
 ) -> Rng
-    requires { ⌜ GoodPool (now pool) (now directions)
+    requires { ⌜ (planCount (now pool) ≤ length (now fronts))
         × (allBelow (λ p. breedable (dimensionsOf dims) «n_dims» (planAt (now pool) p)) (planCount (now pool)) ≡ true)
         × (badDimensions (dimensionsOf dims) «n_dims» ≡ false) × (badOperators «crossover_prob» «crossover_eta» «mutation_eta» ≡ false) ⌝ }
     requires { ⌜ (0 < size) × (size ≤ 1024) × (size ≤ length (now kept)) × ((i : ℕ) → i < size → getD (now kept) i 0 < planCount (now pool))
         × (size * «n_dims» ≤ length (now offspring)) ⌝ }
     ensures words { λ _. ⌜ now (offspring .exit)
-        ≡ over (wordsOf (bredOfWords (operators dims «n_dims» «crossover_prob» «crossover_eta» «mutation_eta») (now (pool .entry)) (now (directions .entry))
+        ≡ over (wordsOf (bredOfWords (operators dims «n_dims» «crossover_prob» «crossover_eta» «mutation_eta») (now (pool .entry)) (now (fronts .entry))
         (now (kept .entry)) size (rng .s) .value)) (now (offspring .entry)) ⌝ }
     ensures state { λ r. ⌜ r .s
-        ≡ bredOfWords (operators dims «n_dims» «crossover_prob» «crossover_eta» «mutation_eta») (now (pool .entry)) (now (directions .entry))
+        ≡ bredOfWords (operators dims «n_dims» «crossover_prob» «crossover_eta» «mutation_eta») (now (pool .entry)) (now (fronts .entry))
         (now (kept .entry)) size (rng .s) .state ⌝ }
 {
     let mut parents: [u64; CANDIDATE_WORDS] = [0; CANDIDATE_WORDS];
     let rng = offspring::fill_parents(pool, kept, size, dims, n_dims, rng, &mut parents);
     let mut ranks: [usize; MAX_PLANS] = [0; MAX_PLANS];
-    ranks::fill_ranks(pool, directions, kept, size, &mut ranks);
+    look_up(fronts, kept, size, &mut ranks);
     offspring::write_offspring(
         &parents,
         size,

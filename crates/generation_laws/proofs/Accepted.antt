@@ -25,6 +25,9 @@ module _ {o : Operators} {r : Request} {room : Room} {offspring : ℕ} (p : Pass
   pub kept-room : 2 ≤ r .count → r .size ≤ room .kept
   kept-room h = room-each r room (select-room h) .0
 
+  pub fronts-room : 2 ≤ r .count → r .count ≤ room .fronts
+  fronts-room h = room-each r room (select-room h) .1
+
   pub selects : 2 ≤ r .count → selectRefusal r room ≡ none
   unfolding selectRefusal firstOf
   selects h = rw (p .directions, p .size, p .divisions, p .count, p .pool, select-room h)

@@ -8,7 +8,7 @@ use native.Mathlib.Omega.{arith}
 use borrow.Author.Tests.{lt-ltb}
 use lib.Ieee.{Float}
 use lib.ListN.{length, getD, take}
-use Rattle.list_laws.proofs.Built.{over-take, over-at}
+use Rattle.list_laws.proofs.Built.{over-take, over-at, over-below}
 use Rattle.list_laws.proofs.Draws.{drawAll-length}
 use Rattle.model.specs.declared.ParamValue.{ParamValue}
 use Rattle.model.specs.declared.Outcome.the-variants as outcome
@@ -17,7 +17,7 @@ use Rattle.model.specs.Lists.{over}
 use Rattle.model.specs.Draw.{Drawn, drawn}
 use Rattle.model.specs.Plan.{planAt, planCount}
 use Rattle.model.specs.Row.{rowBeats}
-use Rattle.model.specs.Front.{frontOf}
+use Rattle.model.specs.Front.{frontOf, frontList}
 use Rattle.model.specs.Association.{Request}
 use Rattle.model.specs.Kept.{selected}
 use Rattle.model.specs.Setting.{Operators, wordsOf, WordsWithin, sampleCandidates, parentIn, parentsOf, bredOf, rankIn, rankOf, generationOf, generationOfOne, byPool, generation}
@@ -28,7 +28,7 @@ use Rattle.demand3_laws.proofs.Calls.{planAt-row, generation-many, steps}
 use Rattle.candidate_laws.proofs.Sound.{AllHeld}
 use Rattle.candidate_laws.proofs.KeptPlans.{kept-length, kept-below}
 use Rattle.candidate_laws.proofs.Generations.{generation-words}
-use Rattle.generation_laws.specs.Bred.{bredOfWords}
+use Rattle.generation_laws.specs.Bred.{rankAt, bredOfWords}
 use Rattle.generation_laws.proofs.Accepted.{selects}
 use Rattle.generation_laws.proofs.Breeding.{offspring-same}
 
@@ -76,30 +76,38 @@ module _ (o : Operators) (pool directions : List ℕ) (divisions size : ℕ) (g 
           let z = kept-length r in
           subst (λ p. p < planCount pool) (sym (place-is i h)) (kept-below r (omega arith) i (omega arith))
 
-      -- and what is bred from them is the generation's offspring
-      bred-generation : bredOfWords o pool directions (x .slices .kept) size (x .answer .rng .s) ≡ drawn (generationOf o r .offspring) (generationOf o r .state)
-      unfolding bredOfWords generationOf rankOf
-      bred-generation =
-          let taken : take size (x .slices .kept) ≡ selected r .kept = ap (take size) kept-is ∙ over-take (selected r .kept) (at .kept) size (kept-length r) in
-          let ps = parentsOf (o .dims) (o .dimCount) (planAt pool) (selected r .kept) (selected r .state) in
-          let z : length (ps .value) ≡ size = drawAll-length (parentIn (o .dims) (o .dimCount) (planAt pool) (selected r .kept)) (length (selected r .kept)) (selected r .state) ∙ kept-length r in
-          let some : 0 < size = one-to-1024 size (passed o r (roomOf at) (length old) refused .size) .0 in
-          ap₂ (λ k s. bredOf o (planAt pool) (rankIn directions (planAt pool) (planCount pool) (x .slices .kept)) k size s) taken state-is
-          ∙ offspring-same o (ps .value) (rankIn directions (planAt pool) (planCount pool) (x .slices .kept)) (rankIn directions (planAt pool) (planCount pool) (selected r .kept)) (omega arith)
-          (λ i h. ap (frontOf (rowBeats directions (planAt pool)) (planCount pool)) (place-is i (omega arith)))
-          size (ps .state)
+      -- and what is bred from them, ranked by their fronts by rows, is the generation's offspring
+      module _ (fronts fronts₀ : List ℕ) (sorted : fronts ≡ over (frontList (rowBeats directions (planAt pool)) (planCount pool)) fronts₀) where
+        abbrev ranks : ℕ → ℕ
+        ranks = rankIn (rowBeats directions (planAt pool)) (planCount pool) (selected r .kept)
 
-      pub bred-exit : (out : List ℕ) (h : Rng) → out ≡ over (wordsOf (bredOfWords o pool directions (x .slices .kept) size (x .answer .rng .s) .value)) old
-          → h .s ≡ bredOfWords o pool directions (x .slices .kept) size (x .answer .rng .s) .state
-          → stepExit (record { outcome = outcome.Kept size; rng = h }) (x .ideal) (x .slices) out ≡ stepAccepted o r at old
-      unfolding selectAccepted stepAccepted generationOf
-      bred-exit out h f q =
-          ap₂ (λ s w. kept-exit size s (x .ideal) (x .slices) w)
-          (q ∙ ap (λ (d : Drawn (List (List ParamValue))). d .state) bred-generation) (f ∙ ap (λ (d : Drawn (List (List ParamValue))). over (wordsOf (d .value)) old) bred-generation)
-          ∙ ap (λ (y : SelectExit). kept-exit size (generationOf o r .state) (y .ideal) (y .slices) (over (wordsOf (generationOf o r .offspring)) old)) e
-          ∙ ap (λ n. kept-exit n (generationOf o r .state) (selected r .ideal) (laid (selected r) at)
-          (over (wordsOf (generationOf o r .offspring)) old)) (sym (kept-length r))
-          ∙ ap (λ s. generationExit s at old) (sym (generation-many o r two))
+        rank-is : (i : ℕ) → i < size → rankAt fronts (x .slices .kept) i ≡ ranks i
+        unfolding frontList
+        rank-is i h =
+            let front = frontOf (rowBeats directions (planAt pool)) (planCount pool) in
+            over-below front (planCount pool) fronts fronts₀ (getD (x .slices .kept) i 0) 0 sorted (kept-in-pool i h) ∙ ap front (place-is i h)
+
+        bred-generation : bredOfWords o pool fronts (x .slices .kept) size (x .answer .rng .s) ≡ drawn (generationOf o r .offspring) (generationOf o r .state)
+        unfolding bredOfWords generationOf rankOf
+        bred-generation =
+            let taken : take size (x .slices .kept) ≡ selected r .kept = ap (take size) kept-is ∙ over-take (selected r .kept) (at .kept) size (kept-length r) in
+            let ps = parentsOf (o .dims) (o .dimCount) (planAt pool) (selected r .kept) (selected r .state) in
+            let z : length (ps .value) ≡ size = drawAll-length (parentIn (o .dims) (o .dimCount) (planAt pool) (selected r .kept)) (length (selected r .kept)) (selected r .state) ∙ kept-length r in
+            let some : 0 < size = one-to-1024 size (passed o r (roomOf at) (length old) refused .size) .0 in
+            ap₂ (λ k s. bredOf o (planAt pool) (rankAt fronts (x .slices .kept)) k size s) taken state-is
+            ∙ offspring-same o (ps .value) (rankAt fronts (x .slices .kept)) ranks (omega arith) (λ i h. rank-is i (omega arith)) size (ps .state)
+
+        pub bred-exit : (out : List ℕ) (h : Rng) → out ≡ over (wordsOf (bredOfWords o pool fronts (x .slices .kept) size (x .answer .rng .s) .value)) old
+            → h .s ≡ bredOfWords o pool fronts (x .slices .kept) size (x .answer .rng .s) .state
+            → stepExit (record { outcome = outcome.Kept size; rng = h }) (x .ideal) (x .slices) out ≡ stepAccepted o r at old
+        unfolding selectAccepted stepAccepted generationOf
+        bred-exit out h f q =
+            ap₂ (λ s w. kept-exit size s (x .ideal) (x .slices) w)
+            (q ∙ ap (λ (d : Drawn (List (List ParamValue))). d .state) bred-generation) (f ∙ ap (λ (d : Drawn (List (List ParamValue))). over (wordsOf (d .value)) old) bred-generation)
+            ∙ ap (λ (y : SelectExit). kept-exit size (generationOf o r .state) (y .ideal) (y .slices) (over (wordsOf (generationOf o r .offspring)) old)) e
+            ∙ ap (λ n. kept-exit n (generationOf o r .state) (selected r .ideal) (laid (selected r) at)
+            (over (wordsOf (generationOf o r .offspring)) old)) (sym (kept-length r))
+            ∙ ap (λ s. generationExit s at old) (sym (generation-many o r two))
 
   -- ---- the promise
 

@@ -15,13 +15,13 @@ use Rattle.model.specs.declared.ParamValue.{ParamValue}
 use Rattle.model.specs.Lists.{allBelow, listBelow, over}
 use Rattle.model.specs.Draw.{Drawn, drawn, drawUsize}
 use Rattle.model.specs.Plan.{planAt, planCount}
-use Rattle.model.specs.Setting.{wordsOf, Operators, tournament, brood, broods, offspringOf, parentsOf, rankIn}
+use Rattle.model.specs.Setting.{wordsOf, Operators, tournament, brood, broods, offspringOf, parentsOf}
 use Rattle.model.specs.Refusal.{badDimensions, breedable}
 use Rattle.settings.specs.Candidate.{parentAt, parentsIn}
 use Rattle.candidate_laws.proofs.Sound.{AllHeld, AllSound}
 use Rattle.candidate_laws.proofs.Words.{parents-back}
 use Rattle.candidate_laws.proofs.Extracted.{parentsOf-sound}
-use Rattle.generation_laws.specs.Bred.{bredOfWords}
+use Rattle.generation_laws.specs.Bred.{rankAt, bredOfWords}
 
 -- ---- ranks that agree for each parent
 
@@ -49,7 +49,7 @@ module _ (o : Operators) (ps : List (List ParamValue)) (f g : ℕ → ℕ) (some
 
 -- ---- the parents of a kept list
 
-module _ (o : Operators) (held : AllHeld (o .dims) (o .dimCount)) (good : badDimensions (o .dims) (o .dimCount) ≡ false) (pool directions kept : List ℕ) (size s : ℕ)
+module _ (o : Operators) (held : AllHeld (o .dims) (o .dimCount)) (good : badDimensions (o .dims) (o .dimCount) ≡ false) (pool fronts kept : List ℕ) (size s : ℕ)
     (able : allBelow (λ p. breedable (o .dims) (o .dimCount) (planAt pool p)) (planCount pool) ≡ true) (enough : size ≤ length kept)
     (inPool : (i : ℕ) → i < size → getD kept i 0 < planCount pool) where
   abbrev parents : Drawn (List (List ParamValue))
@@ -69,13 +69,13 @@ module _ (o : Operators) (held : AllHeld (o .dims) (o .dimCount)) (good : badDim
 
   -- what the steps of the code leave is the offspring
   pub bred-is : 0 < size → (words old ranks ranks₀ : List ℕ) (t : ℕ) → words ≡ over (wordsOf (parents .value)) old → t ≡ parents .state
-      → ranks ≡ over (listBelow (rankIn directions (planAt pool) (planCount pool) kept) size) ranks₀
-      → offspringOf o (parentsIn (o .dims) (o .dimCount) words size) (λ i. getD ranks i 0) size t ≡ bredOfWords o pool directions kept size s
+      → ranks ≡ over (listBelow (rankAt fronts kept) size) ranks₀
+      → offspringOf o (parentsIn (o .dims) (o .dimCount) words size) (λ i. getD ranks i 0) size t ≡ bredOfWords o pool fronts kept size s
   unfolding bredOfWords
   bred-is some words old ranks ranks₀ t e f q =
       let z = parents-sound .whole in
       ap₂ (λ (w : List (List ParamValue)) (u : ℕ). offspringOf o w (λ i. getD ranks i 0) size u)
       (ap (λ w. parentsIn (o .dims) (o .dimCount) w size) e ∙ read-back old) f
-      ∙ offspring-same o (parents .value) (λ i. getD ranks i 0) (rankIn directions (planAt pool) (planCount pool) kept) (omega arith)
-      (λ i h. over-below (rankIn directions (planAt pool) (planCount pool) kept) size ranks ranks₀ i 0 q (omega arith))
+      ∙ offspring-same o (parents .value) (λ i. getD ranks i 0) (rankAt fronts kept) (omega arith)
+      (λ i h. over-below (rankAt fronts kept) size ranks ranks₀ i 0 q (omega arith))
       size (parents .state)

@@ -1,14 +1,76 @@
 // A generation step that meets no refusal (Rust: nsga3_generate_offspring of sampler/nsga3.rs; document 01, "Setting and dimension").
 ghost use mathlib.Core.Path.{_≡_};
 ghost use mathlib.Core.Option.{none};
+ghost use Prim.Native.Nat.{_≤_};
 ghost use lib.ListN.{length};
+ghost use Rattle.model.specs.Plan.{planCount};
 ghost use Rattle.model.specs.Refusal.{stepRefusal};
 ghost use Rattle.model.specs.Calls.{wordRequest, lent, roomOf, stepExit, stepAccepted};
 ghost use Rattle.model.specs.Setting.{operators};
 use model::DimensionInfo;
+use model::MAX_PLANS;
 use model::Outcome;
 use model::Rng;
 use model::Selection;
+
+// A pool of two plans or more: those to breed from are selected, and bred from by their fronts by rows only, for which `by_rows` has room.
+fn select_and_breed(
+    pool: &[u64],
+    directions: &[u8],
+    divisions: usize,
+    size: usize,
+    rng: Rng,
+    dims: [DimensionInfo; 32],
+    n_dims: usize,
+    crossover_prob: f64,
+    crossover_eta: f64,
+    mutation_eta: f64,
+    ideal: &mut [f64],
+    kept: &mut [usize],
+    fronts: &mut [usize],
+    lines: &mut [usize],
+    by_rows: &mut [usize],
+    offspring: &mut [u64],
+) -> Selection
+    requires { ⌜ (2 ≤ planCount (now pool)) × (planCount (now pool) ≤ length (now «by_rows»)) ⌝ }
+    requires { ⌜ stepRefusal (operators dims «n_dims» «crossover_prob» «crossover_eta» «mutation_eta»)
+        (wordRequest (now pool) (now directions) divisions size rng (now ideal))
+        (roomOf (lent (now kept) (now fronts) (now lines))) (length (now offspring)) ≡ none ⌝ }
+    ensures { λ r. ⌜ stepExit r (now (ideal .exit)) (lent (now (kept .exit)) (now (fronts .exit)) (now (lines .exit))) (now (offspring .exit))
+        ≡ stepAccepted (operators dims «n_dims» «crossover_prob» «crossover_eta» «mutation_eta»)
+        (wordRequest (now (pool .entry)) (now (directions .entry)) divisions size rng (now (ideal .entry)))
+        (lent (now (kept .entry)) (now (fronts .entry)) (now (lines .entry))) (now (offspring .entry)) ⌝ }
+{
+    let selection = nsga3::nsga3_select(
+        pool,
+        directions,
+        divisions,
+        size,
+        rng,
+        ideal,
+        kept,
+        fronts,
+        lines,
+    );
+    ranks::row_fronts(pool, directions, by_rows);
+    let rng = breeding::breed(
+        pool,
+        by_rows,
+        kept,
+        size,
+        dims,
+        n_dims,
+        crossover_prob,
+        crossover_eta,
+        mutation_eta,
+        selection.rng,
+        offspring,
+    );
+    Selection {
+        outcome: Outcome::Kept(size),
+        rng,
+    }
+}
 
 // A generation step that meets no refusal. A pool of one breeds nothing and selects nothing: every setting is drawn.
 pub fn step(
@@ -44,32 +106,23 @@ pub fn step(
             rng,
         };
     }
-    let selection = nsga3::nsga3_select(
+    let mut row_fronts: [usize; MAX_PLANS] = [0; MAX_PLANS];
+    select_and_breed(
         pool,
         directions,
         divisions,
         size,
         rng,
-        ideal,
-        kept,
-        fronts,
-        lines,
-    );
-    let rng = breeding::breed(
-        pool,
-        directions,
-        kept,
-        size,
         dims,
         n_dims,
         crossover_prob,
         crossover_eta,
         mutation_eta,
-        selection.rng,
+        ideal,
+        kept,
+        fronts,
+        lines,
+        &mut row_fronts,
         offspring,
-    );
-    Selection {
-        outcome: Outcome::Kept(size),
-        rng,
-    }
+    )
 }

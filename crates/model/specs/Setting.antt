@@ -15,6 +15,7 @@ use Rattle.model.specs.declared.Distribution.{Distribution}
 use Rattle.model.specs.declared.Distribution.the-variants as dist
 use Rattle.model.specs.declared.FloatDistribution.{FloatDistribution}
 use Rattle.model.specs.declared.IntDistribution.{IntDistribution}
+use Rattle.model.specs.declared.Operators as given
 use Rattle.model.specs.declared.OptionF64.{OptionF64}
 use Rattle.model.specs.declared.OptionF64.the-variants as optF64
 use Rattle.model.specs.declared.OptionI64.{OptionI64}
@@ -361,6 +362,10 @@ operators infos n probability crossoverEta mutationEta = record {
   mutationEta = mutationEta;
 }
 
+-- the same as code is given them
+abbrev pub operatorsIn : given.Operators → Operators
+operatorsIn o = operators (o .dimensions) (o .«n_dims») (o .«crossover_prob») (o .«crossover_eta») (o .«mutation_eta»)
+
 -- two parents are drawn, and the one of smaller rank wins, the first on a tie
 unfoldable pub tournament : (ℕ → ℕ) → ℕ → ℕ → Drawn ℕ
 tournament ranks n s =
@@ -395,12 +400,13 @@ pub record Generation : Type 0 where
   pub offspring : List (List ParamValue)
   pub state : ℕ
 
--- "`nsga3_generate_offspring` ranks by rows only": the rank of the i-th kept plan is its front in the pool of n plans by rows
-abbrev pub rankIn : List ℕ → (ℕ → Plan) → ℕ → List ℕ → ℕ → ℕ
-rankIn marks plans n kept i = frontOf (rowBeats marks plans) n (getD kept i 0)
+-- the rank of the i-th kept plan: its front in the pool of n plans, by a domination
+abbrev pub rankIn : (ℕ → ℕ → Bool) → ℕ → List ℕ → ℕ → ℕ
+rankIn d n kept i = frontOf d n (getD kept i 0)
 
+-- "`nsga3_generate_offspring` ranks by rows only"
 unfoldable pub rankOf : Request → List ℕ → ℕ → ℕ
-rankOf r kept i = rankIn (r .marks) (r .plans) (r .count) kept i
+rankOf r kept i = rankIn (rowBeats (r .marks) (r .plans)) (r .count) kept i
 
 -- the parents of a kept list, by their ranks, and their offspring
 abbrev pub bredOf : Operators → (ℕ → Plan) → (ℕ → ℕ) → List ℕ → ℕ → ℕ → Drawn (List (List ParamValue))

@@ -119,6 +119,15 @@ pub struct DimensionInfo {
     pub distribution: Distribution,
 }
 
+// What breeding is given beside the pool: the dimensions, of which the first n_dims count, and the numbers of crossover and mutation.
+pub struct Operators {
+    pub dimensions: [DimensionInfo; MAX_DIMS],
+    pub n_dims: usize,
+    pub crossover_prob: f64,
+    pub crossover_eta: f64,
+    pub mutation_eta: f64,
+}
+
 // Whether a session still learns its dimensions from the first plan's calls.
 pub enum Phase {
     Discovery,

@@ -1,18 +1,14 @@
 -- `step`: a pool of one draws, any other selects and breeds
-use Prim.Native.Nat.{ℕ, _≤_}
-use mathlib.Core.Path.{_≡_}
+use Prim.Native.Nat.{ℕ}
 use native.Mathlib.Omega.{arith}
 use borrow.Author.Needs.{needs}
 use lib.ListN.{length}
 use Rattle.model.specs.Association.{Request}
 use Rattle.model.specs.Setting.{Operators, operators}
-use Rattle.model.specs.Plan.{planCount}
 use Rattle.model.specs.Calls.{wordRequest, Lent, lent, roomOf}
-use Rattle.list_laws.proofs.Checks.{pool-plans}
-use Rattle.demand3_laws.proofs.Passed.{Passed, passed, some-objectives, one-to-1024}
-use Rattle.candidate_laws.proofs.Generations.{plans-breedable}
-use Rattle.generation_laws.proofs.Accepted.{offspring-room, kept-room}
-use Rattle.generation_laws.proofs.Answer.{one-exit, select-exit, kept-in-pool, bred-exit}
+use Rattle.demand3_laws.proofs.Passed.{Passed, passed, one-to-1024}
+use Rattle.generation_laws.proofs.Accepted.{offspring-room}
+use Rattle.generation_laws.proofs.Answer.{one-exit}
 use Rattle.generation_step.proofs.step.Statement.{statement}
 use Rattle.generation_step.proofs.step.Tie as tie
 
@@ -44,15 +40,12 @@ one c = c .before
 abbrev drawn : tie.After-slice-known6 → tie.After-sample-candidates
 drawn c = c .before .before
 
--- a pool of two or more: the plans to breed from are selected, and bred from
-abbrev more : tie.After-nsga3-select → tie.Else1
-more c = c .before .before .before .before .before
+-- a pool of two or more: a selection is made and bred from
+abbrev more : tie.After-select-and-breed-arg5 → tie.Else1
+more c = c .before .before .before .before .before .before
 
-abbrev selected : tie.After-breed-arg2 → tie.After-nsga3-select
-selected c = c .before .before .before .before .before .before .before .before .before .before
-
-abbrev bred : tie.After-slice-known11 → tie.After-breed
-bred c = c .before .before
+abbrev bred : tie.After-slice-known11 → tie.After-select-and-breed
+bred c = c .before .before .before .before .before .before .before .before .before .before .before
 
 -- ---- a pool of one
 
@@ -78,35 +71,14 @@ returns c =
 
 -- ---- a pool of two or more
 
-nsga3-select-requires : tie.Need-nsga3-select-requires
-nsga3-select-requires c κs = tt
+slice-aggregate-select-and-breed : tie.Need-slice-aggregate-select-and-breed
+slice-aggregate-select-and-breed c = search needs
 
-two : (c : tie.Else1) → 2 ≤ planCount (start (c .before) .args .pool .now)
-two c = omega (arith, c .before .plan-count .ensures, c .if1 .left)
-
-breed-requires : tie.Need-breed-requires
-breed-requires c κs =
-    let s = start (more (selected c) .before) in
-    let a = s .args in
-    let h = two (more (selected c)) in
-    let n = selected c .nsga3-select in
-    let e = select-exit (ops s) (a .pool .now) (a .directions .now) (a .divisions) (a .size) (a .rng) (a .ideal .now) (at s) (a .offspring .now) (s .pre) h _ (n .ensures) in
-    let ok = given s in
-    let kept : length (n .last .1 .1 .1 .1 .1 .1 .0) ≡ length (a .kept .now) = n .kept .1 .1 .1 .1 .1 .1 .0 in (
-      (
-        record { few = one-to-1024 _ (ok .count) .1; narrow = some-objectives _ (ok .directions) .1; good = pool-plans (request s) (ok .pool) },
-        plans-breedable (ops s) (request s) (ok .parents),
-        ok .dimensions,
-        ok .operators,
-      ),
-      (
-        one-to-1024 _ (ok .size) .0,
-        one-to-1024 _ (ok .size) .1,
-        omega (arith, kept, kept-room ok h),
-        kept-in-pool (ops s) (a .pool .now) (a .directions .now) (a .divisions) (a .size) (a .rng) (a .ideal .now) (at s) (a .offspring .now) (s .pre) h _ e,
-        offspring-room ok,
-      ),
-    )
+select-and-breed-requires : tie.Need-select-and-breed-requires
+select-and-breed-requires c κs =
+    let m = more c in
+    let s = start (m .before) in
+    ((omega (arith, m .before .plan-count .ensures, m .if1 .left), one-to-1024 _ (given s .count) .1), s .pre)
 
 same-length-2 : tie.Need-same-length-2
 same-length-2 c = search needs
@@ -124,14 +96,7 @@ same-length-6 : tie.Need-same-length-6
 same-length-6 c = search needs
 
 returns-2 : tie.Need-returns-2
-returns-2 c =
-    let n = selected (bred c .before) in
-    let s = start (more n .before) in
-    let a = s .args in
-    let h = two (more n) in
-    let b = bred c .breed in
-    let e = select-exit (ops s) (a .pool .now) (a .directions .now) (a .divisions) (a .size) (a .rng) (a .ideal .now) (at s) (a .offspring .now) (s .pre) h _ (n .nsga3-select .ensures) in
-    bred-exit (ops s) (a .pool .now) (a .directions .now) (a .divisions) (a .size) (a .rng) (a .ideal .now) (at s) (a .offspring .now) (s .pre) h _ e _ _ (b .ensures .0) (b .ensures .1)
+returns-2 c = bred c .select-and-breed .ensures
 
 pub step-spec : {M : Type 1} → statement M
 step-spec =
@@ -141,8 +106,8 @@ step-spec =
     sample-candidates-requires
     same-length
     returns
-    nsga3-select-requires
-    breed-requires
+    slice-aggregate-select-and-breed
+    select-and-breed-requires
     same-length-2
     same-length-3
     same-length-4

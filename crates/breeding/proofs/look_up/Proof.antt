@@ -6,8 +6,8 @@ use borrow.Author.Needs.{needs}
 use lib.ListN.{length, getD}
 use Rattle.model.specs.Lists.{listBelow, over}
 use Rattle.list_laws.proofs.Built.{over-none, over-set, over-size}
-use Rattle.ranks.proofs.look_up.Statement.{statement}
-use Rattle.ranks.proofs.look_up.Tie as tie
+use Rattle.breeding.proofs.look_up.Statement.{statement}
+use Rattle.breeding.proofs.look_up.Tie as tie
 
 abbrev Inv-loop : tie.InvT-loop
 Inv-loop from places count to₀ i₀ to i =

@@ -1,0 +1,125 @@
+-- `select_and_breed`: the selection, the fronts by rows, and what is bred by them
+use Prim.Native.Nat.{ℕ}
+use mathlib.Core.Path.{_≡_}
+use native.Mathlib.Omega.{arith}
+use borrow.Author.Needs.{needs}
+use lib.ListN.{length}
+use Rattle.model.specs.Association.{Request}
+use Rattle.model.specs.Setting.{Operators, operators}
+use Rattle.model.specs.Calls.{wordRequest, Lent, lent, roomOf}
+use Rattle.plan_rows.specs.Filled.{GoodPool}
+use Rattle.list_laws.proofs.Checks.{pool-plans}
+use Rattle.demand3_laws.proofs.Passed.{Passed, passed, some-objectives, one-to-1024}
+use Rattle.candidate_laws.proofs.Generations.{plans-breedable}
+use Rattle.generation_laws.proofs.Accepted.{offspring-room, kept-room, fronts-room}
+use Rattle.generation_laws.proofs.Answer.{select-exit, kept-in-pool, bred-exit}
+use Rattle.generation_step.proofs.select_and_breed.Statement.{statement}
+use Rattle.generation_step.proofs.select_and_breed.Tie as tie
+
+abbrev ops : tie.Start → Operators
+ops s = operators (s .args .dims) (s .args .n-dims) (s .args .crossover-prob) (s .args .crossover-eta) (s .args .mutation-eta)
+
+abbrev request : tie.Start → Request
+request s = wordRequest (s .args .pool .now) (s .args .directions .now) (s .args .divisions) (s .args .size) (s .args .rng) (s .args .ideal .now)
+
+abbrev at : tie.Start → Lent
+at s = lent (s .args .kept .now) (s .args .fronts .now) (s .args .lines .now)
+
+abbrev room : tie.Start → ℕ
+room s = length (s .args .offspring .now)
+
+abbrev given : (s : tie.Start) → Passed (ops s) (request s) (roomOf (at s)) (room s)
+given s = passed (ops s) (request s) (roomOf (at s)) (room s) (s .pre .1)
+
+-- the pool is within its limits, and its plans pass refusal 8
+good-pool : (s : tie.Start) → GoodPool (s .args .pool .now) (s .args .directions .now)
+good-pool s =
+    let ok = given s in
+    record { few = one-to-1024 _ (ok .count) .1; narrow = some-objectives _ (ok .directions) .1; good = pool-plans (request s) (ok .pool) }
+
+-- ---- the places, each from the next: the plans to breed from are selected, the pool is sorted by rows, and the plans are bred from
+
+abbrev start : tie.After-nsga3-select → tie.Start
+start c = c .before .before .before .before .before .before .before .before .before .before .before .before .before
+
+abbrev selected : tie.After-row-fronts → tie.After-nsga3-select
+selected c = c .before .before .before .before .before .before .before .before .before .before
+
+abbrev sorted : tie.After-breed-arg3 → tie.After-row-fronts
+sorted c = c .before .before .before .before .before
+
+abbrev bred : tie.After-slice-known12 → tie.After-breed
+bred c = c .before .before
+
+-- ---- the needs
+
+nsga3-select-requires : tie.Need-nsga3-select-requires
+nsga3-select-requires c κs = tt
+
+row-fronts-requires : tie.Need-row-fronts-requires
+row-fronts-requires c κs = let s = start (c .before .before .before .before .before .before .before .before .before) in (good-pool s, s .pre .0 .1)
+
+breed-requires : tie.Need-breed-requires
+breed-requires c κs =
+    let n = selected (sorted c) in
+    let s = start n in
+    let a = s .args in
+    let e = select-exit (ops s) (a .pool .now) (a .directions .now) (a .divisions) (a .size) (a .rng) (a .ideal .now) (at s) (a .offspring .now) (s .pre .1) (s .pre .0 .0) _ (n .nsga3-select .ensures) in
+    let ok = given s in
+    let rows : length (sorted c .row-fronts .last .1 .1 .0) ≡ length (a .by-rows .now) = sorted c .row-fronts .kept .1 .1 .0 in
+    -- the selection's fronts have room for the pool too, so that a program which breeds by them fails for its offspring alone
+    let others : length (n .nsga3-select .last .1 .1 .1 .1 .1 .1 .1 .0) ≡ length (a .fronts .now) = n .nsga3-select .kept .1 .1 .1 .1 .1 .1 .1 .0 in
+    let kept : length (n .nsga3-select .last .1 .1 .1 .1 .1 .1 .0) ≡ length (a .kept .now) = n .nsga3-select .kept .1 .1 .1 .1 .1 .1 .0 in (
+      (omega (arith, rows, s .pre .0 .1, others, fronts-room ok (s .pre .0 .0)), plans-breedable (ops s) (request s) (ok .parents), ok .dimensions, ok .operators),
+      (
+        one-to-1024 _ (ok .size) .0,
+        one-to-1024 _ (ok .size) .1,
+        omega (arith, kept, kept-room ok (s .pre .0 .0)),
+        kept-in-pool (ops s) (a .pool .now) (a .directions .now) (a .divisions) (a .size) (a .rng) (a .ideal .now) (at s) (a .offspring .now) (s .pre .1) (s .pre .0 .0) _ e,
+        offspring-room ok,
+      ),
+    )
+
+same-length : tie.Need-same-length
+same-length c = search needs
+
+same-length-2 : tie.Need-same-length-2
+same-length-2 c = search needs
+
+same-length-3 : tie.Need-same-length-3
+same-length-3 c = search needs
+
+same-length-4 : tie.Need-same-length-4
+same-length-4 c = search needs
+
+same-length-5 : tie.Need-same-length-5
+same-length-5 c = search needs
+
+same-length-6 : tie.Need-same-length-6
+same-length-6 c = search needs
+
+returns : tie.Need-returns
+returns c =
+    let w = sorted (bred c .before) in
+    let n = selected w in
+    let s = start n in
+    let a = s .args in
+    let b = bred c .breed in
+    let e = select-exit (ops s) (a .pool .now) (a .directions .now) (a .divisions) (a .size) (a .rng) (a .ideal .now) (at s) (a .offspring .now) (s .pre .1) (s .pre .0 .0) _ (n .nsga3-select .ensures) in
+    bred-exit (ops s) (a .pool .now) (a .directions .now) (a .divisions) (a .size) (a .rng) (a .ideal .now) (at s) (a .offspring .now) (s .pre .1) (s .pre .0 .0) _ e (w .row-fronts .last .1 .1 .0) (a .by-rows .now)
+    (w .row-fronts .ensures) _ _ (b .ensures .0) (b .ensures .1)
+
+pub select-and-breed-spec : {M : Type 1} → statement M
+select-and-breed-spec =
+    tie.close
+    (tie.spec
+    nsga3-select-requires
+    row-fronts-requires
+    breed-requires
+    same-length
+    same-length-2
+    same-length-3
+    same-length-4
+    same-length-5
+    same-length-6
+    returns)
