@@ -10,13 +10,15 @@ use Rattle.model.specs.declared.Session.{Session}
 use Rattle.model.specs.Lists.{joinBelow, over}
 use Rattle.model.specs.Real.{bits}
 use Rattle.model.specs.Session.{dimensionOf}
+use Rattle.model.specs.Setting.{maxDims}
 use native.Mathlib.Omega.{arith}
 use Rattle.list_laws.proofs.Rows.{joinBelow-length}
 use Rattle.list_laws.proofs.Built.{over-front, over-run}
 use lib.Seq.{sets}
-use Rattle.session_words.specs.Coding.{phaseWord, hasFirst, firstWord, dimensionWords, eight, configWords, stateWords, idealWords, sessionWords}
+use Rattle.session_words.specs.Coding.{phaseWord, hasFirst, firstWord, dimensionWidth, dimensionWords, headWidth, sessionWidth, eight, configWords, stateWords, idealWords, sessionWords}
+use Rattle.session_words.specs.Place as place
 
-pub dimension-length : (x : Distribution) → length (dimensionWords x) ≡ 6
+pub dimension-length : (x : Distribution) → length (dimensionWords x) ≡ dimensionWidth
 dimension-length (dist.Float d) = refl
 dimension-length (dist.Int d) = refl
 dimension-length (dist.Categorical d) = refl
@@ -37,17 +39,17 @@ pub state-laid : (s : Session) (p has plan : ℕ) → p ≡ phaseWord (s .phase)
 unfolding stateWords
 state-laid s p has plan a b c = rw (a, b, c)
 
-pub session-laid : (s : Session) (w w1 w2 w3 w4 cs ss zs : List ℕ) → cs ≡ configWords (s .config) → w1 ≡ sets w 0 cs → ss ≡ stateWords s → w2 ≡ sets w1 14 ss
-    → zs ≡ idealWords (s .«ideal_point») → w3 ≡ sets w2 22 zs → w4 ≡ sets w3 30 (joinBelow (λ d. dimensionWords (dimensionOf s d)) 32)
-    → 222 ≤ length w → w4 ≡ over (sessionWords s) w
+pub session-laid : (s : Session) (w w1 w2 w3 w4 cs ss zs : List ℕ) → cs ≡ configWords (s .config) → w1 ≡ sets w place.objectives cs → ss ≡ stateWords s → w2 ≡ sets w1 place.phase ss
+    → zs ≡ idealWords (s .«ideal_point») → w3 ≡ sets w2 place.ideal zs → w4 ≡ sets w3 headWidth (joinBelow (λ d. dimensionWords (dimensionOf s d)) maxDims)
+    → sessionWidth ≤ length w → w4 ≡ over (sessionWords s) w
 unfolding configWords stateWords idealWords sessionWords
 session-laid s w w1 w2 w3 w4 cs ss zs p p1 q q2 r r3 t room =
     let c = configWords (s .config) in
     let u = stateWords s in
     let z = idealWords (s .«ideal_point») in
-    let d = joinBelow (λ d. dimensionWords (dimensionOf s d)) 32 in
-    let n = joinBelow-length (λ d. dimensionWords (dimensionOf s d)) 6 32 (λ i u. dimension-length (dimensionOf s i)) in
-    let a1 : w1 ≡ over c w = p1 ∙ ap (λ x. sets w 0 x) p ∙ over-front c w (omega arith) in
-    let a2 : w2 ≡ over (c ++ u) w = q2 ∙ ap₂ (λ x y. sets y 14 x) q a1 ∙ over-run c u w 14 refl (omega arith) in
-    let a3 : w3 ≡ over ((c ++ u) ++ z) w = r3 ∙ ap₂ (λ x y. sets y 22 x) r a2 ∙ over-run (c ++ u) z w 22 refl (omega arith) in
-    t ∙ ap (λ x. sets x 30 d) a3 ∙ over-run ((c ++ u) ++ z) d w 30 refl (omega (arith, n))
+    let d = joinBelow (λ d. dimensionWords (dimensionOf s d)) maxDims in
+    let n = joinBelow-length (λ d. dimensionWords (dimensionOf s d)) dimensionWidth maxDims (λ i u. dimension-length (dimensionOf s i)) in
+    let a1 : w1 ≡ over c w = p1 ∙ ap (λ x. sets w place.objectives x) p ∙ over-front c w (omega arith) in
+    let a2 : w2 ≡ over (c ++ u) w = q2 ∙ ap₂ (λ x y. sets y place.phase x) q a1 ∙ over-run c u w place.phase refl (omega arith) in
+    let a3 : w3 ≡ over ((c ++ u) ++ z) w = r3 ∙ ap₂ (λ x y. sets y place.ideal x) r a2 ∙ over-run (c ++ u) z w place.ideal refl (omega arith) in
+    t ∙ ap (λ x. sets x headWidth d) a3 ∙ over-run ((c ++ u) ++ z) d w headWidth refl (omega (arith, n))

@@ -27,9 +27,10 @@ use Rattle.model.specs.declared.Session.{Session}
 use Rattle.model.specs.Lists.{one, listBelow, joinBelow, over}
 use Rattle.model.specs.Real.{real, bits}
 use Rattle.model.specs.Session.{dimensionOf}
-use Rattle.model.specs.Setting.{noDimension}
+use Rattle.model.specs.Plan.{maxObjectives}
+use Rattle.model.specs.Setting.{maxDims, noDimension}
 use Rattle.settings.proofs.InBounds.{Held, HeldStepF64}
-use Rattle.session_words.specs.Coding.{marked, hasStepF64, stepWordF64, hasStepI64, stepWordI64, dimensionWords, stepF64, stepI64, dimensionAt, infoAt, dimensionsAt, phaseWord, phaseOf, hasFirst, firstWord, firstOf, configWords, stateWords, idealWords, sessionWords, marksAt, idealAt, configAt, sessionOf}
+use Rattle.session_words.specs.Coding.{marked, hasStepF64, stepWordF64, hasStepI64, stepWordI64, dimensionWidth, dimensionWords, stepF64, stepI64, dimensionAt, infoAt, dimensionsAt, headWidth, phaseWord, phaseOf, hasFirst, firstWord, firstOf, configWords, stateWords, idealWords, sessionWords, marksAt, idealAt, configAt, sessionOf}
 use Rattle.session_words.proofs.Parts.{float-is, int-is, dimension-same, config-same, session-same}
 use Rattle.session_encoding.proofs.Laid.{dimension-length}
 use Rattle.list_laws.proofs.Rows.{joinBelow-front}
@@ -37,18 +38,18 @@ use Rattle.list_laws.proofs.Rows.{joinBelow-front}
 -- ---- what is asked of a value that is stored: its reals are doubles, its directions bytes, and its arrays of their lengths
 
 pub record ConfigStored (c : Config) : Type 0 where
-  pub marks : length (c .directions) ≡ 8
-  pub bytes : (i : ℕ) → i < 8 → getD (c .directions) i 0 < 256
+  pub marks : length (c .directions) ≡ maxObjectives
+  pub bytes : (i : ℕ) → i < maxObjectives → getD (c .directions) i 0 < 256
   pub probability : T (fits binary64 (c .«crossover_prob»))
   pub crossoverEta : T (fits binary64 (c .«crossover_eta»))
   pub mutationEta : T (fits binary64 (c .«mutation_eta»))
 
 pub record Stored (s : Session) : Type 0 where
   pub config : ConfigStored (s .config)
-  pub dimensions : length (s .dimensions) ≡ 32
-  pub held : (d : ℕ) → d < 32 → Held (dimensionOf s d)
-  pub ideal : length (s .«ideal_point») ≡ 8
-  pub reals : (i : ℕ) → i < 8 → T (fits binary64 (getD (s .«ideal_point») i nan))
+  pub dimensions : length (s .dimensions) ≡ maxDims
+  pub held : (d : ℕ) → d < maxDims → Held (dimensionOf s d)
+  pub ideal : length (s .«ideal_point») ≡ maxObjectives
+  pub reals : (i : ℕ) → i < maxObjectives → T (fits binary64 (getD (s .«ideal_point») i nan))
 
 -- ---- a dimension
 
@@ -73,8 +74,8 @@ dimension-back (dist.Int d) h =
     (stepI64-back (d .step))
 dimension-back (dist.Categorical d) h = refl
 
--- words that agree in six places stand for one dimension
-same-six : (v w : List ℕ) (at : ℕ) → ((j : ℕ) → j < 6 → getD v (at + j) 0 ≡ getD w j 0) → dimensionAt v at ≡ dimensionAt w 0
+-- words that agree in a dimension's places stand for one dimension
+same-six : (v w : List ℕ) (at : ℕ) → ((j : ℕ) → j < dimensionWidth → getD v (at + j) 0 ≡ getD w j 0) → dimensionAt v at ≡ dimensionAt w 0
 same-six v w at h =
     let n : at + 0 ≡ at = omega arith in
     let z : getD v at 0 ≡ getD w 0 0 = ap (λ k. getD v k 0) (sym n) ∙ h 0 (omega arith) in
@@ -106,37 +107,37 @@ module _ (s : Session) (old : List ℕ) (ok : Stored s) where
   abbrev rest : List ℕ
   rest = drop (length (sessionWords s)) old
 
-  words-are : words ≡ head ++ (joinBelow block 32 ++ rest)
+  words-are : words ≡ head ++ (joinBelow block maxDims ++ rest)
   unfolding sessionWords configWords stateWords idealWords
   words-are = refl
 
-  head-length : length head ≡ 30
+  head-length : length head ≡ headWidth
   unfolding configWords stateWords idealWords
   head-length = refl
 
-  word-of : (d j : ℕ) → d < 32 → j < 6 → getD words (30 + d * 6 + j) 0 ≡ getD (block d) j 0
+  word-of : (d j : ℕ) → d < maxDims → j < dimensionWidth → getD words (headWidth + d * dimensionWidth + j) 0 ≡ getD (block d) j 0
   word-of d j h i =
-      let e : 30 + d * 6 + j ≡ length head + (d * 6 + j) = omega (arith, head-length) in
-      ap₂ (λ l k. getD l k 0) words-are e ∙ getD-append-add head (joinBelow block 32 ++ rest) (d * 6 + j) 0
-      ∙ joinBelow-front block 6 32 (λ k u. dimension-length (dimensionOf s k)) rest d j 0 h i
+      let e : headWidth + d * dimensionWidth + j ≡ length head + (d * dimensionWidth + j) = omega (arith, head-length) in
+      ap₂ (λ l k. getD l k 0) words-are e ∙ getD-append-add head (joinBelow block maxDims ++ rest) (d * dimensionWidth + j) 0
+      ∙ joinBelow-front block dimensionWidth maxDims (λ k u. dimension-length (dimensionOf s k)) rest d j 0 h i
 
-  info-back : (d : ℕ) → d < 32 → infoAt words 30 d ≡ getD (s .dimensions) d noDimension
+  info-back : (d : ℕ) → d < maxDims → infoAt words headWidth d ≡ getD (s .dimensions) d noDimension
   info-back d h =
       ap (λ x. record { distribution = x })
-      (same-six words (block d) (30 + d * 6) (λ j i. word-of d j h i) ∙ sym (dimension-back (dimensionOf s d) (ok .held d h)))
+      (same-six words (block d) (headWidth + d * dimensionWidth) (λ j i. word-of d j h i) ∙ sym (dimension-back (dimensionOf s d) (ok .held d h)))
 
-  dimensions-back : dimensionsAt words 30 ≡ s .dimensions
+  dimensions-back : dimensionsAt words headWidth ≡ s .dimensions
   unfolding dimensionsAt
-  dimensions-back = listBelow-whole (infoAt words 30) 32 noDimension (s .dimensions) (ok .dimensions) info-back
+  dimensions-back = listBelow-whole (infoAt words headWidth) maxDims noDimension (s .dimensions) (ok .dimensions) info-back
 
   marks-back : marksAt words ≡ s .config .directions
   unfolding marksAt sessionWords configWords listBelow
-  marks-back = listBelow-whole (λ i. getD (s .config .directions) i 0 % 256) 8 0 (s .config .directions) (ok .config .marks) (λ i h. mod-eq-of-lt (ok .config .bytes i h))
+  marks-back = listBelow-whole (λ i. getD (s .config .directions) i 0 % 256) maxObjectives 0 (s .config .directions) (ok .config .marks) (λ i h. mod-eq-of-lt (ok .config .bytes i h))
 
   ideal-back : idealAt words ≡ s .«ideal_point»
   unfolding idealAt sessionWords configWords stateWords idealWords listBelow
   ideal-back =
-      listBelow-whole (λ i. real (bits (getD (s .«ideal_point») i nan))) 8 nan (s .«ideal_point») (ok .ideal) (λ i h. ofBits-toBits binary64 (getD (s .«ideal_point») i nan) (ok .reals i h))
+      listBelow-whole (λ i. real (bits (getD (s .«ideal_point») i nan))) maxObjectives nan (s .«ideal_point») (ok .ideal) (λ i h. ofBits-toBits binary64 (getD (s .«ideal_point») i nan) (ok .reals i h))
 
   config-back : configAt words ≡ s .config
   unfolding sessionWords configWords
@@ -147,5 +148,5 @@ module _ (s : Session) (old : List ℕ) (ok : Stored s) where
   pub session-back : sessionOf words ≡ s
   unfolding sessionOf sessionWords configWords stateWords idealWords
   session-back =
-      session-same s (configAt words) _ _ _ (dimensionsAt words 30) (idealAt words) _ config-back (phase-back (s .phase)) (first-back (s .«discovery_trial_id»)) refl
+      session-same s (configAt words) _ _ _ (dimensionsAt words headWidth) (idealAt words) _ config-back (phase-back (s .phase)) (first-back (s .«discovery_trial_id»)) refl
       dimensions-back ideal-back refl

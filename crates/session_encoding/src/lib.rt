@@ -1,17 +1,19 @@
 // A session's words, written into a lent slice (specs/Coding.antt of `session_words` has the layout). All functions are internal.
 ghost use mathlib.Core.Path.{_≡_};
-ghost use Prim.Native.Nat.{_+_, _≤_};
+ghost use Prim.Native.Nat.{_+_, _*_, _≤_};
 ghost use lib.ListN.{length};
 ghost use Rattle.model.specs.declared.Distribution.the-variants as dist;
 ghost use Rattle.model.specs.Lists.{joinBelow, over};
 ghost use Rattle.model.specs.Setting.{maxDims, dimensionsOf, kindOf, toWord, ofWord};
 ghost use lib.Seq.{sets};
-ghost use Rattle.session_words.specs.Coding.{hasStepF64, stepWordF64, hasStepI64, stepWordI64, dimensionWords, phaseWord, hasFirst, firstWord, configWords, stateWords, idealWords, sessionWidth, sessionWords, sessionOf};
+ghost use Rattle.session_words.specs.Coding.{hasStepF64, stepWordF64, hasStepI64, stepWordI64, dimensionWidth, dimensionWords, phaseWord, hasFirst, firstWord, configWords, stateWords, idealWords, sessionWidth, sessionWords, sessionOf};
 use model::Config;
 use model::DimensionInfo;
 use model::Distribution;
 use model::FloatDistribution;
 use model::IntDistribution;
+use model::MAX_DIMS;
+use model::MAX_OBJECTIVES;
 use model::OptionF64;
 use model::OptionI64;
 use model::OptionU64;
@@ -20,8 +22,16 @@ use model::Phase;
 use model::Session;
 use session_words::DIMENSION_WORDS;
 use session_words::HEAD_WORDS;
+use session_words::IDEAL_AT;
+use session_words::OBJECTIVES_AT;
+use session_words::PHASE_AT;
 use words::put;
 use words::wide;
+
+// The words of what a session was opened with, and of how far it is.
+const CONFIG_WORDS: usize = PHASE_AT - OBJECTIVES_AT;
+
+const STATE_WORDS: usize = IDEAL_AT - PHASE_AT;
 
 // ---- a dimension
 
@@ -61,7 +71,7 @@ fn step_word_i64(step: OptionI64) -> u64
     }
 }
 
-fn float_words(d: FloatDistribution) -> [u64; 6]
+fn float_words(d: FloatDistribution) -> [u64; DIMENSION_WORDS]
     ensures { λ r. ⌜ r ≡ dimensionWords (dist.Float d) ⌝ }
 {
     let step = d.step;
@@ -73,7 +83,7 @@ fn float_words(d: FloatDistribution) -> [u64; 6]
     [0, low, high, log, has_step, step]
 }
 
-fn int_words(d: IntDistribution) -> [u64; 6]
+fn int_words(d: IntDistribution) -> [u64; DIMENSION_WORDS]
     ensures { λ r. ⌜ r ≡ dimensionWords (dist.Int d) ⌝ }
 {
     let step = d.step;
@@ -86,7 +96,7 @@ fn int_words(d: IntDistribution) -> [u64; 6]
 }
 
 // A dimension's six words.
-pub fn dimension_words(d: Distribution) -> [u64; 6]
+pub fn dimension_words(d: Distribution) -> [u64; DIMENSION_WORDS]
     ensures { λ r. ⌜ r ≡ dimensionWords d ⌝ }
 {
     match d {
@@ -125,7 +135,7 @@ fn first_word(first: OptionU64) -> u64
     }
 }
 
-fn ideal_words(ideal: [f64; 8]) -> [u64; 8]
+fn ideal_words(ideal: [f64; MAX_OBJECTIVES]) -> [u64; MAX_OBJECTIVES]
     ensures { λ r. ⌜ r ≡ idealWords ideal ⌝ }
 {
     let a = real::word_of_real(ideal[0]);
@@ -139,7 +149,7 @@ fn ideal_words(ideal: [f64; 8]) -> [u64; 8]
     [a, b, c, d, e, f, g, h]
 }
 
-fn config_words(config: Config) -> [u64; 14]
+fn config_words(config: Config) -> [u64; CONFIG_WORDS]
     ensures { λ r. ⌜ r ≡ configWords config ⌝ }
 {
     let marks = config.directions;
@@ -160,7 +170,7 @@ fn config_words(config: Config) -> [u64; 14]
     [n, a, b, c, d, e, f, g, h, divisions, size, p, q, r]
 }
 
-fn state_words(session: Session) -> [u64; 8]
+fn state_words(session: Session) -> [u64; STATE_WORDS]
     ensures { λ r. ⌜ r ≡ stateWords session ⌝ }
 {
     let phase = session.phase;
@@ -176,13 +186,13 @@ fn state_words(session: Session) -> [u64; 8]
     [p, has, plan, rng.s, d, c, n, progress.generation]
 }
 
-// The words of 32 dimensions, from a place on.
-pub fn put_dimensions(dims: [DimensionInfo; 32], from: usize, words: &mut [u64])
-    requires { ⌜ from + 192 ≤ length (now words) ⌝ }
+// The words of as many dimensions as a session holds, from a place on.
+pub fn put_dimensions(dims: [DimensionInfo; MAX_DIMS], from: usize, words: &mut [u64])
+    requires { ⌜ from + maxDims * dimensionWidth ≤ length (now words) ⌝ }
     ensures { λ _. ⌜ now (words .exit) ≡ sets (now (words .entry)) from (joinBelow (λ d. dimensionWords (dimensionsOf dims d)) maxDims) ⌝ }
 {
     let mut d = 0;
-    while d < 32 {
+    while d < MAX_DIMS {
         let info = dims[d];
         let distribution = info.distribution;
         let block = dimension_words(distribution);
@@ -209,10 +219,10 @@ pub fn words_of_session(session: Session, words: &mut [u64])
     let ideal = session.ideal_point;
     let dims = session.dimensions;
     let head = config_words(config);
-    put(&head, 0, words);
+    put(&head, OBJECTIVES_AT, words);
     let state = state_words(session);
-    put(&state, 14, words);
+    put(&state, PHASE_AT, words);
     let ideal = ideal_words(ideal);
-    put(&ideal, 22, words);
+    put(&ideal, IDEAL_AT, words);
     put_dimensions(dims, HEAD_WORDS, words);
 }

@@ -19,9 +19,11 @@ use Rattle.model.specs.declared.Config.{Config}
 use Rattle.model.specs.declared.Progress.{Progress}
 use Rattle.model.specs.declared.Session.{Session}
 use Rattle.model.specs.Lists.{one, listBelow, joinBelow}
+use Rattle.model.specs.Plan.{maxObjectives}
 use Rattle.model.specs.Real.{real, bits}
 use Rattle.model.specs.Setting.{wordOfInt, intOfWord, maxDims}
 use Rattle.model.specs.Session.{dimensionOf, progress}
+use Rattle.session_words.specs.Place as place
 
 -- a mark: 0 is no, any other word is yes
 abbrev pub marked : ℕ → Bool
@@ -88,13 +90,13 @@ dimensionsAt ws from = listBelow (infoAt ws from) maxDims
 abbrev pub dimensionCount : List ℕ → ℕ
 dimensionCount ws = length ws / dimensionWidth
 
--- ---- a session is 222 words: 30 of its own, and 32 dimensions
+-- ---- a session is `sessionWidth` words: `headWidth` of its own, each field at its place (`Place`), and as many dimensions as it may have
 
 abbrev pub headWidth : ℕ
-headWidth = 30
+headWidth = place.dimensions
 
 abbrev pub sessionWidth : ℕ
-sessionWidth = 222
+sessionWidth = headWidth + maxDims * dimensionWidth
 
 abbrev pub phaseWord : Phase → ℕ
 phaseWord Discovery = 0
@@ -120,55 +122,55 @@ firstOf (suc n) w = optU64.Some w
 abbrev pub eight : {A : Type 0} → (ℕ → A) → List A
 eight f = f 0 ∷ f 1 ∷ f 2 ∷ f 3 ∷ f 4 ∷ f 5 ∷ f 6 ∷ f 7 ∷ []
 
--- 0 objectives, 1 to 8 directions, 9 divisions, 10 size, 11 crossover probability, 12 crossover eta, 13 mutation eta
+-- what a session was opened with, from `place.objectives` on
 unfoldable pub configWords : Config → List ℕ
 configWords c =
     c .«n_obj» ∷ eight (λ i. getD (c .directions) i 0)
     ++ (c .divisions ∷ c .«population_size» ∷ bits (c .«crossover_prob») ∷ bits (c .«crossover_eta») ∷ bits (c .«mutation_eta») ∷ [])
 
--- 14 phase (0 discovery, else active), 15 whether there is a first plan, 16 its number, 17 generator, 18 dimensions, 19 candidates, 20 plans, 21 generation
+-- how far it is, from `place.phase` on: phase (0 discovery, else active), first plan, generator, counts and generation
 unfoldable pub stateWords : Session → List ℕ
 stateWords s =
     let p = s .progress in
     phaseWord (s .phase) ∷ hasFirst (s .«discovery_trial_id») ∷ firstWord (s .«discovery_trial_id») ∷ s .rng .s
     ∷ p .«n_dims» ∷ p .«n_candidates» ∷ p .«n_plans» ∷ p .generation ∷ []
 
--- 22 to 29 ideal
+-- from `place.ideal` on
 unfoldable pub idealWords : List Float → List ℕ
 idealWords ideal = eight (λ i. bits (getD ideal i nan))
 
--- and from 30 on the dimensions
+-- and from `place.dimensions` on the dimensions
 unfoldable pub sessionWords : Session → List ℕ
 sessionWords s =
     configWords (s .config) ++ (stateWords s ++ (idealWords (s .«ideal_point») ++ joinBelow (λ d. dimensionWords (dimensionOf s d)) maxDims))
 
 -- a direction is a byte
 unfoldable pub marksAt : List ℕ → List ℕ
-marksAt ws = eight (λ i. getD ws (1 + i) 0 % 256)
+marksAt ws = listBelow (λ i. getD ws (place.directions + i) 0 % 256) maxObjectives
 
 unfoldable pub idealAt : List ℕ → List Float
-idealAt ws = eight (λ i. real (getD ws (22 + i) 0))
+idealAt ws = listBelow (λ i. real (getD ws (place.ideal + i) 0)) maxObjectives
 
 abbrev pub configAt : List ℕ → Config
 configAt ws = record {
-  «n_obj» = getD ws 0 0;
+  «n_obj» = getD ws place.objectives 0;
   directions = marksAt ws;
-  divisions = getD ws 9 0;
-  «population_size» = getD ws 10 0;
-  «crossover_prob» = real (getD ws 11 0);
-  «crossover_eta» = real (getD ws 12 0);
-  «mutation_eta» = real (getD ws 13 0);
+  divisions = getD ws place.divisions 0;
+  «population_size» = getD ws place.size 0;
+  «crossover_prob» = real (getD ws place.crossoverProb 0);
+  «crossover_eta» = real (getD ws place.crossoverEta 0);
+  «mutation_eta» = real (getD ws place.mutationEta 0);
 }
 
 abbrev pub progressAt : List ℕ → Progress
-progressAt ws = progress (getD ws 18 0) (getD ws 19 0) (getD ws 20 0) (getD ws 21 0)
+progressAt ws = progress (getD ws place.dims 0) (getD ws place.candidates 0) (getD ws place.plans 0) (getD ws place.generation 0)
 
 unfoldable pub sessionOf : List ℕ → Session
 sessionOf ws = record {
   config = configAt ws;
-  phase = phaseOf (getD ws 14 0);
-  «discovery_trial_id» = firstOf (getD ws 15 0) (getD ws 16 0);
-  rng = record { s = getD ws 17 0 };
+  phase = phaseOf (getD ws place.phase 0);
+  «discovery_trial_id» = firstOf (getD ws place.hasFirst 0) (getD ws place.first 0);
+  rng = record { s = getD ws place.rng 0 };
   dimensions = dimensionsAt ws headWidth;
   «ideal_point» = idealAt ws;
   progress = progressAt ws;

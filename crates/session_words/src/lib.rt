@@ -5,13 +5,15 @@ ghost use Prim.Native.Nat.{_%_, _≤_};
 ghost use lib.Ieee.{binary64, ofBits};
 ghost use lib.ListN.{getD};
 ghost use Rattle.model.specs.Lists.{one};
-ghost use Rattle.session_words.specs.Coding.{marked, stepF64, stepI64, distributionOf, dimensionAt, dimensionsAt, phaseOf, firstOf, marksAt, idealAt, configAt, progressAt, sessionOf};
+ghost use Rattle.session_words.specs.Coding.{marked, stepF64, stepI64, distributionOf, dimensionAt, dimensionsAt, headWidth, sessionWidth, phaseOf, firstOf, marksAt, idealAt, configAt, progressAt, sessionOf};
 use model::CategoricalDistribution;
 use model::Config;
 use model::DimensionInfo;
 use model::Distribution;
 use model::FloatDistribution;
 use model::IntDistribution;
+use model::MAX_DIMS;
+use model::MAX_OBJECTIVES;
 use model::OptionF64;
 use model::OptionI64;
 use model::OptionU64;
@@ -21,12 +23,47 @@ use model::Rng;
 use model::Session;
 use words::word_at;
 
-// The words of a dimension, the words before a session's dimensions, and all words of a session.
+// Where each field of a session stands among its words, as specs/Place.antt has it.
+pub const OBJECTIVES_AT: usize = 0;
+
+pub const DIRECTIONS_AT: usize = OBJECTIVES_AT + 1;
+
+pub const DIVISIONS_AT: usize = DIRECTIONS_AT + MAX_OBJECTIVES;
+
+pub const SIZE_AT: usize = DIVISIONS_AT + 1;
+
+pub const CROSSOVER_PROB_AT: usize = SIZE_AT + 1;
+
+pub const CROSSOVER_ETA_AT: usize = CROSSOVER_PROB_AT + 1;
+
+pub const MUTATION_ETA_AT: usize = CROSSOVER_ETA_AT + 1;
+
+pub const PHASE_AT: usize = MUTATION_ETA_AT + 1;
+
+// whether there is a first plan, and its number
+pub const HAS_FIRST_AT: usize = PHASE_AT + 1;
+
+pub const FIRST_AT: usize = HAS_FIRST_AT + 1;
+
+pub const RNG_AT: usize = FIRST_AT + 1;
+
+// the counts of dimensions, candidates and plans, and the generation
+pub const DIMS_AT: usize = RNG_AT + 1;
+
+pub const CANDIDATES_AT: usize = DIMS_AT + 1;
+
+pub const PLANS_AT: usize = CANDIDATES_AT + 1;
+
+pub const GENERATION_AT: usize = PLANS_AT + 1;
+
+pub const IDEAL_AT: usize = GENERATION_AT + 1;
+
+// The words before a session's dimensions, those of a dimension, and all words of a session.
+pub const HEAD_WORDS: usize = IDEAL_AT + MAX_OBJECTIVES;
+
 pub const DIMENSION_WORDS: usize = 6;
 
-pub const HEAD_WORDS: usize = 30;
-
-pub const SESSION_WORDS: usize = 222;
+pub const SESSION_WORDS: usize = HEAD_WORDS + MAX_DIMS * DIMENSION_WORDS;
 
 // ---- reals and marks
 
@@ -122,7 +159,7 @@ pub fn distribution_of(
 
 // The dimension whose six words begin at a place.
 pub fn dimension_of_words(words: &[u64], at: usize) -> Distribution
-    requires { ⌜ at ≤ 1000 ⌝ }
+    requires { ⌜ at ≤ sessionWidth ⌝ }
     ensures { λ r. ⌜ r ≡ dimensionAt (now (words .entry)) at ⌝ }
 {
     let kind = word_at(words, at);
@@ -134,14 +171,14 @@ pub fn dimension_of_words(words: &[u64], at: usize) -> Distribution
     distribution_of(kind, low, high, log, has_step, step)
 }
 
-// The 32 dimensions whose words begin at a place.
-pub fn dimensions_of_words(words: &[u64], from: usize) -> [DimensionInfo; 32]
-    requires { ⌜ from ≤ 30 ⌝ }
+// As many dimensions as a session holds, whose words begin at a place.
+pub fn dimensions_of_words(words: &[u64], from: usize) -> [DimensionInfo; MAX_DIMS]
+    requires { ⌜ from ≤ headWidth ⌝ }
     ensures { λ r. ⌜ r ≡ dimensionsAt (now (words .entry)) from ⌝ }
 {
     let mut dims = settings::blank_dimensions();
     let mut d = 0;
-    while d < 32 {
+    while d < MAX_DIMS {
         let distribution = dimension_of_words(words, from + d * DIMENSION_WORDS);
         dims[d] = DimensionInfo { distribution };
         d += 1;
@@ -169,44 +206,40 @@ fn first_of(has: u64, w: u64) -> OptionU64
     OptionU64::Some(w)
 }
 
-fn marks_at(words: &[u64]) -> [u8; 8]
+fn marks_at(words: &[u64]) -> [u8; MAX_OBJECTIVES]
     ensures { λ r. ⌜ r ≡ marksAt (now (words .entry)) ⌝ }
 {
-    let a = mark_at(words, 1);
-    let b = mark_at(words, 2);
-    let c = mark_at(words, 3);
-    let d = mark_at(words, 4);
-    let e = mark_at(words, 5);
-    let f = mark_at(words, 6);
-    let g = mark_at(words, 7);
-    let h = mark_at(words, 8);
-    [a, b, c, d, e, f, g, h]
+    let mut marks = [0u8; MAX_OBJECTIVES];
+    let mut i = 0;
+    while i < MAX_OBJECTIVES {
+        marks[i] = mark_at(words, DIRECTIONS_AT + i);
+        i += 1;
+    }
+    marks
 }
 
-fn ideal_at(words: &[u64]) -> [f64; 8]
+fn ideal_at(words: &[u64]) -> [f64; MAX_OBJECTIVES]
     ensures { λ r. ⌜ r ≡ idealAt (now (words .entry)) ⌝ }
 {
-    let a = real_at(words, 22);
-    let b = real_at(words, 23);
-    let c = real_at(words, 24);
-    let d = real_at(words, 25);
-    let e = real_at(words, 26);
-    let f = real_at(words, 27);
-    let g = real_at(words, 28);
-    let h = real_at(words, 29);
-    [a, b, c, d, e, f, g, h]
+    let mut ideal = [0.0; MAX_OBJECTIVES];
+    let mut i = 0;
+    while i < MAX_OBJECTIVES {
+        ideal[i] = real_at(words, IDEAL_AT + i);
+        i += 1;
+    }
+    ideal
 }
 
 fn config_at(words: &[u64]) -> Config
     ensures { λ r. ⌜ r ≡ configAt (now (words .entry)) ⌝ }
 {
-    let n_obj = word_at(words, 0) as usize;
+    let n_obj = word_at(words, OBJECTIVES_AT) as usize;
     let directions = marks_at(words);
-    let divisions = word_at(words, 9) as usize;
-    let population_size = word_at(words, 10) as usize;
-    let crossover_prob = real_at(words, 11);
-    let crossover_eta = real_at(words, 12);
-    let mutation_eta = real_at(words, 13);
+    let divisions = word_at(words, DIVISIONS_AT) as usize;
+    let population_size = word_at(words, SIZE_AT) as usize;
+    let crossover_prob = real_at(words, CROSSOVER_PROB_AT);
+    let crossover_eta = real_at(words, CROSSOVER_ETA_AT);
+    let mutation_eta = real_at(words, MUTATION_ETA_AT);
     Config {
         n_obj,
         directions,
@@ -221,10 +254,10 @@ fn config_at(words: &[u64]) -> Config
 fn progress_at(words: &[u64]) -> Progress
     ensures { λ r. ⌜ r ≡ progressAt (now (words .entry)) ⌝ }
 {
-    let n_dims = word_at(words, 18) as usize;
-    let n_candidates = word_at(words, 19) as usize;
-    let n_plans = word_at(words, 20) as usize;
-    let generation = word_at(words, 21);
+    let n_dims = word_at(words, DIMS_AT) as usize;
+    let n_candidates = word_at(words, CANDIDATES_AT) as usize;
+    let n_plans = word_at(words, PLANS_AT) as usize;
+    let generation = word_at(words, GENERATION_AT);
     Progress {
         n_dims,
         n_candidates,
@@ -238,11 +271,11 @@ pub fn session_of_words(words: &[u64]) -> Session
     ensures { λ r. ⌜ r ≡ sessionOf (now (words .entry)) ⌝ }
 {
     let config = config_at(words);
-    let phase = phase_of(word_at(words, 14));
-    let has = word_at(words, 15);
-    let discovery_trial_id = first_of(has, word_at(words, 16));
+    let phase = phase_of(word_at(words, PHASE_AT));
+    let has = word_at(words, HAS_FIRST_AT);
+    let discovery_trial_id = first_of(has, word_at(words, FIRST_AT));
     let rng = Rng {
-        s: word_at(words, 17),
+        s: word_at(words, RNG_AT),
     };
     let dimensions = dimensions_of_words(words, HEAD_WORDS);
     let ideal_point = ideal_at(words);

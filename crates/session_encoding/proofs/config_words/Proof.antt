@@ -65,10 +65,21 @@ word-of-real-requires-3 c κs = tt
 
 returns : tie.Need-returns
 returns c =
-    let x = c .before .before .before .before .before .before .before .before .before .before .before .before .args .config in
+    let crossover = c .before in
+    let probability = crossover .before in
+    let d8 = probability .before in
+    let d7 = d8 .before in
+    let d6 = d7 .before in
+    let d5 = d6 .before in
+    let d4 = d5 .before in
+    let d3 = d4 .before in
+    let d2 = d3 .before in
+    let d1 = d2 .before in
+    let x = d1 .before .before .args .config in
     config-laid x
-    (eight-same (λ i. getD (x .directions) i 0) (c .before .before .before .before .before .before .before .before .before .before .wide .ensures) (c .before .before .before .before .before .before .before .before .before .wide2 .ensures) (c .before .before .before .before .before .before .before .before .wide3 .ensures) (c .before .before .before .before .before .before .before .wide4 .ensures) (c .before .before .before .before .before .before .wide5 .ensures) (c .before .before .before .before .before .wide6 .ensures) (c .before .before .before .before .wide7 .ensures) (c .before .before .before .wide8 .ensures))
-    (c .before .before .word-of-real .ensures) (c .before .word-of-real2 .ensures) (c .word-of-real3 .ensures)
+    (eight-same (λ i. getD (x .directions) i 0) (d1 .wide .ensures) (d2 .wide2 .ensures) (d3 .wide3 .ensures) (d4 .wide4 .ensures) (d5 .wide5 .ensures) (d6 .wide6 .ensures)
+    (d7 .wide7 .ensures) (d8 .wide8 .ensures))
+    (probability .word-of-real .ensures) (crossover .word-of-real2 .ensures) (c .word-of-real3 .ensures)
 
 pub config-words-spec : {M : Type 1} → statement M
 config-words-spec =

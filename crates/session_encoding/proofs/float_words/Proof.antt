@@ -20,7 +20,11 @@ step-word-f64-requires c κs = tt
 
 returns : tie.Need-returns
 returns c =
-    six-laid 0 (c .before .before .before .before .word-of-real .ensures) (c .before .before .before .word-of-real2 .ensures) (c .before .before .mark .ensures) (c .before .has-step-f64 .ensures) (c .step-word-f64 .ensures)
+    let has = c .before in
+    let log = has .before in
+    let high = log .before in
+    let low = high .before in
+    six-laid 0 (low .word-of-real .ensures) (high .word-of-real2 .ensures) (log .mark .ensures) (has .has-step-f64 .ensures) (c .step-word-f64 .ensures)
 
 pub float-words-spec : {M : Type 1} → statement M
 float-words-spec =

@@ -59,7 +59,15 @@ word-of-real-requires-8 c κs = tt
 returns : tie.Need-returns
 unfolding idealWords
 returns c =
-    eight-same (λ i. bits (getD (c .before .before .before .before .before .before .before .before .args .t1) i nan)) (c .before .before .before .before .before .before .before .word-of-real .ensures) (c .before .before .before .before .before .before .word-of-real2 .ensures) (c .before .before .before .before .before .word-of-real3 .ensures) (c .before .before .before .before .word-of-real4 .ensures) (c .before .before .before .word-of-real5 .ensures) (c .before .before .word-of-real6 .ensures) (c .before .word-of-real7 .ensures) (c .word-of-real8 .ensures)
+    let v7 = c .before in
+    let v6 = v7 .before in
+    let v5 = v6 .before in
+    let v4 = v5 .before in
+    let v3 = v4 .before in
+    let v2 = v3 .before in
+    let v1 = v2 .before in
+    eight-same (λ i. bits (getD (v1 .before .args .t1) i nan)) (v1 .word-of-real .ensures) (v2 .word-of-real2 .ensures) (v3 .word-of-real3 .ensures) (v4 .word-of-real4 .ensures)
+    (v5 .word-of-real5 .ensures) (v6 .word-of-real6 .ensures) (v7 .word-of-real7 .ensures) (c .word-of-real8 .ensures)
 
 pub ideal-words-spec : {M : Type 1} → statement M
 ideal-words-spec =

@@ -21,12 +21,17 @@ step-word-i64-requires c κs = tt
 
 returns : tie.Need-returns
 returns c =
-    let s = c .before .before .before .before .before .before .before in
-    let d = s .args .d in
+    let has = c .before in
+    let log = has .before in
+    let high = log .before in
+    let high-told = high .before in
+    let low = high-told .before in
+    let low-told = low .before in
+    let d = low-told .before .args .d in
     six-laid 1
-    (rw (back (d .low) (c .before .before .before .before .before .before .struct-told .given .0 .1)) at (c .before .before .before .before .before .word-of-int .ensures))
-    (rw (back (d .high) (c .before .before .before .before .struct-told2 .given .1 .0 .1)) at (c .before .before .before .word-of-int2 .ensures))
-    (c .before .before .mark .ensures) (c .before .has-step-i64 .ensures) (c .step-word-i64 .ensures)
+    (rw (back (d .low) (low-told .struct-told .given .0 .1)) at (low .word-of-int .ensures))
+    (rw (back (d .high) (high-told .struct-told2 .given .1 .0 .1)) at (high .word-of-int2 .ensures))
+    (log .mark .ensures) (has .has-step-i64 .ensures) (c .step-word-i64 .ensures)
 
 pub int-words-spec : {M : Type 1} → statement M
 int-words-spec =

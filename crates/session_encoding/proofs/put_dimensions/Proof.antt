@@ -6,21 +6,21 @@ use borrow.Author.Needs.{needs}
 use lib.ListN.{length}
 use mathlib.Core.List.{List}
 use Rattle.model.specs.Lists.{joinBelow}
-use Rattle.model.specs.Setting.{dimensionsOf}
+use Rattle.model.specs.Setting.{maxDims, dimensionsOf}
 use lib.Seq.{sets, length-sets}
 use Rattle.list_laws.proofs.Built.{joinBelow-none}
 use Rattle.list_laws.proofs.Rows.{run-join}
-use Rattle.session_words.specs.Coding.{dimensionWords}
+use Rattle.session_words.specs.Coding.{dimensionWidth, dimensionWords}
 use Rattle.session_encoding.proofs.Laid.{dimension-length}
 use Rattle.session_encoding.proofs.put_dimensions.Statement.{statement}
 use Rattle.session_encoding.proofs.put_dimensions.Tie as tie
 
 abbrev Inv-loop : tie.InvT-loop
 Inv-loop from words₀ dims d₀ words d =
-    (d ≤ 32) × (length words ≡ length words₀) × (words ≡ sets words₀ from (joinBelow (λ i. dimensionWords (dimensionsOf dims i)) d))
+    (d ≤ maxDims) × (length words ≡ length words₀) × (words ≡ sets words₀ from (joinBelow (λ i. dimensionWords (dimensionsOf dims i)) d))
 
 abbrev μ-loop : tie.MeasureT-loop
-μ-loop from words₀ dims d₀ words d = 32 - d
+μ-loop from words₀ dims d₀ words d = maxDims - d
 
 loop-holds : tie.Need-loop-holds Inv-loop μ-loop
 loop-holds c =
@@ -62,9 +62,9 @@ loop-again c =
     let l = c .before .before .before .before .before .before .before .before .loop in
     let a = c .before .before .before .before .before .before .before .before .before .before .args in
     let f : ℕ → List ℕ = λ i. dimensionWords (dimensionsOf (a .t1) i) in
-    let each : (d : ℕ) → length (f d) ≡ 6 = λ d. dimension-length (dimensionsOf (a .t1) d) in
-    let w = c .before .before .put .ensures ∙ ap₂ (λ x y. sets y (a .from + l .d * 6) x) (c .before .before .before .before .before .dimension-words .ensures) (l .inv .2)
-    ∙ run-join f 6 each (a .from) (l .d) (a .words .now) in
+    let each : (d : ℕ) → length (f d) ≡ dimensionWidth = λ d. dimension-length (dimensionsOf (a .t1) d) in
+    let w = c .before .before .put .ensures ∙ ap₂ (λ x y. sets y (a .from + l .d * dimensionWidth) x) (c .before .before .before .before .before .dimension-words .ensures) (l .inv .2)
+    ∙ run-join f dimensionWidth each (a .from) (l .d) (a .words .now) in
     (omega arith, ap length w ∙ length-sets (a .words .now) (a .from) (joinBelow f (l .d + 1)), w)
 
 same-length : tie.Need-same-length Inv-loop μ-loop
@@ -74,7 +74,7 @@ returns : tie.Need-returns Inv-loop μ-loop
 returns c =
     let l = c .before .loop in
     let a = c .before .before .before .args in
-    let e : l .d ≡ 32 = omega arith in
+    let e : l .d ≡ maxDims = omega arith in
     l .inv .2 ∙ ap (λ x. sets (a .words .now) (a .from) (joinBelow (λ i. dimensionWords (dimensionsOf (a .t1) i)) x)) e
 
 pub put-dimensions-spec : {M : Type 1} → statement M

@@ -13,7 +13,11 @@ first-word-requires : tie.Need-first-word-requires
 first-word-requires c κs = tt
 
 returns : tie.Need-returns
-returns c = state-laid (c .before .before .before .before .before .args .session) _ _ _ (c .before .before .phase-word .ensures) (c .before .has-first .ensures) (c .first-word .ensures)
+returns c =
+    let has = c .before in
+    let phase = has .before in
+    let start = phase .before .before .before in
+    state-laid (start .args .session) _ _ _ (phase .phase-word .ensures) (has .has-first .ensures) (c .first-word .ensures)
 
 pub state-words-spec : {M : Type 1} → statement M
 state-words-spec =

@@ -8,6 +8,34 @@ use borrow.Author.Needs.{needs}
 use Rattle.session_encoding.proofs.words_of_session.Statement.{statement}
 use Rattle.session_encoding.proofs.words_of_session.Tie as tie
 
+-- ---- the places, each from the next: the call starts, and config, state, ideal and dimensions are made words and put
+
+abbrev start : tie.After-config-words → tie.Start
+start c = c .before .before .before .before .before
+
+abbrev config-made : tie.After-put → tie.After-config-words
+config-made c = c .before .before .before
+
+abbrev config-put : tie.After-state-words → tie.After-put
+config-put c = c .before .before .before
+
+abbrev state-made : tie.After-put2 → tie.After-state-words
+state-made c = c .before .before .before
+
+abbrev state-put : tie.After-ideal-words → tie.After-put2
+state-put c = c .before .before .before
+
+abbrev ideal-made : tie.After-put3 → tie.After-ideal-words
+ideal-made c = c .before .before .before
+
+abbrev ideal-put : tie.After-put-dimensions → tie.After-put3
+ideal-put c = c .before .before .before .before
+
+abbrev dimensions-put : tie.After-slice-known5 → tie.After-put-dimensions
+dimensions-put c = c .before .before
+
+-- ---- the needs
+
 config-words-requires : tie.Need-config-words-requires
 config-words-requires c κs = tt
 
@@ -43,17 +71,18 @@ same-length c = search needs
 
 returns : tie.Need-returns
 returns c =
-    let s = c .before .before .before .before .before .before .before .before .before .before .before .before .before .before .before .before .before .before .before .before .before .before .before .before .before .before in
+    let d = dimensions-put c in
+    let i3 = ideal-put d in
+    let i = ideal-made i3 in
+    let s2 = state-put i in
+    let s = state-made s2 in
+    let h1 = config-put s in
+    let h = config-made h1 in
+    let a = start h .args in
     let e =
-    session-laid (s .args .session) (s .args .words .now) _ _ _ _ _ _ _
-    (c .before .before .before .before .before .before .before .before .before .before .before .before .before .before .before .before .before .before .before .before .before .config-words .ensures)
-    (c .before .before .before .before .before .before .before .before .before .before .before .before .before .before .before .before .before .before .put .ensures)
-    (c .before .before .before .before .before .before .before .before .before .before .before .before .before .before .before .state-words .ensures)
-    (c .before .before .before .before .before .before .before .before .before .before .before .before .put2 .ensures)
-    (c .before .before .before .before .before .before .before .before .before .ideal-words .ensures)
-    (c .before .before .before .before .before .before .put3 .ensures)
-    (c .before .before .put-dimensions .ensures) (s .pre) in
-    (e, ap sessionOf e ∙ session-back (s .args .session) (s .args .words .now) (stored (s .args .session) _ (s .good .0)))
+    session-laid (a .session) (a .words .now) _ _ _ _ _ _ _ (h .config-words .ensures) (h1 .put .ensures) (s .state-words .ensures) (s2 .put2 .ensures) (i .ideal-words .ensures) (i3 .put3 .ensures)
+    (d .put-dimensions .ensures) (start h .pre) in
+    (e, ap sessionOf e ∙ session-back (a .session) (a .words .now) (stored (a .session) _ (start h .good .0)))
 
 pub words-of-session-spec : {M : Type 1} → statement M
 words-of-session-spec =

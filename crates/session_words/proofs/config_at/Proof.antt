@@ -27,7 +27,15 @@ real-at-requires-3 c κs = tt
 
 returns : tie.Need-returns
 returns c =
-    config-same (configAt (c .before .before .before .before .before .before .before .before .args .words .now)) _ _ _ _ _ _ _ (c .before .before .before .before .before .before .word-at .ensures) (c .before .before .before .before .before .marks-at .ensures) (c .before .before .before .before .word-at2 .ensures) (c .before .before .before .word-at3 .ensures) (c .before .before .real-at .ensures) (c .before .real-at2 .ensures) (c .real-at3 .ensures)
+    let crossover = c .before in
+    let probability = crossover .before in
+    let size = probability .before in
+    let divisions = size .before in
+    let directions = divisions .before in
+    let objectives = directions .before in
+    let start = objectives .before .before in
+    config-same (configAt (start .args .words .now)) _ _ _ _ _ _ _ (objectives .word-at .ensures) (directions .marks-at .ensures) (divisions .word-at2 .ensures)
+    (size .word-at3 .ensures) (probability .real-at .ensures) (crossover .real-at2 .ensures) (c .real-at3 .ensures)
 
 pub config-at-spec : {M : Type 1} → statement M
 config-at-spec =

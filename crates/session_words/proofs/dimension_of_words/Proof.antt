@@ -43,8 +43,16 @@ distribution-of-requires c κs = tt
 
 returns : tie.Need-returns
 returns c =
+    let step = c .before in
+    let has = step .before in
+    let log = has .before in
+    let high = log .before in
+    let low = high .before in
+    let kind = low .before in
+    let a = kind .before .before .args in
     c .distribution-of .ensures
-    ∙ dimension-same (c .before .before .before .before .before .before .before .before .args .words .now) (c .before .before .before .before .before .before .before .before .args .at) _ _ _ _ _ _ (c .before .before .before .before .before .before .word-at .ensures) (c .before .before .before .before .before .word-at2 .ensures) (c .before .before .before .before .word-at3 .ensures) (c .before .before .before .word-at4 .ensures) (c .before .before .word-at5 .ensures) (c .before .word-at6 .ensures)
+    ∙ dimension-same (a .words .now) (a .at) _ _ _ _ _ _ (kind .word-at .ensures) (low .word-at2 .ensures) (high .word-at3 .ensures) (log .word-at4 .ensures) (has .word-at5 .ensures)
+    (step .word-at6 .ensures)
 
 pub dimension-of-words-spec : {M : Type 1} → statement M
 dimension-of-words-spec =

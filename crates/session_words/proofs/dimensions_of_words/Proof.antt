@@ -5,6 +5,7 @@ use native.Mathlib.Omega.{arith}
 use lib.ListN.{length, set, replicate, length-set}
 use Rattle.model.specs.Lists.{listBelow, over}
 use Rattle.model.specs.Session.{blankDimension}
+use Rattle.model.specs.Setting.{maxDims}
 use Rattle.list_laws.proofs.Built.{listBelow-length, over-none, over-more, over-all}
 use Rattle.session_words.specs.Coding.{infoAt, dimensionsAt}
 use Rattle.session_words.proofs.dimensions_of_words.Statement.{statement}
@@ -12,10 +13,10 @@ use Rattle.session_words.proofs.dimensions_of_words.Tie as tie
 
 abbrev Inv-loop : tie.InvT-loop
 Inv-loop words from dims₀ d₀ dims d =
-    (d ≤ 32) × (length dims ≡ 32) × (dims ≡ over (listBelow (infoAt words from) d) (replicate 32 blankDimension))
+    (d ≤ maxDims) × (length dims ≡ maxDims) × (dims ≡ over (listBelow (infoAt words from) d) (replicate maxDims blankDimension))
 
 abbrev μ-loop : tie.MeasureT-loop
-μ-loop words from dims₀ d₀ dims d = 32 - d
+μ-loop words from dims₀ d₀ dims d = maxDims - d
 
 blank-dimensions-requires : tie.Need-blank-dimensions-requires Inv-loop μ-loop
 blank-dimensions-requires c κs = tt
@@ -52,7 +53,7 @@ loop-again c =
       omega arith,
       simp length-set (l .inv .1),
       ap₂ (λ x y. set x (l .d) y) (l .inv .2) (ap (λ x. record { distribution = x }) (c .dimension-of-words .ensures))
-          ∙ over-more f (l .d) (replicate 32 blankDimension) (omega arith),
+          ∙ over-more f (l .d) (replicate maxDims blankDimension) (omega arith),
     )
 
 returns : tie.Need-returns Inv-loop μ-loop
@@ -61,9 +62,9 @@ returns c =
     let l = c .before .loop in
     let a = c .before .before .before .before .args in
     let f = infoAt (a .words .now) (a .from) in
-    let e : l .d ≡ 32 = omega arith in
-    l .inv .2 ∙ ap (λ x. over (listBelow f x) (replicate 32 blankDimension)) e
-    ∙ over-all (listBelow f 32) (replicate 32 blankDimension) (omega (arith, listBelow-length f 32))
+    let e : l .d ≡ maxDims = omega arith in
+    l .inv .2 ∙ ap (λ x. over (listBelow f x) (replicate maxDims blankDimension)) e
+    ∙ over-all (listBelow f maxDims) (replicate maxDims blankDimension) (omega (arith, listBelow-length f maxDims))
 
 pub dimensions-of-words-spec : {M : Type 1} → statement M
 dimensions-of-words-spec =

@@ -18,7 +18,11 @@ word-at-requires-4 c κs = tt
 
 returns : tie.Need-returns
 returns c =
-    progress-same (progressAt (c .before .before .before .before .before .args .words .now)) _ _ _ _ (c .before .before .before .word-at .ensures) (c .before .before .word-at2 .ensures) (c .before .word-at3 .ensures) (c .word-at4 .ensures)
+    let plans = c .before in
+    let candidates = plans .before in
+    let dims = candidates .before in
+    let start = dims .before .before in
+    progress-same (progressAt (start .args .words .now)) _ _ _ _ (dims .word-at .ensures) (candidates .word-at2 .ensures) (plans .word-at3 .ensures) (c .word-at4 .ensures)
 
 pub progress-at-spec : {M : Type 1} → statement M
 progress-at-spec =

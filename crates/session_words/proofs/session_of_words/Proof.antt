@@ -39,9 +39,19 @@ progress-at-requires c κs = tt
 returns : tie.Need-returns
 unfolding sessionOf
 returns c =
-    session-same (sessionOf (c .before .before .before .before .before .before .before .before .before .before .before .args .words .now)) _ _ _ _ _ _ _ (c .before .before .before .before .before .before .before .before .before .config-at .ensures)
-    (c .before .before .before .before .before .before .before .phase-of .ensures ∙ ap phaseOf (c .before .before .before .before .before .before .before .before .word-at .ensures)) (c .before .before .before .before .first-of .ensures ∙ ap₂ firstOf (c .before .before .before .before .before .before .word-at2 .ensures) (c .before .before .before .before .before .word-at3 .ensures))
-    (c .before .before .before .word-at4 .ensures) (c .before .before .dimensions-of-words .ensures) (c .before .ideal-at .ensures) (c .progress-at .ensures)
+    let ideal = c .before in
+    let dimensions = ideal .before in
+    let rng = dimensions .before in
+    let first = rng .before in
+    let number = first .before in
+    let has = number .before in
+    let phase = has .before in
+    let mark = phase .before in
+    let config = mark .before in
+    let start = config .before .before in
+    session-same (sessionOf (start .args .words .now)) _ _ _ _ _ _ _ (config .config-at .ensures) (phase .phase-of .ensures ∙ ap phaseOf (mark .word-at .ensures))
+    (first .first-of .ensures ∙ ap₂ firstOf (has .word-at2 .ensures) (number .word-at3 .ensures)) (rng .word-at4 .ensures)
+    (dimensions .dimensions-of-words .ensures) (ideal .ideal-at .ensures) (c .progress-at .ensures)
 
 pub session-of-words-spec : {M : Type 1} → statement M
 session-of-words-spec =
