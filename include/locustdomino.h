@@ -34,7 +34,8 @@ enum {
     LOCUSTDOMINO_BAD_SIZE = 3,       /* a session's size is above 1,024; another's is 0 or above 1,024 */
     LOCUSTDOMINO_BAD_DIVISIONS = 4,  /* divisions are not 1 to 199, or there would be over 1,024 lines */
     LOCUSTDOMINO_BAD_OPERATORS = 5,  /* an eta is no whole number 0 to 99, or the probability is not within 0..1 */
-    LOCUSTDOMINO_BAD_DIMENSION = 6,  /* a dimension is not valid, is the 33rd, or is to be added and has fewer than six words */
+    LOCUSTDOMINO_BAD_DIMENSION = 6,  /* a dimension is not valid, is one over LOCUSTDOMINO_MAX_DIMENSIONS, or is to be added and
+                                        has fewer than six words */
     LOCUSTDOMINO_BAD_COUNT = 7,      /* a pool is empty or above 1,024 plans, or a history is above 4,096 */
     LOCUSTDOMINO_BAD_PLAN = 8,       /* a plan's row, constraints or the ideal: a wrong length, a NaN, or beyond 2^1000 (but the
                                         ideal's plus infinity, which passes) */
@@ -43,15 +44,16 @@ enum {
     LOCUSTDOMINO_FULL = 11           /* a new plan number, and the generation has 2,048 plans */
 };
 
-/* A plan is 124 words. Pools and histories are plans one after the other; words after the last whole plan are not looked at.
+/* A plan is LOCUSTDOMINO_PLAN_WORDS words. Pools and histories are plans one after the other; words after the last whole plan
+ * are not looked at.
  *   0 number · 1 row length · 2.. 8 values · 10 constraint count · 11.. 16 constraints · 27 setting count ·
- *   28.. 32 settings of three words: parameter number, kind, value
+ *   28.. LOCUSTDOMINO_MAX_SETTINGS settings of three words: parameter number, kind, value
  * What stands past a count is not looked at.
  * A plan that is bred from has its settings sorted by parameter number and matched to the dimensions by position. So parameter
  * numbers must rise in the order of the dimensions: of a session, the order in which its first plan asked for them. A plan with
  * other numbers meets 9 where a kind or a bound does not fit, and else is bred from with its settings exchanged. Where a plan
  * lacks settings, whichever they are, those of the last dimensions are drawn. */
-#define LOCUSTDOMINO_PLAN_WORDS 124
+#define LOCUSTDOMINO_MAX_SETTINGS 32
 #define LOCUSTDOMINO_PLAN_NUMBER 0
 #define LOCUSTDOMINO_PLAN_ROW_LENGTH 1
 #define LOCUSTDOMINO_PLAN_ROW 2
@@ -59,6 +61,7 @@ enum {
 #define LOCUSTDOMINO_PLAN_CONSTRAINTS 11
 #define LOCUSTDOMINO_PLAN_SETTING_COUNT 27
 #define LOCUSTDOMINO_PLAN_SETTINGS 28
+#define LOCUSTDOMINO_PLAN_WORDS (LOCUSTDOMINO_PLAN_SETTINGS + 3 * LOCUSTDOMINO_MAX_SETTINGS)
 
 /* The kinds of settings and dimensions. A Categorical's value is its choice's number. */
 #define LOCUSTDOMINO_FLOAT 0
@@ -72,11 +75,13 @@ enum {
 /* "No line", where a selection splits no front. */
 #define LOCUSTDOMINO_NO_LINE SIZE_MAX
 
-/* Sizes of what is lent with a session. Its words and its three slices are not to be changed by the caller; all four together may
- * be stored and brought back. */
-#define LOCUSTDOMINO_SESSION_WORDS 222
-#define LOCUSTDOMINO_CANDIDATE_WORDS 65536
+/* Sizes of what is lent with a session: 30 words of its own and those of its dimensions; and a word for each setting of the plans
+ * of a generation. Its words and its three slices are not to be changed by the caller; all four together may be stored and brought
+ * back. */
+#define LOCUSTDOMINO_MAX_DIMENSIONS 32
+#define LOCUSTDOMINO_SESSION_WORDS (30 + LOCUSTDOMINO_DIMENSION_WORDS * LOCUSTDOMINO_MAX_DIMENSIONS)
 #define LOCUSTDOMINO_MAX_PLANS 2048
+#define LOCUSTDOMINO_CANDIDATE_WORDS (LOCUSTDOMINO_MAX_PLANS * LOCUSTDOMINO_MAX_DIMENSIONS)
 #define LOCUSTDOMINO_MAX_HISTORY 4096
 
 /* The plans to keep: `kept` gets `size` places in the pool, `fronts` each plan's front and `lines` each plan's reference line.
@@ -125,11 +130,12 @@ uint64_t locustdomino_open(
  * `dimension` to the session: six words, of which fewer meet 6 and more are not looked at. Afterwards the dimension is ignored, and
  * may have no words. `history` has the plans that were tried, with their values; once it has the present generation's plans, the
  * next is bred.
- * `candidates`, `plans` and `next_dims` are lent with every call and are the session's: 65,536, 2,048 and 2,048 entries at least.
+ * `candidates`, `plans` and `next_dims` are lent with every call and are the session's: LOCUSTDOMINO_CANDIDATE_WORDS entries at
+ * least, and LOCUSTDOMINO_MAX_PLANS each.
  * ASKED of the caller, and not checked: the session's words are as an accepted locustdomino_open or the last locustdomino_sample
  * left them, with the same three slices as that call left them (after opening the three may hold anything). Words or slices that
- * were changed may have any effect. A session slice of fewer than 222 words meets 7 where the history is above 4,096, and else 10:
- * nothing else can be told without the session.
+ * were changed may have any effect. A session slice of fewer than LOCUSTDOMINO_SESSION_WORDS words meets 7 where the history is
+ * above 4,096, and else 10: nothing else can be told without the session.
  * Refusals: 6 to 11. */
 uint64_t locustdomino_sample(
     uint64_t *session, size_t session_words,

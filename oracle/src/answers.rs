@@ -455,7 +455,7 @@ impl Call {
             let bad_parent = |plan: &Plan| refusals::bad_settings(plan, &dimensions);
             conditions.extend([
                 (5, refusals::bad_operators(&self.operators)),
-                (6, dimensions.len() > 32 || bad_dimension),
+                (6, dimensions.len() > refusals::MAX_DIMENSIONS || bad_dimension),
                 (9, self.pool.iter().any(bad_parent)),
             ]);
         }

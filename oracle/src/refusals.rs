@@ -7,6 +7,10 @@ use crate::sampler::genetic::DimensionInfo;
 use crate::session::{Opening, Operators};
 use crate::words::{to_int, to_real, two};
 
+/// The most dimensions, and the most settings of a plan that is bred from.
+pub const MAX_DIMENSIONS: usize = 32;
+pub const MAX_SETTINGS: usize = 32;
+
 /// The lowest number whose condition holds.
 pub fn lowest(conditions: &[(u64, bool)]) -> Option<u64> {
     conditions
@@ -122,7 +126,7 @@ pub fn bad_ideal(ideal: &[f64], m: usize) -> bool {
 
 /// 9, for one plan to be bred from.
 pub fn bad_settings(plan: &Plan, dimensions: &[DimensionInfo]) -> bool {
-    if plan.settings.len() > 32 {
+    if plan.settings.len() > MAX_SETTINGS {
         return true;
     }
     let mut sorted = plan.settings.clone();

@@ -223,7 +223,8 @@ impl Session {
         let refused = refusals::lowest(&[
             (
                 6,
-                adds && (refusals::bad_dimension(distribution) || evo.dimensions.len() >= 32),
+                adds && (refusals::bad_dimension(distribution)
+                    || evo.dimensions.len() >= refusals::MAX_DIMENSIONS),
             ),
             (7, self.history.len() > 4096),
             (8, bad_parent(&|p| refusals::bad_row(p, m))),

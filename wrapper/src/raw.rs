@@ -1,17 +1,17 @@
 //! The static library's calls over slices of words. A call answers 0 or the number of the refusal. Sizes and places are those of
-//! `include/locustdomino.h`; a session's, which are to be read only, those of `crates/session_words/specs/Coding.antt`.
+//! `include/locustdomino.h`; a session's, which are to be read only, those of `crates/session_words/specs/Place.antt`.
 
 // bench/ uses what the crate does not.
 #![allow(dead_code)]
 
-pub const PLAN_WORDS: usize = 124;
 pub const MAX_OBJECTIVES: usize = 8;
 pub const MAX_CONSTRAINTS: usize = 16;
 pub const MAX_SETTINGS: usize = 32;
 pub const PLAN_ROW_LENGTH: usize = 1;
-pub const PLAN_CONSTRAINT_COUNT: usize = 10;
-pub const PLAN_SETTING_COUNT: usize = 27;
-pub const PLAN_SETTINGS: usize = 28;
+pub const PLAN_CONSTRAINT_COUNT: usize = PLAN_ROW_LENGTH + 1 + MAX_OBJECTIVES;
+pub const PLAN_SETTING_COUNT: usize = PLAN_CONSTRAINT_COUNT + 1 + MAX_CONSTRAINTS;
+pub const PLAN_SETTINGS: usize = PLAN_SETTING_COUNT + 1;
+pub const PLAN_WORDS: usize = PLAN_SETTINGS + 3 * MAX_SETTINGS;
 
 pub const FLOAT: u64 = 0;
 pub const INT: u64 = 1;
@@ -20,21 +20,27 @@ pub const CATEGORICAL: u64 = 2;
 pub const DIMENSION_WORDS: usize = 6;
 pub const NO_LINE: usize = usize::MAX;
 
-pub const SESSION_WORDS: usize = 222;
-pub const CANDIDATE_WORDS: usize = 65536;
+pub const MAX_DIMENSIONS: usize = 32;
 pub const MAX_PLANS: usize = 2048;
+pub const CANDIDATE_WORDS: usize = MAX_PLANS * MAX_DIMENSIONS;
+
+// A session's places, each behind the one before by the width of that; of the operators there are three.
 pub const SESSION_OBJECTIVES: usize = 0;
-pub const SESSION_SIZE: usize = 10;
-pub const SESSION_ACTIVE: usize = 14;
-pub const SESSION_HAS_FIRST: usize = 15;
-pub const SESSION_FIRST: usize = 16;
-pub const SESSION_STATE: usize = 17;
-pub const SESSION_DIMENSION_COUNT: usize = 18;
-pub const SESSION_CANDIDATE_COUNT: usize = 19;
-pub const SESSION_PLAN_COUNT: usize = 20;
-pub const SESSION_GENERATION: usize = 21;
-pub const SESSION_IDEAL: usize = 22;
-pub const SESSION_DIMENSIONS: usize = 30;
+pub const SESSION_DIRECTIONS: usize = SESSION_OBJECTIVES + 1;
+pub const SESSION_DIVISIONS: usize = SESSION_DIRECTIONS + MAX_OBJECTIVES;
+pub const SESSION_SIZE: usize = SESSION_DIVISIONS + 1;
+pub const SESSION_OPERATORS: usize = SESSION_SIZE + 1;
+pub const SESSION_ACTIVE: usize = SESSION_OPERATORS + 3;
+pub const SESSION_HAS_FIRST: usize = SESSION_ACTIVE + 1;
+pub const SESSION_FIRST: usize = SESSION_HAS_FIRST + 1;
+pub const SESSION_STATE: usize = SESSION_FIRST + 1;
+pub const SESSION_DIMENSION_COUNT: usize = SESSION_STATE + 1;
+pub const SESSION_CANDIDATE_COUNT: usize = SESSION_DIMENSION_COUNT + 1;
+pub const SESSION_PLAN_COUNT: usize = SESSION_CANDIDATE_COUNT + 1;
+pub const SESSION_GENERATION: usize = SESSION_PLAN_COUNT + 1;
+pub const SESSION_IDEAL: usize = SESSION_GENERATION + 1;
+pub const SESSION_DIMENSIONS: usize = SESSION_IDEAL + MAX_OBJECTIVES;
+pub const SESSION_WORDS: usize = SESSION_DIMENSIONS + MAX_DIMENSIONS * DIMENSION_WORDS;
 
 #[rustfmt::skip]
 #[link(name = "locustdomino", kind = "static")]

@@ -219,10 +219,10 @@ pub(super) fn breeding_cases() -> Vec<Line> {
         good.but(|c| c.pool[0].settings = vec![(7, 2, 9), (0, 0, 0), (1, 1, 0)]),
         good.but(|c| c.pool[0].settings = vec![(7, 2, 9), (0, 0, 0), (1, 1, 0), (7, 2, 9)]),
         good.but(|c| {
-            c.pool[0].settings = (0..33).map(|n| (n, n.min(1), 0)).collect();
+            c.pool[0].settings = (0..=MAX_SETTINGS as u64).map(|n| (n, n.min(1), 0)).collect();
         }),
         good.but(|c| {
-            c.pool[0].settings = (0..32).map(|n| (n, n.min(1), 0)).collect();
+            c.pool[0].settings = (0..MAX_SETTINGS as u64).map(|n| (n, n.min(1), 0)).collect();
         }),
         good.but(|c| c.pool.clear()),
         good.but(|c| c.size = 0),
@@ -245,7 +245,7 @@ pub(super) fn breeding_cases() -> Vec<Line> {
         call.dimensions[1] = dimension;
         calls.push(call);
     }
-    for count in [33, 32] {
+    for count in [MAX_DIMENSIONS + 1, MAX_DIMENSIONS] {
         calls.push(good.but(|c| {
             c.pool.truncate(2);
             for plan in &mut c.pool {
@@ -296,7 +296,7 @@ pub(super) fn bad_dimensions() -> Vec<Distribution> {
 pub(super) fn breeding_input(mix: &mut Mix, at: u64) -> Line {
     let state = mix.word();
     let many = at % 20 == 19;
-    let count = if many { 32 } else { mix.within(1, 5) as usize };
+    let count = if many { MAX_DIMENSIONS } else { mix.within(1, 5) as usize };
     let dimensions = dimensions(mix, count);
     match at % 10 {
         0 => sample_random(state, &dimensions[0]),

@@ -15,7 +15,7 @@ use crate::mix::Mix;
 use crate::param::ParamValue;
 use crate::plans::{self, Plan, choices, float, int, write_dimensions, write_marks};
 use crate::pool_file;
-use crate::refusals;
+use crate::refusals::{self, MAX_DIMENSIONS, MAX_SETTINGS};
 use crate::session::{self, Opening, Operators, Session};
 use crate::words::{of_int, of_real, push_counted_reals, push_optional, push_reals, two};
 
@@ -320,7 +320,7 @@ fn settings(mix: &mut Mix, values: &[ParamValue], dimension_count: usize) -> Vec
         0 if !settings.is_empty() => {
             settings.truncate(mix.place(settings.len() + 1));
         }
-        1 if settings.len() == dimension_count && dimension_count < 32 => {
+        1 if settings.len() == dimension_count && dimension_count < MAX_DIMENSIONS => {
             settings.push((number, mix.below(3), mix.below(100)));
         }
         _ => {}

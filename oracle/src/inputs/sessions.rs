@@ -153,9 +153,9 @@ pub(super) fn session_cases() -> Vec<Line> {
     }
     lines.push(script.line());
 
-    // The 33rd dimension.
+    // One dimension too many.
     let mut script = Script::new(good.clone());
-    for _ in 0..32 {
+    for _ in 0..MAX_DIMENSIONS {
         let _ = script.calls(1, 5, &choices(2), false, false);
     }
     let _ = script.calls(1, 5, &choices(2), false, true);
@@ -276,7 +276,7 @@ pub(super) fn session_input(mix: &mut Mix, at: u64) -> Line {
         let bad = mix.pick(&bad_dimensions());
         let _ = script.calls(1, first + 1, &bad, false, true);
     }
-    let count = if many { 32 } else { mix.within(1, 4) as usize };
+    let count = if many { MAX_DIMENSIONS } else { mix.within(1, 4) as usize };
     let dimensions = dimensions(mix, count);
     script.discover(first, &dimensions);
     if many {

@@ -22,6 +22,19 @@ Inv-loop from words₀ dims d₀ words d =
 abbrev μ-loop : tie.MeasureT-loop
 μ-loop from words₀ dims d₀ words d = maxDims - d
 
+-- ---- the places, each from the next: the call starts, a turn begins, the dimension's words are made and put
+
+abbrev start : tie.At-loop Inv-loop μ-loop → tie.Start Inv-loop μ-loop
+start c = c .before .before
+
+abbrev turn : tie.After-dimension-words Inv-loop μ-loop → tie.At-loop Inv-loop μ-loop
+turn c = c .before .before .before
+
+abbrev made : tie.After-put Inv-loop μ-loop → tie.After-dimension-words Inv-loop μ-loop
+made c = c .before .before .before
+
+-- ---- the needs
+
 loop-holds : tie.Need-loop-holds Inv-loop μ-loop
 loop-holds c =
     let a = c .before .args in
@@ -47,8 +60,9 @@ add-put c = omega arith
 
 put-requires : tie.Need-put-requires Inv-loop μ-loop
 put-requires c κs =
-    let l = c .before .before .before .before .before .loop in
-    let e = ap length (c .before .before .dimension-words .ensures) ∙ dimension-length (dimensionsOf (c .before .before .before .before .before .before .before .args .t1) (l .d)) in
+    let m = c .before .before in
+    let l = turn m .loop in
+    let e = ap length (m .dimension-words .ensures) ∙ dimension-length (dimensionsOf (start (turn m) .args .t1) (l .d)) in
     omega (arith, e, l .inv .1)
 
 add-d : tie.Need-add-d Inv-loop μ-loop
@@ -59,11 +73,13 @@ loop-less c = omega arith
 
 loop-again : tie.Need-loop-again Inv-loop μ-loop
 loop-again c =
-    let l = c .before .before .before .before .before .before .before .before .loop in
-    let a = c .before .before .before .before .before .before .before .before .before .before .args in
+    let p = c .before .before in
+    let m = made p in
+    let l = turn m .loop in
+    let a = start (turn m) .args in
     let f : ℕ → List ℕ = λ i. dimensionWords (dimensionsOf (a .t1) i) in
     let each : (d : ℕ) → length (f d) ≡ dimensionWidth = λ d. dimension-length (dimensionsOf (a .t1) d) in
-    let w = c .before .before .put .ensures ∙ ap₂ (λ x y. sets y (a .from + l .d * dimensionWidth) x) (c .before .before .before .before .before .dimension-words .ensures) (l .inv .2)
+    let w = p .put .ensures ∙ ap₂ (λ x y. sets y (a .from + l .d * dimensionWidth) x) (m .dimension-words .ensures) (l .inv .2)
     ∙ run-join f dimensionWidth each (a .from) (l .d) (a .words .now) in
     (omega arith, ap length w ∙ length-sets (a .words .now) (a .from) (joinBelow f (l .d + 1)), w)
 
@@ -73,7 +89,7 @@ same-length c = c .before .loop .inv .1
 returns : tie.Need-returns Inv-loop μ-loop
 returns c =
     let l = c .before .loop in
-    let a = c .before .before .before .args in
+    let a = start (c .before) .args in
     let e : l .d ≡ maxDims = omega arith in
     l .inv .2 ∙ ap (λ x. sets (a .words .now) (a .from) (joinBelow (λ i. dimensionWords (dimensionsOf (a .t1) i)) x)) e
 
