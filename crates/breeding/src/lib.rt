@@ -5,12 +5,12 @@ ghost use Prim.Native.Nat.{ℕ, _*_, _≤_, _<_};
 ghost use lib.ListN.{length, getD};
 ghost use Rattle.model.specs.Lists.{allBelow, listBelow, over};
 ghost use Rattle.model.specs.Plan.{planAt, planCount};
-ghost use Rattle.model.specs.Setting.{wordsOf, operators, dimensionsOf};
+ghost use Rattle.model.specs.Setting.{wordsOf, operatorsIn};
 ghost use Rattle.model.specs.Refusal.{breedable, badDimensions, badOperators};
 ghost use Rattle.generation_laws.specs.Bred.{bredOfWords};
 use model::CANDIDATE_WORDS;
-use model::DimensionInfo;
 use model::MAX_PLANS;
+use model::Operators;
 use model::Rng;
 
 // The entries that the first `count` of a list point at.
@@ -32,41 +32,28 @@ pub fn breed(
     fronts: &[usize],
     kept: &[usize],
     size: usize,
-    dims: [DimensionInfo; 32],
-    n_dims: usize,
-    crossover_prob: f64,
-    crossover_eta: f64,
-    mutation_eta: f64,
+    operators: Operators,
     rng: Rng,
     offspring: &mut [u64],
 ) -> Rng
     requires { ⌜ (planCount (now pool) ≤ length (now fronts))
-        × (allBelow (λ p. breedable (dimensionsOf dims) «n_dims» (planAt (now pool) p)) (planCount (now pool)) ≡ true)
-        × (badDimensions (dimensionsOf dims) «n_dims» ≡ false) × (badOperators «crossover_prob» «crossover_eta» «mutation_eta» ≡ false) ⌝ }
+        × (allBelow (λ p. breedable (operatorsIn operators .dims) (operators .«n_dims») (planAt (now pool) p)) (planCount (now pool)) ≡ true)
+        × (badDimensions (operatorsIn operators .dims) (operators .«n_dims») ≡ false)
+        × (badOperators (operators .«crossover_prob») (operators .«crossover_eta») (operators .«mutation_eta») ≡ false) ⌝ }
     requires { ⌜ (0 < size) × (size ≤ 1024) × (size ≤ length (now kept)) × ((i : ℕ) → i < size → getD (now kept) i 0 < planCount (now pool))
-        × (size * «n_dims» ≤ length (now offspring)) ⌝ }
+        × (size * operators .«n_dims» ≤ length (now offspring)) ⌝ }
     ensures words { λ _. ⌜ now (offspring .exit)
-        ≡ over (wordsOf (bredOfWords (operators dims «n_dims» «crossover_prob» «crossover_eta» «mutation_eta») (now (pool .entry)) (now (fronts .entry))
+        ≡ over (wordsOf (bredOfWords (operatorsIn operators) (now (pool .entry)) (now (fronts .entry))
         (now (kept .entry)) size (rng .s) .value)) (now (offspring .entry)) ⌝ }
     ensures state { λ r. ⌜ r .s
-        ≡ bredOfWords (operators dims «n_dims» «crossover_prob» «crossover_eta» «mutation_eta») (now (pool .entry)) (now (fronts .entry))
+        ≡ bredOfWords (operatorsIn operators) (now (pool .entry)) (now (fronts .entry))
         (now (kept .entry)) size (rng .s) .state ⌝ }
 {
+    let dims = operators.dimensions;
+    let n = operators.n_dims;
     let mut parents: [u64; CANDIDATE_WORDS] = [0; CANDIDATE_WORDS];
-    let rng = offspring::fill_parents(pool, kept, size, dims, n_dims, rng, &mut parents);
+    let rng = offspring::fill_parents(pool, kept, size, dims, n, rng, &mut parents);
     let mut ranks: [usize; MAX_PLANS] = [0; MAX_PLANS];
     look_up(fronts, kept, size, &mut ranks);
-    offspring::write_offspring(
-        &parents,
-        size,
-        &ranks,
-        dims,
-        n_dims,
-        crossover_prob,
-        crossover_eta,
-        mutation_eta,
-        size,
-        rng,
-        offspring,
-    )
+    offspring::write_offspring(&parents, size, &ranks, operators, size, rng, offspring)
 }

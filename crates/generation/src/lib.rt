@@ -1,7 +1,7 @@
 // The generation step (Rust: nsga3_generate_offspring of sampler/nsga3.rs; document 01, "Setting and dimension").
 ghost use Rattle.model.specs.Calls.{wordRequest, lent, stepExit, Steps};
-ghost use Rattle.model.specs.Setting.{operators};
-use model::DimensionInfo;
+ghost use Rattle.model.specs.Setting.{operatorsIn};
+use model::Operators;
 use model::Outcome;
 use model::Rng;
 use model::Selection;
@@ -15,18 +15,14 @@ pub fn nsga3_generate_offspring(
     divisions: usize,
     size: usize,
     rng: Rng,
-    dimensions: [DimensionInfo; 32],
-    n_dims: usize,
-    crossover_prob: f64,
-    crossover_eta: f64,
-    mutation_eta: f64,
+    operators: Operators,
     ideal: &mut [f64],
     kept: &mut [usize],
     fronts: &mut [usize],
     lines: &mut [usize],
     offspring: &mut [u64],
 ) -> Selection
-    ensures { λ r. ⌜ Steps (operators dimensions «n_dims» «crossover_prob» «crossover_eta» «mutation_eta»)
+    ensures { λ r. ⌜ Steps (operatorsIn operators)
         (wordRequest (now (pool .entry)) (now (directions .entry)) divisions size rng (now (ideal .entry)))
         (lent (now (kept .entry)) (now (fronts .entry)) (now (lines .entry))) (now (offspring .entry))
         (stepExit r (now (ideal .exit)) (lent (now (kept .exit)) (now (fronts .exit)) (now (lines .exit))) (now (offspring .exit))) ⌝ }
@@ -37,11 +33,7 @@ pub fn nsga3_generate_offspring(
         divisions,
         size,
         rng,
-        dimensions,
-        n_dims,
-        crossover_prob,
-        crossover_eta,
-        mutation_eta,
+        operators,
         ideal,
         kept.len(),
         fronts.len(),
@@ -59,11 +51,7 @@ pub fn nsga3_generate_offspring(
             divisions,
             size,
             rng,
-            dimensions,
-            n_dims,
-            crossover_prob,
-            crossover_eta,
-            mutation_eta,
+            operators,
             ideal,
             kept,
             fronts,

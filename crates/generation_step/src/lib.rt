@@ -6,9 +6,9 @@ ghost use lib.ListN.{length};
 ghost use Rattle.model.specs.Plan.{planCount};
 ghost use Rattle.model.specs.Refusal.{stepRefusal};
 ghost use Rattle.model.specs.Calls.{wordRequest, lent, roomOf, stepExit, stepAccepted};
-ghost use Rattle.model.specs.Setting.{operators};
-use model::DimensionInfo;
+ghost use Rattle.model.specs.Setting.{operatorsIn};
 use model::MAX_PLANS;
+use model::Operators;
 use model::Outcome;
 use model::Rng;
 use model::Selection;
@@ -20,11 +20,7 @@ fn select_and_breed(
     divisions: usize,
     size: usize,
     rng: Rng,
-    dims: [DimensionInfo; 32],
-    n_dims: usize,
-    crossover_prob: f64,
-    crossover_eta: f64,
-    mutation_eta: f64,
+    operators: Operators,
     ideal: &mut [f64],
     kept: &mut [usize],
     fronts: &mut [usize],
@@ -33,11 +29,11 @@ fn select_and_breed(
     offspring: &mut [u64],
 ) -> Selection
     requires { ⌜ (2 ≤ planCount (now pool)) × (planCount (now pool) ≤ length (now «by_rows»)) ⌝ }
-    requires { ⌜ stepRefusal (operators dims «n_dims» «crossover_prob» «crossover_eta» «mutation_eta»)
+    requires { ⌜ stepRefusal (operatorsIn operators)
         (wordRequest (now pool) (now directions) divisions size rng (now ideal))
         (roomOf (lent (now kept) (now fronts) (now lines))) (length (now offspring)) ≡ none ⌝ }
     ensures { λ r. ⌜ stepExit r (now (ideal .exit)) (lent (now (kept .exit)) (now (fronts .exit)) (now (lines .exit))) (now (offspring .exit))
-        ≡ stepAccepted (operators dims «n_dims» «crossover_prob» «crossover_eta» «mutation_eta»)
+        ≡ stepAccepted (operatorsIn operators)
         (wordRequest (now (pool .entry)) (now (directions .entry)) divisions size rng (now (ideal .entry)))
         (lent (now (kept .entry)) (now (fronts .entry)) (now (lines .entry))) (now (offspring .entry)) ⌝ }
 {
@@ -58,11 +54,7 @@ fn select_and_breed(
         by_rows,
         kept,
         size,
-        dims,
-        n_dims,
-        crossover_prob,
-        crossover_eta,
-        mutation_eta,
+        operators,
         selection.rng,
         offspring,
     );
@@ -79,28 +71,25 @@ pub fn step(
     divisions: usize,
     size: usize,
     rng: Rng,
-    dims: [DimensionInfo; 32],
-    n_dims: usize,
-    crossover_prob: f64,
-    crossover_eta: f64,
-    mutation_eta: f64,
+    operators: Operators,
     ideal: &mut [f64],
     kept: &mut [usize],
     fronts: &mut [usize],
     lines: &mut [usize],
     offspring: &mut [u64],
 ) -> Selection
-    requires { ⌜ stepRefusal (operators dims «n_dims» «crossover_prob» «crossover_eta» «mutation_eta»)
+    requires { ⌜ stepRefusal (operatorsIn operators)
         (wordRequest (now pool) (now directions) divisions size rng (now ideal))
         (roomOf (lent (now kept) (now fronts) (now lines))) (length (now offspring)) ≡ none ⌝ }
     ensures { λ r. ⌜ stepExit r (now (ideal .exit)) (lent (now (kept .exit)) (now (fronts .exit)) (now (lines .exit))) (now (offspring .exit))
-        ≡ stepAccepted (operators dims «n_dims» «crossover_prob» «crossover_eta» «mutation_eta»)
+        ≡ stepAccepted (operatorsIn operators)
         (wordRequest (now (pool .entry)) (now (directions .entry)) divisions size rng (now (ideal .entry)))
         (lent (now (kept .entry)) (now (fronts .entry)) (now (lines .entry))) (now (offspring .entry)) ⌝ }
 {
     let count = plans::plan_count(pool);
     if count < 2 {
-        let rng = candidates::sample_candidates(dims, n_dims, size, rng, offspring);
+        let dims = operators.dimensions;
+        let rng = candidates::sample_candidates(dims, operators.n_dims, size, rng, offspring);
         return Selection {
             outcome: Outcome::Kept(0),
             rng,
@@ -113,11 +102,7 @@ pub fn step(
         divisions,
         size,
         rng,
-        dims,
-        n_dims,
-        crossover_prob,
-        crossover_eta,
-        mutation_eta,
+        operators,
         ideal,
         kept,
         fronts,

@@ -1,4 +1,5 @@
 // `nsga3_generate_offspring`, in numbers and lists alone: what its C name does.
+use model::Operators;
 use model::Outcome;
 use model::Rng;
 ghost use mathlib.Core.Path.{_≡_};
@@ -40,17 +41,20 @@ pub fn generate_offspring_words(
 {
     let n_dims = dimensions.len() / session_words::DIMENSION_WORDS;
     let infos = session_words::dimensions_of_words(dimensions, 0);
+    let operators = Operators {
+        dimensions: infos,
+        n_dims,
+        crossover_prob,
+        crossover_eta,
+        mutation_eta,
+    };
     let step = generation::nsga3_generate_offspring(
         pool,
         directions,
         divisions,
         size,
         Rng { s: *state },
-        infos,
-        n_dims,
-        crossover_prob,
-        crossover_eta,
-        mutation_eta,
+        operators,
         ideal,
         kept,
         fronts,

@@ -5,12 +5,13 @@ ghost use mathlib.Core.Bool.{false};
 ghost use Prim.Native.Nat.{_*_, _≤_, _<_};
 ghost use lib.ListN.{length, getD};
 ghost use Rattle.model.specs.Draw.{drawn};
-ghost use Rattle.model.specs.Setting.{maxDims, children, crossover, tournament, brood, operators, dimensionsOf};
+ghost use Rattle.model.specs.Setting.{maxDims, children, crossover, tournament, brood, operatorsIn, dimensionsOf};
 ghost use Rattle.model.specs.Refusal.{badDimensions, badOperators};
 ghost use Rattle.settings.specs.Candidate.{settingsOf, parentsIn};
 use genetic_parts::DrawnChildren;
 use model::DimensionInfo;
 use model::MAX_DIMS;
+use model::Operators;
 use model::Rng;
 use rng_util::DrawnUsize;
 use settings::Slot;
@@ -64,19 +65,18 @@ pub fn brood(
     parents: &[u64],
     count: usize,
     ranks: &[usize],
-    dims: [DimensionInfo; MAX_DIMS],
-    n: usize,
-    probability: f64,
-    crossover_eta: f64,
-    mutation_eta: f64,
+    operators: Operators,
     rng: Rng,
 ) -> DrawnChildren
-    requires { ⌜ (0 < count) × (count * n ≤ length (now parents)) × (count ≤ length (now ranks)) × (badDimensions (dimensionsOf dims) n ≡ false)
-        × (badOperators probability «crossover_eta» «mutation_eta» ≡ false) ⌝ }
-    ensures { λ r. ⌜ drawn (children (settingsOf (r .first) n) (settingsOf (r .second) n)) (r .rng .s)
-        ≡ brood (operators dims n probability «crossover_eta» «mutation_eta»)
-        (parentsIn (dimensionsOf dims) n (now (parents .entry)) count) (λ i. getD (now (ranks .entry)) i 0) (rng .s) ⌝ }
+    requires { ⌜ (0 < count) × (count * operators .«n_dims» ≤ length (now parents)) × (count ≤ length (now ranks))
+        × (badDimensions (operatorsIn operators .dims) (operators .«n_dims») ≡ false)
+        × (badOperators (operators .«crossover_prob») (operators .«crossover_eta») (operators .«mutation_eta») ≡ false) ⌝ }
+    ensures { λ r. ⌜ drawn (children (settingsOf (r .first) (operators .«n_dims»)) (settingsOf (r .second) (operators .«n_dims»))) (r .rng .s)
+        ≡ brood (operatorsIn operators)
+        (parentsIn (operatorsIn operators .dims) (operators .«n_dims») (now (parents .entry)) count) (λ i. getD (now (ranks .entry)) i 0) (rng .s) ⌝ }
 {
+    let dims = operators.dimensions;
+    let n = operators.n_dims;
     let a = tournament_select_rank(ranks, count, rng);
     let i = a.value;
     let rng = a.rng;
@@ -85,12 +85,12 @@ pub fn brood(
     let rng = b.rng;
     let p = genetic_parts::read_parent(parents, dims, n, i);
     let q = genetic_parts::read_parent(parents, dims, n, j);
-    let k = variation::exponent_of(crossover_eta);
-    let c = crossover(dims, n, probability, k, p, q, rng);
+    let k = variation::exponent_of(operators.crossover_eta);
+    let c = crossover(dims, n, operators.crossover_prob, k, p, q, rng);
     let first = c.first;
     let second = c.second;
     let rng = c.rng;
-    let m = variation::exponent_of(mutation_eta);
+    let m = variation::exponent_of(operators.mutation_eta);
     let x = genetic_parts::mutate(dims, n, first, m, rng);
     let first = x.params;
     let rng = x.rng;

@@ -7,11 +7,13 @@ ghost use Prim.Native.Nat.{ℕ, _*_, _-_, _≤_, _<_};
 ghost use lib.ListN.{length, getD, take};
 ghost use Rattle.model.specs.Lists.{over};
 ghost use Rattle.model.specs.Plan.{planAt, planCount};
-ghost use Rattle.model.specs.Setting.{parentsOf, offspringOf, wordsOf, operators, dimensionsOf};
+ghost use Rattle.model.specs.Setting.{parentsOf, offspringOf, wordsOf, operatorsIn, dimensionsOf};
 ghost use Rattle.model.specs.Refusal.{badDimensions, badOperators};
 ghost use lib.Seq.{sets};
 ghost use Rattle.settings.specs.Candidate.{settingsOf, parentsIn};
 use model::DimensionInfo;
+use model::MAX_DIMS;
+use model::Operators;
 use model::Rng;
 use settings::Slot;
 
@@ -20,7 +22,7 @@ pub fn fill_parents(
     pool: &[u64],
     kept: &[usize],
     count: usize,
-    dims: [DimensionInfo; 32],
+    dims: [DimensionInfo; MAX_DIMS],
     n: usize,
     rng: Rng,
     parents: &mut [u64],
@@ -68,41 +70,29 @@ pub fn write_offspring(
     parents: &[u64],
     count: usize,
     ranks: &[usize],
-    dims: [DimensionInfo; 32],
-    n: usize,
-    probability: f64,
-    crossover_eta: f64,
-    mutation_eta: f64,
+    operators: Operators,
     size: usize,
     rng: Rng,
     offspring: &mut [u64],
 ) -> Rng
-    requires { ⌜ (0 < count) × (count * n ≤ length (now parents)) × (count ≤ length (now ranks)) × (badDimensions (dimensionsOf dims) n ≡ false)
-        × (badOperators probability «crossover_eta» «mutation_eta» ≡ false) × (size * n ≤ length (now offspring)) × (size ≤ 1024) ⌝ }
+    requires { ⌜ (0 < count) × (count * operators .«n_dims» ≤ length (now parents)) × (count ≤ length (now ranks))
+        × (badDimensions (operatorsIn operators .dims) (operators .«n_dims») ≡ false)
+        × (badOperators (operators .«crossover_prob») (operators .«crossover_eta») (operators .«mutation_eta») ≡ false)
+        × (size * operators .«n_dims» ≤ length (now offspring)) × (size ≤ 1024) ⌝ }
     ensures words { λ _. ⌜ now (offspring .exit)
-        ≡ over (wordsOf (offspringOf (operators dims n probability «crossover_eta» «mutation_eta»)
-        (parentsIn (dimensionsOf dims) n (now (parents .entry)) count) (λ i. getD (now (ranks .entry)) i 0) size (rng .s) .value)) (now (offspring .entry)) ⌝ }
+        ≡ over (wordsOf (offspringOf (operatorsIn operators) (parentsIn (operatorsIn operators .dims) (operators .«n_dims») (now (parents .entry)) count)
+        (λ i. getD (now (ranks .entry)) i 0) size (rng .s) .value)) (now (offspring .entry)) ⌝ }
     ensures state { λ r. ⌜ r .s
-        ≡ offspringOf (operators dims n probability «crossover_eta» «mutation_eta»)
-        (parentsIn (dimensionsOf dims) n (now (parents .entry)) count) (λ i. getD (now (ranks .entry)) i 0) size (rng .s) .state ⌝ }
+        ≡ offspringOf (operatorsIn operators) (parentsIn (operatorsIn operators .dims) (operators .«n_dims») (now (parents .entry)) count)
+        (λ i. getD (now (ranks .entry)) i 0) size (rng .s) .state ⌝ }
 {
     let mut rng = rng;
     let mut k = 0;
     while k < (size + 1) / 2 {
-        let c = genetic::brood(
-            parents,
-            count,
-            ranks,
-            dims,
-            n,
-            probability,
-            crossover_eta,
-            mutation_eta,
-            rng,
-        );
+        let c = genetic::brood(parents, count, ranks, operators, rng);
         let first = c.first;
         let second = c.second;
-        put_children(first, second, n, 2 * k, size, offspring);
+        put_children(first, second, operators.n_dims, 2 * k, size, offspring);
         rng = c.rng;
         k += 1;
     }

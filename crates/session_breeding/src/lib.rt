@@ -5,13 +5,15 @@ ghost use mathlib.Core.List.{List, []};
 ghost use mathlib.Core.Option.{some};
 ghost use Prim.Native.Nat.{ℕ, _≤_};
 ghost use lib.ListN.{length};
-ghost use Rattle.model.specs.Session.{state, evaluated, bredSession, maxCome, maxWords};
+ghost use Rattle.model.specs.Session.{state, evaluated, bredSession, operatorsOf, maxCome, maxWords};
+ghost use Rattle.model.specs.Setting.{operatorsIn};
 ghost use Rattle.model.specs.Calls.{refusedBy};
 ghost use Rattle.model.specs.Property.{SessionOk};
 ghost use Rattle.session_laws.specs.Refused.{shortRefusal};
 ghost use Rattle.session_breeding.specs.Breeding.{stepped, stepOn, bredExit, breedOf};
 use model::MAX_PLANS;
 use model::MAX_WORDS;
+use model::Operators;
 use model::Outcome;
 use model::PLAN_WORDS;
 use model::POOL_WORDS;
@@ -19,6 +21,22 @@ use model::Rng;
 use model::Selection;
 use model::Session;
 use refusals::Check;
+
+// What a session breeds with.
+fn operators_of(session: Session) -> Operators
+    ensures { λ r. ⌜ operatorsIn r ≡ operatorsOf session ⌝ }
+{
+    let config = session.config;
+    let dimensions = session.dimensions;
+    let progress = session.progress;
+    Operators {
+        dimensions,
+        n_dims: progress.n_dims,
+        crossover_prob: config.crossover_prob,
+        crossover_eta: config.crossover_eta,
+        mutation_eta: config.mutation_eta,
+    }
+}
 
 // The step of a session's generation, from the pool of the plans that it breeds from. The kept list, the fronts and the lines are not handed out.
 fn step(session: Session, pool: &[u64], ideal: &mut [f64], candidates: &mut [u64]) -> Selection
@@ -28,9 +46,8 @@ fn step(session: Session, pool: &[u64], ideal: &mut [f64], candidates: &mut [u64
     let config = session.config;
     let n_obj = config.n_obj;
     let directions = config.directions;
-    let dimensions = session.dimensions;
-    let progress = session.progress;
     let rng = session.rng;
+    let operators = operators_of(session);
     let mut kept = [0usize; MAX_PLANS];
     let mut fronts = [0usize; MAX_PLANS];
     let mut lines = [0usize; MAX_PLANS];
@@ -40,11 +57,7 @@ fn step(session: Session, pool: &[u64], ideal: &mut [f64], candidates: &mut [u64
         config.divisions,
         config.population_size,
         rng,
-        dimensions,
-        progress.n_dims,
-        config.crossover_prob,
-        config.crossover_eta,
-        config.mutation_eta,
+        operators,
         ideal,
         &mut kept,
         &mut fronts,
@@ -114,10 +127,9 @@ pub fn bred_refusal(session: Session, history: &[u64], plans: &[u64]) -> u8
     let n_obj = config.n_obj;
     let size = config.population_size;
     let directions = config.directions;
-    let dimensions = session.dimensions;
     let ideal_point = session.ideal_point;
-    let progress = session.progress;
     let rng = session.rng;
+    let operators = operators_of(session);
     let mut pool = [0u64; POOL_WORDS];
     session_records::gather(history, plans, size, &mut pool);
     let words = size * PLAN_WORDS;
@@ -127,11 +139,7 @@ pub fn bred_refusal(session: Session, history: &[u64], plans: &[u64]) -> u8
         config.divisions,
         size,
         rng,
-        dimensions,
-        progress.n_dims,
-        config.crossover_prob,
-        config.crossover_eta,
-        config.mutation_eta,
+        operators,
         &ideal_point[..n_obj],
         MAX_PLANS,
         MAX_PLANS,

@@ -8,8 +8,10 @@ use model::DimensionInfo;
 use model::Distribution;
 use model::FloatDistribution;
 use model::MAX_COME;
+use model::MAX_DIMS;
 use model::MAX_WORDS;
 use model::Opening;
+use model::Operators;
 use model::OptionF64;
 use model::OptionUsize;
 use model::Outcome;
@@ -204,7 +206,14 @@ fn constrained(bits: u64) {
     pool[PLAN_WORDS + CONSTRAINT_COUNT] = 1;
     pool[PLAN_WORDS + CONSTRAINTS] = bits;
     let distribution = Distribution::Categorical(CategoricalDistribution { n_choices: 3 });
-    let dims = [DimensionInfo { distribution }; 32];
+    let dimensions = [DimensionInfo { distribution }; MAX_DIMS];
+    let operators = Operators {
+        dimensions,
+        n_dims: 1,
+        crossover_prob: 1.0,
+        crossover_eta: 30.0,
+        mutation_eta: 20.0,
+    };
     let directions = [0u8; 1];
     let mut ideal = [0.0; 1];
     let mut kept = [0usize; 2];
@@ -217,11 +226,7 @@ fn constrained(bits: u64) {
         1,
         2,
         Rng { s: 5 },
-        dims,
-        1,
-        1.0,
-        30.0,
-        20.0,
+        operators,
         &mut ideal,
         &mut kept,
         &mut fronts,

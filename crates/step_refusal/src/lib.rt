@@ -3,9 +3,9 @@ ghost use mathlib.Core.Path.{_≡_};
 ghost use Prim.Native.Nat.{_≤_};
 ghost use Rattle.model.specs.Refusal.{stepRefusal, stepTooShort};
 ghost use Rattle.model.specs.Calls.{wordRequest};
-ghost use Rattle.model.specs.Setting.{operators};
+ghost use Rattle.model.specs.Setting.{operatorsIn};
 ghost use Rattle.refusals.specs.Checked.{checked};
-use model::DimensionInfo;
+use model::Operators;
 use model::Rng;
 use refusals::Check;
 
@@ -38,18 +38,14 @@ pub fn refusal(
     divisions: usize,
     size: usize,
     rng: Rng,
-    dims: [DimensionInfo; 32],
-    n_dims: usize,
-    crossover_prob: f64,
-    crossover_eta: f64,
-    mutation_eta: f64,
+    operators: Operators,
     ideal: &[f64],
     kept: usize,
     fronts: usize,
     lines: usize,
     offspring: usize,
 ) -> Check
-    ensures { λ r. ⌜ checked r ≡ stepRefusal (operators dims «n_dims» «crossover_prob» «crossover_eta» «mutation_eta»)
+    ensures { λ r. ⌜ checked r ≡ stepRefusal (operatorsIn operators)
         (wordRequest (now (pool .entry)) (now (directions .entry)) divisions size rng (now (ideal .entry)))
         (record { kept = kept; fronts = fronts; lines = lines }) offspring ⌝ }
 {
@@ -63,9 +59,15 @@ pub fn refusal(
     if divisions::bad_divisions(m, divisions) {
         return Check::Refused(4);
     }
-    if dimensions::bad_operators(crossover_prob, crossover_eta, mutation_eta) {
+    if dimensions::bad_operators(
+        operators.crossover_prob,
+        operators.crossover_eta,
+        operators.mutation_eta,
+    ) {
         return Check::Refused(5);
     }
+    let dims = operators.dimensions;
+    let n_dims = operators.n_dims;
     if dimensions::bad_dimensions(dims, n_dims) {
         return Check::Refused(6);
     }

@@ -9,7 +9,7 @@ use mir.Val.{Val}
 use base.Fml.{Fml}
 use denote.Shadow.{shadow}
 use denote.Laws.{Is}
-use denote.Array.{each, Array}
+use denote.Array.{each}
 use denote.Struct.Declared as struct
 use denote.Enum.Declared as enum
 use Rattle.list_laws.proofs.Bools.{true-T}
@@ -17,6 +17,7 @@ use Rattle.model.proofs.OptionF64 as step-f64
 use Rattle.model.proofs.OptionI64 as step-i64
 use Rattle.model.proofs.Distribution as distribution
 use Rattle.model.proofs.DimensionInfo as info
+use Rattle.model.proofs.Operators as operators
 use Rattle.model.proofs.Session as session
 use Rattle.model.specs.declared.OptionF64.{OptionF64}
 use Rattle.model.specs.declared.OptionF64.the-variants as optF64
@@ -25,6 +26,7 @@ use Rattle.model.specs.declared.OptionI64.the-variants as optI64
 use Rattle.model.specs.declared.Distribution.{Distribution}
 use Rattle.model.specs.declared.Distribution.the-variants as dist
 use Rattle.model.specs.declared.DimensionInfo.{DimensionInfo}
+use Rattle.model.specs.declared.Operators.{Operators}
 use Rattle.model.specs.declared.Session.{Session}
 use Rattle.model.specs.Session.{dimensionOf}
 use Rattle.model.specs.Setting.{maxDims, noDimension, dimensionsOf}
@@ -74,15 +76,17 @@ pub each-field : {A D : Type 0} (f : D → List Val → Fml) (into : A → D) (P
     → (xs : List A) (us : List Val) → shadow (each D f (map into xs) us) → (i : ℕ) → i < length xs → P (getD xs i z)
 each-field f into P one z xs us p = each-at (λ x vs. f (into x) vs) P one z xs us (each-map f into xs us p)
 
--- `dims: [DimensionInfo; MAX_DIMS]`
-module _ (dims : List DimensionInfo) (vs : List Val) (p : Is (Array (struct.row info.the-type) maxDims) dims vs) where
-  array-length : length dims ≡ maxDims
-  array-length = p .1 .0 .1
+-- ---- those of `Operators`
 
-  pub array-held : (d : ℕ) → d < maxDims → Held (dimensionsOf dims d)
-  array-held d h =
-      let e = array-length in
-      each-at (struct.row info.the-type .own) (λ (x : DimensionInfo). Held (x .distribution)) info-held noDimension dims (p .0) (p .1 .1) d (omega arith)
+module _ (o : Operators) (vs : List Val) (p : Is (struct.row operators.the-type) o vs) where
+  operators-dimensions : length (o .dimensions) ≡ maxDims
+  operators-dimensions = sym (length-map (o .dimensions) _) ∙ p .1 .1 .0 .1 .0 .1
+
+  pub operators-held : (d : ℕ) → d < maxDims → Held (dimensionsOf (o .dimensions) d)
+  operators-held d h =
+      let e = operators-dimensions in
+      let q = p .1 .1 .0 in
+      each-field _ _ (λ (x : DimensionInfo). Held (x .distribution)) info-held noDimension (o .dimensions) (q .0) (q .1 .1) d (omega arith)
 
 -- ---- a session's
 

@@ -1,2 +1,2 @@
-// What types promise of code's parameters, as facts of values: the numbers of a dimension, of an array of dimensions and of a session's are such as the machine
+// What types promise of code's parameters, as facts of values: the numbers of a dimension, of `Operators` and of a session's are such as the machine
 // holds. Proofs only.

@@ -6,25 +6,25 @@ use borrow.Author.Needs.{needs}
 use lib.ListN.{length, getD}
 use native.Mathlib.Nat.{mul-le-mul}
 use Rattle.model.specs.Lists.{over}
-use Rattle.model.specs.Setting.{Operators, wordsOf, operators, offspringOf}
+use Rattle.model.specs.Setting.{Operators, wordsOf, operatorsIn, offspringOf}
 use Rattle.settings.specs.Candidate.{parentsIn}
 use Rattle.settings.proofs.Valid.{few}
-use Rattle.generation_laws.proofs.Dimensions.{dimensions-held}
+use Rattle.generation_laws.proofs.Dimensions.{operators-good}
 use Rattle.generation_laws.proofs.Breeding.{bred-is}
 use Rattle.breeding.proofs.breed.Statement.{statement}
 use Rattle.breeding.proofs.breed.Tie as tie
 
 -- the parents' words fit
-fit : (s : tie.Start) → s .args .size * s .args .n-dims ≤ 32768
+fit : (s : tie.Start) → s .args .size * s .args .operators .«n_dims» ≤ 32768
 fit s = mul-le-mul (s .pre .1 .1) (few _ _ (s .pre .0 .2))
 
 abbrev ops : tie.Start → Operators
-ops s = operators (s .args .dims) (s .args .n-dims) (s .args .crossover-prob) (s .args .crossover-eta) (s .args .mutation-eta)
+ops s = operatorsIn (s .args .operators)
 
 -- ---- the places, each from the next: the parents are read, their ranks looked up, and the offspring written
 
 abbrev start : tie.After-fill-parents → tie.Start
-start c = c .before .before .before .before .before .before
+start c = c .before .before .before .before .before .before .before
 
 abbrev parents : tie.After-look-up → tie.After-fill-parents
 parents c = c .before .before .before
@@ -42,7 +42,7 @@ slice-aggregate-fill-parents c = search needs
 
 fill-parents-requires : tie.Need-fill-parents-requires
 fill-parents-requires c κs =
-    let s = c .before .before .before .before .before in
+    let s = c .before .before .before .before .before .before in
     (s .pre .1 .2, s .pre .1 .3, s .pre .0 .2, fit s)
 
 slice-aggregate-look-up : tie.Need-slice-aggregate-look-up
@@ -80,8 +80,8 @@ returns c =
     let r = looked .look-up in
     let w = written c .write-offspring in
     -- it draws on from where the parents' draws ended
-    let drawn : w .result .s ≡ offspringOf (ops s) (parentsIn (ops s .dims) (a .n-dims) (p .last .1 .1 .1 .1 .1 .1 .0) (a .size)) (λ i. getD (r .last .1 .1 .1 .0) i 0) (a .size) (p .result .s) .state = w .ensures .1 in
-    let e = bred-is (ops s) (dimensions-held (a .dims) _ (s .good .1 .1 .1 .1 .0) (a .n-dims) (s .pre .0 .2)) (s .pre .0 .2) (a .pool .now) (a .fronts .now) (a .kept .now) (a .size) (a .rng .s) (s .pre .0 .1) (s .pre .1 .2) (s .pre .1 .3)
+    let drawn : w .result .s ≡ offspringOf (ops s) (parentsIn (ops s .dims) (ops s .dimCount) (p .last .1 .1 .1 .1 .1 .1 .0) (a .size)) (λ i. getD (r .last .1 .1 .1 .0) i 0) (a .size) (p .result .s) .state = w .ensures .1 in
+    let e = bred-is (ops s) (operators-good (a .operators) _ (s .good .1 .1 .1 .1 .0) (s .pre .0 .2)) (s .pre .0 .2) (a .pool .now) (a .fronts .now) (a .kept .now) (a .size) (a .rng .s) (s .pre .0 .1) (s .pre .1 .2) (s .pre .1 .3)
     (s .pre .1 .0) _ _ _ _ _ (p .ensures .0) (p .ensures .1) (r .ensures) in
     (w .ensures .0 ∙ ap (λ d. over (wordsOf (d .value)) (a .offspring .now)) e, drawn ∙ ap (λ d. d .state) e)
 

@@ -2,25 +2,25 @@
 use mathlib.Core.Path.{_≡_, ap, sym, _∙_}
 use mathlib.Core.Bool.{false}
 use borrow.Author.Needs.{needs}
-use Rattle.model.specs.Setting.{Operators, operators, dimensionsOf}
+use Rattle.model.specs.Setting.{Operators, operatorsIn}
 use Rattle.model.specs.Refusal.{badDimensions}
 use Rattle.model.specs.Calls.{Lent, lent}
 use Rattle.refusals.specs.Checked.{checked}
 use Rattle.candidate_laws.proofs.Sound.{AllHeld}
-use Rattle.generation_laws.proofs.Dimensions.{dimensions-held}
+use Rattle.generation_laws.proofs.Dimensions.{operators-good}
 use Rattle.generation_laws.proofs.Answer.{refused-so, stepped-so}
 use Rattle.generation.proofs.nsga3_generate_offspring.Statement.{statement}
 use Rattle.generation.proofs.nsga3_generate_offspring.Tie as tie
 
 abbrev ops : tie.Start → Operators
-ops s = operators (s .args .dimensions) (s .args .n-dims) (s .args .crossover-prob) (s .args .crossover-eta) (s .args .mutation-eta)
+ops s = operatorsIn (s .args .operators)
 
 abbrev at : tie.Start → Lent
 at s = lent (s .args .kept .now) (s .args .fronts .now) (s .args .lines .now)
 
 -- the dimensions' numbers are such as the machine holds
-held : (s : tie.Start) → badDimensions (dimensionsOf (s .args .dimensions)) (s .args .n-dims) ≡ false → AllHeld (dimensionsOf (s .args .dimensions)) (s .args .n-dims)
-held s = dimensions-held (s .args .dimensions) _ (s .good .1 .1 .1 .1 .1 .0) (s .args .n-dims)
+held : (s : tie.Start) → badDimensions (ops s .dims) (ops s .dimCount) ≡ false → AllHeld (ops s .dims) (ops s .dimCount)
+held s = operators-good (s .args .operators) _ (s .good .1 .1 .1 .1 .1 .0)
 
 -- ---- the places, each from the next: the call starts, is checked, is found good, and the step is made
 

@@ -5,19 +5,20 @@ use native.Mathlib.Omega.{arith}
 use borrow.Author.Needs.{needs}
 use lib.ListN.{length}
 use Rattle.model.specs.Association.{Request}
-use Rattle.model.specs.Setting.{Operators, operators}
+use Rattle.model.specs.Setting.{Operators, operatorsIn}
 use Rattle.model.specs.Calls.{wordRequest, Lent, lent, roomOf}
 use Rattle.plan_rows.specs.Filled.{GoodPool}
 use Rattle.list_laws.proofs.Checks.{pool-plans}
 use Rattle.demand3_laws.proofs.Passed.{Passed, passed, some-objectives, one-to-1024}
 use Rattle.candidate_laws.proofs.Generations.{plans-breedable}
+use Rattle.generation_laws.specs.Bred.{bredOfWords}
 use Rattle.generation_laws.proofs.Accepted.{offspring-room, kept-room, fronts-room}
 use Rattle.generation_laws.proofs.Answer.{select-exit, kept-in-pool, bred-exit}
 use Rattle.generation_step.proofs.select_and_breed.Statement.{statement}
 use Rattle.generation_step.proofs.select_and_breed.Tie as tie
 
 abbrev ops : tie.Start → Operators
-ops s = operators (s .args .dims) (s .args .n-dims) (s .args .crossover-prob) (s .args .crossover-eta) (s .args .mutation-eta)
+ops s = operatorsIn (s .args .operators)
 
 abbrev request : tie.Start → Request
 request s = wordRequest (s .args .pool .now) (s .args .directions .now) (s .args .divisions) (s .args .size) (s .args .rng) (s .args .ideal .now)
@@ -105,9 +106,11 @@ returns c =
     let s = start n in
     let a = s .args in
     let b = bred c .breed in
+    -- the ranks that it draws by are the fronts by rows
+    let drawn : b .result .s ≡ bredOfWords (ops s) (a .pool .now) (w .row-fronts .last .1 .1 .0) (n .nsga3-select .last .1 .1 .1 .1 .1 .1 .0) (a .size) (n .nsga3-select .result .rng .s) .state = b .ensures .1 in
     let e = select-exit (ops s) (a .pool .now) (a .directions .now) (a .divisions) (a .size) (a .rng) (a .ideal .now) (at s) (a .offspring .now) (s .pre .1) (s .pre .0 .0) _ (n .nsga3-select .ensures) in
     bred-exit (ops s) (a .pool .now) (a .directions .now) (a .divisions) (a .size) (a .rng) (a .ideal .now) (at s) (a .offspring .now) (s .pre .1) (s .pre .0 .0) _ e (w .row-fronts .last .1 .1 .0) (a .by-rows .now)
-    (w .row-fronts .ensures) _ _ (b .ensures .0) (b .ensures .1)
+    (w .row-fronts .ensures) _ _ (b .ensures .0) drawn
 
 pub select-and-breed-spec : {M : Type 1} → statement M
 select-and-breed-spec =

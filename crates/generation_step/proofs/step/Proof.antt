@@ -4,7 +4,7 @@ use native.Mathlib.Omega.{arith}
 use borrow.Author.Needs.{needs}
 use lib.ListN.{length}
 use Rattle.model.specs.Association.{Request}
-use Rattle.model.specs.Setting.{Operators, operators}
+use Rattle.model.specs.Setting.{Operators, operatorsIn}
 use Rattle.model.specs.Calls.{wordRequest, Lent, lent, roomOf}
 use Rattle.demand3_laws.proofs.Passed.{Passed, passed, one-to-1024}
 use Rattle.generation_laws.proofs.Accepted.{offspring-room}
@@ -13,7 +13,7 @@ use Rattle.generation_step.proofs.step.Statement.{statement}
 use Rattle.generation_step.proofs.step.Tie as tie
 
 abbrev ops : tie.Start → Operators
-ops s = operators (s .args .dims) (s .args .n-dims) (s .args .crossover-prob) (s .args .crossover-eta) (s .args .mutation-eta)
+ops s = operatorsIn (s .args .operators)
 
 abbrev request : tie.Start → Request
 request s = wordRequest (s .args .pool .now) (s .args .directions .now) (s .args .divisions) (s .args .size) (s .args .rng) (s .args .ideal .now)
@@ -35,7 +35,7 @@ start c = c .before .before .before .before .before .before .before .before
 
 -- a pool of one: every setting is drawn
 abbrev one : tie.After-sample-candidates-arg → tie.Then1
-one c = c .before
+one c = c .before .before
 
 abbrev drawn : tie.After-slice-known6 → tie.After-sample-candidates
 drawn c = c .before .before

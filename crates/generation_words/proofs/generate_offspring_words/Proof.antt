@@ -7,6 +7,19 @@ use Rattle.generation_words.proofs.generate_offspring_words.Tie as tie
 use Rattle.model.specs.Setting.{operators}
 use Rattle.session_words.specs.Coding.{dimensionCount}
 
+-- ---- the places, each from the next: the dimensions are read, the step is called, and its answer told
+
+abbrev start : tie.After-dimensions-of-words → tie.Start
+start c = c .before .before .before .before .before .before .before .before .before
+
+abbrev read : tie.After-nsga3-generate-offspring → tie.After-dimensions-of-words
+read c = c .before .before .before .before .before .before .before .before
+
+abbrev called : tie.After-code → tie.After-nsga3-generate-offspring
+called c = c .before .before .before .before .before .before .before .before .before .before .before .before .before .before
+
+-- ---- the needs
+
 dimensions-of-words-requires : tie.Need-dimensions-of-words-requires
 dimensions-of-words-requires c κs = search needs
 
@@ -36,11 +49,10 @@ same-length-5 c = search needs
 
 returns : tie.Need-returns
 returns c =
-    let called = c .before .before .before .before .before .before .before .before .before .before .before .before .before .before in
-    let read = called .before .before .before .before .before .before .before in
-    let a = read .before .before .before .before .before .before .before .before .before .args in
-    let e = ap (λ x. operators x (dimensionCount (a .dimensions .now)) (a .crossover-prob) (a .crossover-eta) (a .mutation-eta)) (read .dimensions-of-words .ensures) in
-    step-coded _ _ _ _ _ _ _ _ _ e (called .nsga3-generate-offspring .ensures) (c .before .count .ensures) (c .code .ensures)
+    let r = read (called c) in
+    let a = start r .args in
+    let e = ap (λ x. operators x (dimensionCount (a .dimensions .now)) (a .crossover-prob) (a .crossover-eta) (a .mutation-eta)) (r .dimensions-of-words .ensures) in
+    step-coded _ _ _ _ _ _ _ _ _ e (called c .nsga3-generate-offspring .ensures) (c .before .count .ensures) (c .code .ensures)
 
 pub generate-offspring-words-spec : {M : Type 1} → statement M
 generate-offspring-words-spec =

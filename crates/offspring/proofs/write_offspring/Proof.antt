@@ -6,7 +6,7 @@ use native.Mathlib.Omega.{arith}
 use lib.ListN.{getD}
 use Rattle.model.specs.declared.ParamValue.{ParamValue}
 use Rattle.model.specs.Lists.{over}
-use Rattle.model.specs.Setting.{Operators, wordsOf, operators, dimensionsOf}
+use Rattle.model.specs.Setting.{Operators, wordsOf, operatorsIn}
 use Rattle.settings.specs.Candidate.{settingsOf, parentsIn}
 use Rattle.settings.proofs.Valid.{few}
 use Rattle.candidates.proofs.Laid.{LaidOut, words-length}
@@ -15,26 +15,26 @@ use Rattle.offspring.proofs.write_offspring.Statement.{statement}
 use Rattle.offspring.proofs.write_offspring.Tie as tie
 
 abbrev Inv-loop : tie.InvT-loop
-Inv-loop parents count ranks dims n probability crossover-eta mutation-eta size offspring₀ rng₀ k₀ offspring rng k =
+Inv-loop parents count ranks given size offspring₀ rng₀ k₀ offspring rng k =
     (k ≤ (size + 1) / 2)
-    × LaidOut offspring₀ (min (2 * k) size * n)
-    (bredBy (operators dims n probability crossover-eta mutation-eta) (parentsIn (dimensionsOf dims) n parents count) (λ (i : ℕ). getD ranks i 0) (rng₀ .s) size k)
+    × LaidOut offspring₀ (min (2 * k) size * given .«n_dims»)
+    (bredBy (operatorsIn given) (parentsIn (operatorsIn given .dims) (given .«n_dims») parents count) (λ (i : ℕ). getD ranks i 0) (rng₀ .s) size k)
     offspring (rng .s)
 
 abbrev μ-loop : tie.MeasureT-loop
-μ-loop parents count ranks dims n probability crossover-eta mutation-eta size offspring₀ rng₀ k₀ offspring rng k = (size + 1) / 2 - k
+μ-loop parents count ranks given size offspring₀ rng₀ k₀ offspring rng k = (size + 1) / 2 - k
 
 abbrev o : tie.Start Inv-loop μ-loop → Operators
-o s = operators (s .args .dims) (s .args .n) (s .args .probability) (s .args .crossover-eta) (s .args .mutation-eta)
+o s = operatorsIn (s .args .operators)
 
 abbrev ps : tie.Start Inv-loop μ-loop → List (List ParamValue)
-ps s = parentsIn (dimensionsOf (s .args .dims)) (s .args .n) (s .args .parents .now) (s .args .count)
+ps s = parentsIn (o s .dims) (o s .dimCount) (s .args .parents .now) (s .args .count)
 
 abbrev rs : tie.Start Inv-loop μ-loop → ℕ → ℕ
 rs s i = getD (s .args .ranks .now) i 0
 
 loop-holds : tie.Need-loop-holds Inv-loop μ-loop
-loop-holds c = let s = c .before .before .before in (omega arith, bred-none (o s) (ps s) (rs s) (s .args .rng .s) (s .args .size) (s .args .offspring .now) (s .args .n))
+loop-holds c = let s = c .before .before .before in (omega arith, bred-none (o s) (ps s) (rs s) (s .args .rng .s) (s .args .size) (s .args .offspring .now) (o s .dimCount))
 
 add-loop : tie.Need-add-loop Inv-loop μ-loop
 add-loop c = omega arith
@@ -64,8 +64,8 @@ loop-again c =
     let l = c .before .before .before .before .before .before .before .before .before .loop in
     let b = c .before .before .before .before .before .before .before .brood in (
       omega arith,
-      bred-more (o s) (ps s) (rs s) (a .rng .s) (a .size) (a .n) (settingsOf (b .result .first) (a .n)) (settingsOf (b .result .second) (a .n))
-          (words-length (b .result .first) (a .n)) (words-length (b .result .second) (a .n)) (a .offspring .now) (l .k) (l .offspring) _ (l .inv .1)
+      bred-more (o s) (ps s) (rs s) (a .rng .s) (a .size) (o s .dimCount) (settingsOf (b .result .first) (o s .dimCount)) (settingsOf (b .result .second) (o s .dimCount))
+          (words-length (b .result .first) (o s .dimCount)) (words-length (b .result .second) (o s .dimCount)) (a .offspring .now) (l .k) (l .offspring) _ (l .inv .1)
           (omega (arith, c .before .before .before .before .before .before .before .before .loop-test .taken)) (s .pre .5) _ _ (b .ensures) (c .before .before .before .put-children .ensures),
     )
 

@@ -1,8 +1,9 @@
 -- the step's check, on the words bred from
 use Prim.Native.Nat.{_*_, _≤_}
 use mathlib.Core.List.{[]}
-use mathlib.Core.Path.{refl, sym}
+use mathlib.Core.Path.{refl, sym, ap, _∙_}
 use lib.Seq.{length-take-le}
+use Rattle.model.specs.Refusal.{stepRefusal}
 use Rattle.session_breeding.proofs.Breeding.{ideal-room, evaluated-tells, short-is}
 use native.Mathlib.Omega.{arith}
 use borrow.Author.Needs.{needs}
@@ -12,7 +13,7 @@ use Rattle.session_breeding.proofs.bred_refusal.Tie as tie
 -- ---- the places, each from the next: the call starts, the plans' words are gathered, and the step is asked
 
 abbrev start : tie.After-pool → tie.Start
-start c = c .before .before .before .before .before .before .before .before .before
+start c = c .before .before .before .before .before .before .before .before
 
 abbrev gathered : tie.After-directions2 → tie.After-gather
 gathered c = c .before .before .before
@@ -20,12 +21,19 @@ gathered c = c .before .before .before
 abbrev asked : tie.After-refusal → tie.After-directions2
 asked c = c .before .before
 
+-- what the session breeds with is read
+abbrev given : tie.After-directions2 → tie.After-operators-of
+given c = gathered c .before .before
+
 -- ---- the same from further on
 
 abbrev entry : tie.After-directions2 → tie.Start
 entry c = start (gathered c .before)
 
 -- ---- the needs
+
+operators-of-requires : tie.Need-operators-of-requires
+operators-of-requires c κs = tt
 
 slice-aggregate-gather : tie.Need-slice-aggregate-gather
 slice-aggregate-gather c = refl
@@ -73,19 +81,20 @@ returns c =
     let r = told .before .before in
     let s = entry (asked r) in
     let a = s .args in
-    short-is (a .session) [] (a .plans .now) (a .history .now) (s .pre .0) _ _ (gathered (asked r) .gather .ensures) _ (r .refusal .ensures) _ (told .check .given .1)
+    short-is (a .session) [] (a .plans .now) (a .history .now) (s .pre .0) _ _ (gathered (asked r) .gather .ensures) _ (r .refusal .ensures ∙ ap (λ o. stepRefusal o _ _ _) (given (asked r) .operators-of .ensures)) _ (told .check .given .1)
 
 returns-2 : tie.Need-returns-2
 returns-2 c =
     let r = c .before .before in
     let s = entry (asked r) in
     let a = s .args in
-    short-is (a .session) [] (a .plans .now) (a .history .now) (s .pre .0) _ _ (gathered (asked r) .gather .ensures) _ (r .refusal .ensures) _ (c .enum-told .given .1)
+    short-is (a .session) [] (a .plans .now) (a .history .now) (s .pre .0) _ _ (gathered (asked r) .gather .ensures) _ (r .refusal .ensures ∙ ap (λ o. stepRefusal o _ _ _) (given (asked r) .operators-of .ensures)) _ (c .enum-told .given .1)
 
 pub bred-refusal-spec : {M : Type 1} → statement M
 bred-refusal-spec =
     tie.close
     (tie.spec
+    operators-of-requires
     slice-aggregate-gather
     gather-requires
     mul-words

@@ -1,19 +1,26 @@
 -- what the step promises, but for the lists that are not handed out
-use mathlib.Core.Path.{refl, sym, ap}
+use mathlib.Core.Path.{refl, sym, ap, _∙_}
 use lib.Seq.{length-take-le}
-use Rattle.session_breeding.specs.Breeding.{takenOf}
+use Rattle.model.specs.Calls.{stepOf}
+use Rattle.session_breeding.specs.Breeding.{takenOf, blankLent}
 use Rattle.session_breeding.proofs.step.Statement.{statement}
 use Rattle.session_breeding.proofs.step.Tie as tie
 
 -- ---- the places, each from the next: the call starts, its parts are read, and the generation step is called
 
-abbrev start : tie.After-rng → tie.Start
-start c = c .before .before .before .before .before .before .before .before
+abbrev start : tie.After-operators-of → tie.Start
+start c = c .before .before .before .before .before .before .before
+
+abbrev given : tie.After-nsga3-generate-offspring → tie.After-operators-of
+given c = c .before .before .before .before .before .before .before
 
 abbrev called : tie.After-slice-known4 → tie.After-nsga3-generate-offspring
 called c = c .before .before .before .before .before .before .before
 
 -- ---- the needs
+
+operators-of-requires : tie.Need-operators-of-requires
+operators-of-requires c κs = tt
 
 array-share-prefix-directions : tie.Need-array-share-prefix-directions
 array-share-prefix-directions c = start c .pre
@@ -40,12 +47,16 @@ same-length-2 : tie.Need-same-length-2
 same-length-2 c = called c .nsga3-generate-offspring .kept .1 .1 .1 .1 .1 .1 .1 .1 .1 .1 .1 .1 .1 .1 .0
 
 returns : tie.Need-returns
-returns c = ap takenOf (called c .nsga3-generate-offspring .ensures .whole)
+returns c =
+    let g = given (called c) in
+    ap takenOf (called c .nsga3-generate-offspring .ensures .whole)
+    ∙ ap (λ o. takenOf (stepOf o _ blankLent (start g .args .candidates .now))) (g .operators-of .ensures)
 
 pub step-spec : {M : Type 1} → statement M
 step-spec =
     tie.close
     (tie.spec
+    operators-of-requires
     array-share-prefix-directions
     slice-aggregate-nsga3-generate-offspring
     slice-aggregate-nsga3-generate-offspring-2

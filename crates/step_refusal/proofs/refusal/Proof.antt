@@ -5,7 +5,7 @@ use mathlib.Core.Bool.{false}
 use lib.ListN.{drop}
 use Rattle.model.specs.Calls.{wordRequest}
 use Rattle.model.specs.Association.{Request}
-use Rattle.model.specs.Setting.{Operators, operators, dimensionsOf}
+use Rattle.model.specs.Setting.{Operators, operatorsIn}
 use Rattle.model.specs.Refusal.{Room, firstOf, badDirections, badSize, badDimensions, badCount, badPool, badParents, stepTooShort, noStepRoom, stepChecks, stepRefusal}
 use Rattle.settings.proofs.Valid.{few}
 use Rattle.demand3_laws.proofs.Passed.{some-objectives, one-to-1024}
@@ -17,7 +17,7 @@ abbrev request : tie.Start → Request
 request s = wordRequest (s .args .pool .now) (s .args .directions .now) (s .args .divisions) (s .args .size) (s .args .rng) (s .args .ideal .now)
 
 abbrev ops : tie.Start → Operators
-ops s = operators (s .args .dims) (s .args .n-dims) (s .args .crossover-prob) (s .args .crossover-eta) (s .args .mutation-eta)
+ops s = operatorsIn (s .args .operators)
 
 abbrev room : tie.Start → Room
 room s = record { kept = s .args .kept; fronts = s .args .fronts; lines = s .args .lines }
@@ -41,7 +41,7 @@ abbrev passed-3 : tie.Else4 → tie.Else3
 passed-3 c = c .before .before
 
 abbrev passed-4 : tie.Else5 → tie.Else4
-passed-4 c = c .before .before
+passed-4 c = c .before .before .before
 
 -- the plans of the pool are counted before the sixth test
 abbrev counts : tie.After-bad-count2 → tie.After-plan-count
@@ -93,7 +93,7 @@ good-directions c = sym (c .before .bad-directions .ensures) ∙ c .if1 .left
 good-size : (c : tie.Else2) → badSize (start (passed-1 c) .args .size) ≡ false
 good-size c = sym (c .before .bad-count .ensures) ∙ c .if2 .left
 
-good-dimensions : (c : tie.Else5) → let a = start (first-5 c) .args in badDimensions (dimensionsOf (a .dims)) (a .n-dims) ≡ false
+good-dimensions : (c : tie.Else5) → let o = ops (start (first-5 c)) in badDimensions (o .dims) (o .dimCount) ≡ false
 good-dimensions c = sym (c .before .bad-dimensions .ensures) ∙ c .if5 .left
 
 -- the pool's count
@@ -105,7 +105,7 @@ unfolding noStepRoom
 slices c =
     let s = start (first-8 (c .before)) in
     c .no-step-room .ensures
-    ∙ ap (λ n. stepTooShort (room s) (s .args .offspring) (s .args .size) n (s .args .n-dims)) (counts (passed-6 (passed-7 (c .before)) .before) .plan-count .ensures)
+    ∙ ap (λ n. stepTooShort (room s) (s .args .offspring) (s .args .size) n (ops s .dimCount)) (counts (passed-6 (passed-7 (c .before)) .before) .plan-count .ensures)
 
 past-1 : (c : tie.Else1) → Past (start c) 1
 unfolding stepRefusal
@@ -168,7 +168,7 @@ bad-dimensions-requires : tie.Need-bad-dimensions-requires
 bad-dimensions-requires c κs = tt
 
 returns-5 : tie.Need-returns-5
-returns-5 c = sym (past-4 (c .before .before) ∙ applies-first _ _ (sym (c .before .bad-dimensions .ensures) ∙ c .if5 .taken))
+returns-5 c = sym (past-4 (c .before .before .before) ∙ applies-first _ _ (sym (c .before .bad-dimensions .ensures) ∙ c .if5 .taken))
 
 plan-count-requires : tie.Need-plan-count-requires
 plan-count-requires c κs = tt
