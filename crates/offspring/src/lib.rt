@@ -8,7 +8,7 @@ ghost use lib.ListN.{length, getD, take};
 ghost use Rattle.model.specs.Lists.{over};
 ghost use Rattle.model.specs.Plan.{planAt, planCount};
 ghost use Rattle.model.specs.Setting.{parentsOf, offspringOf, wordsOf, operators, dimensionsOf};
-ghost use Rattle.model.specs.Refusal.{badDimensions, badOperators};
+ghost use Rattle.model.specs.Refusal.{maxSize, badDimensions, badOperators};
 ghost use lib.Seq.{sets};
 ghost use Rattle.settings.specs.Candidate.{settingsOf, parentsIn};
 use model::DimensionInfo;
@@ -78,7 +78,7 @@ pub fn write_offspring(
     offspring: &mut [u64],
 ) -> Rng
     requires { ⌜ (0 < count) × (count * n ≤ length (now parents)) × (count ≤ length (now ranks)) × (badDimensions (dimensionsOf dims) n ≡ false)
-        × (badOperators probability «crossover_eta» «mutation_eta» ≡ false) × (size * n ≤ length (now offspring)) × (size ≤ 1024) ⌝ }
+        × (badOperators probability «crossover_eta» «mutation_eta» ≡ false) × (size * n ≤ length (now offspring)) × (size ≤ maxSize) ⌝ }
     ensures words { λ _. ⌜ now (offspring .exit)
         ≡ over (wordsOf (offspringOf (operators dims n probability «crossover_eta» «mutation_eta»)
         (parentsIn (dimensionsOf dims) n (now (parents .entry)) count) (λ i. getD (now (ranks .entry)) i 0) size (rng .s) .value)) (now (offspring .entry)) ⌝ }

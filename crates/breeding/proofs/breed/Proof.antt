@@ -7,6 +7,7 @@ use lib.ListN.{length, getD}
 use native.Mathlib.Nat.{mul-le-mul}
 use Rattle.model.specs.Lists.{over}
 use Rattle.model.specs.Setting.{Operators, wordsOf, operators, offspringOf}
+use Rattle.model.specs.Refusal.{maxSize}
 use Rattle.settings.specs.Candidate.{parentsIn}
 use Rattle.settings.proofs.Valid.{few}
 use Rattle.generation_laws.proofs.Dimensions.{dimensions-held}
@@ -46,7 +47,7 @@ write-offspring-requires c κs =
     let p = c .before .before .before .before .before .before .before .fill-parents in
     let r = c .before .before .before .before .fill-ranks in
     let words : length (p .last .1 .1 .1 .1 .1 .1 .0) ≡ 32768 = p .kept .1 .1 .1 .1 .1 .1 .0 in
-    let places : length (r .last .1 .1 .1 .1 .0) ≡ 1024 = r .kept .1 .1 .1 .1 .0 in
+    let places : length (r .last .1 .1 .1 .1 .0) ≡ maxSize = r .kept .1 .1 .1 .1 .0 in
     (s .pre .1 .0, omega (arith, words, fit s), omega (arith, places, s .pre .1 .1), s .pre .0 .2, s .pre .0 .3, s .pre .1 .4, s .pre .1 .1)
 
 same-length : tie.Need-same-length

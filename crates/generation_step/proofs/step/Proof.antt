@@ -9,7 +9,7 @@ use Rattle.model.specs.Setting.{Operators, operators}
 use Rattle.model.specs.Plan.{planCount}
 use Rattle.model.specs.Calls.{wordRequest, Lent, lent, roomOf}
 use Rattle.list_laws.proofs.Checks.{pool-plans}
-use Rattle.demand3_laws.proofs.Passed.{Passed, passed, some-objectives, one-to-1024}
+use Rattle.demand3_laws.proofs.Passed.{Passed, passed, some-objectives, size-limits, count-limits}
 use Rattle.candidate_laws.proofs.Generations.{plans-breedable}
 use Rattle.generation_laws.proofs.Accepted.{offspring-room, kept-room}
 use Rattle.generation_laws.proofs.Answer.{one-exit, select-exit, kept-in-pool, bred-exit}
@@ -94,14 +94,14 @@ breed-requires c κs =
     let ok = given s in
     let kept : length (n .last .1 .1 .1 .1 .1 .1 .0) ≡ length (a .kept .now) = n .kept .1 .1 .1 .1 .1 .1 .0 in (
       (
-        record { few = one-to-1024 _ (ok .count) .1; narrow = some-objectives _ (ok .directions) .1; good = pool-plans (request s) (ok .pool) },
+        record { few = count-limits _ (ok .count) .1; narrow = some-objectives _ (ok .directions) .1; good = pool-plans (request s) (ok .pool) },
         plans-breedable (ops s) (request s) (ok .parents),
         ok .dimensions,
         ok .operators,
       ),
       (
-        one-to-1024 _ (ok .size) .0,
-        one-to-1024 _ (ok .size) .1,
+        size-limits _ (ok .size) .0,
+        size-limits _ (ok .size) .1,
         omega (arith, kept, kept-room ok h),
         kept-in-pool (ops s) (a .pool .now) (a .directions .now) (a .divisions) (a .size) (a .rng) (a .ideal .now) (at s) (a .offspring .now) (s .pre) h _ e,
         offspring-room ok,

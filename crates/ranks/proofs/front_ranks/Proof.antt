@@ -1,17 +1,40 @@
 -- the sort of the pool's rows
+use Prim.Native.Nat.{_*_}
 use mathlib.Core.Path.{_≡_, subst}
 use native.Mathlib.Omega.{arith}
 use borrow.Author.Needs.{needs}
 use lib.ListN.{length}
-use Rattle.model.specs.Plan.{planAt}
+use Rattle.model.specs.Plan.{planAt, maxObjectives}
 use Rattle.model.specs.Lists.{over}
 use Rattle.model.specs.Row.{rowBeats}
 use Rattle.model.specs.Front.{frontList}
+use Rattle.model.specs.Refusal.{maxPool}
 use Rattle.plan_rows.proofs.Pool.{few-plans, rows-asked, pool-known, rows-known}
 use Rattle.plan_rows.proofs.Rows.{rows-values}
 use Rattle.front_laws.proofs.Meaning.{sorted-rowBeats}
 use Rattle.ranks.proofs.front_ranks.Statement.{statement}
 use Rattle.ranks.proofs.front_ranks.Tie as tie
+
+-- ---- the places, each from the next: the call starts, the plans are counted, and their rows laid out and sorted
+
+abbrev start : tie.After-plan-count → tie.Start
+start c = c .before .before .before .before
+
+abbrev counted : tie.After-rows → tie.After-plan-count
+counted c = c .before
+
+abbrev laid : tie.After-ends → tie.After-fill-rows
+laid c = c .before .before .before .before .before
+
+abbrev sorted : tie.After-ends2 → tie.After-fast-non-dominated-sort
+sorted c = c .before .before .before .before
+
+-- ---- the same from further on
+
+abbrev counted-laid : tie.After-ends → tie.After-plan-count
+counted-laid c = counted (laid c .before)
+
+-- ---- the needs
 
 plan-count-requires : tie.Need-plan-count-requires
 plan-count-requires c κs = tt
@@ -20,8 +43,7 @@ slice-aggregate-fill-rows : tie.Need-slice-aggregate-fill-rows
 slice-aggregate-fill-rows c = search needs
 
 fill-rows-requires : tie.Need-fill-rows-requires
-fill-rows-requires c κs =
-    rows-asked (c .before .before .before .before .before .pre .0) (c .before .plan-count .ensures)
+fill-rows-requires c κs = rows-asked (start (counted c) .pre .0) (counted c .plan-count .ensures)
 
 slice-aggregate-fast-non-dominated-sort : tie.Need-slice-aggregate-fast-non-dominated-sort
 slice-aggregate-fast-non-dominated-sort c = search needs
@@ -34,11 +56,11 @@ slice-aggregate-fast-non-dominated-sort-3 c = search needs
 
 fast-non-dominated-sort-requires : tie.Need-fast-non-dominated-sort-requires
 fast-non-dominated-sort-requires c κs =
-    let s = c .before .before .before .before .before .before .before .before .before .before .before in
-    let e = c .before .before .before .before .before .before .before .plan-count .ensures in
-    let f = c .before .before .before .before .before .fill-rows in
+    let s = start (counted-laid c) in
+    let e = counted-laid c .plan-count .ensures in
+    let f = laid c .fill-rows in
     let few = few-plans (s .pre .0) e in
-    let size : length (f .last .1 .1 .1 .0) ≡ 8192 = f .kept .1 .1 .1 .0 in (
+    let size : length (f .last .1 .1 .1 .0) ≡ maxPool * maxObjectives = f .kept .1 .1 .1 .0 in (
       omega (arith, size, rows-asked (s .pre .0) e .0 .2),
       rows-known (s .args .directions .now) (planAt (s .args .pool .now)) _ (f .last .1 .1 .1 .0) (rows-values _ _ _ _ _ (f .ensures))
           (pool-known (s .pre .0) e),
@@ -53,10 +75,11 @@ same-length c = search needs
 
 returns : tie.Need-returns
 returns c =
-    let s = c .before .before .before .before .before .before .before .before .before .before .before .before .before .before .before .before in
-    let f = c .before .before .before .before .before .before .before .before .before .before .fill-rows in
-    let e = c .before .before .before .before .before .before .before .before .before .before .before .before .plan-count .ensures in
-    let d = c .before .before .before .before .fast-non-dominated-sort in
+    let at = sorted c .before in
+    let s = start (counted-laid at) in
+    let f = laid at .fill-rows in
+    let e = counted-laid at .plan-count .ensures in
+    let d = sorted c .fast-non-dominated-sort in
     subst (λ k. d .last .1 .1 .1 .1 .0 ≡ over (frontList (rowBeats (s .args .directions .now) (planAt (s .args .pool .now))) k) (s .args .fronts .now)) e
     (sorted-rowBeats (s .args .directions .now) (planAt (s .args .pool .now)) _ (f .last .1 .1 .1 .0) _ _ _ _ _ _ _ (rows-values _ _ _ _ _ (f .ensures)) (d .ensures) .ranks)
 
