@@ -2,14 +2,14 @@
 // The layer's calls are `associate_to_reference_points` and `associate`; the other functions are their parts.
 use model::MAX_LINES;
 use model::MAX_OBJECTIVES;
-use model::MAX_VALUES;
+use model::MAX_ROW_VALUES;
 use square_root;
 ghost use mathlib.Core.Path.{_≡_};
 ghost use Prim.Native.Nat.{_+_, _*_, _≤_, min};
 ghost use lib.ListN.{length};
 ghost use Rattle.model.specs.Plan.{maxObjectives};
 ghost use Rattle.model.specs.Association.{nearestOf, Request, lineCount};
-ghost use Rattle.model.specs.Refusal.{maxLines};
+ghost use Rattle.model.specs.Refusal.{maxLines, maxPool};
 ghost use Rattle.association_laws.specs.Flat.{NormsIn, distanceAt, NearestAll};
 ghost use Rattle.association_laws.specs.Request.{Pool, StartIn, LinesIn, Associates};
 
@@ -179,14 +179,14 @@ pub fn associate(
     lines: &mut [usize],
     distances: &mut [f64],
 )
-    requires { ⌜ (m ≤ maxObjectives) × (n * m ≤ 8192) × (n * m ≤ length (now rows)) × («n_lines» * m ≤ length (now table)) × (m ≤ length (now ideal))
+    requires { ⌜ (m ≤ maxObjectives) × (n * m ≤ maxPool * maxObjectives) × (n * m ≤ length (now rows)) × («n_lines» * m ≤ length (now table)) × (m ≤ length (now ideal))
         × (n ≤ length (now lines)) × (n ≤ length (now distances)) ⌝ }
     ensures { λ _. ⌜ ((r : Request) → Pool r (now (rows .entry)) n m → StartIn r (now (ideal .entry)) m → LinesIn r (now (table .entry)) «n_lines» m
         → «n_lines» ≡ lineCount r → Associates r n m (now (ideal .entry)) (now (ideal .exit)) (now (lines .entry)) (now (lines .exit))
         (now (distances .entry)) (now (distances .exit))) ⌝ }
 {
     let mut intercepts = [1.0; MAX_OBJECTIVES];
-    let mut normalized = [0.0; MAX_VALUES];
+    let mut normalized = [0.0; MAX_ROW_VALUES];
     normalization::update_ideal_point(rows, n, m, ideal);
     normalization::find_intercepts(rows, n, m, ideal, &mut intercepts);
     normalization::normalize_objectives(rows, n, m, ideal, &intercepts, &mut normalized);

@@ -6,10 +6,10 @@ ghost use lib.ListN.{length, getD};
 ghost use Rattle.model.specs.Lists.{allBelow, listBelow, over};
 ghost use Rattle.model.specs.Plan.{planAt, planCount};
 ghost use Rattle.model.specs.Setting.{wordsOf, operatorsIn};
-ghost use Rattle.model.specs.Refusal.{breedable, badDimensions, badOperators};
+ghost use Rattle.model.specs.Refusal.{maxSize, breedable, badDimensions, badOperators};
 ghost use Rattle.generation_laws.specs.Bred.{bredOfWords};
 use model::CANDIDATE_WORDS;
-use model::MAX_PLANS;
+use model::MAX_SIZE;
 use model::Operators;
 use model::Rng;
 
@@ -40,7 +40,7 @@ pub fn breed(
         × (allBelow (λ p. breedable (operatorsIn operators .dims) (operators .«n_dims») (planAt (now pool) p)) (planCount (now pool)) ≡ true)
         × (badDimensions (operatorsIn operators .dims) (operators .«n_dims») ≡ false)
         × (badOperators (operators .«crossover_prob») (operators .«crossover_eta») (operators .«mutation_eta») ≡ false) ⌝ }
-    requires { ⌜ (0 < size) × (size ≤ 1024) × (size ≤ length (now kept)) × ((i : ℕ) → i < size → getD (now kept) i 0 < planCount (now pool))
+    requires { ⌜ (0 < size) × (size ≤ maxSize) × (size ≤ length (now kept)) × ((i : ℕ) → i < size → getD (now kept) i 0 < planCount (now pool))
         × (size * operators .«n_dims» ≤ length (now offspring)) ⌝ }
     ensures words { λ _. ⌜ now (offspring .exit)
         ≡ over (wordsOf (bredOfWords (operatorsIn operators) (now (pool .entry)) (now (fronts .entry))
@@ -53,7 +53,7 @@ pub fn breed(
     let n = operators.n_dims;
     let mut parents: [u64; CANDIDATE_WORDS] = [0; CANDIDATE_WORDS];
     let rng = offspring::fill_parents(pool, kept, size, dims, n, rng, &mut parents);
-    let mut ranks: [usize; MAX_PLANS] = [0; MAX_PLANS];
+    let mut ranks: [usize; MAX_SIZE] = [0; MAX_SIZE];
     look_up(fronts, kept, size, &mut ranks);
     offspring::write_offspring(&parents, size, &ranks, operators, size, rng, offspring)
 }

@@ -1,6 +1,6 @@
 // Runs the published point counts and document 01's cases on the reference table.
 use libc::STDOUT_FILENO;
-use model::MAX_VALUES;
+use model::MAX_TABLE_VALUES;
 use model::OptionUsize;
 ghost use Prim.Native.Nat.{_≤_};
 
@@ -24,7 +24,7 @@ fn counted(m: usize, h: usize)
         text(b": refused 4\n");
         return;
     }
-    let mut table = [0.0; MAX_VALUES];
+    let mut table = [0.0; MAX_TABLE_VALUES];
     let lines = das_dennis::das_dennis(m, h, &mut table);
     number(b": ", divisions::point_count(m, h));
     number(b", lines ", lines);

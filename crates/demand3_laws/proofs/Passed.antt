@@ -1,7 +1,7 @@
 -- A call that meets no refusal passes each test, and what each test rules out.
 use Prim.Native.Nat.{ℕ, _≤_, _<_}
 use mathlib.Core.Path.{_≡_}
-use mathlib.Core.Bool.{true, false, not, _&&_}
+use mathlib.Core.Bool.{true, false, not, _&&_, _||_}
 use mathlib.Core.List.{List}
 use mathlib.Core.Option.{none}
 use native.Mathlib.Omega.{arith}
@@ -13,7 +13,7 @@ use Rattle.model.specs.Plan.{maxObjectives}
 use Rattle.model.specs.Association.{Request, objectives}
 use Rattle.model.specs.Setting.{Operators}
 use Rattle.model.specs.Session.{State, discovers, breeds, isNew, longEnough, requestOf, operatorsOf, maxCome}
-use Rattle.model.specs.Refusal.{Room, maxSize, badDirections, badSize, badDivisions, badOperators, badDimensions, badCount, badPool, badParents, noRoom, noStepRoom, badNext, badHistory, selectRefusal, stepRefusal, sampleRefusal}
+use Rattle.model.specs.Refusal.{Room, maxSize, maxPool, badDirections, badSize, badDivisions, badOperators, badDimensions, badCount, badPool, badParents, noRoom, noStepRoom, badNext, badHistory, selectRefusal, stepRefusal, sampleRefusal}
 use Rattle.list_laws.proofs.Bools.{or-left, or-right, and-left, and-right}
 use Rattle.list_laws.proofs.Checks.{applies-at}
 
@@ -25,11 +25,19 @@ some-objectives marks h =
     let e = not-false _ (or-left _ _ h) in
     (leb-true 1 (length marks) (and-left _ _ e), leb-true (length marks) maxObjectives (and-right (leb 1 (length marks)) _ e))
 
--- a size or a count is 1 to 1,024
-pub one-to-1024 : (n : ℕ) → badCount n ≡ false → (0 < n) × (n ≤ maxSize)
-one-to-1024 n e =
-    let h = eqb-false n 0 (or-left (eqb n 0) (ltb maxSize n) e) in
-    (omega arith, ltb-false maxSize n (or-right (eqb n 0) (ltb maxSize n) e))
+-- a number that is neither 0 nor above a limit
+one-to : (most n : ℕ) → (eqb n 0 || ltb most n) ≡ false → (0 < n) × (n ≤ most)
+one-to most n e =
+    let h = eqb-false n 0 (or-left (eqb n 0) (ltb most n) e) in
+    (omega arith, ltb-false most n (or-right (eqb n 0) (ltb most n) e))
+
+-- a size is 1 to the most that may be wanted
+pub size-limits : (size : ℕ) → badSize size ≡ false → (0 < size) × (size ≤ maxSize)
+size-limits size e = one-to maxSize size e
+
+-- a pool's count is 1 to the most that a pool may have
+pub count-limits : (n : ℕ) → badCount n ≡ false → (0 < n) × (n ≤ maxPool)
+count-limits n e = one-to maxPool n e
 
 -- each lent slice has room
 pub room-each : (r : Request) (room : Room) → noRoom r room ≡ false → (r .size ≤ room .kept) × (r .count ≤ room .fronts) × (r .count ≤ room .lines)

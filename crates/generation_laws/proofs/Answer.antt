@@ -23,7 +23,7 @@ use Rattle.model.specs.Kept.{selected}
 use Rattle.model.specs.Setting.{Operators, wordsOf, WordsWithin, sampleCandidates, parentIn, parentsOf, bredOf, rankIn, rankOf, generationOf, generationOfOne, byPool, generation}
 use Rattle.model.specs.Refusal.{badDimensions, stepRefusal}
 use Rattle.model.specs.Calls.{wordRequest, Lent, roomOf, SelectExit, answered, selectAccepted, selectBy, selectOf, Selects, StepExit, stepExit, stepAccepted, stepBy, stepOf, Steps, generationExit, laid}
-use Rattle.demand3_laws.proofs.Passed.{passed, one-to-1024}
+use Rattle.demand3_laws.proofs.Passed.{passed, size-limits}
 use Rattle.demand3_laws.proofs.Calls.{planAt-row, generation-many, steps}
 use Rattle.candidate_laws.proofs.Sound.{AllHeld}
 use Rattle.candidate_laws.proofs.KeptPlans.{kept-length, kept-below}
@@ -93,7 +93,7 @@ module _ (o : Operators) (pool directions : List ℕ) (divisions size : ℕ) (g 
             let taken : take size (x .slices .kept) ≡ selected r .kept = ap (take size) kept-is ∙ over-take (selected r .kept) (at .kept) size (kept-length r) in
             let ps = parentsOf (o .dims) (o .dimCount) (planAt pool) (selected r .kept) (selected r .state) in
             let z : length (ps .value) ≡ size = drawAll-length (parentIn (o .dims) (o .dimCount) (planAt pool) (selected r .kept)) (length (selected r .kept)) (selected r .state) ∙ kept-length r in
-            let some : 0 < size = one-to-1024 size (passed o r (roomOf at) (length old) refused .size) .0 in
+            let some : 0 < size = size-limits size (passed o r (roomOf at) (length old) refused .size) .0 in
             ap₂ (λ k s. bredOf o (planAt pool) (rankAt fronts (x .slices .kept)) k size s) taken state-is
             ∙ offspring-same o (ps .value) (rankAt fronts (x .slices .kept)) ranks (omega arith) (λ i h. rank-is i (omega arith)) size (ps .state)
 

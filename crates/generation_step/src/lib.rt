@@ -7,7 +7,7 @@ ghost use Rattle.model.specs.Plan.{planCount};
 ghost use Rattle.model.specs.Refusal.{stepRefusal};
 ghost use Rattle.model.specs.Calls.{wordRequest, lent, roomOf, stepExit, stepAccepted};
 ghost use Rattle.model.specs.Setting.{operatorsIn};
-use model::MAX_PLANS;
+use model::MAX_POOL;
 use model::Operators;
 use model::Outcome;
 use model::Rng;
@@ -95,7 +95,7 @@ pub fn step(
             rng,
         };
     }
-    let mut row_fronts: [usize; MAX_PLANS] = [0; MAX_PLANS];
+    let mut row_fronts: [usize; MAX_POOL] = [0; MAX_POOL];
     select_and_breed(
         pool,
         directions,

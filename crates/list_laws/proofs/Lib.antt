@@ -14,3 +14,4 @@ pub mod Rows
 pub mod Runs
 pub mod Stores
 pub mod Checks
+pub mod Limits

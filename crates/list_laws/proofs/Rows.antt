@@ -3,15 +3,13 @@ use Prim.Native.Nat.{ℕ, zero, suc, _+_, _*_, _≤_, _<_}
 use mathlib.Core.Bool.{false}
 use mathlib.Core.Path.{_≡_, refl, ap, sym, _∙_}
 use mathlib.Core.List.{List, [], _∷_, _++_, flatten, append-assoc, append-nil}
-use native.Mathlib.Nat.{zero-mul, suc-mul, mul-le-mul, mul-le-mul-right}
+use native.Mathlib.Nat.{zero-mul, suc-mul, mul-le-mul-right}
 use native.Mathlib.Omega.{arith}
 use borrow.Author.Tests.{ltb-false}
 use lib.Dec.{ltb}
 use lib.ListN.{length, getD, drop, length-append, List·getD-append}
 use lib.Seq.{getD-append-add, sets}
 use Rattle.model.specs.Lists.{listBelow, joinBelow, over}
-use Rattle.model.specs.Plan.{maxObjectives}
-use Rattle.model.specs.Refusal.{maxSize}
 use Rattle.list_laws.proofs.Built.{listBelow-length, listBelow-at, joinBelow-more, over-run}
 use Rattle.list_laws.proofs.Runs.{sets-append}
 use Rattle.list_laws.proofs.Below.{later}
@@ -30,10 +28,6 @@ row-within p n m len h l = omega (arith, row-inside p n m h)
 -- and so does entry j of row p
 pub row-lt : (p j n m : ℕ) → p < n → j < m → p * m + j < n * m
 row-lt p j n m h g = omega (arith, row-inside p n m h)
-
--- at most as many rows as plans or lines are taken, of at most as many entries as objectives
-pub few-values : (n m : ℕ) → n ≤ maxSize → m ≤ maxObjectives → n * m ≤ maxSize * maxObjectives
-few-values n m h k = mul-le-mul h k
 
 -- ---- a list of lists
 

@@ -1,6 +1,6 @@
 -- The public calls: what each answers, and what every lent slice holds at exit, refusals too.
 -- "the answer is the number alone, with nothing written and no word drawn": a refusal leaves state, generator and slices as they were found.
-use Prim.Native.Nat.{ℕ, _≤_, _<_}
+use Prim.Native.Nat.{ℕ, _+_, _*_, _≤_, _<_}
 use mathlib.Core.Path.{_≡_}
 use mathlib.Core.Bool.{true}
 use mathlib.Core.Logic.{_⊎_}
@@ -31,7 +31,7 @@ use Rattle.model.specs.Demand3.{Demand3}
 use Rattle.model.specs.Setting.{Operators, Generation, generation, inBounds, wordsOf, WordsWithin}
 use Rattle.model.specs.Session.{State, Answered, given, opened, blank, accepted, state, breeds, requestOf, bredBy, sampleFromCandidate, asked}
 use Rattle.model.specs.PoolFile.{PoolFile, parse, fileRequest, listingText, fileText, refusedText}
-use Rattle.model.specs.Refusal.{Room, maxSize, selectRefusal, stepRefusal, openRefusal, sampleRefusal, chooseRefusal}
+use Rattle.model.specs.Refusal.{Room, maxSize, maxPool, maxLines, selectRefusal, stepRefusal, openRefusal, sampleRefusal, chooseRefusal}
 use Rattle.model.specs.Property.{SessionOk}
 
 -- ---- the answers' cases: the number of a refusal, or none
@@ -228,19 +228,19 @@ abbrev pub printedBy : Option ℕ → List ℕ → List ℕ
 printedBy none text = text
 printedBy (some n) text = refusedText n
 
--- no listing is longer than a header of 21 bytes and 1,024 lines of 20 bytes
+-- no listing is longer than a header of 21 bytes and a line of 20 bytes for each plan of a pool
 abbrev pub maxText : ℕ
-maxText = 20501
+maxText = maxPool * 20 + 21
 
 unfoldable pub printed : List ℕ → List ℕ
 printed bytes = printedBy (chooseRefusal bytes maxText) (textOf (parse bytes))
 
 -- a selection whose listing tells it: its plan count, list, fronts and lines are within document 01's limits
 pub record Listable (count : ℕ) (sel : Selected) : Type 0 where
-  pub plans : count ≤ maxSize
+  pub plans : count ≤ maxPool
   pub kept : length (sel .kept) ≤ maxSize
-  pub fronts : (p : ℕ) → p < count → getD (sel .fronts) p 0 ≤ maxSize
-  pub lines : (p : ℕ) → p < count → (getD (sel .lines) p 0 ≤ maxSize) ⊎ (getD (sel .lines) p 0 ≡ noLine)
+  pub fronts : (p : ℕ) → p < count → getD (sel .fronts) p 0 ≤ maxPool
+  pub lines : (p : ℕ) → p < count → (getD (sel .lines) p 0 ≤ maxLines) ⊎ (getD (sel .lines) p 0 ≡ noLine)
 
 -- DEMAND 3 of a text, for a file: the text is the listing of what the file selects, and every selection of which it is the listing has a kept list that meets
 -- the demand

@@ -33,9 +33,12 @@ firstOf (c ∷ cs) = cond (c .applies) (some (c .number)) (firstOf cs)
 
 -- ---- what each number asks
 
--- the limits: plans in a pool and in a selection, lines, records of a history
+-- the limits: most plans wanted (of a size), most plans of a pool, lines, records of a history
 abbrev pub maxSize : ℕ
 maxSize = 1024
+
+abbrev pub maxPool : ℕ
+maxPool = 1024
 
 abbrev pub maxLines : ℕ
 maxLines = 1024
@@ -90,7 +93,7 @@ badNext n d = leb maxDims n || not (validDimension d)
 
 -- 7. "A pool is empty or above 1,024 plans, or a history is above 4,096."
 abbrev pub badCount : ℕ → Bool
-badCount count = eqb count 0 || ltb maxSize count
+badCount count = eqb count 0 || ltb maxPool count
 
 abbrev pub badHistory : List ℕ → Bool
 badHistory history = ltb maxHistory (planCount history)

@@ -2,8 +2,11 @@
 
 // The limits of document 01 that sizes of arrays and loops name; the definitions of `specs` have the same numbers.
 pub const MAX_OBJECTIVES: usize = 8;
-// of a size and of a pool
-pub const MAX_PLANS: usize = 1024;
+// most plans wanted: of a size
+pub const MAX_SIZE: usize = 1024;
+
+// most plans of a pool
+pub const MAX_POOL: usize = 1024;
 
 pub const MAX_LINES: usize = 1024;
 
@@ -32,21 +35,23 @@ pub const CONSTRAINTS: usize = 11;
 
 pub const SETTING_COUNT: usize = 27;
 
-// The words of a plan, its settings three words each from word 28 on, of a pool of MAX_PLANS of them, and of as many candidates of MAX_DIMS settings.
+// The words of a plan, its settings three words each from word 28 on, of a pool of MAX_POOL of them, and of MAX_SIZE candidates of MAX_DIMS settings.
 pub const PLAN_WORDS: usize = 28 + 3 * MAX_SETTINGS;
 
-pub const POOL_WORDS: usize = MAX_PLANS * PLAN_WORDS;
+pub const POOL_WORDS: usize = MAX_POOL * PLAN_WORDS;
 
-pub const CANDIDATE_WORDS: usize = MAX_PLANS * MAX_DIMS;
+pub const CANDIDATE_WORDS: usize = MAX_SIZE * MAX_DIMS;
 
-// The rows of a pool, and a table of lines.
-pub const MAX_VALUES: usize = 8192;
+// The values of a pool's rows, and of a table of lines.
+pub const MAX_ROW_VALUES: usize = MAX_POOL * MAX_OBJECTIVES;
+
+pub const MAX_TABLE_VALUES: usize = MAX_LINES * MAX_OBJECTIVES;
 
 // What a plan has where no line was looked for.
 pub const NO_LINE: usize = 18446744073709551615;
 
 // The longest listing of `choose`, in bytes.
-pub const MAX_TEXT: usize = 20501;
+pub const MAX_TEXT: usize = MAX_POOL * 20 + 21;
 
 // The generator (document 01, "Draw"): one word of state, which any seed may be.
 pub struct Rng {

@@ -6,7 +6,7 @@ ghost use lib.ListN.{length};
 ghost use Rattle.model.specs.Kept.{nicheCount};
 ghost use Rattle.niching_array_laws.specs.Niche.{lineIn, countOf, OnLines, Zeros, Ready, Took, Splits, NichingSelects};
 use model::MAX_LINES;
-use model::MAX_PLANS;
+use model::MAX_POOL;
 use model::Rng;
 use rng_util::DrawnUsize;
 
@@ -78,7 +78,7 @@ pub fn niching_select(
     count_lines(before, lines, &mut counts);
     let mut waits: [usize; MAX_LINES] = [0; MAX_LINES];
     count_lines(front, lines, &mut waits);
-    let mut taken: [bool; MAX_PLANS] = [false; MAX_PLANS];
+    let mut taken: [bool; MAX_POOL] = [false; MAX_POOL];
     let mut rng = rng;
     let mut at = 0;
     while at < open {

@@ -11,7 +11,7 @@ use lib.ListN.{length, getD, set, replicate, length-append, length-set, length-m
 use lib.Seq.{getD-set-same, getD-set-other}
 use Rattle.model.specs.Lists.{countBelow, keepBelow, keep, has, Distinct}
 use Rattle.model.specs.Kept.{nicheCount, waiting, openLines, pickOne, pickFrom}
-use Rattle.model.specs.Refusal.{maxSize, maxLines}
+use Rattle.model.specs.Refusal.{maxPool, maxLines}
 use Rattle.list_laws.proofs.Bools.{and-no}
 use Rattle.list_laws.proofs.Stores.{set-cases}
 use Rattle.list_laws.proofs.Counts.{countBelow-same, countBelow-drop}
@@ -28,14 +28,14 @@ pub record Given (before front lines : List ℕ) (distances : List Float) (n : �
   pub measured : Measured front distances
   pub different : Distinct front
   pub narrow : n ≤ maxLines
-  pub few : length before + length front ≤ maxSize
+  pub few : length before + length front ≤ maxPool
 
 -- what the arrays hold once `picked` are picked
 pub record Holds (before front lines picked : List ℕ) (counts waits : List ℕ) (taken : List Bool) : Type 0 where
   pub counted : (l : ℕ) → countOf counts l ≡ nicheCount (lineIn lines) (before ++ picked) l
   pub waiting : Awaits front lines taken waits
   pub marks : (i : ℕ) → i < length front → getD taken i false ≡ has picked (memberAt front i)
-  pub sizes : (length counts ≡ maxLines) × (length waits ≡ maxLines) × (length taken ≡ maxSize)
+  pub sizes : (length counts ≡ maxLines) × (length waits ≡ maxLines) × (length taken ≡ maxPool)
 
 -- ---- at first
 
@@ -48,12 +48,12 @@ all-wait front lines n l =
 
 pub holds-first : (before front lines counts waits : List ℕ)
     → ((l : ℕ) → countOf counts l ≡ nicheCount (lineIn lines) before l) → ((l : ℕ) → countOf waits l ≡ nicheCount (lineIn lines) front l)
-    → length counts ≡ maxLines → length waits ≡ maxLines → Holds before front lines [] counts waits (replicate maxSize false)
+    → length counts ≡ maxLines → length waits ≡ maxLines → Holds before front lines [] counts waits (replicate maxPool false)
 holds-first before front lines counts waits a b c d = record {
   counted = λ l. a l ∙ ap (λ t. nicheCount (lineIn lines) t l) (sym (append-nil before));
-  waiting = λ l. b l ∙ all-wait front lines maxSize l;
-  marks = λ i u. replicate-at false maxSize i ∙ sym (has-nil (memberAt front i));
-  sizes = (c, d, length-replicate maxSize false);
+  waiting = λ l. b l ∙ all-wait front lines maxPool l;
+  marks = λ i u. replicate-at false maxPool i ∙ sym (has-nil (memberAt front i));
+  sizes = (c, d, length-replicate maxPool false);
 }
 
 -- ---- the next pick

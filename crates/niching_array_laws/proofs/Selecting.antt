@@ -8,7 +8,7 @@ use lib.Ieee.{Float}
 use lib.ListN.{length, set, take, drop, replicate, length-drop}
 use lib.Seq.{getD-take, getD-drop, length-take-le}
 use Rattle.model.specs.Lists.{over}
-use Rattle.model.specs.Refusal.{maxSize, maxLines}
+use Rattle.model.specs.Refusal.{maxPool, maxLines}
 use Rattle.model.specs.Draw.{Drawn, drawn, inTurn}
 use Rattle.model.specs.Kept.{nicheCount, pickOne, picks}
 use Rattle.list_laws.proofs.Draws.{drawAll-length}
@@ -30,7 +30,7 @@ pub record Selecting (before front lines : List ℕ) (distances : List Float) (n
 pub selecting-first : (before front lines : List ℕ) (distances : List Float) (n s : ℕ) (old counts waits : List ℕ)
     → ((l : ℕ) → countOf counts l ≡ nicheCount (lineIn lines) before l) → ((l : ℕ) → countOf waits l ≡ nicheCount (lineIn lines) front l)
     → length counts ≡ maxLines → length waits ≡ maxLines
-    → Selecting before front lines distances n s old 0 counts waits (replicate maxSize false) old s
+    → Selecting before front lines distances n s old 0 counts waits (replicate maxPool false) old s
 unfolding inTurn
 selecting-first before front lines distances n s old counts waits a b c d = record {
   holds = holds-first before front lines counts waits a b c d;

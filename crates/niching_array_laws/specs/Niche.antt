@@ -10,7 +10,7 @@ use lib.ListN.{length, getD, set, take, drop}
 use Rattle.model.specs.Lists.{keepBelow, countBelow, bestFrom, Distinct, over}
 use Rattle.model.specs.Draw.{Drawn, drawn}
 use Rattle.model.specs.Kept.{picks, pickFrom}
-use Rattle.model.specs.Refusal.{maxSize, maxLines}
+use Rattle.model.specs.Refusal.{maxPool, maxLines}
 
 -- the line of a plan, and its distance from that line
 abbrev pub lineIn : List ℕ → ℕ → ℕ
@@ -115,7 +115,7 @@ pub record Ready (front lines : List ℕ) (distances : List Float) (n : ℕ) (co
   pub measured : Measured front distances
   pub counted : n ≤ length counts
   pub awaited : n ≤ length waits
-  pub few : (l : ℕ) → countOf counts l < maxSize
+  pub few : (l : ℕ) → countOf counts l < maxPool
   pub waiting : Awaits front lines taken waits
   pub some : (i : ℕ) × (i < length front) × (getD taken i false ≡ false)
 
@@ -142,7 +142,7 @@ pub record Took (front lines : List ℕ) (distances : List Float) (n s : ℕ) (c
 pub record Splits (order : List ℕ) (start end : ℕ) (lines : List ℕ) (distances : List Float) (n vacant : ℕ) (picked : List ℕ) : Type 0 where
   pub ahead : start ≤ end
   pub inside : end ≤ length order
-  pub few : end ≤ maxSize
+  pub few : end ≤ maxPool
   pub narrow : n ≤ maxLines
   pub plans : (i : ℕ) → i < end → (memberAt order i < length lines) × (memberAt order i < length distances) × (lineIn lines (memberAt order i) < n)
   pub different : Distinct (take (end - start) (drop start order))

@@ -6,29 +6,29 @@ ghost use lib.ListN.{length};
 ghost use Rattle.model.specs.Lists.{countBelow, keepBelow};
 ghost use Rattle.model.specs.Draw.{drawn};
 ghost use Rattle.model.specs.Kept.{leastLines, drawFrom};
-ghost use Rattle.model.specs.Refusal.{maxSize};
+ghost use Rattle.model.specs.Refusal.{maxPool};
 ghost use Rattle.niching_array_laws.specs.Niche.{countOf, hasWaiting, isLeast, openCount, leastBelow, Kth, Open};
-use model::MAX_PLANS;
+use model::MAX_POOL;
 use model::Rng;
 use rng_util::DrawnUsize;
 
 // The niche count of line l, if that has waiting members; otherwise a number that no count reaches.
 fn open_count(counts: &[usize], waits: &[usize], l: usize) -> usize
     requires { ⌜ (l < length (now counts)) × (l < length (now waits)) ⌝ }
-    ensures { λ r. ⌜ r ≡ openCount maxSize (now (counts .entry)) (now (waits .entry)) l ⌝ }
+    ensures { λ r. ⌜ r ≡ openCount maxPool (now (counts .entry)) (now (waits .entry)) l ⌝ }
 {
     if 0 < waits[l] {
         return counts[l];
     }
-    MAX_PLANS
+    MAX_POOL
 }
 
 // The least niche count of the lines with waiting members.
 fn least_count(counts: &[usize], waits: &[usize], n: usize) -> usize
     requires { ⌜ (n ≤ length (now counts)) × (n ≤ length (now waits)) ⌝ }
-    ensures { λ r. ⌜ r ≡ leastBelow maxSize (now (counts .entry)) (now (waits .entry)) n ⌝ }
+    ensures { λ r. ⌜ r ≡ leastBelow maxPool (now (counts .entry)) (now (waits .entry)) n ⌝ }
 {
-    let mut least = MAX_PLANS;
+    let mut least = MAX_POOL;
     let mut l = 0;
     while l < n {
         let c = open_count(counts, waits, l);
@@ -89,7 +89,7 @@ fn nth_least(counts: &[usize], waits: &[usize], least: usize, n: usize, k: usize
 
 // One line, drawn among those with the least niche count of the lines with waiting members.
 pub fn choose_line(rng: Rng, counts: &[usize], waits: &[usize], n: usize) -> DrawnUsize
-    requires { ⌜ (n ≤ length (now counts)) × (n ≤ length (now waits)) × ((l : ℕ) → countOf (now counts) l < maxSize)
+    requires { ⌜ (n ≤ length (now counts)) × (n ≤ length (now waits)) × ((l : ℕ) → countOf (now counts) l < maxPool)
         × ((l : ℕ) × Open (now waits) n l) ⌝ }
     ensures { λ r. ⌜ Open (now (waits .entry)) n (r .value)
         × (drawn (r .value) (r .rng .s) ≡ drawFrom (leastLines (countOf (now (counts .entry))) (keepBelow (hasWaiting (now (waits .entry))) n)) (rng .s)) ⌝ }

@@ -7,8 +7,9 @@ ghost use Rattle.model.specs.Calls.{wordRequest, lent, roomOf, selectExit, sele
 ghost use Rattle.nsga3_laws.specs.Admitted.{Admitted};
 ghost use Rattle.nsga3.specs.Handed.{SortedPool, Hands};
 use front_cut::Cut;
-use model::MAX_PLANS;
-use model::MAX_VALUES;
+use model::MAX_POOL;
+use model::MAX_ROW_VALUES;
+use model::MAX_TABLE_VALUES;
 use model::Outcome;
 use model::Rng;
 use model::Selection;
@@ -38,9 +39,9 @@ fn select_split(
     let m = directions.len();
     let whole = cut.whole;
     let end = cut.end;
-    let mut table: [f64; MAX_VALUES] = [0.0; MAX_VALUES];
+    let mut table: [f64; MAX_TABLE_VALUES] = [0.0; MAX_TABLE_VALUES];
     let n_lines = das_dennis::das_dennis(m, divisions, &mut table);
-    let mut distances: [f64; MAX_PLANS] = [0.0; MAX_PLANS];
+    let mut distances: [f64; MAX_POOL] = [0.0; MAX_POOL];
     association::associate(rows, n, m, &table, n_lines, ideal, lines, &mut distances);
     nsga3_parts::copy_first(order, whole, kept);
     niching::niching_select(
@@ -115,9 +116,9 @@ fn select(
         (lent (now (kept .entry)) (now (fronts .entry)) (now (lines .entry))) ⌝ }
 {
     let n = plans::plan_count(pool);
-    let mut rows: [f64; MAX_VALUES] = [0.0; MAX_VALUES];
+    let mut rows: [f64; MAX_ROW_VALUES] = [0.0; MAX_ROW_VALUES];
     plan_rows::fill_rows(pool, directions, n, &mut rows);
-    let mut order: [usize; MAX_PLANS] = [0; MAX_PLANS];
+    let mut order: [usize; MAX_POOL] = [0; MAX_POOL];
     let cut = pool_sort::sort_pool(pool, directions, size, &rows, &mut order, fronts);
     let rng = fill_kept(
         pool,

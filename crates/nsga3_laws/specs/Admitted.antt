@@ -5,7 +5,7 @@ use mathlib.Core.Bool.{true}
 use lib.ListN.{length}
 use Rattle.model.specs.Association.{Request, objectives, lineCount}
 use Rattle.model.specs.Plan.{maxObjectives}
-use Rattle.model.specs.Refusal.{Room, maxSize, maxLines, goodPlans}
+use Rattle.model.specs.Refusal.{Room, maxSize, maxPool, maxLines, goodPlans}
 
 -- each limit that it keeps
 pub record Admitted (r : Request) (room : Room) : Type 0 where
@@ -16,7 +16,7 @@ pub record Admitted (r : Request) (room : Room) : Type 0 where
   pub someLines : 0 < lineCount r
   pub fewLines : lineCount r ≤ maxLines
   pub somePlans : 0 < r .count
-  pub fewPlans : r .count ≤ maxSize
+  pub fewPlans : r .count ≤ maxPool
   pub few : r .size ≤ maxSize
   pub good : goodPlans (objectives r) (r .plans) (r .count) ≡ true
   pub ideal : length (r .ideal) ≡ objectives r

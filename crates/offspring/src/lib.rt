@@ -8,7 +8,7 @@ ghost use lib.ListN.{length, getD, take};
 ghost use Rattle.model.specs.Lists.{over};
 ghost use Rattle.model.specs.Plan.{planAt, planCount};
 ghost use Rattle.model.specs.Setting.{parentsOf, offspringOf, wordsOf, operatorsIn, dimensionsOf};
-ghost use Rattle.model.specs.Refusal.{badDimensions, badOperators};
+ghost use Rattle.model.specs.Refusal.{maxSize, badDimensions, badOperators};
 ghost use lib.Seq.{sets};
 ghost use Rattle.settings.specs.Candidate.{settingsOf, parentsIn};
 use model::DimensionInfo;
@@ -78,7 +78,7 @@ pub fn write_offspring(
     requires { ⌜ (0 < count) × (count * operators .«n_dims» ≤ length (now parents)) × (count ≤ length (now ranks))
         × (badDimensions (operatorsIn operators .dims) (operators .«n_dims») ≡ false)
         × (badOperators (operators .«crossover_prob») (operators .«crossover_eta») (operators .«mutation_eta») ≡ false)
-        × (size * operators .«n_dims» ≤ length (now offspring)) × (size ≤ 1024) ⌝ }
+        × (size * operators .«n_dims» ≤ length (now offspring)) × (size ≤ maxSize) ⌝ }
     ensures words { λ _. ⌜ now (offspring .exit)
         ≡ over (wordsOf (offspringOf (operatorsIn operators) (parentsIn (operatorsIn operators .dims) (operators .«n_dims») (now (parents .entry)) count)
         (λ i. getD (now (ranks .entry)) i 0) size (rng .s) .value)) (now (offspring .entry)) ⌝ }

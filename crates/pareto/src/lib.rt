@@ -1,11 +1,11 @@
 // Non-dominated fronts (Rust: pareto.rs), over flat rows in minimise-space: row p has m entries and starts at p * m.
-use model::MAX_PLANS;
+use model::MAX_POOL;
 ghost use mathlib.Core.Path.{_≡_};
 ghost use Prim.Native.Nat.{_*_, _≤_};
 ghost use lib.Dec.{eqb};
 ghost use lib.ListN.{length, getD};
 ghost use Rattle.model.specs.Lists.{listBelow, over};
-ghost use Rattle.model.specs.Refusal.{maxSize};
+ghost use Rattle.model.specs.Refusal.{maxPool};
 ghost use Rattle.model.specs.Row.{minimised};
 ghost use Rattle.list_laws.specs.Put.{Picked};
 ghost use Rattle.front_laws.specs.Flat.{flatDominates, flatBeats, Pool, KnownRows};
@@ -52,12 +52,12 @@ pub fn fast_non_dominated_sort_constrained(
     rank: &mut [usize],
     ends: &mut [usize],
 ) -> usize
-    requires { ⌜ Pool (now rows) m (now feasible) (now violations) n × KnownRows (now rows) m n × (n ≤ maxSize)
+    requires { ⌜ Pool (now rows) m (now feasible) (now violations) n × KnownRows (now rows) m n × (n ≤ maxPool)
         × (n ≤ length (now order)) × (n ≤ length (now rank)) × (n ≤ length (now ends)) ⌝ }
     ensures { λ r. ⌜ Sorted (flatBeats (now (rows .entry)) m (now (feasible .entry)) (now (violations .entry))) n
         (now (order .entry)) (now (order .exit)) (now (rank .entry)) (now (rank .exit)) (now (ends .entry)) (now (ends .exit)) r ⌝ }
 {
-    let mut counts: [usize; MAX_PLANS] = [0; MAX_PLANS];
+    let mut counts: [usize; MAX_POOL] = [0; MAX_POOL];
     dominator_counts::count_all(rows, m, feasible, violations, n, &mut counts);
     let mut start = 0;
     let mut end = first_front(n, &counts, order);
@@ -93,12 +93,12 @@ pub fn fast_non_dominated_sort(
     rank: &mut [usize],
     ends: &mut [usize],
 ) -> usize
-    requires { ⌜ (n * m ≤ length (now rows)) × KnownRows (now rows) m n × (n ≤ maxSize)
+    requires { ⌜ (n * m ≤ length (now rows)) × KnownRows (now rows) m n × (n ≤ maxPool)
         × (n ≤ length (now order)) × (n ≤ length (now rank)) × (n ≤ length (now ends)) ⌝ }
     ensures { λ r. ⌜ Sorted (flatDominates (now (rows .entry)) m) n
         (now (order .entry)) (now (order .exit)) (now (rank .entry)) (now (rank .exit)) (now (ends .entry)) (now (ends .exit)) r ⌝ }
 {
-    let feasible = [true; MAX_PLANS];
-    let violations = [0.0; MAX_PLANS];
+    let feasible = [true; MAX_POOL];
+    let violations = [0.0; MAX_POOL];
     fast_non_dominated_sort_constrained(rows, m, &feasible, &violations, n, order, rank, ends)
 }

@@ -8,10 +8,10 @@ use lib.Ieee.{Float, nan, isNan}
 use lib.ListN.{length}
 use Rattle.model.specs.Plan.{Plan, planAt, planCount, maxObjectives, maxConstraints}
 use Rattle.model.specs.Row.{feasible, violation}
-use Rattle.model.specs.Refusal.{maxSize, goodPlan}
+use Rattle.model.specs.Refusal.{maxPool, goodPlan}
 use Rattle.list_laws.proofs.Built.{over-below}
 use Rattle.list_laws.proofs.Checks.{good-length, good-constraints}
-use Rattle.list_laws.proofs.Rows.{few-values}
+use Rattle.list_laws.proofs.Limits.{row-values}
 use Rattle.list_laws.proofs.Tests.{allBelow-each}
 use Rattle.front_laws.specs.Flat.{KnownRows, KnownPlans, RowsOf, FlatOf}
 use Rattle.front_laws.proofs.Plans.{in-words, words-accepted, accepted-known}
@@ -23,13 +23,13 @@ module _ {pool marks : List ℕ} (g : GoodPool pool marks) {n : ℕ} (e : n ≡ 
   good-at : (p : ℕ) → p < n → goodPlan (length marks) (planAt pool p) ≡ true
   good-at p l = allBelow-each (λ q. goodPlan (length marks) (planAt pool q)) (planCount pool) (g .good) p (omega (arith, e))
 
-  pub few-plans : n ≤ maxSize
+  pub few-plans : n ≤ maxPool
   few-plans = omega (arith, e, g .few)
 
-  -- what `fill_rows` and `fill_constraints` ask, with room for 1,024 rows of 8 values
-  pub rows-asked : ((n ≤ planCount pool) × (length marks ≤ maxObjectives) × (n * length marks ≤ 8192)) × ((p : ℕ) → p < n → length marks ≤ planAt pool p .rowLength)
+  -- what `fill_rows` and `fill_constraints` ask, with room for the rows of a pool
+  pub rows-asked : ((n ≤ planCount pool) × (length marks ≤ maxObjectives) × (n * length marks ≤ maxPool * maxObjectives)) × ((p : ℕ) → p < n → length marks ≤ planAt pool p .rowLength)
   rows-asked = (
-    (omega (arith, e), g .narrow, few-values n (length marks) few-plans (g .narrow)),
+    (omega (arith, e), g .narrow, row-values n (length marks) few-plans (g .narrow)),
     λ p l. omega (arith, good-length (length marks) (planAt pool p) (good-at p l)),
   )
 

@@ -9,12 +9,12 @@ use lib.Seq.{sets}
 use Rattle.model.specs.Lists.{listBelow, over}
 use Rattle.model.specs.Plan.{Plan, planAt, planCount, maxObjectives}
 use Rattle.model.specs.Row.{rowOf, feasible, violation}
-use Rattle.model.specs.Refusal.{maxSize, goodPlans}
+use Rattle.model.specs.Refusal.{maxPool, goodPlans}
 use Rattle.list_laws.specs.Rows.{flatRows}
 
 -- a pool of words within its limits, whose plans pass refusal 8
 pub record GoodPool (pool marks : List ℕ) : Type 0 where
-  pub few : planCount pool ≤ maxSize
+  pub few : planCount pool ≤ maxPool
   pub narrow : length marks ≤ maxObjectives
   pub good : goodPlans (length marks) (planAt pool) (planCount pool) ≡ true
 

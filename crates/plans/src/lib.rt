@@ -1,9 +1,11 @@
-// The plans of a lent slice of words, a block of PLAN_WORDS words each: how many there are, and the refusals that look at directions, plans and the ideal (2, 7 and 8).
+// The plans of a lent slice of words, a block of PLAN_WORDS words each: how many there are, and the refusals that look at directions, a size, plans and the ideal
+// (2, 3, 7 and 8).
 use model::CONSTRAINT_COUNT;
 use model::CONSTRAINTS;
 use model::MAX_CONSTRAINTS;
 use model::MAX_OBJECTIVES;
-use model::MAX_PLANS;
+use model::MAX_POOL;
+use model::MAX_SIZE;
 use model::PLAN_WORDS;
 use model::ROW_LENGTH;
 use model::VALUES;
@@ -14,7 +16,7 @@ ghost use lib.ListN.{length, getD};
 ghost use Rattle.model.specs.Lists.{allBelow};
 ghost use Rattle.model.specs.Real.{real};
 ghost use Rattle.model.specs.Plan.{planAt, planCount, maxObjectives};
-ghost use Rattle.model.specs.Refusal.{badDirections, measurable, goodEntry, badCount, goodIdeal, goodPlan, goodPlans};
+ghost use Rattle.model.specs.Refusal.{badDirections, measurable, goodEntry, badSize, badCount, goodIdeal, goodPlan, goodPlans};
 
 // 2^1000, the greatest magnitude of a value or a constraint.
 const LIMIT: f64 = 1.0715086071862673e301;
@@ -135,14 +137,24 @@ fn good_plans(pool: &[u64], n: usize, m: usize) -> bool
     true
 }
 
-// Refusal 7 for a pool of n plans: there is none, or there are more than 1,024.
+// Refusal 3 for a size: no plan is wanted, or there are more than MAX_SIZE.
+pub fn bad_size(size: usize) -> bool
+    ensures { λ r. ⌜ r ≡ badSize size ⌝ }
+{
+    if size == 0 {
+        return true;
+    }
+    MAX_SIZE < size
+}
+
+// Refusal 7 for a pool of n plans: there is none, or there are more than MAX_POOL.
 pub fn bad_count(n: usize) -> bool
     ensures { λ r. ⌜ r ≡ badCount n ⌝ }
 {
     if n == 0 {
         return true;
     }
-    MAX_PLANS < n
+    MAX_POOL < n
 }
 
 // Refusal 8 for a pool and its ideal.

@@ -4,12 +4,13 @@ ghost use Prim.Native.Nat.{_≤_, _<_};
 ghost use lib.ListN.{length, replicate};
 ghost use Rattle.model.specs.Real.{infinity};
 ghost use Rattle.model.specs.Plan.{maxObjectives};
-ghost use Rattle.model.specs.Refusal.{maxSize};
+ghost use Rattle.model.specs.Refusal.{maxPool};
 ghost use Rattle.model.specs.Calls.{wordRequest, Chooses};
 ghost use Rattle.pool_laws.specs.Choice.{exit, listExit};
 use model::Chosen;
 use model::MAX_OBJECTIVES;
-use model::MAX_PLANS;
+use model::MAX_POOL;
+use model::MAX_SIZE;
 use model::Outcome;
 use model::PLAN_WORDS;
 use model::POOL_WORDS;
@@ -32,9 +33,9 @@ fn choose_words(
 {
     let m = directions.len();
     let mut ideal: [f64; MAX_OBJECTIVES] = [1.0 / 0.0; MAX_OBJECTIVES];
-    let mut kept: [usize; MAX_PLANS] = [0; MAX_PLANS];
-    let mut fronts: [usize; MAX_PLANS] = [0; MAX_PLANS];
-    let mut lines: [usize; MAX_PLANS] = [0; MAX_PLANS];
+    let mut kept: [usize; MAX_SIZE] = [0; MAX_SIZE];
+    let mut fronts: [usize; MAX_POOL] = [0; MAX_POOL];
+    let mut lines: [usize; MAX_POOL] = [0; MAX_POOL];
     let selection = nsga3::nsga3_select(
         pool,
         directions,
@@ -61,9 +62,9 @@ fn choose_words(
 
 // How many of a file's plans have words: all, or of too many none. A pool of none meets the refusal that too many meet: 7, or one that comes before it.
 fn plans_stored(count: usize) -> usize
-    ensures { λ r. ⌜ (r ≤ maxSize) × (count ≤ maxSize → r ≡ count) × (maxSize < count → r ≡ 0) ⌝ }
+    ensures { λ r. ⌜ (r ≤ maxPool) × (count ≤ maxPool → r ≡ count) × (maxPool < count → r ≡ 0) ⌝ }
 {
-    if MAX_PLANS < count { 0 } else { count }
+    if MAX_POOL < count { 0 } else { count }
 }
 
 // The text that a pool file asks for, at the front of the slice lent: the listing, or the number of the refusal with nothing written.

@@ -9,7 +9,7 @@ ghost use mathlib.Core.Path.{_≡_};
 ghost use Prim.Native.Nat.{_*_, _≤_};
 ghost use lib.ListN.{length};
 ghost use Rattle.model.specs.Plan.{planWords, maxObjectives};
-ghost use Rattle.model.specs.Refusal.{maxSize};
+ghost use Rattle.model.specs.Refusal.{maxPool};
 ghost use Rattle.pool_plans.specs.Blocks.{WordsIs};
 ghost use Rattle.pool_file.specs.Parsing.{capped, HeadingIs, PoolIs};
 
@@ -85,7 +85,7 @@ fn read_header(file: &[u8]) -> Heading
 // The whole file: its header, its first 8 direction marks, and each plan of a pool that is not too large in its block.
 // What breaks the form anywhere, ends early, runs on or is too long is Broken.
 pub fn parse_pool(file: &[u8], directions: &mut [u8], pool: &mut [u64]) -> Parsed
-    requires { ⌜ (maxObjectives ≤ length (now directions)) × (maxSize * planWords ≤ length (now pool)) ⌝ }
+    requires { ⌜ (maxObjectives ≤ length (now directions)) × (maxPool * planWords ≤ length (now pool)) ⌝ }
     ensures { λ r. ⌜ PoolIs (now (file .entry)) (now (directions .exit)) (now (pool .exit)) r ⌝ }
 {
     if MAX_FILE < file.len() {

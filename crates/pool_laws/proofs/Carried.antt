@@ -16,7 +16,7 @@ use Rattle.model.specs.Real.{infinity}
 use Rattle.model.specs.Plan.{Plan, planOf, planAt, planCount, planWords, maxObjectives, maxConstraints}
 use Rattle.model.specs.Association.{Request, objectives}
 use Rattle.model.specs.PoolFile.{PoolFile, noPlan, fileRequest}
-use Rattle.model.specs.Refusal.{Room, maxSize, badDirections, badDivisions, badPool, goodPlan, goodPlans, goodIdeal, noRoom, selectRefusal}
+use Rattle.model.specs.Refusal.{Room, maxPool, badDirections, badDivisions, badPool, goodPlan, goodPlans, goodIdeal, noRoom, selectRefusal}
 use Rattle.model.specs.Calls.{wordRequest}
 use Rattle.list_laws.proofs.Checks.{pool-plan, good-constraints}
 use Rattle.list_laws.proofs.Bools.{by-bool, and-left, and-right, or-right}
@@ -139,8 +139,8 @@ module _ (file : List ℕ) (h : Header) (directions pool : List ℕ) (w : Pool f
   pub four-same : badDivisions (length (take (h .m) directions)) (h .divisions) ≡ badDivisions (length (w .values)) (h .divisions)
   four-same = ap (λ (k : ℕ). badDivisions k (h .divisions)) marks-length
 
-module _ (file : List ℕ) (h : Header) (directions pool : List ℕ) (w : Pool file h directions pool) (few : h .m ≤ maxObjectives) (small : h .count ≤ maxSize)
-    (room : maxSize * planWords ≤ length pool) where
+module _ (file : List ℕ) (h : Header) (directions pool : List ℕ) (w : Pool file h directions pool) (few : h .m ≤ maxObjectives) (small : h .count ≤ maxPool)
+    (room : maxPool * planWords ≤ length pool) where
   abbrev f : PoolFile
   f = fileOf h (w .values) (w .read)
 

@@ -15,7 +15,7 @@ use Rattle.model.specs.Lists.{listBelow, joinBelow, firstBelow, In, Distinct}
 use Rattle.model.specs.Kept.{Selected, noLine}
 use Rattle.model.specs.PoolFile.{ascii, digitsOf, decimal, lineText, placeOf, planText, listingText}
 use Rattle.model.specs.Calls.{Listable}
-use Rattle.model.specs.Refusal.{maxSize}
+use Rattle.model.specs.Refusal.{maxLines}
 use Rattle.list_laws.proofs.Bools.{by-bool}
 use Rattle.list_laws.proofs.Members.{getD-in}
 use Rattle.pool_laws.specs.Text.{listed, fieldsText, plansWord, keptWord}
@@ -91,7 +91,7 @@ dash-not n h e =
     let c : _≡_ {A = ℕ} 45 48 = cc in
     omega arith
 
-line-same : (l m : ℕ) → (l ≤ maxSize) ⊎ (l ≡ noLine) → (m ≤ maxSize) ⊎ (m ≡ noLine) → lineText l ≡ lineText m → l ≡ m
+line-same : (l m : ℕ) → (l ≤ maxLines) ⊎ (l ≡ noLine) → (m ≤ maxLines) ⊎ (m ≡ noLine) → lineText l ≡ lineText m → l ≡ m
 unfolding lineText
 line-same l m h g e = by-bool (eqb l noLine)
     (λ u. by-bool (eqb m noLine)
@@ -101,7 +101,7 @@ line-same l m h g e = by-bool (eqb l noLine)
     (λ v. absurd (dash-not l (below l h u) (sym (rw (u, v) at e))))
     (λ v. decimal-same l m (below l h u) (below m g v) (rw (u, v) at e)))
   where
-    below : (k : ℕ) → (k ≤ maxSize) ⊎ (k ≡ noLine) → eqb k noLine ≡ false → k < 10000
+    below : (k : ℕ) → (k ≤ maxLines) ⊎ (k ≡ noLine) → eqb k noLine ≡ false → k < 10000
     below k s f = ⊎-elim (λ a. omega arith) (λ a. absurd (eqb-false k noLine f a)) s
 
 -- ---- a plan's line

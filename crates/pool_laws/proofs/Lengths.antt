@@ -1,4 +1,4 @@
--- No listing is longer than 20,501 bytes: a header of 21, and 1,024 lines of 20.
+-- No listing is longer than a header of 21 bytes and a line of 20 for each plan of a pool.
 use Prim.Native.Nat.{ℕ, zero, suc, _*_, _≤_, _<_}
 use mathlib.Core.Path.{_≡_}
 use mathlib.Core.Logic.{_⊎_, ⊎-elim}
@@ -8,17 +8,17 @@ use lib.ListN.{length, getD, length-append}
 use Rattle.model.specs.Lists.{joinBelow}
 use Rattle.model.specs.Kept.{Selected, noLine}
 use Rattle.model.specs.PoolFile.{lineText, placeOf, headerText, planText, listingText, refusedText}
-use Rattle.model.specs.Refusal.{maxSize}
+use Rattle.model.specs.Refusal.{maxSize, maxPool, maxLines}
 use Rattle.model.specs.Calls.{maxText, Listable}
 use Rattle.pool_laws.specs.Text.{fieldsText}
 use Rattle.pool_laws.proofs.Decimals.{decimal-four, line-by}
 use Rattle.pool_laws.proofs.Places.{place-le}
 use Rattle.pool_laws.proofs.Listing.{header-text, plan-text, refused-text}
 
-line-four : (l : ℕ) → (l ≤ maxSize) ⊎ (l ≡ noLine) → length (lineText l) ≤ 4
+line-four : (l : ℕ) → (l ≤ maxLines) ⊎ (l ≡ noLine) → length (lineText l) ≤ 4
 line-four l h = line-by (λ t. length t ≤ 4) l (omega arith) (λ z. decimal-four l (⊎-elim (λ u. omega arith) (λ u. absurd (z u)) h))
 
-header-short : (count kept : ℕ) → count ≤ maxSize → kept ≤ maxSize → length (headerText count kept) ≤ 21
+header-short : (count kept : ℕ) → count ≤ maxPool → kept ≤ maxSize → length (headerText count kept) ≤ 21
 header-short count kept h g =
     let a = decimal-four count (omega arith) in
     let b = decimal-four kept (omega arith) in

@@ -1,4 +1,4 @@
--- The listing of a selection that is accepted is at most 20,501 bytes long, so a slice of that length has room for it.
+-- The listing of a selection that is accepted is at most `maxText` bytes long, so a slice of that length has room for it.
 use Prim.Native.Nat.{ℕ, _≤_, _<_}
 use mathlib.Core.Path.{_≡_, ap}
 use mathlib.Core.Bool.{Bool}
@@ -10,7 +10,7 @@ use Rattle.model.specs.Front.{front, frontOf, frontList}
 use Rattle.model.specs.Association.{Request, lineCount, dominance, lineOf}
 use Rattle.model.specs.Kept.{selected, selectedSplit, selectedWhole, noLine}
 use Rattle.model.specs.PoolFile.{requestText}
-use Rattle.model.specs.Refusal.{maxSize}
+use Rattle.model.specs.Refusal.{maxSize, maxPool, maxLines}
 use Rattle.model.specs.Calls.{maxText, Listable}
 use Rattle.list_laws.proofs.First.{firstBelow-le}
 use Rattle.list_laws.proofs.Built.{listBelow-at}
@@ -24,14 +24,14 @@ front-le d n p h = rw (listBelow-at (frontOf d n) n 0 p h) (firstBelow-le (λ k.
 
 -- ---- the numbers of a selection are small
 
-module _ (r : Request) (size : r .size ≤ maxSize) (count : r .count ≤ maxSize) (some : 0 < lineCount r) (lines : lineCount r ≤ maxSize) where
-  fronts-small : (p : ℕ) → p < r .count → getD (selected r .fronts) p 0 ≤ maxSize
+module _ (r : Request) (size : r .size ≤ maxSize) (count : r .count ≤ maxPool) (some : 0 < lineCount r) (lines : lineCount r ≤ maxLines) where
+  fronts-small : (p : ℕ) → p < r .count → getD (selected r .fronts) p 0 ≤ maxPool
   fronts-small p h = omega (arith, ap (λ l. getD l p 0) (fronts-all r), front-le (dominance r) (r .count) p h)
 
-  lines-small : (p : ℕ) → p < r .count → (getD (selected r .lines) p 0 ≤ maxSize) ⊎ (getD (selected r .lines) p 0 ≡ noLine)
+  lines-small : (p : ℕ) → p < r .count → (getD (selected r .lines) p 0 ≤ maxLines) ⊎ (getD (selected r .lines) p 0 ≡ noLine)
   unfolding selectedSplit selectedWhole
   lines-small p h =
-      by-split r (λ s. (getD (s .lines) p 0 ≤ maxSize) ⊎ (getD (s .lines) p 0 ≡ noLine))
+      by-split r (λ s. (getD (s .lines) p 0 ≤ maxLines) ⊎ (getD (s .lines) p 0 ≡ noLine))
       (inl (omega (arith, listBelow-at (lineOf r) (r .count) 0 p h, lineOf-inside r p some)))
       (inr (getD-replicate (r .count) p noLine 0 h))
 

@@ -1,4 +1,4 @@
--- A file's refusal is its request's: 1,024 entries are room for every list that is handed out, so only the text can meet 10.
+-- A file's refusal is its request's: there is room for every list that is handed out, so only the text can meet 10.
 use Prim.Native.Nat.{ℕ, _<_}
 use mathlib.Core.Path.{_≡_, refl, ap, sym, _∙_}
 use mathlib.Core.Bool.{Bool, true, false, cond, or-true, true≢false}
@@ -10,15 +10,15 @@ use lib.ListN.{length}
 use Rattle.model.specs.declared.Chosen.the-variants as chosen
 use Rattle.model.specs.Association.{Request, objectives}
 use Rattle.model.specs.PoolFile.{PoolFile, fileRequest, fileText, requestText}
-use Rattle.model.specs.Refusal.{check, firstOf, maxSize, badDirections, badSize, badDivisions, badCount, badPool, noRoom, selectRefusal, fileRefusal}
+use Rattle.model.specs.Refusal.{check, firstOf, maxSize, maxPool, badDirections, badSize, badDivisions, badCount, badPool, noRoom, selectRefusal, fileRefusal}
 use Rattle.list_laws.proofs.Checks.{applies-first}
-use Rattle.demand3_laws.proofs.Passed.{one-to-1024}
+use Rattle.demand3_laws.proofs.Passed.{size-limits, count-limits}
 use Rattle.model.specs.Calls.{chooseBy}
 use Rattle.pool_laws.specs.Choice.{exit, textRefusal, textExit, roomy, firstSome, listRefusal, listExit}
 
 enough : (r : Request) → badSize (r .size) ≡ false → badCount (r .count) ≡ false → noRoom r roomy ≡ false
 unfolding noRoom
-enough r a b = rw (le-ltb maxSize (r .size) (one-to-1024 (r .size) a .1), le-ltb maxSize (r .count) (one-to-1024 (r .count) b .1))
+enough r a b = rw (le-ltb maxSize (r .size) (size-limits (r .size) a .1), le-ltb maxPool (r .count) (count-limits (r .count) b .1))
 
 abbrev six : Bool → Bool → Bool → Bool → Bool → Bool → Option ℕ
 six a b c d e f = firstOf (check 2 a ∷ check 3 b ∷ check 4 c ∷ check 7 d ∷ check 8 e ∷ check 10 f ∷ [])
@@ -54,8 +54,8 @@ directions-first f out e = applies-first _ _ e
 
 -- ---- a pool of too many plans is refused as an empty one is
 
-pub many-plans : (n : ℕ) → maxSize < n → badCount n ≡ true
-many-plans n h = rw (lt-ltb maxSize n h, or-true)
+pub many-plans : (n : ℕ) → maxPool < n → badCount n ≡ true
+many-plans n h = rw (lt-ltb maxPool n h, or-true)
 
 -- where 7 applies, neither a later test nor a text is looked at
 seven-stops : (a b c e f x y : Bool) (o : Option ℕ) (s t out : List ℕ) → chooseBy (firstSome (six a b c true e f) o) s out ≡ chooseBy (six a b c true x y) t out

@@ -1,4 +1,4 @@
--- From a selection's answer to the listing's: 1,024 entries are room for every list that is handed out.
+-- From a selection's answer to the listing's: there is room for every list that is handed out.
 use Prim.Native.Nat.{ℕ, _≤_}
 use mathlib.Core.Path.{_≡_, ap, sym, _∙_}
 use mathlib.Core.List.{List}
@@ -12,7 +12,7 @@ use Rattle.model.specs.Real.{infinity}
 use Rattle.model.specs.Plan.{maxObjectives}
 use Rattle.model.specs.Association.{Request}
 use Rattle.model.specs.Kept.{selected}
-use Rattle.model.specs.Refusal.{maxSize, selectRefusal}
+use Rattle.model.specs.Refusal.{maxSize, maxPool, selectRefusal}
 use Rattle.model.specs.Calls.{Lent, roomOf, SelectExit, selectAccepted, selectBy, selectOf, Selects, maxText, refusedBy}
 use Rattle.nsga3_laws.specs.Admitted.{Admitted}
 use Rattle.nsga3_laws.proofs.Admitted.{admitted}
@@ -66,7 +66,7 @@ module _ {r : Request} {entry : Lent} {x : SelectExit} (p : Selects r entry x) (
     pub few-kept : n ≤ maxSize
     few-kept = omega (arith, limits .few, size)
 
-    pub few-plans : r .count ≤ maxSize
+    pub few-plans : r .count ≤ maxPool
     few-plans = limits .fewPlans
 
     abbrev text : ℕ → List ℕ

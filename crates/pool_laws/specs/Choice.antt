@@ -8,7 +8,7 @@ use lib.ListN.{length}
 use Rattle.model.specs.declared.Chosen.{Chosen}
 use Rattle.model.specs.Association.{Request}
 use Rattle.model.specs.PoolFile.{requestText}
-use Rattle.model.specs.Refusal.{Room, maxSize, selectRefusal}
+use Rattle.model.specs.Refusal.{Room, maxSize, maxPool, selectRefusal}
 use Rattle.model.specs.Calls.{ChooseExit, chooseBy}
 
 abbrev pub exit : Chosen → List ℕ → ChooseExit
@@ -23,7 +23,7 @@ textExit text out = chooseBy (textRefusal text (length out)) text out
 
 -- room for every list that a selection hands out
 abbrev pub roomy : Room
-roomy = record { kept = maxSize; fronts = maxSize; lines = maxSize }
+roomy = record { kept = maxSize; fronts = maxPool; lines = maxPool }
 
 -- the first of two refusals
 abbrev pub firstSome : Option ℕ → Option ℕ → Option ℕ

@@ -8,7 +8,7 @@ use native.Mathlib.Omega.{arith}
 use lib.ListN.{length, getD, drop}
 use Rattle.model.specs.Plan.{Plan, planFrom, planAt, planWords}
 use Rattle.model.specs.PoolFile.{many, plan, noPlan}
-use Rattle.model.specs.Refusal.{maxSize}
+use Rattle.model.specs.Refusal.{maxPool}
 use Rattle.list_laws.proofs.Built.{snoc-each}
 use Rattle.list_laws.proofs.Rows.{row-inside}
 use Rattle.pool_plans.specs.declared.End.{End}
@@ -18,7 +18,7 @@ use Rattle.pool_plans.proofs.Storing.{as-told, reads-none, reads-count,
 use Rattle.pool_plans.proofs.Blocks.{planOf-same}
 
 -- the plan stored last, and those before it
-blocks-more : (i base : ℕ) (l o : List ℕ) (plans : List Plan) (held : Plan) → length plans ≡ i → (i < maxSize → base ≡ i * planWords) → Blocks i l plans
+blocks-more : (i base : ℕ) (l o : List ℕ) (plans : List Plan) (held : Plan) → length plans ≡ i → (i < maxPool → base ≡ i * planWords) → Blocks i l plans
     → Block base l o held → Blocks (i + 1) o (plans ++ (held ∷ []))
 blocks-more i base l o plans held sized place w b h t u =
     let e = place (omega arith) in
@@ -36,7 +36,7 @@ pub plans-stop : (file : List ℕ) (at m : ℕ) (l : List ℕ) (i n p base : ℕ
 plans-stop file at m l i n p base o r h w b e =
     reads-stop (plan m) file at (Blocks i l) i p w n h (as-told (plan m) (Block base l o) file p e b)
 
-pub plans-more : (file : List ℕ) (at m : ℕ) (l : List ℕ) (i p base next : ℕ) (o : List ℕ) (r : End) → (i < maxSize → base ≡ i * planWords) → Plans file at m i l p
+pub plans-more : (file : List ℕ) (at m : ℕ) (l : List ℕ) (i p base next : ℕ) (o : List ℕ) (r : End) → (i < maxPool → base ≡ i * planWords) → Plans file at m i l p
     → BlockIs file p m base l o r → r ≡ end.At next → Plans file at m (i + 1) o next
 plans-more file at m l i p base next o r place w b e =
     let k = as-told (plan m) (Block base l o) file p e b in

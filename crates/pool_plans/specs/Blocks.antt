@@ -8,7 +8,7 @@ use lib.ListN.{getD, set, take, drop}
 use lib.Seq.{sets}
 use Rattle.model.specs.Plan.{Plan, planFrom, planAt, maxObjectives, maxConstraints, planWords}
 use Rattle.model.specs.PoolFile.{Reader, pure, number, many, plan, noPlan}
-use Rattle.model.specs.Refusal.{maxSize}
+use Rattle.model.specs.Refusal.{maxPool}
 use Rattle.pool_plans.specs.declared.End.{End}
 use Rattle.pool_plans.specs.declared.End.the-variants as end
 
@@ -59,7 +59,7 @@ BlockIs file at m base before after = ReadsIs (plan m) (Block base before after)
 
 -- if n plans are no more than a pool holds, each stands in its block
 abbrev pub Blocks : ℕ → List ℕ → List Plan → Type 0
-Blocks n after plans = n ≤ maxSize → (p : ℕ) → p < n → planAt after p ≡ roomed (getD plans p noPlan)
+Blocks n after plans = n ≤ maxPool → (p : ℕ) → p < n → planAt after p ≡ roomed (getD plans p noPlan)
 
 abbrev pub PlansIs : List ℕ → ℕ → ℕ → ℕ → List ℕ → End → Type 0
 PlansIs file at m n after = ReadsIs (many n (plan m)) (Blocks n after) file at

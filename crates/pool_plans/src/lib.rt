@@ -3,7 +3,7 @@ use model::CONSTRAINT_COUNT;
 use model::CONSTRAINTS;
 use model::MAX_CONSTRAINTS;
 use model::MAX_OBJECTIVES;
-use model::MAX_PLANS;
+use model::MAX_POOL;
 use model::PLAN_WORDS;
 use model::ROW_LENGTH;
 use model::SETTING_COUNT;
@@ -14,7 +14,7 @@ ghost use mathlib.Core.Path.{_≡_};
 ghost use Prim.Native.Nat.{_+_, _*_, _<_, _≤_};
 ghost use lib.ListN.{length};
 ghost use Rattle.model.specs.Plan.{planWords};
-ghost use Rattle.model.specs.Refusal.{maxSize};
+ghost use Rattle.model.specs.Refusal.{maxPool};
 ghost use Rattle.pool_plans.specs.Blocks.{WordsIs, counted, BlockIs, PlansIs};
 
 // The place after what was read, or bytes that break the form or end early.
@@ -88,14 +88,14 @@ fn read_plan(file: &[u8], at: usize, m: usize, pool: &mut [u64], base: usize) ->
 
 // Where plan i is stored: in its block, and past a pool's last one anywhere, since such a pool is refused.
 fn block_of(i: usize) -> usize
-    ensures { λ r. ⌜ (r + planWords ≤ maxSize * planWords) × (i < maxSize → r ≡ i * planWords) ⌝ }
+    ensures { λ r. ⌜ (r + planWords ≤ maxPool * planWords) × (i < maxPool → r ≡ i * planWords) ⌝ }
 {
-    if i < MAX_PLANS { i * PLAN_WORDS } else { 0 }
+    if i < MAX_POOL { i * PLAN_WORDS } else { 0 }
 }
 
 // Reads n plans of m values, each into its block. A count that is larger than the bytes left ends at the first plan that is not there.
 pub fn read_plans(file: &[u8], at: usize, m: usize, n: usize, pool: &mut [u64]) -> End
-    requires { ⌜ maxSize * planWords ≤ length (now pool) ⌝ }
+    requires { ⌜ maxPool * planWords ≤ length (now pool) ⌝ }
     ensures { λ r. ⌜ PlansIs (now (file .entry)) at m n (now (pool .exit)) r ⌝ }
 {
     let mut p = at;

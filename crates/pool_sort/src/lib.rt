@@ -9,7 +9,7 @@ ghost use Rattle.model.specs.declared.Rng.{Rng};
 ghost use Rattle.plan_rows.specs.Filled.{GoodPool};
 ghost use Rattle.pool_sort.specs.Laid.{RowsIn, Sorts};
 use front_cut::Cut;
-use model::MAX_PLANS;
+use model::MAX_POOL;
 
 // Lists the pool's plans front by front, with each plan's front, and says where the fronts part for the size.
 pub fn sort_pool(
@@ -27,10 +27,10 @@ pub fn sort_pool(
 {
     let n = plans::plan_count(pool);
     let m = directions.len();
-    let mut feasible: [bool; MAX_PLANS] = [false; MAX_PLANS];
-    let mut violations: [f64; MAX_PLANS] = [0.0; MAX_PLANS];
+    let mut feasible: [bool; MAX_POOL] = [false; MAX_POOL];
+    let mut violations: [f64; MAX_POOL] = [0.0; MAX_POOL];
     plan_rows::fill_constraints(pool, n, &mut feasible, &mut violations);
-    let mut ends: [usize; MAX_PLANS] = [0; MAX_PLANS];
+    let mut ends: [usize; MAX_POOL] = [0; MAX_POOL];
     let count = pareto::fast_non_dominated_sort_constrained(
         rows,
         m,

@@ -8,8 +8,8 @@ ghost use Rattle.model.specs.Plan.{planAt, planCount};
 ghost use Rattle.model.specs.Row.{rowBeats};
 ghost use Rattle.model.specs.Front.{frontList};
 ghost use Rattle.plan_rows.specs.Filled.{GoodPool};
-use model::MAX_PLANS;
-use model::MAX_VALUES;
+use model::MAX_POOL;
+use model::MAX_ROW_VALUES;
 
 // Each plan's front in the pool, by rows only.
 pub fn row_fronts(pool: &[u64], directions: &[u8], fronts: &mut [usize])
@@ -19,9 +19,9 @@ pub fn row_fronts(pool: &[u64], directions: &[u8], fronts: &mut [usize])
 {
     let n = plans::plan_count(pool);
     let m = directions.len();
-    let mut rows: [f64; MAX_VALUES] = [0.0; MAX_VALUES];
+    let mut rows: [f64; MAX_ROW_VALUES] = [0.0; MAX_ROW_VALUES];
     plan_rows::fill_rows(pool, directions, n, &mut rows);
-    let mut order: [usize; MAX_PLANS] = [0; MAX_PLANS];
-    let mut ends: [usize; MAX_PLANS] = [0; MAX_PLANS];
+    let mut order: [usize; MAX_POOL] = [0; MAX_POOL];
+    let mut ends: [usize; MAX_POOL] = [0; MAX_POOL];
     pareto::fast_non_dominated_sort(&rows, m, n, &mut order, fronts, &mut ends);
 }

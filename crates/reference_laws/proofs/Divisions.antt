@@ -8,8 +8,9 @@ use native.Mathlib.Nat.{max-eq-left, max-eq-right, le-of-lt}
 use borrow.Author.Tests.{le-leb, lt-leb, leb-true, ltb-false, not-false}
 use native.Mathlib.Omega.{arith}
 use lib.Dec.{leb, ltb}
-use Rattle.list_laws.proofs.Rows.{few-values}
+use Rattle.list_laws.proofs.Limits.{table-values}
 use Rattle.list_laws.proofs.Bools.{and-left, and-right, or-left, or-right}
+use Rattle.model.specs.Plan.{maxObjectives}
 use Rattle.model.specs.Reference.{pointCount, autoDivisions, divisionsOf, populationSize, orElse}
 use Rattle.model.specs.Refusal.{badDivisions, badSessionDivisions, outsideDivisions, maxLines}
 use Rattle.reference_laws.proofs.First.{auto-first}
@@ -28,7 +29,7 @@ inside-holds h a b = rw (le-leb 1 h a, le-leb h 199 b)
 pub record Allowed (m h : ℕ) : Type 0 where
   pub least : 1 ≤ h
   pub most : h ≤ 199
-  pub lines : pointCount m h ≤ 1024
+  pub lines : pointCount m h ≤ maxLines
 
 pub allowed : (m h : ℕ) → badDivisions m h ≡ false → Allowed m h
 unfolding badDivisions
@@ -36,9 +37,9 @@ allowed m h e =
     let i = inside h (or-left (outsideDivisions h) _ e) in
     record { least = i .0; most = i .1; lines = ltb-false maxLines (pointCount m h) (or-right (outsideDivisions h) _ e) }
 
--- where the test says no, 8,192 entries are room for the table
-pub fits : (m h : ℕ) {b : Bool} → m ≤ 8 → b ≡ badDivisions m h → b ≡ false → (1 ≤ h) × (h ≤ 199) × (pointCount m h * m ≤ 8192)
-fits m h l e f = let w = allowed m h (sym e ∙ f) in (w .least, w .most, few-values (pointCount m h) m (w .lines) l)
+-- where the test says no, the table has room
+pub fits : (m h : ℕ) {b : Bool} → m ≤ maxObjectives → b ≡ badDivisions m h → b ≡ false → (1 ≤ h) × (h ≤ 199) × (pointCount m h * m ≤ maxLines * maxObjectives)
+fits m h l e f = let w = allowed m h (sym e ∙ f) in (w .least, w .most, table-values (pointCount m h) m (w .lines) l)
 
 -- each way that the test goes
 pub bad-below : (m h : ℕ) → h < 1 → true ≡ badDivisions m h
@@ -49,7 +50,7 @@ pub bad-above : (m h : ℕ) → 199 < h → true ≡ badDivisions m h
 unfolding badDivisions
 bad-above m h a = rw (le-leb 1 h (omega arith), lt-leb h 199 a)
 
-pub bad-by-lines : (m h p : ℕ) → 1 ≤ h → h ≤ 199 → p ≡ pointCount m h → ltb 1024 p ≡ badDivisions m h
+pub bad-by-lines : (m h p : ℕ) → 1 ≤ h → h ≤ 199 → p ≡ pointCount m h → ltb maxLines p ≡ badDivisions m h
 unfolding badDivisions
 bad-by-lines m h p a b e = rw (inside-holds h a b, e)
 

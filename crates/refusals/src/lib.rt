@@ -24,7 +24,7 @@ pub fn no_room(size: usize, n: usize, kept: usize, fronts: usize, lines: usize) 
     lines < n
 }
 
-// The first refusal that applies to a selection. A size and a pool's count have the same limits.
+// The first refusal that applies to a selection.
 pub fn refusal(
     pool: &[u64],
     directions: &[u8],
@@ -40,7 +40,7 @@ pub fn refusal(
         (record { kept = kept; fronts = fronts; lines = lines }) ⌝ }
 {
     let n = plans::plan_count(pool);
-    let bad_size = plans::bad_count(size);
+    let bad_size = plans::bad_size(size);
     let bad_count = plans::bad_count(n);
     if plans::bad_directions(directions) {
         return Check::Refused(2);

@@ -1,17 +1,23 @@
 // The answers to the oracle's lines of association: normalisation, the nearest lines, and the distance from a line.
+use model::MAX_POOL;
+use model::MAX_ROW_VALUES;
+use model::MAX_TABLE_VALUES;
 use replay::Words;
 use replay_fronts::Places;
 use replay_values::Reals;
 use replay_values::Rows;
+use replay_values::Table;
 ghost use mathlib.Core.Path.{_≡_};
 ghost use Prim.Native.Nat.{_*_, _≤_};
+ghost use Rattle.model.specs.Plan.{maxObjectives};
+ghost use Rattle.model.specs.Refusal.{maxPool, maxLines};
 
-type Distances = [f64; 1024];
+type Distances = [f64; MAX_POOL];
 
 // The values of n rows of m.
 fn values_of(n: usize, m: usize) -> usize
-    requires { ⌜ n * m ≤ 8192 ⌝ }
-    ensures { λ r. ⌜ (r ≡ n * m) × (r ≤ 8192) ⌝ }
+    requires { ⌜ n * m ≤ maxPool * maxObjectives ⌝ }
+    ensures { λ r. ⌜ (r ≡ n * m) × (r ≤ maxPool * maxObjectives) ⌝ }
 {
     n * m
 }
@@ -26,7 +32,7 @@ fn normalized_of(
     intercepts: &mut Reals,
     normalized: &mut Rows,
 )
-    requires { ⌜ (m ≤ 8) × (n * m ≤ 8192) ⌝ }
+    requires { ⌜ (m ≤ 8) × (n * m ≤ maxPool * maxObjectives) ⌝ }
 {
     normalization::update_ideal_point(rows, n, m, ideal);
     normalization::find_intercepts(rows, n, m, ideal, intercepts);
@@ -35,11 +41,11 @@ fn normalized_of(
 
 // The ideal after, the intercepts, and the normalised rows.
 fn put_normalized(rows: &Rows, n: usize, m: usize, k: usize, start: Reals, out: &mut Words) -> usize
-    requires { ⌜ (m ≤ 8) × (n * m ≤ 8192) ⌝ }
+    requires { ⌜ (m ≤ 8) × (n * m ≤ maxPool * maxObjectives) ⌝ }
 {
     let mut ideal = start;
     let mut intercepts = [0.0; 16];
-    let mut normalized = [0.0; 8192];
+    let mut normalized = [0.0; MAX_ROW_VALUES];
     normalized_of(rows, n, m, &mut ideal, &mut intercepts, &mut normalized);
     let a = replay_values::put_row(out, 0, &ideal, m);
     let b = replay_values::put_row(out, a, &intercepts, m);
@@ -51,13 +57,13 @@ fn normalize(input: &Words, words: usize, m: usize, out: &mut Words) -> usize
     requires { ⌜ (1 ≤ m) × (m ≤ 8) ⌝ }
 {
     let n = replay::word(input, m + m + 2) as usize;
-    if 1024 < n {
+    if MAX_POOL < n {
         return 0;
     }
     let k = values_of(n, m);
     let mut marks = [0u8; 16];
     replay_values::read_marks(input, 2, m, &mut marks);
-    let mut rows = [0.0; 8192];
+    let mut rows = [0.0; MAX_ROW_VALUES];
     let end = replay_fronts::read_rows(input, m + m + 3, m, n, &marks, &mut rows);
     if end != words {
         return 0;
@@ -73,19 +79,19 @@ fn nearest(
     rows: &Rows,
     n: usize,
     m: usize,
-    table: &Rows,
+    table: &Table,
     n_lines: usize,
     lines: &mut Places,
     distances: &mut Distances,
 )
-    requires { ⌜ (n ≤ 1024) × (n * m ≤ 8192) × («n_lines» * m ≤ 8192) ⌝ }
+    requires { ⌜ (n ≤ maxPool) × (n * m ≤ maxPool * maxObjectives) × («n_lines» * m ≤ maxLines * maxObjectives) ⌝ }
 {
     association::associate_to_reference_points(rows, n, m, table, n_lines, lines, distances);
 }
 
 // Per row its line and distance.
 fn put_nearest(out: &mut Words, lines: &Places, distances: &Distances, n: usize) -> usize
-    requires { ⌜ n ≤ 1024 ⌝ }
+    requires { ⌜ n ≤ maxPool ⌝ }
 {
     let mut place: usize = 0;
     let mut i: usize = 0;
@@ -99,15 +105,15 @@ fn put_nearest(out: &mut Words, lines: &Places, distances: &Distances, n: usize)
 
 // The answer of n rows and the table of m and h.
 fn associated(rows: &Rows, n: usize, m: usize, h: usize, out: &mut Words) -> usize
-    requires { ⌜ (1 ≤ m) × (m ≤ 8) × (n ≤ 1024) × (n * m ≤ 8192) ⌝ }
+    requires { ⌜ (1 ≤ m) × (m ≤ 8) × (n ≤ maxPool) × (n * m ≤ maxPool * maxObjectives) ⌝ }
 {
-    let mut table = [0.0; 8192];
+    let mut table = [0.0; MAX_TABLE_VALUES];
     let n_lines = replay_reference::fill_table(m, h, &mut table);
     if n_lines == 0 {
         return 0;
     }
-    let mut lines = [0usize; 1024];
-    let mut distances = [0.0; 1024];
+    let mut lines = [0usize; MAX_POOL];
+    let mut distances = [0.0; MAX_POOL];
     nearest(rows, n, m, &table, n_lines, &mut lines, &mut distances);
     put_nearest(out, &lines, &distances, n)
 }
@@ -118,11 +124,11 @@ fn associate(input: &Words, words: usize, m: usize, out: &mut Words) -> usize
 {
     let h = replay::word(input, 2) as usize;
     let n = replay::word(input, 3) as usize;
-    if 1024 < n {
+    if MAX_POOL < n {
         return 0;
     }
     let marks = [0u8; 16];
-    let mut rows = [0.0; 8192];
+    let mut rows = [0.0; MAX_ROW_VALUES];
     let end = replay_fronts::read_rows(input, 4, m, n, &marks, &mut rows);
     if end != words {
         return 0;

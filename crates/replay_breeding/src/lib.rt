@@ -3,6 +3,7 @@
 use model::CANDIDATE_WORDS;
 use model::DimensionInfo;
 use model::Distribution;
+use model::MAX_SIZE;
 use model::Outcome;
 use model::PLAN_WORDS;
 use model::Rng;
@@ -355,7 +356,7 @@ fn put_step(
     if 32 < n_dims {
         return 0;
     }
-    if 1024 < size {
+    if MAX_SIZE < size {
         return 0;
     }
     let first = replay_values::put_two(out, 0, 0, n as u64);

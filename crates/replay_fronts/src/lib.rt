@@ -1,5 +1,7 @@
 // The answers to the oracle's lines of domination and fronts. A pool is read into flat rows in minimise-space, with each plan's feasibility and
 // violation sum beside them.
+use model::MAX_POOL;
+use model::MAX_ROW_VALUES;
 use replay::Words;
 use replay_values::Marks;
 use replay_values::Reals;
@@ -8,17 +10,19 @@ ghost use mathlib.Core.Path.{_≡_};
 ghost use mathlib.Core.Bool.{true};
 ghost use Prim.Native.Nat.{_*_, _≤_};
 ghost use lib.ListN.{length};
+ghost use Rattle.model.specs.Plan.{maxObjectives};
+ghost use Rattle.model.specs.Refusal.{maxPool};
 ghost use Rattle.front_laws.specs.Flat.{KnownRows};
 
-type Sums = [f64; 1024];
+type Sums = [f64; MAX_POOL];
 
-type Flags = [bool; 1024];
+type Flags = [bool; MAX_POOL];
 
-// A number for each of 1,024 plans.
-pub type Places = [usize; 1024];
+// A number for each plan of a pool.
+pub type Places = [usize; MAX_POOL];
 
 fn set_real(rows: &mut Rows, i: usize, x: f64) {
-    if i < 8192 {
+    if i < MAX_ROW_VALUES {
         rows[i] = x;
     }
 }
@@ -32,7 +36,7 @@ fn read_row(
     marks: &Marks,
     rows: &mut Rows,
 ) -> usize
-    requires { ⌜ (at ≤ 8193) × (m ≤ 8) × (base ≤ 8192) ⌝ }
+    requires { ⌜ (at ≤ 8193) × (m ≤ 8) × (base ≤ maxPool * maxObjectives) ⌝ }
     ensures { λ r. ⌜ r ≤ 8193 ⌝ }
 {
     let mut j: usize = 0;
@@ -78,7 +82,7 @@ fn read_constraints(input: &Words, at: usize, p: usize, flags: &mut Flags, sums:
     if 16 < k {
         return 8193;
     }
-    if 1024 <= p {
+    if MAX_POOL <= p {
         return 8193;
     }
     let from = replay::ahead(at, 1);
@@ -102,7 +106,7 @@ fn read_plan(
     flags: &mut Flags,
     sums: &mut Sums,
 ) -> usize
-    requires { ⌜ (at ≤ 8193) × (m ≤ 8) × (base ≤ 8192) ⌝ }
+    requires { ⌜ (at ≤ 8193) × (m ≤ 8) × (base ≤ maxPool * maxObjectives) ⌝ }
     ensures { λ r. ⌜ r ≤ 8193 ⌝ }
 {
     let next = read_row(input, at, m, base, marks, rows);
@@ -124,7 +128,7 @@ fn read_plans(
     flags: &mut Flags,
     sums: &mut Sums,
 ) -> usize
-    requires { ⌜ (at ≤ 8193) × (m ≤ 8) × (n ≤ 1024) ⌝ }
+    requires { ⌜ (at ≤ 8193) × (m ≤ 8) × (n ≤ maxPool) ⌝ }
     ensures { λ r. ⌜ r ≤ 8193 ⌝ }
 {
     let mut place = at;
@@ -158,11 +162,11 @@ pub fn read_rows(
     marks: &Marks,
     rows: &mut Rows,
 ) -> usize
-    requires { ⌜ (at ≤ 8193) × (m ≤ 8) × (n ≤ 1024) ⌝ }
+    requires { ⌜ (at ≤ 8193) × (m ≤ 8) × (n ≤ maxPool) ⌝ }
     ensures { λ r. ⌜ r ≤ 8193 ⌝ }
 {
-    let mut flags = [true; 1024];
-    let mut sums = [0.0; 1024];
+    let mut flags = [true; MAX_POOL];
+    let mut sums = [0.0; MAX_POOL];
     read_plans(input, at, m, n, false, marks, rows, &mut flags, &mut sums)
 }
 
@@ -189,8 +193,8 @@ fn constrained_dominance(
 ) -> usize
     requires { ⌜ (at ≤ 8193) × (m ≤ 8) ⌝ }
 {
-    let mut flags = [true; 1024];
-    let mut sums = [0.0; 1024];
+    let mut flags = [true; MAX_POOL];
+    let mut sums = [0.0; MAX_POOL];
     let second = read_constraints(input, at, 0, &mut flags, &mut sums);
     let place = read_constraints(input, second, 1, &mut flags, &mut sums);
     if place != n {
@@ -205,7 +209,7 @@ fn dominance(input: &Words, n: usize, m: usize, constrained: bool, out: &mut Wor
 {
     let mut marks = [0u8; 16];
     replay_values::read_marks(input, 2, m, &mut marks);
-    let mut rows = [0.0; 8192];
+    let mut rows = [0.0; MAX_ROW_VALUES];
     let place = read_rows(input, m + 2, m, 2, &marks, &mut rows);
     if constrained {
         return constrained_dominance(input, n, place, m, &rows, out);
@@ -247,7 +251,7 @@ fn minimize_space(input: &Words, n: usize, m: usize, out: &mut Words) -> usize
 
 // Whether no value of the n rows is a NaN.
 fn known(rows: &Rows, m: usize, n: usize) -> bool
-    requires { ⌜ n * m ≤ 8192 ⌝ }
+    requires { ⌜ n * m ≤ maxPool * maxObjectives ⌝ }
     ensures { λ r. ⌜ (r ≡ true → KnownRows (now (rows .entry)) m n) ⌝ }
 {
     let end = n * m;
@@ -263,7 +267,7 @@ fn known(rows: &Rows, m: usize, n: usize) -> bool
 }
 
 fn place_at(places: &Places, i: usize) -> usize {
-    if i < 1024 { places[i] } else { 0 }
+    if i < MAX_POOL { places[i] } else { 0 }
 }
 
 // A front's length and members, which stand in the order from `start` to `end`; the place after them in the answer.
@@ -304,12 +308,12 @@ fn sorted(
     constrained: bool,
     out: &mut Words,
 ) -> usize
-    requires { ⌜ (n ≤ 1024) × (n * m ≤ 8192) ⌝ }
+    requires { ⌜ (n ≤ maxPool) × (n * m ≤ maxPool * maxObjectives) ⌝ }
 {
     if known(rows, m, n) {
-        let mut order = [0usize; 1024];
-        let mut rank = [0usize; 1024];
-        let mut ends = [0usize; 1024];
+        let mut order = [0usize; MAX_POOL];
+        let mut rank = [0usize; MAX_POOL];
+        let mut ends = [0usize; MAX_POOL];
         let k = if constrained {
             pareto::fast_non_dominated_sort_constrained(
                 rows,
@@ -334,14 +338,14 @@ fn fronts(input: &Words, words: usize, m: usize, constrained: bool, out: &mut Wo
     requires { ⌜ m ≤ 8 ⌝ }
 {
     let n = replay::word(input, m + 2) as usize;
-    if 1024 < n {
+    if MAX_POOL < n {
         return 0;
     }
     let mut marks = [0u8; 16];
     replay_values::read_marks(input, 2, m, &mut marks);
-    let mut rows = [0.0; 8192];
-    let mut flags = [true; 1024];
-    let mut sums = [0.0; 1024];
+    let mut rows = [0.0; MAX_ROW_VALUES];
+    let mut flags = [true; MAX_POOL];
+    let mut sums = [0.0; MAX_POOL];
     let place = read_plans(
         input,
         m + 3,

@@ -1,12 +1,15 @@
 // The answers to the oracle's lines on the reference table, and of the digests of tables. The line of an opening's divisions and size is a session's.
+use model::MAX_TABLE_VALUES;
 use replay::Words;
-use replay_values::Rows;
+use replay_values::Table;
 ghost use Prim.Native.Nat.{_*_, _≤_};
+ghost use Rattle.model.specs.Plan.{maxObjectives};
+ghost use Rattle.model.specs.Refusal.{maxLines};
 
 // The table of m and h, and how many lines it has; none where the divisions are refused.
-pub fn fill_table(m: usize, h: usize, table: &mut Rows) -> usize
+pub fn fill_table(m: usize, h: usize, table: &mut Table) -> usize
     requires { ⌜ (1 ≤ m) × (m ≤ 8) ⌝ }
-    ensures { λ r. ⌜ r * m ≤ 8192 ⌝ }
+    ensures { λ r. ⌜ r * m ≤ maxLines * maxObjectives ⌝ }
 {
     if divisions::bad_divisions(m, h) {
         return 0;
@@ -15,8 +18,8 @@ pub fn fill_table(m: usize, h: usize, table: &mut Rows) -> usize
 }
 
 // The digest of the first n entries: from 0 on, times 6364136223846793005 plus the entry's word, modulo 2^64.
-fn digest(table: &Rows, n: usize) -> u64
-    requires { ⌜ n ≤ 8192 ⌝ }
+fn digest(table: &Table, n: usize) -> u64
+    requires { ⌜ n ≤ maxLines * maxObjectives ⌝ }
 {
     let mut d: u64 = 0;
     let mut i: usize = 0;
@@ -32,7 +35,7 @@ fn digest(table: &Rows, n: usize) -> u64
 fn table(m: usize, h: usize, digested: bool, out: &mut Words) -> usize
     requires { ⌜ (1 ≤ m) × (m ≤ 8) ⌝ }
 {
-    let mut table = [0.0; 8192];
+    let mut table = [0.0; MAX_TABLE_VALUES];
     let lines = fill_table(m, h, &mut table);
     if lines == 0 {
         return 0;
@@ -42,7 +45,7 @@ fn table(m: usize, h: usize, digested: bool, out: &mut Words) -> usize
         return replay_values::put_two(out, 0, lines as u64, digest(&table, k));
     }
     let place = replay_values::put_two(out, 0, lines as u64, m as u64);
-    replay_values::put_rows(out, place, &table, k)
+    replay_values::put_table(out, place, &table, k)
 }
 
 // 51

@@ -4,7 +4,9 @@ use model::DimensionInfo;
 use model::Distribution;
 use model::FloatDistribution;
 use model::IntDistribution;
-use model::MAX_VALUES;
+use model::MAX_ROW_VALUES;
+use model::MAX_SIZE;
+use model::MAX_TABLE_VALUES;
 use model::OptionI64;
 use model::OptionUsize;
 use model::PLAN_WORDS;
@@ -19,8 +21,10 @@ pub type Marks = [u8; 16];
 
 pub type Reals = [f64; 16];
 
-// The rows of 1,024 plans or lines of 8 values.
-pub type Rows = [f64; MAX_VALUES];
+// The rows of a pool, and a table of lines.
+pub type Rows = [f64; MAX_ROW_VALUES];
+
+pub type Table = [f64; MAX_TABLE_VALUES];
 
 // 1,025 plans of 124 words, one plan more than is accepted, and a number for each.
 pub type Pool = [u64; 127100];
@@ -114,6 +118,10 @@ pub fn put_row(out: &mut Words, at: usize, row: &Reals, m: usize) -> usize {
 
 pub fn put_rows(out: &mut Words, at: usize, rows: &Rows, k: usize) -> usize {
     put_reals(out, at, rows, k)
+}
+
+pub fn put_table(out: &mut Words, at: usize, table: &Table, k: usize) -> usize {
+    put_reals(out, at, table, k)
 }
 
 // A value and the generator's state after it.
@@ -444,7 +452,7 @@ pub fn room_for(size: usize, n: usize, n_dims: usize, short: u64) -> Room
     requires { ⌜ n ≤ 1025 ⌝ }
     ensures { λ r. ⌜ (r .kept ≤ 1025) × (r .fronts ≤ 1025) × (r .lines ≤ 1025) × (r .offspring ≤ 32768) ⌝ }
 {
-    let most = least(size, 1024);
+    let most = least(size, MAX_SIZE);
     let dims = least(n_dims, 32);
     let words = candidate_words(most, dims);
     let mut room = Room {

@@ -21,7 +21,7 @@ use Rattle.model.specs.Plan.{planWords}
 use Rattle.model.specs.Reference.{orElse}
 use Rattle.model.specs.Association.{Request}
 use Rattle.model.specs.Session.{State, bredSession, state, evaluated, standsIn, recordsOf, bredFrom, requestOf, operatorsOf, breed, maxWords}
-use Rattle.model.specs.Refusal.{Room, goodIdeal, stepRefusal, maxSize}
+use Rattle.model.specs.Refusal.{Room, goodIdeal, stepRefusal, maxSize, maxPool}
 use Rattle.model.specs.Calls.{refusedBy, roomOf, wordRequest, stepAccepted, stepBy, stepOf}
 use Rattle.model.specs.Property.{SessionOk}
 use Rattle.refusals.specs.declared.Check.{Check}
@@ -45,8 +45,11 @@ evaluated-tells st history e =
     (leb-true _ _ (and-left held _ h), and-right held _ h)
 
 -- each list lent for the selection has room
-rooms : maxSize ≤ length (blankLent .kept)
-rooms = omega (arith, length-replicate {A = ℕ} maxSize 0)
+kept-room : maxSize ≤ length (blankLent .kept)
+kept-room = omega (arith, length-replicate {A = ℕ} maxSize 0)
+
+plans-room : maxPool ≤ length (blankLent .fronts)
+plans-room = omega (arith, length-replicate {A = ℕ} maxPool 0)
 
 module _ (s : Session) (cs ps : List ℕ) (history : List ℕ) where
   abbrev size : ℕ
@@ -72,22 +75,22 @@ module _ (s : Session) (cs ps : List ℕ) (history : List ℕ) where
 
   module _ (ok : SessionOk (at [])) (long : maxWords ≤ length cs) where
     step-is-refused : stepRefusal (operatorsOf s) (requestOf (at []) history) (roomOf blankLent) (length cs) ≡ breedRefusal (at []) history
-    step-is-refused = step-refusal (at []) history ok (roomOf blankLent) (length cs) rooms rooms rooms long
+    step-is-refused = step-refusal (at []) history ok (roomOf blankLent) (length cs) kept-room plans-room plans-room long
 
   -- ---- a check of the step alone, with room for what it would hand out
 
   module _ (ok : SessionOk (at [])) (pool gathered : List ℕ) (g : gathered ≡ over (recordsOf history ps size) pool) (c : Check)
       (e : checked c ≡ stepRefusal (operatorsOf s)
       (wordRequest (take (size * planWords) gathered) (take m (s .config .directions)) (s .config .divisions) size (s .rng) ideal)
-      (record { kept = maxSize; fronts = maxSize; lines = maxSize }) maxWords) where
+      (record { kept = maxSize; fronts = maxPool; lines = maxPool }) maxWords) where
     abbrev room : Room
-    room = record { kept = maxSize; fronts = maxSize; lines = maxSize }
+    room = record { kept = maxSize; fronts = maxPool; lines = maxPool }
 
     check-is : checked c ≡ breedRefusal (at []) history
     check-is =
         e
         ∙ ap (λ (r : Request). stepRefusal (operatorsOf s) r room maxWords) (gathered-request pool gathered g)
-        ∙ step-refusal (at []) history ok room maxWords (le-refl maxSize) (le-refl maxSize) (le-refl maxSize) (le-refl maxWords)
+        ∙ step-refusal (at []) history ok room maxWords (le-refl maxSize) (le-refl maxPool) (le-refl maxPool) (le-refl maxWords)
 
     -- 10 comes after 8 and 9
     pub short-is : (k : Check) → c ≡ k → shortRefusal (at []) history ≡ some (orElse (checked k) 10)

@@ -7,7 +7,7 @@ use lib.ListN.{take, replicate}
 use Rattle.model.specs.declared.Selection.{Selection}
 use Rattle.model.specs.declared.Session.{Session}
 use Rattle.model.specs.Session.{State, operatorsOf, breed}
-use Rattle.model.specs.Refusal.{maxSize}
+use Rattle.model.specs.Refusal.{maxSize, maxPool}
 use Rattle.model.specs.Calls.{Lent, StepExit, lent, wordRequest, stepOf}
 use Rattle.session_laws.specs.Refused.{breedRefusal}
 
@@ -27,7 +27,7 @@ takenOf e = stepped (e .answer) (e .ideal) (e .offspring)
 
 -- the lists that are lent for the selection
 abbrev pub blankLent : Lent
-blankLent = lent (replicate maxSize 0) (replicate maxSize 0) (replicate maxSize 0)
+blankLent = lent (replicate maxSize 0) (replicate maxPool 0) (replicate maxPool 0)
 
 abbrev pub stepOn : Session → List ℕ → List Float → List ℕ → Stepped
 stepOn s pool ideal offspring =

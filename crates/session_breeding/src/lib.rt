@@ -3,15 +3,18 @@ ghost use mathlib.Core.Path.{_≡_};
 ghost use mathlib.Core.Bool.{true};
 ghost use mathlib.Core.List.{List, []};
 ghost use mathlib.Core.Option.{some};
-ghost use Prim.Native.Nat.{ℕ, _≤_};
+ghost use Prim.Native.Nat.{ℕ, _*_, _≤_};
 ghost use lib.ListN.{length};
 ghost use Rattle.model.specs.Session.{state, evaluated, bredSession, operatorsOf, maxCome, maxWords};
 ghost use Rattle.model.specs.Setting.{operatorsIn};
+ghost use Rattle.model.specs.Plan.{planWords};
+ghost use Rattle.model.specs.Refusal.{maxPool};
 ghost use Rattle.model.specs.Calls.{refusedBy};
 ghost use Rattle.model.specs.Property.{SessionOk};
 ghost use Rattle.session_laws.specs.Refused.{shortRefusal};
 ghost use Rattle.session_breeding.specs.Breeding.{stepped, stepOn, bredExit, breedOf};
-use model::MAX_PLANS;
+use model::MAX_POOL;
+use model::MAX_SIZE;
 use model::MAX_WORDS;
 use model::Operators;
 use model::Outcome;
@@ -48,9 +51,9 @@ fn step(session: Session, pool: &[u64], ideal: &mut [f64], candidates: &mut [u64
     let directions = config.directions;
     let rng = session.rng;
     let operators = operators_of(session);
-    let mut kept = [0usize; MAX_PLANS];
-    let mut fronts = [0usize; MAX_PLANS];
-    let mut lines = [0usize; MAX_PLANS];
+    let mut kept = [0usize; MAX_SIZE];
+    let mut fronts = [0usize; MAX_POOL];
+    let mut lines = [0usize; MAX_POOL];
     generation::nsga3_generate_offspring(
         pool,
         &directions[..n_obj],
@@ -89,7 +92,7 @@ pub fn breed(
     pool: &mut [u64],
     candidates: &mut [u64],
 ) -> Bred
-    requires { ⌜ 126976 ≤ length (now pool) ⌝ }
+    requires { ⌜ maxPool * planWords ≤ length (now pool) ⌝ }
     requires { ⌜ SessionOk (state session (now candidates) (now plans) []) × (evaluated (state session (now candidates) (now plans) []) (now history) ≡ true)
         × (maxCome ≤ length (now plans)) × (maxWords ≤ length (now candidates)) ⌝ }
     ensures { λ r. ⌜ ((ns : List ℕ) → bredExit (refusedBy (r .outcome)) (state (r .session) (now (candidates .exit)) (now (plans .entry)) ns)
@@ -141,9 +144,9 @@ pub fn bred_refusal(session: Session, history: &[u64], plans: &[u64]) -> u8
         rng,
         operators,
         &ideal_point[..n_obj],
-        MAX_PLANS,
-        MAX_PLANS,
-        MAX_PLANS,
+        MAX_SIZE,
+        MAX_POOL,
+        MAX_POOL,
         MAX_WORDS,
     );
     match check {

@@ -6,18 +6,19 @@ use mathlib.Core.List.{List, [], _∷_}
 use mathlib.Core.Option.{Option, none, some}
 use native.Mathlib.Nat.{le-trans, mul-le-mul}
 use native.Mathlib.Omega.{arith}
-use lib.Dec.{leb}
+use lib.Dec.{eqb, leb}
 use lib.ListN.{length, take}
 use borrow.Author.Tests.{le-ltb, lt-leb, leb-false, ne-eqb, not-false}
 use Rattle.list_laws.proofs.Bools.{by-bool, and-left, and-right, and-both, and-fails-first, and-not, and-no, or-left, or-right, or-both}
 use Rattle.list_laws.proofs.Built.{listBelow-length}
 use Rattle.list_laws.proofs.Checks.{passed-over, applies-first, after-two}
+use Rattle.list_laws.proofs.Limits.{size-in-pool}
 use Rattle.list_laws.proofs.Rows.{joinBelow-length}
 use Rattle.model.specs.declared.Distribution.{Distribution}
 use Rattle.model.specs.Plan.{planWords, planCount}
 use Rattle.model.specs.Setting.{validDimension, maxDims}
 use Rattle.model.specs.Session.{State, state, isActive, discovers, longEnough, bredFrom, breeds, requestOf, operatorsOf, isNew, maxCome, maxWords}
-use Rattle.model.specs.Refusal.{Check, check, firstOf, Room, noRoom, noStepRoom, badSize, badPool, badParents, stepRefusal, sampleRefusal, maxSize, badHistory, badNext}
+use Rattle.model.specs.Refusal.{Check, check, firstOf, Room, noRoom, noStepRoom, badSize, badCount, badPool, badParents, stepRefusal, sampleRefusal, maxSize, maxPool, badHistory, badNext}
 use Rattle.model.specs.Calls.{wordRequest}
 use Rattle.model.specs.Property.{SessionOk}
 use Rattle.demand3_laws.proofs.Calls.{request-divisions}
@@ -138,22 +139,35 @@ module _ (st : State) (d : Distribution) (plan : ℕ) (history : List ℕ) where
 -- ---- refusals of the generation step that a session makes
 
 module _ (st : State) (history : List ℕ) (ok : SessionOk st) where
-  request-size : badSize (st .session .config .«population_size») ≡ false
-  request-size = or-both _ _ (ne-eqb (st .session .config .«population_size») 0 (λ e. omega (arith, ok .config .atLeast4))) (le-ltb maxSize (st .session .config .«population_size») (ok .config .atMost))
+  abbrev size : ℕ
+  size = st .session .config .«population_size»
+
+  -- the pool has as many plans as are wanted
+  few-plans : size ≤ maxPool
+  few-plans = le-trans (ok .config .atMost) size-in-pool
+
+  some-plans : eqb size 0 ≡ false
+  some-plans = ne-eqb size 0 (λ e. omega (arith, ok .config .atLeast4))
+
+  request-size : badSize size ≡ false
+  request-size = or-both _ _ some-plans (le-ltb maxSize size (ok .config .atMost))
+
+  request-count : badCount size ≡ false
+  request-count = or-both _ _ some-plans (le-ltb maxPool size few-plans)
 
   -- the words of a generation's candidates
   pub offspring-fit : st .session .config .«population_size» * st .session .progress .«n_dims» ≤ maxWords
   offspring-fit = omega (arith, mul-le-mul (ok .config .atMost) (few _ _ (ok .dimensions)))
 
-  -- what the room has to be: 1,024 for each list, and 65,536 words for the offspring
-  module _ (room : Room) (offspring : ℕ) (kept : maxSize ≤ room .kept) (fronts : maxSize ≤ room .fronts) (lines : maxSize ≤ room .lines)
+  -- what the room has to be: for a kept list of any size, for the fronts and lines of any pool, and 65,536 words for the offspring
+  module _ (room : Room) (offspring : ℕ) (kept : maxSize ≤ room .kept) (fronts : maxPool ≤ room .fronts) (lines : maxPool ≤ room .lines)
       (words : maxWords ≤ offspring) where
     request-room : noStepRoom (operatorsOf (st .session)) (requestOf st history) room offspring ≡ false
     unfolding noStepRoom noRoom
     request-room =
         or-both _ _
         (and-no (leb 2 (st .session .config .«population_size»)) _ (or-both _ _ (le-ltb (room .kept) _ (le-trans (ok .config .atMost) kept))
-        (or-both _ _ (le-ltb (room .fronts) _ (le-trans (ok .config .atMost) fronts)) (le-ltb (room .lines) _ (le-trans (ok .config .atMost) lines)))))
+        (or-both _ _ (le-ltb (room .fronts) _ (le-trans few-plans fronts)) (le-ltb (room .lines) _ (le-trans few-plans lines)))))
         (le-ltb offspring _ (le-trans offspring-fit words))
 
     -- the step is refused by 8 or 9, or not at all
@@ -161,5 +175,5 @@ module _ (st : State) (history : List ℕ) (ok : SessionOk st) where
     unfolding stepRefusal
     step-refusal =
         passed-over _ _ (ok .config .directions) ∙ passed-over _ _ request-size ∙ passed-over _ _ (request-divisions st history ok)
-        ∙ passed-over _ _ (ok .config .operators) ∙ passed-over _ _ (ok .dimensions) ∙ passed-over _ _ request-size
+        ∙ passed-over _ _ (ok .config .operators) ∙ passed-over _ _ (ok .dimensions) ∙ passed-over _ _ request-count
         ∙ after-two _ _ _ _ (passed-over _ _ request-room)

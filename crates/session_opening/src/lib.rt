@@ -11,7 +11,7 @@ ghost use Rattle.model.specs.Calls.{Opens};
 ghost use Rattle.session_opening.specs.Opening.{openingBy};
 use model::Config;
 use model::MAX_OBJECTIVES;
-use model::MAX_PLANS;
+use model::MAX_SIZE;
 use model::Opened;
 use model::Opening;
 use model::OptionU64;
@@ -114,7 +114,7 @@ fn bad_session_size(size: OptionUsize) -> bool
     ensures { λ r. ⌜ r ≡ badSessionSize (given size) ⌝ }
 {
     match size {
-        OptionUsize::Some(n) => MAX_PLANS < n,
+        OptionUsize::Some(n) => MAX_SIZE < n,
         OptionUsize::None => false,
     }
 }

@@ -1,7 +1,7 @@
 // The refusals of a generation step (document 01, "Refusals"; Rust: nsga3_generate_offspring of sampler/nsga3.rs).
 ghost use mathlib.Core.Path.{_≡_};
 ghost use Prim.Native.Nat.{_≤_};
-ghost use Rattle.model.specs.Refusal.{stepRefusal, stepTooShort};
+ghost use Rattle.model.specs.Refusal.{maxSize, stepRefusal, stepTooShort};
 ghost use Rattle.model.specs.Calls.{wordRequest};
 ghost use Rattle.model.specs.Setting.{operatorsIn};
 ghost use Rattle.refusals.specs.Checked.{checked};
@@ -19,7 +19,7 @@ fn no_step_room(
     lines: usize,
     offspring: usize,
 ) -> bool
-    requires { ⌜ (size ≤ 1024) × («n_dims» ≤ 32) ⌝ }
+    requires { ⌜ (size ≤ maxSize) × («n_dims» ≤ 32) ⌝ }
     ensures { λ r. ⌜ r ≡ stepTooShort (record { kept = kept; fronts = fronts; lines = lines }) offspring size n «n_dims» ⌝ }
 {
     if offspring < size * n_dims {
@@ -31,7 +31,7 @@ fn no_step_room(
     refusals::no_room(size, n, kept, fronts, lines)
 }
 
-// The first refusal that applies to a generation step. A size and a pool's count have the same limits.
+// The first refusal that applies to a generation step.
 pub fn refusal(
     pool: &[u64],
     directions: &[u8],
@@ -52,7 +52,7 @@ pub fn refusal(
     if plans::bad_directions(directions) {
         return Check::Refused(2);
     }
-    if plans::bad_count(size) {
+    if plans::bad_size(size) {
         return Check::Refused(3);
     }
     let m = directions.len();

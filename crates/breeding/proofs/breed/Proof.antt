@@ -6,7 +6,8 @@ use borrow.Author.Needs.{needs}
 use lib.ListN.{length, getD}
 use native.Mathlib.Nat.{mul-le-mul}
 use Rattle.model.specs.Lists.{over}
-use Rattle.model.specs.Setting.{Operators, wordsOf, operatorsIn, offspringOf}
+use Rattle.model.specs.Setting.{Operators, maxDims, wordsOf, operatorsIn, offspringOf}
+use Rattle.model.specs.Refusal.{maxSize}
 use Rattle.settings.specs.Candidate.{parentsIn}
 use Rattle.settings.proofs.Valid.{few}
 use Rattle.generation_laws.proofs.Dimensions.{operators-good}
@@ -15,7 +16,7 @@ use Rattle.breeding.proofs.breed.Statement.{statement}
 use Rattle.breeding.proofs.breed.Tie as tie
 
 -- the parents' words fit
-fit : (s : tie.Start) → s .args .size * s .args .operators .«n_dims» ≤ 32768
+fit : (s : tie.Start) → s .args .size * s .args .operators .«n_dims» ≤ maxSize * maxDims
 fit s = mul-le-mul (s .pre .1 .1) (few _ _ (s .pre .0 .2))
 
 abbrev ops : tie.Start → Operators
@@ -64,8 +65,8 @@ write-offspring-requires c κs =
     let p = parents (ranked c) in
     let s = start p in
     let r = ranked c .look-up in
-    let words : length (p .fill-parents .last .1 .1 .1 .1 .1 .1 .0) ≡ 32768 = p .fill-parents .kept .1 .1 .1 .1 .1 .1 .0 in
-    let places : length (r .last .1 .1 .1 .0) ≡ 1024 = r .kept .1 .1 .1 .0 in
+    let words : length (p .fill-parents .last .1 .1 .1 .1 .1 .1 .0) ≡ maxSize * maxDims = p .fill-parents .kept .1 .1 .1 .1 .1 .1 .0 in
+    let places : length (r .last .1 .1 .1 .0) ≡ maxSize = r .kept .1 .1 .1 .0 in
     (s .pre .1 .0, omega (arith, words, fit s), omega (arith, places, s .pre .1 .1), s .pre .0 .2, s .pre .0 .3, s .pre .1 .4, s .pre .1 .1)
 
 same-length : tie.Need-same-length

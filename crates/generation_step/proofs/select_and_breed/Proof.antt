@@ -9,7 +9,7 @@ use Rattle.model.specs.Setting.{Operators, operatorsIn}
 use Rattle.model.specs.Calls.{wordRequest, Lent, lent, roomOf}
 use Rattle.plan_rows.specs.Filled.{GoodPool}
 use Rattle.list_laws.proofs.Checks.{pool-plans}
-use Rattle.demand3_laws.proofs.Passed.{Passed, passed, some-objectives, one-to-1024}
+use Rattle.demand3_laws.proofs.Passed.{Passed, passed, some-objectives, size-limits, count-limits}
 use Rattle.candidate_laws.proofs.Generations.{plans-breedable}
 use Rattle.generation_laws.specs.Bred.{bredOfWords}
 use Rattle.generation_laws.proofs.Accepted.{offspring-room, kept-room, fronts-room}
@@ -36,7 +36,7 @@ given s = passed (ops s) (request s) (roomOf (at s)) (room s) (s .pre .1)
 good-pool : (s : tie.Start) → GoodPool (s .args .pool .now) (s .args .directions .now)
 good-pool s =
     let ok = given s in
-    record { few = one-to-1024 _ (ok .count) .1; narrow = some-objectives _ (ok .directions) .1; good = pool-plans (request s) (ok .pool) }
+    record { few = count-limits _ (ok .count) .1; narrow = some-objectives _ (ok .directions) .1; good = pool-plans (request s) (ok .pool) }
 
 -- ---- the places, each from the next: the plans to breed from are selected, the pool is sorted by rows, and the plans are bred from
 
@@ -73,8 +73,8 @@ breed-requires c κs =
     let kept : length (n .nsga3-select .last .1 .1 .1 .1 .1 .1 .0) ≡ length (a .kept .now) = n .nsga3-select .kept .1 .1 .1 .1 .1 .1 .0 in (
       (omega (arith, rows, s .pre .0 .1, others, fronts-room ok (s .pre .0 .0)), plans-breedable (ops s) (request s) (ok .parents), ok .dimensions, ok .operators),
       (
-        one-to-1024 _ (ok .size) .0,
-        one-to-1024 _ (ok .size) .1,
+        size-limits _ (ok .size) .0,
+        size-limits _ (ok .size) .1,
         omega (arith, kept, kept-room ok (s .pre .0 .0)),
         kept-in-pool (ops s) (a .pool .now) (a .directions .now) (a .divisions) (a .size) (a .rng) (a .ideal .now) (at s) (a .offspring .now) (s .pre .1) (s .pre .0 .0) _ e,
         offspring-room ok,

@@ -6,7 +6,7 @@ use lib.ListN.{length}
 use Rattle.model.specs.Association.{Request}
 use Rattle.model.specs.Setting.{Operators, operatorsIn}
 use Rattle.model.specs.Calls.{wordRequest, Lent, lent, roomOf}
-use Rattle.demand3_laws.proofs.Passed.{Passed, passed, one-to-1024}
+use Rattle.demand3_laws.proofs.Passed.{Passed, passed, count-limits}
 use Rattle.generation_laws.proofs.Accepted.{offspring-room}
 use Rattle.generation_laws.proofs.Answer.{one-exit}
 use Rattle.generation_step.proofs.step.Statement.{statement}
@@ -78,7 +78,7 @@ select-and-breed-requires : tie.Need-select-and-breed-requires
 select-and-breed-requires c κs =
     let m = more c in
     let s = start (m .before) in
-    ((omega (arith, m .before .plan-count .ensures, m .if1 .left), one-to-1024 _ (given s .count) .1), s .pre)
+    ((omega (arith, m .before .plan-count .ensures, m .if1 .left), count-limits _ (given s .count) .1), s .pre)
 
 same-length-2 : tie.Need-same-length-2
 same-length-2 c = search needs

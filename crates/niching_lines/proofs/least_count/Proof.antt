@@ -4,7 +4,7 @@ use mathlib.Core.Path.{_≡_, sym, _∙_}
 use mathlib.Core.Logic.{⊎-elim}
 use borrow.Author.Tests.{lt-ltb, le-ltb}
 use lib.Dec.{ltb}
-use Rattle.model.specs.Refusal.{maxSize}
+use Rattle.model.specs.Refusal.{maxPool}
 use Rattle.list_laws.proofs.Best.{best-none, best-more}
 use Rattle.niching_array_laws.specs.Niche.{leastBelow}
 use native.Mathlib.Omega.{arith}
@@ -12,7 +12,7 @@ use Rattle.niching_lines.proofs.least_count.Statement.{statement}
 use Rattle.niching_lines.proofs.least_count.Tie as tie
 
 abbrev Inv-loop : tie.InvT-loop
-Inv-loop counts waits n least₀ l₀ least l = (l ≤ n) × (least ≡ leastBelow maxSize counts waits l)
+Inv-loop counts waits n least₀ l₀ least l = (l ≤ n) × (least ≡ leastBelow maxPool counts waits l)
 
 abbrev μ-loop : tie.MeasureT-loop
 μ-loop counts waits n least₀ l₀ least l = n - l

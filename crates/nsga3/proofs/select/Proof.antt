@@ -1,11 +1,13 @@
 -- `select`: the rows, the sort, and the kept list
+use Prim.Native.Nat.{_*_}
 use mathlib.Core.Path.{_≡_, refl}
 use native.Mathlib.Omega.{arith}
 use borrow.Author.Needs.{needs}
 use lib.ListN.{length}
 use Rattle.model.specs.Calls.{wordRequest}
-use Rattle.model.specs.Plan.{planAt, planCount}
+use Rattle.model.specs.Plan.{planAt, planCount, maxObjectives}
 use Rattle.model.specs.Association.{Request}
+use Rattle.model.specs.Refusal.{maxPool}
 use Rattle.plan_rows.specs.Filled.{GoodPool}
 use Rattle.plan_rows.proofs.Pool.{rows-asked}
 use Rattle.pool_sort.specs.Laid.{RowsIn}
@@ -45,7 +47,7 @@ laid : (c : tie.After-fill-rows) →
 laid c =
     let s = start (counted c) in
     let f = c .fill-rows in
-    let size : length (f .last .1 .1 .1 .0) ≡ 8192 = f .kept .1 .1 .1 .0 in
+    let size : length (f .last .1 .1 .1 .0) ≡ maxPool * maxObjectives = f .kept .1 .1 .1 .0 in
     rows-in (s .args .directions .now) (planAt (s .args .pool .now)) _ _ (counted c .plan-count .ensures) _ _
     (omega (arith, size, rows-asked (good-pool s) refl .0 .2)) (f .ensures)
 

@@ -8,9 +8,11 @@ use lib.Ieee.{binary64, ofBits}
 use lib.ListN.{length, replicate}
 use Rattle.model.specs.Calls.{wordRequest}
 use Rattle.model.specs.Association.{Request, objectives}
+use Rattle.model.specs.Refusal.{maxPool, maxLines}
+use Rattle.model.specs.Plan.{maxObjectives}
 use Rattle.association_laws.specs.Request.{Associates}
 use Rattle.association_laws.proofs.Request.{lines-at}
-use Rattle.list_laws.proofs.Rows.{few-values}
+use Rattle.list_laws.proofs.Limits.{row-values, table-values}
 use Rattle.nsga3.proofs.Splitting.{pool-rows, splits, hands}
 use Rattle.nsga3.proofs.select_split.Statement.{statement}
 use Rattle.nsga3.proofs.select_split.Tie as tie
@@ -55,7 +57,7 @@ copied-last c = copied (picked c .before .before)
 associated : (c : tie.After-associate) →
     let a = c .associate in
     let s = start-joined c in
-    Associates (request s) (counted (tabled (c .before)) .plan-count .result) (objectives (request s)) (s .args .ideal .now) (a .last .1 .1 .1 .1 .1 .0) (s .args .lines .now) (a .last .1 .1 .1 .1 .1 .1 .0) (replicate 1024 (ofBits binary64 0)) (a .last .1 .1 .1 .1 .1 .1 .1 .0)
+    Associates (request s) (counted (tabled (c .before)) .plan-count .result) (objectives (request s)) (s .args .ideal .now) (a .last .1 .1 .1 .1 .1 .0) (s .args .lines .now) (a .last .1 .1 .1 .1 .1 .1 .0) (replicate maxPool (ofBits binary64 0)) (a .last .1 .1 .1 .1 .1 .1 .1 .0)
 associated c =
     let s = start-joined c in
     let d = tabled (c .before) .das-dennis in
@@ -80,7 +82,7 @@ slice-aggregate-das-dennis c = search needs
 das-dennis-requires : tie.Need-das-dennis-requires
 das-dennis-requires c κs =
     let ok = start (c .before) .pre .0 .limits in
-    ((ok .wide, ok .narrow, ok .divided, ok .coarse), few-values _ _ (ok .fewLines) (ok .narrow))
+    ((ok .wide, ok .narrow, ok .divided, ok .coarse), table-values _ _ (ok .fewLines) (ok .narrow))
 
 slice-aggregate-associate : tie.Need-slice-aggregate-associate
 slice-aggregate-associate c = search needs
@@ -94,11 +96,11 @@ associate-requires c κs =
     let ok = s .pre .0 .limits in
     let e = counted (tabled c) .plan-count .ensures in
     let d = tabled c .das-dennis in
-    let size : length (d .last .1 .1 .0) ≡ 8192 = d .kept .1 .1 .0 in (
+    let size : length (d .last .1 .1 .0) ≡ maxLines * maxObjectives = d .kept .1 .1 .0 in (
       ok .narrow,
-      few-values _ _ (omega (arith, e, ok .fewPlans)) (ok .narrow),
+      row-values _ _ (omega (arith, e, ok .fewPlans)) (ok .narrow),
       subst (λ k. k * length (s .args .directions .now) ≤ length (s .args .rows .now)) (sym e) (s .pre .0 .laid .table),
-      omega (arith, size, few-values (d .result) (length (s .args .directions .now)) (omega (arith, d .ensures .0, ok .fewLines)) (ok .narrow)),
+      omega (arith, size, table-values (d .result) (length (s .args .directions .now)) (omega (arith, d .ensures .0, ok .fewLines)) (ok .narrow)),
       omega (arith, ok .ideal),
       omega (arith, e, ok .lines),
       omega (arith, e, ok .fewPlans),
@@ -137,7 +139,7 @@ niching-select-requires c κs =
     let ok = s .pre .0 .limits in
     let a = join .associate in
     let f = copy .copy-first in
-    let far : length (a .last .1 .1 .1 .1 .1 .1 .1 .0) ≡ 1024 = a .kept .1 .1 .1 .1 .1 .1 .1 .0 in
+    let far : length (a .last .1 .1 .1 .1 .1 .1 .1 .0) ≡ maxPool = a .kept .1 .1 .1 .1 .1 .1 .1 .0 in
     splits (s .pre .0) (s .pre .1) _ _ (counted table .plan-count .ensures) (table .das-dennis .ensures .0) _ _ _ _ _ _ (associated join) _
     (omega (arith, a .kept .1 .1 .1 .1 .1 .1 .0, ok .lines)) (omega (arith, far, ok .fewPlans))
     (omega (arith, mid-len (s .args .cut .whole) (length (f .last .1 .1 .0)) (f .last .1 .1 .0) (omega arith), f .kept .1 .1 .0, ok .kept))

@@ -5,7 +5,7 @@ use native.Mathlib.Numerals.{add-one}
 use native.Mathlib.Omega.{arith}
 use borrow.Author.Needs.{needs}
 use lib.ListN.{length}
-use Rattle.model.specs.Refusal.{maxSize}
+use Rattle.model.specs.Refusal.{maxPool}
 use Rattle.front_laws.specs.Flat.{flatBeats}
 use Rattle.front_laws.proofs.Flat.{flatBeats-strict}
 use Rattle.front_laws.proofs.Sorting.{Sorting, sorting-first, first-rest, sorting-within, order-size, ranks-size, ends-size, sorting-ready, sorting-more, sorting-done}
@@ -19,6 +19,30 @@ Inv-loop rows m feasible violations n order₀ rank₀ ends₀ counts₀ start�
 abbrev μ-loop : tie.MeasureT-loop
 μ-loop rows m feasible violations n order₀ rank₀ ends₀ counts₀ start₀ end₀ k₀ order rank ends counts start end k =
     n - start
+
+-- ---- the places, each from the next: the call starts, the dominators are counted and front 0 is listed; a turn passes a front
+
+abbrev start : tie.After-count-all Inv-loop μ-loop → tie.Start Inv-loop μ-loop
+start c = c .before .before .before .before .before .before .before .before
+
+abbrev counted : tie.After-first-front Inv-loop μ-loop → tie.After-count-all Inv-loop μ-loop
+counted c = c .before .before .before .before
+
+abbrev listed : tie.After-slice-known4 Inv-loop μ-loop → tie.After-first-front Inv-loop μ-loop
+listed c = c .before .before
+
+abbrev turn : tie.After-pass-front-arg2 Inv-loop μ-loop → tie.In-loop Inv-loop μ-loop
+turn c = c .before .before .before
+
+abbrev passed : tie.After-slice-known6 Inv-loop μ-loop → tie.After-pass-front Inv-loop μ-loop
+passed c = c .before .before .before .before .before
+
+-- ---- the same from further on
+
+abbrev entry : tie.After-slice-known4 Inv-loop μ-loop → tie.Start Inv-loop μ-loop
+entry c = start (counted (listed c))
+
+-- ---- the needs
 
 slice-aggregate-count-all : tie.Need-slice-aggregate-count-all Inv-loop μ-loop
 slice-aggregate-count-all c = search needs
@@ -34,15 +58,11 @@ first-front-requires c κs = search needs
 
 -- as the loop begins: the counts' array has its places, and the order its length
 places : (b : tie.After-slice-known4 Inv-loop μ-loop)
-    → length (b .before .before .before .before .before .before .count-all .last .1 .1 .1 .1 .1 .0) ≡ maxSize
-places b = b .before .before .before .before .before .before .count-all .kept .1 .1 .1 .1 .1 .0
+    → length (counted (listed b) .count-all .last .1 .1 .1 .1 .1 .0) ≡ maxPool
+places b = counted (listed b) .count-all .kept .1 .1 .1 .1 .1 .0
 
--- the function's entry, seen from there
-abbrev entry : tie.After-slice-known4 Inv-loop μ-loop → tie.Start Inv-loop μ-loop
-entry b = b .before .before .before .before .before .before .before .before .before .before .before .before .before .before
-
-wide : (b : tie.After-slice-known4 Inv-loop μ-loop) → entry b .args .n ≤ length (b .before .before .first-front .last .1 .1 .0)
-wide b = omega (arith, b .before .before .first-front .kept .1 .1 .0, entry b .pre .3)
+wide : (b : tie.After-slice-known4 Inv-loop μ-loop) → entry b .args .n ≤ length (listed b .first-front .last .1 .1 .0)
+wide b = omega (arith, listed b .first-front .kept .1 .1 .0, entry b .pre .3)
 
 -- in a turn k is below n
 early : (c : tie.In-loop Inv-loop μ-loop) → c .before .loop .k < entry (c .before .before) .args .n
@@ -50,9 +70,7 @@ early c = let k = c .before .loop .inv .1 in omega (arith, k .few, sorting-withi
 
 loop-holds : tie.Need-loop-holds Inv-loop μ-loop
 loop-holds c =
-    let f = c .before .before .first-front in
-    let n = c .before .before .before .before .before .before in
-    (refl, sorting-first _ _ _ _ _ _ _ _ (entry c .pre .3) (n .count-all .ensures) (f .ensures))
+    (refl, sorting-first _ _ _ _ _ _ _ _ (entry c .pre .3) (counted (listed c) .count-all .ensures) (listed c .first-front .ensures))
 
 mul-ends : tie.Need-mul-ends Inv-loop μ-loop
 mul-ends c = omega (arith, early c, entry (c .before .before) .pre .2)
@@ -67,8 +85,8 @@ slice-aggregate-pass-front c = search needs
 
 pass-front-requires : tie.Need-pass-front-requires Inv-loop μ-loop
 pass-front-requires c κs =
-    let l = c .before .before .before .before .loop in
-    let b = c .before .before .before .before .before in
+    let l = turn c .before .loop in
+    let b = turn c .before .before in
     let a = entry b in (
       a .pre .0,
       sorting-ready _ _ _ _ _ _ _ _ _ _ _ _ (l .inv .1) (omega (arith, l .inv .0, places b, a .pre .2)) (wide b) (a .pre .4),
@@ -79,13 +97,13 @@ add-k c = omega arith
 
 loop-less : tie.Need-loop-less Inv-loop μ-loop
 loop-less c =
-    let h = c .before .before .before .before .before .before .before .before .before in
+    let h = turn (passed c .before) in
     omega (arith, sorting-within _ _ _ _ _ _ _ _ _ _ _ _ (h .before .loop .inv .1), h .loop-test .taken)
 
 loop-again : tie.Need-loop-again Inv-loop μ-loop
 loop-again c =
-    let p = c .before .before .before .before .before in
-    let h = p .before .before .before .before in
+    let p = passed c in
+    let h = turn (p .before) in
     let l = h .before .loop in
     let b = h .before .before in (
       p .pass-front .kept .1 .1 .1 .1 .1 .1 .1 .1 .0 ∙ l .inv .0,
@@ -94,7 +112,7 @@ loop-again c =
     )
 
 same-length : tie.Need-same-length Inv-loop μ-loop
-same-length c = order-size _ _ _ _ _ _ _ _ _ _ _ _ (c .before .loop .inv .1) (wide (c .before .before)) ∙ c .before .before .before .before .first-front .kept .1 .1 .0
+same-length c = order-size _ _ _ _ _ _ _ _ _ _ _ _ (c .before .loop .inv .1) (wide (c .before .before)) ∙ listed (c .before .before) .first-front .kept .1 .1 .0
 
 same-length-2 : tie.Need-same-length-2 Inv-loop μ-loop
 same-length-2 c = ranks-size _ _ _ _ _ _ _ _ _ _ _ _ (c .before .loop .inv .1)
@@ -106,8 +124,8 @@ returns : tie.Need-returns Inv-loop μ-loop
 returns c =
     let l = c .before .loop in
     let b = c .before .before in
-    let f = b .before .before .first-front in
-    let n = b .before .before .before .before .before .before in
+    let f = listed b .first-front in
+    let n = counted (listed b) in
     let a = entry b in
     sorting-done _ _ _ _ _ _ _ _ _ _ _ _ (l .inv .1) (flatBeats-strict _ _ _ _ _ (a .pre .1)) (a .pre .4) _
     (first-rest _ _ _ (a .args .order .now) (a .args .rank .now) (a .args .ends .now) (n .count-all .last .1 .1 .1 .1 .1 .0) _ (a .pre .3) (n .count-all .ensures) (f .ensures))

@@ -1,6 +1,6 @@
 -- `choose_words`: the selection's answer, and the listing of what it hands out
 use Prim.Native.Nat.{ℕ, _≤_}
-use mathlib.Core.Path.{_≡_, sym, _∙_, subst}
+use mathlib.Core.Path.{_≡_, ap₂, sym, _∙_, subst}
 use mathlib.Core.List.{List}
 use lib.Ieee.{Float}
 use lib.ListN.{length, take, replicate, length-replicate}
@@ -10,7 +10,7 @@ use borrow.Author.Needs.{needs}
 use Rattle.model.specs.Real.{infinity}
 use Rattle.model.specs.Association.{Request}
 use Rattle.model.specs.PoolFile.{listingText}
-use Rattle.model.specs.Refusal.{maxSize}
+use Rattle.model.specs.Refusal.{Room, maxSize, maxPool}
 use Rattle.model.specs.Calls.{Lent, lent, roomOf, SelectExit, selectExit, Selects, wordRequest}
 use Rattle.pool_laws.specs.Text.{listed}
 use Rattle.pool_laws.specs.Choice.{roomy, textExit}
@@ -18,12 +18,15 @@ use Rattle.pool_laws.proofs.Words.{ideal-start, refused-exit, few-kept, few-pla
 use Rattle.pool_choice.proofs.choose_words.Statement.{statement}
 use Rattle.pool_choice.proofs.choose_words.Tie as tie
 
--- each list that is lent has 1,024 entries
+-- the lists that are lent: for a kept list of any size, and for the fronts and lines of any pool
 abbrev zeros : Lent
-zeros = lent (replicate 1024 0) (replicate 1024 0) (replicate 1024 0)
+zeros = lent (replicate maxSize 0) (replicate maxPool 0) (replicate maxPool 0)
+
+abbrev room : ℕ → ℕ → Room
+room size count = record { kept = size; fronts = count; lines = count }
 
 roomed : roomOf zeros ≡ roomy
-roomed = rw (length-replicate {A = ℕ} 1024 0)
+roomed = ap₂ room (length-replicate {A = ℕ} maxSize 0) (length-replicate {A = ℕ} maxPool 0)
 
 -- the request with an ideal, and what the selection leaves
 abbrev asked : tie.After-nsga3-select → List Float → Request

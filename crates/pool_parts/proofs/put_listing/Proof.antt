@@ -6,6 +6,7 @@ use native.Mathlib.Omega.{arith}
 use lib.ListN.{replicate}
 use lib.Seq.{length-take-le}
 use Rattle.model.specs.PoolFile.{listingText}
+use Rattle.model.specs.Calls.{maxText}
 use Rattle.pool_laws.specs.Text.{listed}
 use borrow.Author.Needs.{needs}
 use Rattle.pool_laws.proofs.Texts.{no-room, room, handed}
@@ -45,7 +46,7 @@ put-bytes-requires : tie.Need-put-bytes-requires
 put-bytes-requires c κs =
     let i = c .before .before in
     let w = i .before .before in
-    room (text w) (out w) _ (w .write-listing .ensures .0) (i .if1 .left) (replicate 20501 0) _ (w .write-listing .ensures .1)
+    room (text w) (out w) _ (w .write-listing .ensures .0) (i .if1 .left) (replicate maxText 0) _ (w .write-listing .ensures .1)
 
 same-length : tie.Need-same-length
 same-length c = search needs
@@ -55,7 +56,7 @@ returns-2 c =
     let z = c .before .before in
     let i = z .before .before .before in
     let w = i .before .before in
-    handed (text w) (out w) _ (w .write-listing .ensures .0) (i .if1 .left) (replicate 20501 0) _ (w .write-listing .ensures .1) _ _ (z .put-bytes .ensures)
+    handed (text w) (out w) _ (w .write-listing .ensures .0) (i .if1 .left) (replicate maxText 0) _ (w .write-listing .ensures .1) _ _ (z .put-bytes .ensures)
 
 pub put-listing-spec : {M : Type 1} → statement M
 put-listing-spec =

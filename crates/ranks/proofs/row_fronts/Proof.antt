@@ -1,12 +1,14 @@
 -- the sort of the pool's rows
+use Prim.Native.Nat.{_*_}
 use mathlib.Core.Path.{_≡_, subst}
 use native.Mathlib.Omega.{arith}
 use borrow.Author.Needs.{needs}
 use lib.ListN.{length}
-use Rattle.model.specs.Plan.{planAt}
+use Rattle.model.specs.Plan.{planAt, maxObjectives}
 use Rattle.model.specs.Lists.{over}
 use Rattle.model.specs.Row.{rowBeats}
 use Rattle.model.specs.Front.{frontList}
+use Rattle.model.specs.Refusal.{maxPool}
 use Rattle.plan_rows.proofs.Pool.{few-plans, rows-asked, pool-known, rows-known}
 use Rattle.plan_rows.proofs.Rows.{rows-values}
 use Rattle.front_laws.proofs.Meaning.{sorted-rowBeats}
@@ -54,7 +56,7 @@ fast-non-dominated-sort-requires c κs =
     let e = n .plan-count .ensures in
     let f = filled c .fill-rows in
     let few = few-plans (s .pre .0) e in
-    let size : length (f .last .1 .1 .1 .0) ≡ 8192 = f .kept .1 .1 .1 .0 in (
+    let size : length (f .last .1 .1 .1 .0) ≡ maxPool * maxObjectives = f .kept .1 .1 .1 .0 in (
       omega (arith, size, rows-asked (s .pre .0) e .0 .2),
       rows-known (s .args .directions .now) (planAt (s .args .pool .now)) _ (f .last .1 .1 .1 .0) (rows-values _ _ _ _ _ (f .ensures))
           (pool-known (s .pre .0) e),

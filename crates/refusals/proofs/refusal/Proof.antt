@@ -23,10 +23,10 @@ Past s k = selectRefusal (request s) (room s) ≡ firstOf (drop k (selectChecks 
 
 -- ---- the places: where the call starts, and where the first test has passed
 
-abbrev start : tie.After-bad-count2 → tie.Start
+abbrev start : tie.After-bad-count → tie.Start
 start c = c .before .before .before .before .before .before
 
-abbrev counts : tie.Else1 → tie.After-bad-count2
+abbrev counts : tie.Else1 → tie.After-bad-count
 counts c = c .before .before
 
 abbrev start-1 : tie.Else1 → tie.Start
@@ -45,15 +45,15 @@ good-directions : (c : tie.Else1) → badDirections (start-1 c .args .directions
 good-directions c = sym (c .before .bad-directions .ensures) ∙ c .if1 .left
 
 -- the pool's count
-counted : (c : tie.After-bad-count2) → c .bad-count2 .result ≡ badCount (request (start c) .count)
-counted c = c .bad-count2 .ensures ∙ ap badCount (c .before .before .plan-count .ensures)
+counted : (c : tie.After-bad-count) → c .bad-count .result ≡ badCount (request (start c) .count)
+counted c = c .bad-count .ensures ∙ ap badCount (c .before .before .plan-count .ensures)
 
 past-1 : (c : tie.Else1) → Past (start-1 c) 1
 unfolding selectRefusal
 past-1 c = passed-over _ _ (good-directions c)
 
 past-2 : (c : tie.Else2) → Past (start-1 (c .before)) 2
-past-2 c = past-1 (c .before) ∙ passed-over _ _ (sym (counts (c .before) .before .bad-count .ensures) ∙ c .if2 .left)
+past-2 c = past-1 (c .before) ∙ passed-over _ _ (sym (counts (c .before) .before .bad-size .ensures) ∙ c .if2 .left)
 
 past-3 : (c : tie.Else3) → Past (start-1 (first-3 c)) 3
 past-3 c = past-2 (c .before .before) ∙ passed-over _ _ (sym (c .before .bad-divisions .ensures) ∙ c .if3 .left)
@@ -80,11 +80,11 @@ past-6 c = past-5 (c .before .before) ∙ passed-over _ _ (sym (slices (c .befor
 plan-count-requires : tie.Need-plan-count-requires
 plan-count-requires c κs = tt
 
+bad-size-requires : tie.Need-bad-size-requires
+bad-size-requires c κs = tt
+
 bad-count-requires : tie.Need-bad-count-requires
 bad-count-requires c κs = tt
-
-bad-count-requires-2 : tie.Need-bad-count-requires-2
-bad-count-requires-2 c κs = tt
 
 bad-directions-requires : tie.Need-bad-directions-requires
 bad-directions-requires c κs = tt
@@ -94,7 +94,7 @@ unfolding selectRefusal
 returns c = sym (applies-first _ _ (sym (c .before .bad-directions .ensures) ∙ c .if1 .taken))
 
 returns-2 : tie.Need-returns-2
-returns-2 c = sym (past-1 (c .before) ∙ applies-first _ _ (sym (counts (c .before) .before .bad-count .ensures) ∙ c .if2 .taken))
+returns-2 c = sym (past-1 (c .before) ∙ applies-first _ _ (sym (counts (c .before) .before .bad-size .ensures) ∙ c .if2 .taken))
 
 bad-divisions-requires : tie.Need-bad-divisions-requires
 bad-divisions-requires c κs = some-objectives _ (good-directions (c .before))
@@ -127,8 +127,8 @@ refusal-spec =
     tie.close
     (tie.spec
     plan-count-requires
+    bad-size-requires
     bad-count-requires
-    bad-count-requires-2
     bad-directions-requires
     returns
     returns-2

@@ -1,11 +1,12 @@
 -- `put_nearest`. Assumes nothing.
 use Prim.Native.Nat.{_-_, _≤_}
 use borrow.Author.Needs.{needs}
+use Rattle.model.specs.Refusal.{maxPool}
 use Rattle.replay_association.proofs.put_nearest.Statement.{statement}
 use Rattle.replay_association.proofs.put_nearest.Tie as tie
 
 abbrev Inv-loop : tie.InvT-loop
-Inv-loop out₀ lines distances n place₀ i₀ out place i = (i ≤ n) × (n ≤ 1024)
+Inv-loop out₀ lines distances n place₀ i₀ out place i = (i ≤ n) × (n ≤ maxPool)
 
 abbrev μ-loop : tie.MeasureT-loop
 μ-loop out₀ lines distances n place₀ i₀ out place i = n - i

@@ -1,4 +1,4 @@
--- `fronts`: 1,024 rows of 8 values fit. Assumes nothing.
+-- `fronts`: the rows of a pool fit. Assumes nothing.
 use borrow.Author.Needs.{needs}
 use native.Mathlib.Nat.{mul-le-mul}
 use Rattle.replay_fronts.proofs.fronts.Statement.{statement}

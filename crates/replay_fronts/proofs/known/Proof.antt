@@ -1,5 +1,5 @@
 -- `known`: no value passed is a NaN. Assumes nothing.
-use Prim.Native.Nat.{ℕ, _-_, _≤_, _<_}
+use Prim.Native.Nat.{ℕ, _*_, _-_, _≤_, _<_}
 use mathlib.Core.Path.{_≡_, sym}
 use mathlib.Core.Bool.{false, true≢false}
 use native.Mathlib.Omega.{arith}
@@ -7,6 +7,8 @@ use borrow.Author.Count.{below-none, below-more}
 use lib.Ieee.{nan, isNan}
 use borrow.Author.Needs.{needs}
 use lib.ListN.{getD}
+use Rattle.model.specs.Plan.{maxObjectives}
+use Rattle.model.specs.Refusal.{maxPool}
 use Rattle.list_laws.proofs.Bools.{T-false}
 use Rattle.list_laws.proofs.Rows.{row-lt}
 use Rattle.real_laws.proofs.Nan.{eq-not-nan}
@@ -14,7 +16,7 @@ use Rattle.replay_fronts.proofs.known.Statement.{statement}
 use Rattle.replay_fronts.proofs.known.Tie as tie
 
 abbrev Inv-loop : tie.InvT-loop
-Inv-loop rows m n end i₀ i = (i ≤ end) × ((end ≤ 8192) × ((k : ℕ) → k < i → isNan (getD rows k nan) ≡ false))
+Inv-loop rows m n end i₀ i = (i ≤ end) × ((end ≤ maxPool * maxObjectives) × ((k : ℕ) → k < i → isNan (getD rows k nan) ≡ false))
 
 abbrev μ-loop : tie.MeasureT-loop
 μ-loop rows m n end i₀ i = end - i

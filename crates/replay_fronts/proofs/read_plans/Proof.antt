@@ -1,11 +1,12 @@
 -- `read_plans`. Assumes nothing.
 use Prim.Native.Nat.{_*_, _-_, _≤_}
 use borrow.Author.Needs.{needs}
+use Rattle.model.specs.Refusal.{maxPool}
 use Rattle.replay_fronts.proofs.read_plans.Statement.{statement}
 use Rattle.replay_fronts.proofs.read_plans.Tie as tie
 
 abbrev Inv-loop : tie.InvT-loop
-Inv-loop input at m n constrained marks rows₀ flags₀ sums₀ place₀ base₀ p₀ rows flags sums place base p = (p ≤ n) × ((n ≤ 1024) × ((m ≤ 8) × ((place ≤ 8193) × (base ≤ 8 * p))))
+Inv-loop input at m n constrained marks rows₀ flags₀ sums₀ place₀ base₀ p₀ rows flags sums place base p = (p ≤ n) × ((n ≤ maxPool) × ((m ≤ 8) × ((place ≤ 8193) × (base ≤ 8 * p))))
 
 abbrev μ-loop : tie.MeasureT-loop
 μ-loop input at m n constrained marks rows₀ flags₀ sums₀ place₀ base₀ p₀ rows flags sums place base p = n - p

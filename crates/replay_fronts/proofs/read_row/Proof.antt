@@ -1,11 +1,13 @@
 -- `read_row`. Assumes nothing.
-use Prim.Native.Nat.{_-_, _≤_}
+use Prim.Native.Nat.{_*_, _-_, _≤_}
 use borrow.Author.Needs.{needs}
+use Rattle.model.specs.Plan.{maxObjectives}
+use Rattle.model.specs.Refusal.{maxPool}
 use Rattle.replay_fronts.proofs.read_row.Statement.{statement}
 use Rattle.replay_fronts.proofs.read_row.Tie as tie
 
 abbrev Inv-loop : tie.InvT-loop
-Inv-loop input at m base marks rows₀ j₀ rows j = (j ≤ m) × ((m ≤ 8) × ((at ≤ 8193) × (base ≤ 8192)))
+Inv-loop input at m base marks rows₀ j₀ rows j = (j ≤ m) × ((m ≤ 8) × ((at ≤ 8193) × (base ≤ maxPool * maxObjectives)))
 
 abbrev μ-loop : tie.MeasureT-loop
 μ-loop input at m base marks rows₀ j₀ rows j = m - j

@@ -1,11 +1,13 @@
 -- `digest`. Assumes nothing.
-use Prim.Native.Nat.{_-_, _≤_}
+use Prim.Native.Nat.{_*_, _-_, _≤_}
 use borrow.Author.Needs.{needs}
+use Rattle.model.specs.Plan.{maxObjectives}
+use Rattle.model.specs.Refusal.{maxLines}
 use Rattle.replay_reference.proofs.digest.Statement.{statement}
 use Rattle.replay_reference.proofs.digest.Tie as tie
 
 abbrev Inv-loop : tie.InvT-loop
-Inv-loop table n d₀ i₀ d i = (i ≤ n) × (n ≤ 8192)
+Inv-loop table n d₀ i₀ d i = (i ≤ n) × (n ≤ maxLines * maxObjectives)
 
 abbrev μ-loop : tie.MeasureT-loop
 μ-loop table n d₀ i₀ d i = n - i

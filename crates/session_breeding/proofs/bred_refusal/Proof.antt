@@ -1,9 +1,13 @@
 -- the step's check, on the words bred from
 use Prim.Native.Nat.{_*_, _≤_}
+use native.Mathlib.Nat.{le-trans, mul-le-mul-right}
 use mathlib.Core.List.{[]}
 use mathlib.Core.Path.{refl, sym, ap, _∙_}
 use lib.Seq.{length-take-le}
 use Rattle.model.specs.Refusal.{stepRefusal}
+use Rattle.model.specs.Plan.{planWords}
+use Rattle.model.specs.Refusal.{maxPool}
+use Rattle.list_laws.proofs.Limits.{size-in-pool}
 use Rattle.session_breeding.proofs.Breeding.{ideal-room, evaluated-tells, short-is}
 use native.Mathlib.Omega.{arith}
 use borrow.Author.Needs.{needs}
@@ -41,7 +45,7 @@ slice-aggregate-gather c = refl
 gather-requires : tie.Need-gather-requires
 gather-requires c κs =
     let s = start c in
-    let room : s .args .session .config .«population_size» * 124 ≤ 126976 = omega (arith, s .pre .0 .config .atMost) in
+    let room : s .args .session .config .«population_size» * planWords ≤ maxPool * planWords = mul-le-mul-right planWords (le-trans (s .pre .0 .config .atMost) size-in-pool) in
     let e = evaluated-tells _ _ (s .pre .1) in
     (e .0, room, e .1)
 

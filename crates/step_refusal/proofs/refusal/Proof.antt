@@ -8,7 +8,7 @@ use Rattle.model.specs.Association.{Request}
 use Rattle.model.specs.Setting.{Operators, operatorsIn}
 use Rattle.model.specs.Refusal.{Room, firstOf, badDirections, badSize, badDimensions, badCount, badPool, badParents, stepTooShort, noStepRoom, stepChecks, stepRefusal}
 use Rattle.settings.proofs.Valid.{few}
-use Rattle.demand3_laws.proofs.Passed.{some-objectives, one-to-1024}
+use Rattle.demand3_laws.proofs.Passed.{some-objectives, size-limits}
 use Rattle.list_laws.proofs.Checks.{passed-over, applies-first}
 use Rattle.step_refusal.proofs.refusal.Statement.{statement}
 use Rattle.step_refusal.proofs.refusal.Tie as tie
@@ -44,10 +44,10 @@ abbrev passed-4 : tie.Else5 → tie.Else4
 passed-4 c = c .before .before .before
 
 -- the plans of the pool are counted before the sixth test
-abbrev counts : tie.After-bad-count2 → tie.After-plan-count
+abbrev counts : tie.After-bad-count → tie.After-plan-count
 counts c = c .before
 
-abbrev passed-5 : tie.After-bad-count2 → tie.Else5
+abbrev passed-5 : tie.After-bad-count → tie.Else5
 passed-5 c = counts c .before
 
 abbrev passed-6 : tie.Else7 → tie.Else6
@@ -91,14 +91,14 @@ good-directions : (c : tie.Else1) → badDirections (start c .args .directions .
 good-directions c = sym (c .before .bad-directions .ensures) ∙ c .if1 .left
 
 good-size : (c : tie.Else2) → badSize (start (passed-1 c) .args .size) ≡ false
-good-size c = sym (c .before .bad-count .ensures) ∙ c .if2 .left
+good-size c = sym (c .before .bad-size .ensures) ∙ c .if2 .left
 
 good-dimensions : (c : tie.Else5) → let o = ops (start (first-5 c)) in badDimensions (o .dims) (o .dimCount) ≡ false
 good-dimensions c = sym (c .before .bad-dimensions .ensures) ∙ c .if5 .left
 
 -- the pool's count
-counted : (c : tie.After-bad-count2) → c .bad-count2 .result ≡ badCount (request (start (first-5 (passed-5 c))) .count)
-counted c = c .bad-count2 .ensures ∙ ap badCount (counts c .plan-count .ensures)
+counted : (c : tie.After-bad-count) → c .bad-count .result ≡ badCount (request (start (first-5 (passed-5 c))) .count)
+counted c = c .bad-count .ensures ∙ ap badCount (counts c .plan-count .ensures)
 
 slices : (c : tie.After-no-step-room) → let s = start (first-8 (c .before)) in c .no-step-room .result ≡ noStepRoom (ops s) (request s) (room s) (s .args .offspring)
 unfolding noStepRoom
@@ -146,11 +146,11 @@ returns : tie.Need-returns
 unfolding stepRefusal
 returns c = sym (applies-first _ _ (sym (c .before .bad-directions .ensures) ∙ c .if1 .taken))
 
-bad-count-requires : tie.Need-bad-count-requires
-bad-count-requires c κs = tt
+bad-size-requires : tie.Need-bad-size-requires
+bad-size-requires c κs = tt
 
 returns-2 : tie.Need-returns-2
-returns-2 c = sym (past-1 (c .before .before) ∙ applies-first _ _ (sym (c .before .bad-count .ensures) ∙ c .if2 .taken))
+returns-2 c = sym (past-1 (c .before .before) ∙ applies-first _ _ (sym (c .before .bad-size .ensures) ∙ c .if2 .taken))
 
 bad-divisions-requires : tie.Need-bad-divisions-requires
 bad-divisions-requires c κs = some-objectives _ (good-directions (passed-1 c))
@@ -173,8 +173,8 @@ returns-5 c = sym (past-4 (c .before .before .before) ∙ applies-first _ _ (sym
 plan-count-requires : tie.Need-plan-count-requires
 plan-count-requires c κs = tt
 
-bad-count-requires-2 : tie.Need-bad-count-requires-2
-bad-count-requires-2 c κs = tt
+bad-count-requires : tie.Need-bad-count-requires
+bad-count-requires c κs = tt
 
 returns-6 : tie.Need-returns-6
 returns-6 c = sym (past-5 (passed-5 (c .before)) ∙ applies-first _ _ (sym (counted (c .before)) ∙ c .if6 .taken))
@@ -196,7 +196,7 @@ returns-8 c = sym (past-7 (c .before .before) ∙ applies-first _ _ (sym (c .bef
 no-step-room-requires : tie.Need-no-step-room-requires
 no-step-room-requires c κs =
     let d = fifth-7 (passed-7 c) in
-    (one-to-1024 _ (good-size (second-5 d)) .1, few _ _ (good-dimensions d))
+    (size-limits _ (good-size (second-5 d)) .1, few _ _ (good-dimensions d))
 
 returns-9 : tie.Need-returns-9
 returns-9 c = sym (past-8 (c .before .before) ∙ applies-first _ _ (sym (slices (c .before)) ∙ c .if9 .taken))
@@ -211,7 +211,7 @@ refusal-spec =
     (tie.spec
     bad-directions-requires
     returns
-    bad-count-requires
+    bad-size-requires
     returns-2
     bad-divisions-requires
     returns-3
@@ -220,7 +220,7 @@ refusal-spec =
     bad-dimensions-requires
     returns-5
     plan-count-requires
-    bad-count-requires-2
+    bad-count-requires
     returns-6
     bad-pool-requires
     returns-7

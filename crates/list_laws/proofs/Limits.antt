@@ -1,0 +1,18 @@
+-- The limits of document 01, beside each other: what lies within one of them lies within another, and the values of so many rows or lines.
+use Prim.Native.Nat.{ℕ, _*_, _≤_}
+use native.Mathlib.Nat.{mul-le-mul}
+use native.Mathlib.Omega.{arith}
+use Rattle.model.specs.Plan.{maxObjectives}
+use Rattle.model.specs.Refusal.{maxSize, maxPool, maxLines}
+
+-- as many plans as may be wanted may stand in a pool
+pub size-in-pool : maxSize ≤ maxPool
+size-in-pool = omega arith
+
+-- a pool's rows have at most as many values as its plans times the objectives
+pub row-values : (n m : ℕ) → n ≤ maxPool → m ≤ maxObjectives → n * m ≤ maxPool * maxObjectives
+row-values n m h k = mul-le-mul h k
+
+-- and so has a table of lines
+pub table-values : (n m : ℕ) → n ≤ maxLines → m ≤ maxObjectives → n * m ≤ maxLines * maxObjectives
+table-values n m h k = mul-le-mul h k
