@@ -1,5 +1,5 @@
 -- LAW: of every line of the reference table, for 1 to 8 objectives and 1 to 199 divisions, each coordinate lies within 0..1, and one of them is 1/8 or more; so
--- r·r is at least 1/64, not below 1e-30. Assumes nothing.
+-- r·r is at least 1/64, not below 1e-30.
 use Prim.Native.Nat.{ℕ, suc, _-_, _*_, _/_, _≤_, _<_}
 use mathlib.Core.Path.{_≡_, refl, ap, sym, subst, _∙_}
 use mathlib.Core.Bool.{false}

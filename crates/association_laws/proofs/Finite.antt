@@ -1,5 +1,5 @@
 -- THEOREM: every distance of a plan from a line of the table, of a request whose numbers refusal 8 lets pass and that has 1 to 8 objectives and 1 to 199
--- divisions, is the paper's, and, where the plan shapes the scale, no NaN and below infinity. Assumes nothing.
+-- divisions, is the paper's, and, where the plan shapes the scale, no NaN and below infinity.
 use Prim.Native.Nat.{ℕ, _≤_, _<_}
 use mathlib.Core.Path.{_≡_, refl, sym, subst}
 use mathlib.Core.Bool.{true, false}

@@ -1,4 +1,4 @@
--- No square of a distance is below 0: it may be -0, where there are no terms, an infinity or a NaN. Assumes nothing.
+-- No square of a distance is below 0: it may be -0, where there are no terms, an infinity or a NaN.
 use Prim.Native.Nat.{ℕ, zero, suc, _*_}
 use mathlib.Core.Path.{refl, sym, subst}
 use mathlib.Core.Bool.{true, false, not}

@@ -1,4 +1,4 @@
--- THEOREM: every normalised value of a plan that shapes the scale lies within 0..1, in a request whose numbers refusal 8 lets pass. Assumes nothing.
+-- THEOREM: every normalised value of a plan that shapes the scale lies within 0..1, in a request whose numbers refusal 8 lets pass.
 use Prim.Native.Nat.{ℕ, _<_}
 use mathlib.Core.Path.{_≡_, refl, ap, sym, subst, _∙_}
 use mathlib.Core.Bool.{true, false, not, true≢false}

@@ -1,4 +1,4 @@
--- "For other v, in breeding never above 2^51": every v that crossover and mutation hand to R lies within 0..2^51. Assumes nothing.
+-- "For other v, in breeding never above 2^51": every v that crossover and mutation hand to R lies within 0..2^51.
 use Prim.Native.Nat.{ℕ, suc, _+_, _-_, _*_, _/_, _^_, _≤_, _<_, zero-le}
 use mathlib.Core.Path.{_≡_, refl, ap, subst}
 use mathlib.Core.Bool.{true, false, cond}

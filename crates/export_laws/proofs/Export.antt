@@ -1,4 +1,4 @@
--- What is handed out in numbers is what the call leaves, coded. Assumes nothing.
+-- What is handed out in numbers is what the call leaves, coded.
 use Prim.Native.Nat.{ℕ}
 use mathlib.Core.Path.{_≡_, refl, sym, ap, ap₂, subst, _∙_}
 use mathlib.Core.List.{List}

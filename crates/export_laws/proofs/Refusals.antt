@@ -1,4 +1,4 @@
--- No refusal has the number 0, so that the number which a call answers tells its refusal. Assumes nothing.
+-- No refusal has the number 0, so that the number which a call answers tells its refusal.
 use Prim.Native.Nat.{ℕ, zero, suc}
 use mathlib.Core.Path.{_≡_, refl, sym, _∙_}
 use mathlib.Core.Bool.{true}

@@ -1,4 +1,4 @@
--- What opening and a session call hand out in words. Assumes nothing.
+-- What opening and a session call hand out in words.
 use Prim.Native.Nat.{ℕ, _≤_, _<_}
 use mathlib.Core.Path.{_≡_, refl, sym, ap, ap₂, subst, _∙_}
 use mathlib.Core.Bool.{Bool, true, false, cond, true≢false}

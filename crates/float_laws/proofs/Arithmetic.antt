@@ -1,5 +1,5 @@
 -- The four operations, each rounded once, and the order: sums and products of numbers from 0 up grow with each part, differences and quotients with the
--- first (differences fall with the second), and a quotient x / a for 0 ≤ x ≤ a lies within 0..1. Assumes nothing.
+-- first (differences fall with the second), and a quotient x / a for 0 ≤ x ≤ a lies within 0..1.
 use mathlib.Core.Path.{_≡_, ap, _∙_, subst}
 use Prim.Native.Nat.{ℕ, _+_, _-_, _*_, _^_, _≤_, _<_, zero-le}
 use native.Mathlib.Nat.{one-mul, mul-assoc, mul-right-comm, mul-pos, mul-le-mul, mul-le-mul-right, add-mul, mul-add, mul-mul-mul-comm}

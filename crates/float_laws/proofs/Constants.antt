@@ -1,5 +1,5 @@
 -- 0, 1 and the powers of two, by their values, with their counts. A literal of the code is `ofBits binary64 N`: under `unfolding ofBits` it is the same.
--- Assumes nothing.
+--
 use mathlib.Core.Path.{refl, sym, ap, _∙_}
 use Prim.Native.Nat.{ℕ, _*_, _^_}
 use native.Mathlib.Nat.{zero-add, one-mul, mul-one, zero-mul}

@@ -1,4 +1,4 @@
--- Doubles from 0 up to a bound: their sums, differences, products and quotients, and what they leave of 1. Assumes nothing.
+-- Doubles from 0 up to a bound: their sums, differences, products and quotients, and what they leave of 1.
 use mathlib.Core.Path.{_≡_, refl, subst}
 use Prim.Native.Nat.{ℕ}
 use lib.Dec.{T, lit≤}

@@ -1,6 +1,6 @@
 -- "low + draw × (high - low), each operation rounded. The result lies in low..high", for a draw k / 2 ^ 52 with k < 2 ^ 52 (`drawn`).
 -- With D the exact difference and x its rounding, draw × x is at most the double below x, or x is at most D; either way it is at most a double c ≤ D
--- (`floor`), so that low plus it, rounded, is at most high. Assumes nothing.
+-- (`floor`), so that low plus it, rounded, is at most high.
 use mathlib.Core.Path.{_≡_, refl, sym, ap, _∙_, subst}
 use mathlib.Core.Logic.{inl, inr}
 use Prim.Native.Nat.{ℕ, _+_, _-_, _*_, _/_, _^_, _≤_, _<_, zero-le}

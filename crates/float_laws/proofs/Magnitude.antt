@@ -1,6 +1,6 @@
 -- Magnitudes by powers of two, which keep a computation from overflowing: `Within k x` says that the double x is at most 2 ^ k in magnitude, so a number and no
 -- NaN. A sum is within the next power, a product within the sum of the exponents, and so is a quotient by what is at least 2 ^ -i.
--- Assumes nothing.
+--
 use mathlib.Core.Path.{_≡_, sym, ap, _∙_, subst}
 use mathlib.Core.Logic.{_⊎_, inl, inr, ⊎-elim}
 use mathlib.Core.Bool.{true, false, not}

@@ -1,5 +1,5 @@
 -- The order of all floats: `le` and `lt` are a total order on every float but NaN, whatever its format, with -0 level with +0. State facts by `T (le x y)`,
--- not by `≡`, since the two zeros differ as data. A test of the code gives `le x y ≡ true`: `true-T _ e` makes the fact of it. Assumes nothing.
+-- not by `≡`, since the two zeros differ as data. A test of the code gives `le x y ≡ true`: `true-T _ e` makes the fact of it.
 use mathlib.Core.Path.{refl}
 use mathlib.Core.Logic.{_⊎_, inl, inr}
 use Prim.Native.Nat.{ℕ, _+_, _*_, _≤_, _<_}

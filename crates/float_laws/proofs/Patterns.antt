@@ -1,4 +1,4 @@
--- Bit patterns: floats with the sign clear, no NaN among them, are in the order of their patterns. Assumes nothing.
+-- Bit patterns: floats with the sign clear, no NaN among them, are in the order of their patterns.
 use mathlib.Core.Path.{_≡_, refl, sym, ap, _∙_, subst}
 use mathlib.Core.Logic.{inl, inr}
 use Prim.Native.Nat.{ℕ, suc, _+_, _-_, _*_, _/_, _^_, _≤_, _<_, zero-le}

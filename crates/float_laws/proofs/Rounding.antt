@@ -1,6 +1,6 @@
 -- One rounding. `Rounded f x p n c` says that x is what `round` makes of (p - n) / c. Sums, differences and quotients of counted floats are such roundings
 -- (`add-rounded`, `sub-rounded`, `div-rounded`; products in `Arithmetic`). Rounding keeps the order (`rounded-mono`), does not pass a value that the format
--- holds (`rounded-le`, `le-rounded`) and is exact where it can be (`rounded-exact`). Assumes nothing.
+-- holds (`rounded-le`, `le-rounded`) and is exact where it can be (`rounded-exact`).
 use mathlib.Core.Path.{_≡_, refl, sym, ap, _∙_, subst, subst₂}
 use mathlib.Core.Logic.{inl, inr}
 use Prim.Native.Nat.{ℕ, zero, suc, _+_, _-_, _*_, _^_, _≤_, _<_}

@@ -1,5 +1,5 @@
 -- Sums, from left to right: term by term, of doubles within a power of two, and of doubles from 0 up, of which each is at most the sum.
--- Assumes nothing.
+--
 use Prim.Native.Nat.{ℕ, zero, suc, _+_, _≤_, _<_, zero-le}
 use mathlib.Core.Path.{_≡_, refl, ap, ap₂, sym, subst, _∙_}
 use native.Mathlib.Nat.{not-suc-le-zero, add-zero, add-suc}

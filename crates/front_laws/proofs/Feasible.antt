@@ -1,4 +1,4 @@
--- THEOREM: constraints that refusal 8 lets pass are feasible exactly where their overall violation is at most 0. Assumes nothing.
+-- THEOREM: constraints that refusal 8 lets pass are feasible exactly where their overall violation is at most 0.
 use Prim.Native.Nat.{ℕ, _+_, _≤_, _<_, min}
 use mathlib.Core.Path.{_≡_, sym, subst}
 use mathlib.Core.Bool.{true, _&&_}

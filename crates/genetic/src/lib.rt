@@ -8,7 +8,7 @@ ghost use Rattle.model.specs.Draw.{drawn};
 ghost use Rattle.model.specs.Setting.{maxDims, children, crossover, tournament, brood, operatorsIn, dimensionsOf};
 ghost use Rattle.model.specs.Refusal.{badDimensions, badOperators};
 ghost use Rattle.settings.specs.Candidate.{settingsOf, parentsIn};
-use genetic_parts::DrawnChildren;
+use candidate_operators::DrawnChildren;
 use model::DimensionInfo;
 use model::MAX_DIMS;
 use model::Operators;
@@ -40,7 +40,7 @@ pub fn crossover(
             rng,
         };
     }
-    genetic_parts::cross_all(dims, n, p, q, k, rng)
+    candidate_operators::cross_all(dims, n, p, q, k, rng)
 }
 
 // Two of n are drawn, and the one of smaller rank wins, the first on a tie.
@@ -83,18 +83,18 @@ pub fn brood(
     let b = tournament_select_rank(ranks, count, rng);
     let j = b.value;
     let rng = b.rng;
-    let p = genetic_parts::read_parent(parents, dims, n, i);
-    let q = genetic_parts::read_parent(parents, dims, n, j);
+    let p = candidate_operators::read_parent(parents, dims, n, i);
+    let q = candidate_operators::read_parent(parents, dims, n, j);
     let k = variation::exponent_of(operators.crossover_eta);
     let c = crossover(dims, n, operators.crossover_prob, k, p, q, rng);
     let first = c.first;
     let second = c.second;
     let rng = c.rng;
     let m = variation::exponent_of(operators.mutation_eta);
-    let x = genetic_parts::mutate(dims, n, first, m, rng);
+    let x = candidate_operators::mutate(dims, n, first, m, rng);
     let first = x.params;
     let rng = x.rng;
-    let y = genetic_parts::mutate(dims, n, second, m, rng);
+    let y = candidate_operators::mutate(dims, n, second, m, rng);
     let second = y.params;
     let rng = y.rng;
     DrawnChildren { first, second, rng }

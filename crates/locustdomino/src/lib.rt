@@ -25,7 +25,7 @@ pub extern "C" fn locustdomino_select(
         (lent (now (kept .entry)) (now (fronts .entry)) (now (lines .entry)))
         (record { code = r; state = now (state .exit); ideal = now (ideal .exit); slices = lent (now (kept .exit)) (now (fronts .exit)) (now (lines .exit)) }) ⌝ }
 {
-    selection_words::select_words(
+    c_select::select_words(
         pool,
         directions,
         divisions,
@@ -63,7 +63,7 @@ pub extern "C" fn locustdomino_generate_offspring(
         (lent (now (kept .entry)) (now (fronts .entry)) (now (lines .entry))) (now (offspring .entry)) (now («n_kept» .entry))
         (record { code = r; kept = now («n_kept» .exit); state = now (state .exit); ideal = now (ideal .exit); slices = lent (now (kept .exit)) (now (fronts .exit)) (now (lines .exit)); offspring = now (offspring .exit) }) ⌝ }
 {
-    generation_words::generate_offspring_words(
+    c_generate::generate_offspring_words(
         pool,
         directions,
         divisions,
@@ -99,7 +99,7 @@ pub extern "C" fn locustdomino_open(
     ensures { λ r. ⌜ OpensWords (now (directions .entry)) seed (optional «has_size» size) (optional «has_divisions» divisions) «crossover_prob» «crossover_eta» «mutation_eta»
         (now (session .entry)) r (now (session .exit)) ⌝ }
 {
-    opening_words::open_words(
+    c_open::open_words(
         directions,
         seed,
         has_size,
@@ -134,7 +134,7 @@ pub extern "C" fn locustdomino_sample(
         (now (kind .entry)) (now (value .entry))
         (sampledWords r (now (kind .exit)) (now (value .exit)) (now (session .exit)) (state (sessionOf (now (session .exit))) (now (candidates .exit)) (now (plans .exit)) (now («next_dims» .exit)))) ⌝ }
 {
-    sample_words::sample_words(
+    c_sample::sample_words(
         session,
         dimension,
         plan,
@@ -152,5 +152,5 @@ pub extern "C" fn locustdomino_sample(
 pub extern "C" fn locustdomino_choose(file: &[u8], out: &mut [u8], length: &mut usize) -> u64
     ensures { λ r. ⌜ ListsWords (now (file .entry)) (now (out .entry)) (now (length .entry)) (record { code = r; length = now (length .exit); out = now (out .exit) }) ⌝ }
 {
-    selection_words::choose_words(file, out, length)
+    c_select::choose_words(file, out, length)
 }

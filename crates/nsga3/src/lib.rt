@@ -43,7 +43,7 @@ fn select_split(
     let n_lines = das_dennis::das_dennis(m, divisions, &mut table);
     let mut distances: [f64; MAX_POOL] = [0.0; MAX_POOL];
     association::associate(rows, n, m, &table, n_lines, ideal, lines, &mut distances);
-    nsga3_parts::copy_first(order, whole, kept);
+    selection_lists::copy_first(order, whole, kept);
     niching::niching_select(
         rng,
         order,
@@ -94,7 +94,7 @@ fn fill_kept(
     }
     let n = plans::plan_count(pool);
     let whole = cut.whole;
-    nsga3_parts::select_whole(rng, order, n, whole, size, kept, lines)
+    selection_lists::select_whole(rng, order, n, whole, size, kept, lines)
 }
 
 // A selection that meets no refusal.

@@ -50,7 +50,7 @@ fn choose_words(
     let outcome = selection.outcome;
     match outcome {
         Outcome::Refused(number) => Chosen::Refused(number),
-        Outcome::Kept(n) => pool_parts::put_listing(
+        Outcome::Kept(n) => pool_listing::put_listing(
             plans::plan_count(pool),
             &kept[..n],
             &fronts,

@@ -1,4 +1,4 @@
--- Casts: a double beyond the range of 64 bits. Assumes nothing.
+-- Casts: a double beyond the range of 64 bits.
 use mathlib.Core.Path.{_≡_, refl, ap, subst}
 use mathlib.Core.Bool.{Bool, true, false, not}
 use Prim.Native.Nat.{ℕ, _-_, _*_, _/_, _^_, _≤_, _<_, min}

@@ -1,4 +1,4 @@
--- What is clamped lies within the bounds, unless it is a NaN. Assumes nothing.
+-- What is clamped lies within the bounds, unless it is a NaN.
 use mathlib.Core.Bool.{not, cond}
 use lib.Dec.{T}
 use lib.Ieee.{Float, le, lt, isNan}

@@ -1,5 +1,5 @@
 -- `round` by whole numbers: of x above zero, with the whole part n, the nearest whole number is n, or n + 1 where twice x, which is exact, is 2n + 1 or more.
--- From 2^52 on a double is whole, and is its own rounding. Assumes nothing.
+-- From 2^52 on a double is whole, and is its own rounding.
 use mathlib.Core.Path.{_≡_, refl, sym, ap, _∙_, subst}
 use Prim.Native.Nat.{ℕ, zero, suc, _+_, _-_, _*_, _/_, _^_, _≤_, _<_, min}
 use native.Mathlib.Nat.{le-trans, le-of-eq, le-of-lt, le-antisymm, le-of-suc-le-suc, lt-of-le-of-lt, lt-of-not-le, zero-lt-suc, suc-mul, one-mul, mul-one, mul-comm, mul-assoc, mul-left-comm, mul-right-comm, mul-pos, add-mul, mul-le-mul-right, le-of-mul-le-mul-right, pow-succ', div-lt-iff-lt-mul, le-div-iff-mul-le, div-mul-le-self}

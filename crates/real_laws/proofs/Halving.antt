@@ -1,4 +1,4 @@
--- The root R by halving: how the ends go on, and that they become neighbours. Assumes nothing.
+-- The root R by halving: how the ends go on, and that they become neighbours.
 use mathlib.Core.Path.{_≡_, sym, ap, _∙_, subst}
 use mathlib.Core.Bool.{Bool, true, false, cond}
 use Prim.Native.Nat.{ℕ, zero, suc, _+_, _-_, _*_, _/_, _^_, _≤_, _<_}

@@ -1,4 +1,4 @@
--- Whole numbers as words, and the machine's arithmetic that codes them. Assumes nothing.
+-- Whole numbers as words, and the machine's arithmetic that codes them.
 use mathlib.Core.Path.{_≡_, refl, sym, ap, _∙_}
 use mathlib.Core.Bool.{Bool, true, false, cond, true≢false}
 use Prim.Native.Nat.{ℕ, zero, suc, _+_, _-_, _*_, _/_, _%_, _^_, _<_}

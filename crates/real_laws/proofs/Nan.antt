@@ -1,4 +1,4 @@
--- NaN, the infinity and the sign by the order. Assumes nothing.
+-- NaN, the infinity and the sign by the order.
 use mathlib.Core.Path.{_≡_, refl, sym, subst}
 use mathlib.Core.Logic.{_⊎_, inl, inr}
 use mathlib.Core.Bool.{true, false, not, true≢false}

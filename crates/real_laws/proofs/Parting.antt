@@ -1,5 +1,5 @@
 -- The root R by its neighbours, of every v: P rises with the pattern, so there is one l for which P(l) is at most v and P(l + 1) is not, and it is R's,
--- however it was found. Assumes nothing.
+-- however it was found.
 use mathlib.Core.Path.{_≡_, ap, _∙_, sym, subst}
 use mathlib.Core.Bool.{Bool, true, false}
 use Prim.Native.Nat.{ℕ, zero, suc, _+_, _-_, _/_, _≤_, _<_}

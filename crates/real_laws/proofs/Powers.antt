@@ -1,5 +1,5 @@
 -- Powers of a double from zero up, by repeated rounded products: they are from zero up, and grow with the double, also where they overflow.
--- Assumes nothing.
+--
 use mathlib.Core.Path.{_≡_, refl, ap, _∙_, subst}
 use mathlib.Core.Logic.{inl, inr}
 use mathlib.Core.Bool.{Bool, true, false, cond}

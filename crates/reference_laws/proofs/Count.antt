@@ -1,4 +1,4 @@
--- How many lines there are: `binomial` is Pascal's triangle, and `pointCount` is the length of the list of lines. Assumes nothing.
+-- How many lines there are: `binomial` is Pascal's triangle, and `pointCount` is the length of the list of lines.
 use Prim.Native.Nat.{ℕ, zero, suc, _+_, _-_, _*_, _/_, _^_, _≤_, _<_}
 use mathlib.Core.Path.{_≡_, refl, sym, _∙_}
 use mathlib.Core.List.{List, _∷_, map}

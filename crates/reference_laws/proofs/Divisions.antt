@@ -1,4 +1,4 @@
--- Divisions within refusal 4's bounds, and which a session uses. Assumes nothing.
+-- Divisions within refusal 4's bounds, and which a session uses.
 use Prim.Native.Nat.{ℕ, _*_, _≤_, _<_}
 use mathlib.Core.Path.{_≡_, refl, ap, sym, _∙_}
 use mathlib.Core.Logic.{⊎-elim}

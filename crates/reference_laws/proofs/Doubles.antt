@@ -1,4 +1,4 @@
--- THEOREM: the reference table in doubles is the image of Das and Dennis's table, and lists each line once. Assumes nothing.
+-- THEOREM: the reference table in doubles is the image of Das and Dennis's table, and lists each line once.
 use Prim.Native.Nat.{ℕ, _≤_}
 use mathlib.Core.Path.{refl, subst}
 use mathlib.Core.List.{List, map, List·Memᴰ}

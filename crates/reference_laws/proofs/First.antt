@@ -1,4 +1,4 @@
--- The search of `auto_divisions`: the first number of divisions whose point count reaches the target. Assumes nothing.
+-- The search of `auto_divisions`: the first number of divisions whose point count reaches the target.
 use Prim.Native.Nat.{ℕ, suc, _+_, _-_, _≤_, _<_}
 use mathlib.Core.Path.{_≡_, sym, subst}
 use mathlib.Core.Bool.{false, cond}

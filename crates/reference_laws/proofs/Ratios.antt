@@ -1,5 +1,5 @@
 -- LAW: i / h, of whole numbers i up to h and h up to 199 and rounded once, lies within 0..1 and is strictly rising in i. For i < j the quotients lie at least
--- 1/199 apart, so that two doubles a / 1024 and (a + 1) / 1024 lie between them. Assumes nothing.
+-- 1/199 apart, so that two doubles a / 1024 and (a + 1) / 1024 lie between them.
 use Prim.Native.Nat.{ℕ, suc, _+_, _-_, _*_, _/_, _%_, _^_, _≤_, _<_, zero-le}
 use mathlib.Core.Path.{_≡_, refl, ap, sym, subst, _∙_}
 use mathlib.Core.Bool.{false}

@@ -1,4 +1,4 @@
--- Laws of the rows that the recursion writes, and of the table that they make. Assumes nothing.
+-- Laws of the rows that the recursion writes, and of the table that they make.
 use Prim.Native.Nat.{ℕ, zero, suc, _+_, _-_, _*_, _<_, _≤_}
 use mathlib.Core.Path.{_≡_, refl, sym, ap, _∙_}
 use mathlib.Core.List.{List, [], _∷_, _++_, map, map-append, flatten, append-assoc, append-nil, List·Memᴰ, Memᴰ·of-map}

@@ -1,4 +1,4 @@
--- THEOREM (Das and Dennis 1998): the list of lines has every point of the lattice, nothing else, and none twice. Assumes nothing.
+-- THEOREM (Das and Dennis 1998): the list of lines has every point of the lattice, nothing else, and none twice.
 use Prim.Native.Nat.{ℕ, zero, suc, _-_, _≤_, _<_}
 use mathlib.Core.Path.{_≡_, sym, ap, subst, _∙_}
 use mathlib.Core.Logic.{⊎-elim, _≢_}

@@ -1,4 +1,4 @@
--- What is found from a later position on lies after the earlier one too. Assumes nothing.
+-- What is found from a later position on lies after the earlier one too.
 use Prim.Native.Nat.{ℕ, _≤_, _<_}
 use native.Mathlib.Omega.{arith}
 use Rattle.replay.specs.declared.Found.{Found}

@@ -28,7 +28,7 @@ type Offspring = [u64; CANDIDATE_WORDS];
 
 // A setting drawn from a dimension.
 fn put_draw(d: Distribution, rng: Rng, out: &mut Words) -> usize {
-    if dimensions::valid_dimension(d) {
+    if operator_checks::valid_dimension(d) {
         let drawn = sampling::sample_random(d, rng);
         let value = drawn.value;
         let rng = drawn.rng;
@@ -68,7 +68,7 @@ fn put_extract(
 ) -> usize
     requires { ⌜ n ≤ 32 ⌝ }
 {
-    if dimensions::bad_dimensions(dims, n) {
+    if operator_checks::bad_dimensions(dims, n) {
         return 0;
     }
     let drawn = extraction::extract(pool, 0, dims, n, rng);
@@ -94,7 +94,7 @@ fn extract(input: &Words, n: usize, out: &mut Words) -> usize {
 
 // An operator's exponent; 0 for an eta that has none.
 fn exponent(eta: f64) -> u64 {
-    if dimensions::whole_eta(eta) {
+    if operator_checks::whole_eta(eta) {
         return variation::exponent_of(eta);
     }
     0
@@ -186,10 +186,10 @@ fn put_mutant(
 ) -> usize
     requires { ⌜ n ≤ 32 ⌝ }
 {
-    if dimensions::bad_dimensions(dims, n) {
+    if operator_checks::bad_dimensions(dims, n) {
         return 0;
     }
-    let drawn = genetic_parts::mutate(dims, n, params, k, rng);
+    let drawn = candidate_operators::mutate(dims, n, params, k, rng);
     put_candidate(drawn, n, out)
 }
 

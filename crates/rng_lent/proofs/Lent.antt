@@ -1,5 +1,5 @@
 -- What the walks of lent generators share: a generator as the machine has it, and a call that is lent what lies in memory, asks nothing of it and answers a word.
--- Assumes nothing.
+--
 use mathlib.Core.Path.{refl}
 use Prim.Native.Nat.{ℕ, _<_, _^_}
 use mathlib.Core.List.{[], _∷_, List}

@@ -1,4 +1,4 @@
--- A state's word, and what holds of every draw of a word: word and state are words. Assumes nothing.
+-- A state's word, and what holds of every draw of a word: word and state are words.
 use mathlib.Core.Path.{_≡_, sym, ap, _∙_}
 use Prim.Native.Nat.{ℕ, _/_, _^_, _<_}
 use native.Mathlib.Omega.{arith}

@@ -1,4 +1,4 @@
--- The definition's exclusive or, which computes on words, is the logic's, which the code's `^` is. Assumes nothing.
+-- The definition's exclusive or, which computes on words, is the logic's, which the code's `^` is.
 use mathlib.Core.Path.{_≡_, refl, sym, ap₂, _∙_}
 use Prim.Native.Nat.{ℕ, zero, suc, _+_, _*_, _/_, _%_, _^_, _<_}
 use native.Mathlib.Nat.{pow-suc}

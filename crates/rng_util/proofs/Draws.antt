@@ -1,4 +1,4 @@
--- What holds of every draw, whatever the state: a draw below n is below n, a draw from a to b lies there. Assumes nothing.
+-- What holds of every draw, whatever the state: a draw below n is below n, a draw from a to b lies there.
 use mathlib.Core.Path.{_≡_}
 use Prim.Native.Nat.{ℕ, _/_, _^_, _<_}
 use native.Mathlib.Nat.{mod-lt}

@@ -1,4 +1,4 @@
--- The numbers from a to b, both within 2^53 of 0, and how many there are. Assumes nothing.
+-- The numbers from a to b, both within 2^53 of 0, and how many there are.
 use mathlib.Core.Path.{_≡_}
 use Prim.Native.Nat.{ℕ, _+_, _-_, _%_, _^_, _<_, _≤_}
 use native.Mathlib.Nat.{mod-lt}

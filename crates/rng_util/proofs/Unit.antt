@@ -1,4 +1,4 @@
--- The draw of 0..1: k / 2^52 is a double for every k below 2^52, and the code's quotient is that double. Assumes nothing.
+-- The draw of 0..1: k / 2^52 is a double for every k below 2^52, and the code's quotient is that double.
 use mathlib.Core.Path.{_≡_, ap, _∙_}
 use mathlib.Core.Bool.{true, false, true≢false}
 use Prim.Native.Nat.{ℕ, _*_, _/_, _^_, _<_}

@@ -10,7 +10,7 @@ ghost use Rattle.model.specs.Refusal.{sampleRefusal, badHistory};
 ghost use Rattle.model.specs.Calls.{sampleOf, Samples};
 ghost use Rattle.model.specs.Property.{SessionOk};
 ghost use Rattle.model.specs.declared.Distribution.{Distribution};
-ghost use Rattle.session_parts.specs.Exits.{exit};
+ghost use Rattle.session_steps.specs.Exits.{exit};
 use model::Distribution;
 use model::Phase;
 use model::Sampled;
@@ -39,7 +39,7 @@ fn sample_discovering(
         return session_active::refused(session, 7);
     }
     if long {
-        return session_parts::discover(session, distribution, plan);
+        return session_steps::discover(session, distribution, plan);
     }
     session_active::refused(session, 10)
 }

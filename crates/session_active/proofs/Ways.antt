@@ -20,7 +20,7 @@ use Rattle.session_laws.specs.Refused.{shortRefusal}
 use Rattle.session_laws.proofs.Request.{bred-checks-same, breeds-active, active-good, short-refusal}
 use Rattle.session_laws.proofs.Steps.{short-ok, phase-ok}
 use Rattle.session_laws.proofs.Sample.{discovery-phase}
-use Rattle.session_parts.specs.Exits.{exit, Ready}
+use Rattle.session_steps.specs.Exits.{exit, Ready}
 use Rattle.session_breeding.specs.Breeding.{BredExit, bredExit, bredTo, breedBy}
 use Rattle.session_active.specs.Exits.{refusedWith}
 

@@ -4,7 +4,7 @@ ghost use mathlib.Core.Path.{_≡_};
 ghost use mathlib.Core.Bool.{true, false};
 ghost use Rattle.model.specs.Session.{state, discoversFor, breeds};
 ghost use Rattle.model.specs.declared.Phase.the-variants as phase;
-ghost use Rattle.session_parts.specs.Exits.{exit};
+ghost use Rattle.session_steps.specs.Exits.{exit};
 ghost use Rattle.session_active.specs.Exits.{refusedWith, Called, Answers};
 use model::Outcome;
 use model::POOL_WORDS;
@@ -41,7 +41,7 @@ fn sample_bred(
     match outcome {
         Outcome::Refused(number) => refused(session, number),
         Outcome::Kept(_) => {
-            session_parts::sample_from_candidate(session, plan, candidates, plans, next_dims)
+            session_steps::sample_from_candidate(session, plan, candidates, plans, next_dims)
         }
     }
 }
@@ -69,7 +69,7 @@ pub fn sample_active(
     if session_records::full(plans, n, plan) {
         return refused(session, 11);
     }
-    session_parts::sample_from_candidate(session, plan, candidates, plans, next_dims)
+    session_steps::sample_from_candidate(session, plan, candidates, plans, next_dims)
 }
 
 // The call that ends discovery: the first generation's candidates are drawn.
@@ -86,6 +86,6 @@ pub fn sample_first(
     ensures { λ r. ⌜ Answers (exit r (now (candidates .exit)) (now (plans .exit)) (now («next_dims» .exit)))
         (state session (now (candidates .entry)) (now (plans .entry)) (now («next_dims» .entry))) plan (now (history .entry)) ⌝ }
 {
-    let session = session_parts::activate(session, candidates);
-    session_parts::sample_from_candidate(session, plan, candidates, plans, next_dims)
+    let session = session_steps::activate(session, candidates);
+    session_steps::sample_from_candidate(session, plan, candidates, plans, next_dims)
 }

@@ -75,7 +75,7 @@ fn bred_session(session: Session, rng: Rng, ideal_point: [f64; 8]) -> Session
 {
     let before = session.progress;
     let number = std::num::wrapping_add_u64(before.generation, 1);
-    session_parts::renewed(session, rng, ideal_point, number)
+    session_steps::renewed(session, rng, ideal_point, number)
 }
 
 // What breeding answers: the refusal that it meets, with the session as it was, or the session after it.

@@ -1,4 +1,4 @@
--- The session property of a session that words stand for, and a slice that is too short. Assumes nothing.
+-- The session property of a session that words stand for, and a slice that is too short.
 use Prim.Native.Nat.{ℕ, _<_}
 use mathlib.Core.Path.{_≡_, sym, subst}
 use mathlib.Core.Bool.{false}

@@ -131,7 +131,7 @@ fn open_refusal(
     ensures { λ r. ⌜ r ≡ openingBy (openRefusal (now (directions .entry)) (given size) (given divisions) probability «crossover_eta» «mutation_eta») ⌝ }
 {
     let bad_size = bad_session_size(size);
-    let bad_operators = dimensions::bad_operators(probability, crossover_eta, mutation_eta);
+    let bad_operators = operator_checks::bad_operators(probability, crossover_eta, mutation_eta);
     if plans::bad_directions(directions) {
         return Opening::Refused(2);
     }

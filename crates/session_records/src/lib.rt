@@ -133,7 +133,7 @@ pub fn bad_dimension(n: usize, distribution: Distribution) -> bool
     if MAX_DIMS <= n {
         return true;
     }
-    if dimensions::valid_dimension(distribution) {
+    if operator_checks::valid_dimension(distribution) {
         return false;
     }
     true

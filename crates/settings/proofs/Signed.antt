@@ -1,4 +1,4 @@
--- A signed number that 64 bits hold is read back from its bits. Assumes nothing.
+-- A signed number that 64 bits hold is read back from its bits.
 use mathlib.Core.Path.{_≡_, sym, ap₂, _∙_}
 use Prim.Native.Nat.{_^_, _<_}
 use lib.IntN.{ℤ}

@@ -1,4 +1,4 @@
--- An Int drawn with a step: low + k × step stays within low..high, so nothing on the way leaves 64 bits. Assumes nothing.
+-- An Int drawn with a step: low + k × step stays within low..high, so nothing on the way leaves 64 bits.
 use mathlib.Core.Path.{_≡_, sym, ap, _∙_}
 use Prim.Native.Nat.{ℕ, _+_, _*_, _/_, _%_, _^_, _<_, _≤_}
 use native.Mathlib.Nat.{mod-lt, div-mul-le-self, div-le-self, mul-le-mul-right, le-trans, zero-add, add-zero}

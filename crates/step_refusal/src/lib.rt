@@ -59,7 +59,7 @@ pub fn refusal(
     if divisions::bad_divisions(m, divisions) {
         return Check::Refused(4);
     }
-    if dimensions::bad_operators(
+    if operator_checks::bad_operators(
         operators.crossover_prob,
         operators.crossover_eta,
         operators.mutation_eta,
@@ -68,7 +68,7 @@ pub fn refusal(
     }
     let dims = operators.dimensions;
     let n_dims = operators.n_dims;
-    if dimensions::bad_dimensions(dims, n_dims) {
+    if operator_checks::bad_dimensions(dims, n_dims) {
         return Check::Refused(6);
     }
     let n = plans::plan_count(pool);
@@ -78,7 +78,7 @@ pub fn refusal(
     if plans::bad_pool(pool, m, ideal) {
         return Check::Refused(8);
     }
-    if parents::bad_parents(pool, dims, n_dims) {
+    if parent_checks::bad_parents(pool, dims, n_dims) {
         return Check::Refused(9);
     }
     if no_step_room(size, n, n_dims, kept, fronts, lines, offspring) {

@@ -1,4 +1,4 @@
--- `generate_offspring`. Assumes nothing.
+-- `generate_offspring`.
 use mathlib.Core.Path.{sym}
 use native.Mathlib.Omega.{arith}
 use lib.Seq.{length-take-le}

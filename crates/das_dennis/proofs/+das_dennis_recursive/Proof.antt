@@ -1,5 +1,5 @@
 -- `das_dennis_recursive`: the measure is how many coordinates are left. After i branches the table has their rows at its front, and `at` is where they end.
--- Assumes nothing.
+--
 use Prim.Native.Nat.{ℕ, _+_, _-_, _<_, _≤_}
 use mathlib.Core.Path.{_≡_, refl, sym, ap, _∙_}
 use mathlib.Core.List.{List, [], _∷_, _++_}

@@ -1,4 +1,4 @@
--- `coordinate`: a whole number up to 2^53 is a double. Assumes nothing.
+-- `coordinate`: a whole number up to 2^53 is a double.
 use Prim.Native.Nat.{_^_}
 use native.Mathlib.Omega.{arith}
 use borrow.Author.Needs.{needs}

@@ -1,4 +1,4 @@
--- `das_dennis`: the recursion's rows from nothing are the whole table, m entries a line. Assumes nothing.
+-- `das_dennis`: the recursion's rows from nothing are the whole table, m entries a line.
 use Prim.Native.Nat.{ℕ, _/_}
 use mathlib.Core.Path.{ap, _∙_}
 use mathlib.Core.List.{List}

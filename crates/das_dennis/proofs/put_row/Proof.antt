@@ -1,4 +1,4 @@
--- `put_row`: after j turns the first j entries stand at the table's front. Assumes nothing.
+-- `put_row`: after j turns the first j entries stand at the table's front.
 use Prim.Native.Nat.{_-_, _≤_}
 use mathlib.Core.Path.{_≡_, refl, sym}
 use native.Mathlib.Omega.{arith}

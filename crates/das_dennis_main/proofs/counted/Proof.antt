@@ -1,4 +1,4 @@
--- `counted`: where refusal 4 does not apply, the table has room. Assumes nothing.
+-- `counted`: where refusal 4 does not apply, the table has room.
 use mathlib.Core.Path.{refl}
 use native.Mathlib.Omega.{arith}
 use Rattle.reference_laws.proofs.Divisions.{fits}

@@ -1,4 +1,4 @@
--- `marks`. Assumes nothing.
+-- `marks`.
 use Prim.Native.Nat.{_-_, _≤_}
 use mathlib.Core.Path.{_≡_}
 use native.Mathlib.Omega.{arith}

@@ -1,4 +1,4 @@
--- `session`. Assumes nothing.
+-- `session`.
 use mathlib.Core.Path.{refl, sym, _∙_}
 use native.Mathlib.Omega.{arith}
 use borrow.Author.Needs.{needs}

@@ -1,4 +1,4 @@
--- `tables`: the rooms of P1 and P2, computed. Assumes nothing.
+-- `tables`: the rooms of P1 and P2, computed.
 use mathlib.Core.Path.{refl}
 use Rattle.model.specs.Reference.{binomial, pointCount}
 use borrow.Author.Needs.{needs}

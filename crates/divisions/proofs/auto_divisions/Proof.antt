@@ -1,4 +1,4 @@
--- `auto_divisions`: at h divisions, no smaller number reaches the target. Assumes nothing.
+-- `auto_divisions`: at h divisions, no smaller number reaches the target.
 use Prim.Native.Nat.{_-_, _≤_}
 use native.Mathlib.Omega.{arith}
 use borrow.Author.Needs.{needs}

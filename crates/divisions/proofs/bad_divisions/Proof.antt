@@ -1,4 +1,4 @@
--- `bad_divisions`: each test of refusal 4 in turn. Assumes nothing.
+-- `bad_divisions`: each test of refusal 4 in turn.
 use Rattle.reference_laws.proofs.Divisions.{bad-below, bad-above, bad-by-lines}
 use borrow.Author.Needs.{needs}
 use Rattle.divisions.proofs.bad_divisions.Statement.{statement}

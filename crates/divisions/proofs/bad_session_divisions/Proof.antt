@@ -1,4 +1,4 @@
--- `bad_session_divisions`: refusal 4 of the divisions that the session would use. Assumes nothing.
+-- `bad_session_divisions`: refusal 4 of the divisions that the session would use.
 use mathlib.Core.Path.{ap, _∙_}
 use Rattle.model.specs.Refusal.{badDivisions}
 use Rattle.reference_laws.proofs.Divisions.{session-bad}

@@ -1,4 +1,4 @@
--- `divisions_of`. Assumes nothing.
+-- `divisions_of`.
 use mathlib.Core.Path.{ap, _∙_}
 use Rattle.model.specs.Reference.{orElse, autoDivisions, divisionsOf}
 use Rattle.model.specs.Session.{given}

@@ -1,4 +1,4 @@
--- `n_combinations`: after i turns the result is n over i. Assumes nothing.
+-- `n_combinations`: after i turns the result is n over i.
 use Prim.Native.Nat.{ℕ, _+_, _-_, _*_, _/_, _≤_}
 use mathlib.Core.Path.{_≡_, sym, ap, _∙_}
 use native.Mathlib.Omega.{arith}

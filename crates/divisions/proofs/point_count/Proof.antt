@@ -1,4 +1,4 @@
--- `point_count`. Assumes nothing.
+-- `point_count`.
 use Rattle.model.specs.Reference.{pointCount}
 use borrow.Author.Needs.{needs}
 use Rattle.divisions.proofs.point_count.Statement.{statement}

@@ -1,4 +1,4 @@
--- `population_size`. Assumes nothing.
+-- `population_size`.
 use mathlib.Core.Path.{_≡_, ap, _∙_}
 use native.Mathlib.Omega.{arith}
 use Rattle.model.specs.Reference.{orElse, pointCount, divisionsOf}

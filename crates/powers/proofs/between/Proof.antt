@@ -1,4 +1,4 @@
--- The invariant: the ends are in order and part v. The measure is what lies between them. Assumes nothing.
+-- The invariant: the ends are in order and part v. The measure is what lies between them.
 use Prim.Native.Nat.{_+_, _-_, _/_, _≤_, _<_}
 use native.Mathlib.Omega.{arith}
 use Rattle.real_laws.specs.Parting.{Top, Parted}

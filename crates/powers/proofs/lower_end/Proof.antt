@@ -1,4 +1,4 @@
--- The invariant: the pattern is no further up than b. It falls with each turn. Assumes nothing.
+-- The invariant: the pattern is no further up than b. It falls with each turn.
 use Prim.Native.Nat.{_≤_}
 use native.Mathlib.Omega.{arith}
 use Rattle.real_laws.specs.Parting.{Top}

@@ -1,4 +1,4 @@
--- By the last test that holds, and the first that fails. Assumes nothing.
+-- By the last test that holds, and the first that fails.
 use Prim.Native.Nat.{_+_}
 use native.Mathlib.Omega.{arith}
 use Rattle.real_laws.proofs.Parting.{parted-by}

@@ -1,4 +1,4 @@
--- The invariant: after j factors the product is P(y, j). Assumes nothing.
+-- The invariant: after j factors the product is P(y, j).
 use mathlib.Core.Path.{_≡_, refl}
 use Prim.Native.Nat.{_-_, _≤_}
 use native.Mathlib.Omega.{arith}

@@ -1,4 +1,4 @@
--- The invariant: after j factors each product is P of j. Assumes nothing.
+-- The invariant: after j factors each product is P of j.
 use mathlib.Core.Path.{_≡_, refl}
 use Prim.Native.Nat.{_-_, _≤_}
 use native.Mathlib.Omega.{arith}

@@ -1,4 +1,4 @@
--- By what `real_of_word` and `power_four` ensure. Assumes nothing.
+-- By what `real_of_word` and `power_four` ensure.
 use mathlib.Core.Path.{_≡_, ap, _∙_}
 use Prim.Native.Nat.{ℕ}
 use native.Mathlib.Omega.{arith}

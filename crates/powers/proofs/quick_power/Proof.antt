@@ -1,4 +1,4 @@
--- Nothing is promised but an end: what is left of k falls. Assumes nothing.
+-- Nothing is promised but an end: what is left of k falls.
 use native.Mathlib.Omega.{arith}
 use Prim.Native.Nat.{_≤_}
 use Rattle.powers.proofs.quick_power.Statement.{statement}

@@ -1,4 +1,4 @@
--- Neighbours that part v are R's (`root-parted`). Assumes nothing.
+-- Neighbours that part v are R's (`root-parted`).
 use mathlib.Core.Path.{sym, _∙_}
 use mathlib.Core.Bool.{true}
 use native.Mathlib.Omega.{arith}

@@ -1,4 +1,4 @@
--- The invariant: the pattern is beyond b, up to that of 2^52. It rises with each turn. Assumes nothing.
+-- The invariant: the pattern is beyond b, up to that of 2^52. It rises with each turn.
 use Prim.Native.Nat.{_-_, _*_, _≤_, _<_}
 use native.Mathlib.Omega.{arith}
 use Rattle.real_laws.specs.Parting.{Top}

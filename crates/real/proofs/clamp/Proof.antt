@@ -1,4 +1,4 @@
--- Its two tests are those of the definition. Assumes nothing.
+-- Its two tests are those of the definition.
 use Rattle.real.proofs.clamp.Statement.{statement}
 use Rattle.real.proofs.clamp.Tie as tie
 

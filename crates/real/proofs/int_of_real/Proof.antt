@@ -1,4 +1,4 @@
--- Within the range the fraction is dropped; beyond it the cast is known (`Casts`). Assumes nothing.
+-- Within the range the fraction is dropped; beyond it the cast is known (`Casts`).
 use borrow.Author.Needs.{needs}
 use mathlib.Core.Path.{sym, ap}
 use lib.Ieee.{ofBits, neg, toSigned}

@@ -1,4 +1,4 @@
--- Half the word, or -1 less it. Assumes nothing.
+-- Half the word, or -1 less it.
 use borrow.Author.Needs.{needs}
 use mathlib.Core.Path.{_≡_, sym, _∙_}
 use Prim.Native.Nat.{ℕ, _/_, _^_, _<_}

@@ -1,4 +1,4 @@
--- The library's nearest double. Assumes nothing.
+-- The library's nearest double.
 use mathlib.Core.Path.{ap, _∙_}
 use lib.Ieee.{binary64, ofInt}
 use mir.Syntax.{w64}

@@ -1,4 +1,4 @@
--- A NaN's pattern, without its sign, is above that of the infinity. Assumes nothing.
+-- A NaN's pattern, without its sign, is above that of the infinity.
 use borrow.Author.Needs.{needs}
 use borrow.Author.Tests.{lt-ltb, le-ltb}
 use mathlib.Core.Path.{_≡_, refl, sym, _∙_, subst}

@@ -1,4 +1,4 @@
--- By the sign, and by whether x has digits after the point. Assumes nothing.
+-- By the sign, and by whether x has digits after the point.
 use borrow.Author.Needs.{needs}
 use mathlib.Core.Path.{_≡_, ap, _∙_}
 use mathlib.Core.Bool.{false}

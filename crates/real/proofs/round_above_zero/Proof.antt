@@ -1,4 +1,4 @@
--- The whole part, and the test that decides (`Halves`). Assumes nothing.
+-- The whole part, and the test that decides (`Halves`).
 use mathlib.Core.Path.{_≡_, sym, ap, _∙_, subst}
 use mathlib.Core.Bool.{Bool}
 use Prim.Native.Nat.{ℕ, _+_, _*_}

@@ -1,4 +1,4 @@
--- From zero up twice the number; below, twice what is left of -1, and one. Assumes nothing.
+-- From zero up twice the number; below, twice what is left of -1, and one.
 use mathlib.Core.Path.{_≡_, sym, ap, _∙_}
 use native.Mathlib.Omega.{arith}
 use lib.IntN.{ℤ, pos}

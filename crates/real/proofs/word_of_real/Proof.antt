@@ -1,4 +1,4 @@
--- A NaN is told by differing from itself. Assumes nothing.
+-- A NaN is told by differing from itself.
 use borrow.Author.Needs.{needs}
 use mathlib.Core.Path.{sym, ap}
 use lib.Ieee.{binary64, toBits}

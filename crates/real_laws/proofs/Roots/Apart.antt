@@ -1,4 +1,4 @@
--- A double from 0 on that is below another times 1 - 2 ^ -30 has a root below the other's, also after both are rounded (`sqrt-apart`). Assumes nothing.
+-- A double from 0 on that is below another times 1 - 2 ^ -30 has a root below the other's, also after both are rounded (`sqrt-apart`).
 -- In numerals, 1073741824 is 2 ^ 30 and 1099511627776 is 2 ^ 40.
 use mathlib.Core.Path.{_≡_, refl, sym, ap, _∙_, subst}
 use mathlib.Core.Logic.{inl, inr}

@@ -1,4 +1,4 @@
--- One turn of `near_root`'s loop: a root with a remainder, and the next pair of digits. Assumes nothing.
+-- One turn of `near_root`'s loop: a root with a remainder, and the next pair of digits.
 use mathlib.Core.Path.{_≡_, refl, sym, ap, _∙_, subst}
 use Prim.Native.Nat.{ℕ, _+_, _-_, _*_, _/_, _%_, _^_, _≤_, _<_}
 use native.Mathlib.Nat.{lt-of-lt-of-le, mul-assoc, mul-comm, mul-one, add-mul, pow-suc}

@@ -1,4 +1,4 @@
--- `sqrtOf` at numbers, computed. The patterns are those of the doubles that a C library's `sqrt` returns. Assumes nothing.
+-- `sqrtOf` at numbers, computed. The patterns are those of the doubles that a C library's `sqrt` returns.
 use mathlib.Core.Path.{_≡_, refl}
 use mathlib.Core.Bool.{true, false}
 use lib.IntN.{pos, negsuc}

@@ -1,4 +1,4 @@
--- Of two doubles from 0 on, an infinity included, the larger has a root that is no smaller. Assumes nothing.
+-- Of two doubles from 0 on, an infinity included, the larger has a root that is no smaller.
 use mathlib.Core.Path.{sym, ap, subst}
 use mathlib.Core.Logic.{inl, inr}
 use Prim.Native.Nat.{ℕ, zero, suc, _+_, _-_, _*_, _/_, _^_, _≤_, _<_, zero-le}

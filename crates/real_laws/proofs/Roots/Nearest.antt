@@ -1,6 +1,6 @@
 -- No double is nearer to the exact root than `sqrtOf` is. Of a double x above 0, of r = `sqrtOf x` and of any finite double y from 0 on, counted in units as X, R and Y
 -- (`inUnits`), the exact root is the root of X * 2 ^ 1074 units. Where y is above r, the root is not beyond the middle of the two, (R + Y) / 2; where y is below r, it is not
--- before the middle. Squared and without fractions: 4 * (X * 2 ^ 1074) ≤ (R + Y) * (R + Y), and the other way round. Assumes nothing.
+-- before the middle. Squared and without fractions: 4 * (X * 2 ^ 1074) ≤ (R + Y) * (R + Y), and the other way round.
 use mathlib.Core.Path.{_≡_, refl, sym, ap, _∙_, subst}
 use Prim.Native.Nat.{ℕ, zero, suc, _+_, _-_, _*_, _/_, _^_, _≤_, _<_}
 use native.Mathlib.Nat.{le-trans, le-of-eq, le-of-lt, mul-pos, lt-of-not-le, lt-of-mul-lt-mul-right, one-mul, mul-assoc, mul-mul-mul-comm, add-mul, mul-le-mul-left, mul-le-mul-right}

@@ -1,4 +1,4 @@
--- A double's bit pattern, read and written: the exponent's field above 52 digits. Assumes nothing.
+-- A double's bit pattern, read and written: the exponent's field above 52 digits.
 use mathlib.Core.Path.{_≡_, refl, sym, ap, _∙_, subst}
 use Prim.Native.Nat.{ℕ, suc, _+_, _-_, _*_, _/_, _%_, _^_, _≤_, _<_}
 use native.Mathlib.Nat.{mul-pos}

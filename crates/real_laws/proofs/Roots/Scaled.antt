@@ -1,4 +1,4 @@
--- How `root_of_units` finds the digits that the root keeps: m * 2 ^ k * 2 ^ 1074 is a * 2 ^ (2 * h), for an a of 53 or 54 digits, and `rooted` cuts it to a * 2 ^ 52. Assumes nothing.
+-- How `root_of_units` finds the digits that the root keeps: m * 2 ^ k * 2 ^ 1074 is a * 2 ^ (2 * h), for an a of 53 or 54 digits, and `rooted` cuts it to a * 2 ^ 52.
 use mathlib.Core.Path.{_≡_, sym, ap, _∙_, subst}
 use Prim.Native.Nat.{ℕ, zero, suc, _+_, _-_, _*_, _/_, _%_, _^_, _≤_, _<_}
 use native.Mathlib.Nat.{le-trans, le-of-eq, lt-of-lt-of-le, mul-assoc, mul-le-mul-right, mul-div-cancel}

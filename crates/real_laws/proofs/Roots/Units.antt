@@ -1,4 +1,4 @@
--- `sqrtOf` in units, 2 ^ -1074 each: what a finite double has of them (`unitsOf-is`), and what its root has (`rootUnits`). Assumes nothing.
+-- `sqrtOf` in units, 2 ^ -1074 each: what a finite double has of them (`unitsOf-is`), and what its root has (`rootUnits`).
 use mathlib.Core.Path.{_≡_, refl, sym, ap, _∙_, subst}
 use Prim.Native.Nat.{ℕ, zero, suc, _+_, _*_, _/_, _^_, _<_}
 use native.Mathlib.Nat.{lt-irrefl, eq-of-mul-eq-mul-right, zero-add, zero-mul, mul-div-cancel, mul-pos, zero-lt-suc}

@@ -1,4 +1,4 @@
--- What `wholeRoot` and `nearRoot` are. Assumes nothing.
+-- What `wholeRoot` and `nearRoot` are.
 use mathlib.Core.Path.{_≡_, refl, ap, _∙_, subst}
 use Prim.Native.Nat.{ℕ, zero, suc, _+_, _-_, _*_, _/_, _^_, _≤_, _<_, zero-le}
 use native.Mathlib.Nat.{le-trans, le-of-eq, lt-of-lt-of-le, le-antisymm, le-of-suc-le-suc, lt-of-not-le, not-le-of-lt, mul-le-mul, mul-le-mul-right, mul-comm, add-mul, mul-add, mul-one, one-mul, pow-suc, div-lt-iff-lt-mul, zero-lt-suc}

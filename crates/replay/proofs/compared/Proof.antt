@@ -1,4 +1,4 @@
--- `compared`. Assumes nothing.
+-- `compared`.
 use borrow.Author.Needs.{needs}
 use native.Mathlib.Omega.{arith}
 use Rattle.replay.proofs.compared.Statement.{statement}

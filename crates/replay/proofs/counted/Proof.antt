@@ -1,4 +1,4 @@
--- `counted`. Assumes nothing.
+-- `counted`.
 use borrow.Author.Needs.{needs}
 use Rattle.replay.proofs.counted.Statement.{statement}
 use Rattle.replay.proofs.counted.Tie as tie

@@ -1,4 +1,4 @@
--- `digits`: the position moves on with each digit. Assumes nothing.
+-- `digits`: the position moves on with each digit.
 use Prim.Native.Nat.{_-_, _≤_}
 use borrow.Author.Needs.{needs}
 use native.Mathlib.Omega.{arith}

@@ -1,4 +1,4 @@
--- `judged`. Assumes nothing.
+-- `judged`.
 use mathlib.Core.Path.{refl}
 use borrow.Author.Needs.{needs}
 use Rattle.replay.proofs.judged.Statement.{statement}

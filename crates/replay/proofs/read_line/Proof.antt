@@ -1,4 +1,4 @@
--- `read_line`. Assumes nothing.
+-- `read_line`.
 use Prim.Native.Nat.{_-_, _≤_}
 use borrow.Author.Needs.{needs}
 use lib.ListN.{length}

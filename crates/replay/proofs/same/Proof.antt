@@ -1,4 +1,4 @@
--- `same`: the places passed hold the same numbers. Assumes nothing.
+-- `same`: the places passed hold the same numbers.
 use Prim.Native.Nat.{_-_, _≤_}
 use borrow.Author.Needs.{needs}
 use native.Mathlib.Omega.{arith}

@@ -1,4 +1,4 @@
--- `skip_line`. Assumes nothing.
+-- `skip_line`.
 use Prim.Native.Nat.{_-_, _≤_}
 use borrow.Author.Needs.{needs}
 use lib.ListN.{length}

@@ -1,4 +1,4 @@
--- `associate`. Assumes nothing.
+-- `associate`.
 use native.Mathlib.Nat.{mul-le-mul}
 use borrow.Author.Needs.{needs}
 use Rattle.replay_association.proofs.associate.Statement.{statement}

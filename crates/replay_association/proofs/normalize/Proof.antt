@@ -1,4 +1,4 @@
--- `normalize`. Assumes nothing.
+-- `normalize`.
 use native.Mathlib.Nat.{mul-le-mul}
 use borrow.Author.Needs.{needs}
 use Rattle.replay_association.proofs.normalize.Statement.{statement}

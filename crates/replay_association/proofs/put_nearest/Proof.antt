@@ -1,4 +1,4 @@
--- `put_nearest`. Assumes nothing.
+-- `put_nearest`.
 use Prim.Native.Nat.{_-_, _≤_}
 use borrow.Author.Needs.{needs}
 use Rattle.model.specs.Refusal.{maxPool}

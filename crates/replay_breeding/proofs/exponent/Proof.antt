@@ -1,4 +1,4 @@
--- `exponent`. Assumes nothing.
+-- `exponent`.
 use mathlib.Core.Path.{sym, _∙_}
 use Rattle.replay_breeding.proofs.exponent.Statement.{statement}
 use Rattle.replay_breeding.proofs.exponent.Tie as tie

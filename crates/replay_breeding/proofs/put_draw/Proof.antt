@@ -1,4 +1,4 @@
--- `put_draw`. Assumes nothing.
+-- `put_draw`.
 use mathlib.Core.Path.{sym, _∙_}
 use Rattle.replay_breeding.proofs.put_draw.Statement.{statement}
 use Rattle.replay_breeding.proofs.put_draw.Tie as tie

@@ -1,4 +1,4 @@
--- `put_extract`. Assumes nothing.
+-- `put_extract`.
 use mathlib.Core.Path.{sym, _∙_}
 use borrow.Author.Needs.{needs}
 use Rattle.replay_breeding.proofs.put_extract.Statement.{statement}

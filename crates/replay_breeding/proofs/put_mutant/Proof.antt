@@ -1,4 +1,4 @@
--- `put_mutant`. Assumes nothing.
+-- `put_mutant`.
 use mathlib.Core.Path.{sym, _∙_}
 use borrow.Author.Needs.{needs}
 use Rattle.replay_breeding.proofs.put_mutant.Statement.{statement}

@@ -1,4 +1,4 @@
--- `read_places`. Assumes nothing.
+-- `read_places`.
 use Prim.Native.Nat.{_-_, _≤_}
 use borrow.Author.Needs.{needs}
 use Rattle.replay_breeding.proofs.read_places.Statement.{statement}

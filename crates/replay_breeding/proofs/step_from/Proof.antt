@@ -1,4 +1,4 @@
--- `step_from`: the pool has room for 1,025 plans. Assumes nothing.
+-- `step_from`: the pool has room for 1,025 plans.
 use Prim.Native.Nat.{ℕ}
 use mathlib.Core.Path.{sym}
 use native.Mathlib.Omega.{arith}

@@ -1,4 +1,4 @@
--- `stepped`. Assumes nothing.
+-- `stepped`.
 use mathlib.Core.Path.{sym}
 use native.Mathlib.Omega.{arith}
 use lib.Seq.{length-take-le}

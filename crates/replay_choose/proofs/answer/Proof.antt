@@ -1,4 +1,4 @@
--- `answer`: the file's bytes lie within their array. Assumes nothing.
+-- `answer`: the file's bytes lie within their array.
 use mathlib.Core.Path.{sym}
 use native.Mathlib.Omega.{arith}
 use lib.Seq.{length-take-le}

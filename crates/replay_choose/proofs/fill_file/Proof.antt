@@ -1,4 +1,4 @@
--- `fill_file`. Assumes nothing.
+-- `fill_file`.
 use Prim.Native.Nat.{_-_, _≤_}
 use mathlib.Core.Path.{_≡_}
 use borrow.Author.Needs.{needs}

@@ -1,4 +1,4 @@
--- `put_text`. Assumes nothing.
+-- `put_text`.
 use Prim.Native.Nat.{_-_, _≤_}
 use borrow.Author.Needs.{needs}
 use Rattle.replay_choose.proofs.put_text.Statement.{statement}

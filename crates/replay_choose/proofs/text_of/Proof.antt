@@ -1,4 +1,4 @@
--- `text_of`: a refusal's text has room. Assumes nothing.
+-- `text_of`: a refusal's text has room.
 use native.Mathlib.Omega.{arith}
 use Rattle.pool_print.proofs.Answers.{refusal-room}
 use borrow.Author.Needs.{needs}

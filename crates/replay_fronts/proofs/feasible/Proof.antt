@@ -1,4 +1,4 @@
--- `feasible`. Assumes nothing.
+-- `feasible`.
 use mathlib.Core.Path.{sym}
 use lib.Seq.{length-take-le}
 use Rattle.replay_fronts.proofs.feasible.Statement.{statement}

@@ -1,4 +1,4 @@
--- `fronts`: the rows of a pool fit. Assumes nothing.
+-- `fronts`: the rows of a pool fit.
 use borrow.Author.Needs.{needs}
 use native.Mathlib.Nat.{mul-le-mul}
 use Rattle.replay_fronts.proofs.fronts.Statement.{statement}

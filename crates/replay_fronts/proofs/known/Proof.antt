@@ -1,4 +1,4 @@
--- `known`: no value passed is a NaN. Assumes nothing.
+-- `known`: no value passed is a NaN.
 use Prim.Native.Nat.{ℕ, _*_, _-_, _≤_, _<_}
 use mathlib.Core.Path.{_≡_, sym}
 use mathlib.Core.Bool.{false, true≢false}

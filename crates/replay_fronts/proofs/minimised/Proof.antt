@@ -1,4 +1,4 @@
--- `minimised`. Assumes nothing.
+-- `minimised`.
 use borrow.Author.Needs.{needs}
 use mathlib.Core.Path.{sym}
 use native.Mathlib.Omega.{arith}

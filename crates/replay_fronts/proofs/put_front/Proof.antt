@@ -1,4 +1,4 @@
--- `put_front`. Assumes nothing.
+-- `put_front`.
 use Prim.Native.Nat.{_-_, _≤_}
 use borrow.Author.Needs.{needs}
 use Rattle.replay_fronts.proofs.put_front.Statement.{statement}

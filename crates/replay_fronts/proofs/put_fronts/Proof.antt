@@ -1,4 +1,4 @@
--- `put_fronts`. Assumes nothing.
+-- `put_fronts`.
 use Prim.Native.Nat.{_-_, _≤_}
 use borrow.Author.Needs.{needs}
 use Rattle.replay_fronts.proofs.put_fronts.Statement.{statement}

@@ -1,4 +1,4 @@
--- `read_row`. Assumes nothing.
+-- `read_row`.
 use Prim.Native.Nat.{_*_, _-_, _≤_}
 use borrow.Author.Needs.{needs}
 use Rattle.model.specs.Plan.{maxObjectives}

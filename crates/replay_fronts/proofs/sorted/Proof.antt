@@ -1,4 +1,4 @@
--- `sorted`. Assumes nothing.
+-- `sorted`.
 use borrow.Author.Needs.{needs}
 use Rattle.replay_fronts.proofs.sorted.Statement.{statement}
 use Rattle.replay_fronts.proofs.sorted.Tie as tie

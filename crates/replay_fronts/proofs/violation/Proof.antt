@@ -1,4 +1,4 @@
--- `violation`. Assumes nothing.
+-- `violation`.
 use mathlib.Core.Path.{sym}
 use lib.Seq.{length-take-le}
 use Rattle.replay_fronts.proofs.violation.Statement.{statement}

@@ -1,4 +1,4 @@
--- `answer`: the pool has room for 1,025 plans. Assumes nothing.
+-- `answer`: the pool has room for 1,025 plans.
 use Prim.Native.Nat.{ℕ}
 use mathlib.Core.Path.{sym}
 use native.Mathlib.Omega.{arith}

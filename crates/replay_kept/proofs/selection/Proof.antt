@@ -1,4 +1,4 @@
--- `selection`. Assumes nothing.
+-- `selection`.
 use borrow.Author.Needs.{needs}
 use mathlib.Core.Path.{sym}
 use native.Mathlib.Omega.{arith}

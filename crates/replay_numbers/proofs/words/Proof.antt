@@ -1,4 +1,4 @@
--- `words`. Assumes nothing.
+-- `words`.
 use Prim.Native.Nat.{_-_, _≤_}
 use borrow.Author.Needs.{needs}
 use Rattle.replay_numbers.proofs.words.Statement.{statement}

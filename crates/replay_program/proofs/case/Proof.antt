@@ -1,4 +1,4 @@
--- `case`. Assumes nothing.
+-- `case`.
 use Rattle.replay.proofs.Positions.{both}
 use borrow.Author.Needs.{needs}
 use Rattle.replay_program.proofs.case.Statement.{statement}

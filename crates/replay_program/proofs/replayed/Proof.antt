@@ -1,4 +1,4 @@
--- `replayed`. Assumes nothing.
+-- `replayed`.
 use Prim.Native.Nat.{_-_, _≤_}
 use native.Mathlib.Omega.{arith}
 use lib.ListN.{length}

@@ -1,4 +1,4 @@
--- `report`. Assumes nothing.
+-- `report`.
 use Prim.Native.Nat.{_-_, _≤_}
 use borrow.Author.Needs.{needs}
 use Rattle.replay_program.proofs.report.Statement.{statement}

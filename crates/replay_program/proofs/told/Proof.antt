@@ -1,4 +1,4 @@
--- `told`: what is read lies within the buffer. Assumes nothing.
+-- `told`: what is read lies within the buffer.
 use mathlib.Core.Path.{sym}
 use native.Mathlib.Omega.{arith}
 use lib.Seq.{length-take-le}

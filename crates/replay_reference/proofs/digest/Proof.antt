@@ -1,4 +1,4 @@
--- `digest`. Assumes nothing.
+-- `digest`.
 use Prim.Native.Nat.{_*_, _-_, _≤_}
 use borrow.Author.Needs.{needs}
 use Rattle.model.specs.Plan.{maxObjectives}

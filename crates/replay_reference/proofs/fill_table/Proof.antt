@@ -1,4 +1,4 @@
--- `fill_table`. Assumes nothing.
+-- `fill_table`.
 use native.Mathlib.Omega.{arith}
 use Rattle.reference_laws.proofs.Divisions.{fits}
 use borrow.Author.Needs.{needs}

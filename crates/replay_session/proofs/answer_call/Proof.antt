@@ -1,4 +1,4 @@
--- `answer_call`. Assumes nothing.
+-- `answer_call`.
 use Rattle.session_laws.proofs.Steps.{short-ok}
 use borrow.Author.Needs.{needs}
 use Rattle.replay_session.proofs.answer_call.Statement.{statement}

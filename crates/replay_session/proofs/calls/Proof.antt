@@ -1,4 +1,4 @@
--- `calls`. Assumes nothing.
+-- `calls`.
 use Prim.Native.Nat.{_-_, _≤_}
 use borrow.Author.Needs.{needs}
 use Rattle.model.specs.Session.{state}

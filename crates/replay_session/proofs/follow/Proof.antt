@@ -1,4 +1,4 @@
--- `follow`. Assumes nothing.
+-- `follow`.
 use borrow.Author.Needs.{needs}
 use Rattle.replay_session.proofs.follow.Statement.{statement}
 use Rattle.replay_session.proofs.follow.Tie as tie

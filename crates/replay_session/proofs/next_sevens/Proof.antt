@@ -1,4 +1,4 @@
--- `next_sevens`. Assumes nothing.
+-- `next_sevens`.
 use Prim.Native.Nat.{_-_, _≤_}
 use lib.ListN.{length}
 use borrow.Author.Needs.{needs}

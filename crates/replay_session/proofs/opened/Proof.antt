@@ -1,4 +1,4 @@
--- `opened`. Assumes nothing.
+-- `opened`.
 use mathlib.Core.Path.{sym}
 use native.Mathlib.Omega.{arith}
 use lib.Seq.{length-take-le}

@@ -1,4 +1,4 @@
--- `put_dimensions`. Assumes nothing.
+-- `put_dimensions`.
 use Prim.Native.Nat.{_-_, _≤_}
 use borrow.Author.Needs.{needs}
 use Rattle.replay_session.proofs.put_dimensions.Statement.{statement}

@@ -1,4 +1,4 @@
--- `put_plans`. Assumes nothing.
+-- `put_plans`.
 use Prim.Native.Nat.{_-_, _≤_}
 use borrow.Author.Needs.{needs}
 use Rattle.replay_session.proofs.put_plans.Statement.{statement}

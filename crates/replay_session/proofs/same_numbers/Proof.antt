@@ -1,4 +1,4 @@
--- `same_numbers`. Assumes nothing.
+-- `same_numbers`.
 use Prim.Native.Nat.{_-_, _≤_}
 use borrow.Author.Needs.{needs}
 use Rattle.replay_session.proofs.same_numbers.Statement.{statement}

@@ -1,4 +1,4 @@
--- `sevens`. Assumes nothing.
+-- `sevens`.
 use Prim.Native.Nat.{_-_, _≤_}
 use lib.ListN.{length}
 use borrow.Author.Needs.{needs}

@@ -1,4 +1,4 @@
--- `take_history`. Assumes nothing.
+-- `take_history`.
 use Prim.Native.Nat.{_-_, _≤_}
 use borrow.Author.Needs.{needs}
 use Rattle.replay_session.proofs.take_history.Statement.{statement}

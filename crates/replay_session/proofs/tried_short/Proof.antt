@@ -1,4 +1,4 @@
--- `tried_short`. Assumes nothing.
+-- `tried_short`.
 use Prim.Native.Nat.{ℕ}
 use mathlib.Core.Path.{sym}
 use native.Mathlib.Omega.{arith}

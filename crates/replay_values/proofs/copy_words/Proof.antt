@@ -1,4 +1,4 @@
--- `copy_words`. Assumes nothing.
+-- `copy_words`.
 use Prim.Native.Nat.{_-_, _≤_}
 use mathlib.Core.Path.{_≡_}
 use lib.ListN.{length}

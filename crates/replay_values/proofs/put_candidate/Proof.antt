@@ -1,4 +1,4 @@
--- `put_candidate`. Assumes nothing.
+-- `put_candidate`.
 use Prim.Native.Nat.{_-_, _≤_}
 use borrow.Author.Needs.{needs}
 use Rattle.replay_values.proofs.put_candidate.Statement.{statement}

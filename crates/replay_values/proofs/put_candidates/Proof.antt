@@ -1,4 +1,4 @@
--- `put_candidates`. Assumes nothing.
+-- `put_candidates`.
 use Prim.Native.Nat.{_*_, _-_, _≤_}
 use borrow.Author.Needs.{needs}
 use Rattle.replay_values.proofs.put_candidates.Statement.{statement}

@@ -1,4 +1,4 @@
--- `put_places`. Assumes nothing.
+-- `put_places`.
 use Prim.Native.Nat.{_-_, _≤_}
 use borrow.Author.Needs.{needs}
 use Rattle.replay_values.proofs.put_places.Statement.{statement}

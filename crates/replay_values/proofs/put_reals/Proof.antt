@@ -1,4 +1,4 @@
--- `put_reals`. Assumes nothing.
+-- `put_reals`.
 use Prim.Native.Nat.{_-_, _≤_}
 use borrow.Author.Needs.{needs}
 use Rattle.replay_values.proofs.put_reals.Statement.{statement}

@@ -1,4 +1,4 @@
--- `put_settings`. Assumes nothing.
+-- `put_settings`.
 use Prim.Native.Nat.{_-_, _≤_}
 use borrow.Author.Needs.{needs}
 use Rattle.replay_values.proofs.put_settings.Statement.{statement}

@@ -1,4 +1,4 @@
--- `read_dimensions`. Assumes nothing.
+-- `read_dimensions`.
 use Prim.Native.Nat.{_-_, _≤_}
 use borrow.Author.Needs.{needs}
 use Rattle.replay_values.proofs.read_dimensions.Statement.{statement}

@@ -1,4 +1,4 @@
--- `read_marks`. Assumes nothing.
+-- `read_marks`.
 use Prim.Native.Nat.{_-_, _≤_}
 use borrow.Author.Needs.{needs}
 use Rattle.replay_values.proofs.read_marks.Statement.{statement}

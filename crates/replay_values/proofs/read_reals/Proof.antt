@@ -1,4 +1,4 @@
--- `read_reals`. Assumes nothing.
+-- `read_reals`.
 use Prim.Native.Nat.{_-_, _≤_}
 use borrow.Author.Needs.{needs}
 use Rattle.replay_values.proofs.read_reals.Statement.{statement}

@@ -1,4 +1,4 @@
--- `read_settings`. Assumes nothing.
+-- `read_settings`.
 use Prim.Native.Nat.{_-_, _≤_}
 use borrow.Author.Needs.{needs}
 use Rattle.replay_values.proofs.read_settings.Statement.{statement}

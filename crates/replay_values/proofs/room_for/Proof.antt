@@ -1,4 +1,4 @@
--- `room_for`. Assumes nothing.
+-- `room_for`.
 use native.Mathlib.Nat.{mul-le-mul}
 use borrow.Author.Needs.{needs}
 use Rattle.replay_values.proofs.room_for.Statement.{statement}

@@ -1,5 +1,5 @@
 -- `draw` meets its contract: a walk of its MIR, by hand. The borrow is opened, the one field of what lies there is lent to `draw_word` for a lifetime that is made for the call, comes back at the value that `draw_word` left, and the borrow is closed.
--- Assumes nothing.
+--
 use mathlib.Core.Path.{_≡_, refl}
 use Prim.Native.Nat.{ℕ, _+_}
 use mathlib.Core.List.{[], _∷_, List}

@@ -1,4 +1,4 @@
--- The state moves on by one step, and the word is that of the state reached. Assumes nothing.
+-- The state moves on by one step, and the word is that of the state reached.
 use Rattle.rng_lent.proofs.Words.{is-drawn}
 use Rattle.rng_lent.proofs.draw_word.Statement.{statement}
 use Rattle.rng_lent.proofs.draw_word.Tie as tie

@@ -1,4 +1,4 @@
--- The step is the product's and the sum's remainders. Assumes nothing.
+-- The step is the product's and the sum's remainders.
 use mathlib.Core.Path.{_≡_}
 use Prim.Native.Nat.{ℕ, _+_, _*_, _%_, _^_}
 use native.Mathlib.Omega.{arith}

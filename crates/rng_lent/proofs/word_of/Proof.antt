@@ -1,4 +1,4 @@
--- The word: the code's `^` is the definition's exclusive or. Assumes nothing.
+-- The word: the code's `^` is the definition's exclusive or.
 use Rattle.rng_lent.proofs.Words.{is-word}
 use Rattle.rng_lent.proofs.word_of.Statement.{statement}
 use Rattle.rng_lent.proofs.word_of.Tie as tie

@@ -1,4 +1,4 @@
--- Columns of a product of 32-bit halves. Assumes nothing.
+-- Columns of a product of 32-bit halves.
 use borrow.Author.Needs.{needs}
 use mathlib.Core.Path.{_≡_, refl, sym, ap, _∙_}
 use Prim.Native.Nat.{ℕ, _+_, _*_, _/_, _%_, _^_, _<_}

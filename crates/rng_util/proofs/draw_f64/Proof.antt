@@ -1,4 +1,4 @@
--- The upper 52 digits of the word over 2^52. Assumes nothing.
+-- The upper 52 digits of the word over 2^52.
 use mathlib.Core.Path.{_≡_, ap, _∙_}
 use Prim.Native.Nat.{ℕ, _/_, _^_}
 use native.Mathlib.Omega.{arith}

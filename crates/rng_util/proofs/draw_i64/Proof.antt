@@ -1,4 +1,4 @@
--- a and the word's remainder by how many numbers there are from a to b: nothing on the way leaves 64 bits. Assumes nothing.
+-- a and the word's remainder by how many numbers there are from a to b: nothing on the way leaves 64 bits.
 use mathlib.Core.Path.{_≡_}
 use lib.IntN.{ℤ, pos, natAbs, _+ℤ_, _-ℤ_}
 use mir.Syntax.{w64}

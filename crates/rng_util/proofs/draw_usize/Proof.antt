@@ -1,4 +1,4 @@
--- The word's remainder. Assumes nothing.
+-- The word's remainder.
 use borrow.Author.Needs.{needs}
 use Prim.Native.Nat.{ℕ, _%_}
 use Rattle.model.specs.Draw.{drawUsize}

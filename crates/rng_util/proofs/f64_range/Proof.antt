@@ -1,4 +1,4 @@
--- The draw of 0..1, stretched and moved. Assumes nothing.
+-- The draw of 0..1, stretched and moved.
 use lib.Ieee.{Float}
 use Rattle.model.specs.Real.{_⊕_, _⊖_, _⊗_}
 use Rattle.model.specs.Draw.{f64Range}

@@ -1,5 +1,5 @@
 -- `next` meets its contract: a walk of its MIR, by hand. The generator is passed by value into a local, which is lent to `draw` for a lifetime that is made for the call and comes back at the value that `draw` left; it is answered with the word.
--- Assumes nothing.
+--
 use mathlib.Core.Path.{_≡_, refl, ap}
 use Prim.Native.Nat.{ℕ, _<_, _^_}
 use mathlib.Core.List.{[], _∷_}

@@ -1,4 +1,4 @@
--- `opened`. Assumes nothing.
+-- `opened`.
 use Rattle.session_calls.proofs.Property.{same-session}
 use borrow.Author.Needs.{needs}
 use Rattle.session_calls.proofs.opened.Statement.{statement}

@@ -1,4 +1,4 @@
--- `repeated`. Assumes nothing.
+-- `repeated`.
 use Prim.Native.Nat.{_-_, _≤_}
 use native.Mathlib.Omega.{arith}
 use borrow.Author.Needs.{needs}

@@ -1,4 +1,4 @@
--- `sampled`. Assumes nothing.
+-- `sampled`.
 use mathlib.Core.Path.{sym}
 use native.Mathlib.Omega.{arith}
 use lib.Seq.{length-take-le}

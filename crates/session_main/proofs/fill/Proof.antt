@@ -1,4 +1,4 @@
--- `fill`. Assumes nothing.
+-- `fill`.
 use Prim.Native.Nat.{_-_, _≤_}
 use native.Mathlib.Omega.{arith}
 use Rattle.model.specs.Session.{state}

@@ -1,4 +1,4 @@
--- `sessions`. Assumes nothing.
+-- `sessions`.
 use borrow.Author.Needs.{needs}
 use Rattle.session_main.proofs.sessions.Statement.{statement}
 use Rattle.session_main.proofs.sessions.Tie as tie

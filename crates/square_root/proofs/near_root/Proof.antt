@@ -1,4 +1,4 @@
--- `near_root` meets its contract. The invariant is `Turns`: the root of the digits read so far, and what is left of them. The measure is the turns to come. Assumes nothing.
+-- `near_root` meets its contract. The invariant is `Turns`: the root of the digits read so far, and what is left of them. The measure is the turns to come.
 use mathlib.Core.Path.{_≡_, sym, _∙_}
 use Prim.Native.Nat.{ℕ, suc, _+_, _*_, _-_, _^_, _<_, _≤_}
 use native.Mathlib.Nat.{lt-of-lt-of-le, lt-of-le-of-lt}

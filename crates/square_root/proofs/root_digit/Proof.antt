@@ -1,4 +1,4 @@
--- `root_digit` meets its contract. Assumes nothing.
+-- `root_digit` meets its contract.
 use mathlib.Core.Path.{sym, ap}
 use mathlib.Core.Bool.{Bool, cond}
 use borrow.Author.Tests.{le-leb, lt-leb}

@@ -1,4 +1,4 @@
--- `root_of_pattern` meets its contract: a pattern is read as m * 2 ^ k units. Assumes nothing.
+-- `root_of_pattern` meets its contract: a pattern is read as m * 2 ^ k units.
 use borrow.Author.Needs.{needs}
 use mathlib.Core.Path.{_≡_, refl, sym, ap, _∙_}
 use Prim.Native.Nat.{ℕ, _+_, _*_, _-_, _/_, _%_, _^_, _<_}

@@ -1,4 +1,4 @@
--- `root_of_units` meets its contract: `Parts` has what the shift makes of m, and what is put together at the end is read as the double that `rooted` writes. Assumes nothing.
+-- `root_of_units` meets its contract: `Parts` has what the shift makes of m, and what is put together at the end is read as the double that `rooted` writes.
 use mathlib.Core.Path.{_≡_, sym, ap, _∙_, subst}
 use Prim.Native.Nat.{ℕ, _+_, _*_, _-_, _/_, _%_, _^_, _<_, _≤_}
 use native.Mathlib.Omega.{arith}

@@ -1,4 +1,4 @@
--- `sqrt` meets its contract. Its tests tell apart the ways that `sqrtOf` goes. Assumes nothing.
+-- `sqrt` meets its contract. Its tests tell apart the ways that `sqrtOf` goes.
 use mathlib.Core.Path.{_≡_, refl, sym, ap, _∙_, subst}
 use mathlib.Core.Logic.{inl, inr}
 use Prim.Native.Nat.{ℕ, zero, suc, _*_, _<_, _≤_}

@@ -1,0 +1,70 @@
+-- `generate_offspring_words`.
+use mathlib.Core.Path.{ap}
+use Rattle.export_laws.proofs.Export.{step-coded}
+use borrow.Author.Needs.{needs}
+use Rattle.c_generate.proofs.generate_offspring_words.Statement.{statement}
+use Rattle.c_generate.proofs.generate_offspring_words.Tie as tie
+use Rattle.model.specs.Setting.{operators}
+use Rattle.session_words.specs.Coding.{dimensionCount}
+
+-- ---- the places, each from the next: the dimensions are read, the step is called, and its answer told
+
+abbrev start : tie.After-dimensions-of-words → tie.Start
+start c = c .before .before .before .before .before .before .before .before .before
+
+abbrev read : tie.After-nsga3-generate-offspring → tie.After-dimensions-of-words
+read c = c .before .before .before .before .before .before .before .before
+
+abbrev called : tie.After-code → tie.After-nsga3-generate-offspring
+called c = c .before .before .before .before .before .before .before .before .before .before .before .before .before .before
+
+-- ---- the needs
+
+dimensions-of-words-requires : tie.Need-dimensions-of-words-requires
+dimensions-of-words-requires c κs = search needs
+
+nsga3-generate-offspring-requires : tie.Need-nsga3-generate-offspring-requires
+nsga3-generate-offspring-requires c κs = tt
+
+count-requires : tie.Need-count-requires
+count-requires c κs = tt
+
+code-requires : tie.Need-code-requires
+code-requires c κs = tt
+
+same-length : tie.Need-same-length
+same-length c = search needs
+
+same-length-2 : tie.Need-same-length-2
+same-length-2 c = search needs
+
+same-length-3 : tie.Need-same-length-3
+same-length-3 c = search needs
+
+same-length-4 : tie.Need-same-length-4
+same-length-4 c = search needs
+
+same-length-5 : tie.Need-same-length-5
+same-length-5 c = search needs
+
+returns : tie.Need-returns
+returns c =
+    let r = read (called c) in
+    let a = start r .args in
+    let e = ap (λ x. operators x (dimensionCount (a .dimensions .now)) (a .crossover-prob) (a .crossover-eta) (a .mutation-eta)) (r .dimensions-of-words .ensures) in
+    step-coded _ _ _ _ _ _ _ _ _ e (called c .nsga3-generate-offspring .ensures) (c .before .count .ensures) (c .code .ensures)
+
+pub generate-offspring-words-spec : {M : Type 1} → statement M
+generate-offspring-words-spec =
+    tie.close
+    (tie.spec
+    dimensions-of-words-requires
+    nsga3-generate-offspring-requires
+    count-requires
+    code-requires
+    same-length
+    same-length-2
+    same-length-3
+    same-length-4
+    same-length-5
+    returns)
