@@ -21,6 +21,10 @@ nicheCount line listed l = tally (λ p. eqb (line p) l) listed
 abbrev pub waiting : List ℕ → List ℕ → List ℕ
 waiting split picked = keep (λ p. not (has picked p)) split
 
+-- "Before each pick a line's number is that of the split front's plans associated with it and not yet listed": document 02, M-104
+abbrev pub waitingNumber : (ℕ → ℕ) → List ℕ → List ℕ → ℕ → ℕ
+waitingNumber line split picked l = tally (λ p. eqb (line p) l) (waiting split picked)
+
 -- the lines with waiting members, rising, of `lines` lines
 abbrev pub openLines : (ℕ → ℕ) → ℕ → List ℕ → List ℕ
 openLines line lines waits = keepBelow (has (map line waits)) lines

@@ -2,9 +2,10 @@
 // `niching_select` is the layer's call; the other functions are its parts.
 ghost use mathlib.Core.Path.{_≡_};
 ghost use Prim.Native.Nat.{ℕ};
+ghost use mathlib.Core.List.{[]};
 ghost use lib.ListN.{length};
 ghost use Rattle.model.specs.Kept.{nicheCount};
-ghost use Rattle.niching_array_laws.specs.Niche.{lineIn, countOf, OnLines, Zeros, Ready, Took, Splits, NichingSelects};
+ghost use Rattle.niching_array_laws.specs.Niche.{lineIn, countOf, OnLines, Zeros, Numbered, Ready, Took, Splits, NichingSelects};
 use model::MAX_LINES;
 use model::MAX_POOL;
 use model::Rng;
@@ -24,7 +25,15 @@ fn count_lines(plans: &[usize], lines: &[usize], counts: &mut [usize])
     }
 }
 
-// Fills one open place: the plan picked, with the arrays moved on.
+// The members waiting on each line, counted once, when the split front is known and none of its plans is listed (document 02, M-104).
+fn count_waiting(front: &[usize], lines: &[usize], waits: &mut [usize])
+    requires { ⌜ OnLines (now front) (now lines) (length (now waits)) × Zeros (now waits) ⌝ }
+    ensures { λ r. ⌜ Numbered (now (front .entry)) (now (lines .entry)) [] (now (waits .exit)) ⌝ }
+{
+    count_lines(front, lines, waits);
+}
+
+// Fills one open place: the plan picked, with the arrays moved on. Its line's number in `waits` is lowered by one, however it was chosen (M-104).
 fn pick(
     rng: Rng,
     front: &[usize],
@@ -50,10 +59,8 @@ fn pick(
     counts[l] = count + 1;
     waits[l] = waiting - 1;
     taken[place] = true;
-    DrawnUsize {
-        value: front[place],
-        rng,
-    }
+    let value = front[place];
+    DrawnUsize { value, rng }
 }
 
 // Picks `open` plans of the split front, which stands in the order from `start` to `end`; the plans before it are kept already.
@@ -77,7 +84,7 @@ pub fn niching_select(
     let mut counts: [usize; MAX_LINES] = [0; MAX_LINES];
     count_lines(before, lines, &mut counts);
     let mut waits: [usize; MAX_LINES] = [0; MAX_LINES];
-    count_lines(front, lines, &mut waits);
+    count_waiting(front, lines, &mut waits);
     let mut taken: [bool; MAX_POOL] = [false; MAX_POOL];
     let mut rng = rng;
     let mut at = 0;

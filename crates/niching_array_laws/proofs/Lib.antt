@@ -1,6 +1,7 @@
 pub mod Places
 pub mod Least
 pub mod Counting
+pub mod Numbering
 pub mod Choosing
 pub mod Nearest
 pub mod Picking

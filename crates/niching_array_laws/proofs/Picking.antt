@@ -14,10 +14,15 @@ use Rattle.model.specs.Kept.{leastLines, drawFrom, drawMember}
 use Rattle.list_laws.proofs.Bools.{and-right, and-not-left}
 use Rattle.list_laws.proofs.Counts.{countBelow-at}
 use Rattle.list_laws.proofs.Kept.{keepBelow-length}
-use Rattle.niching_array_laws.specs.Niche.{lineIn, distanceIn, memberAt, countOf, hasWaiting, waitsOn, members, Open, MemberOf, Ready, pickAt}
+use Rattle.niching_array_laws.specs.Niche.{lineIn, distanceIn, memberAt, countOf, hasWaiting, waitsOn, members, Open, MemberOf, Awaits, Ready, pickAt}
+use Rattle.niching_array_laws.proofs.Numbering.{stands-awaits}
 
 module _ {front lines : List ℕ} {distances : List Float} {n : ℕ} {counts waits : List ℕ} {taken : List Bool}
     (h : Ready front lines distances n counts waits taken) where
+  -- a line's number is that of its places that wait
+  pub ready-awaits : Awaits front lines taken waits
+  ready-awaits = stands-awaits (h .stands)
+
   -- the line of a member that waits is open
   pub ready-open : (l : ℕ) × Open waits n l
   ready-open =
@@ -25,7 +30,7 @@ module _ {front lines : List ℕ} {distances : List Float} {n : ℕ} {counts wai
       let l = lineIn lines (memberAt front i) in
       let f = waitsOn front lines taken l in
       let e : f i ≡ true = ap₂ (λ a b. not a && b) (h .some .2) (eq-eqb l l refl) in
-      let w : 0 < countOf waits l = omega (arith, h .waiting l, keepBelow-length f (length front), countBelow-at f (length front) i (h .some .1) e) in
+      let w : 0 < countOf waits l = omega (arith, ready-awaits l, keepBelow-length f (length front), countBelow-at f (length front) i (h .some .1) e) in
       (l, record { below = h .onLines i (h .some .1) .1; passes = lt-ltb 0 (countOf waits l) w })
 
 -- some member waits on an open line

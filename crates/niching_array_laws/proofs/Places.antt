@@ -5,15 +5,13 @@ use mathlib.Core.Bool.{Bool, true, false, cond}
 use mathlib.Core.List.{List, [], _∷_, _++_, map}
 use native.Mathlib.Nat.{not-suc-le-zero}
 use native.Mathlib.Omega.{arith}
-use lib.Dec.{eqb}
 use lib.Ieee.{Float, lt}
 use lib.ListN.{length, getD, replicate, length-replicate, getD-replicate, List·getD-append, List·getD-eq-default, length-append, length-map}
 use lib.Seq.{getD-at}
-use Rattle.model.specs.Lists.{one, countBelow, keepBelow, keep, tally, bestFrom, listBelow}
+use Rattle.model.specs.Lists.{countBelow, keepBelow, keep, bestFrom, listBelow}
 use Rattle.model.specs.Kept.{nearest, nearerPlan}
 use Rattle.list_laws.proofs.Built.{map-at, listBelow-places, map-below}
 use Rattle.list_laws.proofs.Best.{best-more, best-same, best-all, best-map}
-use Rattle.list_laws.specs.Occ.{occ}
 use Rattle.list_laws.proofs.Below.{last-or, by-lt}
 use Rattle.list_laws.proofs.Counts.{countBelow-none, countBelow-yes, countBelow-no, countBelow-up}
 use Rattle.list_laws.proofs.Members.{empty-of, keep-map}
@@ -33,12 +31,6 @@ pub keep-places : (f : ℕ → Bool) (l : List ℕ) → keep f l ≡ map (λ i. 
 keep-places f l =
     ap (keep f) (sym (listBelow-places 0 l) ∙ sym (map-below (λ i. getD l i 0) (λ i. i) (length l))) ∙ keep-map f (λ i. getD l i 0) (listBelow (λ i. i) (length l))
     ∙ ap (map (λ i. getD l i 0)) (sym (keepBelow-keep (λ i. f (getD l i 0)) (length l)))
-
--- how often a number stands in a list's images is how many entries have it as theirs
-pub occ-map : (f : ℕ → ℕ) (q : ℕ) (l : List ℕ) → occ q (map f l) ≡ tally (λ p. eqb (f p) q) l
-unfolding occ tally
-occ-map f q [] = refl
-occ-map f q (x ∷ l) = ap (λ t. one (eqb (f x) q) + t) (occ-map f q l)
 
 -- ---- the k-th
 

@@ -2,7 +2,7 @@
 use Prim.Native.Nat.{ℕ, _+_, _-_, _<_}
 use mathlib.Core.Path.{_≡_, ap, _∙_}
 use mathlib.Core.Bool.{Bool, false}
-use mathlib.Core.List.{List}
+use mathlib.Core.List.{List, []}
 use native.Mathlib.Omega.{arith}
 use lib.Ieee.{Float}
 use lib.ListN.{length, set, take, drop, replicate, length-drop}
@@ -13,7 +13,7 @@ use Rattle.model.specs.Draw.{Drawn, drawn, inTurn}
 use Rattle.model.specs.Kept.{nicheCount, pickOne, picks}
 use Rattle.list_laws.proofs.Draws.{drawAll-length}
 use Rattle.list_laws.proofs.Written.{WrittenNumbers, written-none, written-next, written-more}
-use Rattle.niching_array_laws.specs.Niche.{lineIn, distanceIn, memberAt, countOf, Zeros, OnLines, Ready, Took, Splits, picksOf, NichingSelects}
+use Rattle.niching_array_laws.specs.Niche.{lineIn, distanceIn, memberAt, countOf, Zeros, OnLines, Numbered, Ready, Took, Splits, picksOf, NichingSelects}
 use Rattle.niching_array_laws.proofs.Places.{replicate-at}
 use Rattle.niching_array_laws.proofs.Filling.{Given, Holds, holds-first, holds-pick, holds-ready, holds-more}
 
@@ -28,7 +28,7 @@ pub record Selecting (before front lines : List ℕ) (distances : List Float) (n
   pub picked : WrittenNumbers (pickIn lines distances n before front) s old j out t
 
 pub selecting-first : (before front lines : List ℕ) (distances : List Float) (n s : ℕ) (old counts waits : List ℕ)
-    → ((l : ℕ) → countOf counts l ≡ nicheCount (lineIn lines) before l) → ((l : ℕ) → countOf waits l ≡ nicheCount (lineIn lines) front l)
+    → ((l : ℕ) → countOf counts l ≡ nicheCount (lineIn lines) before l) → Numbered front lines [] waits
     → length counts ≡ maxLines → length waits ≡ maxLines
     → Selecting before front lines distances n s old 0 counts waits (replicate maxPool false) old s
 unfolding inTurn

@@ -1,15 +1,15 @@
--- What the arrays of the niching loop hold: each line's niche count, each line's number of waiting members, and for each place of the split front whether its
--- member is taken. Past a list's end a number reads as 0, a double as NaN.
+-- What the arrays of the niching loop hold: each line's niche count, each line's number of waiting members (M-104), and for each place of the split front whether
+-- its member is taken. Past a list's end a number reads as 0, a double as NaN.
 use Prim.Native.Nat.{ℕ, _+_, _-_, _≤_, _<_}
 use mathlib.Core.Path.{_≡_}
 use mathlib.Core.Bool.{Bool, true, false, cond, not, _&&_}
-use mathlib.Core.List.{List, map}
+use mathlib.Core.List.{List, [], _∷_, _++_, map}
 use lib.Dec.{eqb, ltb}
 use lib.Ieee.{Float, nan, lt}
 use lib.ListN.{length, getD, set, take, drop}
-use Rattle.model.specs.Lists.{keepBelow, countBelow, bestFrom, Distinct, over}
+use Rattle.model.specs.Lists.{keepBelow, countBelow, bestFrom, has, Distinct, over}
 use Rattle.model.specs.Draw.{Drawn, drawn}
-use Rattle.model.specs.Kept.{picks, pickFrom}
+use Rattle.model.specs.Kept.{waitingNumber, picks, pickFrom}
 use Rattle.model.specs.Refusal.{maxPool, maxLines}
 
 -- the line of a plan, and its distance from that line
@@ -25,12 +25,12 @@ memberAt front i = getD front i 0
 
 -- ---- lines
 
--- a line's niche count, and whether it has waiting members
+-- what an array has for a line: its niche count, or its number of waiting members; and whether that number is above 0
 abbrev pub countOf : List ℕ → ℕ → ℕ
 countOf counts l = getD counts l 0
 
 abbrev pub hasWaiting : List ℕ → ℕ → Bool
-hasWaiting waits l = ltb 0 (getD waits l 0)
+hasWaiting waits l = ltb 0 (countOf waits l)
 
 -- line l has the niche count `least` and waiting members
 abbrev pub isLeast : List ℕ → List ℕ → ℕ → ℕ → Bool
@@ -104,7 +104,21 @@ MemberOf front lines taken l i = Passes (waitsOn front lines taken l) (length fr
 abbrev pub Measured : List ℕ → List Float → Type 0
 Measured plans distances = (i : ℕ) → i < length plans → memberAt plans i < length distances
 
--- each line's number of waiting members
+-- "Before each pick a line's number is that of the split front's plans associated with it and not yet listed": the array has these numbers, where `picked` are
+-- the plans of the split front that are listed
+pub record Numbered (front lines picked waits : List ℕ) : Type 0 where
+  pub at : (l : ℕ) → countOf waits l ≡ waitingNumber (lineIn lines) front picked l
+
+-- and the marks of the places tell these plans
+pub record Marked (front picked : List ℕ) (taken : List Bool) : Type 0 where
+  pub at : (i : ℕ) → i < length front → getD taken i false ≡ has picked (memberAt front i)
+
+-- both, as they stand before a pick
+pub record Stands (front lines picked waits : List ℕ) (taken : List Bool) : Type 0 where
+  pub numbered : Numbered front lines picked waits
+  pub marked : Marked front picked taken
+
+-- each line's number, by the places that wait
 abbrev pub Awaits : List ℕ → List ℕ → List Bool → List ℕ → Type 0
 Awaits front lines taken waits = (l : ℕ) → countOf waits l ≡ length (places front lines taken l)
 
@@ -116,7 +130,10 @@ pub record Ready (front lines : List ℕ) (distances : List Float) (n : ℕ) (co
   pub counted : n ≤ length counts
   pub awaited : n ≤ length waits
   pub few : (l : ℕ) → countOf counts l < maxPool
-  pub waiting : Awaits front lines taken waits
+  pub different : Distinct front
+  -- those picked so far, of which numbers and marks speak
+  pub picked : List ℕ
+  pub stands : Stands front lines picked waits taken
   pub some : (i : ℕ) × (i < length front) × (getD taken i false ≡ false)
 
 -- one open place, by what the arrays hold
@@ -124,7 +141,8 @@ unfoldable pub pickAt : List ℕ → List ℕ → List Float → ℕ → List �
 pickAt front lines distances n counts waits taken s =
     pickFrom (distanceIn distances) (countOf counts) (keepBelow (hasWaiting waits) n) (members front lines taken) s
 
--- that place filled: the plan r of a place that waited is taken, its line's niche count is one higher and its number of waiting members one lower
+-- that place filled: the plan r of a place that waited is taken, its line's niche count is one higher and its number of waiting members, which was above 0, one
+-- lower; no other line's is touched. Whichever were picked before, the numbers are those before the next pick, with r among the picked.
 pub record Took (front lines : List ℕ) (distances : List Float) (n s : ℕ) (counts₀ counts waits₀ waits : List ℕ) (taken₀ taken : List Bool) (r t : ℕ) : Type 0 where
   pub place : ℕ
   pub line : ℕ
@@ -134,8 +152,10 @@ pub record Took (front lines : List ℕ) (distances : List Float) (n s : ℕ) (c
   pub onLine : lineIn lines r ≡ line
   pub lineInside : line < n
   pub counted : counts ≡ set counts₀ line (countOf counts₀ line + 1)
-  pub awaited : waits ≡ set waits₀ line (countOf waits₀ line - 1)
+  pub above : 0 < countOf waits₀ line
+  pub lowered : waits ≡ set waits₀ line (countOf waits₀ line - 1)
   pub marked : taken ≡ set taken₀ place true
+  pub stands : (picked : List ℕ) → Stands front lines picked waits₀ taken₀ → Stands front lines (picked ++ (r ∷ [])) waits taken
   pub chosen : drawn r t ≡ pickAt front lines distances n counts₀ waits₀ taken₀ s
 
 -- the first `start` plans of the order are kept, those from there to `end` are the split front, of which `vacant` are to be picked

@@ -5,5 +5,6 @@ pub mod Niched
 pub mod Choice
 pub mod KeptLength
 pub mod Picks
+pub mod Numbers
 pub mod Procedure
 pub mod Association

@@ -2,11 +2,12 @@
 -- the plans of it that were picked so far, in order, and `line` gives each plan its line.
 use Prim.Native.Nat.{ℕ, zero, suc, _+_, _≤_, _<_}
 use mathlib.Core.Path.{_≡_}
+use mathlib.Core.Logic.{_≢_}
 use mathlib.Core.List.{List, [], _∷_, _++_}
 use lib.Ieee.{Float}
 use lib.ListN.{length}
 use Rattle.model.specs.Lists.{In, Distinct}
-use Rattle.model.specs.Kept.{nicheCount}
+use Rattle.model.specs.Kept.{nicheCount, waitingNumber}
 use Rattle.model.specs.Papers.DebJain2014.{Reached}
 use Rattle.model.specs.Demand3.{sumSquares}
 
@@ -47,6 +48,11 @@ pub data Run (before front : List ℕ) (line : ℕ → ℕ) : ℕ → List ℕ �
       → Run before front line (suc n) (picked ++ (p ∷ []))
 
 -- ---- what is claimed
+
+-- "lowered as each is taken" (document 02, M-104): once p is picked, the number of p's line is one less, and that of every other line as it was
+pub record Lowered (line : ℕ → ℕ) (front picked : List ℕ) (p : ℕ) : Type 0 where
+  pub own : waitingNumber line front picked (line p) ≡ waitingNumber line front (picked ++ (p ∷ [])) (line p) + 1
+  pub others : (l : ℕ) → line p ≢ l → waitingNumber line front (picked ++ (p ∷ [])) l ≡ waitingNumber line front picked l
 
 -- `other` could fill n open places: it is n different plans of the split front
 pub record Filling (front : List ℕ) (n : ℕ) (other : List ℕ) : Type 0 where

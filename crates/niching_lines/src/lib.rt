@@ -1,5 +1,5 @@
-// The line of an open place: one drawn among those with the least niche count of the lines with waiting members (document 01, "Kept list").
-// `choose_line` is called by `niching`; the other functions are its parts.
+// The line of an open place: one drawn among those with the least niche count of the lines with waiting members (document 01, "Kept list"). Which these are is read
+// off the lines' numbers, `waits` (document 02, M-104). `choose_line` is called by `niching`; the other functions are its parts.
 ghost use mathlib.Core.Path.{_≡_};
 ghost use Prim.Native.Nat.{ℕ, _<_, _≤_};
 ghost use lib.ListN.{length};
@@ -12,12 +12,20 @@ use model::MAX_POOL;
 use model::Rng;
 use rng_util::DrawnUsize;
 
+// Line l has waiting members: its number is above 0.
+fn has_waiting(waits: &[usize], l: usize) -> bool
+    requires { ⌜ l < length (now waits) ⌝ }
+    ensures { λ r. ⌜ r ≡ hasWaiting (now (waits .entry)) l ⌝ }
+{
+    0 < waits[l]
+}
+
 // The niche count of line l, if that has waiting members; otherwise a number that no count reaches.
 fn open_count(counts: &[usize], waits: &[usize], l: usize) -> usize
     requires { ⌜ (l < length (now counts)) × (l < length (now waits)) ⌝ }
     ensures { λ r. ⌜ r ≡ openCount maxPool (now (counts .entry)) (now (waits .entry)) l ⌝ }
 {
-    if 0 < waits[l] {
+    if has_waiting(waits, l) {
         return counts[l];
     }
     MAX_POOL
@@ -45,7 +53,7 @@ fn is_least(counts: &[usize], waits: &[usize], least: usize, l: usize) -> bool
     requires { ⌜ (l < length (now counts)) × (l < length (now waits)) ⌝ }
     ensures { λ r. ⌜ r ≡ isLeast (now (counts .entry)) (now (waits .entry)) least l ⌝ }
 {
-    if 0 < waits[l] {
+    if has_waiting(waits, l) {
         return counts[l] == least;
     }
     false
@@ -87,7 +95,7 @@ fn nth_least(counts: &[usize], waits: &[usize], least: usize, n: usize, k: usize
     l
 }
 
-// One line, drawn among those with the least niche count of the lines with waiting members.
+// One line, drawn among those with the least niche count of the lines whose number is above 0.
 pub fn choose_line(rng: Rng, counts: &[usize], waits: &[usize], n: usize) -> DrawnUsize
     requires { ⌜ (n ≤ length (now counts)) × (n ≤ length (now waits)) × ((l : ℕ) → countOf (now counts) l < maxPool)
         × ((l : ℕ) × Open (now waits) n l) ⌝ }

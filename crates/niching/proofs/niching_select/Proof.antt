@@ -15,8 +15,33 @@ Inv-loop order start end lines distances n-lines «open» picked₀ front counts
 abbrev μ-loop : tie.MeasureT-loop
 μ-loop order start end lines distances n-lines «open» picked₀ front counts₀ waits₀ taken₀ rng₀ at₀ picked counts waits taken rng at = «open» - at
 
+-- ---- the places, each from the next: the call starts, the front is cut out, the niche counts and the numbers are counted, a turn of the loop, a place filled
+
+abbrev start : tie.After-before2 Inv-loop μ-loop → tie.Start Inv-loop μ-loop
+start c = c .before .before .before .before .before
+
+abbrev cut : tie.After-counts Inv-loop μ-loop → tie.After-before2 Inv-loop μ-loop
+cut c = c .before .before
+
+abbrev counted : tie.After-waits Inv-loop μ-loop → tie.After-count-lines Inv-loop μ-loop
+counted c = c .before .before
+
+abbrev numbered : tie.At-loop Inv-loop μ-loop → tie.After-count-waiting Inv-loop μ-loop
+numbered c = c .before .before
+
+abbrev entry : tie.At-loop Inv-loop μ-loop → tie.Start Inv-loop μ-loop
+entry c = start (cut (counted (numbered c .before) .before))
+
+abbrev turn : tie.After-taken Inv-loop μ-loop → tie.In-loop Inv-loop μ-loop
+turn c = c .before .before .before
+
+abbrev filled : tie.After-taken2 Inv-loop μ-loop → tie.After-pick Inv-loop μ-loop
+filled c = c .before .before .before
+
+-- ---- the needs
+
 slice-aggregate-before : tie.Need-slice-aggregate-before Inv-loop μ-loop
-slice-aggregate-before c = sym (before-length (c .before .before .before .before .before .pre))
+slice-aggregate-before c = sym (before-length (start c .pre))
 
 mul-front : tie.Need-mul-front Inv-loop μ-loop
 mul-front c = omega arith
@@ -34,18 +59,18 @@ slice-aggregate-count-lines : tie.Need-slice-aggregate-count-lines Inv-loop μ-l
 slice-aggregate-count-lines c = refl
 
 count-lines-requires : tie.Need-count-lines-requires Inv-loop μ-loop
-count-lines-requires c κs = (before-lines (c .before .before .before .before .before .before .before .pre), no-counts)
+count-lines-requires c κs = (before-lines (start (cut c) .pre), no-counts)
 
-slice-aggregate-count-lines-2 : tie.Need-slice-aggregate-count-lines-2 Inv-loop μ-loop
-slice-aggregate-count-lines-2 c = refl
+slice-aggregate-count-waiting : tie.Need-slice-aggregate-count-waiting Inv-loop μ-loop
+slice-aggregate-count-waiting c = refl
 
-count-lines-requires-2 : tie.Need-count-lines-requires-2 Inv-loop μ-loop
-count-lines-requires-2 c κs = (front-counts (c .before .before .before .before .before .before .before .before .before .before .pre), no-counts)
+count-waiting-requires : tie.Need-count-waiting-requires Inv-loop μ-loop
+count-waiting-requires c κs = (front-counts (start (cut (counted c .before)) .pre), no-counts)
 
 loop-holds : tie.Need-loop-holds Inv-loop μ-loop
 loop-holds c =
-    let b = c .before .before .before .before .count-lines in
-    let f = c .before .count-lines2 in
+    let b = counted (c .before .before) .count-lines in
+    let f = c .before .count-waiting in
     (omega arith, selecting-first _ _ _ _ _ _ _ _ _ (b .ensures) (f .ensures) (b .kept .1 .1 .0) (f .kept .1 .1 .0))
 
 slice-aggregate-pick : tie.Need-slice-aggregate-pick Inv-loop μ-loop
@@ -55,18 +80,20 @@ slice-aggregate-pick-2 : tie.Need-slice-aggregate-pick-2 Inv-loop μ-loop
 slice-aggregate-pick-2 c = sym (c .before .before .before .loop .inv .1 .holds .sizes .1)
 
 slice-aggregate-pick-3 : tie.Need-slice-aggregate-pick-3 Inv-loop μ-loop
-slice-aggregate-pick-3 c = sym (c .before .before .before .before .loop .inv .1 .holds .sizes .2)
+slice-aggregate-pick-3 c = sym (turn c .before .loop .inv .1 .holds .sizes .2)
 
+-- the numbers are those before this pick: `holds .stands`, of the plans picked so far
 pick-requires : tie.Need-pick-requires Inv-loop μ-loop
 pick-requires c κs =
-    let h = c .before .before .before .before .before .before .before .before .before .before .before .before .before .before .before .before .before .pre in
-    selecting-ready (c .before .before .before .before .loop .inv .1) (given h) (enough-members h (c .before .before .before .before .loop .at) (c .before .before .before .loop-test .taken))
+    let l = turn c .before .loop in
+    let h = entry (turn c .before) .pre in
+    selecting-ready (l .inv .1) (given h) (enough-members h (l .at) (turn c .loop-test .taken))
 
 mul-picked : tie.Need-mul-picked Inv-loop μ-loop
 mul-picked c = omega arith
 
 slice-write-picked : tie.Need-slice-write-picked Inv-loop μ-loop
-slice-write-picked c = omega (arith, c .before .before .before .before .before .before .before .before .loop .inv .1 .picked .same)
+slice-write-picked c = omega (arith, turn (filled c .before) .before .loop .inv .1 .picked .same)
 
 add-at : tie.Need-add-at Inv-loop μ-loop
 add-at c = omega arith
@@ -76,10 +103,10 @@ loop-less c = omega arith
 
 loop-again : tie.Need-loop-again Inv-loop μ-loop
 loop-again c =
-    let l = c .before .before .before .before .before .before .before .before .before .loop in
-    let h = c .before .before .before .before .before .before .before .before .before .before .before .before .before .before .before .before .before .before .before .before .before .before .pre in
-    let u = c .before .before .before .before .before .before .before .before .loop-test .taken in
-    (omega arith, selecting-more (l .inv .1) (given h) (omega (arith, u, h .room)) (c .before .before .before .before .pick .ensures))
+    let f = filled (c .before) in
+    let t = turn (f .before) in
+    let h = entry (t .before) .pre in
+    (omega arith, selecting-more (t .before .loop .inv .1) (given h) (omega (arith, t .loop-test .taken, h .room)) (f .pick .ensures))
 
 same-length : tie.Need-same-length Inv-loop μ-loop
 same-length c = c .before .loop .inv .1 .picked .same
@@ -87,7 +114,7 @@ same-length c = c .before .loop .inv .1 .picked .same
 returns : tie.Need-returns Inv-loop μ-loop
 returns c =
     let l = c .before .loop in
-    let e : l .at ≡ c .before .before .before .before .before .before .before .before .before .before .before .before .before .before .args .«open» = omega arith in
+    let e : l .at ≡ entry (c .before) .args .«open» = omega arith in
     selecting-done _ e (l .inv .1)
 
 pub niching-select-spec : {M : Type 1} → statement M
@@ -103,8 +130,8 @@ niching-select-spec =
     part-front-end
     slice-aggregate-count-lines
     count-lines-requires
-    slice-aggregate-count-lines-2
-    count-lines-requires-2
+    slice-aggregate-count-waiting
+    count-waiting-requires
     loop-holds
     slice-aggregate-pick
     slice-aggregate-pick-2
