@@ -1,11 +1,17 @@
 // The calls on a pool by their C names, as a program in another language makes them, behind the signatures of the Rattle calls.
 use model::Chosen;
 use model::DimensionInfo;
+use model::MAX_DIMS;
 use model::Outcome;
 use model::Rng;
 use model::Selection;
 use session_words::DIMENSION_WORDS;
-ghost use Prim.Native.Nat.{_≤_};
+ghost use Prim.Native.Nat.{_+_, _*_, _≤_};
+ghost use Rattle.model.specs.Setting.{maxDims};
+ghost use Rattle.session_words.specs.Coding.{dimensionWidth};
+
+// The words of one dimension more than is accepted.
+const OVERFULL: usize = (MAX_DIMS + 1) * DIMENSION_WORDS;
 
 // A refusal's number, which a C name answers as a word.
 pub fn refusal(code: u64) -> u8 {
@@ -49,12 +55,12 @@ pub fn select(
     Selection { outcome, rng }
 }
 
-// The words of so many dimensions; of more than 32, which are refused however many they are, 33.
+// The words of so many dimensions; of more than are accepted, which are refused however many they are, one more.
 fn width_of(n_dims: usize) -> usize
-    ensures { λ r. ⌜ r ≤ 198 ⌝ }
+    ensures { λ r. ⌜ r ≤ (maxDims + 1) * dimensionWidth ⌝ }
 {
-    if 32 < n_dims {
-        return 198;
+    if MAX_DIMS < n_dims {
+        return OVERFULL;
     }
     n_dims * DIMENSION_WORDS
 }
@@ -66,7 +72,7 @@ pub fn generate_offspring(
     divisions: usize,
     size: usize,
     rng: Rng,
-    dimensions: [DimensionInfo; 32],
+    dimensions: [DimensionInfo; MAX_DIMS],
     n_dims: usize,
     crossover_prob: f64,
     crossover_eta: f64,
@@ -79,7 +85,7 @@ pub fn generate_offspring(
 ) -> Selection {
     let mut s = rng.s;
     let mut n_kept: usize = 0;
-    let mut words = [0u64; 198];
+    let mut words = [0u64; OVERFULL];
     session_encoding::put_dimensions(dimensions, 0, &mut words);
     let width = width_of(n_dims);
     let code = locustdomino::locustdomino_generate_offspring(

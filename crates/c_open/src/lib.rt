@@ -14,7 +14,7 @@ fn optional(has: u8, n: usize) -> OptionUsize
     OptionUsize::Some(n)
 }
 
-// `open`: the session's words go to the slice's front. A slice of fewer than 222 words meets 10, where no other number applies.
+// `open`: the session's words go to the slice's front. A slice of fewer than `sessionWidth` words meets 10, where no other number applies.
 pub fn open_words(
     directions: &[u8],
     seed: u64,

@@ -33,8 +33,8 @@ fn lacks_words(phase: Phase, first: OptionU64, plan: u64, lent: usize) -> bool
 }
 
 // `sample`: the session's words are read, and those of the session that it answers are written; a refusal writes none. Asked of the caller is the session
-// property of the words and of what is lent beside them, which `locustdomino_open` gives and this call keeps. A session slice of fewer than 222
-// words meets 7 where the history has over 4,096 records, else 10, and nothing is asked of it. A call that adds a dimension and is lent fewer than six words
+// property of the words and of what is lent beside them, which `locustdomino_open` gives and this call keeps. A session slice of fewer than
+// `sessionWidth` words meets 7 where the history has over 4,096 records, else 10, and nothing is asked of it. A call that adds a dimension and is lent fewer than six words
 // for it meets 6; one that adds none does not look at the dimension.
 pub fn sample_words(
     session: &mut [u64],

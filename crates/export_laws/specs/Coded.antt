@@ -175,7 +175,7 @@ sampledExit e k v ws = sampledBy (e .answer) (e .after) k v ws
 abbrev pub lacksWords : Phase → OptionU64 → ℕ → ℕ → Bool
 lacksWords phase first plan words = addsFor phase first plan && ltb words dimensionWidth
 
--- What is looked at before the call: six words for a dimension that it adds, and the session's 222. Where these are too few, nobody can tell whether the call
+-- What is looked at before the call: six words for a dimension that it adds, and the session's `sessionWidth`. Where these are too few, nobody can tell whether the call
 -- adds a dimension, so that 6 is not looked at, and the history is before 10
 abbrev pub wordChecks : Bool → Bool → Bool → List Check
 wordChecks short lacks bad =

@@ -82,7 +82,7 @@ pub extern "C" fn locustdomino_generate_offspring(
     )
 }
 
-// `open`: the session's words go to the slice's front. A slice of fewer than 222 words meets 10, where no other number applies.
+// `open`: the session's words go to the slice's front. A slice of fewer than `sessionWidth` words meets 10, where no other number applies.
 #[no_mangle]
 pub extern "C" fn locustdomino_open(
     directions: &[u8],
@@ -114,8 +114,8 @@ pub extern "C" fn locustdomino_open(
 }
 
 // `sample`: the session's words are read, and those of the session that it answers are written; a refusal writes none. Asked of the caller is the session
-// property of the words and of what is lent beside them, which `locustdomino_open` gives and this call keeps. A session slice of fewer than 222
-// words meets 7 where the history has over 4,096 records, else 10, and nothing is asked of it. A call that adds a dimension and is lent fewer than six words
+// property of the words and of what is lent beside them, which `locustdomino_open` gives and this call keeps. A session slice of fewer than
+// `sessionWidth` words meets 7 where the history has over 4,096 records, else 10, and nothing is asked of it. A call that adds a dimension and is lent fewer than six words
 // for it meets 6; one that adds none does not look at the dimension.
 #[no_mangle]
 pub extern "C" fn locustdomino_sample(

@@ -3,6 +3,7 @@
 use model::CANDIDATE_WORDS;
 use model::DimensionInfo;
 use model::Distribution;
+use model::MAX_DIMS;
 use model::MAX_SIZE;
 use model::Outcome;
 use model::PLAN_WORDS;
@@ -11,6 +12,7 @@ use model::Selection;
 use replay::Words;
 use replay_values::Call;
 use replay_values::Marks;
+use replay_values::OVERFULL;
 use replay_values::Places;
 use replay_values::Pool;
 use replay_values::Reals;
@@ -20,6 +22,9 @@ use settings::DrawnCandidate;
 use settings::Slot;
 ghost use Prim.Native.Nat.{_*_, _<_, _≤_};
 ghost use lib.ListN.{length};
+ghost use Rattle.model.specs.Plan.{planWords};
+ghost use Rattle.model.specs.Refusal.{maxSize};
+ghost use Rattle.model.specs.Setting.{maxDims};
 
 // The words of 1,024 candidates.
 type Offspring = [u64; CANDIDATE_WORDS];
@@ -50,7 +55,7 @@ fn sample_random(input: &Words, n: usize, out: &mut Words) -> usize {
 }
 
 fn put_candidate(drawn: DrawnCandidate, n: usize, out: &mut Words) -> usize
-    requires { ⌜ n ≤ 32 ⌝ }
+    requires { ⌜ n ≤ maxDims ⌝ }
 {
     let params = drawn.params;
     let rng = drawn.rng;
@@ -61,12 +66,12 @@ fn put_candidate(drawn: DrawnCandidate, n: usize, out: &mut Words) -> usize
 // The settings of the one plan of a pool.
 fn put_extract(
     pool: &[u64; PLAN_WORDS],
-    dims: [DimensionInfo; 32],
+    dims: [DimensionInfo; MAX_DIMS],
     n: usize,
     rng: Rng,
     out: &mut Words,
 ) -> usize
-    requires { ⌜ n ≤ 32 ⌝ }
+    requires { ⌜ n ≤ maxDims ⌝ }
 {
     if operator_checks::bad_dimensions(dims, n) {
         return 0;
@@ -78,7 +83,7 @@ fn put_extract(
 // 81
 fn extract(input: &Words, n: usize, out: &mut Words) -> usize {
     let count = replay::word(input, 2) as usize;
-    if 32 < count {
+    if MAX_DIMS < count {
         return 0;
     }
     let read = replay_values::read_dimensions(input, 3, count);
@@ -104,18 +109,18 @@ fn exponent(eta: f64) -> u64 {
 struct Operand {
     k: u64,
     count: usize,
-    dims: [DimensionInfo; 32],
-    params: [Slot; 32],
+    dims: [DimensionInfo; MAX_DIMS],
+    params: [Slot; MAX_DIMS],
     next: usize,
 }
 
-// The operand whose eta stands at `at`, and the place after it; there is no exponent where there are more than 32 dimensions.
+// The operand whose eta stands at `at`, and the place after it; there is no exponent where there are more dimensions than are accepted.
 fn read_operand(input: &Words, at: usize) -> Operand
     requires { ⌜ at ≤ 3 ⌝ }
-    ensures { λ r. ⌜ (r .count ≤ 32) × (r .next ≤ 8193) ⌝ }
+    ensures { λ r. ⌜ (r .count ≤ maxDims) × (r .next ≤ 8193) ⌝ }
 {
     let n = replay::word(input, at + 1) as usize;
-    let count = replay_values::least(n, 32);
+    let count = replay_values::least(n, MAX_DIMS);
     let read = replay_values::read_dimensions(input, at + 2, count);
     let dims = read.dims;
     let settings = replay_values::read_settings(input, read.next, count);
@@ -177,14 +182,14 @@ fn sbx(input: &Words, n: usize, out: &mut Words) -> usize {
 
 // A candidate mutated.
 fn put_mutant(
-    dims: [DimensionInfo; 32],
+    dims: [DimensionInfo; MAX_DIMS],
     n: usize,
-    params: [Slot; 32],
+    params: [Slot; MAX_DIMS],
     k: u64,
     rng: Rng,
     out: &mut Words,
 ) -> usize
-    requires { ⌜ n ≤ 32 ⌝ }
+    requires { ⌜ n ≤ maxDims ⌝ }
 {
     if operator_checks::bad_dimensions(dims, n) {
         return 0;
@@ -263,7 +268,7 @@ struct Step {
     probability: f64,
     crossover_eta: f64,
     mutation_eta: f64,
-    dims: [DimensionInfo; 32],
+    dims: [DimensionInfo; MAX_DIMS],
     n_dims: usize,
 }
 
@@ -278,7 +283,7 @@ fn stepped(
     lines: &mut [usize],
     offspring: &mut [u64],
 ) -> Selection
-    requires { ⌜ (step .call .m ≤ length (now marks)) × (step .call .ideal ≤ length (now ideal)) × (step .call .plans ≤ 1025) × (127100 ≤ length (now pool)) ⌝ }
+    requires { ⌜ (step .call .m ≤ length (now marks)) × (step .call .ideal ≤ length (now ideal)) × (step .call .plans ≤ 1025) × (1025 * planWords ≤ length (now pool)) ⌝ }
     requires { ⌜ (room .kept ≤ length (now kept)) × (room .fronts ≤ length (now fronts)) × (room .lines ≤ length (now lines))
         × (room .offspring ≤ length (now offspring)) ⌝ }
 {
@@ -324,7 +329,7 @@ fn step_of(
     offspring: &mut Offspring,
 ) -> Selection
     requires { ⌜ (step .call .m ≤ 16) × (step .call .ideal ≤ 16) × (step .call .plans ≤ 1025) ⌝ }
-    requires { ⌜ (room .kept ≤ 1025) × (room .fronts ≤ 1025) × (room .lines ≤ 1025) × (room .offspring ≤ 32768) ⌝ }
+    requires { ⌜ (room .kept ≤ 1025) × (room .fronts ≤ 1025) × (room .lines ≤ 1025) × (room .offspring ≤ maxSize * maxDims) ⌝ }
 {
     stepped(
         pool,
@@ -353,7 +358,7 @@ fn put_step(
     let size = call.size;
     let n_dims = step.n_dims;
     let dims = step.dims;
-    if 32 < n_dims {
+    if MAX_DIMS < n_dims {
         return 0;
     }
     if MAX_SIZE < size {
@@ -457,7 +462,7 @@ fn step_call(
     at: usize,
     m: usize,
     k: usize,
-    dims: [DimensionInfo; 32],
+    dims: [DimensionInfo; MAX_DIMS],
     plans: usize,
     pool: &Pool,
     out: &mut Words,
@@ -494,7 +499,7 @@ fn step_from(input: &Words, n: usize, at: usize, m: usize, k: usize, out: &mut W
     if 1025 < plans {
         return 0;
     }
-    let mut pool = [0u64; 127100];
+    let mut pool = [0u64; OVERFULL];
     let end = replay_values::read_plans(input, replay::ahead(next, 1), plans, 0, &mut pool);
     if end != n {
         return 0;

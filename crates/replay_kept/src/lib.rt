@@ -6,12 +6,14 @@ use model::Selection;
 use replay::Words;
 use replay_values::Call;
 use replay_values::Marks;
+use replay_values::OVERFULL;
 use replay_values::Places;
 use replay_values::Pool;
 use replay_values::Reals;
 use replay_values::Room;
-ghost use Prim.Native.Nat.{_≤_};
+ghost use Prim.Native.Nat.{_*_, _≤_};
 ghost use lib.ListN.{length};
+ghost use Rattle.model.specs.Plan.{planWords};
 
 fn selection(
     pool: &[u64],
@@ -23,7 +25,7 @@ fn selection(
     fronts: &mut [usize],
     lines: &mut [usize],
 ) -> Selection
-    requires { ⌜ (call .m ≤ length (now marks)) × (call .ideal ≤ length (now ideal)) × (call .plans ≤ 1025) × (127100 ≤ length (now pool)) ⌝ }
+    requires { ⌜ (call .m ≤ length (now marks)) × (call .ideal ≤ length (now ideal)) × (call .plans ≤ 1025) × (1025 * planWords ≤ length (now pool)) ⌝ }
     requires { ⌜ (room .kept ≤ length (now kept)) × (room .fronts ≤ length (now fronts)) × (room .lines ≤ length (now lines)) ⌝ }
 {
     let words = call.plans * PLAN_WORDS;
@@ -167,7 +169,7 @@ pub fn answer(input: &Words, n: usize, out: &mut Words) -> usize {
     if 1025 < plans {
         return 0;
     }
-    let mut pool = [0u64; 127100];
+    let mut pool = [0u64; OVERFULL];
     let end = replay_values::read_plans(input, m + k + 8, plans, 0, &mut pool);
     if end != n {
         return 0;

@@ -2,6 +2,10 @@
 // the answer and the state are written.
 use model::DimensionInfo;
 use model::Distribution;
+use model::MAX_COME;
+use model::MAX_DIMS;
+use model::MAX_OBJECTIVES;
+use model::MAX_WORDS;
 use model::Opened;
 use model::Opening;
 use model::OptionU64;
@@ -15,6 +19,7 @@ use session_calls::Candidates;
 use session_calls::History;
 use session_calls::NextDims;
 use session_calls::Numbers;
+use session_calls::OVERLONG;
 ghost use mathlib.Core.Path.{_≡_};
 ghost use mathlib.Core.Bool.{false};
 ghost use mathlib.Core.List.{List};
@@ -53,7 +58,7 @@ fn next_sevens(next_dims: &[usize]) -> bool {
 // Whether two lists of plan numbers are the same.
 fn same_numbers(a: &Numbers, b: &Numbers) -> bool {
     let mut i: usize = 0;
-    while i < 2048 {
+    while i < MAX_COME {
         if a[i] != b[i] {
             return false;
         }
@@ -75,9 +80,9 @@ fn tried_short(
     requires { ⌜ ((cs ps ns : List ℕ) → longEnough (state session cs ps ns) ≡ false → SessionOk (state session cs ps ns)) ⌝ }
     requires { ⌜ n ≤ 4097 ⌝ }
 {
-    let mut candidates = [7u64; 65535];
+    let mut candidates = [7u64; MAX_WORDS - 1];
     let mut plans = numbers;
-    let mut next_dims = [7usize; 2047];
+    let mut next_dims = [7usize; MAX_COME - 1];
     let r = session_calls::sampled(
         session,
         distribution,
@@ -126,11 +131,11 @@ fn put_option(out: &mut Words, at: usize, x: OptionU64) -> usize {
 }
 
 // The count of dimensions, and the dimensions.
-fn put_dimensions(out: &mut Words, at: usize, dims: [DimensionInfo; 32], n: usize) -> usize {
+fn put_dimensions(out: &mut Words, at: usize, dims: [DimensionInfo; MAX_DIMS], n: usize) -> usize {
     let mut place = replay::put(out, at, n as u64);
     let mut i: usize = 0;
     while i < n {
-        if i < 32 {
+        if i < MAX_DIMS {
             let info = dims[i];
             let d = info.distribution;
             place = replay_values::put_dimension(out, place, d);
@@ -145,7 +150,7 @@ fn put_plans(out: &mut Words, at: usize, plans: &Numbers, next_dims: &NextDims, 
     let mut place = at;
     let mut i: usize = 0;
     while i < n {
-        if i < 2048 {
+        if i < MAX_COME {
             place = replay_values::put_two(out, place, plans[i], next_dims[i] as u64);
         }
         i += 1;
@@ -159,20 +164,20 @@ fn put_candidates(
     at: usize,
     candidates: &Candidates,
     count: usize,
-    dims: [DimensionInfo; 32],
+    dims: [DimensionInfo; MAX_DIMS],
     n: usize,
 ) -> usize {
-    if 32 < n {
+    if MAX_DIMS < n {
         return 8193;
     }
-    if 2048 < count {
+    if MAX_COME < count {
         return 8193;
     }
     let place = replay::put(out, at, count as u64);
     replay_values::put_candidates(out, place, candidates, count, dims, n)
 }
 
-fn put_ideal(out: &mut Words, at: usize, ideal: [f64; 8], m: usize) -> usize {
+fn put_ideal(out: &mut Words, at: usize, ideal: [f64; MAX_OBJECTIVES], m: usize) -> usize {
     let place = replay::put(out, at, m as u64);
     replay_values::put_reals(out, place, &ideal, m)
 }
@@ -417,10 +422,10 @@ fn calls(input: &Words, n: usize, at: usize, count: u64, session: Session, out: 
     requires { ⌜ ((cs ps ns : List ℕ) → SessionOk (state session cs ps ns)) ⌝ }
     requires { ⌜ at ≤ 8193 ⌝ }
 {
-    let mut history = [0u64; 508028];
-    let mut candidates = [0u64; 65536];
-    let mut plans = [0u64; 2048];
-    let mut next_dims = [0usize; 2048];
+    let mut history = [0u64; OVERLONG];
+    let mut candidates = [0u64; MAX_WORDS];
+    let mut plans = [0u64; MAX_COME];
+    let mut next_dims = [0usize; MAX_COME];
     let put = replay::put(out, 0, 0);
     let mut stand = Stand {
         session,

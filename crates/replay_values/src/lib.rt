@@ -1,21 +1,31 @@
 // What the oracle's lines are made of beside numbers (oracle/README.md): marks, reals, plans, dimensions and settings, read from a line at a place and
 // written to one; and what the lines of the two calls on a pool have in common.
+use model::CONSTRAINT_COUNT;
 use model::DimensionInfo;
 use model::Distribution;
 use model::FloatDistribution;
 use model::IntDistribution;
+use model::MAX_CONSTRAINTS;
+use model::MAX_DIMS;
+use model::MAX_OBJECTIVES;
 use model::MAX_ROW_VALUES;
+use model::MAX_SETTINGS;
 use model::MAX_SIZE;
 use model::MAX_TABLE_VALUES;
 use model::OptionI64;
 use model::OptionUsize;
 use model::PLAN_WORDS;
 use model::ParamValue;
+use model::ROW_LENGTH;
 use model::Rng;
+use model::SETTING_COUNT;
 use replay::Words;
 use settings::Slot;
 ghost use mathlib.Core.Path.{_≡_};
 ghost use Prim.Native.Nat.{_*_, _≤_};
+ghost use Rattle.model.specs.Plan.{maxSettings};
+ghost use Rattle.model.specs.Refusal.{maxSize};
+ghost use Rattle.model.specs.Setting.{maxDims};
 
 pub type Marks = [u8; 16];
 
@@ -26,8 +36,10 @@ pub type Rows = [f64; MAX_ROW_VALUES];
 
 pub type Table = [f64; MAX_TABLE_VALUES];
 
-// 1,025 plans of 124 words, one plan more than is accepted, and a number for each.
-pub type Pool = [u64; 127100];
+// The words of 1,025 plans, one plan more than is accepted, and a number for each.
+pub const OVERFULL: usize = (MAX_PLANS + 1) * PLAN_WORDS;
+
+pub type Pool = [u64; OVERFULL];
 
 pub type Places = [usize; 1025];
 
@@ -152,7 +164,7 @@ fn set_word(pool: &mut [u64], i: usize, w: u64) {
 
 // k words from `at` on, into the pool from `base` on.
 fn copy_words(input: &Words, at: usize, k: usize, base: usize, pool: &mut [u64])
-    requires { ⌜ (at ≤ 8193) × (k ≤ 96) × (base ≤ 600000) ⌝ }
+    requires { ⌜ (at ≤ 8193) × (k ≤ 3 * maxSettings) × (base ≤ 600000) ⌝ }
 {
     let mut j: usize = 0;
     while j < k {
@@ -178,7 +190,7 @@ fn read_part(
     base: usize,
     pool: &mut [u64],
 ) -> usize
-    requires { ⌜ (at ≤ 8193) × (room ≤ 32) × (base ≤ 599999) ⌝ }
+    requires { ⌜ (at ≤ 8193) × (room ≤ maxSettings) × (base ≤ 599999) ⌝ }
     ensures { λ r. ⌜ r ≤ 8193 ⌝ }
 {
     let count = replay::word(input, at);
@@ -200,9 +212,23 @@ pub fn read_plan(input: &Words, at: usize, base: usize, pool: &mut [u64]) -> usi
 {
     set_word(pool, base, replay::word(input, at));
     let row = replay::ahead(at, 1);
-    let constraints = read_part(input, row, false, 8, base + 1, pool);
-    let settings = read_part(input, constraints, false, 16, base + 10, pool);
-    read_part(input, settings, true, 32, base + 27, pool)
+    let constraints = read_part(input, row, false, MAX_OBJECTIVES, base + ROW_LENGTH, pool);
+    let settings = read_part(
+        input,
+        constraints,
+        false,
+        MAX_CONSTRAINTS,
+        base + CONSTRAINT_COUNT,
+        pool,
+    );
+    read_part(
+        input,
+        settings,
+        true,
+        MAX_SETTINGS,
+        base + SETTING_COUNT,
+        pool,
+    )
 }
 
 // The n plans from `at` on, into the pool from plan `first` on; the place after them.
@@ -228,7 +254,7 @@ pub struct ReadDimension {
 }
 
 pub struct ReadDimensions {
-    pub dims: [DimensionInfo; 32],
+    pub dims: [DimensionInfo; MAX_DIMS],
     pub next: usize,
 }
 
@@ -260,7 +286,7 @@ pub fn read_dimension(input: &Words, at: usize) -> ReadDimension
     }
 }
 
-// The n dimensions from `at` on, of which the first 32 are kept; the place after them.
+// The n dimensions from `at` on, of which as many as are accepted are kept; the place after them.
 pub fn read_dimensions(input: &Words, at: usize, n: usize) -> ReadDimensions
     requires { ⌜ at ≤ 8193 ⌝ }
     ensures { λ r. ⌜ r .next ≤ 8193 ⌝ }
@@ -272,7 +298,7 @@ pub fn read_dimensions(input: &Words, at: usize, n: usize) -> ReadDimensions
         let one = read_dimension(input, next);
         next = one.next;
         let distribution = one.distribution;
-        if i < 32 {
+        if i < MAX_DIMS {
             dims[i] = DimensionInfo { distribution };
         }
         i += 1;
@@ -313,13 +339,13 @@ pub fn put_dimension(out: &mut Words, at: usize, d: Distribution) -> usize
 // ---- settings
 
 pub struct ReadSettings {
-    pub params: [Slot; 32],
+    pub params: [Slot; MAX_DIMS],
     pub next: usize,
 }
 
 // The n settings from `at` on; the place after them.
 pub fn read_settings(input: &Words, at: usize, n: usize) -> ReadSettings
-    requires { ⌜ (at ≤ 8193) × (n ≤ 32) ⌝ }
+    requires { ⌜ (at ≤ 8193) × (n ≤ maxDims) ⌝ }
     ensures { λ r. ⌜ r .next ≤ 8193 ⌝ }
 {
     let mut params = settings::blank_candidate();
@@ -342,8 +368,8 @@ pub fn put_setting(out: &mut Words, at: usize, v: ParamValue) -> usize
 }
 
 // The first n settings of a candidate.
-pub fn put_settings(out: &mut Words, at: usize, params: [Slot; 32], n: usize) -> usize
-    requires { ⌜ n ≤ 32 ⌝ }
+pub fn put_settings(out: &mut Words, at: usize, params: [Slot; MAX_DIMS], n: usize) -> usize
+    requires { ⌜ n ≤ maxDims ⌝ }
 {
     let mut place = at;
     let mut i: usize = 0;
@@ -362,10 +388,10 @@ fn put_candidate(
     at: usize,
     words: &[u64],
     from: usize,
-    dims: [DimensionInfo; 32],
+    dims: [DimensionInfo; MAX_DIMS],
     n: usize,
 ) -> usize
-    requires { ⌜ (n ≤ 32) × (from ≤ 200000) ⌝ }
+    requires { ⌜ (n ≤ maxDims) × (from ≤ 200000) ⌝ }
 {
     let mut place = at;
     let mut i: usize = 0;
@@ -389,10 +415,10 @@ pub fn put_candidates(
     at: usize,
     words: &[u64],
     count: usize,
-    dims: [DimensionInfo; 32],
+    dims: [DimensionInfo; MAX_DIMS],
     n: usize,
 ) -> usize
-    requires { ⌜ (n ≤ 32) × (count ≤ 4096) ⌝ }
+    requires { ⌜ (n ≤ maxDims) × (count ≤ 4096) ⌝ }
 {
     let mut place = at;
     let mut from: usize = 0;
@@ -441,8 +467,8 @@ pub struct Room {
 
 // The words of so many candidates.
 fn candidate_words(size: usize, n_dims: usize) -> usize
-    requires { ⌜ size * «n_dims» ≤ 32768 ⌝ }
-    ensures { λ r. ⌜ r ≤ 32768 ⌝ }
+    requires { ⌜ size * «n_dims» ≤ maxSize * maxDims ⌝ }
+    ensures { λ r. ⌜ r ≤ maxSize * maxDims ⌝ }
 {
     size * n_dims
 }
@@ -450,10 +476,10 @@ fn candidate_words(size: usize, n_dims: usize) -> usize
 // The lengths of the full answer; where `short` is 1, 2, 3 or 4 the kept list's, the fronts', the lines' or the offspring's slice lacks one place.
 pub fn room_for(size: usize, n: usize, n_dims: usize, short: u64) -> Room
     requires { ⌜ n ≤ 1025 ⌝ }
-    ensures { λ r. ⌜ (r .kept ≤ 1025) × (r .fronts ≤ 1025) × (r .lines ≤ 1025) × (r .offspring ≤ 32768) ⌝ }
+    ensures { λ r. ⌜ (r .kept ≤ 1025) × (r .fronts ≤ 1025) × (r .lines ≤ 1025) × (r .offspring ≤ maxSize * maxDims) ⌝ }
 {
     let most = least(size, MAX_SIZE);
-    let dims = least(n_dims, 32);
+    let dims = least(n_dims, MAX_DIMS);
     let words = candidate_words(most, dims);
     let mut room = Room {
         kept: most,

@@ -7,7 +7,7 @@ use borrow.Author.Tests.{lt-leb}
 use Rattle.list_laws.proofs.Bools.{and-not}
 use lib.ListN.{length}
 use Rattle.model.specs.declared.Session.{Session}
-use Rattle.model.specs.Session.{state, longEnough}
+use Rattle.model.specs.Session.{state, maxWords, longEnough}
 use Rattle.model.specs.Property.{SessionOk}
 
 -- an equal session has the property too
@@ -15,6 +15,6 @@ pub same-session : (r s : Session) (cs ps ns : List ℕ) → r ≡ s → Session
 same-session r s cs ps ns e ok = subst (λ x. SessionOk (state x cs ps ns)) (sym e) ok
 
 -- one slice that is too short is enough
-pub too-short : (s : Session) (cs ps ns : List ℕ) → length cs < 65536 → longEnough (state s cs ps ns) ≡ false
+pub too-short : (s : Session) (cs ps ns : List ℕ) → length cs < maxWords → longEnough (state s cs ps ns) ≡ false
 unfolding longEnough
-too-short s cs ps ns h = and-not _ _ (lt-leb 65536 (length cs) h)
+too-short s cs ps ns h = and-not _ _ (lt-leb maxWords (length cs) h)

@@ -13,6 +13,7 @@ use model::Session;
 use session_words::SESSION_WORDS;
 ghost use Prim.Native.Nat.{_*_, _≤_};
 ghost use lib.ListN.{length};
+ghost use Rattle.model.specs.Plan.{planWords};
 ghost use Rattle.model.specs.Session.{state};
 ghost use Rattle.model.specs.Property.{SessionOk};
 ghost use Rattle.session_calls.specs.Usable.{usableBy};
@@ -23,8 +24,10 @@ pub type Numbers = [u64; MAX_COME];
 
 pub type NextDims = [usize; MAX_COME];
 
-// 4,097 records of 124 words: one more than is accepted.
-pub type History = [u64; 508028];
+// The words of 4,097 records: one more than is accepted.
+pub const OVERLONG: usize = 4097 * PLAN_WORDS;
+
+pub type History = [u64; OVERLONG];
 
 // Whether a number is given, as a C name takes it: 0 for no.
 fn given(x: OptionUsize) -> u8 {
@@ -101,7 +104,7 @@ pub fn sampled(
     next_dims: &mut [usize],
 ) -> Sampled
     requires { ⌜ SessionOk (state session (now candidates) (now plans) (now «next_dims»)) ⌝ }
-    requires { ⌜ (n ≤ 4097) × (508028 ≤ length (now history)) ⌝ }
+    requires { ⌜ (n ≤ 4097) × (4097 * planWords ≤ length (now history)) ⌝ }
     ensures { λ r. ⌜ SessionOk (state (r .session) (now (candidates .exit)) (now (plans .exit)) (now («next_dims» .exit))) ⌝ }
 {
     let used = n * PLAN_WORDS;

@@ -24,6 +24,7 @@ use session_calls::Candidates;
 use session_calls::History;
 use session_calls::NextDims;
 use session_calls::Numbers;
+use session_calls::OVERLONG;
 ghost use mathlib.Core.List.{List};
 ghost use Prim.Native.Nat.{ℕ, _≤_};
 ghost use Rattle.model.specs.Session.{state};
@@ -159,7 +160,7 @@ fn asked_of(i: usize) -> Asking
 fn fill(session: Session)
     requires { ⌜ ((cs ps ns : List ℕ) → SessionOk (state session cs ps ns)) ⌝ }
 {
-    let mut history = [0u64; 508028];
+    let mut history = [0u64; OVERLONG];
     let mut candidates = [0u64; MAX_WORDS];
     let mut plans = [0u64; MAX_COME];
     let mut next_dims = [0usize; MAX_COME];
@@ -199,7 +200,7 @@ fn sessions() {
 
 // The generation step on two plans with equal rows, the second with one constraint.
 fn constrained(bits: u64) {
-    let mut pool = [0u64; 248];
+    let mut pool = [0u64; 2 * PLAN_WORDS];
     pool[ROW_LENGTH] = 1;
     pool[PLAN_WORDS] = 1;
     pool[PLAN_WORDS + ROW_LENGTH] = 1;

@@ -1,9 +1,10 @@
 -- `step_from`: the pool has room for 1,025 plans.
-use Prim.Native.Nat.{ℕ}
+use Prim.Native.Nat.{ℕ, _*_}
 use mathlib.Core.Path.{sym}
 use native.Mathlib.Omega.{arith}
 use lib.ListN.{length-replicate}
 use borrow.Author.Needs.{needs}
+use Rattle.model.specs.Plan.{planWords}
 use Rattle.replay_breeding.proofs.step_from.Statement.{statement}
 use Rattle.replay_breeding.proofs.step_from.Tie as tie
 
@@ -35,7 +36,7 @@ ahead-requires : tie.Need-ahead-requires
 ahead-requires c κs = tt
 
 slice-aggregate-read-plans : tie.Need-slice-aggregate-read-plans
-slice-aggregate-read-plans c = sym (length-replicate {A = ℕ} 127100 0)
+slice-aggregate-read-plans c = sym (length-replicate {A = ℕ} (1025 * planWords) 0)
 
 read-plans-requires : tie.Need-read-plans-requires
 read-plans-requires c κs = search needs

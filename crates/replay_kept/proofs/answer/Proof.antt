@@ -1,9 +1,10 @@
 -- `answer`: the pool has room for 1,025 plans.
-use Prim.Native.Nat.{ℕ}
+use Prim.Native.Nat.{ℕ, _*_}
 use mathlib.Core.Path.{sym}
 use native.Mathlib.Omega.{arith}
 use lib.ListN.{length-replicate}
 use borrow.Author.Needs.{needs}
+use Rattle.model.specs.Plan.{planWords}
 use Rattle.replay_kept.proofs.answer.Statement.{statement}
 use Rattle.replay_kept.proofs.answer.Tie as tie
 
@@ -41,7 +42,7 @@ add-read-plans-2 : tie.Need-add-read-plans-2
 add-read-plans-2 c = omega arith
 
 slice-aggregate-read-plans : tie.Need-slice-aggregate-read-plans
-slice-aggregate-read-plans c = sym (length-replicate {A = ℕ} 127100 0)
+slice-aggregate-read-plans c = sym (length-replicate {A = ℕ} (1025 * planWords) 0)
 
 read-plans-requires : tie.Need-read-plans-requires
 read-plans-requires c κs = search needs

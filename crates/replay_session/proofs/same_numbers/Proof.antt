@@ -1,14 +1,15 @@
 -- `same_numbers`.
 use Prim.Native.Nat.{_-_, _≤_}
 use borrow.Author.Needs.{needs}
+use Rattle.model.specs.Session.{maxCome}
 use Rattle.replay_session.proofs.same_numbers.Statement.{statement}
 use Rattle.replay_session.proofs.same_numbers.Tie as tie
 
 abbrev Inv-loop : tie.InvT-loop
-Inv-loop a b i₀ i = i ≤ 2048
+Inv-loop a b i₀ i = i ≤ maxCome
 
 abbrev μ-loop : tie.MeasureT-loop
-μ-loop a b i₀ i = 2048 - i
+μ-loop a b i₀ i = maxCome - i
 
 loop-holds : tie.Need-loop-holds Inv-loop μ-loop
 loop-holds c = search needs

@@ -1,24 +1,25 @@
 -- `tried_short`.
-use Prim.Native.Nat.{ℕ}
+use Prim.Native.Nat.{ℕ, _-_}
 use mathlib.Core.Path.{sym}
 use native.Mathlib.Omega.{arith}
 use lib.ListN.{length-replicate}
+use Rattle.model.specs.Session.{maxCome, maxWords}
 use Rattle.session_calls.proofs.Property.{too-short}
 use borrow.Author.Needs.{needs}
 use Rattle.replay_session.proofs.tried_short.Statement.{statement}
 use Rattle.replay_session.proofs.tried_short.Tie as tie
 
 slice-aggregate-sampled : tie.Need-slice-aggregate-sampled
-slice-aggregate-sampled c = sym (length-replicate {A = ℕ} 65535 7)
+slice-aggregate-sampled c = sym (length-replicate {A = ℕ} (maxWords - 1) 7)
 
 slice-aggregate-sampled-2 : tie.Need-slice-aggregate-sampled-2
 slice-aggregate-sampled-2 c = search needs
 
 slice-aggregate-sampled-3 : tie.Need-slice-aggregate-sampled-3
-slice-aggregate-sampled-3 c = sym (length-replicate {A = ℕ} 2047 7)
+slice-aggregate-sampled-3 c = sym (length-replicate {A = ℕ} (maxCome - 1) 7)
 
 sampled-requires : tie.Need-sampled-requires
-sampled-requires c κs = (c .before .before .before .before .pre .0 _ _ _ (too-short _ _ _ _ (omega (arith, length-replicate {A = ℕ} 65535 7))), search needs)
+sampled-requires c κs = (c .before .before .before .before .pre .0 _ _ _ (too-short _ _ _ _ (omega (arith, length-replicate {A = ℕ} (maxWords - 1) 7))), search needs)
 
 slice-aggregate-sevens : tie.Need-slice-aggregate-sevens
 slice-aggregate-sevens c = search needs

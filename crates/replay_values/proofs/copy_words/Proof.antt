@@ -1,13 +1,14 @@
 -- `copy_words`.
-use Prim.Native.Nat.{_-_, _≤_}
+use Prim.Native.Nat.{_*_, _-_, _≤_}
 use mathlib.Core.Path.{_≡_}
 use lib.ListN.{length}
+use Rattle.model.specs.Plan.{maxSettings}
 use borrow.Author.Needs.{needs}
 use Rattle.replay_values.proofs.copy_words.Statement.{statement}
 use Rattle.replay_values.proofs.copy_words.Tie as tie
 
 abbrev Inv-loop : tie.InvT-loop
-Inv-loop input at k base pool₀ j₀ pool j = (j ≤ k) × ((k ≤ 96) × ((at ≤ 8193) × ((base ≤ 600000) × (length pool ≡ length pool₀))))
+Inv-loop input at k base pool₀ j₀ pool j = (j ≤ k) × ((k ≤ 3 * maxSettings) × ((at ≤ 8193) × ((base ≤ 600000) × (length pool ≡ length pool₀))))
 
 abbrev μ-loop : tie.MeasureT-loop
 μ-loop input at k base pool₀ j₀ pool j = k - j

@@ -1,11 +1,12 @@
 -- `put_candidate`.
 use Prim.Native.Nat.{_-_, _≤_}
 use borrow.Author.Needs.{needs}
+use Rattle.model.specs.Setting.{maxDims}
 use Rattle.replay_values.proofs.put_candidate.Statement.{statement}
 use Rattle.replay_values.proofs.put_candidate.Tie as tie
 
 abbrev Inv-loop : tie.InvT-loop
-Inv-loop out₀ at words from n dims place₀ i₀ out place i = (i ≤ n) × ((n ≤ 32) × (from ≤ 200000))
+Inv-loop out₀ at words from n dims place₀ i₀ out place i = (i ≤ n) × ((n ≤ maxDims) × (from ≤ 200000))
 
 abbrev μ-loop : tie.MeasureT-loop
 μ-loop out₀ at words from n dims place₀ i₀ out place i = n - i

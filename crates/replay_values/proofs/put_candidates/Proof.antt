@@ -1,11 +1,12 @@
 -- `put_candidates`.
 use Prim.Native.Nat.{_*_, _-_, _≤_}
 use borrow.Author.Needs.{needs}
+use Rattle.model.specs.Setting.{maxDims}
 use Rattle.replay_values.proofs.put_candidates.Statement.{statement}
 use Rattle.replay_values.proofs.put_candidates.Tie as tie
 
 abbrev Inv-loop : tie.InvT-loop
-Inv-loop out₀ at words count dims n place₀ from₀ p₀ out place from p = (p ≤ count) × ((count ≤ 4096) × ((n ≤ 32) × (from ≤ 32 * p)))
+Inv-loop out₀ at words count dims n place₀ from₀ p₀ out place from p = (p ≤ count) × ((count ≤ 4096) × ((n ≤ maxDims) × (from ≤ maxDims * p)))
 
 abbrev μ-loop : tie.MeasureT-loop
 μ-loop out₀ at words count dims n place₀ from₀ p₀ out place from p = count - p

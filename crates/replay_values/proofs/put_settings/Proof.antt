@@ -1,11 +1,12 @@
 -- `put_settings`.
 use Prim.Native.Nat.{_-_, _≤_}
 use borrow.Author.Needs.{needs}
+use Rattle.model.specs.Setting.{maxDims}
 use Rattle.replay_values.proofs.put_settings.Statement.{statement}
 use Rattle.replay_values.proofs.put_settings.Tie as tie
 
 abbrev Inv-loop : tie.InvT-loop
-Inv-loop out₀ at n params place₀ i₀ out place i = (i ≤ n) × (n ≤ 32)
+Inv-loop out₀ at n params place₀ i₀ out place i = (i ≤ n) × (n ≤ maxDims)
 
 abbrev μ-loop : tie.MeasureT-loop
 μ-loop out₀ at n params place₀ i₀ out place i = n - i

@@ -1,11 +1,12 @@
 -- `read_settings`.
 use Prim.Native.Nat.{_-_, _≤_}
 use borrow.Author.Needs.{needs}
+use Rattle.model.specs.Setting.{maxDims}
 use Rattle.replay_values.proofs.read_settings.Statement.{statement}
 use Rattle.replay_values.proofs.read_settings.Tie as tie
 
 abbrev Inv-loop : tie.InvT-loop
-Inv-loop input at n params₀ next₀ i₀ params next i = (i ≤ n) × ((n ≤ 32) × (next ≤ 8193))
+Inv-loop input at n params₀ next₀ i₀ params next i = (i ≤ n) × ((n ≤ maxDims) × (next ≤ 8193))
 
 abbrev μ-loop : tie.MeasureT-loop
 μ-loop input at n params₀ next₀ i₀ params next i = n - i
