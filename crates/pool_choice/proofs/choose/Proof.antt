@@ -6,6 +6,8 @@ use native.Mathlib.Nat.{le-of-eq}
 use native.Mathlib.Omega.{arith}
 use lib.ListN.{length, take, length-replicate}
 use lib.Seq.{length-take-le}
+use Rattle.model.specs.Plan.{planWords}
+use Rattle.model.specs.Refusal.{maxSize}
 use Rattle.pool_laws.proofs.Files.{broken, many-objectives, chosen-words}
 use borrow.Author.Needs.{needs}
 use Rattle.pool_choice.proofs.choose.Statement.{statement}
@@ -16,7 +18,7 @@ use Rattle.pool_choice.proofs.choose.Tie as tie
 few-marks : (m n : ℕ) → m ≤ 8 → n ≡ 8 → m ≤ n
 few-marks m n h e = omega arith
 
-few-words : (k n : ℕ) → k ≤ 1024 → n ≡ 126976 → k * 124 ≤ n
+few-words : (k n : ℕ) → k ≤ maxSize → n ≡ maxSize * planWords → k * planWords ≤ n
 few-words k n h e = omega arith
 
 taken-marks : (m : ℕ) (l : List ℕ) → m ≤ 8 → length l ≡ 8 → length (take m l) ≤ 8
@@ -26,17 +28,17 @@ taken-marks m l h e = omega (arith, length-take-le m l (omega arith))
 marks-length : (s : tie.After-parse-pool) → length (s .parse-pool .last .1 .0) ≡ 8
 marks-length s = s .parse-pool .kept .1 .0
 
-words-length : (s : tie.After-parse-pool) → length (s .parse-pool .last .1 .1 .0) ≡ 126976
-words-length s = s .parse-pool .kept .1 .1 .0 ∙ length-replicate {A = ℕ} 126976 0
+words-length : (s : tie.After-parse-pool) → length (s .parse-pool .last .1 .1 .0) ≡ maxSize * planWords
+words-length s = s .parse-pool .kept .1 .1 .0 ∙ length-replicate {A = ℕ} (maxSize * planWords) 0
 
 slice-aggregate-parse-pool : tie.Need-slice-aggregate-parse-pool
 slice-aggregate-parse-pool c = refl
 
 slice-aggregate-parse-pool-2 : tie.Need-slice-aggregate-parse-pool-2
-slice-aggregate-parse-pool-2 c = sym (length-replicate {A = ℕ} 126976 0)
+slice-aggregate-parse-pool-2 c = sym (length-replicate {A = ℕ} (maxSize * planWords) 0)
 
 parse-pool-requires : tie.Need-parse-pool-requires
-parse-pool-requires c κs = (le-of-eq refl, le-of-eq (sym (length-replicate {A = ℕ} 126976 0)))
+parse-pool-requires c κs = (le-of-eq refl, le-of-eq (sym (length-replicate {A = ℕ} (maxSize * planWords) 0)))
 
 enum-known-parsed : tie.Need-enum-known-parsed
 enum-known-parsed c = search needs
@@ -72,7 +74,7 @@ slice-aggregate-choose-words : tie.Need-slice-aggregate-choose-words
 slice-aggregate-choose-words c =
     let k = c .before .plans-stored in
     let s = c .before .before .before .before .before .before .before .before .before in
-    sym (length-take-le (k .result * 124) (s .parse-pool .last .1 .1 .0) (few-words (k .result) _ (k .ensures .0) (words-length s)))
+    sym (length-take-le (k .result * planWords) (s .parse-pool .last .1 .1 .0) (few-words (k .result) _ (k .ensures .0) (words-length s)))
 
 array-share-prefix-directions : tie.Need-array-share-prefix-directions
 array-share-prefix-directions c =
