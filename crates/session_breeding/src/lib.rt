@@ -3,9 +3,11 @@ ghost use mathlib.Core.Path.{_≡_};
 ghost use mathlib.Core.Bool.{true};
 ghost use mathlib.Core.List.{List, []};
 ghost use mathlib.Core.Option.{some};
-ghost use Prim.Native.Nat.{ℕ, _≤_};
+ghost use Prim.Native.Nat.{ℕ, _*_, _≤_};
 ghost use lib.ListN.{length};
+ghost use Rattle.model.specs.Plan.{planWords};
 ghost use Rattle.model.specs.Session.{state, evaluated, bredSession, maxCome, maxWords};
+ghost use Rattle.model.specs.Refusal.{maxSize};
 ghost use Rattle.model.specs.Calls.{refusedBy};
 ghost use Rattle.model.specs.Property.{SessionOk};
 ghost use Rattle.session_laws.specs.Refused.{shortRefusal};
@@ -76,7 +78,7 @@ pub fn breed(
     pool: &mut [u64],
     candidates: &mut [u64],
 ) -> Bred
-    requires { ⌜ 126976 ≤ length (now pool) ⌝ }
+    requires { ⌜ maxSize * planWords ≤ length (now pool) ⌝ }
     requires { ⌜ SessionOk (state session (now candidates) (now plans) []) × (evaluated (state session (now candidates) (now plans) []) (now history) ≡ true)
         × (maxCome ≤ length (now plans)) × (maxWords ≤ length (now candidates)) ⌝ }
     ensures { λ r. ⌜ ((ns : List ℕ) → bredExit (refusedBy (r .outcome)) (state (r .session) (now (candidates .exit)) (now (plans .entry)) ns)

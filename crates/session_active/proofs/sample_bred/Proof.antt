@@ -1,8 +1,11 @@
 -- breeding's answer tells whether the call was refused
+use Prim.Native.Nat.{_*_}
 use mathlib.Core.Path.{_≡_, refl, ap, _∙_}
 use lib.ListN.{length}
 use mathlib.Core.Option.{none, some}
+use Rattle.model.specs.Plan.{planWords}
 use Rattle.model.specs.Session.{State, state}
+use Rattle.model.specs.Refusal.{maxSize}
 use Rattle.model.specs.Calls.{refusedBy}
 use native.Mathlib.Nat.{le-refl}
 use Rattle.session_laws.proofs.Request.{breeds-active, active-discovers, active-good, breed-refusal}
@@ -59,7 +62,7 @@ breed-requires c κs =
     let a = s .args in
     let st = before s in
     let l = long st (s .pre .0 .room) in
-    (le-refl 126976, (without-next st (a .candidates .now) (s .pre .0 .ok), evaluated-without st (a .history .now) (s .pre .1), l .plans, l .words))
+    (le-refl (maxSize * planWords), (without-next st (a .candidates .now) (s .pre .0 .ok), evaluated-without st (a .history .now) (s .pre .1), l .plans, l .words))
 
 enum-known-outcome : tie.Need-enum-known-outcome
 enum-known-outcome c = search needs

@@ -3,6 +3,8 @@ use Prim.Native.Nat.{_*_, _≤_}
 use mathlib.Core.List.{[]}
 use mathlib.Core.Path.{refl, sym}
 use lib.Seq.{length-take-le}
+use Rattle.model.specs.Plan.{planWords}
+use Rattle.model.specs.Refusal.{maxSize}
 use Rattle.session_breeding.proofs.Breeding.{ideal-room, evaluated-tells, short-is}
 use native.Mathlib.Omega.{arith}
 use borrow.Author.Needs.{needs}
@@ -33,7 +35,7 @@ slice-aggregate-gather c = refl
 gather-requires : tie.Need-gather-requires
 gather-requires c κs =
     let s = start c in
-    let room : s .args .session .config .«population_size» * 124 ≤ 126976 = omega (arith, s .pre .0 .config .atMost) in
+    let room : s .args .session .config .«population_size» * planWords ≤ maxSize * planWords = omega (arith, s .pre .0 .config .atMost) in
     let e = evaluated-tells _ _ (s .pre .1) in
     (e .0, room, e .1)
 
