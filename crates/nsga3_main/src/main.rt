@@ -7,6 +7,7 @@ use model::Rng;
 use model::VALUES;
 ghost use Prim.Native.Nat.{_+_, _*_, _≤_};
 ghost use lib.ListN.{length};
+ghost use Rattle.model.specs.Plan.{planWords};
 
 fn text(t: &[u8]) {
     io::write_all(STDOUT_FILENO, t);
@@ -31,7 +32,7 @@ fn list(label: &[u8], entries: &[usize]) {
 
 // Plan i: its number, its two values, no constraints and no settings.
 fn put_plan(pool: &mut [u64], i: usize, a: u64, b: u64)
-    requires { ⌜ (i ≤ 2) × (372 ≤ length (now pool)) ⌝ }
+    requires { ⌜ (i ≤ 2) × (3 * planWords ≤ length (now pool)) ⌝ }
 {
     let at = i * PLAN_WORDS;
     pool[at] = i as u64;
@@ -42,7 +43,7 @@ fn put_plan(pool: &mut [u64], i: usize, a: u64, b: u64)
 
 // The plans with rows (0,0), (1,3) and (4,1).
 fn put_plans(pool: &mut [u64])
-    requires { ⌜ 372 ≤ length (now pool) ⌝ }
+    requires { ⌜ 3 * planWords ≤ length (now pool) ⌝ }
 {
     put_plan(pool, 0, 0, 0);
     put_plan(pool, 1, 4607182418800017408, 4613937818241073152);
@@ -95,7 +96,7 @@ fn tell(
 fn call(m: usize, divisions: usize, size: usize, plans: usize)
     requires { ⌜ (m ≤ 2) × (plans ≤ 3) ⌝ }
 {
-    let mut pool: [u64; 372] = [0; 372];
+    let mut pool: [u64; 3 * PLAN_WORDS] = [0; 3 * PLAN_WORDS];
     put_plans(&mut pool);
     let directions: [u8; 2] = [0; 2];
     let mut ideal = [1.0 / 0.0; 2];

@@ -8,6 +8,7 @@ use model::IntDistribution;
 use model::MAX_CONSTRAINTS;
 use model::MAX_DIMS;
 use model::MAX_OBJECTIVES;
+use model::MAX_POOL;
 use model::MAX_ROW_VALUES;
 use model::MAX_SETTINGS;
 use model::MAX_SIZE;
@@ -37,7 +38,7 @@ pub type Rows = [f64; MAX_ROW_VALUES];
 pub type Table = [f64; MAX_TABLE_VALUES];
 
 // The words of 1,025 plans, one plan more than is accepted, and a number for each.
-pub const OVERFULL: usize = (MAX_PLANS + 1) * PLAN_WORDS;
+pub const OVERFULL: usize = (MAX_POOL + 1) * PLAN_WORDS;
 
 pub type Pool = [u64; OVERFULL];
 

@@ -4,6 +4,7 @@ use mathlib.Core.Path.{sym}
 use mathlib.Core.List.{[], _∷_}
 use native.Mathlib.Omega.{arith}
 use lib.Seq.{length-take-le}
+use Rattle.model.specs.Plan.{planWords}
 use borrow.Author.Needs.{needs}
 use Rattle.nsga3_main.proofs.call.Statement.{statement}
 use Rattle.nsga3_main.proofs.call.Tie as tie
@@ -21,7 +22,7 @@ array-share-prefix-pool : tie.Need-array-share-prefix-pool
 array-share-prefix-pool c = search needs
 
 slice-aggregate-nsga3-select : tie.Need-slice-aggregate-nsga3-select
-slice-aggregate-nsga3-select c = sym (length-take-le (c .before .before .before .before .args .plans * 124) (c .before .before .put-plans .last .0) (omega arith))
+slice-aggregate-nsga3-select c = sym (length-take-le (c .before .before .before .before .args .plans * planWords) (c .before .before .put-plans .last .0) (omega arith))
 
 array-share-prefix-directions : tie.Need-array-share-prefix-directions
 array-share-prefix-directions c = search needs

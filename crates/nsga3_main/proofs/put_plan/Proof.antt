@@ -1,4 +1,4 @@
--- `put_plan`: three blocks of 124 words are 372 words
+-- `put_plan`: each of three plans has its block
 use native.Mathlib.Omega.{arith}
 use lib.ListN.{length-set}
 use borrow.Author.Needs.{needs}

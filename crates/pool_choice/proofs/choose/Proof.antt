@@ -74,7 +74,7 @@ slice-aggregate-choose-words : tie.Need-slice-aggregate-choose-words
 slice-aggregate-choose-words c =
     let k = c .before .plans-stored in
     let s = c .before .before .before .before .before .before .before .before .before in
-    sym (length-take-le (k .result * 124) (s .parse-pool .last .1 .1 .0) (few-words (k .result) _ (k .ensures .0) (words-length s)))
+    sym (length-take-le (k .result * planWords) (s .parse-pool .last .1 .1 .0) (few-words (k .result) _ (k .ensures .0) (words-length s)))
 
 array-share-prefix-directions : tie.Need-array-share-prefix-directions
 array-share-prefix-directions c =

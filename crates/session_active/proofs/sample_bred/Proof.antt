@@ -1,4 +1,5 @@
 -- breeding's answer tells whether the call was refused
+use Prim.Native.Nat.{_*_}
 use mathlib.Core.Path.{_≡_, refl, ap, _∙_}
 use lib.ListN.{length}
 use mathlib.Core.Option.{none, some}

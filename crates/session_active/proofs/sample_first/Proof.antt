@@ -4,7 +4,7 @@ use mathlib.Core.Path.{_≡_, ap, _∙_}
 use mathlib.Core.Bool.{false, not}
 use lib.ListN.{length}
 use Rattle.model.specs.declared.Phase.the-variants.{Discovery}
-use Rattle.model.specs.Session.{State, state, pastDiscovery}
+use Rattle.model.specs.Session.{State, state, pastDiscovery, maxCome}
 use mathlib.Core.List.{[]}
 use Rattle.list_laws.proofs.Bools.{and-not, and-no}
 use Rattle.session_laws.proofs.Request.{offspring-fit, not-refused}
@@ -69,7 +69,7 @@ returns c d =
     let st = before s in
     let o = adds-by st (a .plan) false (and-no (not (pastDiscovery (a .session .phase))) _ (s .pre .2)) in
     let i = ap pastDiscovery (s .pre .1) in
-    let full : a .session .progress .«n_plans» < 2048 = omega (arith, phase-ok st Discovery (s .pre .0 .ok) (s .pre .1) .noPlans) in
+    let full : a .session .progress .«n_plans» < maxCome = omega (arith, phase-ok st Discovery (s .pre .0 .ok) (s .pre .1) .noPlans) in
     leaves-taken st d (a .plan) (a .history .now) _ _ _ (taken c .sample-from-candidate .ensures) (e .ensures (a .plans .now) (a .next-dims .now))
     (not-refused st d (a .plan) (a .history .now) (and-not _ _ o) (s .pre .0 .few) (first-unbred st (a .history .now) i) (s .pre .0 .room) (λ new. full))
     (first-accepted st d (a .plan) (a .history .now) o i)

@@ -3,6 +3,7 @@ use Prim.Native.Nat.{_*_}
 use lib.ListN.{length}
 use mathlib.Core.Path.{_≡_, refl, sym, _∙_}
 use lib.Seq.{length-take-le}
+use Rattle.model.specs.Plan.{planWords}
 use Rattle.session_breeding.proofs.Breeding.{ideal-room, evaluated-tells, breed-refused, breed-kept}
 use native.Mathlib.Omega.{arith}
 use borrow.Author.Needs.{needs}
@@ -62,7 +63,7 @@ slice-aggregate-step c =
     let s = entry (c .before) in
     let g = gathered (c .before) .gather in
     let same : length (g .last .1 .1 .1 .0) ≡ length (s .args .pool .now) = g .kept .1 .1 .1 .0 in
-    sym (length-take-le (s .args .session .config .«population_size» * 124) (g .last .1 .1 .1 .0) (omega (arith, s .pre .0, s .pre .1 .0 .config .atMost)))
+    sym (length-take-le (s .args .session .config .«population_size» * planWords) (g .last .1 .1 .1 .0) (omega (arith, s .pre .0, s .pre .1 .0 .config .atMost)))
 
 array-borrow-prefix-ideal-point : tie.Need-array-borrow-prefix-ideal-point
 array-borrow-prefix-ideal-point c = ideal-room _ _ (entry (c .before) .pre .1 .0 .ideal)
