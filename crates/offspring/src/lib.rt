@@ -7,7 +7,7 @@ ghost use Prim.Native.Nat.{ℕ, _*_, _-_, _≤_, _<_};
 ghost use lib.ListN.{length, getD, take};
 ghost use Rattle.model.specs.Lists.{over};
 ghost use Rattle.model.specs.Plan.{planAt, planCount};
-ghost use Rattle.model.specs.Setting.{parentsOf, offspringOf, wordsOf, operatorsIn, dimensionsOf};
+ghost use Rattle.model.specs.Setting.{maxDims, parentsOf, offspringOf, wordsOf, operatorsIn, dimensionsOf};
 ghost use Rattle.model.specs.Refusal.{maxSize, badDimensions, badOperators};
 ghost use lib.Seq.{sets};
 ghost use Rattle.settings.specs.Candidate.{settingsOf, parentsIn};
@@ -48,14 +48,14 @@ pub fn fill_parents(
 
 // Two children as candidates `at` and at + 1 of `size`; there may be room for the first only.
 fn put_children(
-    first: [Slot; 32],
-    second: [Slot; 32],
+    first: [Slot; MAX_DIMS],
+    second: [Slot; MAX_DIMS],
     n: usize,
     at: usize,
     size: usize,
     out: &mut [u64],
 )
-    requires { ⌜ (n ≤ 32) × (at < size) × (size * n ≤ length (now out)) ⌝ }
+    requires { ⌜ (n ≤ maxDims) × (at < size) × (size * n ≤ length (now out)) ⌝ }
     ensures { λ _. ⌜ now (out .exit)
         ≡ sets (now (out .entry)) (at * n) (wordsOf (take (size - at) (settingsOf first n ∷ settingsOf second n ∷ []))) ⌝ }
 {

@@ -3,7 +3,7 @@ ghost use mathlib.Core.Path.{_≡_};
 ghost use Prim.Native.Nat.{_≤_};
 ghost use Rattle.model.specs.Refusal.{maxSize, stepRefusal, stepTooShort};
 ghost use Rattle.model.specs.Calls.{wordRequest};
-ghost use Rattle.model.specs.Setting.{operatorsIn};
+ghost use Rattle.model.specs.Setting.{maxDims, operatorsIn};
 ghost use Rattle.refusals.specs.Checked.{checked};
 use model::Operators;
 use model::Rng;
@@ -19,7 +19,7 @@ fn no_step_room(
     lines: usize,
     offspring: usize,
 ) -> bool
-    requires { ⌜ (size ≤ maxSize) × («n_dims» ≤ 32) ⌝ }
+    requires { ⌜ (size ≤ maxSize) × («n_dims» ≤ maxDims) ⌝ }
     ensures { λ r. ⌜ r ≡ stepTooShort (record { kept = kept; fronts = fronts; lines = lines }) offspring size n «n_dims» ⌝ }
 {
     if offspring < size * n_dims {

@@ -3,12 +3,13 @@ use native.Mathlib.Omega.{arith}
 use Prim.Native.Nat.{_*_, _≤_}
 use native.Mathlib.Nat.{mul-le-mul}
 use Rattle.model.specs.Refusal.{maxSize}
+use Rattle.model.specs.Setting.{maxDims}
 use Rattle.generation_laws.proofs.Refusals.{room-offspring, room-of-one, room-of-many}
 use Rattle.step_refusal.proofs.no_step_room.Statement.{statement}
 use Rattle.step_refusal.proofs.no_step_room.Tie as tie
 
 mul-if1 : tie.Need-mul-if1
-mul-if1 c = let f : c .args .size * c .args .n-dims ≤ maxSize * 32 = mul-le-mul (c .pre .0) (c .pre .1) in record { fits = omega arith }
+mul-if1 c = let f : c .args .size * c .args .n-dims ≤ maxSize * maxDims = mul-le-mul (c .pre .0) (c .pre .1) in record { fits = omega arith }
 
 returns : tie.Need-returns
 returns c =
