@@ -20,9 +20,10 @@ use Rattle.model.specs.Lists.{allBelow, over}
 use Rattle.model.specs.Plan.{planWords}
 use Rattle.model.specs.Reference.{orElse}
 use Rattle.model.specs.Association.{Request}
+use Rattle.model.specs.Setting.{Operators}
 use Rattle.model.specs.Session.{State, bredSession, state, evaluated, standsIn, recordsOf, bredFrom, requestOf, operatorsOf, breed, maxWords}
 use Rattle.model.specs.Refusal.{Room, goodIdeal, stepRefusal, maxSize, maxPool}
-use Rattle.model.specs.Calls.{refusedBy, roomOf, wordRequest, stepAccepted, stepBy, stepOf}
+use Rattle.model.specs.Calls.{Lent, refusedBy, roomOf, wordRequest, stepAccepted, stepBy, stepOf}
 use Rattle.model.specs.Property.{SessionOk}
 use Rattle.refusals.specs.declared.Check.{Check}
 use Rattle.refusals.specs.Checked.{checked}
@@ -43,6 +44,14 @@ evaluated-tells st history e =
     let held = leb (st .session .config .«population_size») (length (st .plans)) in
     let h = and-right (leb (st .session .config .«population_size») (st .session .progress .«n_plans»)) _ e in
     (leb-true _ _ (and-left held _ h), and-right held _ h)
+
+-- the step by equal operators
+module _ (o p : Operators) (r : Request) where
+  pub refusal-by : (room : Room) (n : ℕ) → o ≡ p → stepRefusal o r room n ≡ stepRefusal p r room n
+  refusal-by room n e = ap (λ x. stepRefusal x r room n) e
+
+  pub taken-by : (at : Lent) (words : List ℕ) → o ≡ p → takenOf (stepOf o r at words) ≡ takenOf (stepOf p r at words)
+  taken-by at words e = ap (λ x. takenOf (stepOf x r at words)) e
 
 -- each list lent for the selection has room
 kept-room : maxSize ≤ length (blankLent .kept)

@@ -13,7 +13,7 @@ abbrev start : tie.After-dimensions-of-words → tie.Start
 start c = c .before .before .before .before .before .before .before .before .before
 
 abbrev read : tie.After-nsga3-generate-offspring → tie.After-dimensions-of-words
-read c = c .before .before .before .before .before .before .before .before
+read c = c .before .before .before .before .before .before .before
 
 abbrev called : tie.After-code → tie.After-nsga3-generate-offspring
 called c = c .before .before .before .before .before .before .before .before .before .before .before .before .before .before

@@ -2,13 +2,12 @@
 use Prim.Native.Nat.{_*_, _≤_}
 use native.Mathlib.Nat.{le-trans, mul-le-mul-right}
 use mathlib.Core.List.{[]}
-use mathlib.Core.Path.{refl, sym, ap, _∙_}
+use mathlib.Core.Path.{refl, sym, _∙_}
 use lib.Seq.{length-take-le}
-use Rattle.model.specs.Refusal.{stepRefusal}
 use Rattle.model.specs.Plan.{planWords}
 use Rattle.model.specs.Refusal.{maxPool}
 use Rattle.list_laws.proofs.Limits.{size-in-pool}
-use Rattle.session_breeding.proofs.Breeding.{ideal-room, evaluated-tells, short-is}
+use Rattle.session_breeding.proofs.Breeding.{ideal-room, evaluated-tells, refusal-by, short-is}
 use native.Mathlib.Omega.{arith}
 use borrow.Author.Needs.{needs}
 use Rattle.session_breeding.proofs.bred_refusal.Statement.{statement}
@@ -85,14 +84,14 @@ returns c =
     let r = told .before .before in
     let s = entry (asked r) in
     let a = s .args in
-    short-is (a .session) [] (a .plans .now) (a .history .now) (s .pre .0) _ _ (gathered (asked r) .gather .ensures) _ (r .refusal .ensures ∙ ap (λ o. stepRefusal o _ _ _) (given (asked r) .operators-of .ensures)) _ (told .check .given .1)
+    short-is (a .session) [] (a .plans .now) (a .history .now) (s .pre .0) _ _ (gathered (asked r) .gather .ensures) _ (r .refusal .ensures ∙ refusal-by _ _ _ _ _ (given (asked r) .operators-of .ensures)) _ (told .check .given .1)
 
 returns-2 : tie.Need-returns-2
 returns-2 c =
     let r = c .before .before in
     let s = entry (asked r) in
     let a = s .args in
-    short-is (a .session) [] (a .plans .now) (a .history .now) (s .pre .0) _ _ (gathered (asked r) .gather .ensures) _ (r .refusal .ensures ∙ ap (λ o. stepRefusal o _ _ _) (given (asked r) .operators-of .ensures)) _ (c .enum-told .given .1)
+    short-is (a .session) [] (a .plans .now) (a .history .now) (s .pre .0) _ _ (gathered (asked r) .gather .ensures) _ (r .refusal .ensures ∙ refusal-by _ _ _ _ _ (given (asked r) .operators-of .ensures)) _ (c .enum-told .given .1)
 
 pub bred-refusal-spec : {M : Type 1} → statement M
 bred-refusal-spec =

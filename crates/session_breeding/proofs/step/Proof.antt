@@ -1,8 +1,8 @@
 -- what the step promises, but for the lists that are not handed out
 use mathlib.Core.Path.{refl, sym, ap, _∙_}
 use lib.Seq.{length-take-le}
-use Rattle.model.specs.Calls.{stepOf}
-use Rattle.session_breeding.specs.Breeding.{takenOf, blankLent}
+use Rattle.session_breeding.specs.Breeding.{takenOf}
+use Rattle.session_breeding.proofs.Breeding.{taken-by}
 use Rattle.session_breeding.proofs.step.Statement.{statement}
 use Rattle.session_breeding.proofs.step.Tie as tie
 
@@ -41,16 +41,14 @@ nsga3-generate-offspring-requires : tie.Need-nsga3-generate-offspring-requires
 nsga3-generate-offspring-requires c κs = tt
 
 same-length : tie.Need-same-length
-same-length c = called c .nsga3-generate-offspring .kept .1 .1 .1 .1 .1 .1 .1 .1 .1 .1 .0
+same-length c = called c .nsga3-generate-offspring .kept .1 .1 .1 .1 .1 .1 .0
 
 same-length-2 : tie.Need-same-length-2
-same-length-2 c = called c .nsga3-generate-offspring .kept .1 .1 .1 .1 .1 .1 .1 .1 .1 .1 .1 .1 .1 .1 .0
+same-length-2 c = called c .nsga3-generate-offspring .kept .1 .1 .1 .1 .1 .1 .1 .1 .1 .1 .0
 
 returns : tie.Need-returns
 returns c =
-    let g = given (called c) in
-    ap takenOf (called c .nsga3-generate-offspring .ensures .whole)
-    ∙ ap (λ o. takenOf (stepOf o _ blankLent (start g .args .candidates .now))) (g .operators-of .ensures)
+    ap takenOf (called c .nsga3-generate-offspring .ensures .whole) ∙ taken-by _ _ _ _ _ (given (called c) .operators-of .ensures)
 
 pub step-spec : {M : Type 1} → statement M
 step-spec =
