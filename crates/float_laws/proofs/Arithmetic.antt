@@ -1,8 +1,8 @@
 -- The four operations, each rounded once, and the order: sums and products of numbers from 0 up grow with each part, differences and quotients with the
--- first (differences fall with the second), and a quotient x / a for 0 ≤ x ≤ a lies within 0..1.
+-- first (both fall with the second), and a quotient x / a for 0 ≤ x ≤ a lies within 0..1.
 use mathlib.Core.Path.{_≡_, ap, _∙_, subst}
 use Prim.Native.Nat.{ℕ, _+_, _-_, _*_, _^_, _≤_, _<_, zero-le}
-use native.Mathlib.Nat.{one-mul, mul-assoc, mul-right-comm, mul-pos, mul-le-mul, mul-le-mul-right, add-mul, mul-add, mul-mul-mul-comm}
+use native.Mathlib.Nat.{one-mul, mul-assoc, mul-right-comm, mul-pos, mul-le-mul, mul-le-mul-left, mul-le-mul-right, add-mul, mul-add, mul-mul-mul-comm}
 use native.Mathlib.Omega.{arith}
 use mathlib.Core.Bool.{Bool, true, false}
 use lib.Dec.{T}
@@ -11,7 +11,7 @@ use lib.Ieee.{Float, nan, inf, fin, Format, low, up, down, fits, le, lt, add, su
 use lib.Ieee.Fits.{down-pos, neg-fits}
 use lib.Ieee.Scale.{finite, round-same}
 use Rattle.float_laws.proofs.Units.{Number, Sgn, Counts, le→counts, le→count, counts→le, counts-of, counts-same}
-use Rattle.float_laws.proofs.Order.{le-trans, lt→counts}
+use Rattle.float_laws.proofs.Order.{le-trans, lt→le, lt→counts, lt→count}
 use Rattle.float_laws.proofs.Rounding.{Rounded, le-neg, rounded-shift, rounded-mono, rounded-le, le-rounded, add-rounded, sub-rounded, div-rounded}
 use Rattle.float_laws.proofs.Constants.{nought, nought-counts, nought-fits, one, one-counts, one-fits}
 
@@ -175,6 +175,24 @@ div-mono-left f x x' y X X' Y p h =
     rounded-mono f (div f x y) (div f x' y) (a .0) (a .1) (c .0 - c .1) (b .0) (b .1) (c .0 - c .1) z z
     (div-rounded f x y (a .0) (a .1) (c .0) (c .1) q (a .2) (c .2)) (div-rounded f x' y (b .0) (b .1) (c .0) (c .1) q (b .2) (c .2))
     (scaled (a .0) (b .1) (b .0) (a .1) (c .0 - c .1) (omega arith))
+
+-- of numbers from 0 up
+div-count : (f : Format) (x y : Float) (g h : ℕ) → 0 < h → Counts f x g 0 → Counts f y h 0 → Rounded f (div f x y) g 0 h
+div-count f x y g h z a b = let e : h - 0 ≡ h = omega arith in subst (λ (c : ℕ). Rounded f (div f x y) g 0 c) e (div-rounded f x y g 0 h 0 z a b)
+
+-- such a quotient falls as the divisor rises
+pub div-mono-right : (f : Format) (x y y' : Float) → Number f x → Number f y → Number f y' → T (le nought x) → T (lt nought y) → T (le y y') → T (le (div f x y') (div f x y))
+div-mono-right f x y y' X Y Y' h p k =
+    let q = lt→le nought y p in
+    let a = count f x X h in
+    let b = count f y Y q in
+    let c = count f y' Y' (le-trans nought y y' q k) in
+    let w : 0 < b .0 = lt→count f nought y 0 (b .0) (nought-counts f) (b .1) p in
+    let l = le→count f y y' (b .0) (c .0) (b .1) (c .1) k in
+    let z : 0 < c .0 = omega arith in
+    let m = mul-le-mul-left (a .0) l in
+    rounded-mono f (div f x y') (div f x y) (a .0) 0 (c .0) (a .0) 0 (b .0) z w
+    (div-count f x y' (a .0) (c .0) z (a .1) (c .1)) (div-count f x y (a .0) (b .0) w (a .1) (b .1)) (omega arith)
 
 -- what is at most B, in units of 1 / c, is so in those of 1 / l
 pub upper : (P N B c l : ℕ) → P ≤ B * c + N → P * l + 0 * c ≤ B * l * c + N * l

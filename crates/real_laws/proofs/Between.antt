@@ -80,7 +80,7 @@ top-power (suc j) =
           nought-le-one (lt→le nought (exp2 52) (orders .nought-top)) (le-trans one (exp2 52) p (orders .one-top) h) (orders .top-top))
     ]
 
-not-zero : (v : Float) → T (lt nought v) → eq v origin ≡ false
+pub not-zero : (v : Float) → T (lt nought v) → eq v origin ≡ false
 unfolding ofBits
 not-zero v h = no-pass (eq v origin) (λ e. lt→nle nought v h (eq→le v nought (true-T _ e)))
 

@@ -15,7 +15,7 @@ pub struct DrawnReals {
 }
 
 // How far apart the children lie, as a multiple of how far the parents do.
-fn spread(u: f64, k: u64) -> f64
+pub fn spread(u: f64, k: u64) -> f64
     ensures { λ r. ⌜ r ≡ spread u k ⌝ }
 {
     if u <= 0.5 {

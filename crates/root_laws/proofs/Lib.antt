@@ -1,0 +1,4 @@
+pub mod Rising
+pub mod Arguments
+pub mod Draws
+pub mod InOrder

@@ -1,0 +1,1 @@
+// Laws of roots in order: no code.
