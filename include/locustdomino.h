@@ -6,8 +6,8 @@
  * What every call asks of its caller:
  *   - a pointer is aligned and points to as many entries as its length says, and is not null, also where that length is 0;
  *   - what is lent for writing overlaps nothing else that is passed;
- *   - about 2 MB of stack are free. Measured on x86-64: locustdomino_sample 1.66 MB where it breeds and 1.05 elsewhere (the words
- *     of the plans bred from are 1,015,808 bytes of it), locustdomino_choose 1.3, locustdomino_generate_offspring 0.61,
+ *   - about 2 MB of stack are free. Measured on x86-64: locustdomino_sample 1.33 MB where it breeds and 0.86 elsewhere (the words
+ *     of the plans bred from are 819,200 bytes of it), locustdomino_choose 1.1, locustdomino_generate_offspring 0.48,
  *     locustdomino_select 0.24. The pages are touched one by one, so that a call with too little left meets the stack's guard
  *     page, where there is one.
  * What every call answers: LOCUSTDOMINO_ACCEPTED where no refusal applies, and else the number of the first that does, which is
@@ -53,7 +53,7 @@ enum {
  * numbers must rise in the order of the dimensions: of a session, the order in which its first plan asked for them. A plan with
  * other numbers meets 9 where a kind or a bound does not fit, and else is bred from with its settings exchanged. Where a plan
  * lacks settings, whichever they are, those of the last dimensions are drawn. */
-#define LOCUSTDOMINO_MAX_SETTINGS 32
+#define LOCUSTDOMINO_MAX_SETTINGS 24
 #define LOCUSTDOMINO_PLAN_NUMBER 0
 #define LOCUSTDOMINO_PLAN_ROW_LENGTH 1
 #define LOCUSTDOMINO_PLAN_ROW 2
@@ -78,7 +78,7 @@ enum {
 /* Sizes of what is lent with a session: 30 words of its own and those of its dimensions; and a word for each setting of the plans
  * of a generation. Its words and its three slices are not to be changed by the caller; all four together may be stored and brought
  * back. */
-#define LOCUSTDOMINO_MAX_DIMENSIONS 32
+#define LOCUSTDOMINO_MAX_DIMENSIONS LOCUSTDOMINO_MAX_SETTINGS
 #define LOCUSTDOMINO_SESSION_WORDS (30 + LOCUSTDOMINO_DIMENSION_WORDS * LOCUSTDOMINO_MAX_DIMENSIONS)
 #define LOCUSTDOMINO_MAX_PLANS 2048
 #define LOCUSTDOMINO_CANDIDATE_WORDS (LOCUSTDOMINO_MAX_PLANS * LOCUSTDOMINO_MAX_DIMENSIONS)

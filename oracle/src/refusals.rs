@@ -7,9 +7,10 @@ use crate::sampler::genetic::DimensionInfo;
 use crate::session::{Opening, Operators};
 use crate::words::{to_int, to_real, two};
 
-/// The most dimensions, and the most settings of a plan that is bred from.
-pub const MAX_DIMENSIONS: usize = 32;
-pub const MAX_SETTINGS: usize = 32;
+/// The most settings of a plan that is bred from (document 02, M-107), and so
+/// the most dimensions.
+pub const MAX_SETTINGS: usize = 24;
+pub const MAX_DIMENSIONS: usize = MAX_SETTINGS;
 
 /// The lowest number whose condition holds.
 pub fn lowest(conditions: &[(u64, bool)]) -> Option<u64> {

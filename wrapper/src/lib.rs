@@ -3,8 +3,8 @@
 //!
 //! A session's words are private here. Only the library writes them, so that they are always such as it asks for.
 //!
-//! A call takes stack: measured on x86-64, [`Session::sample`] 1.66 MB where it breeds and 1.05 elsewhere, [`choose`] 1.3,
-//! [`generate_offspring`] 0.61 and [`select`] 0.24. A thread that Rust starts has 2 MB in all, unless it is given more
+//! A call takes stack: measured on x86-64, [`Session::sample`] 1.33 MB where it breeds and 0.86 elsewhere, [`choose`] 1.1,
+//! [`generate_offspring`] 0.48 and [`select`] 0.24. A thread that Rust starts has 2 MB in all, unless it is given more
 //! ([`std::thread::Builder::stack_size`]). Where too little is left, the process ends, as at any overflow of a stack: the library's
 //! code touches the pages that it takes one by one, so that it meets the guard page.
 
@@ -19,7 +19,7 @@ use raw::{DIMENSION_WORDS, PLAN_WORDS, Selecting};
 /// The most plans of a selection and of a pool.
 pub const MAX_SIZE: usize = 1024;
 /// The most dimensions, and settings of a plan.
-pub const MAX_DIMENSIONS: usize = raw::MAX_SETTINGS;
+pub const MAX_DIMENSIONS: usize = raw::MAX_DIMENSIONS;
 /// The most plans of a history.
 pub const MAX_HISTORY: usize = 4096;
 
@@ -76,13 +76,13 @@ impl fmt::Display for Refusal {
             Refusal::Operators => {
                 "an eta is not a whole number 0 to 99, or the crossover probability is not within 0..1"
             }
-            Refusal::Dimension => "a dimension is not within its limits, or is the 33rd",
+            Refusal::Dimension => "a dimension is not within its limits, or is the 25th",
             Refusal::Count => "a pool is empty or above 1,024 plans, or a history is above 4,096",
             Refusal::Plan => {
                 "a plan's row length is not the number of objectives, it has over 16 constraints, or a value, a constraint or the ideal is NaN or beyond 2^1000 in magnitude"
             }
             Refusal::Parent => {
-                "a plan to be bred from has over 32 settings, a parameter number twice, or a setting of another kind than its dimension or not within its bounds"
+                "a plan to be bred from has over 24 settings, a parameter number twice, or a setting of another kind than its dimension or not within its bounds"
             }
             Refusal::Room => "a lent slice is shorter than the call's full answer",
             Refusal::Full => "a new plan number comes while the generation has 2,048 plans and is not bred from",
@@ -221,7 +221,7 @@ pub struct Plan([u64; PLAN_WORDS]);
 
 impl Plan {
     /// Counts that a plan's words cannot hold are refused here, before any call, and also where a call would not look at them:
-    /// over 8 values or 16 constraints with [`Refusal::Plan`], over 32 settings with [`Refusal::Parent`]. All else, as the row's
+    /// over 8 values or 16 constraints with [`Refusal::Plan`], over 24 settings with [`Refusal::Parent`]. All else, as the row's
     /// length, a NaN and the settings' kinds and bounds, is for the call to refuse.
     pub fn new(
         number: u64,

@@ -6,7 +6,7 @@
 
 pub const MAX_OBJECTIVES: usize = 8;
 pub const MAX_CONSTRAINTS: usize = 16;
-pub const MAX_SETTINGS: usize = 32;
+pub const MAX_SETTINGS: usize = 24;
 pub const PLAN_ROW_LENGTH: usize = 1;
 pub const PLAN_CONSTRAINT_COUNT: usize = PLAN_ROW_LENGTH + 1 + MAX_OBJECTIVES;
 pub const PLAN_SETTING_COUNT: usize = PLAN_CONSTRAINT_COUNT + 1 + MAX_CONSTRAINTS;
@@ -20,7 +20,7 @@ pub const CATEGORICAL: u64 = 2;
 pub const DIMENSION_WORDS: usize = 6;
 pub const NO_LINE: usize = usize::MAX;
 
-pub const MAX_DIMENSIONS: usize = 32;
+pub const MAX_DIMENSIONS: usize = MAX_SETTINGS;
 pub const MAX_PLANS: usize = 2048;
 pub const CANDIDATE_WORDS: usize = MAX_PLANS * MAX_DIMENSIONS;
 

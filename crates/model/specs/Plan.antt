@@ -35,8 +35,9 @@ maxObjectives = 8
 abbrev pub maxConstraints : ℕ
 maxConstraints = 16
 
+-- Document 02, M-107: "Three seasons of records never show a plan with more than 24 settings. That becomes the greatest"
 abbrev pub maxSettings : ℕ
-maxSettings = 32
+maxSettings = 24
 
 -- A plan's words: its number, its row length, 8 values, its constraint count, 16 constraints, its setting count, and three words for each of its settings.
 -- What stands past a count is not looked at.
@@ -47,17 +48,20 @@ planWords = 28 + 3 * maxSettings
 abbrev pub settingIn : (ℕ → ℕ) → ℕ → Setting
 settingIn word j = record { param = word (28 + 3 * j); kind = word (29 + 3 * j); value = word (30 + 3 * j) }
 
--- the plan whose word j is `word j`
-unfoldable pub planOf : (ℕ → ℕ) → Plan
-planOf word = record {
+-- the plan whose word j is `word j`, of whose settings it has room for `limit`
+abbrev pub planUpTo : ℕ → (ℕ → ℕ) → Plan
+planUpTo limit word = record {
   number = word 0;
   rowLength = word 1;
   row = listBelow (λ j. real (word (2 + j))) (min (word 1) maxObjectives);
   constraintCount = word 10;
   constraints = listBelow (λ j. real (word (11 + j))) (min (word 10) maxConstraints);
   settingCount = word 27;
-  settings = listBelow (settingIn word) (min (word 27) maxSettings);
+  settings = listBelow (settingIn word) (min (word 27) limit);
 }
+
+unfoldable pub planOf : (ℕ → ℕ) → Plan
+planOf word = planUpTo maxSettings word
 
 -- the plan whose words begin at a place of a slice, plan i of a slice, and how many plans a slice holds: those that are there whole
 abbrev pub planFrom : List ℕ → ℕ → Plan

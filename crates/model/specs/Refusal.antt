@@ -83,13 +83,20 @@ wholeEta x = within nought ninetyNine x && eq (ofWhole (pos (toUnsigned 64 x))) 
 unfoldable pub badOperators : Float → Float → Float → Bool
 badOperators probability crossoverEta mutationEta = not (within nought unit probability && (wholeEta crossoverEta && wholeEta mutationEta))
 
--- 6. what `validDimension` asks, ".. or is the 33rd"
+-- 6. what `validDimension` asks, and document 02, M-107: "the 25th dimension now meets refusal 6". The greatest number is a parameter, so that what does not
+-- depend on it can be said (`limit_laws`).
+abbrev pub badDimensionsPast : ℕ → (ℕ → Distribution) → ℕ → Bool
+badDimensionsPast limit dims n = ltb limit n || not (allBelow (λ d. validDimension (dims d)) n)
+
 unfoldable pub badDimensions : (ℕ → Distribution) → ℕ → Bool
-badDimensions dims n = ltb maxDims n || not (allBelow (λ d. validDimension (dims d)) n)
+badDimensions dims n = badDimensionsPast maxDims dims n
 
 -- one dimension more, behind n, would be past the limit or is not as `validDimension` asks
+abbrev pub badNextPast : ℕ → ℕ → Distribution → Bool
+badNextPast limit n d = leb limit n || not (validDimension d)
+
 abbrev pub badNext : ℕ → Distribution → Bool
-badNext n d = leb maxDims n || not (validDimension d)
+badNext n d = badNextPast maxDims n d
 
 -- 7. "A pool is empty or above 1,024 plans, or a history is above 4,096."
 abbrev pub badCount : ℕ → Bool
@@ -128,8 +135,9 @@ goodPlans m plans n = allBelow (λ p. goodPlan m (plans p)) n
 unfoldable pub badPool : Request → Bool
 badPool r = not (goodPlans (objectives r) (r .plans) (r .count) && goodIdeal (objectives r) (r .ideal))
 
--- 9. "A plan to be bred from has over 32 settings, a parameter number twice, or a setting of another kind than its dimension or not within its bounds (a NaN
--- isn't). Settings past the last dimension are looked at for count and repeats only."
+-- 9. "A plan to be bred from has [too many] settings, a parameter number twice, or a setting of another kind than its dimension or not within its bounds (a NaN
+-- isn't). Settings past the last dimension are looked at for count and repeats only." Document 02, M-107: "a plan that refusal 9 looks at meets it with over
+-- 24"
 -- the others have other parameter numbers than x
 abbrev pub othersDiffer : Setting → List Setting → Bool
 othersDiffer x xs = allIn (λ y. not (eqb (x .param) (y .param))) xs
@@ -145,12 +153,19 @@ fitsDimension d x = eqb (x .kind) (kindOfDimension d) && inBounds d (ofWord (x .
 unfoldable pub fitsAt : (ℕ → Distribution) → List Setting → ℕ → Bool
 fitsAt dims sorted i = leb (length sorted) i || fitsDimension (dims i) (getD sorted i noSetting)
 
+abbrev pub breedablePast : ℕ → (ℕ → Distribution) → ℕ → Plan → Bool
+breedablePast limit dims n p =
+    leb (p .settingCount) limit && (namedOnce (p .settings) && allBelow (fitsAt dims (sortByParam (p .settings))) n)
+
 unfoldable pub breedable : (ℕ → Distribution) → ℕ → Plan → Bool
-breedable dims n p =
-    leb (p .settingCount) maxSettings && (namedOnce (p .settings) && allBelow (fitsAt dims (sortByParam (p .settings))) n)
+breedable dims n p = breedablePast maxSettings dims n p
+
+-- some plan of the pool fails a test
+abbrev pub someFails : (Plan → Bool) → Request → Bool
+someFails able r = not (allBelow (λ p. able (r .plans p)) (r .count))
 
 unfoldable pub badParents : Operators → Request → Bool
-badParents o r = not (allBelow (λ p. breedable (o .dims) (o .dimCount) (r .plans p)) (r .count))
+badParents o r = someFails (breedable (o .dims) (o .dimCount)) r
 
 -- ---- the calls
 
@@ -190,18 +205,22 @@ stepTooShort room offspring size n dims = (leb 2 n && tooShort room size n) || l
 unfoldable pub noStepRoom : Operators → Request → Room → ℕ → Bool
 noStepRoom o r room offspring = stepTooShort room offspring (r .size) (r .count) (o .dimCount)
 
-abbrev pub stepChecks : Operators → Request → Room → ℕ → List Check
-stepChecks o r room offspring =
+-- what a step looks at, with its tests of 6 and 9
+abbrev pub stepChecksBy : Bool → Bool → Operators → Request → Room → ℕ → List Check
+stepChecksBy six nine o r room offspring =
     check 2 (badDirections (r .marks))
     ∷ check 3 (badSize (r .size))
     ∷ check 4 (badDivisions (objectives r) (r .divisions))
     ∷ check 5 (badOperators (o .probability) (o .crossoverEta) (o .mutationEta))
-    ∷ check 6 (badDimensions (o .dims) (o .dimCount))
+    ∷ check 6 six
     ∷ check 7 (badCount (r .count))
     ∷ check 8 (badPool r)
-    ∷ check 9 (badParents o r)
+    ∷ check 9 nine
     ∷ check 10 (noStepRoom o r room offspring)
     ∷ []
+
+abbrev pub stepChecks : Operators → Request → Room → ℕ → List Check
+stepChecks o r room offspring = stepChecksBy (badDimensions (o .dims) (o .dimCount)) (badParents o r) o r room offspring
 
 unfoldable pub stepRefusal : Operators → Request → Room → ℕ → Option ℕ
 stepRefusal o r room offspring = firstOf (stepChecks o r room offspring)

@@ -23,7 +23,7 @@ use Rattle.model.specs.declared.OptionI64.the-variants as optI64
 use Rattle.model.specs.Real.{_⊕_, _⊖_, _⊗_, _⊘_, real, bits, nought, half, unit, two, ofWhole, absolute, within, clamp}
 use Rattle.model.specs.Draw.{Drawn, drawn, drawUsize, drawI64, f64Range, inTurn, drawAll}
 use Rattle.model.specs.Numbers.{roundOf, midpoint, P, R}
-use Rattle.model.specs.Plan.{Plan, Setting}
+use Rattle.model.specs.Plan.{Plan, Setting, maxSettings}
 use Rattle.model.specs.Row.{rowBeats}
 use Rattle.model.specs.Front.{frontOf}
 use Rattle.model.specs.Association.{Request}
@@ -84,9 +84,9 @@ abbrev pub stepAbove0 : OptionI64 → Bool
 stepAbove0 optI64.None = true
 stepAbove0 (optI64.Some n) = leZ (pos 1) n
 
--- at most so many dimensions
+-- at most so many dimensions: one number with a plan's settings, since a candidate has a setting for each dimension
 abbrev pub maxDims : ℕ
-maxDims = 32
+maxDims = maxSettings
 
 -- the dimension at each place of an array; `noDimension` is what the logic reads past its end, which nothing here does
 abbrev pub noDimension : DimensionInfo

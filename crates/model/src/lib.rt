@@ -1,6 +1,6 @@
 // The types and the limits of the product. Names are those of the Rust; `Option` and `Distribution` are enums of our own.
 
-// The limits of document 01 that sizes of arrays and loops name; the definitions of `specs` have the same numbers.
+// The limits of documents 01 and 02 that sizes of arrays and loops name; the definitions of `specs` have the same numbers.
 pub const MAX_OBJECTIVES: usize = 8;
 // most plans wanted: of a size
 pub const MAX_SIZE: usize = 1024;
@@ -12,12 +12,13 @@ pub const MAX_LINES: usize = 1024;
 
 pub const MAX_DIVISIONS: usize = 199;
 
-pub const MAX_DIMS: usize = 32;
-
 // Of a plan: its constraints and its settings.
 pub const MAX_CONSTRAINTS: usize = 16;
 
-pub const MAX_SETTINGS: usize = 32;
+pub const MAX_SETTINGS: usize = 24;
+
+// a candidate has a setting for each dimension
+pub const MAX_DIMS: usize = MAX_SETTINGS;
 
 // The most plans that may come in a session's generation, and the words of their candidates.
 pub const MAX_COME: usize = 2048;

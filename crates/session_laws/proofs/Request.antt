@@ -159,7 +159,7 @@ module _ (st : State) (history : List ℕ) (ok : SessionOk st) where
   pub offspring-fit : st .session .config .«population_size» * st .session .progress .«n_dims» ≤ maxWords
   offspring-fit = omega (arith, mul-le-mul (ok .config .atMost) (few _ _ (ok .dimensions)))
 
-  -- what the room has to be: for a kept list of any size, for the fronts and lines of any pool, and 65,536 words for the offspring
+  -- what the room has to be: for a kept list of any size, for the fronts and lines of any pool, and `maxWords` words for the offspring
   module _ (room : Room) (offspring : ℕ) (kept : maxSize ≤ room .kept) (fronts : maxPool ≤ room .fronts) (lines : maxPool ≤ room .lines)
       (words : maxWords ≤ offspring) where
     request-room : noStepRoom (operatorsOf (st .session)) (requestOf st history) room offspring ≡ false

@@ -218,12 +218,10 @@ pub(super) fn breeding_cases() -> Vec<Line> {
         // Past the last dimension only number and repeats count.
         good.but(|c| c.pool[0].settings = vec![(7, 2, 9), (0, 0, 0), (1, 1, 0)]),
         good.but(|c| c.pool[0].settings = vec![(7, 2, 9), (0, 0, 0), (1, 1, 0), (7, 2, 9)]),
-        good.but(|c| {
-            c.pool[0].settings = (0..=MAX_SETTINGS as u64).map(|n| (n, n.min(1), 0)).collect();
-        }),
-        good.but(|c| {
-            c.pool[0].settings = (0..MAX_SETTINGS as u64).map(|n| (n, n.min(1), 0)).collect();
-        }),
+        good.but(|c| c.pool[0].settings = so_many_settings(MAX_SETTINGS + 1)),
+        good.but(|c| c.pool[0].settings = so_many_settings(MAX_SETTINGS)),
+        // What document 01 still took.
+        good.but(|c| c.pool[0].settings = so_many_settings(32)),
         good.but(|c| c.pool.clear()),
         good.but(|c| c.size = 0),
         // 2 and 4, and both before what comes later.
@@ -245,7 +243,7 @@ pub(super) fn breeding_cases() -> Vec<Line> {
         call.dimensions[1] = dimension;
         calls.push(call);
     }
-    for count in [MAX_DIMENSIONS + 1, MAX_DIMENSIONS] {
+    for count in [MAX_DIMENSIONS + 1, MAX_DIMENSIONS, 32] {
         calls.push(good.but(|c| {
             c.pool.truncate(2);
             for plan in &mut c.pool {

@@ -85,6 +85,8 @@ pub(super) fn kept_cases() -> Vec<Line> {
         good.but(|c| c.ideal = vec![0.0]),
         good.but(|c| c.ideal = vec![0.0; 3]),
         good.but(|c| c.marks = vec![1, 1]),
+        // A selection does not look at settings, however many.
+        good.but(|c| c.pool[1].settings = so_many_settings(MAX_SETTINGS + 1)),
     ];
     // One front on three lines, every size: counts above 0 draw a member.
     for size in 1..=8 {

@@ -331,6 +331,11 @@ fn settings(mix: &mut Mix, values: &[ParamValue], dimension_count: usize) -> Vec
     settings
 }
 
+/// A Float and then Ints, all 0.
+fn so_many_settings(count: usize) -> Vec<(u64, u64, u64)> {
+    (0..count as u64).map(|n| (n, n.min(1), 0)).collect()
+}
+
 /// A value within each dimension.
 fn values(mix: &mut Mix, dimensions: &[Distribution]) -> Vec<ParamValue> {
     dimensions.iter().map(|d| value(mix, d)).collect()

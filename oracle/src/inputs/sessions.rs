@@ -162,6 +162,24 @@ pub(super) fn session_cases() -> Vec<Line> {
     let _ = script.call(6, true);
     lines.push(script.line());
 
+    // One setting too many: 9 for a plan that is bred from, and for no other
+    // record; as many as there may be pass.
+    let mut script = Script::new(good.clone());
+    script.discover(0, &[unit.clone(), int(0, 9, None)]);
+    let record = |number: u64, count: usize| {
+        let mut record = Plan::record(number, &[number as f64, 9.0 - number as f64], &[]);
+        record.settings = so_many_settings(count);
+        record
+    };
+    let _ = script.calls(4, 1, &any_dimension(), false, false);
+    script.fresh = vec![record(9, MAX_SETTINGS + 1), record(1, MAX_SETTINGS), record(2, 2), record(3, 2)];
+    let _ = script.call(5, true);
+    script.fresh = vec![record(4, MAX_SETTINGS + 1)];
+    let _ = script.call(5, true);
+    script.fresh = vec![record(4, MAX_SETTINGS)];
+    let _ = script.call(5, true);
+    lines.push(script.line());
+
     // 2,048 plans open: the next new number gets 11, a known one does not;
     // breeding frees all of them.
     let mut script = Script::new(good.clone());

@@ -19,7 +19,7 @@ abbrev μ-loop : tie.MeasureT-loop
 
 returns : tie.Need-returns Inv-loop μ-loop
 unfolding badDimensions
-returns c = rw (lt-ltb maxDims (c .before .args .n) (c .if1 .taken))
+returns c = rw (lt-ltb maxDims (c .before .args .n) (omega arith))
 
 loop-holds : tie.Need-loop-holds Inv-loop μ-loop
 loop-holds c = (omega arith, omega arith, allBelow-none _)

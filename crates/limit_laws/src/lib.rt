@@ -1,0 +1,1 @@
+// Laws of the greatest number of settings and dimensions: no code.
