@@ -1,7 +1,8 @@
-/* Locustdomino: which plans of a pool to keep (NSGA-III), the next plans to try, and sessions that ask for settings one by one.
+/* Locustdomino: which plans of a pool to keep (NSGA-III), the next plans to try, sessions that ask for settings one by one, and
+ * what the water of the plans kept costs.
  *
  * Link with the archive that `rt staticlib locustdomino` writes. Each call is proved to do what its definition says
- * (crates/model/specs/Calls.antt). A slice is a pointer and a number of entries. size_t must have 64 bits.
+ * (crates/model/specs/Calls.antt and Water.antt). A slice is a pointer and a number of entries. size_t must have 64 bits.
  *
  * What every call asks of its caller:
  *   - a pointer is aligned and points to as many entries as its length says, and is not null, also where that length is 0;
@@ -41,7 +42,9 @@ enum {
                                         ideal's plus infinity, which passes) */
     LOCUSTDOMINO_BAD_PARENT = 9,     /* a plan to be bred from has settings that do not fit its dimensions */
     LOCUSTDOMINO_NO_ROOM = 10,       /* a lent slice is shorter than the call's full answer */
-    LOCUSTDOMINO_FULL = 11           /* a new plan number, and the generation has 2,048 plans */
+    LOCUSTDOMINO_FULL = 11,          /* a new plan number, and the generation has 2,048 plans */
+    LOCUSTDOMINO_BAD_BANDS = 15,     /* no bands, over 16, upper litres not strictly rising, or a price above 1,000,000 */
+    LOCUSTDOMINO_BAD_LITRES = 16     /* a kept list over 1,024 long, a plan in it without litres, or any litres above 1,000,000,000 */
 };
 
 /* A plan is LOCUSTDOMINO_PLAN_WORDS words. Pools and histories are plans one after the other; words after the last whole plan
@@ -152,6 +155,22 @@ uint64_t locustdomino_choose(
     const uint8_t *file, size_t file_length,
     uint8_t *out, size_t out_length,
     size_t *length);
+
+/* A band of the water company's prices is two words: its upper litre, itself included, and its price per litre in hundredths of a
+ * cent. The last band is open: its upper litre is not looked at. A word after the last whole band is not looked at either. */
+#define LOCUSTDOMINO_BAND_WORDS 2
+#define LOCUSTDOMINO_MAX_BANDS 16
+
+/* What the water of the plans kept costs: `costs` gets each one's cost in cents, in the kept list's order, and `total` their sum,
+ * in which a plan counts as often as it is listed. `litres` has the litres of every plan of the pool. Each litre is charged in the
+ * band that it falls in; a plan's hundredths are summed and rounded once to the cent, halves up. A cost is at most 10^13 cents.
+ * Refusals: 10 (fewer costs are lent than are kept), 15, 16. */
+uint64_t locustdomino_price_water(
+    const uint64_t *litres, size_t litres_length,
+    const uint64_t *bands, size_t band_words,
+    const size_t *kept, size_t kept_length,
+    uint64_t *costs, size_t costs_length,
+    uint64_t *total);
 
 #ifdef __cplusplus
 }

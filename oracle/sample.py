@@ -27,6 +27,7 @@ RECORDS = {
     "breeding": 40,
     "session": 10,
     "choose": 24,
+    "water": 60,
     "long": 0,
 }
 

@@ -13,6 +13,7 @@ use crate::sampler::nsga3::Nsga3State;
 use crate::sampler::{common, genetic, nsga3};
 use crate::session::{Opening, Operators};
 use crate::types::Direction;
+use crate::water;
 use crate::words::{Reader, bits, of_int, of_real, push_counted_reals, push_reals};
 use crate::{pool_file, session};
 
@@ -223,6 +224,8 @@ pub fn answer(input: &[u64]) -> Result<Vec<u64>, String> {
             a.push(text.len() as u64);
             a.extend(text.bytes().map(u64::from));
         }
+
+        water::PRICE => a = water::answer(r)?,
 
         _ => return Err(format!("{command} is no command")),
     }

@@ -24,6 +24,7 @@ mod powers;
 mod refusals;
 mod session;
 mod trial;
+mod water;
 mod words;
 
 use std::io::{BufRead, BufWriter, Read, Write};

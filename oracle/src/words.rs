@@ -5,7 +5,7 @@
 pub const NAN: u64 = 9221120237041090560;
 
 /// Commands by name and number; README describes each.
-pub const COMMANDS: [(&str, u64); 35] = [
+pub const COMMANDS: [(&str, u64); 36] = [
     ("words", 10),
     ("f64", 11),
     ("usize", 12),
@@ -41,6 +41,7 @@ pub const COMMANDS: [(&str, u64); 35] = [
     ("step", 87),
     ("session", 90),
     ("choose", 95),
+    ("price", 100),
 ];
 
 /// Reads a line: numbers parted by single spaces; the first may be a

@@ -1,5 +1,5 @@
-//! Safe calls of Locustdomino: which plans of a pool to keep, the next plans to try, and sessions that ask for settings one by
-//! one. The calls themselves are proved; this crate keeps what they ask of a caller.
+//! Safe calls of Locustdomino: which plans of a pool to keep, the next plans to try, sessions that ask for settings one by one,
+//! and what the water of the plans kept costs. The calls themselves are proved; this crate keeps what they ask of a caller.
 //!
 //! A session's words are private here. Only the library writes them, so that they are always such as it asks for.
 //!
@@ -23,6 +23,13 @@ pub const MAX_DIMENSIONS: usize = raw::MAX_DIMENSIONS;
 /// The most plans of a history.
 pub const MAX_HISTORY: usize = 4096;
 
+/// The most bands that water is priced by.
+pub const MAX_BANDS: usize = 16;
+/// The highest price of a litre, in hundredths of a cent.
+pub const MAX_PRICE: u64 = 1_000_000;
+/// The most litres of a plan.
+pub const MAX_LITRES: u64 = 1_000_000_000;
+
 const MAX_TEXT: usize = 20501;
 /// 2^53
 const BOUND: i64 = 1 << 53;
@@ -45,6 +52,8 @@ pub enum Refusal {
     Parent = 9,
     Room = 10,
     Full = 11,
+    Bands = 15,
+    Litres = 16,
 }
 
 impl Refusal {
@@ -54,9 +63,11 @@ impl Refusal {
 
     fn from_code(code: u64) -> Self {
         use Refusal::*;
-        let all = [Form, Directions, Size, Divisions, Operators, Dimension, Count, Plan, Parent, Room, Full];
+        let all = [
+            Form, Directions, Size, Divisions, Operators, Dimension, Count, Plan, Parent, Room, Full, Bands, Litres,
+        ];
         let found = all.into_iter().find(|&refusal| refusal as u64 == code);
-        found.expect("the library answers 0 to 11")
+        found.expect("the library answers 0 or the number of a refusal")
     }
 
     fn of(code: u64) -> Result<(), Refusal> {
@@ -86,6 +97,10 @@ impl fmt::Display for Refusal {
             }
             Refusal::Room => "a lent slice is shorter than the call's full answer",
             Refusal::Full => "a new plan number comes while the generation has 2,048 plans and is not bred from",
+            Refusal::Bands => "no bands, over 16, upper litres not strictly rising, or a price above 1,000,000",
+            Refusal::Litres => {
+                "a kept list over 1,024 long, a plan in it without litres, or a plan's litres above 1,000,000,000"
+            }
         })
     }
 }
@@ -462,6 +477,33 @@ pub fn choose(file: &[u8]) -> Result<Vec<u8>, Refusal> {
     Refusal::of(raw::choose(file, &mut out, &mut length))?;
     out.truncate(length);
     Ok(out)
+}
+
+// ---- water
+
+/// A band of the water company's prices: its upper litre, itself included, and its price per litre in hundredths of a cent. The
+/// last band is open, and its upper litre is not looked at.
+#[derive(Clone, Copy, Debug, PartialEq, Eq)]
+pub struct Band {
+    pub upper: u64,
+    pub price: u64,
+}
+
+/// What each plan of a kept list costs in cents, in its order, and their sum.
+#[derive(Clone, Debug, PartialEq, Eq)]
+pub struct Bill {
+    pub costs: Vec<u64>,
+    pub total: u64,
+}
+
+/// What the water of the plans kept costs; `litres` has those of every plan of the pool. Each litre is charged in the band that it
+/// falls in, and a plan's sum is rounded once to the cent, halves up. A plan counts as often as it is listed.
+pub fn price_water(litres: &[u64], bands: &[Band], kept: &[usize]) -> Result<Bill, Refusal> {
+    let words: Vec<u64> = bands.iter().flat_map(|band| [band.upper, band.price]).collect();
+    let mut costs = vec![0; kept.len()];
+    let mut total = 0;
+    Refusal::of(raw::price_water(litres, &words, kept, &mut costs, &mut total))?;
+    Ok(Bill { costs, total })
 }
 
 // ---- sessions

@@ -58,6 +58,8 @@ unsafe extern "C" {
         history: *const u64, history_words: usize, candidates: *mut u64, candidate_words: usize, plans: *mut u64, plans_length: usize,
         next_dims: *mut usize, next_dims_length: usize, kind: *mut u64, value: *mut u64) -> u64;
     fn locustdomino_choose(file: *const u8, file_length: usize, out: *mut u8, out_length: usize, length: *mut usize) -> u64;
+    fn locustdomino_price_water(litres: *const u64, litres_length: usize, bands: *const u64, band_words: usize, kept: *const usize,
+        kept_length: usize, costs: *mut u64, costs_length: usize, total: *mut u64) -> u64;
 }
 
 // A slice is handed on with its own length, and what is written overlaps nothing else. Beside that the library asks what `Session`
@@ -103,6 +105,15 @@ pub fn generate_offspring(call: Selecting, dimensions: &[u64], operators: Operat
 
 pub fn choose(file: &[u8], out: &mut [u8], length: &mut usize) -> u64 {
     unsafe { locustdomino_choose(file.as_ptr(), file.len(), out.as_mut_ptr(), out.len(), length) }
+}
+
+/// Two words a band: its upper litre and its price.
+#[rustfmt::skip]
+pub fn price_water(litres: &[u64], bands: &[u64], kept: &[usize], costs: &mut [u64], total: &mut u64) -> u64 {
+    unsafe {
+        locustdomino_price_water(
+            litres.as_ptr(), litres.len(), bands.as_ptr(), bands.len(), kept.as_ptr(), kept.len(), costs.as_mut_ptr(), costs.len(), total)
+    }
 }
 
 /// A session's words and the three slices that are lent with them. Only the library writes them, so that they are always as it
@@ -233,5 +244,18 @@ mod tests {
         assert_eq!(session.sample(&dimension(), 0, &history(MAX_HISTORY), CANDIDATE_WORDS), Err(10));
         assert_eq!(session.sample(&[], 0, &[], CANDIDATE_WORDS), Err(10));
         assert_eq!(session.words, before);
+    }
+
+    #[test]
+    fn too_little_room_for_costs() {
+        let (mut costs, mut total) = ([9; 3], 9);
+        // 10 comes before 15 and 16.
+        assert_eq!(price_water(&[], &[], &[0; 4], &mut costs, &mut total), 10);
+        assert_eq!((costs, total), ([9; 3], 9));
+        // A word past the last whole band is not looked at, and what is lent past the costs stays.
+        assert_eq!(price_water(&[7], &[0, 100, 9], &[0, 0], &mut costs, &mut total), 0);
+        assert_eq!((costs, total), ([7, 7, 9], 14));
+        assert_eq!(price_water(&[7], &[100], &[0, 0], &mut costs, &mut total), 15);
+        assert_eq!((costs, total), ([7, 7, 9], 14));
     }
 }

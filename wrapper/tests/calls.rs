@@ -1,8 +1,8 @@
 //! Each call once accepted and once refused, and what a refusal leaves.
 
 use locustdomino::{
-    Dimension, Direction, Directions, Ideal, Operators, Plan, Refusal, Rng, Session, Setting, choose,
-    generate_offspring, select,
+    Band, Bill, Dimension, Direction, Directions, Ideal, Operators, Plan, Refusal, Rng, Session, Setting, choose,
+    generate_offspring, price_water, select,
 };
 
 fn two() -> Directions {
@@ -119,4 +119,20 @@ fn too_little_stack_is_told() {
 #[test]
 fn file() {
     assert_eq!(choose(b"no pool"), Err(Refusal::Form));
+}
+
+#[test]
+fn water() {
+    let bands = [(10, 100), (30, 250), (0, 400)].map(|(upper, price)| Band { upper, price });
+    // Ten litres at a cent, the eleventh at two and a half: 12.5 cents are 13.
+    let bill = price_water(&[10, 11, 30, 31], &bands, &[3, 1, 0, 1]);
+    assert_eq!(bill, Ok(Bill { costs: vec![64, 13, 10, 13], total: 100 }));
+    assert_eq!(price_water(&[], &bands, &[]), Ok(Bill { costs: vec![], total: 0 }));
+
+    assert_eq!(price_water(&[1], &[], &[0]), Err(Refusal::Bands));
+    assert_eq!(price_water(&[1], &[bands[1], bands[0], bands[2]], &[1]), Err(Refusal::Bands));
+    assert_eq!(price_water(&[1], &bands, &[1]), Err(Refusal::Litres));
+    assert_eq!(price_water(&[1, 1_000_000_001], &bands, &[0]), Err(Refusal::Litres));
+    assert_eq!(price_water(&[1], &bands, &[0; 1025]), Err(Refusal::Litres));
+    assert_eq!((Refusal::Bands.number(), Refusal::Litres.number()), (15, 16));
 }

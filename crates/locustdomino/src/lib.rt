@@ -6,7 +6,9 @@ ghost use Rattle.model.specs.Session.{state};
 ghost use Rattle.model.specs.Property.{SessionOk};
 ghost use Rattle.session_words.specs.Coding.{sessionWidth, sessionOf};
 ghost use Rattle.model.specs.Calls.{wordRequest, lent};
+ghost use Rattle.model.specs.Water.{bandsOf};
 ghost use Rattle.export_laws.specs.Coded.{SelectsWords, StepsWords, rngOf, wordOperators, optional, OpensWords, sampledWords, SamplesWords, ListsWords};
+ghost use Rattle.c_water.specs.Coded.{pricedAs, PricesWords};
 
 // `nsga3_select`: the generator's state moves on in place. The kept list is as long as the size.
 #[no_mangle]
@@ -153,4 +155,20 @@ pub extern "C" fn locustdomino_choose(file: &[u8], out: &mut [u8], length: &mut 
     ensures { λ r. ⌜ ListsWords (now (file .entry)) (now (out .entry)) (now (length .entry)) (record { code = r; length = now (length .exit); out = now (out .exit) }) ⌝ }
 {
     c_select::choose_words(file, out, length)
+}
+
+// `price_water`: each kept plan's cost in cents goes to the front of `costs`, and their total to `total`. A band is two words, its upper litre and its price in
+// hundredths of a cent, and the bands are as many as their slice has whole.
+#[no_mangle]
+pub extern "C" fn locustdomino_price_water(
+    litres: &[u64],
+    bands: &[u64],
+    kept: &[usize],
+    costs: &mut [u64],
+    total: &mut u64,
+) -> u64
+    ensures { λ r. ⌜ PricesWords (now (litres .entry)) (bandsOf (now (bands .entry))) (now (kept .entry)) (now (costs .entry)) (now (total .entry))
+        (pricedAs r (now (total .exit)) (now (costs .exit))) ⌝ }
+{
+    c_water::price_water_words(litres, bands, kept, costs, total)
 }

@@ -14,6 +14,7 @@ pub mod Setting
 pub mod Session
 pub mod PoolFile
 pub mod Refusal
+pub mod Water
 pub mod Property
 pub mod Calls
 pub mod Cases

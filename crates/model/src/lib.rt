@@ -209,3 +209,16 @@ pub enum Chosen {
     Written(usize),
     Refused(u8),
 }
+
+// The limits of water priced by band (document 02, M-110): bands, a price in hundredths of a cent, a plan's litres.
+pub const MAX_BANDS: usize = 16;
+
+pub const MAX_PRICE: u64 = 1000000;
+
+pub const MAX_LITRES: u64 = 1000000000;
+
+// What pricing answers: the total in cents, or why it was turned down.
+pub enum Priced {
+    Total(u64),
+    Refused(u8),
+}

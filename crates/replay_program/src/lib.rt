@@ -9,15 +9,15 @@ ghost use Rattle.replay.specs.Post.{Ahead};
 
 // One tally a record, in the order of the stored files, and one for lines that belong to none.
 struct Tallies {
-    of: [Tally; 12],
+    of: [Tally; 13],
 }
 
-// What a program reads: the stored sample has 333,000 bytes, the long inputs 506,000.
+// What a program reads: the stored sample has 368,000 bytes, the long inputs 506,000.
 type Input = [u8; 524288];
 
 // The record of a command (oracle/README.md).
 fn record_of(command: u64) -> usize
-    ensures { λ r. ⌜ r ≤ 11 ⌝ }
+    ensures { λ r. ⌜ r ≤ 12 ⌝ }
 {
     match command {
         10..=14 => 0,
@@ -31,7 +31,8 @@ fn record_of(command: u64) -> usize
         80..=87 => 8,
         90 => 9,
         95 => 10,
-        _ => 11,
+        100 => 11,
+        _ => 12,
     }
 }
 
@@ -51,6 +52,7 @@ fn answer(record: usize, input: &Words, n: usize, out: &mut Words) -> usize {
         8 => replay_breeding::answer(input, n, out),
         9 => replay_session::answer(input, n, out),
         10 => replay_choose::answer(input, n, out),
+        11 => replay_water::answer(input, n, out),
         _ => 0,
     }
 }
@@ -65,7 +67,7 @@ struct Step {
 // The case at a position: an input line and its answer line. An input line that is no line of numbers belongs to no record.
 fn case(bytes: &[u8], at: usize) -> Step
     requires { ⌜ at ≤ length (now bytes) ⌝ }
-    ensures { λ r. ⌜ (r .record ≤ 11) × Ahead at (length (now (bytes .entry))) (r .next) ⌝ }
+    ensures { λ r. ⌜ (r .record ≤ 12) × Ahead at (length (now (bytes .entry))) (r .next) ⌝ }
 {
     let mut input = [0u64; 8192];
     let mut given = [0u64; 8192];
@@ -91,13 +93,13 @@ fn no_tallies() -> Tallies {
         differ: 0,
         passed_over: 0,
         broken: 0,
-    }; 12];
+    }; 13];
     Tallies { of }
 }
 
 // The tallies with a verdict more of record r.
 fn with_verdict(tallies: Tallies, r: usize, verdict: Verdict) -> Tallies
-    requires { ⌜ r ≤ 11 ⌝ }
+    requires { ⌜ r ≤ 12 ⌝ }
 {
     let mut of = tallies.of;
     let tally = of[r];
@@ -146,6 +148,7 @@ fn tell_of(record: usize, t: Tally) {
         8 => tell(b"breeding: ", t),
         9 => tell(b"session: ", t),
         10 => tell(b"choose: ", t),
+        11 => tell(b"water: ", t),
         _ => tell(b"no record: ", t),
     }
 }
@@ -153,7 +156,7 @@ fn tell_of(record: usize, t: Tally) {
 fn report(tallies: Tallies) {
     let of = tallies.of;
     let mut r: usize = 0;
-    while r < 12 {
+    while r < 13 {
         let t = of[r];
         tell_of(r, t);
         r += 1;

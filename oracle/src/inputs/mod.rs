@@ -8,6 +8,7 @@ mod long;
 mod numbers;
 mod rows;
 mod sessions;
+mod water;
 
 use crate::answers::{Call, SELECT, STEP};
 use crate::distribution::{Distribution, FloatDistribution, IntDistribution};
@@ -24,7 +25,7 @@ type Cases = fn() -> Vec<Line>;
 type Input = fn(&mut Mix, u64) -> Line;
 
 /// Each record: its named cases, and how an input is generated.
-const RECORDS: [(&str, Cases, Input); 10] = [
+const RECORDS: [(&str, Cases, Input); 11] = [
     ("draw", numbers::draw_cases, numbers::draw_input),
     ("numbers", numbers::number_cases, numbers::number_input),
     ("dominance", rows::dominance_cases, rows::dominance_input),
@@ -43,6 +44,7 @@ const RECORDS: [(&str, Cases, Input); 10] = [
     ),
     ("session", sessions::session_cases, sessions::session_input),
     ("choose", files::choose_cases, files::choose_input),
+    ("water", water::water_cases, water::water_input),
 ];
 
 /// The place of a record.
