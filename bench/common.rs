@@ -35,6 +35,8 @@ mod timing;
 mod trial;
 #[path = "../target/oracle/src/types.rs"]
 mod types;
+#[path = "../target/oracle/src/water.rs"]
+mod water;
 #[path = "../target/oracle/src/words.rs"]
 mod words;
 
