@@ -2,13 +2,13 @@
 use Prim.Native.Nat.{ℕ, _≤_}
 use mathlib.Core.Path.{_≡_, refl, sym, ap, _∙_}
 use mathlib.Core.List.{List, [], _∷_, _++_, map, flatten, append-assoc, append-nil}
-use mathlib.Core.Option.{Option, some}
+use mathlib.Core.Option.{some}
 use borrow.Author.Tests.{le-leb}
 use lib.ListN.{length}
-use Rattle.model.specs.PoolFile.{Parsed, Reader, pure, onward, many, number, written, writtenAll, Rows, rows, rowNumbers, File, fileBy, fileNumbers, maxFile, wholly, parseBy}
+use Rattle.model.specs.PoolFile.{Reader, pure, many, number, written, writtenAll, Rows, rows, rowNumbers, File, fileBy, fileNumbers, maxFile, parseBy}
 use Rattle.pool_laws.proofs.Shortest.{read-back}
 use Rattle.form_laws.specs.Writable.{Every, ReadBack, Word, Words, RowsOk, Writable}
-use Rattle.form_laws.proofs.Lists.{written-more, written-append, written-each, then-read, many-back, numbers-back}
+use Rattle.form_laws.proofs.Lists.{written-more, written-append, written-each, many-back, numbers-back}
 
 -- one number before others, and a list of them before others
 number-first : (n : ℕ) (ns rest : List ℕ) → Word n → number (writtenAll (n ∷ ns) ++ rest) ≡ pure n (writtenAll ns ++ rest)

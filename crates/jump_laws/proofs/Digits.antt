@@ -1,13 +1,12 @@
 -- Digit by digit of k: none passed, one more, and all 64.
 use Prim.Native.Nat.{ℕ, zero, suc, _+_, _*_, _/_, _%_, _^_, _<_}
-use mathlib.Core.Path.{_≡_, refl, sym, ap, ap₂, _∙_}
+use mathlib.Core.Path.{_≡_, refl, sym, ap, _∙_}
 use native.Mathlib.Nat.{add-comm, mod-eq-of-lt}
 use native.Mathlib.Numerals.{add-one}
 use native.Mathlib.Omega.{arith}
 use borrow.Author.Tests.{eq-eqb, ne-eqb}
 use lib.Pow.{mod-pow-add, shr-shr}
 use Rattle.model.specs.Load.{ahead}
-use Rattle.list_laws.proofs.Below.{by-lt}
 use Rattle.jump_laws.specs.Steps.{applied, mulAt, addAt, movedBy, Passed}
 use Rattle.jump_laws.proofs.Ahead.{ahead-none, ahead-sum, ahead-power}
 

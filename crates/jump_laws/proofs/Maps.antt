@@ -1,7 +1,7 @@
 -- A map s → a·s + c modulo 2^64 after itself is such a map, and the step's, doubled 64 times, is none.
-use Prim.Native.Nat.{ℕ, zero, suc, _+_, _*_, _/_, _%_, _^_, _<_}
+use Prim.Native.Nat.{ℕ, suc, _+_, _*_, _/_, _%_, _^_, _<_}
 use mathlib.Core.Path.{_≡_, refl, sym, ap, ap₂, _∙_}
-use native.Mathlib.Nat.{add-mul, mul-add, mul-assoc, mul-comm, mul-left-comm, mod-add-mod, add-mod-mod, mul-add-mod-self-right, div-add-mod', mod-eq-of-lt}
+use native.Mathlib.Nat.{add-mul, mul-assoc, mul-comm, mod-add-mod, add-mod-mod, mul-add-mod-self-right, div-add-mod'}
 use native.Mathlib.Omega.{arith}
 use Rattle.jump_laws.specs.Steps.{applied, mulAt, addAt}
 

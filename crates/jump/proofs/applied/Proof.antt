@@ -1,5 +1,5 @@
 -- The map's value is the product's and the sum's remainders.
-use mathlib.Core.Path.{_≡_, ap, _∙_}
+use mathlib.Core.Path.{_≡_}
 use Prim.Native.Nat.{ℕ, _+_, _*_, _%_, _^_}
 use native.Mathlib.Omega.{arith}
 use Rattle.jump_laws.specs.Steps.{applied}
