@@ -58,5 +58,5 @@ module _ (bytes out : List ℕ) (x : ChooseExit) (p : Loads bytes out x) (full :
       (λ e f read. absurd (Option·some-ne-none n (sym o ∙ e)))
 
 -- a refusal's text has room
-pub refusal-room : (n : ℕ) → n < 256 → length (refusedText n) ≤ maxFile
-refusal-room n h = let s = refused-short n (omega arith) in omega arith
+pub refusal-room : (n room : ℕ) → room ≡ maxFile → n < 256 → length (refusedText n) ≤ room
+refusal-room n room full h = let s = refused-short n (omega arith) in omega arith

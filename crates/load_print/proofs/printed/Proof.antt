@@ -18,8 +18,7 @@ cast-write-refused : tie.Need-cast-write-refused
 cast-write-refused c = search needs
 
 write-refused-requires : tie.Need-write-refused-requires
-write-refused-requires c κs =
-    omega (arith, c .write-refused-arg .given .0 .1, refusal-room (c .before .before .chosen2 .given .0 .0) (omega arith))
+write-refused-requires c κs = refusal-room _ _ (c .write-refused-arg .given .0 .1) (omega arith)
 
 returns : tie.Need-returns
 returns c =
