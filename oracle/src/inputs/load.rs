@@ -13,7 +13,7 @@ fn line(command: u64, room: usize, input: &[u8]) -> Line {
 
 /// The file in whole, or by its digest where it is long.
 fn lent(room: usize, input: &[u8]) -> Line {
-    let long = written(input).is_ok_and(|file| file.len() > 700);
+    let long = written(input).is_ok_and(|file| file.len() > 300);
     line(if long { LOAD_DIGEST } else { LOAD }, room, input)
 }
 
