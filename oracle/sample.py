@@ -28,7 +28,7 @@ RECORDS = {
     "session": 10,
     "choose": 24,
     "water": 60,
-    "load": 50,
+    "load": 30,
     "long": 0,
 }
 

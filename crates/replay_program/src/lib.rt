@@ -12,7 +12,7 @@ struct Tallies {
     of: [Tally; 14],
 }
 
-// What a program reads: the stored sample has 432,000 bytes, the long inputs 506,000.
+// What a program reads: the stored sample has 426,000 bytes, the long inputs 506,000.
 type Input = [u8; 524288];
 
 // The record of a command (oracle/README.md).
