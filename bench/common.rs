@@ -4,6 +4,8 @@
 mod answers;
 #[path = "../target/oracle/src/distribution.rs"]
 mod distribution;
+#[path = "../target/oracle/src/load.rs"]
+mod load;
 #[path = "../target/oracle/src/mix.rs"]
 mod mix;
 #[path = "../target/oracle/src/multi_objective.rs"]

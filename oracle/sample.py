@@ -28,6 +28,7 @@ RECORDS = {
     "session": 10,
     "choose": 24,
     "water": 60,
+    "load": 30,
     "long": 0,
 }
 

@@ -2,6 +2,7 @@
 //! the call has any, runs the Rust, and writes what it answered.
 
 use crate::distribution::Distribution;
+use crate::load;
 use crate::multi_objective::MultiObjectiveTrial;
 use crate::param::ParamValue;
 use crate::pareto;
@@ -14,7 +15,7 @@ use crate::sampler::{common, genetic, nsga3};
 use crate::session::{Opening, Operators};
 use crate::types::Direction;
 use crate::water;
-use crate::words::{Reader, bits, of_int, of_real, push_counted_reals, push_reals};
+use crate::words::{Reader, bits, digest, of_int, of_real, push_counted_reals, push_reals};
 use crate::{pool_file, session};
 
 /// The mark of a plan without a line.
@@ -123,13 +124,8 @@ pub fn answer(input: &[u64]) -> Result<Vec<u64>, String> {
         54 => {
             let (m, h) = fit_divisions(r)?;
             let points = genetic::das_dennis(m, h);
-            // Every coordinate in its place goes into one number.
-            let digest = points.iter().flatten().fold(0_u64, |digest, &x| {
-                digest
-                    .wrapping_mul(fastrand::MULTIPLIER)
-                    .wrapping_add(of_real(x))
-            });
-            a.extend([points.len() as u64, digest]);
+            let coordinates = points.iter().flatten().map(|&x| of_real(x));
+            a.extend([points.len() as u64, digest(coordinates)]);
         }
         51 => {
             let m = positive(r)?;
@@ -217,15 +213,14 @@ pub fn answer(input: &[u64]) -> Result<Vec<u64>, String> {
         90 => a = session::answer(r)?,
 
         95 => {
-            let bytes = r.counted(|r| {
-                u8::try_from(r.number()?).map_err(|_| "a byte is above 255".to_string())
-            })?;
-            let text = pool_file::choose(&bytes);
+            let text = pool_file::choose(&r.bytes()?);
             a.push(text.len() as u64);
             a.extend(text.bytes().map(u64::from));
         }
 
         water::PRICE => a = water::answer(r)?,
+
+        load::LOAD | load::LOAD_DIGEST => a = load::answer(command, r)?,
 
         _ => return Err(format!("{command} is no command")),
     }

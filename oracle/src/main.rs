@@ -17,6 +17,7 @@ mod types;
 mod answers;
 mod gap;
 mod inputs;
+mod load;
 mod mix;
 mod plans;
 mod pool_file;
@@ -40,12 +41,13 @@ fn main() {
             (Ok(seed), Ok(count)) => inputs::generated(seed, count, kind).map(print_lines),
             _ => Err("gen: SEED and N are unsigned numbers".to_string()),
         },
-        ["choose"] => choose(),
+        ["choose"] => program(|file| pool_file::choose(file).into_bytes()),
+        ["load"] => program(load::printed),
         ["gap"] => {
             gap::measure();
             Ok(())
         }
-        _ => Err("usage: oracle [pairs | cases KIND | gen SEED N KIND | choose | gap]".to_string()),
+        _ => Err("usage: oracle [pairs | cases KIND | gen SEED N KIND | choose | load | gap]".to_string()),
     };
     if let Err(message) = done {
         eprintln!("oracle: {message}");
@@ -81,12 +83,13 @@ fn print_lines(lines: impl IntoIterator<Item = Vec<u64>>) {
     }
 }
 
-/// `choose` itself: a pool file in, its text out.
-fn choose() -> Result<(), String> {
-    let mut file = Vec::new();
+/// A program that is proved, by the oracle: bytes in, bytes out.
+fn program(printed: fn(&[u8]) -> Vec<u8>) -> Result<(), String> {
+    let mut input = Vec::new();
     std::io::stdin()
-        .read_to_end(&mut file)
+        .read_to_end(&mut input)
         .map_err(|error| error.to_string())?;
-    print!("{}", pool_file::choose(&file));
-    Ok(())
+    std::io::stdout()
+        .write_all(&printed(&input))
+        .map_err(|error| error.to_string())
 }

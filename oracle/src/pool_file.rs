@@ -5,14 +5,17 @@ use crate::answers::{self, Call, NO_LINE, SELECT};
 use crate::plans::Plan;
 use crate::words::to_real;
 
+/// The most bytes of a file.
+pub const MAX_FILE: usize = 65_536;
+
 /// Takes numbers off a file: groups of seven bits, lowest first, top bit set
 /// on all but the last byte, shortest form, below 2^64. None is refusal 1.
-struct Bytes<'a> {
-    rest: &'a [u8],
+pub struct Bytes<'a> {
+    pub rest: &'a [u8],
 }
 
 impl Bytes<'_> {
-    fn number(&mut self) -> Option<u64> {
+    pub fn number(&mut self) -> Option<u64> {
         let mut value: u128 = 0;
         for place in 0.. {
             let (&byte, rest) = self.rest.split_first()?;
@@ -31,7 +34,7 @@ impl Bytes<'_> {
         u64::try_from(value).ok()
     }
 
-    fn numbers(&mut self, count: u64) -> Option<Vec<u64>> {
+    pub fn numbers(&mut self, count: u64) -> Option<Vec<u64>> {
         (0..count).map(|_| self.number()).collect()
     }
 
@@ -42,7 +45,7 @@ impl Bytes<'_> {
 
 /// The whole form first; what the numbers mean comes later.
 fn parse(file: &[u8]) -> Option<Call> {
-    if file.len() > 65_536 {
+    if file.len() > MAX_FILE {
         return None;
     }
     let mut bytes = Bytes { rest: file };
@@ -69,14 +72,23 @@ fn parse(file: &[u8]) -> Option<Call> {
     Some(Call { marks, ..call })
 }
 
+/// The pool of a file, or the refusal that `choose` answers.
+fn accepted(file: &[u8]) -> Result<Call, u64> {
+    let call = parse(file).ok_or(1_u64)?;
+    call.refused(SELECT).map_or(Ok(call), Err)
+}
+
+/// The refusal that `choose` answers.
+pub fn refused(file: &[u8]) -> Option<u64> {
+    accepted(file).err()
+}
+
 /// The text that `choose` prints for a file.
 pub fn choose(file: &[u8]) -> String {
-    let Some(call) = parse(file) else {
-        return "refused 1\n".to_string();
+    let call = match accepted(file) {
+        Ok(call) => call,
+        Err(number) => return format!("refused {number}\n"),
     };
-    if let Some(number) = call.refused(SELECT) {
-        return format!("refused {number}\n");
-    }
     let kept = answers::select(&call);
     let mut text = format!("plans {} kept {}\n", call.pool.len(), kept.list.len());
     for plan in 0..call.pool.len() {

@@ -5,7 +5,7 @@
 pub const NAN: u64 = 9221120237041090560;
 
 /// Commands by name and number; README describes each.
-pub const COMMANDS: [(&str, u64); 36] = [
+pub const COMMANDS: [(&str, u64); 38] = [
     ("words", 10),
     ("f64", 11),
     ("usize", 12),
@@ -42,6 +42,8 @@ pub const COMMANDS: [(&str, u64); 36] = [
     ("session", 90),
     ("choose", 95),
     ("price", 100),
+    ("load", 105),
+    ("load_digest", 106),
 ];
 
 /// Reads a line: numbers parted by single spaces; the first may be a
@@ -88,6 +90,16 @@ pub fn push_counted_reals(line: &mut Vec<u64>, reals: &[f64]) {
 /// A mark and a number: mark 0 for none.
 pub fn push_optional(line: &mut Vec<u64>, given: Option<u64>) {
     line.extend([given.is_some() as u64, given.unwrap_or(0)]);
+}
+
+/// Every number in its place goes into one: from 0 on, times the generator's
+/// multiplier plus the number, modulo 2^64.
+pub fn digest(numbers: impl IntoIterator<Item = u64>) -> u64 {
+    numbers.into_iter().fold(0, |digest: u64, number| {
+        digest
+            .wrapping_mul(fastrand::MULTIPLIER)
+            .wrapping_add(number)
+    })
 }
 
 /// 2^n as a double.
@@ -187,6 +199,11 @@ impl<'a> Reader<'a> {
 
     pub fn reals(&mut self, count: usize) -> Result<Vec<f64>, String> {
         self.list(count, Self::real)
+    }
+
+    /// A count and so many bytes.
+    pub fn bytes(&mut self) -> Result<Vec<u8>, String> {
+        self.counted(|r| u8::try_from(r.number()?).map_err(|_| "a byte is above 255".to_string()))
     }
 
     pub fn end(&self) -> Result<(), String> {

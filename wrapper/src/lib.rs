@@ -1,5 +1,6 @@
 //! Safe calls of Locustdomino: which plans of a pool to keep, the next plans to try, sessions that ask for settings one by one,
-//! and what the water of the plans kept costs. The calls themselves are proved; this crate keeps what they ask of a caller.
+//! what the water of the plans kept costs, and pool files of trial loads. The calls themselves are proved; this crate keeps what
+//! they ask of a caller.
 //!
 //! A session's words are private here. Only the library writes them, so that they are always such as it asks for.
 //!
@@ -30,6 +31,9 @@ pub const MAX_PRICE: u64 = 1_000_000;
 /// The most litres of a plan.
 pub const MAX_LITRES: u64 = 1_000_000_000;
 
+/// The most bytes of a pool file.
+pub const MAX_FILE: usize = 65536;
+
 const MAX_TEXT: usize = 20501;
 /// 2^53
 const BOUND: i64 = 1 << 53;
@@ -52,6 +56,7 @@ pub enum Refusal {
     Parent = 9,
     Room = 10,
     Full = 11,
+    Load = 13,
     Bands = 15,
     Litres = 16,
 }
@@ -64,7 +69,8 @@ impl Refusal {
     fn from_code(code: u64) -> Self {
         use Refusal::*;
         let all = [
-            Form, Directions, Size, Divisions, Operators, Dimension, Count, Plan, Parent, Room, Full, Bands, Litres,
+            Form, Directions, Size, Divisions, Operators, Dimension, Count, Plan, Parent, Room, Full, Load, Bands,
+            Litres,
         ];
         let found = all.into_iter().find(|&refusal| refusal as u64 == code);
         found.expect("the library answers 0 or the number of a refusal")
@@ -97,6 +103,7 @@ impl fmt::Display for Refusal {
             }
             Refusal::Room => "a lent slice is shorter than the call's full answer",
             Refusal::Full => "a new plan number comes while the generation has 2,048 plans and is not bred from",
+            Refusal::Load => "a trial load of counts that a pool may not have, or a file of it above 65,536 bytes",
             Refusal::Bands => "no bands, over 16, upper litres not strictly rising, or a price above 1,000,000",
             Refusal::Litres => {
                 "a kept list over 1,024 long, a plan in it without litres, or a plan's litres above 1,000,000,000"
@@ -477,6 +484,41 @@ pub fn choose(file: &[u8]) -> Result<Vec<u8>, Refusal> {
     Refusal::of(raw::choose(file, &mut out, &mut length))?;
     out.truncate(length);
     Ok(out)
+}
+
+/// A trial load: a pool drawn at random, so that a trial can be repeated from seven numbers.
+#[derive(Clone, Copy, Debug, PartialEq, Eq)]
+pub struct Load {
+    pub objectives: u64,
+    pub divisions: u64,
+    /// How many plans are to be kept.
+    pub size: u64,
+    pub plans: u64,
+    /// How many constraints each plan has.
+    pub constraints: u64,
+    pub seed: u64,
+    /// How many words of the generator are passed over before the first draw.
+    pub skip: u64,
+}
+
+/// The pool file of a load, which [`choose`] takes: each plan's values are draws of 0..1, to be minimised, and its constraints draws
+/// less one half. The file's own seed is the generator's state after the last draw.
+pub fn write_load(load: &Load) -> Result<Vec<u8>, Refusal> {
+    let Load { objectives, divisions, size, plans, constraints, seed, skip } = *load;
+    let input: Vec<u8> = [objectives, divisions, size, plans, constraints, seed, skip].into_iter().flat_map(number).collect();
+    let mut out = vec![0; MAX_FILE];
+    let mut length = 0;
+    Refusal::of(raw::write_load(&input, &mut out, &mut length))?;
+    out.truncate(length);
+    Ok(out)
+}
+
+/// A number as a pool file has it: groups of seven bits, lowest first, the top bit set on all but the last byte.
+fn number(n: u64) -> Vec<u8> {
+    let groups = n.checked_ilog2().map_or(1, |top| top / 7 + 1);
+    let mut bytes: Vec<u8> = (0..groups).map(|at| (n >> (7 * at)) as u8 | 128).collect();
+    bytes[groups as usize - 1] &= 127;
+    bytes
 }
 
 // ---- water

@@ -60,6 +60,7 @@ unsafe extern "C" {
     fn locustdomino_choose(file: *const u8, file_length: usize, out: *mut u8, out_length: usize, length: *mut usize) -> u64;
     fn locustdomino_price_water(litres: *const u64, litres_length: usize, bands: *const u64, band_words: usize, kept: *const usize,
         kept_length: usize, costs: *mut u64, costs_length: usize, total: *mut u64) -> u64;
+    fn locustdomino_write_load(input: *const u8, input_length: usize, out: *mut u8, out_length: usize, length: *mut usize) -> u64;
 }
 
 // A slice is handed on with its own length, and what is written overlaps nothing else. Beside that the library asks what `Session`
@@ -105,6 +106,10 @@ pub fn generate_offspring(call: Selecting, dimensions: &[u64], operators: Operat
 
 pub fn choose(file: &[u8], out: &mut [u8], length: &mut usize) -> u64 {
     unsafe { locustdomino_choose(file.as_ptr(), file.len(), out.as_mut_ptr(), out.len(), length) }
+}
+
+pub fn write_load(input: &[u8], out: &mut [u8], length: &mut usize) -> u64 {
+    unsafe { locustdomino_write_load(input.as_ptr(), input.len(), out.as_mut_ptr(), out.len(), length) }
 }
 
 /// Two words a band: its upper litre and its price.
@@ -257,5 +262,24 @@ mod tests {
         assert_eq!((costs, total), ([7, 7, 9], 14));
         assert_eq!(price_water(&[7], &[100], &[0, 0], &mut costs, &mut total), 15);
         assert_eq!((costs, total), ([7, 7, 9], 14));
+    }
+
+    #[test]
+    fn too_little_room_for_a_load() {
+        let (mut out, mut length) = ([9; 40], 9);
+        // One plan of one value: m, H, size, count, nine or ten bytes of the state, a mark, nine bytes of the value, no constraint.
+        let input = [1, 1, 1, 1, 0, 7, 0];
+        assert_eq!(write_load(&input, &mut out, &mut length), 0);
+        let written = length;
+        assert!((24..=25).contains(&written) && out[..4] == input[..4] && out[written - 1] == 0 && out[written..] == [9; 40][written..]);
+        let (mut less, mut length) = ([9; 40], 9);
+        assert_eq!(write_load(&input, &mut less[..written - 1], &mut length), 10);
+        // 1 and then 13 come before 10.
+        assert_eq!(write_load(&[1, 1, 1, 1, 17, 7, 0], &mut less[..0], &mut length), 13);
+        assert_eq!(write_load(&[1, 1, 1, 1, 17, 7], &mut less[..0], &mut length), 1);
+        assert_eq!(write_load(&[1, 1, 1, 1, 17, 7, 128, 0], &mut less[..0], &mut length), 1);
+        assert_eq!((less, length), ([9; 40], 9));
+        assert_eq!(write_load(&input, &mut less[..written], &mut length), 0);
+        assert_eq!((less, length), (out, written));
     }
 }

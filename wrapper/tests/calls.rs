@@ -1,8 +1,8 @@
 //! Each call once accepted and once refused, and what a refusal leaves.
 
 use locustdomino::{
-    Band, Bill, Dimension, Direction, Directions, Ideal, Operators, Plan, Refusal, Rng, Session, Setting, choose,
-    generate_offspring, price_water, select,
+    Band, Bill, Dimension, Direction, Directions, Ideal, Load, Operators, Plan, Refusal, Rng, Session, Setting, choose,
+    generate_offspring, price_water, select, write_load,
 };
 
 fn two() -> Directions {
@@ -135,4 +135,35 @@ fn water() {
     assert_eq!(price_water(&[1, 1_000_000_001], &bands, &[0]), Err(Refusal::Litres));
     assert_eq!(price_water(&[1], &bands, &[0; 1025]), Err(Refusal::Litres));
     assert_eq!((Refusal::Bands.number(), Refusal::Litres.number()), (15, 16));
+}
+
+/// The number at the front of bytes.
+fn seed_of(bytes: &[u8]) -> u64 {
+    let last = bytes.iter().position(|&byte| byte < 128).unwrap();
+    bytes[..=last].iter().rev().fold(0, |n, &byte| n << 7 | u64::from(byte & 127))
+}
+
+#[test]
+fn load() {
+    let trial = Load { objectives: 3, divisions: 12, size: 64, plans: 128, constraints: 2, seed: 7, skip: 1 << 63 };
+    let file = write_load(&trial).unwrap();
+    assert_eq!((file.len(), &file[..5]), (6020, &[3, 12, 64, 128, 1][..]));
+    let text = choose(&file).unwrap();
+    assert!(text.starts_with(b"plans 128 kept 64\n"));
+    // A file's seed is the state after its draws, here five for each plan: words further on, and back.
+    let begun = Load { skip: 0, ..trial };
+    let after = Load { seed: seed_of(&write_load(&begun).unwrap()[5..]), ..begun };
+    assert_eq!(write_load(&after), write_load(&Load { skip: 5 * 128, ..begun }));
+    assert_eq!(write_load(&Load { skip: (5_u64 * 128).wrapping_neg(), ..after }), write_load(&begun));
+
+    let refused = |load: Load| assert_eq!(write_load(&load), Err(Refusal::Load), "{load:?}");
+    refused(Load { objectives: 9, ..trial });
+    refused(Load { size: 0, ..trial });
+    refused(Load { divisions: 44, ..trial });
+    refused(Load { plans: 1025, ..trial });
+    refused(Load { constraints: 17, ..trial });
+    // 1,024 plans of seven values have 65,536 bytes, and the file more.
+    refused(Load { objectives: 7, divisions: 1, plans: 1024, constraints: 0, ..trial });
+    assert!(write_load(&Load { objectives: 7, divisions: 1, plans: 1023, constraints: 0, ..trial }).is_ok());
+    assert_eq!(Refusal::Load.number(), 13);
 }

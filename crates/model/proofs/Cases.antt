@@ -34,7 +34,7 @@ unfolding flatten add sub mul div lt le eq ofBits ofInt neg Deb.undominatedOfRes
     Setting.validDimension Setting.inBounds Setting.sampleInt Setting.sampleRandom Setting.insert Setting.sortByParam Setting.extractOne
     Setting.spread Setting.crossFloat Setting.crossInt Setting.crossCategorical Setting.crossover Setting.mutationShift Setting.polynomialMutation
     Setting.mutateMaybe Setting.tournament Setting.brood Setting.offspringOf Setting.rankOf Setting.generationOf Setting.generationOfOne
-    Setting.generation Setting.wordsOf PoolFile.numberFrom PoolFile.groupsOf PoolFile.many PoolFile.plan PoolFile.poolFile PoolFile.parse
+    Setting.generation Setting.wordsOf PoolFile.numberFrom PoolFile.groupsOf PoolFile.many PoolFile.plan PoolFile.rows PoolFile.fileBy PoolFile.poolFile PoolFile.parseBy PoolFile.parse
     PoolFile.ascii PoolFile.digitsOf PoolFile.lineText PoolFile.placeOf PoolFile.headerText PoolFile.planText PoolFile.listingText
     PoolFile.refusedText Refusal.firstOf Refusal.badDirections Refusal.badDivisions Refusal.badSessionDivisions Refusal.wholeEta Refusal.badOperators
     Refusal.badDimensions Refusal.measurable Refusal.goodPlan Refusal.goodIdeal Refusal.badPool Refusal.namedOnce Refusal.fitsDimension Refusal.fitsAt

@@ -17,4 +17,5 @@ pub mod Refusal
 pub mod Water
 pub mod Property
 pub mod Calls
+pub mod Load
 pub mod Cases

@@ -3,7 +3,7 @@ use Prim.Native.Nat.{ℕ, zero, suc, _+_, _*_, _/_, _%_, _^_}
 use Prim.Native.Char.{code}
 use Prim.Native.String.{String, len, charAt}
 use mathlib.Core.Bool.{cond, _&&_, _||_}
-use mathlib.Core.List.{List, [], _∷_, _++_, map}
+use mathlib.Core.List.{List, [], _∷_, _++_, map, flatten}
 use mathlib.Core.Option.{Option, none, some}
 use lib.Dec.{eqb, leb, ltb}
 use lib.ListN.{length, getD, replicate}
@@ -65,50 +65,98 @@ module _ {A : Type 0} where
     l ← many n r
     pure (a ∷ l)
 
--- "m, H, size, plan count, seed, m directions (0 minimise, 1 maximise); per plan m values, constraint count, constraints, a real as the number its 64 IEEE
--- bits form"
-pub record PoolFile : Type 0 where
+-- ---- the file, by what it is read into
+
+-- what stands in a file for a plan, as numbers: "a real as the number its 64 IEEE bits form"
+pub record Rows : Type 0 where
+  pub values : List ℕ
+  pub constraints : List ℕ
+
+-- "per plan m values, constraint count, constraints"
+unfoldable pub rows : ℕ → Reader Rows
+rows m = do
+  values ← many m number
+  c ← number
+  constraints ← many c number
+  pure (record { values = values; constraints = constraints })
+
+-- "m, H, size, plan count, seed, m directions (0 minimise, 1 maximise); per plan ..": a file whose plans are read into a P each
+pub record File (P : Type 0) : Type 0 where
   pub objectives : ℕ
   pub divisions : ℕ
   pub size : ℕ
   pub count : ℕ
   pub seed : ℕ
   pub marks : List ℕ
-  pub plans : List Plan
+  pub plans : List P
+
+module _ {P : Type 0} where
+  unfoldable pub fileBy : (ℕ → Reader P) → Reader (File P)
+  fileBy plan = do
+    m ← number
+    h ← number
+    size ← number
+    count ← number
+    seed ← number
+    marks ← many m number
+    plans ← many count (plan m)
+    pure (record { objectives = m; divisions = h; size = size; count = count; seed = seed; marks = marks; plans = plans })
+
+-- ---- the file as it is written
+
+-- numbers one after the other, each in its form
+unfoldable pub writtenAll : List ℕ → List ℕ
+writtenAll [] = []
+writtenAll (n ∷ ns) = written n ++ writtenAll ns
+
+-- the numbers of a plan, and of a file whose plans' numbers are given by `numbers`
+abbrev pub rowNumbers : Rows → List ℕ
+rowNumbers r = r .values ++ (length (r .constraints) ∷ r .constraints)
+
+module _ {P : Type 0} where
+  unfoldable pub fileNumbers : (P → List ℕ) → File P → List ℕ
+  fileNumbers numbers f = f .objectives ∷ f .divisions ∷ f .size ∷ f .count ∷ f .seed ∷ (f .marks ++ flatten (map numbers (f .plans)))
+
+unfoldable pub firstForm : File Rows → List ℕ
+firstForm f = writtenAll (fileNumbers rowNumbers f)
+
+-- ---- the pool that a file holds
+
+abbrev pub PoolFile : Type 0
+PoolFile = File Plan
+
+-- the plan of m values that stands for such numbers
+abbrev pub measured : ℕ → Rows → Plan
+measured m r = measuredPlan m (map real (r .values)) (length (r .constraints)) (map real (r .constraints))
 
 unfoldable pub plan : ℕ → Reader Plan
 plan m = do
-  values ← many m number
-  c ← number
-  constraints ← many c number
-  pure (measuredPlan m (map real values) c (map real constraints))
+  r ← rows m
+  pure (measured m r)
 
 unfoldable pub poolFile : Reader PoolFile
-poolFile = do
-  m ← number
-  h ← number
-  size ← number
-  count ← number
-  seed ← number
-  marks ← many m number
-  plans ← many count (plan m)
-  pure (record { objectives = m; divisions = h; size = size; count = count; seed = seed; marks = marks; plans = plans })
+poolFile = fileBy plan
 
 -- refusal 1: "A pool file breaks its form, ends early, runs on or is too long."
 abbrev pub maxFile : ℕ
 maxFile = 65536
 
--- a file with bytes after its last plan runs on
-abbrev pub ifNoneLeft : List ℕ → PoolFile → Option PoolFile
-ifNoneLeft [] f = some f
-ifNoneLeft (b ∷ bytes) f = none
+-- what is read where nothing is left behind it
+module _ {A : Type 0} where
+  abbrev pub ifNoneLeft : List ℕ → A → Option A
+  ifNoneLeft [] a = some a
+  ifNoneLeft (b ∷ bytes) a = none
 
-abbrev pub wholly : Option (Parsed PoolFile) → Option PoolFile
-wholly none = none
-wholly (some p) = ifNoneLeft (p .rest) (p .value)
+  abbrev pub wholly : Option (Parsed A) → Option A
+  wholly none = none
+  wholly (some p) = ifNoneLeft (p .rest) (p .value)
+
+  -- the file that so many bytes hold, where they are not too many and none is left
+  unfoldable pub parseBy : Reader A → List ℕ → Option A
+  parseBy r bytes = cond (leb (length bytes) maxFile) (wholly (r bytes)) none
 
 unfoldable pub parse : List ℕ → Option PoolFile
-parse bytes = cond (leb (length bytes) maxFile) (wholly (poolFile bytes)) none
+parse bytes = parseBy poolFile bytes
 
 -- ---- the selection that a pool file asks for
 

@@ -204,7 +204,10 @@ pub struct Sampled {
     pub session: Session,
 }
 
-// What `choose` answers: the length of the text that it wrote, or why it was turned down.
+// The longest pool file, in bytes.
+pub const MAX_FILE: usize = 65536;
+
+// What a call that writes a text or a file answers: the length of what it wrote, or why it was turned down.
 pub enum Chosen {
     Written(usize),
     Refused(u8),

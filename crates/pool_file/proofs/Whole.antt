@@ -8,7 +8,7 @@ use borrow.Author.Tests.{le-leb, lt-leb}
 use lib.ListN.{length, take, drop, length-map, drop-of-length-le}
 use lib.Seq.{sets, drop-cons, take-all}
 use Rattle.model.specs.Plan.{maxObjectives}
-use Rattle.model.specs.PoolFile.{Parsed, onward, number, many, plan, poolFile, parse, wholly, ifNoneLeft, maxFile}
+use Rattle.model.specs.PoolFile.{Parsed, onward, number, many, plan, fileBy, poolFile, parseBy, parse, wholly, ifNoneLeft, maxFile}
 use Rattle.list_laws.proofs.Bools.{by-option}
 use Rattle.list_laws.proofs.Built.{over-front, over-all, over-take}
 use Rattle.pool_plans.specs.declared.End.{End}
@@ -23,7 +23,7 @@ use Rattle.pool_plans.proofs.Storing.{as-told, reads-count, stored-plain}
 
 -- its five numbers are read as many of the same, and what follows by them
 pub header-first : (bytes : List ℕ) → poolFile bytes ≡ onward (many 5 number bytes) (λ l. afterHeader (headerOf l))
-unfolding poolFile afterHeader many
+unfolding poolFile fileBy afterHeader many
 header-first bytes = by-option (number bytes)
     (λ n. rw n)
     (λ a u. by-option (number (a .rest))
@@ -61,11 +61,11 @@ module _ (file l o : List ℕ) (r : End) (w : WordsIs (λ v. v) file 0 5 5 0 l o
 -- ---- marks, plans and end
 
 pub parse-long : (file : List ℕ) → maxFile < length file → parse file ≡ none
-unfolding parse
+unfolding parse parseBy
 parse-long file h = rw (lt-leb (length file) maxFile h)
 
 parse-short : (file : List ℕ) → length file ≤ maxFile → parse file ≡ wholly (poolFile file)
-unfolding parse
+unfolding parse parseBy
 parse-short file h = rw (le-leb (length file) maxFile h)
 
 -- the header is read, up to `at`

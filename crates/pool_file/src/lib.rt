@@ -1,4 +1,5 @@
 // The pool file (document 01, "Pool file"): its header, its direction marks and its plans.
+use model::MAX_FILE;
 use model::MAX_OBJECTIVES;
 use pool_number::Read;
 use pool_number::read_number;
@@ -33,9 +34,6 @@ pub enum Parsed {
     Good(Header),
     Broken,
 }
-
-// The longest file.
-const MAX_FILE: usize = 65536;
 
 // A mark as a byte: 0 and 1 as they are, 2 for every other.
 fn capped(v: u64) -> u8

@@ -11,7 +11,7 @@ use lib.Ieee.Bits.{ofBits-fits}
 use lib.ListN.{length, getD, length-map}
 use Rattle.model.specs.Real.{real}
 use Rattle.model.specs.Plan.{Plan}
-use Rattle.model.specs.PoolFile.{Parsed, Reader, PoolFile, pure, number, many, plan, poolFile, parse, ifNoneLeft, maxFile, noPlan}
+use Rattle.model.specs.PoolFile.{Parsed, Reader, Rows, PoolFile, pure, number, many, rows, plan, poolFile, parseBy, parse, ifNoneLeft, maxFile, noPlan}
 use Rattle.list_laws.proofs.Bools.{by-bool, by-option}
 use Rattle.list_laws.proofs.Built.{map-at}
 use Rattle.pool_file.specs.declared.Header.{Header}
@@ -44,16 +44,24 @@ reals-held : (words : List ℕ) (j : ℕ) → j < length (map real words) → T 
 reals-held words j h =
     subst (λ x. T (fits binary64 x)) (sym (map-at real words j nan 0 (omega (arith, length-map words real)))) (ofBits-fits binary64 (getD words j 0))
 
-plan-shape : (m : ℕ) (bytes : List ℕ) (p : Parsed Plan) → plan m bytes ≡ some p → Shape m (p .value)
-unfolding plan
-plan-shape m bytes p e =
+-- as many values are read as there are objectives
+row-length : (m : ℕ) (bytes : List ℕ) (p : Parsed Rows) → rows m bytes ≡ some p → length (p .value .values) ≡ m
+unfolding rows
+row-length m bytes p e =
     let v = both-read (many m number bytes) _ _ e in
     let c = both-read (number (v .0 .rest)) _ _ (v .2) in
     let k = both-read (many (c .0 .value) number (c .0 .rest)) _ _ (c .2) in
-    subst (λ (t : Parsed Plan). Shape m (t .value)) (Option·some-injective _ _ (k .2)) (record {
-      row = length-map (v .0 .value) real ∙ many-length number m bytes (v .0 .value) (v .0 .rest) (v .1);
-      values = reals-held (v .0 .value);
-      constraints = length-map (k .0 .value) real ∙ many-length number (c .0 .value) (c .0 .rest) (k .0 .value) (k .0 .rest) (k .1);
+    subst (λ (t : Parsed Rows). length (t .value .values) ≡ m) (Option·some-injective _ _ (k .2))
+    (many-length number m bytes (v .0 .value) (v .0 .rest) (v .1))
+
+plan-shape : (m : ℕ) (bytes : List ℕ) (p : Parsed Plan) → plan m bytes ≡ some p → Shape m (p .value)
+unfolding plan
+plan-shape m bytes p e =
+    let q = both-read (rows m bytes) _ _ e in
+    subst (λ (t : Parsed Plan). Shape m (t .value)) (Option·some-injective _ _ (q .2)) (record {
+      row = length-map (q .0 .value .values) real ∙ row-length m bytes (q .0) (q .1);
+      values = reals-held (q .0 .value .values);
+      constraints = length-map (q .0 .value .constraints) real;
     })
 
 -- ---- the file
@@ -84,7 +92,7 @@ none-left [] f g e = Option·some-injective _ _ e
 none-left (b ∷ l) f g e = absurd (Option·none-ne-some _ e)
 
 pub parse-whole : (bytes : List ℕ) (f : PoolFile) → parse bytes ≡ some f → Whole f
-unfolding parse
+unfolding parse parseBy
 parse-whole bytes f e = by-bool (leb (length bytes) maxFile)
     (λ v. by-option (poolFile bytes)
     (λ n. absurd (Option·none-ne-some _ (rw (v, n) at e)))

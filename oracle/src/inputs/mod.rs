@@ -4,6 +4,7 @@
 mod breeding;
 mod files;
 mod kept;
+mod load;
 mod long;
 mod numbers;
 mod rows;
@@ -25,7 +26,7 @@ type Cases = fn() -> Vec<Line>;
 type Input = fn(&mut Mix, u64) -> Line;
 
 /// Each record: its named cases, and how an input is generated.
-const RECORDS: [(&str, Cases, Input); 11] = [
+const RECORDS: [(&str, Cases, Input); 12] = [
     ("draw", numbers::draw_cases, numbers::draw_input),
     ("numbers", numbers::number_cases, numbers::number_input),
     ("dominance", rows::dominance_cases, rows::dominance_input),
@@ -45,6 +46,7 @@ const RECORDS: [(&str, Cases, Input); 11] = [
     ("session", sessions::session_cases, sessions::session_input),
     ("choose", files::choose_cases, files::choose_input),
     ("water", water::water_cases, water::water_input),
+    ("load", load::load_cases, load::load_input),
 ];
 
 /// The place of a record.

@@ -18,11 +18,11 @@ returns c = tt
 returns-2 : tie.Need-returns-2
 returns-2 c = tt
 
-slice-aggregate-fill-file : tie.Need-slice-aggregate-fill-file
-slice-aggregate-fill-file c = search needs
+slice-aggregate-read-bytes : tie.Need-slice-aggregate-read-bytes
+slice-aggregate-read-bytes c = search needs
 
-fill-file-requires : tie.Need-fill-file-requires
-fill-file-requires c κs = search needs
+read-bytes-requires : tie.Need-read-bytes-requires
+read-bytes-requires c κs = search needs
 
 array-share-prefix-file : tie.Need-array-share-prefix-file
 array-share-prefix-file c = search needs
@@ -47,8 +47,8 @@ answer-spec =
     ahead-requires
     returns
     returns-2
-    slice-aggregate-fill-file
-    fill-file-requires
+    slice-aggregate-read-bytes
+    read-bytes-requires
     array-share-prefix-file
     slice-aggregate-text-of
     text-of-requires

@@ -26,8 +26,11 @@ slice-aggregate-write-refused c = search needs
 write-refused-requires : tie.Need-write-refused-requires
 write-refused-requires c κs = omega (arith, refusal-room (c .before .before .chosen2 .given .0 .0) (omega arith))
 
-put-text-requires : tie.Need-put-text-requires
-put-text-requires c κs = tt
+slice-aggregate-put-bytes : tie.Need-slice-aggregate-put-bytes
+slice-aggregate-put-bytes c = search needs
+
+put-bytes-requires : tie.Need-put-bytes-requires
+put-bytes-requires c κs = tt
 
 returns : tie.Need-returns
 returns c = tt
@@ -43,5 +46,6 @@ text-of-spec =
     cast-write-refused
     slice-aggregate-write-refused
     write-refused-requires
-    put-text-requires
+    slice-aggregate-put-bytes
+    put-bytes-requires
     returns)

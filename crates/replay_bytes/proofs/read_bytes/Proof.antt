@@ -1,16 +1,16 @@
--- `fill_file`.
+-- `read_bytes`: a byte a turn
 use Prim.Native.Nat.{_-_, _≤_}
 use mathlib.Core.Path.{_≡_}
-use borrow.Author.Needs.{needs}
 use lib.ListN.{length}
-use Rattle.replay_choose.proofs.fill_file.Statement.{statement}
-use Rattle.replay_choose.proofs.fill_file.Tie as tie
+use borrow.Author.Needs.{needs}
+use Rattle.replay_bytes.proofs.read_bytes.Statement.{statement}
+use Rattle.replay_bytes.proofs.read_bytes.Tie as tie
 
 abbrev Inv-loop : tie.InvT-loop
-Inv-loop input count file₀ i₀ file i = (i ≤ count) × (length file ≡ length file₀)
+Inv-loop input from count bytes₀ i₀ bytes i = (i ≤ count) × (length bytes ≡ length bytes₀)
 
 abbrev μ-loop : tie.MeasureT-loop
-μ-loop input count file₀ i₀ file i = count - i
+μ-loop input from count bytes₀ i₀ bytes i = count - i
 
 loop-holds : tie.Need-loop-holds Inv-loop μ-loop
 loop-holds c = search needs
@@ -27,11 +27,11 @@ same-length c = search needs
 returns : tie.Need-returns Inv-loop μ-loop
 returns c = tt
 
-cast-file : tie.Need-cast-file Inv-loop μ-loop
-cast-file c = search needs
+cast-bytes : tie.Need-cast-bytes Inv-loop μ-loop
+cast-bytes c = search needs
 
-slice-write-file : tie.Need-slice-write-file Inv-loop μ-loop
-slice-write-file c = search needs
+slice-write-bytes : tie.Need-slice-write-bytes Inv-loop μ-loop
+slice-write-bytes c = search needs
 
 add-i : tie.Need-add-i Inv-loop μ-loop
 add-i c = search needs
@@ -48,8 +48,8 @@ same-length-2 c = search needs
 returns-2 : tie.Need-returns-2 Inv-loop μ-loop
 returns-2 c = tt
 
-pub fill-file-spec : {M : Type 1} → statement M
-fill-file-spec =
+pub read-bytes-spec : {M : Type 1} → statement M
+read-bytes-spec =
     tie.close
     (tie.spec
     Inv-loop
@@ -59,8 +59,8 @@ fill-file-spec =
     word-requires
     same-length
     returns
-    cast-file
-    slice-write-file
+    cast-bytes
+    slice-write-bytes
     add-i
     loop-less
     loop-again

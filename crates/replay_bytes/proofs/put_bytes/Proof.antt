@@ -1,14 +1,14 @@
--- `put_text`.
+-- `put_bytes`: a byte a turn
 use Prim.Native.Nat.{_-_, _≤_}
 use borrow.Author.Needs.{needs}
-use Rattle.replay_choose.proofs.put_text.Statement.{statement}
-use Rattle.replay_choose.proofs.put_text.Tie as tie
+use Rattle.replay_bytes.proofs.put_bytes.Statement.{statement}
+use Rattle.replay_bytes.proofs.put_bytes.Tie as tie
 
 abbrev Inv-loop : tie.InvT-loop
-Inv-loop text n out₀ place₀ i₀ out place i = i ≤ n
+Inv-loop out₀ at bytes n place₀ i₀ out place i = i ≤ n
 
 abbrev μ-loop : tie.MeasureT-loop
-μ-loop text n out₀ place₀ i₀ out place i = n - i
+μ-loop out₀ at bytes n place₀ i₀ out place i = n - i
 
 put-requires : tie.Need-put-requires Inv-loop μ-loop
 put-requires c κs = tt
@@ -16,8 +16,8 @@ put-requires c κs = tt
 loop-holds : tie.Need-loop-holds Inv-loop μ-loop
 loop-holds c = search needs
 
-element-copy-out-wide : tie.Need-element-copy-out-wide Inv-loop μ-loop
-element-copy-out-wide c = search needs
+shared-slice-read-wide : tie.Need-shared-slice-read-wide Inv-loop μ-loop
+shared-slice-read-wide c = search needs
 
 wide-requires : tie.Need-wide-requires Inv-loop μ-loop
 wide-requires c κs = tt
@@ -37,15 +37,15 @@ loop-again c = search needs
 returns : tie.Need-returns Inv-loop μ-loop
 returns c = tt
 
-pub put-text-spec : {M : Type 1} → statement M
-put-text-spec =
+pub put-bytes-spec : {M : Type 1} → statement M
+put-bytes-spec =
     tie.close
     (tie.spec
     Inv-loop
     μ-loop
     put-requires
     loop-holds
-    element-copy-out-wide
+    shared-slice-read-wide
     wide-requires
     put-requires-2
     add-i

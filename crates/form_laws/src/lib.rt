@@ -1,0 +1,1 @@
+// Laws of the pool file's form: what is written is read. No code.

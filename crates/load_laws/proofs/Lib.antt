@@ -1,0 +1,8 @@
+pub mod Values
+pub mod States
+pub mod Plans
+pub mod Files
+pub mod Refusals
+pub mod Holds
+pub mod Read
+pub mod Promise
