@@ -1,8 +1,8 @@
 /* Locustdomino: which plans of a pool to keep (NSGA-III), the next plans to try, sessions that ask for settings one by one, and
- * what the water of the plans kept costs.
+ * what the water of the plans kept costs, and trial loads.
  *
  * Link with the archive that `rt staticlib locustdomino` writes. Each call is proved to do what its definition says
- * (crates/model/specs/Calls.antt and Water.antt). A slice is a pointer and a number of entries. size_t must have 64 bits.
+ * (crates/model/specs/Calls.antt, Water.antt and Load.antt). A slice is a pointer and a number of entries. size_t must have 64 bits.
  *
  * What every call asks of its caller:
  *   - a pointer is aligned and points to as many entries as its length says, and is not null, also where that length is 0;
@@ -30,7 +30,7 @@ extern "C" {
 
 enum {
     LOCUSTDOMINO_ACCEPTED = 0,
-    LOCUSTDOMINO_BAD_FORM = 1,       /* a pool file's form is broken */
+    LOCUSTDOMINO_BAD_FORM = 1,       /* a pool file's form is broken, or that of a trial load's seven numbers */
     LOCUSTDOMINO_BAD_DIRECTIONS = 2, /* objectives are not 1 to 8, or a direction is neither 0 nor 1 */
     LOCUSTDOMINO_BAD_SIZE = 3,       /* a session's size is above 1,024; another's is 0 or above 1,024 */
     LOCUSTDOMINO_BAD_DIVISIONS = 4,  /* divisions are not 1 to 199, or there would be over 1,024 lines */
@@ -43,6 +43,8 @@ enum {
     LOCUSTDOMINO_BAD_PARENT = 9,     /* a plan to be bred from has settings that do not fit its dimensions */
     LOCUSTDOMINO_NO_ROOM = 10,       /* a lent slice is shorter than the call's full answer */
     LOCUSTDOMINO_FULL = 11,          /* a new plan number, and the generation has 2,048 plans */
+    LOCUSTDOMINO_BAD_LOAD = 13,      /* a trial load's counts would meet 2, 3, 4, 7 or 8 in locustdomino_choose, or its file would be
+                                        over 65,536 bytes */
     LOCUSTDOMINO_BAD_BANDS = 15,     /* no bands, over 16, upper litres not strictly rising, or a price above 1,000,000 */
     LOCUSTDOMINO_BAD_LITRES = 16     /* a kept list over 1,024 long, a plan in it without litres, or any litres above 1,000,000,000 */
 };
@@ -171,6 +173,17 @@ uint64_t locustdomino_price_water(
     const size_t *kept, size_t kept_length,
     uint64_t *costs, size_t costs_length,
     uint64_t *total);
+
+/* The pool file of a trial load, which anyone can rebuild from its seven numbers; `length` gets its length, at most
+ * LOCUSTDOMINO_MAX_FILE bytes. `input` has the numbers in the form of a pool file (seven bits a byte, lowest first, the top bit set
+ * on all but the last) and nothing else: objectives, divisions, size, plan count, constraint count, seed, and how many words behind
+ * the seed the draws begin. locustdomino_choose reads the file and turns it down with nothing. Refusals: 1, 13, 10 (`out` is shorter
+ * than the file). */
+#define LOCUSTDOMINO_MAX_FILE 65536
+uint64_t locustdomino_write_load(
+    const uint8_t *input, size_t input_length,
+    uint8_t *out, size_t out_length,
+    size_t *length);
 
 #ifdef __cplusplus
 }

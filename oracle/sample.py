@@ -11,8 +11,8 @@ OUT = os.path.join(TOP, "target", "oracle")
 ORACLE = os.path.join(OUT, "oracle")
 
 STORED = os.path.join(TOP, "oracle", "stored")
-# The programs that are `choose` on a stored file.
-CHOOSES = ["choose", "choose_longest", "choose_too_long"]
+# The programs that read a stored file and print what the oracle prints for it, by its command.
+PRINTS = {"choose": "choose", "choose_longest": "choose", "choose_too_long": "choose", "load": "load"}
 
 # Each record, and how many generated inputs it has.
 RECORDS = {

@@ -1,10 +1,9 @@
 // `nsga3_select` and `choose`, in numbers and lists alone: what their C names do.
-use model::Chosen;
 use model::Outcome;
 use model::Rng;
 ghost use mathlib.Core.Path.{_≡_};
 ghost use Rattle.model.specs.Calls.{wordRequest, lent};
-ghost use Rattle.export_laws.specs.Coded.{codeOf, SelectsWords, rngOf, chosenCode, chosenLength, ListsWords};
+ghost use Rattle.export_laws.specs.Coded.{codeOf, SelectsWords, rngOf, ListsWords};
 
 // A call answers 0, or the number of the refusal.
 pub fn code(outcome: Outcome) -> u64
@@ -49,29 +48,11 @@ pub fn select_words(
     code(outcome)
 }
 
-fn chosen_code(answer: Chosen) -> u64
-    ensures { λ r. ⌜ r ≡ chosenCode answer ⌝ }
-{
-    match answer {
-        Chosen::Written(n) => 0,
-        Chosen::Refused(n) => words::wide(n),
-    }
-}
-
-fn chosen_length(answer: Chosen, old: usize) -> usize
-    ensures { λ r. ⌜ r ≡ chosenLength answer old ⌝ }
-{
-    match answer {
-        Chosen::Written(n) => n,
-        Chosen::Refused(n) => old,
-    }
-}
-
 // `choose`: the text for a pool file, and its length.
 pub fn choose_words(file: &[u8], out: &mut [u8], length: &mut usize) -> u64
     ensures { λ r. ⌜ ListsWords (now (file .entry)) (now (out .entry)) (now (length .entry)) (record { code = r; length = now (length .exit); out = now (out .exit) }) ⌝ }
 {
     let answer = pool_choice::choose(file, out);
-    *length = chosen_length(answer, *length);
-    chosen_code(answer)
+    *length = c_answers::chosen_length(answer, *length);
+    c_answers::chosen_code(answer)
 }

@@ -18,7 +18,7 @@ use Rattle.export_laws.specs.Coded.{SelectsWords, StepsWords, ListsWords
 use Rattle.export_laws.proofs.Refusals.{select-above, step-above, choose-above, told}
 
 -- the number that is told of an answer is that of the call's refusal
-number-told : (n : ℕ) (given refusal : Option ℕ) → (refusal ≡ some 0 → ⊥) → n ≡ numberOf given → given ≡ refusal → refusalOf n ≡ refusal
+pub number-told : (n : ℕ) (given refusal : Option ℕ) → (refusal ≡ some 0 → ⊥) → n ≡ numberOf given → given ≡ refusal → refusalOf n ≡ refusal
 number-told n given refusal above h e = ap refusalOf (h ∙ ap numberOf e) ∙ told refusal above
 
 -- what an answer hands out that is no refusal is as long as the answer says
@@ -26,7 +26,7 @@ handed : (q : Request) (o : Outcome) (before : ℕ) (kept : List ℕ) → refuse
 handed q (outcome.Kept n) before kept h d = d
 handed q (outcome.Refused n) before kept h d = absurd (Option·some-ne-none n h)
 
-text-handed : (o : Chosen) (before : ℕ) (out : List ℕ) → chosenRefusedBy o ≡ none → textHandedOut o out ≡ take (chosenLength o before) out
+pub text-handed : (o : Chosen) (before : ℕ) (out : List ℕ) → chosenRefusedBy o ≡ none → textHandedOut o out ≡ take (chosenLength o before) out
 text-handed (chosen.Written n) before out h = refl
 text-handed (chosen.Refused n) before out h = absurd (Option·some-ne-none n h)
 

@@ -9,6 +9,7 @@ ghost use Rattle.model.specs.Calls.{wordRequest, lent};
 ghost use Rattle.model.specs.Water.{bandsOf};
 ghost use Rattle.export_laws.specs.Coded.{SelectsWords, StepsWords, rngOf, wordOperators, optional, OpensWords, sampledWords, SamplesWords, ListsWords};
 ghost use Rattle.c_water.specs.Coded.{pricedAs, PricesWords};
+ghost use Rattle.c_load.specs.Coded.{LoadsWords};
 
 // `nsga3_select`: the generator's state moves on in place. The kept list is as long as the size.
 #[no_mangle]
@@ -171,4 +172,12 @@ pub extern "C" fn locustdomino_price_water(
         (pricedAs r (now (total .exit)) (now (costs .exit))) ⌝ }
 {
     c_water::price_water_words(litres, bands, kept, costs, total)
+}
+
+// `write_load`: the pool file of a trial load, and its length.
+#[no_mangle]
+pub extern "C" fn locustdomino_write_load(input: &[u8], out: &mut [u8], length: &mut usize) -> u64
+    ensures { λ r. ⌜ LoadsWords (now (input .entry)) (now (out .entry)) (now (length .entry)) (record { code = r; length = now (length .exit); out = now (out .exit) }) ⌝ }
+{
+    c_load::write_load_words(input, out, length)
 }

@@ -3,6 +3,11 @@ use model::Chosen;
 use model::MAX_TEXT;
 use replay::Words;
 
+// The first n bytes of a text.
+fn put_text(text: &[u8; MAX_TEXT], n: usize, out: &mut Words) -> usize {
+    replay_bytes::put_bytes(out, 0, text, n)
+}
+
 // The text of a file.
 fn text_of(file: &[u8], out: &mut Words) -> usize {
     let mut text = [0u8; MAX_TEXT];
@@ -11,7 +16,7 @@ fn text_of(file: &[u8], out: &mut Words) -> usize {
         Chosen::Written(n) => n,
         Chosen::Refused(number) => pool_text::write_refused(number as usize, &mut text),
     };
-    replay_bytes::put_bytes(out, 0, &text, n)
+    put_text(&text, n, out)
 }
 
 // 95. The answer to an input line of n numbers; how many numbers it has, 0 for a case passed over.

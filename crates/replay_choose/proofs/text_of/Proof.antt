@@ -26,11 +26,8 @@ slice-aggregate-write-refused c = search needs
 write-refused-requires : tie.Need-write-refused-requires
 write-refused-requires c κs = omega (arith, refusal-room (c .before .before .chosen2 .given .0 .0) (omega arith))
 
-slice-aggregate-put-bytes : tie.Need-slice-aggregate-put-bytes
-slice-aggregate-put-bytes c = search needs
-
-put-bytes-requires : tie.Need-put-bytes-requires
-put-bytes-requires c κs = tt
+put-text-requires : tie.Need-put-text-requires
+put-text-requires c κs = tt
 
 returns : tie.Need-returns
 returns c = tt
@@ -46,6 +43,5 @@ text-of-spec =
     cast-write-refused
     slice-aggregate-write-refused
     write-refused-requires
-    slice-aggregate-put-bytes
-    put-bytes-requires
+    put-text-requires
     returns)

@@ -1,4 +1,4 @@
--- `answer`
+-- `answer`: the bytes lie within their array
 use mathlib.Core.Path.{sym}
 use native.Mathlib.Omega.{arith}
 use lib.Seq.{length-take-le}

@@ -1,4 +1,4 @@
--- `load`
+-- `load`: what is lent lies within its array
 use mathlib.Core.Path.{sym}
 use native.Mathlib.Omega.{arith}
 use lib.Seq.{length-take-le}

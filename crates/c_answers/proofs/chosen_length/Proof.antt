@@ -1,7 +1,7 @@
 -- By cases on the answer.
 use borrow.Author.Needs.{needs}
-use Rattle.c_select.proofs.chosen_length.Statement.{statement}
-use Rattle.c_select.proofs.chosen_length.Tie as tie
+use Rattle.c_answers.proofs.chosen_length.Statement.{statement}
+use Rattle.c_answers.proofs.chosen_length.Tie as tie
 
 enum-known-answer : tie.Need-enum-known-answer
 enum-known-answer c = search needs
