@@ -9,6 +9,8 @@ use mathlib.Core.Option.{Option, none, some}
 use lib.Ieee.{Float}
 use lib.ListN.{length, getD, take}
 use Rattle.model.specs.declared.Distribution.{Distribution}
+use Rattle.model.specs.declared.Edition.{Edition}
+use Rattle.model.specs.declared.Edition.the-variants.{First}
 use Rattle.model.specs.declared.OptionUsize.{OptionUsize}
 use Rattle.model.specs.declared.ParamValue.{ParamValue}
 use Rattle.model.specs.declared.Rng.{Rng}
@@ -23,6 +25,7 @@ use Rattle.model.specs.declared.Sampling.{Sampling}
 use Rattle.model.specs.declared.Sampling.the-variants as sampling
 use Rattle.model.specs.declared.Chosen.{Chosen}
 use Rattle.model.specs.declared.Chosen.the-variants as chosen
+use Rattle.model.specs.Edition.{mostPlans}
 use Rattle.model.specs.Lists.{over}
 use Rattle.model.specs.Plan.{planAt, planCount}
 use Rattle.model.specs.Association.{Request}
@@ -32,7 +35,7 @@ use Rattle.model.specs.Rules.{Ruled}
 use Rattle.model.specs.Setting.{Operators, Generation, generation, inBounds, wordsOf, WordsWithin}
 use Rattle.model.specs.Session.{State, Answered, given, opened, blank, accepted, state, breeds, requestOf, bredBy, sampleFromCandidate, asked}
 use Rattle.model.specs.PoolFile.{PoolFile, parse, fileRequest, listingText, fileText, refusedText}
-use Rattle.model.specs.Refusal.{Room, maxSize, maxPool, maxLines, selectRefusal, stepRefusal, openRefusal, sampleRefusal, chooseRefusal}
+use Rattle.model.specs.Refusal.{Room, maxSize, maxLines, selectRefusal, stepRefusal, openRefusal, sampleRefusal, chooseRefusal}
 use Rattle.model.specs.Property.{SessionOk}
 
 -- ---- the answers' cases: the number of a refusal, or none
@@ -66,8 +69,9 @@ textHandedOut (chosen.Refused n) out = []
 -- ---- `nsga3_select`
 
 -- what the call is given, as a request: the pool is the whole plans of a slice of words
-abbrev pub wordRequest : List ℕ → List ℕ → ℕ → ℕ → Rng → List Float → Request
-wordRequest pool directions divisions size rng ideal = record {
+abbrev pub wordRequest : Edition → List ℕ → List ℕ → ℕ → ℕ → Rng → List Float → Request
+wordRequest edition pool directions divisions size rng ideal = record {
+  edition = edition;
   marks = directions;
   divisions = divisions;
   size = size;
@@ -234,18 +238,18 @@ abbrev pub printedBy : Option ℕ → List ℕ → List ℕ
 printedBy none text = text
 printedBy (some n) text = refusedText n
 
--- no listing is longer than a header of 21 bytes and a line of 20 bytes for each plan of a pool
+-- no listing is longer than a header of 21 bytes and a line of 20 bytes for each plan of a pool of edition 1
 abbrev pub maxText : ℕ
-maxText = maxPool * 20 + 21
+maxText = mostPlans First * 20 + 21
 
 unfoldable pub printed : List ℕ → List ℕ
 printed bytes = printedBy (chooseRefusal bytes maxText) (textOf (parse bytes))
 
 -- a selection whose listing tells it: its plan count, list, fronts and lines are within document 01's limits
 pub record Listable (count : ℕ) (sel : Selected) : Type 0 where
-  pub plans : count ≤ maxPool
+  pub plans : count ≤ mostPlans First
   pub kept : length (sel .kept) ≤ maxSize
-  pub fronts : (p : ℕ) → p < count → getD (sel .fronts) p 0 ≤ maxPool
+  pub fronts : (p : ℕ) → p < count → getD (sel .fronts) p 0 ≤ mostPlans First
   pub lines : (p : ℕ) → p < count → (getD (sel .lines) p 0 ≤ maxLines) ⊎ (getD (sel .lines) p 0 ≡ noLine)
 
 -- DEMAND 3 of a text, for a file: the text is the listing of what the file selects, and every selection of which it is the listing has a kept list that meets

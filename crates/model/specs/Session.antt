@@ -15,6 +15,7 @@ use Rattle.model.specs.declared.OptionU64.the-variants as optU64
 use Rattle.model.specs.declared.OptionUsize.{OptionUsize}
 use Rattle.model.specs.declared.OptionUsize.the-variants as optUsize
 use Rattle.model.specs.declared.DimensionInfo.{DimensionInfo}
+use Rattle.model.specs.declared.Edition.the-variants.{First}
 use Rattle.model.specs.declared.Phase.{Phase}
 use Rattle.model.specs.declared.Phase.the-variants.{Discovery, Active}
 use Rattle.model.specs.declared.Config.{Config}
@@ -255,6 +256,7 @@ bredFrom st history = recordsOf history (st .plans) (st .session .config .«popu
 -- the selection that a session's breeding makes, and its operators
 abbrev pub requestOf : State → List ℕ → Request
 requestOf st history = record {
+  edition = First;
   marks = take (st .session .config .«n_obj») (st .session .config .directions);
   divisions = st .session .config .divisions;
   size = st .session .config .«population_size»;

@@ -5,8 +5,10 @@ pub const MAX_OBJECTIVES: usize = 8;
 // most plans wanted: of a size
 pub const MAX_SIZE: usize = 1024;
 
-// most plans of a pool
-pub const MAX_POOL: usize = 1024;
+// most plans of a pool: of the second edition, and of the first
+pub const MAX_POOL: usize = 2048;
+
+pub const MAX_FIRST_POOL: usize = 1024;
 
 pub const MAX_LINES: usize = 1024;
 
@@ -53,6 +55,12 @@ pub const NO_LINE: usize = 18446744073709551615;
 
 // The longest listing of `choose`, in bytes.
 pub const MAX_TEXT: usize = MAX_POOL * 20 + 21;
+
+// The two editions of selection, generation step and session (document 02, M-100): the first is document 01's.
+pub enum Edition {
+    First,
+    Second,
+}
 
 // The generator (document 01, "Draw"): one word of state, which any seed may be.
 pub struct Rng {
