@@ -2,6 +2,8 @@
 
 #[path = "../target/oracle/src/answers.rs"]
 mod answers;
+#[path = "../target/oracle/src/convert.rs"]
+mod convert;
 #[path = "../target/oracle/src/distribution.rs"]
 mod distribution;
 #[path = "../target/oracle/src/load.rs"]

@@ -1,4 +1,4 @@
-"""The form of a pool file, for scripts that write some, and document 01's pool."""
+"""The form of a pool file in its two editions, for scripts that write some, and document 01's pool."""
 
 import struct
 
@@ -22,11 +22,33 @@ def real(x):
     return number(bits(x))
 
 
+def header(divisions, size, seed, marks, plans):
+    return b"".join(map(number, [len(marks), divisions, size, len(plans), seed] + marks))
+
+
+def rows(row, constraints):
+    return b"".join(map(real, row)) + number(len(constraints)) + b"".join(map(real, constraints))
+
+
 def pool(divisions, size, seed, marks, plans):
     """A pool file; a plan is its row and its constraints."""
-    out = b"".join(map(number, [len(marks), divisions, size, len(plans), seed] + marks))
-    for row, constraints in plans:
-        out += b"".join(map(real, row)) + number(len(constraints)) + b"".join(map(real, constraints))
+    return header(divisions, size, seed, marks, plans) + b"".join(rows(*plan) for plan in plans)
+
+
+FLOAT, INT, CATEGORICAL = range(3)
+
+
+def setting(parameter, kind, value):
+    """A Float is its bits; an Int n is 2n from zero up and -2n - 1 below."""
+    word = {FLOAT: bits, INT: lambda n: 2 * n if n >= 0 else -2 * n - 1}.get(kind, int)
+    return number(parameter) + number(kind) + number(word(value))
+
+
+def second(divisions, size, seed, marks, plans):
+    """One of the second edition; a plan is its number, row, constraints and settings (parameter number, kind, value)."""
+    out = number(64) + header(divisions, size, seed, marks, plans)
+    for trial, row, constraints, settings in plans:
+        out += number(trial) + rows(row, constraints) + number(len(settings)) + b"".join(setting(*s) for s in settings)
     return out
 
 

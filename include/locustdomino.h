@@ -2,7 +2,7 @@
  * what the water of the plans kept costs, and trial loads.
  *
  * Link with the archive that `rt staticlib locustdomino` writes. Each call is proved to do what its definition says
- * (crates/model/specs/Calls.antt, Water.antt and Load.antt). A slice is a pointer and a number of entries. size_t must have 64 bits.
+ * (crates/model/specs/Calls.antt, Water.antt, Load.antt and Convert.antt). A slice is a pointer and a number of entries. size_t must have 64 bits.
  *
  * What every call asks of its caller:
  *   - a pointer is aligned and points to as many entries as its length says, and is not null, also where that length is 0;
@@ -30,7 +30,8 @@ extern "C" {
 
 enum {
     LOCUSTDOMINO_ACCEPTED = 0,
-    LOCUSTDOMINO_BAD_FORM = 1,       /* a pool file's form is broken, or that of a trial load's seven numbers */
+    LOCUSTDOMINO_BAD_FORM = 1,       /* a pool file's form is broken (one that opens with 64 meets 17 instead), or that of a trial
+                                        load's seven numbers */
     LOCUSTDOMINO_BAD_DIRECTIONS = 2, /* objectives are not 1 to 8, or a direction is neither 0 nor 1 */
     LOCUSTDOMINO_BAD_SIZE = 3,       /* a session's size is above 1,024; another's is 0 or above 1,024 */
     LOCUSTDOMINO_BAD_DIVISIONS = 4,  /* divisions are not 1 to 199, or there would be over 1,024 lines */
@@ -46,7 +47,9 @@ enum {
     LOCUSTDOMINO_BAD_LOAD = 13,      /* a trial load's counts would meet 2, 3, 4, 7 or 8 in locustdomino_choose, or its file would be
                                         over 65,536 bytes */
     LOCUSTDOMINO_BAD_BANDS = 15,     /* no bands, over 16, upper litres not strictly rising, or a price above 1,000,000 */
-    LOCUSTDOMINO_BAD_LITRES = 16     /* a kept list over 1,024 long, a plan in it without litres, or any litres above 1,000,000,000 */
+    LOCUSTDOMINO_BAD_LITRES = 16,    /* a kept list over 1,024 long, a plan in it without litres, or any litres above 1,000,000,000 */
+    LOCUSTDOMINO_BAD_SECOND_FORM = 17, /* a pool file of the second edition, which opens with 64, breaks its form */
+    LOCUSTDOMINO_NOT_HELD = 18       /* a pool file that the first edition cannot hold, or whose conversion would be over 65,536 bytes */
 };
 
 /* A plan is LOCUSTDOMINO_PLAN_WORDS words. Pools and histories are plans one after the other; words after the last whole plan
@@ -152,7 +155,8 @@ uint64_t locustdomino_sample(
     size_t *next_dims, size_t next_dims_length,
     uint64_t *kind, uint64_t *value);
 
-/* The listing for a pool file; `length` gets its length, at most 20,501 bytes. Refusals: 1, 2, 3, 4, 7, 8, 10. */
+/* The listing for a pool file of either edition; `length` gets its length, at most 20,501 bytes. Of a file of the second edition, which
+ * opens with 64, the plans' numbers and settings are passed over. Refusals: 1, 17, 2, 3, 4, 7, 8, 10. */
 uint64_t locustdomino_choose(
     const uint8_t *file, size_t file_length,
     uint8_t *out, size_t out_length,
@@ -182,6 +186,15 @@ uint64_t locustdomino_price_water(
 #define LOCUSTDOMINO_MAX_FILE 65536
 uint64_t locustdomino_write_load(
     const uint8_t *input, size_t input_length,
+    uint8_t *out, size_t out_length,
+    size_t *length);
+
+/* A pool file in the other edition: one that opens with 64 is turned back, any other forwards, its plans numbered from 0. There and
+ * back again gives the same bytes. `length` gets the converted file's length, at most LOCUSTDOMINO_MAX_FILE bytes. Backwards only
+ * plans with the numbers 0, 1, 2, .. and without settings are taken, and not 64 objectives. What the numbers of a file say is not
+ * looked at otherwise. Refusals: 1, 17, 18, 10 (`out` is shorter than the converted file). */
+uint64_t locustdomino_convert(
+    const uint8_t *file, size_t file_length,
     uint8_t *out, size_t out_length,
     size_t *length);
 

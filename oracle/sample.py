@@ -12,7 +12,7 @@ ORACLE = os.path.join(OUT, "oracle")
 
 STORED = os.path.join(TOP, "oracle", "stored")
 # The programs that read a stored file and print what the oracle prints for it, by its command.
-PRINTS = {"choose": "choose", "choose_longest": "choose", "choose_too_long": "choose", "load": "load"}
+PRINTS = {"choose": "choose", "choose_longest": "choose", "choose_too_long": "choose", "load": "load", "choose_second": "choose", "choose_second_too_long": "choose", "convert": "convert"}
 
 # Each record, and how many generated inputs it has.
 RECORDS = {
@@ -29,12 +29,16 @@ RECORDS = {
     "choose": 24,
     "water": 60,
     "load": 30,
+    "editions": 24,
+    "convert": 24,
     "long": 0,
 }
 
 # The programs that replay, and the records whose stored files each reads, joined.
+FILES = ["choose", "load", "editions", "convert"]
 REPLAYS = {
-    "replay_main": [record for record in RECORDS if record != "long"],
+    "replay_main": [record for record in RECORDS if record not in FILES + ["long"]],
+    "replay_files_main": FILES,
     "replay_long_main": ["long"],
 }
 

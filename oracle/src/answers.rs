@@ -1,6 +1,7 @@
 //! One answer for each input line: reads the input, asks the refusals where
 //! the call has any, runs the Rust, and writes what it answered.
 
+use crate::convert;
 use crate::distribution::Distribution;
 use crate::load;
 use crate::multi_objective::MultiObjectiveTrial;
@@ -15,7 +16,7 @@ use crate::sampler::{common, genetic, nsga3};
 use crate::session::{Opening, Operators};
 use crate::types::Direction;
 use crate::water;
-use crate::words::{Reader, bits, digest, of_int, of_real, push_counted_reals, push_reals};
+use crate::words::{Reader, bits, digest, of_int, of_real, push_counted_reals, push_reals, told};
 use crate::{pool_file, session};
 
 /// The mark of a plan without a line.
@@ -214,13 +215,18 @@ pub fn answer(input: &[u64]) -> Result<Vec<u64>, String> {
 
         95 => {
             let text = pool_file::choose(&r.bytes()?);
-            a.push(text.len() as u64);
-            a.extend(text.bytes().map(u64::from));
+            a = told(text.as_bytes(), true);
+        }
+        pool_file::CHOOSE_PARTS | pool_file::CHOOSE_DIGEST => {
+            let text = pool_file::choose(&r.parts()?);
+            a = told(text.as_bytes(), command == pool_file::CHOOSE_PARTS);
         }
 
         water::PRICE => a = water::answer(r)?,
 
         load::LOAD | load::LOAD_DIGEST => a = load::answer(command, r)?,
+
+        convert::CONVERT | convert::CONVERT_DIGEST => a = convert::answer(command, r)?,
 
         _ => return Err(format!("{command} is no command")),
     }

@@ -3,7 +3,7 @@
 
 use crate::pool_file::{self, Bytes, MAX_FILE};
 use crate::refusals;
-use crate::words::{Reader, digest, of_real};
+use crate::words::{Reader, of_real, told};
 
 pub const LOAD: u64 = 105;
 pub const LOAD_DIGEST: u64 = 106;
@@ -189,14 +189,7 @@ pub fn answer(command: u64, r: &mut Reader) -> Result<Vec<u64>, String> {
         Ok(file) if file.len() as u64 > room => return Ok(vec![10]),
         Ok(file) => file,
     };
-    let bytes = file.iter().map(|&byte| u64::from(byte));
-    let mut answer = vec![0, file.len() as u64];
-    if command == LOAD {
-        answer.extend(bytes);
-    } else {
-        answer.push(digest(bytes));
-    }
-    Ok(answer)
+    Ok([vec![0], told(&file, command == LOAD)].concat())
 }
 
 /// What the program prints: the file, or `refused N`.

@@ -15,6 +15,7 @@ mod types;
 
 // Stand-ins, and the driver around them.
 mod answers;
+mod convert;
 mod gap;
 mod inputs;
 mod load;
@@ -43,11 +44,15 @@ fn main() {
         },
         ["choose"] => program(|file| pool_file::choose(file).into_bytes()),
         ["load"] => program(load::printed),
+        ["convert"] => program(convert::printed),
         ["gap"] => {
             gap::measure();
             Ok(())
         }
-        _ => Err("usage: oracle [pairs | cases KIND | gen SEED N KIND | choose | load | gap]".to_string()),
+        _ => Err(
+            "usage: oracle [pairs | cases KIND | gen SEED N KIND | choose | load | convert | gap]"
+                .to_string(),
+        ),
     };
     if let Err(message) = done {
         eprintln!("oracle: {message}");

@@ -4,8 +4,11 @@
 /// The one NaN that goes out.
 pub const NAN: u64 = 9221120237041090560;
 
+/// The most bytes of a file in parts: some more than are accepted.
+pub const LONGEST: usize = 65_664;
+
 /// Commands by name and number; README describes each.
-pub const COMMANDS: [(&str, u64); 38] = [
+pub const COMMANDS: [(&str, u64); 42] = [
     ("words", 10),
     ("f64", 11),
     ("usize", 12),
@@ -41,9 +44,13 @@ pub const COMMANDS: [(&str, u64); 38] = [
     ("step", 87),
     ("session", 90),
     ("choose", 95),
+    ("choose_parts", 96),
+    ("choose_digest", 97),
     ("price", 100),
     ("load", 105),
     ("load_digest", 106),
+    ("convert", 110),
+    ("convert_digest", 111),
 ];
 
 /// Reads a line: numbers parted by single spaces; the first may be a
@@ -100,6 +107,18 @@ pub fn digest(numbers: impl IntoIterator<Item = u64>) -> u64 {
             .wrapping_mul(fastrand::MULTIPLIER)
             .wrapping_add(number)
     })
+}
+
+/// How many bytes they are, and each of them or their digest.
+pub fn told(bytes: &[u8], whole: bool) -> Vec<u64> {
+    let numbers = bytes.iter().map(|&byte| u64::from(byte));
+    let mut line = vec![bytes.len() as u64];
+    if whole {
+        line.extend(numbers);
+    } else {
+        line.push(digest(numbers));
+    }
+    line
 }
 
 /// 2^n as a double.
@@ -204,6 +223,18 @@ impl<'a> Reader<'a> {
     /// A count and so many bytes.
     pub fn bytes(&mut self) -> Result<Vec<u8>, String> {
         self.counted(|r| u8::try_from(r.number()?).map_err(|_| "a byte is above 255".to_string()))
+    }
+
+    /// A file in parts: its head, a body so many times over, and its tail.
+    pub fn parts(&mut self) -> Result<Vec<u8>, String> {
+        let head = self.bytes()?;
+        let times = self.count()?;
+        let (body, tail) = (self.bytes()?, self.bytes()?);
+        let length = times.saturating_mul(body.len());
+        if times > LONGEST || head.len() + length + tail.len() > LONGEST {
+            return Err(format!("a file of more than {LONGEST} bytes"));
+        }
+        Ok([head, body.repeat(times), tail].concat())
     }
 
     pub fn end(&self) -> Result<(), String> {

@@ -1,6 +1,6 @@
 //! Safe calls of Locustdomino: which plans of a pool to keep, the next plans to try, sessions that ask for settings one by one,
-//! what the water of the plans kept costs, and pool files of trial loads. The calls themselves are proved; this crate keeps what
-//! they ask of a caller.
+//! what the water of the plans kept costs, pool files of trial loads and of both editions. The calls themselves are proved; this
+//! crate keeps what they ask of a caller.
 //!
 //! A session's words are private here. Only the library writes them, so that they are always such as it asks for.
 //!
@@ -59,6 +59,8 @@ pub enum Refusal {
     Load = 13,
     Bands = 15,
     Litres = 16,
+    SecondForm = 17,
+    NotHeld = 18,
 }
 
 impl Refusal {
@@ -70,7 +72,7 @@ impl Refusal {
         use Refusal::*;
         let all = [
             Form, Directions, Size, Divisions, Operators, Dimension, Count, Plan, Parent, Room, Full, Load, Bands,
-            Litres,
+            Litres, SecondForm, NotHeld,
         ];
         let found = all.into_iter().find(|&refusal| refusal as u64 == code);
         found.expect("the library answers 0 or the number of a refusal")
@@ -108,6 +110,8 @@ impl fmt::Display for Refusal {
             Refusal::Litres => {
                 "a kept list over 1,024 long, a plan in it without litres, or a plan's litres above 1,000,000,000"
             }
+            Refusal::SecondForm => "the pool file opens with 64 and is not of the second edition's form",
+            Refusal::NotHeld => "the first edition cannot hold the pool file, or it would be above 65,536 bytes",
         })
     }
 }
@@ -477,7 +481,7 @@ pub fn generate_offspring(
     Ok(Offspring { selection, plans })
 }
 
-/// The listing for a pool file.
+/// The listing for a pool file of either edition; numbers and settings of the second are passed over.
 pub fn choose(file: &[u8]) -> Result<Vec<u8>, Refusal> {
     let mut out = vec![0; MAX_TEXT];
     let mut length = 0;
@@ -509,6 +513,16 @@ pub fn write_load(load: &Load) -> Result<Vec<u8>, Refusal> {
     let mut out = vec![0; MAX_FILE];
     let mut length = 0;
     Refusal::of(raw::write_load(&input, &mut out, &mut length))?;
+    out.truncate(length);
+    Ok(out)
+}
+
+/// A pool file of the first edition in the form of the second, its plans numbered from 0 and without settings; and one of the second
+/// back, where its plans have those numbers and no settings. There and back again gives the same bytes.
+pub fn convert(file: &[u8]) -> Result<Vec<u8>, Refusal> {
+    let mut out = vec![0; MAX_FILE];
+    let mut length = 0;
+    Refusal::of(raw::convert(file, &mut out, &mut length))?;
     out.truncate(length);
     Ok(out)
 }

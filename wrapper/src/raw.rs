@@ -61,6 +61,7 @@ unsafe extern "C" {
     fn locustdomino_price_water(litres: *const u64, litres_length: usize, bands: *const u64, band_words: usize, kept: *const usize,
         kept_length: usize, costs: *mut u64, costs_length: usize, total: *mut u64) -> u64;
     fn locustdomino_write_load(input: *const u8, input_length: usize, out: *mut u8, out_length: usize, length: *mut usize) -> u64;
+    fn locustdomino_convert(file: *const u8, file_length: usize, out: *mut u8, out_length: usize, length: *mut usize) -> u64;
 }
 
 // A slice is handed on with its own length, and what is written overlaps nothing else. Beside that the library asks what `Session`
@@ -110,6 +111,10 @@ pub fn choose(file: &[u8], out: &mut [u8], length: &mut usize) -> u64 {
 
 pub fn write_load(input: &[u8], out: &mut [u8], length: &mut usize) -> u64 {
     unsafe { locustdomino_write_load(input.as_ptr(), input.len(), out.as_mut_ptr(), out.len(), length) }
+}
+
+pub fn convert(file: &[u8], out: &mut [u8], length: &mut usize) -> u64 {
+    unsafe { locustdomino_convert(file.as_ptr(), file.len(), out.as_mut_ptr(), out.len(), length) }
 }
 
 /// Two words a band: its upper litre and its price.
@@ -262,6 +267,24 @@ mod tests {
         assert_eq!((costs, total), ([7, 7, 9], 14));
         assert_eq!(price_water(&[7], &[100], &[0, 0], &mut costs, &mut total), 15);
         assert_eq!((costs, total), ([7, 7, 9], 14));
+    }
+
+    #[test]
+    fn too_little_room_for_a_converted_file() {
+        let (mut out, mut length) = ([9; 40], 9);
+        // m 0, H 1, size 1, two plans without constraints, seed 5.
+        let (first, second) = ([0, 1, 1, 2, 5, 0, 0], [64, 0, 1, 1, 2, 5, 0, 0, 0, 1, 0, 0]);
+        assert_eq!(convert(&first, &mut out[..11], &mut length), 10);
+        // 1, 17 and 18 come before 10.
+        assert_eq!(convert(&first[..6], &mut out[..0], &mut length), 1);
+        assert_eq!(convert(&second[..6], &mut out[..0], &mut length), 17);
+        assert_eq!(convert(&[64, 0, 1, 1, 1, 5, 7, 0, 0], &mut out[..0], &mut length), 18);
+        assert_eq!((out, length), ([9; 40], 9));
+        assert_eq!(convert(&first, &mut out[..12], &mut length), 0);
+        assert_eq!((&out[..12], out[12], length), (&second[..], 9, 12));
+        assert_eq!(convert(&second, &mut out[..6], &mut length), 10);
+        assert_eq!(convert(&second, &mut out[..7], &mut length), 0);
+        assert_eq!((&out[..7], out[7], length), (&first[..], second[7], 7));
     }
 
     #[test]

@@ -2,7 +2,7 @@
 
 use locustdomino::{
     Band, Bill, Dimension, Direction, Directions, Ideal, Load, Operators, Plan, Refusal, Rng, Session, Setting, choose,
-    generate_offspring, price_water, select, write_load,
+    convert, generate_offspring, price_water, select, write_load,
 };
 
 fn two() -> Directions {
@@ -135,6 +135,46 @@ fn water() {
     assert_eq!(price_water(&[1, 1_000_000_001], &bands, &[0]), Err(Refusal::Litres));
     assert_eq!(price_water(&[1], &bands, &[0; 1025]), Err(Refusal::Litres));
     assert_eq!((Refusal::Bands.number(), Refusal::Litres.number()), (15, 16));
+}
+
+#[test]
+fn editions() {
+    // Document 01's pool has three plans, the last two with values of nine bytes.
+    let real = |x: f64| write_number(x.to_bits());
+    let rows = [[0.0, 0.0], [1.0, 3.0], [4.0, 1.0]].map(|row| row.map(real).concat());
+    let header = [2, 1, 2, 3, 5, 0, 0];
+    let first = [&header[..], &rows[0], &[0], &rows[1], &[0], &rows[2], &[0]].concat();
+    let numbered = |numbers: [u8; 3], ends: [&[u8]; 3]| {
+        let plans: Vec<Vec<u8>> =
+            (0..3).map(|i| [&[numbers[i]], &rows[i][..], &[0], ends[i]].concat()).collect();
+        [&[64], &header[..], &plans.concat()].concat()
+    };
+    let plain = numbered([0, 1, 2], [&[0]; 3]);
+    assert_eq!(convert(&first), Ok(plain.clone()));
+    assert_eq!(convert(&plain), Ok(first.clone()));
+    let text = b"plans 3 kept 2\n0 0 0 1\n1 1 0 0\n2 1 1 2\n".to_vec();
+    // A Float, an Int of -3 and a Categorical; numbers in any order.
+    let full = numbered([9, 0, 9], [&[2, 1, 0, 0, 2, 1, 5], &[0], &[1, 3, 2, 7]]);
+    for file in [&first, &plain, &full] {
+        assert_eq!(choose(file), Ok(text.clone()));
+    }
+    assert_eq!(convert(&full), Err(Refusal::NotHeld));
+    assert_eq!(convert(&numbered([1, 2, 3], [&[0]; 3])), Err(Refusal::NotHeld));
+    // A kind of 3 breaks the second form.
+    let broken = numbered([0, 1, 2], [&[0], &[1, 3, 3, 7], &[0]]);
+    assert_eq!((choose(&broken), convert(&broken)), (Err(Refusal::SecondForm), Err(Refusal::SecondForm)));
+    assert_eq!((choose(&first[1..]), convert(&first[1..])), (Err(Refusal::Form), Err(Refusal::Form)));
+    assert_eq!((Refusal::SecondForm.number(), Refusal::NotHeld.number()), (17, 18));
+}
+
+fn write_number(mut n: u64) -> Vec<u8> {
+    let mut bytes = vec![];
+    while n > 127 {
+        bytes.push(n as u8 | 128);
+        n >>= 7;
+    }
+    bytes.push(n as u8);
+    bytes
 }
 
 /// The number at the front of bytes.

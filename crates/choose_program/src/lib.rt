@@ -5,7 +5,7 @@ use model::MAX_TEXT;
 use standard_input::FILE_ROOM;
 
 // Reads a pool file from standard input and prints the listing of its selection, or `refused N` (document 01, "Pool file"). A file whose reading fails ends
-// early (refusal 1).
+// early (refusal 1, or 17 where it opens as one of the second edition).
 pub fn run() {
     let mut buffer = [0u8; FILE_ROOM];
     let mut out = [0u8; MAX_TEXT];

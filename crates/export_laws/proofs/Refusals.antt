@@ -1,7 +1,7 @@
 -- No refusal has the number 0, so that the number which a call answers tells its refusal.
 use Prim.Native.Nat.{ℕ, zero, suc}
 use mathlib.Core.Path.{_≡_, refl, sym, _∙_}
-use mathlib.Core.Bool.{true}
+use mathlib.Core.Bool.{Bool, true, false, cond}
 use mathlib.Core.List.{List, [], _∷_}
 use mathlib.Core.Option.{Option, none, some, Option·none-ne-some, Option·some-injective}
 use native.Mathlib.Omega.{arith}
@@ -11,8 +11,8 @@ use lib.Ieee.{Float}
 use Rattle.model.specs.declared.Distribution.{Distribution}
 use Rattle.model.specs.Association.{Request}
 use Rattle.model.specs.Lists.{allIn}
-use Rattle.model.specs.PoolFile.{PoolFile, parse}
-use Rattle.model.specs.Refusal.{Check, Room, firstOf, selectRefusal, stepRefusal, openRefusal, sampleRefusal, fileRefusal, refusalOfParsed, chooseRefusal}
+use Rattle.model.specs.PoolFile.{PoolFile, opensSecond, parse}
+use Rattle.model.specs.Refusal.{Check, Room, firstOf, selectRefusal, stepRefusal, openRefusal, sampleRefusal, fileRefusal, formRefusal, refusalOfParsed, chooseRefusal}
 use Rattle.model.specs.Session.{State}
 use Rattle.model.specs.Setting.{Operators}
 use Rattle.list_laws.proofs.Bools.{by-bool, and-left, and-right}
@@ -47,14 +47,18 @@ pub sample-above : (st : State) (d : Distribution) (plan : ℕ) (history : List 
 unfolding sampleRefusal allIn
 sample-above st d plan history e = first-above _ refl e
 
-parsed-above : (f : Option PoolFile) (out : ℕ) → refusalOfParsed f out ≡ some 0 → ⊥
+form-above : (second : Bool) → _≡_ {A = ℕ} (cond second 17 1) 0 → ⊥
+form-above true e = omega arith
+form-above false e = omega arith
+
+parsed-above : (bytes : List ℕ) (f : Option PoolFile) (out : ℕ) → refusalOfParsed (formRefusal bytes) f out ≡ some 0 → ⊥
 unfolding fileRefusal allIn
-parsed-above none out e = let z : _≡_ {A = ℕ} 1 0 = cc in omega arith
-parsed-above (some f) out e = first-above _ refl e
+parsed-above bytes none out e = form-above (opensSecond bytes) (Option·some-injective _ _ e)
+parsed-above bytes (some f) out e = first-above _ refl e
 
 pub choose-above : (bytes : List ℕ) (out : ℕ) → chooseRefusal bytes out ≡ some 0 → ⊥
 unfolding chooseRefusal
-choose-above bytes out e = parsed-above (parse bytes) out e
+choose-above bytes out e = parsed-above bytes (parse bytes) out e
 
 -- and with what is looked at before a session call
 pub word-above : (ws ds : List ℕ) (plan : ℕ) (history : List ℕ) → wordRefusal ws ds plan history ≡ some 0 → ⊥

@@ -1,7 +1,7 @@
 -- THE FILE HOLDS THE LOAD: it fits, reads back as exactly the plans drawn, and `choose` turns it down with nothing.
 use mathlib.Core.Path.{_≡_, ap, _∙_}
 use mathlib.Core.Bool.{false}
-use Rattle.model.specs.Refusal.{refusalOfParsed, chooseRefusal}
+use Rattle.model.specs.Refusal.{formRefusal, refusalOfParsed, chooseRefusal}
 use Rattle.model.specs.Calls.{maxText}
 use Rattle.model.specs.Load.{Load, loadText, badLoad, Holds}
 use Rattle.load_laws.specs.Words.{LoadWords}
@@ -12,5 +12,6 @@ pub holds : (l : Load) → badLoad l ≡ false → LoadWords l → Holds l (load
 unfolding chooseRefusal
 holds l good words =
     let fits = file-fits l good in
-    let reads = load-reads l words fits in
-    record { fits = fits; reads = reads; chosen = ap (λ o. refusalOfParsed o maxText) reads ∙ none-refuses l (good-counts l good) }
+    let counted = good-counts l good in
+    let reads = load-reads l words (counted .narrow) fits in
+    record { fits = fits; reads = reads; chosen = ap (λ o. refusalOfParsed (formRefusal (loadText l)) o maxText) reads ∙ none-refuses l counted }

@@ -10,6 +10,7 @@ ghost use Rattle.model.specs.Water.{bandsOf};
 ghost use Rattle.export_laws.specs.Coded.{SelectsWords, StepsWords, rngOf, wordOperators, optional, OpensWords, sampledWords, SamplesWords, ListsWords};
 ghost use Rattle.c_water.specs.Coded.{pricedAs, PricesWords};
 ghost use Rattle.c_load.specs.Coded.{LoadsWords};
+ghost use Rattle.c_convert.specs.Coded.{ConvertsWords};
 
 // `nsga3_select`: the generator's state moves on in place. The kept list is as long as the size.
 #[no_mangle]
@@ -180,4 +181,12 @@ pub extern "C" fn locustdomino_write_load(input: &[u8], out: &mut [u8], length: 
     ensures { λ r. ⌜ LoadsWords (now (input .entry)) (now (out .entry)) (now (length .entry)) (record { code = r; length = now (length .exit); out = now (out .exit) }) ⌝ }
 {
     c_load::write_load_words(input, out, length)
+}
+
+// `convert`: a pool file in the other edition, and its length. A slice that is too short for it meets 10, where no other number applies.
+#[no_mangle]
+pub extern "C" fn locustdomino_convert(file: &[u8], out: &mut [u8], length: &mut usize) -> u64
+    ensures { λ r. ⌜ ConvertsWords (now (file .entry)) (now (out .entry)) (now (length .entry)) (record { code = r; length = now (length .exit); out = now (out .exit) }) ⌝ }
+{
+    c_convert::convert_words(file, out, length)
 }

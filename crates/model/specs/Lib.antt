@@ -18,4 +18,5 @@ pub mod Water
 pub mod Property
 pub mod Calls
 pub mod Load
+pub mod Convert
 pub mod Cases

@@ -1,17 +1,19 @@
--- Document 01, "Pool file": the form of the file that `choose` reads, and the text that it prints.
+-- Document 01, "Pool file", and document 02, M-111: the form of the file that `choose` reads, in its two editions, and the text that it prints.
 use Prim.Native.Nat.{ℕ, zero, suc, _+_, _*_, _/_, _%_, _^_}
 use Prim.Native.Char.{code}
 use Prim.Native.String.{String, len, charAt}
-use mathlib.Core.Bool.{cond, _&&_, _||_}
+use mathlib.Core.Bool.{Bool, false, cond, not, _&&_, _||_}
 use mathlib.Core.List.{List, [], _∷_, _++_, map, flatten}
 use mathlib.Core.Option.{Option, none, some}
 use lib.Dec.{eqb, leb, ltb}
-use lib.ListN.{length, getD, replicate}
+use lib.Signed.{leZ}
+use lib.ListN.{length, getD, drop, replicate}
 use Rattle.model.specs.Lists.{placeIn, listBelow, joinBelow}
 use Rattle.model.specs.Real.{real, infinity}
-use Rattle.model.specs.Plan.{Plan, measuredPlan}
+use Rattle.model.specs.Plan.{Plan, Setting, measuredPlan}
 use Rattle.model.specs.Association.{Request}
 use Rattle.model.specs.Kept.{Selected, selected, noLine}
+use Rattle.model.specs.Setting.{intOfWord, minWhole, maxWhole}
 
 -- ---- reading
 
@@ -109,7 +111,7 @@ unfoldable pub writtenAll : List ℕ → List ℕ
 writtenAll [] = []
 writtenAll (n ∷ ns) = written n ++ writtenAll ns
 
--- the numbers of a plan, and of a file whose plans' numbers are given by `numbers`
+-- the numbers of a plan's rows, and of a file whose plans' numbers are given by `numbers`
 abbrev pub rowNumbers : Rows → List ℕ
 rowNumbers r = r .values ++ (length (r .constraints) ∷ r .constraints)
 
@@ -155,8 +157,64 @@ module _ {A : Type 0} where
   unfoldable pub parseBy : Reader A → List ℕ → Option A
   parseBy r bytes = cond (leb (length bytes) maxFile) (wholly (r bytes)) none
 
+-- ---- the second edition (document 02, M-111)
+
+-- "the settings: parameter number, kind (0 Float, 1 Int, 2 Categorical), value. A Float is its bits; an Int n is 2n from zero up and -2n - 1 below. Ints lie
+-- within 2^53 in magnitude."
+unfoldable pub goodSetting : Setting → Bool
+goodSetting x = leb (x .kind) 2 && (not (eqb (x .kind) 1) || (leZ minWhole (intOfWord (x .value)) && leZ (intOfWord (x .value)) maxWhole))
+
+abbrev pub ifGood : Setting → Reader Setting
+ifGood x bytes = cond (goodSetting x) (pure x bytes) none
+
+unfoldable pub setting : Reader Setting
+setting = do
+  param ← number
+  kind ← number
+  value ← number
+  ifGood (record { param = param; kind = kind; value = value })
+
+-- "each plan begins with its number and ends with a setting count and the settings"; between them it has the first edition's rows
+pub record Numbered : Type 0 where
+  pub number : ℕ
+  pub rows : Rows
+  pub settings : List Setting
+
+unfoldable pub numbered : ℕ → Reader Numbered
+numbered m = do
+  n ← number
+  r ← rows m
+  c ← number
+  settings ← many c setting
+  pure (record { number = n; rows = r; settings = settings })
+
+-- "The second edition opens with 64, a number of objectives that the first always turned down, then has the first's fields"; the form of 64 is that one byte
+abbrev pub opensSecond : List ℕ → Bool
+opensSecond [] = false
+opensSecond (b ∷ bytes) = eqb b 64
+
+unfoldable pub secondFile : Reader (File Numbered)
+secondFile bytes = fileBy numbered (drop 1 bytes)
+
+-- "`choose` reads both editions and passes over numbers and settings": the pool of a file of the second
+abbrev pub passedOver : File Numbered → PoolFile
+passedOver f = record {
+  objectives = f .objectives;
+  divisions = f .divisions;
+  size = f .size;
+  count = f .count;
+  seed = f .seed;
+  marks = f .marks;
+  plans = map (λ p. measured (f .objectives) (p .rows)) (f .plans);
+}
+
+abbrev pub poolOf : Option (File Numbered) → Option PoolFile
+poolOf none = none
+poolOf (some f) = some (passedOver f)
+
+-- the pool of a file of either edition
 unfoldable pub parse : List ℕ → Option PoolFile
-parse bytes = parseBy poolFile bytes
+parse bytes = cond (opensSecond bytes) (poolOf (parseBy secondFile bytes)) (parseBy poolFile bytes)
 
 -- ---- the selection that a pool file asks for
 

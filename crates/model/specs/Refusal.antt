@@ -15,7 +15,7 @@ use Rattle.model.specs.Reference.{pointCount, maxDivisions, divisionsOf}
 use Rattle.model.specs.Association.{Request, objectives}
 use Rattle.model.specs.Setting.{kindOfDimension, ofWord, maxDims, validDimension, inBounds, sortByParam, noSetting, Operators}
 use Rattle.model.specs.Session.{State, discovers, breeds, longEnough, isNew, maxCome, requestOf, operatorsOf}
-use Rattle.model.specs.PoolFile.{PoolFile, parse, fileRequest, fileText}
+use Rattle.model.specs.PoolFile.{PoolFile, opensSecond, parse, fileRequest, fileText}
 
 -- ---- the first that applies
 
@@ -248,13 +248,18 @@ sampleRefusal st d plan history =
     ∷ check 11 (leb maxCome (st .session .progress .«n_plans») && (isNew st plan && not bred))
     ∷ [])
 
--- `choose`: the whole form is read first, so 1 comes before what any number in the file says
+-- `choose`: the whole form is read first, so 1 and 17 come before what any number in the file says
 unfoldable pub fileRefusal : PoolFile → ℕ → Option ℕ
 fileRefusal f out = firstOf (selectChecks (fileRequest f) (ltb out (length (fileText f))))
 
-abbrev pub refusalOfParsed : Option PoolFile → ℕ → Option ℕ
-refusalOfParsed none out = some 1
-refusalOfParsed (some f) out = fileRefusal f out
+-- 1. "A pool file breaks its form, ends early, runs on or is too long." 17, document 02: "a file opening with 64 that breaks the second form, ends early, runs on
+-- or is too long, right after 1, which no longer covers it"
+abbrev pub formRefusal : List ℕ → ℕ
+formRefusal bytes = cond (opensSecond bytes) 17 1
+
+abbrev pub refusalOfParsed : ℕ → Option PoolFile → ℕ → Option ℕ
+refusalOfParsed n none out = some n
+refusalOfParsed n (some f) out = fileRefusal f out
 
 unfoldable pub chooseRefusal : List ℕ → ℕ → Option ℕ
-chooseRefusal bytes out = refusalOfParsed (parse bytes) out
+chooseRefusal bytes out = refusalOfParsed (formRefusal bytes) (parse bytes) out

@@ -1,4 +1,4 @@
-// `choose` (document 01, "Pool file"): from the bytes of a pool file to the text of its selection.
+// `choose` (document 01, "Pool file"): from the bytes of a pool file, of either edition, to the text of its selection.
 ghost use mathlib.Core.Path.{_≡_};
 ghost use Prim.Native.Nat.{_≤_, _<_};
 ghost use lib.ListN.{length, replicate};
@@ -75,6 +75,9 @@ pub fn choose(file: &[u8], out: &mut [u8]) -> Chosen
     let mut pool: [u64; POOL_WORDS] = [0; POOL_WORDS];
     let parsed = pool_file::parse_pool(file, &mut directions, &mut pool);
     let Parsed::Good(header) = parsed else {
+        if pool_file::opens_second(file) {
+            return Chosen::Refused(17);
+        }
         return Chosen::Refused(1);
     };
     if (MAX_OBJECTIVES as u64) < header.m {

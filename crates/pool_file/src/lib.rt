@@ -1,10 +1,10 @@
-// The pool file (document 01, "Pool file"): its header, its direction marks and its plans.
+// The pool file (document 01, "Pool file"), in either edition (document 02, M-111): its header, its direction marks and its plans.
 use model::MAX_FILE;
 use model::MAX_OBJECTIVES;
+use pool_editions::read_plans;
 use pool_number::Read;
 use pool_number::read_number;
 use pool_plans::End;
-use pool_plans::read_plans;
 use pool_plans::read_words;
 ghost use mathlib.Core.Path.{_≡_};
 ghost use Prim.Native.Nat.{_*_, _≤_};
@@ -12,9 +12,13 @@ ghost use lib.ListN.{length};
 ghost use Rattle.model.specs.Plan.{planWords, maxObjectives};
 ghost use Rattle.model.specs.Refusal.{maxPool};
 ghost use Rattle.pool_plans.specs.Blocks.{WordsIs};
-ghost use Rattle.pool_file.specs.Parsing.{capped, HeadingIs, PoolIs};
+ghost use Rattle.model.specs.PoolFile.{opensSecond};
+ghost use Rattle.pool_file.specs.Parsing.{capped, begins, parseIn, HeadingIs, PoolOfIs, PoolIs};
 
-// The five numbers that a pool file begins with.
+// The number that opens a file of the second edition.
+const SECOND: u8 = 64;
+
+// The five numbers of a pool file's header.
 pub struct Header {
     pub m: u64,
     pub divisions: u64,
@@ -62,12 +66,12 @@ fn read_marks(file: &[u8], at: usize, n: usize, directions: &mut [u8]) -> End
     End::At(p)
 }
 
-// The five numbers that a pool file begins with.
-fn read_header(file: &[u8]) -> Heading
-    ensures { λ r. ⌜ HeadingIs (now (file .entry)) r ⌝ }
+// The five numbers that stand from a place on.
+fn read_header(file: &[u8], at: usize) -> Heading
+    ensures { λ r. ⌜ HeadingIs (now (file .entry)) at r ⌝ }
 {
     let mut words: [u64; 5] = [0; 5];
-    let End::At(at) = read_words(file, 0, 5, 5, &mut words, 0) else {
+    let End::At(next) = read_words(file, at, 5, 5, &mut words, 0) else {
         return Heading::Broken;
     };
     let header = Header {
@@ -77,19 +81,36 @@ fn read_header(file: &[u8]) -> Heading
         count: words[3],
         seed: words[4],
     };
-    Heading::Good(header, at)
+    Heading::Good(header, next)
 }
 
-// The whole file: its header, its first 8 direction marks, and each plan of a pool that is not too large in its block.
+// A file of the second edition opens with the number 64, whose form is that one byte.
+pub fn opens_second(file: &[u8]) -> bool
+    ensures { λ r. ⌜ r ≡ opensSecond (now (file .entry)) ⌝ }
+{
+    if file.len() == 0 {
+        return false;
+    }
+    file[0] == SECOND
+}
+
+// Where the header begins.
+fn begins(second: bool) -> usize
+    ensures { λ r. ⌜ r ≡ begins second ⌝ }
+{
+    if second { 1 } else { 0 }
+}
+
+// A whole file, read as one of an edition: its header, its first 8 direction marks, and each plan of a pool that is not too large in its block.
 // What breaks the form anywhere, ends early, runs on or is too long is Broken.
-pub fn parse_pool(file: &[u8], directions: &mut [u8], pool: &mut [u64]) -> Parsed
+fn parse_in(file: &[u8], second: bool, directions: &mut [u8], pool: &mut [u64]) -> Parsed
     requires { ⌜ (maxObjectives ≤ length (now directions)) × (maxPool * planWords ≤ length (now pool)) ⌝ }
-    ensures { λ r. ⌜ PoolIs (now (file .entry)) (now (directions .exit)) (now (pool .exit)) r ⌝ }
+    ensures { λ r. ⌜ PoolOfIs (parseIn second (now (file .entry))) (now (directions .exit)) (now (pool .exit)) r ⌝ }
 {
     if MAX_FILE < file.len() {
         return Parsed::Broken;
     }
-    let Heading::Good(header, at) = read_header(file) else {
+    let Heading::Good(header, at) = read_header(file, begins(second)) else {
         return Parsed::Broken;
     };
     let m = header.m as usize;
@@ -97,11 +118,19 @@ pub fn parse_pool(file: &[u8], directions: &mut [u8], pool: &mut [u64]) -> Parse
     let End::At(next) = read_marks(file, at, m, directions) else {
         return Parsed::Broken;
     };
-    let End::At(end) = read_plans(file, next, m, count, pool) else {
+    let End::At(end) = read_plans(file, next, m, count, second, pool) else {
         return Parsed::Broken;
     };
     if end < file.len() {
         return Parsed::Broken;
     }
     Parsed::Good(header)
+}
+
+// A file of either edition.
+pub fn parse_pool(file: &[u8], directions: &mut [u8], pool: &mut [u64]) -> Parsed
+    requires { ⌜ (maxObjectives ≤ length (now directions)) × (maxPool * planWords ≤ length (now pool)) ⌝ }
+    ensures { λ r. ⌜ PoolIs (now (file .entry)) (now (directions .exit)) (now (pool .exit)) r ⌝ }
+{
+    parse_in(file, opens_second(file), directions, pool)
 }

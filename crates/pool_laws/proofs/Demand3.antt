@@ -6,7 +6,7 @@ use mathlib.Core.Option.{Option, none, some}
 use native.Mathlib.Omega.{arith}
 use Rattle.model.specs.Kept.{Selected, selected}
 use Rattle.model.specs.PoolFile.{PoolFile, parse, fileRequest, listingText, fileText}
-use Rattle.model.specs.Refusal.{selectRefusal, fileRefusal, refusalOfParsed, chooseRefusal}
+use Rattle.model.specs.Refusal.{selectRefusal, fileRefusal, formRefusal, refusalOfParsed, chooseRefusal}
 use Rattle.model.specs.Demand3.{Demand3}
 use Rattle.model.specs.Calls.{Listable, Tells}
 use Rattle.demand3_laws.proofs.Passed.{select-passed}
@@ -32,7 +32,7 @@ file-accepted f whole e =
 -- a file in good form is refused as its bytes are
 pub file-passes : (bytes : List ℕ) (out : ℕ) → chooseRefusal bytes out ≡ none → (f : PoolFile) → parse bytes ≡ some f → fileRefusal f out ≡ none
 unfolding chooseRefusal
-file-passes bytes out e f read = subst (λ (o : Option PoolFile). refusalOfParsed o out ≡ none) read e
+file-passes bytes out e f read = subst (λ (o : Option PoolFile). refusalOfParsed (formRefusal bytes) o out ≡ none) read e
 
 pub choose-demand3 : (bytes : List ℕ) (out : ℕ) → chooseRefusal bytes out ≡ none → (f : PoolFile) → parse bytes ≡ some f → f .size ≤ f .count
     → Demand3 (fileRequest f) (selected (fileRequest f) .kept)

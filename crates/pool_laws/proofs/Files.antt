@@ -2,6 +2,7 @@
 use Rattle.pool_file.specs.declared.Parsed.{Parsed as Answer}
 use Prim.Native.Nat.{ℕ, _*_, _≤_, _<_}
 use mathlib.Core.Path.{_≡_, ap, sym, _∙_, subst, ap₂, refl}
+use mathlib.Core.Bool.{Bool, true, false, cond}
 use mathlib.Core.List.{List}
 use mathlib.Core.Option.{Option, none, some}
 use native.Mathlib.Omega.{arith}
@@ -9,8 +10,8 @@ use lib.ListN.{length}
 use Rattle.model.specs.declared.Chosen.the-variants as chosen
 use Rattle.model.specs.Plan.{planWords, maxObjectives}
 use Rattle.model.specs.Association.{Request}
-use Rattle.model.specs.PoolFile.{PoolFile, parse, fileRequest, fileText}
-use Rattle.model.specs.Refusal.{maxPool, selectRefusal, refusalOfParsed, fileRefusal, chooseRefusal}
+use Rattle.model.specs.PoolFile.{PoolFile, opensSecond, parse, fileRequest, fileText}
+use Rattle.model.specs.Refusal.{maxPool, selectRefusal, formRefusal, refusalOfParsed, fileRefusal, chooseRefusal}
 use Rattle.model.specs.Calls.{ChooseExit, chooseBy, textOf, chooseOf, Chooses, chosenRefusedBy, textHandedOut}
 use Rattle.list_laws.proofs.Built.{over-take}
 use Rattle.list_laws.proofs.Bools.{by-option}
@@ -48,16 +49,25 @@ promise file out x e = record {
 }
 
 -- what a file answers, by what it is read as
-by-parse : (file out : List ℕ) (o : Option PoolFile) → parse file ≡ o → (x : ChooseExit) → x ≡ chooseBy (refusalOfParsed o (length out)) (textOf o) out
+by-parse : (file out : List ℕ) (o : Option PoolFile) → parse file ≡ o → (x : ChooseExit) → x ≡ chooseBy (refusalOfParsed (formRefusal file) o (length out)) (textOf o) out
     → Chooses file out x
 unfolding chooseOf chooseRefusal
-by-parse file out o n x g = promise file out x (g ∙ sym (ap (λ (t : Option PoolFile). chooseBy (refusalOfParsed t (length out)) (textOf t) out) n))
+by-parse file out o n x g = promise file out x (g ∙ sym (ap (λ (t : Option PoolFile). chooseBy (refusalOfParsed (formRefusal file) t (length out)) (textOf t) out) n))
 
--- ---- a file in no form
+-- ---- a file that breaks the form of its edition
 
-pub broken : (file directions pool : List ℕ) (a : Answer) → PoolIs file directions pool a → a ≡ answer.Broken → (out : List ℕ)
-    → Chooses file out (exit (chosen.Refused 1) out)
-broken file directions pool a p e out = by-parse file out none (subst (λ (t : Answer). PoolIs file directions pool t) e p) _ refl
+module _ (file directions pool : List ℕ) (a : Answer) (p : PoolIs file directions pool a) (e : a ≡ answer.Broken) (out : List ℕ) where
+  broken : Chooses file out (exit (chosen.Refused (formRefusal file)) out)
+  broken = by-parse file out none (subst (λ (t : Answer). PoolIs file directions pool t) e p) _ refl
+
+  by-edition : (second : Bool) → opensSecond file ≡ second → Chooses file out (exit (chosen.Refused (cond second 17 1)) out)
+  by-edition second o = subst (λ (b : Bool). Chooses file out (exit (chosen.Refused (cond b 17 1)) out)) o broken
+
+  pub broken-second : opensSecond file ≡ true → Chooses file out (exit (chosen.Refused 17) out)
+  broken-second = by-edition true
+
+  pub broken-first : opensSecond file ≡ false → Chooses file out (exit (chosen.Refused 1) out)
+  broken-first = by-edition false
 
 -- ---- the words' request and the file's
 

@@ -15,3 +15,4 @@ pub mod Paper
 pub mod Texts
 pub mod Words
 pub mod Files
+pub mod Editions

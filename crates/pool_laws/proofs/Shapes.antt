@@ -1,6 +1,7 @@
 -- What holds of every file in good form: as many marks and plans as it says, and of each plan as many values and constraints, its values doubles.
 use Prim.Native.Nat.{ℕ, zero, suc, _<_}
-use mathlib.Core.Path.{_≡_, sym, _∙_, subst}
+use mathlib.Core.Path.{_≡_, sym, ap, _∙_, subst}
+use mathlib.Core.Bool.{Bool, true, false}
 use mathlib.Core.List.{List, [], _∷_, map}
 use mathlib.Core.Option.{some, Option·none-ne-some, Option·some-injective}
 use native.Mathlib.Nat.{not-suc-le-zero}
@@ -8,14 +9,16 @@ use native.Mathlib.Omega.{arith}
 use lib.Dec.{T, leb}
 use lib.Ieee.{nan, binary64, fits}
 use lib.Ieee.Bits.{ofBits-fits}
-use lib.ListN.{length, getD, length-map}
+use lib.ListN.{length, getD, drop, length-map}
 use Rattle.model.specs.Real.{real}
 use Rattle.model.specs.Plan.{Plan}
-use Rattle.model.specs.PoolFile.{Parsed, Reader, Rows, PoolFile, pure, number, many, rows, plan, poolFile, parseBy, parse, ifNoneLeft, maxFile, noPlan}
+use Rattle.model.specs.PoolFile.{Parsed, Reader, Rows, Numbered, PoolFile, pure, number, many, rows, plan, measured, setting, numbered, fileBy, parseBy, parse, ifNoneLeft, maxFile, opensSecond, noPlan}
 use Rattle.list_laws.proofs.Bools.{by-bool, by-option}
 use Rattle.list_laws.proofs.Built.{map-at}
 use Rattle.pool_file.specs.declared.Header.{Header}
-use Rattle.pool_file.specs.Parsing.{headerOf, afterHeader}
+use Rattle.pool_editions.specs.Editions.{planSecond, planIn}
+use Rattle.pool_file.specs.Parsing.{headerOf, afterHeader, begins, fileIn, parseIn}
+use Rattle.pool_file.proofs.Editions.{parse-in}
 use Rattle.pool_file.proofs.Whole.{header-first}
 use Rattle.pool_number.proofs.Options.{both-read, many-parts, many-length}
 
@@ -54,15 +57,40 @@ row-length m bytes p e =
     subst (λ (t : Parsed Rows). length (t .value .values) ≡ m) (Option·some-injective _ _ (k .2))
     (many-length number m bytes (v .0 .value) (v .0 .rest) (v .1))
 
-plan-shape : (m : ℕ) (bytes : List ℕ) (p : Parsed Plan) → plan m bytes ≡ some p → Shape m (p .value)
-unfolding plan
-plan-shape m bytes p e =
+measured-shape : (m : ℕ) (bytes : List ℕ) (p : Parsed Rows) → rows m bytes ≡ some p → Shape m (measured m (p .value))
+measured-shape m bytes p e = record {
+  row = length-map (p .value .values) real ∙ row-length m bytes p e;
+  values = reals-held (p .value .values);
+  constraints = length-map (p .value .constraints) real;
+}
+
+-- the rows of a plan of the second edition are read between its number and its settings
+record Between (m : ℕ) (r : Rows) : Type 0 where
+  pub bytes : List ℕ
+  pub parsed : Parsed Rows
+  pub reads : rows m bytes ≡ some parsed
+  pub is : parsed .value ≡ r
+
+rows-between : (m : ℕ) (bytes : List ℕ) (p : Parsed Numbered) → numbered m bytes ≡ some p → Between m (p .value .rows)
+unfolding numbered
+rows-between m bytes p e =
+    let n = both-read (number bytes) _ _ e in
+    let r = both-read (rows m (n .0 .rest)) _ _ (n .2) in
+    let c = both-read (number (r .0 .rest)) _ _ (r .2) in
+    let k = both-read (many (c .0 .value) setting (c .0 .rest)) _ _ (c .2) in
+    record { bytes = n .0 .rest; parsed = r .0; reads = r .1; is = ap (λ (t : Parsed Numbered). t .value .rows) (Option·some-injective _ _ (k .2)) }
+
+-- of either edition
+plan-shape : (second : Bool) (m : ℕ) (bytes : List ℕ) (p : Parsed Plan) → planIn second m bytes ≡ some p → Shape m (p .value)
+unfolding plan planSecond
+plan-shape false m bytes p e =
     let q = both-read (rows m bytes) _ _ e in
-    subst (λ (t : Parsed Plan). Shape m (t .value)) (Option·some-injective _ _ (q .2)) (record {
-      row = length-map (q .0 .value .values) real ∙ row-length m bytes (q .0) (q .1);
-      values = reals-held (q .0 .value .values);
-      constraints = length-map (q .0 .value .constraints) real;
-    })
+    subst (λ (t : Parsed Plan). Shape m (t .value)) (Option·some-injective _ _ (q .2)) (measured-shape m bytes (q .0) (q .1))
+plan-shape true m bytes p e =
+    let q = both-read (numbered m bytes) _ _ e in
+    let b = rows-between m bytes (q .0) (q .1) in
+    subst (λ (t : Parsed Plan). Shape m (t .value)) (Option·some-injective _ _ (q .2))
+    (subst (λ (r : Rows). Shape m (measured m r)) (b .is) (measured-shape m (b .bytes) (b .parsed) (b .reads)))
 
 -- ---- the file
 
@@ -71,30 +99,33 @@ pub record Whole (f : PoolFile) : Type 0 where
   pub count : length (f .plans) ≡ f .count
   pub plans : (p : ℕ) → p < f .count → Shape (f .objectives) (getD (f .plans) p noPlan)
 
-after-whole : (h : Header) (bytes : List ℕ) (p : Parsed PoolFile) → afterHeader h bytes ≡ some p → Whole (p .value)
+after-whole : (second : Bool) (h : Header) (bytes : List ℕ) (p : Parsed PoolFile) → afterHeader second h bytes ≡ some p → Whole (p .value)
 unfolding afterHeader
-after-whole h bytes p e =
+after-whole second h bytes p e =
     let k = both-read (many (h .m) number bytes) _ _ e in
-    let l = both-read (many (h .count) (plan (h .m)) (k .0 .rest)) _ _ (k .2) in
+    let l = both-read (many (h .count) (planIn second (h .m)) (k .0 .rest)) _ _ (k .2) in
     subst (λ (t : Parsed PoolFile). Whole (t .value)) (Option·some-injective _ _ (l .2)) (record {
       marks = many-length number (h .m) bytes (k .0 .value) (k .0 .rest) (k .1);
-      count = many-length (plan (h .m)) (h .count) (k .0 .rest) (l .0 .value) (l .0 .rest) (l .1);
-      plans = many-each (plan (h .m)) (Shape (h .m)) (plan-shape (h .m)) noPlan (h .count) (k .0 .rest) (l .0 .value) (l .0 .rest) (l .1);
+      count = many-length (planIn second (h .m)) (h .count) (k .0 .rest) (l .0 .value) (l .0 .rest) (l .1);
+      plans = many-each (planIn second (h .m)) (Shape (h .m)) (plan-shape second (h .m)) noPlan (h .count) (k .0 .rest) (l .0 .value) (l .0 .rest) (l .1);
     })
 
-file-whole : (bytes : List ℕ) (p : Parsed PoolFile) → poolFile bytes ≡ some p → Whole (p .value)
-file-whole bytes p e =
-    let l = both-read (many 5 number bytes) (λ l. afterHeader (headerOf l)) _ (sym (header-first bytes) ∙ e) in
-    after-whole (headerOf (l .0 .value)) (l .0 .rest) p (l .2)
+file-whole : (second : Bool) (bytes : List ℕ) (p : Parsed PoolFile) → fileBy (planIn second) bytes ≡ some p → Whole (p .value)
+file-whole second bytes p e =
+    let l = both-read (many 5 number bytes) (λ l. afterHeader second (headerOf l)) _ (sym (header-first second bytes) ∙ e) in
+    after-whole second (headerOf (l .0 .value)) (l .0 .rest) p (l .2)
 
 none-left : (l : List ℕ) (f g : PoolFile) → ifNoneLeft l f ≡ some g → f ≡ g
 none-left [] f g e = Option·some-injective _ _ e
 none-left (b ∷ l) f g e = absurd (Option·none-ne-some _ e)
 
-pub parse-whole : (bytes : List ℕ) (f : PoolFile) → parse bytes ≡ some f → Whole f
-unfolding parse parseBy
-parse-whole bytes f e = by-bool (leb (length bytes) maxFile)
-    (λ v. by-option (poolFile bytes)
+in-whole : (second : Bool) (bytes : List ℕ) (f : PoolFile) → parseIn second bytes ≡ some f → Whole f
+unfolding parseBy fileIn
+in-whole second bytes f e = by-bool (leb (length bytes) maxFile)
+    (λ v. by-option (fileBy (planIn second) (drop (begins second) bytes))
     (λ n. absurd (Option·none-ne-some _ (rw (v, n) at e)))
-    (λ p u. subst (λ (t : PoolFile). Whole t) (none-left (p .rest) (p .value) f (rw (v, u) at e)) (file-whole bytes p u)))
+    (λ p u. subst (λ (t : PoolFile). Whole t) (none-left (p .rest) (p .value) f (rw (v, u) at e)) (file-whole second (drop (begins second) bytes) p u)))
     (λ v. absurd (Option·none-ne-some _ (rw v at e)))
+
+pub parse-whole : (bytes : List ℕ) (f : PoolFile) → parse bytes ≡ some f → Whole f
+parse-whole bytes f e = in-whole (opensSecond bytes) bytes f (sym (parse-in bytes) ∙ e)

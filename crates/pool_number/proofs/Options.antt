@@ -1,7 +1,7 @@
 -- Laws of model's readers: what an answer is, by cases, and a reader that is run so many times.
 use Prim.Native.Nat.{ℕ, zero, suc, _+_, _-_, _<_}
 use mathlib.Core.Path.{_≡_, refl, sym, ap, ap₂, _∙_}
-use mathlib.Core.List.{List, [], _∷_, _++_}
+use mathlib.Core.List.{List, [], _∷_, _++_, map}
 use mathlib.Core.Option.{Option, none, some, Option·none-ne-some, Option·some-injective}
 use native.Mathlib.Nat.{zero-add, suc-add}
 use native.Mathlib.Omega.{arith}
@@ -74,3 +74,15 @@ module _ {A : Type 0} (r : Reader A) where
   many-stop i n bytes l rest h e f =
       let k : n ≡ i + suc (n - suc i) = omega arith in
       ap (λ (t : ℕ). many t r bytes) k ∙ many-then i (suc (n - suc i)) bytes l rest e ∙ rw f
+
+-- what each reads is turned by `g`: the whole list is
+module _ {A B : Type 0} (r : Reader A) (g : A → B) where
+  abbrev turned : Reader B
+  turned bytes = onward (r bytes) (λ a. pure (g a))
+
+  pub many-map : (n : ℕ) (bytes : List ℕ) → many n turned bytes ≡ onward (many n r bytes) (λ l. pure (map g l))
+  unfolding many
+  many-map zero bytes = refl
+  many-map (suc n) bytes = by-option (r bytes)
+      (λ z. rw z)
+      (λ a z. rw (z, many-map n (a .rest)) (by-option (many n r (a .rest)) (λ y. rw y) (λ l y. rw y)))

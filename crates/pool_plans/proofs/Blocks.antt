@@ -11,7 +11,7 @@ use lib.Seq.{sets, length-sets, getD-take, getD-set-same, getD-set-other}
 use Rattle.model.specs.Lists.{listBelow}
 use Rattle.model.specs.Real.{real}
 use Rattle.model.specs.Plan.{Plan, measuredPlan, settingIn, planOf, planFrom, planWords, maxSettings}
-use Rattle.model.specs.PoolFile.{pure, number, many, plan, rows as form}
+use Rattle.model.specs.PoolFile.{pure, number, many, measured, rows as form}
 use Rattle.list_laws.proofs.Built.{listBelow-same, listBelow-whole}
 use Rattle.pool_plans.specs.declared.End.{End}
 use Rattle.pool_plans.specs.declared.End.the-variants as end
@@ -160,27 +160,27 @@ module _ (l : List ℕ) (base m c : ℕ) (vs cs : List ℕ) (a : length vs ≡ m
 -- ---- the block, by how far its reader gets
 
 module _ (file : List ℕ) (at m base : ℕ) (l : List ℕ) where
-  pub block-none : (o : List ℕ) (r : End) → WordsIs (λ v. v) file at m 8 (base + 2) l o r → r ≡ end.Broken → plan m (drop at file) ≡ none
-  unfolding plan form
+  pub block-none : (o : List ℕ) (r : End) → WordsIs (λ v. v) file at m 8 (base + 2) l o r → r ≡ end.Broken → form m (drop at file) ≡ none
+  unfolding form
   block-none o r w e = let n : many m number (drop at file) ≡ none = as-told (many m number) _ file at e w in rw n
 
   module _ (o₁ : List ℕ) (r : End) (p : ℕ) (w : WordsIs (λ v. v) file at m 8 (base + 2) l o₁ r) (e : r ≡ end.At p) where
     first : Words (λ v. v) file at m 8 (base + 2) l o₁ p
     first = as-told (many m number) _ file at e w
 
-    pub block-no-count : number (drop p file) ≡ none → plan m (drop at file) ≡ none
-    unfolding plan form
+    pub block-no-count : number (drop p file) ≡ none → form m (drop at file) ≡ none
+    unfolding form
     block-no-count f = rw (first .reads, f)
 
     module _ (c q : ℕ) (f : number (drop p file) ≡ pure c (drop q file)) (o₂ : List ℕ) (r′ : End) where
       -- wherever the constraints were to stand
-      pub block-short : (place : ℕ) → WordsIs (λ v. v) file q c 16 place o₁ o₂ r′ → r′ ≡ end.Broken → plan m (drop at file) ≡ none
-      unfolding plan form
+      pub block-short : (place : ℕ) → WordsIs (λ v. v) file q c 16 place o₁ o₂ r′ → r′ ≡ end.Broken → form m (drop at file) ≡ none
+      unfolding form
       block-short place w′ g = let n : many c number (drop q file) ≡ none = as-told (many c number) _ file q g w′ in rw (first .reads, f, n)
 
       pub block-good : WordsIs (λ v. v) file q c 16 (base + 11) o₁ o₂ r′ → (next : ℕ) (o : List ℕ) → r′ ≡ end.At next → base + planWords ≤ length l
-          → o ≡ counted o₂ base m c → Reads (plan m) (Block base l o) file at next
-      unfolding plan form block filled rows
+          → o ≡ counted o₂ base m c → Reads (form m) (λ t. Block base l o (measured m t)) file at next
+      unfolding form block filled rows
       block-good w′ next o g room k =
           let second = as-told (many c number) (Held (λ v. v) 16 (base + 11) o₁ o₂) file q g w′ in
           let vs = first .value in
@@ -191,7 +191,7 @@ module _ (file : List ℕ) (at m base : ℕ) (l : List ℕ) where
           k ∙ ap (λ (t : List ℕ). counted t base m c) (stored-plain 16 (base + 11) o₁ o₂ cs (second .stored)
           ∙ ap (λ (t : List ℕ). sets t (base + 11) (take 16 cs)) (stored-plain 8 (base + 2) l o₁ vs (first .stored))) in
           record {
-            value = made m vs (length cs) cs;
+            value = record { values = vs; constraints = cs };
             reads = rw (first .reads, f, second .reads);
             stored = record {
               stored = ap (λ (t : List ℕ). planFrom t base) z ∙ block-plan l base m c vs cs a b room ∙ ap (λ (k : ℕ). roomed (made m vs k cs)) (sym b);

@@ -7,7 +7,7 @@ use mathlib.Core.Option.{none}
 use lib.ListN.{getD, set, take, drop}
 use lib.Seq.{sets}
 use Rattle.model.specs.Plan.{Plan, planFrom, planAt, maxObjectives, maxConstraints, planWords}
-use Rattle.model.specs.PoolFile.{Reader, pure, number, many, plan, noPlan}
+use Rattle.model.specs.PoolFile.{Reader, pure, number, many, rows, measured, noPlan}
 use Rattle.model.specs.Refusal.{maxPool}
 use Rattle.pool_plans.specs.declared.End.{End}
 use Rattle.pool_plans.specs.declared.End.the-variants as end
@@ -54,15 +54,10 @@ pub record Block (base : ℕ) (before after : List ℕ) (held : Plan) : Type 0 w
   pub stored : planFrom after base ≡ roomed held
   pub others : (i : ℕ) → (i < base) ⊎ (base + planWords ≤ i) → getD after i 0 ≡ getD before i 0
 
+-- the plan of m values whose rows are read from `at` on
 abbrev pub BlockIs : List ℕ → ℕ → ℕ → ℕ → List ℕ → List ℕ → End → Type 0
-BlockIs file at m base before after = ReadsIs (plan m) (Block base before after) file at
+BlockIs file at m base before after = ReadsIs (rows m) (λ r. Block base before after (measured m r)) file at
 
 -- if n plans are no more than a pool holds, each stands in its block
 abbrev pub Blocks : ℕ → List ℕ → List Plan → Type 0
 Blocks n after plans = n ≤ maxPool → (p : ℕ) → p < n → planAt after p ≡ roomed (getD plans p noPlan)
-
-abbrev pub PlansIs : List ℕ → ℕ → ℕ → ℕ → List ℕ → End → Type 0
-PlansIs file at m n after = ReadsIs (many n (plan m)) (Blocks n after) file at
-
-abbrev pub Plans : List ℕ → ℕ → ℕ → ℕ → List ℕ → ℕ → Type 0
-Plans file at m n after next = PlansIs file at m n after (end.At next)

@@ -1,21 +1,18 @@
-// The plans of a pool file (document 01, "Pool file"), each laid out in its block of words.
+// A plan's rows in a pool file (document 01, "Pool file"), laid out in the plan's block of words.
 use model::CONSTRAINT_COUNT;
 use model::CONSTRAINTS;
 use model::MAX_CONSTRAINTS;
 use model::MAX_OBJECTIVES;
-use model::MAX_POOL;
-use model::PLAN_WORDS;
 use model::ROW_LENGTH;
 use model::SETTING_COUNT;
 use model::VALUES;
 use pool_number::Read;
 use pool_number::read_number;
 ghost use mathlib.Core.Path.{_≡_};
-ghost use Prim.Native.Nat.{_+_, _*_, _<_, _≤_};
+ghost use Prim.Native.Nat.{_+_, _≤_};
 ghost use lib.ListN.{length};
 ghost use Rattle.model.specs.Plan.{planWords};
-ghost use Rattle.model.specs.Refusal.{maxPool};
-ghost use Rattle.pool_plans.specs.Blocks.{WordsIs, counted, BlockIs, PlansIs};
+ghost use Rattle.pool_plans.specs.Blocks.{WordsIs, counted, BlockIs};
 
 // The place after what was read, or bytes that break the form or end early.
 pub enum End {
@@ -61,8 +58,8 @@ fn put_counts(pool: &mut [u64], base: usize, m: u64, c: u64)
     pool[base + SETTING_COUNT] = 0;
 }
 
-// Reads a plan of m values into the block of words at base: its first 8 values and its first 16 constraints have room there.
-fn read_plan(file: &[u8], at: usize, m: usize, pool: &mut [u64], base: usize) -> End
+// Reads the rows of a plan of m values into the block of words at base: its first 8 values and its first 16 constraints have room there.
+pub fn read_plan(file: &[u8], at: usize, m: usize, pool: &mut [u64], base: usize) -> End
     requires { ⌜ base + planWords ≤ length (now pool) ⌝ }
     ensures { λ r. ⌜ BlockIs (now (file .entry)) at m base (now (pool .entry)) (now (pool .exit)) r ⌝ }
 {
@@ -84,29 +81,4 @@ fn read_plan(file: &[u8], at: usize, m: usize, pool: &mut [u64], base: usize) ->
     };
     put_counts(pool, base, m as u64, c);
     End::At(next)
-}
-
-// Where plan i is stored: in its block, and past a pool's last one anywhere, since such a pool is refused.
-fn block_of(i: usize) -> usize
-    ensures { λ r. ⌜ (r + planWords ≤ maxPool * planWords) × (i < maxPool → r ≡ i * planWords) ⌝ }
-{
-    if i < MAX_POOL { i * PLAN_WORDS } else { 0 }
-}
-
-// Reads n plans of m values, each into its block. A count that is larger than the bytes left ends at the first plan that is not there.
-pub fn read_plans(file: &[u8], at: usize, m: usize, n: usize, pool: &mut [u64]) -> End
-    requires { ⌜ maxPool * planWords ≤ length (now pool) ⌝ }
-    ensures { λ r. ⌜ PlansIs (now (file .entry)) at m n (now (pool .exit)) r ⌝ }
-{
-    let mut p = at;
-    let mut i: usize = 0;
-    while i < n {
-        let base = block_of(i);
-        let End::At(next) = read_plan(file, p, m, pool, base) else {
-            return End::Broken;
-        };
-        p = next;
-        i += 1;
-    }
-    End::At(p)
 }

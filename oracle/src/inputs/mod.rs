@@ -2,6 +2,7 @@
 //! seed. Both are lines of numbers that the oracle answers.
 
 mod breeding;
+mod editions;
 mod files;
 mod kept;
 mod load;
@@ -26,7 +27,7 @@ type Cases = fn() -> Vec<Line>;
 type Input = fn(&mut Mix, u64) -> Line;
 
 /// Each record: its named cases, and how an input is generated.
-const RECORDS: [(&str, Cases, Input); 12] = [
+const RECORDS: [(&str, Cases, Input); 14] = [
     ("draw", numbers::draw_cases, numbers::draw_input),
     ("numbers", numbers::number_cases, numbers::number_input),
     ("dominance", rows::dominance_cases, rows::dominance_input),
@@ -47,6 +48,16 @@ const RECORDS: [(&str, Cases, Input); 12] = [
     ("choose", files::choose_cases, files::choose_input),
     ("water", water::water_cases, water::water_input),
     ("load", load::load_cases, load::load_input),
+    (
+        "editions",
+        editions::edition_cases,
+        editions::edition_input,
+    ),
+    (
+        "convert",
+        editions::convert_cases,
+        editions::convert_input,
+    ),
 ];
 
 /// The place of a record.

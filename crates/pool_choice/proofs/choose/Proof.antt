@@ -8,7 +8,7 @@ use lib.ListN.{length, take, length-replicate}
 use lib.Seq.{length-take-le}
 use Rattle.model.specs.Plan.{planWords}
 use Rattle.model.specs.Refusal.{maxPool}
-use Rattle.pool_laws.proofs.Files.{broken, many-objectives, chosen-words}
+use Rattle.pool_laws.proofs.Files.{broken-first, broken-second, many-objectives, chosen-words}
 use borrow.Author.Needs.{needs}
 use Rattle.pool_choice.proofs.choose.Statement.{statement}
 use Rattle.pool_choice.proofs.choose.Tie as tie
@@ -46,19 +46,34 @@ enum-known-parsed c = search needs
 enum-told : tie.Need-enum-told
 enum-told c = search needs
 
+opens-second-requires : tie.Need-opens-second-requires
+opens-second-requires c κs = tt
+
 returns : tie.Need-returns
 returns c =
-    let s = c .before .before .before .before in
+    let o = c .before in
+    let e = o .before in
+    let s = e .before .before .before .before in
     let a = s .before .before .before .before .before .args in
-    broken (a .file .now) (s .parse-pool .last .1 .0) (s .parse-pool .last .1 .1 .0) (s .parse-pool .result) (s .parse-pool .ensures) (c .enum-told .given .1) (a .out .now)
+    broken-second (a .file .now) (s .parse-pool .last .1 .0) (s .parse-pool .last .1 .1 .0) (s .parse-pool .result) (s .parse-pool .ensures) (e .enum-told .given .1) (a .out .now)
+    (sym (o .opens-second .ensures) ∙ c .if1 .taken)
 
 returns-2 : tie.Need-returns-2
 returns-2 c =
+    let o = c .before in
+    let e = o .before in
+    let s = e .before .before .before .before in
+    let a = s .before .before .before .before .before .args in
+    broken-first (a .file .now) (s .parse-pool .last .1 .0) (s .parse-pool .last .1 .1 .0) (s .parse-pool .result) (s .parse-pool .ensures) (e .enum-told .given .1) (a .out .now)
+    (sym (o .opens-second .ensures) ∙ c .if1 .left)
+
+returns-3 : tie.Need-returns-3
+returns-3 c =
     let g = c .before .before .before in
     let s = g .before .before .before .before in
     let a = s .before .before .before .before .before .args in
     many-objectives (a .file .now) (s .parse-pool .last .1 .0) (s .parse-pool .last .1 .1 .0) (s .parse-pool .result) (s .parse-pool .ensures) (g .parsed .given .0 .0)
-    (g .parsed .given .1) (a .out .now) (c .if1 .taken)
+    (g .parsed .given .1) (a .out .now) (c .if2 .taken)
 
 plans-stored-requires : tie.Need-plans-stored-requires
 plans-stored-requires c κs = tt
@@ -80,27 +95,27 @@ array-share-prefix-directions : tie.Need-array-share-prefix-directions
 array-share-prefix-directions c =
     let i = c .before .before in
     let g = i .before .before .before in
-    few-marks (g .parsed .given .0 .0 .m) _ (i .if1 .left) (marks-length (g .before .before .before .before))
+    few-marks (g .parsed .given .0 .0 .m) _ (i .if2 .left) (marks-length (g .before .before .before .before))
 
 slice-aggregate-choose-words-2 : tie.Need-slice-aggregate-choose-words-2
 slice-aggregate-choose-words-2 c =
     let i = c .before .before .before in
     let g = i .before .before .before in
     let s = g .before .before .before .before in
-    sym (length-take-le (g .parsed .given .0 .0 .m) (s .parse-pool .last .1 .0) (few-marks (g .parsed .given .0 .0 .m) _ (i .if1 .left) (marks-length s)))
+    sym (length-take-le (g .parsed .given .0 .0 .m) (s .parse-pool .last .1 .0) (few-marks (g .parsed .given .0 .0 .m) _ (i .if2 .left) (marks-length s)))
 
 choose-words-requires : tie.Need-choose-words-requires
 choose-words-requires c κs =
     let i = c .before .before .before .before in
     let g = i .before .before .before in
     let s = g .before .before .before .before in
-    taken-marks (g .parsed .given .0 .0 .m) (s .parse-pool .last .1 .0) (i .if1 .left) (marks-length s)
+    taken-marks (g .parsed .given .0 .0 .m) (s .parse-pool .last .1 .0) (i .if2 .left) (marks-length s)
 
 same-length : tie.Need-same-length
 same-length c = search needs
 
-returns-3 : tie.Need-returns-3
-returns-3 c =
+returns-4 : tie.Need-returns-4
+returns-4 c =
     let z = c .before .before in
     let k = z .before .before .before .before in
     let i = k .before in
@@ -108,7 +123,7 @@ returns-3 c =
     let s = g .before .before .before .before in
     let a = s .before .before .before .before .before .args in
     chosen-words (a .file .now) (s .parse-pool .last .1 .0) (s .parse-pool .last .1 .1 .0) (s .parse-pool .result) (s .parse-pool .ensures) (g .parsed .given .0 .0)
-    (g .parsed .given .1) (a .out .now) (i .if1 .left) (le-of-eq (sym (words-length s))) _ (k .plans-stored .ensures .1) (k .plans-stored .ensures .2) _ (z .choose-words .ensures)
+    (g .parsed .given .1) (a .out .now) (i .if2 .left) (le-of-eq (sym (words-length s))) _ (k .plans-stored .ensures .1) (k .plans-stored .ensures .2) _ (z .choose-words .ensures)
 
 pub choose-spec : {M : Type 1} → statement M
 choose-spec =
@@ -119,8 +134,10 @@ choose-spec =
     parse-pool-requires
     enum-known-parsed
     enum-told
+    opens-second-requires
     returns
     returns-2
+    returns-3
     plans-stored-requires
     mul-words
     array-share-prefix-pool
@@ -129,4 +146,4 @@ choose-spec =
     slice-aggregate-choose-words-2
     choose-words-requires
     same-length
-    returns-3)
+    returns-4)

@@ -12,8 +12,8 @@ slice-aggregate-read-words c = search needs
 read-words-requires : tie.Need-read-words-requires
 read-words-requires c κs = search needs
 
-enum-known-at : tie.Need-enum-known-at
-enum-known-at c = search needs
+enum-known-next : tie.Need-enum-known-next
+enum-known-next c = search needs
 
 enum-told : tie.Need-enum-told
 enum-told c = search needs
@@ -21,28 +21,30 @@ enum-told c = search needs
 returns : tie.Need-returns
 returns c =
     let w = c .before .before .before in
-    header-none _ _ _ _ (w .read-words .ensures) (c .enum-told .given .1)
+    let a = w .before .before .before .args in
+    header-none _ (a .at) _ _ _ (w .read-words .ensures) (c .enum-told .given .1)
 
-array-read-t10 : tie.Need-array-read-t10
-array-read-t10 c = search needs
+array-read-t11 : tie.Need-array-read-t11
+array-read-t11 c = search needs
 
-array-read-t13 : tie.Need-array-read-t13
-array-read-t13 c = search needs
+array-read-t14 : tie.Need-array-read-t14
+array-read-t14 c = search needs
 
-array-read-t16 : tie.Need-array-read-t16
-array-read-t16 c = search needs
+array-read-t17 : tie.Need-array-read-t17
+array-read-t17 c = search needs
 
-array-read-t19 : tie.Need-array-read-t19
-array-read-t19 c = search needs
+array-read-t20 : tie.Need-array-read-t20
+array-read-t20 c = search needs
 
-array-read-t22 : tie.Need-array-read-t22
-array-read-t22 c = search needs
+array-read-t23 : tie.Need-array-read-t23
+array-read-t23 c = search needs
 
 returns-2 : tie.Need-returns-2
 returns-2 c =
     let k = c .before in
     let w = k .before .before .before in
-    header-good _ _ _ _ (w .read-words .ensures) _ (k .at .given .1) (length-replicate {A = ℕ} 5 0)
+    let a = w .before .before .before .args in
+    header-good _ (a .at) _ _ _ (w .read-words .ensures) _ (k .next .given .1) (length-replicate {A = ℕ} 5 0)
 
 pub read-header-spec : {M : Type 1} → statement M
 read-header-spec =
@@ -50,12 +52,12 @@ read-header-spec =
     (tie.spec
     slice-aggregate-read-words
     read-words-requires
-    enum-known-at
+    enum-known-next
     enum-told
     returns
-    array-read-t10
-    array-read-t13
-    array-read-t16
-    array-read-t19
-    array-read-t22
+    array-read-t11
+    array-read-t14
+    array-read-t17
+    array-read-t20
+    array-read-t23
     returns-2)

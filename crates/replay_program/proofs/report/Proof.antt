@@ -5,10 +5,10 @@ use Rattle.replay_program.proofs.report.Statement.{statement}
 use Rattle.replay_program.proofs.report.Tie as tie
 
 abbrev Inv-loop : tie.InvT-loop
-Inv-loop of r₀ r = r ≤ 14
+Inv-loop of r₀ r = r ≤ 16
 
 abbrev μ-loop : tie.MeasureT-loop
-μ-loop of r₀ r = 14 - r
+μ-loop of r₀ r = 16 - r
 
 loop-holds : tie.Need-loop-holds Inv-loop μ-loop
 loop-holds c = search needs
