@@ -51,7 +51,7 @@ fn pool(n: usize, m: usize, mix: &mut Mix) -> Vec<Plan> {
     (0..n as u64).map(drawn).collect()
 }
 
-/// Where both hand out the same kept list, offspring, ideal and state: the
+/// Where both hand out the same kept list, rules, offspring, ideal and state: the
 /// number of fronts, and whether one is split.
 fn agree(call: &Call) -> Option<(usize, bool)> {
     let mut ours = Proved::of(call);
@@ -60,6 +60,7 @@ fn agree(call: &Call) -> Option<(usize, bool)> {
     let settings = theirs.offspring.iter().flatten();
     let same = code == 0
         && ours.kept[..ours.n_kept] == theirs.kept
+        && ours.rules(ours.n_kept) == theirs.rules
         && ours.offspring == settings.map(|v| setting_words(v)[1]).collect::<Vec<_>>()
         && bits(&ours.ideal) == bits(&theirs.ideal)
         && ours.state == theirs.state;

@@ -39,6 +39,8 @@ mod timing;
 mod trial;
 #[path = "../target/oracle/src/types.rs"]
 mod types;
+#[path = "../target/oracle/src/watch.rs"]
+mod watch;
 #[path = "../target/oracle/src/water.rs"]
 mod water;
 #[path = "../target/oracle/src/words.rs"]
@@ -75,6 +77,7 @@ struct Proved {
     state: u64,
     ideal: Vec<f64>,
     kept: Vec<usize>,
+    rules: Vec<u8>,
     fronts: Vec<usize>,
     lines: Vec<usize>,
     offspring: Vec<u64>,
@@ -96,6 +99,7 @@ impl Proved {
             state: call.state,
             ideal: call.ideal.clone(),
             kept: vec![0; room],
+            rules: vec![0; room],
             fronts: vec![0; n],
             lines: vec![0; n],
             offspring: vec![0; room * call.dimensions.len()],
@@ -113,10 +117,25 @@ impl Proved {
             state: &mut self.state,
             ideal: &mut self.ideal,
             kept: &mut self.kept,
+            rules: &mut self.rules,
             fronts: &mut self.fronts,
             lines: &mut self.lines,
         };
         (selecting, &self.dimensions, &mut self.offspring, &mut self.n_kept)
+    }
+
+    /// The marks of the first so many rules.
+    fn rules(&self, kept: usize) -> Vec<u64> {
+        self.rules[..kept].iter().map(|&mark| mark.into()).collect()
+    }
+
+    /// One of the two lists loses its last place: by the generator's state the one or the other.
+    fn cut_short(&mut self) {
+        if self.state.is_multiple_of(2) {
+            self.kept.pop();
+        } else {
+            self.rules.pop();
+        }
     }
 
     fn select(&mut self) -> u64 {

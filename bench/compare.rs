@@ -40,7 +40,7 @@ fn push_settings(out: &mut Vec<u64>, dimensions: &[u64], settings: &[u64]) {
 fn select(call: &Call) -> Vec<u64> {
     let mut ours = Proved::of(call);
     if call.short {
-        ours.kept.pop();
+        ours.cut_short();
     }
     let code = ours.select();
     if code != 0 {
@@ -48,6 +48,7 @@ fn select(call: &Call) -> Vec<u64> {
     }
     let mut out = vec![0, ours.kept.len() as u64];
     push_all(&mut out, &ours.kept);
+    out.extend(ours.rules(ours.kept.len()));
     push_all(&mut out, &ours.fronts);
     push_all(&mut out, &ours.lines);
     push_reals(&mut out, &ours.ideal);
@@ -58,9 +59,9 @@ fn select(call: &Call) -> Vec<u64> {
 fn step(call: &Call) -> Vec<u64> {
     let mut ours = Proved::of(call);
     if call.short {
-        // A step without dimensions hands out no setting: its kept list is what is cut short.
+        // A step without dimensions hands out no setting: one of its lists is what is cut short.
         if ours.offspring.pop().is_none() {
-            ours.kept.pop();
+            ours.cut_short();
         }
     }
     let code = ours.step();
@@ -69,6 +70,7 @@ fn step(call: &Call) -> Vec<u64> {
     }
     let mut out = vec![0, ours.n_kept as u64];
     push_all(&mut out, &ours.kept[..ours.n_kept]);
+    out.extend(ours.rules(ours.n_kept));
     push_reals(&mut out, &ours.ideal);
     out.push(ours.size as u64);
     push_settings(&mut out, &ours.dimensions, &ours.offspring);

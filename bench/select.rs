@@ -61,7 +61,7 @@ fn selection(n: usize, m: usize, rows: Rows, mix: &mut Mix) -> Call {
     Call::new(m, divisions, size as u64, 7, pool(n, m, rows, mix))
 }
 
-/// Whether both hand out the same kept list, fronts, lines, ideal and state.
+/// Whether both hand out the same kept list, rules, fronts, lines, ideal and state.
 fn agree(call: &Call) -> bool {
     let mut ours = Proved::of(call);
     let code = ours.select();
@@ -69,6 +69,7 @@ fn agree(call: &Call) -> bool {
     let lines: Vec<u64> = ours.lines.iter().map(|&line| line as u64).collect();
     code == 0
         && ours.kept == theirs.list
+        && ours.rules(ours.kept.len()) == theirs.rules
         && ours.fronts == theirs.fronts
         && lines == theirs.lines
         && bits(&ours.ideal) == bits(&theirs.ideal)

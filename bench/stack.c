@@ -11,7 +11,7 @@
 
 enum { STACK = 16 << 20, FILL = 0xa5, OBJECTIVES = 3, SIZE = 100, DIMS = LOCUSTDOMINO_MAX_DIMENSIONS };
 
-static uint8_t directions[OBJECTIVES], file[1 << 17], text[20501];
+static uint8_t directions[OBJECTIVES], rules[SIZE], file[1 << 17], text[20501];
 static double ideal[OBJECTIVES];
 static uint64_t session[LOCUSTDOMINO_SESSION_WORDS], candidates[LOCUSTDOMINO_CANDIDATE_WORDS], plans[LOCUSTDOMINO_MAX_PLANS];
 static uint64_t history[SIZE * LOCUSTDOMINO_PLAN_WORDS], dimensions[DIMS * LOCUSTDOMINO_DIMENSION_WORDS], offspring[SIZE * DIMS];
@@ -40,14 +40,14 @@ static void *sample(void *none) {
 
 static void *selects(void *none) {
     answer = locustdomino_select(history, records * LOCUSTDOMINO_PLAN_WORDS, directions, OBJECTIVES, 4, size, &state, ideal,
-        OBJECTIVES, kept, SIZE, fronts, SIZE, lines, SIZE);
+        OBJECTIVES, kept, SIZE, rules, SIZE, fronts, SIZE, lines, SIZE);
     return none;
 }
 
 static void *steps(void *none) {
     answer = locustdomino_generate_offspring(history, records * LOCUSTDOMINO_PLAN_WORDS, directions, OBJECTIVES, 4, size, &state,
-        dimensions, DIMS * LOCUSTDOMINO_DIMENSION_WORDS, 1.0, 30.0, 20.0, ideal, OBJECTIVES, kept, SIZE, fronts, SIZE, lines, SIZE,
-        offspring, SIZE * DIMS, &length);
+        dimensions, DIMS * LOCUSTDOMINO_DIMENSION_WORDS, 1.0, 30.0, 20.0, ideal, OBJECTIVES, kept, SIZE, rules, SIZE, fronts, SIZE,
+        lines, SIZE, offspring, SIZE * DIMS, &length);
     return none;
 }
 

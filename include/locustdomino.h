@@ -92,7 +92,15 @@ enum {
 #define LOCUSTDOMINO_CANDIDATE_WORDS (LOCUSTDOMINO_MAX_PLANS * LOCUSTDOMINO_MAX_DIMENSIONS)
 #define LOCUSTDOMINO_MAX_HISTORY 4096
 
-/* The plans to keep: `kept` gets `size` places in the pool, `fronts` each plan's front and `lines` each plan's reference line.
+/* What put a plan on the kept list: its front was listed whole; it was the nearest on a reference line that had no plan yet; it was
+ * drawn among those of a line that had one; or the pool had no plan left, and it was drawn to fill the list. */
+#define LOCUSTDOMINO_RULE_WHOLE_FRONT 0
+#define LOCUSTDOMINO_RULE_NEAREST 1
+#define LOCUSTDOMINO_RULE_DRAWN 2
+#define LOCUSTDOMINO_RULE_PADDING 3
+
+/* The plans to keep: `kept` gets `size` places in the pool and `rules` what put each of them there, `fronts` each plan's front and
+ * `lines` each plan's reference line.
  * `state` is the generator's and moves on. `ideal` has as many entries as there are objectives: the least values met so far, as
  * minimised, and plus infinity where none was met, so at the start; it moves on where a front is split.
  * Refusals: 2, 3, 4, 7, 8, 10. */
@@ -103,13 +111,14 @@ uint64_t locustdomino_select(
     uint64_t *state,
     double *ideal, size_t ideal_length,
     size_t *kept, size_t kept_length,
+    uint8_t *rules, size_t rules_length,
     size_t *fronts, size_t fronts_length,
     size_t *lines, size_t lines_length);
 
 /* A generation step: selects, breeds from what is kept and writes the settings of `size` new plans to `offspring`, plan after
  * plan, a word a setting, of the kind of its dimension. `dimensions` has six words a dimension; words after the last whole one are
  * not looked at. `n_kept` gets the length of the kept list: the size; or 0 for a pool of one plan, whose step selects nothing,
- * leaves the ideal alone and writes neither kept, fronts nor lines. Refusals: 2 to 10. */
+ * leaves the ideal alone and writes neither kept, rules, fronts nor lines. Refusals: 2 to 10. */
 uint64_t locustdomino_generate_offspring(
     const uint64_t *pool, size_t pool_words,
     const uint8_t *directions, size_t objectives,
@@ -119,6 +128,7 @@ uint64_t locustdomino_generate_offspring(
     double crossover_prob, double crossover_eta, double mutation_eta,
     double *ideal, size_t ideal_length,
     size_t *kept, size_t kept_length,
+    uint8_t *rules, size_t rules_length,
     size_t *fronts, size_t fronts_length,
     size_t *lines, size_t lines_length,
     uint64_t *offspring, size_t offspring_words,

@@ -1,7 +1,7 @@
 /* A whole session: a drip plan for an orchard block, whose rows are 4 m apart and whose drip lines are 120 m long. A plan is a
  * distance between emitters, the hours of a watering (three a week) and one of three valves. Wanted are little water, a high yield
  * and a low cost; the pressure at a line's far end has to do. Some generations are asked for and tried, and the best plans are
- * kept. */
+ * kept, each with its reference line and what put it on the list. */
 #include <math.h>
 #include <stdbool.h>
 #include <stdio.h>
@@ -20,6 +20,14 @@
 
 /* The pressure that each valve leaves at a line's head (m), and its cost (EUR/ha in a year). */
 static const double VALVES[3][2] = {{12.0, 40.0}, {16.0, 55.0}, {22.0, 80.0}};
+
+/* What put a plan on the kept list, by its mark. */
+static const char *const RULES[] = {
+    [LOCUSTDOMINO_RULE_WHOLE_FRONT] = "whole front",
+    [LOCUSTDOMINO_RULE_NEAREST] = "nearest on an empty line",
+    [LOCUSTDOMINO_RULE_DRAWN] = "drawn on a line with plans",
+    [LOCUSTDOMINO_RULE_PADDING] = "padding",
+};
 
 static uint64_t history[PLANS * LOCUSTDOMINO_PLAN_WORDS];
 
@@ -140,22 +148,28 @@ int main(void)
 {
     const uint8_t directions[3] = {0, 1, 0};
     size_t kept[KEPT], fronts[PLANS], lines[PLANS], first = 0;
+    uint8_t rules[KEPT];
     double ideal[3] = {INFINITY, INFINITY, INFINITY};
     uint64_t state = 7;
 
     generations(directions);
     must("select", locustdomino_select(
-        history, PLANS * LOCUSTDOMINO_PLAN_WORDS, directions, 3, 3, KEPT, &state, ideal, 3, kept, KEPT, fronts, PLANS, lines, PLANS));
+        history, PLANS * LOCUSTDOMINO_PLAN_WORDS, directions, 3, 3, KEPT, &state, ideal, 3, kept, KEPT, rules, KEPT, fronts, PLANS,
+        lines, PLANS));
     for (size_t k = 0; k < PLANS; k++)
         first += fronts[k] == 0;
     printf("%d plans tried, %zu of them dominated by none, %d kept\n", PLANS, first, KEPT);
-    printf("plan  spacing  hours  valve  water  yield  cost    far end\n");
+    printf("plan  spacing  hours  valve  water  yield  cost    far end  ref. line  kept as\n");
     printf("      m               m      m3/ha  t/ha   EUR/ha  m\n");
     for (size_t k = 0; k < KEPT; k++) {
         const uint64_t *plan = plan_at(kept[k]), *row = plan + LOCUSTDOMINO_PLAN_ROW;
         struct settings s = settings(plan);
-        printf("%-4u  %-7.2f  %-5.0f  %-5.0f  %-5.0f  %-5.2f  %-6.0f  %.1f\n", (unsigned)plan[LOCUSTDOMINO_PLAN_NUMBER], s.spacing, s.hours,
-            s.valve[0], real(row[0]), real(row[1]), real(row[2]), NEEDED - real(plan[LOCUSTDOMINO_PLAN_CONSTRAINTS]));
+        char line[24] = "-";
+        if (lines[kept[k]] != LOCUSTDOMINO_NO_LINE)
+            snprintf(line, sizeof line, "%zu", lines[kept[k]]);
+        printf("%-4u  %-7.2f  %-5.0f  %-5.0f  %-5.0f  %-5.2f  %-6.0f  %-7.1f  %-9s  %s\n", (unsigned)plan[LOCUSTDOMINO_PLAN_NUMBER],
+            s.spacing, s.hours, s.valve[0], real(row[0]), real(row[1]), real(row[2]), NEEDED - real(plan[LOCUSTDOMINO_PLAN_CONSTRAINTS]),
+            line, RULES[rules[k]]);
     }
     return 0;
 }

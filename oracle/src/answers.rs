@@ -15,12 +15,21 @@ use crate::sampler::nsga3::Nsga3State;
 use crate::sampler::{common, genetic, nsga3};
 use crate::session::{Opening, Operators};
 use crate::types::Direction;
+use crate::watch;
 use crate::water;
 use crate::words::{Reader, bits, digest, of_int, of_real, push_counted_reals, push_reals, told};
 use crate::{pool_file, session};
 
 /// The mark of a plan without a line.
 pub const NO_LINE: u64 = u64::MAX;
+
+/// What put a plan on the kept list: its front was listed whole, it was the
+/// nearest on a line whose niche count was 0, it was drawn on a line whose count
+/// was above 0, or it pads the list.
+pub const WHOLE_FRONT: u64 = 0;
+pub const NEAREST: u64 = 1;
+pub const DRAWN: u64 = 2;
+pub const PADDING: u64 = 3;
 
 /// The commands of a selection and of a generation step.
 pub const SELECT: u64 = 70;
@@ -190,6 +199,7 @@ pub fn answer(input: &[u64]) -> Result<Vec<u64>, String> {
             if let Some(call) = accepted(command, r, &mut a)? {
                 let kept = select(&call);
                 push_list(&mut a, &kept.list);
+                a.extend(&kept.rules);
                 a.extend(kept.fronts.iter().map(|&front| front as u64));
                 a.extend(&kept.lines);
                 push_reals(&mut a, &kept.ideal);
@@ -202,6 +212,7 @@ pub fn answer(input: &[u64]) -> Result<Vec<u64>, String> {
             if let Some(call) = accepted(command, r, &mut a)? {
                 let bred = step(&call);
                 push_list(&mut a, &bred.kept);
+                a.extend(&bred.rules);
                 push_reals(&mut a, &bred.ideal);
                 a.push(bred.offspring.len() as u64);
                 for child in &bred.offspring {
@@ -508,6 +519,7 @@ pub fn with_state<T>(
 /// What a selection hands out.
 pub struct Kept {
     pub list: Vec<usize>,
+    pub rules: Vec<u64>,
     pub fronts: Vec<usize>,
     pub lines: Vec<u64>,
     pub ideal: Vec<f64>,
@@ -515,10 +527,13 @@ pub struct Kept {
 }
 
 /// Runs `nsga3_select`. Fronts and lines are not among its answers: the same
-/// functions of the Rust give them for the same pool.
+/// functions of the Rust give them for the same pool. Nor are the rules: its
+/// niching loop is watched, and the places of whole fronts and of padding are
+/// before and after its picks.
 pub fn select(call: &Call) -> Kept {
     with_state(call, |state, population, directions| {
-        let (_, list) = nsga3::nsga3_select(state, population, directions);
+        let ((_, list), counts) =
+            watch::watched(|| nsga3::nsga3_select(state, population, directions));
 
         let (n, size) = (call.pool.len(), call.size as usize);
         let front_list = call.fronts();
@@ -538,6 +553,12 @@ pub fn select(call: &Call) -> Kept {
             }
             before += front.len();
         }
+        let picks = if split { size - before } else { 0 };
+        assert_eq!(counts.len(), picks, "the picks of the same split");
+        let rule = |&count: &usize| if count == 0 { NEAREST } else { DRAWN };
+        let mut rules = vec![WHOLE_FRONT; before];
+        rules.extend(counts.iter().map(rule));
+        rules.resize(list.len(), PADDING);
         let mut ideal = call.ideal.clone();
         let mut lines = vec![NO_LINE; n];
         if split {
@@ -557,6 +578,7 @@ pub fn select(call: &Call) -> Kept {
         );
         Kept {
             list,
+            rules,
             fronts,
             lines,
             ideal,
@@ -568,6 +590,7 @@ pub fn select(call: &Call) -> Kept {
 /// What a generation step hands out; a pool of one keeps nothing.
 pub struct Bred {
     pub kept: Vec<usize>,
+    pub rules: Vec<u64>,
     pub ideal: Vec<f64>,
     pub offspring: Vec<Vec<ParamValue>>,
     pub state: u64,
@@ -577,13 +600,15 @@ pub fn step(call: &Call) -> Bred {
     with_state(call, |state, population, directions| {
         let offspring = nsga3::nsga3_generate_offspring(state, population, directions);
         // The step keeps its list to itself: selection from the same pool has it.
-        let kept = if population.len() < 2 {
-            Vec::new()
+        let (kept, rules) = if population.len() < 2 {
+            (Vec::new(), Vec::new())
         } else {
-            select(call).list
+            let kept = select(call);
+            (kept.list, kept.rules)
         };
         Bred {
             kept,
+            rules,
             ideal: state.ideal_point.clone(),
             offspring: offspring.into_iter().map(|child| child.params).collect(),
             state: state.evo.rng.s,

@@ -26,6 +26,7 @@ mod powers;
 mod refusals;
 mod session;
 mod trial;
+mod watch;
 mod water;
 mod words;
 

@@ -1,7 +1,7 @@
 //! A whole session: a drip plan for an orchard block, whose rows are 4 m apart and whose drip lines are 120 m long. A plan is a
 //! distance between emitters, the hours of a watering (three a week) and one of three valves. Wanted are little water, a high yield
 //! and a low cost; the pressure at a line's far end has to do. Some generations are asked for and tried, and the best plans are
-//! kept.
+//! kept, each with its reference line and what put it on the list.
 
 use locustdomino::{
     Dimension, Direction, Directions, Ideal, Operators, Plan, Refusal, Rng, Session, Setting, select,
@@ -76,14 +76,15 @@ fn run() -> Result<(), Refusal> {
     let selection = select(&history, &directions, 3, KEPT, &mut Rng::with_seed(7), &mut ideal)?;
     let first = selection.fronts.iter().filter(|&&front| front == 0).count();
     println!("{} plans tried, {first} of them dominated by none, {KEPT} kept", history.len());
-    println!("plan  spacing  hours  valve  water  yield  cost    far end");
+    println!("plan  spacing  hours  valve  water  yield  cost    far end  ref. line  kept as");
     println!("      m               m      m3/ha  t/ha   EUR/ha  m");
-    for &k in &selection.kept {
+    for (&k, rule) in selection.kept.iter().zip(&selection.rules) {
         let plan = &history[k];
         let (spacing, hours, valve) = settings(&plan.settings());
         let (row, far_end) = (plan.row(), NEEDED - plan.constraints()[0]);
+        let line = selection.lines[k].map_or("-".to_string(), |line| line.to_string());
         println!(
-            "{:<4}  {spacing:<7.2}  {hours:<5.0}  {:<5.0}  {:<5.0}  {:<5.2}  {:<6.0}  {far_end:.1}",
+            "{:<4}  {spacing:<7.2}  {hours:<5.0}  {:<5.0}  {:<5.0}  {:<5.2}  {:<6.0}  {far_end:<7.1}  {line:<9}  {rule}",
             plan.number(),
             VALVES[valve].0,
             row[0],

@@ -1,5 +1,6 @@
 //! Prices a kept list: six places are filled from four watering plans, so that some are listed twice, and each is priced by the water
-//! company's bands. Every number can be followed by hand. The same example in C is `examples/c/water.c`.
+//! company's bands. Every number can be followed by hand, and each row says what put its plan on the list. The same example in C is
+//! `examples/c/water.c`.
 
 use locustdomino::{Band, Direction, Directions, Ideal, Plan, Refusal, Rng, price_water, select};
 
@@ -28,14 +29,14 @@ fn run() -> Result<(), Refusal> {
         pool.push(Plan::new(number, &[litres as f64, yielded], &[], &[])?);
     }
     let mut ideal = Ideal::unknown(&directions);
-    let kept = select(&pool, &directions, 3, KEPT, &mut Rng::with_seed(7), &mut ideal)?.kept;
-    let bill = price_water(&litres, &BANDS.map(|(upper, price)| Band { upper, price }), &kept)?;
+    let selection = select(&pool, &directions, 3, KEPT, &mut Rng::with_seed(7), &mut ideal)?;
+    let bill = price_water(&litres, &BANDS.map(|(upper, price)| Band { upper, price }), &selection.kept)?;
 
-    println!("plan  litres  at {:<6}  at {:<6}  at {:<6}  hundredths  EUR", BANDS[0].1, BANDS[1].1, BANDS[2].1);
-    for (&plan, &cents) in kept.iter().zip(&bill.costs) {
+    println!("plan  litres  at {:<6}  at {:<6}  at {:<6}  hundredths  EUR    kept as", BANDS[0].1, BANDS[1].1, BANDS[2].1);
+    for ((&plan, rule), &cents) in selection.kept.iter().zip(&selection.rules).zip(&bill.costs) {
         let [a, b, c] = in_bands(litres[plan]);
         let hundredths = a * BANDS[0].1 + b * BANDS[1].1 + c * BANDS[2].1;
-        println!("{plan:<4}  {:<6}  {a:<9}  {b:<9}  {c:<9}  {hundredths:<10}  {}", litres[plan], euros(cents));
+        println!("{plan:<4}  {:<6}  {a:<9}  {b:<9}  {c:<9}  {hundredths:<10}  {}  {rule}", litres[plan], euros(cents));
     }
     println!("total {}", euros(bill.total));
     Ok(())

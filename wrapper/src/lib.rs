@@ -371,10 +371,49 @@ impl Operators {
 
 // ---- what is answered
 
-/// Places in the pool that are kept, and of each plan of the pool its front and its line, if a front was split.
+/// What put a plan on the kept list.
+#[derive(Clone, Copy, Debug, PartialEq, Eq)]
+#[repr(u8)]
+pub enum Rule {
+    /// Its front was listed whole.
+    WholeFront = raw::WHOLE_FRONT,
+    /// It was the nearest on a reference line that had no plan yet.
+    Nearest = raw::NEAREST,
+    /// It was drawn among those of a reference line that had one.
+    Drawn = raw::DRAWN,
+    /// The pool had no plan left, and it was drawn to fill the list.
+    Padding = raw::PADDING,
+}
+
+impl Rule {
+    pub fn mark(self) -> u8 {
+        self as u8
+    }
+
+    fn of(mark: u8) -> Self {
+        let all = [Rule::WholeFront, Rule::Nearest, Rule::Drawn, Rule::Padding];
+        let found = all.into_iter().find(|&rule| rule as u8 == mark);
+        found.expect("the library writes marks of rules")
+    }
+}
+
+impl fmt::Display for Rule {
+    fn fmt(&self, f: &mut fmt::Formatter) -> fmt::Result {
+        f.pad(match self {
+            Rule::WholeFront => "whole front",
+            Rule::Nearest => "nearest on an empty line",
+            Rule::Drawn => "drawn on a line with plans",
+            Rule::Padding => "padding",
+        })
+    }
+}
+
+/// Places in the pool that are kept and what put each of them there, and of each plan of the pool its front and its line, if a front
+/// was split.
 #[derive(Clone, Debug, Default, PartialEq, Eq)]
 pub struct Selection {
     pub kept: Vec<usize>,
+    pub rules: Vec<Rule>,
     pub fronts: Vec<usize>,
     pub lines: Vec<Option<usize>>,
 }
@@ -389,6 +428,7 @@ pub struct Offspring {
 /// What a selection is written to.
 struct Room {
     kept: Vec<usize>,
+    rules: Vec<u8>,
     fronts: Vec<usize>,
     lines: Vec<usize>,
 }
@@ -398,6 +438,7 @@ impl Room {
         // A greater size is refused, so that no room is needed for it.
         Room {
             kept: vec![0; size.min(MAX_SIZE)],
+            rules: vec![0; size.min(MAX_SIZE)],
             fronts: vec![0; pool.len()],
             lines: vec![0; pool.len()],
         }
@@ -420,6 +461,7 @@ impl Room {
             state: &mut rng.0,
             ideal: &mut ideal.0,
             kept: &mut self.kept,
+            rules: &mut self.rules,
             fronts: &mut self.fronts,
             lines: &mut self.lines,
         }
@@ -429,6 +471,7 @@ impl Room {
         let lines = self.lines.into_iter().map(|l| (l != raw::NO_LINE).then_some(l)).collect();
         Selection {
             kept: self.kept,
+            rules: self.rules.into_iter().map(Rule::of).collect(),
             fronts: self.fronts,
             lines,
         }

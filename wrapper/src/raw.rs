@@ -20,6 +20,11 @@ pub const CATEGORICAL: u64 = 2;
 pub const DIMENSION_WORDS: usize = 6;
 pub const NO_LINE: usize = usize::MAX;
 
+pub const WHOLE_FRONT: u8 = 0;
+pub const NEAREST: u8 = 1;
+pub const DRAWN: u8 = 2;
+pub const PADDING: u8 = 3;
+
 pub const MAX_DIMENSIONS: usize = MAX_SETTINGS;
 pub const MAX_PLANS: usize = 2048;
 pub const CANDIDATE_WORDS: usize = MAX_PLANS * MAX_DIMENSIONS;
@@ -46,12 +51,13 @@ pub const SESSION_WORDS: usize = SESSION_DIMENSIONS + MAX_DIMENSIONS * DIMENSION
 #[link(name = "locustdomino", kind = "static")]
 unsafe extern "C" {
     fn locustdomino_select(pool: *const u64, pool_words: usize, directions: *const u8, objectives: usize, divisions: usize, size: usize,
-        state: *mut u64, ideal: *mut f64, ideal_length: usize, kept: *mut usize, kept_length: usize, fronts: *mut usize, fronts_length: usize,
-        lines: *mut usize, lines_length: usize) -> u64;
+        state: *mut u64, ideal: *mut f64, ideal_length: usize, kept: *mut usize, kept_length: usize, rules: *mut u8, rules_length: usize,
+        fronts: *mut usize, fronts_length: usize, lines: *mut usize, lines_length: usize) -> u64;
     fn locustdomino_generate_offspring(pool: *const u64, pool_words: usize, directions: *const u8, objectives: usize, divisions: usize,
         size: usize, state: *mut u64, dimensions: *const u64, dimension_words: usize, crossover_prob: f64, crossover_eta: f64, mutation_eta: f64,
-        ideal: *mut f64, ideal_length: usize, kept: *mut usize, kept_length: usize, fronts: *mut usize, fronts_length: usize,
-        lines: *mut usize, lines_length: usize, offspring: *mut u64, offspring_words: usize, n_kept: *mut usize) -> u64;
+        ideal: *mut f64, ideal_length: usize, kept: *mut usize, kept_length: usize, rules: *mut u8, rules_length: usize,
+        fronts: *mut usize, fronts_length: usize, lines: *mut usize, lines_length: usize, offspring: *mut u64, offspring_words: usize,
+        n_kept: *mut usize) -> u64;
     fn locustdomino_open(directions: *const u8, objectives: usize, seed: u64, has_size: u8, size: usize, has_divisions: u8, divisions: usize,
         crossover_prob: f64, crossover_eta: f64, mutation_eta: f64, session: *mut u64, session_words: usize) -> u64;
     fn locustdomino_sample(session: *mut u64, session_words: usize, dimension: *const u64, dimension_words: usize, plan: u64,
@@ -76,6 +82,7 @@ pub struct Selecting<'a> {
     pub state: &'a mut u64,
     pub ideal: &'a mut [f64],
     pub kept: &'a mut [usize],
+    pub rules: &'a mut [u8],
     pub fronts: &'a mut [usize],
     pub lines: &'a mut [usize],
 }
@@ -85,23 +92,25 @@ pub type Operators = [f64; 3];
 
 #[rustfmt::skip]
 pub fn select(call: Selecting) -> u64 {
-    let Selecting { pool, directions, divisions, size, state, ideal, kept, fronts, lines } = call;
+    let Selecting { pool, directions, divisions, size, state, ideal, kept, rules, fronts, lines } = call;
     unsafe {
         locustdomino_select(
             pool.as_ptr(), pool.len(), directions.as_ptr(), directions.len(), divisions, size, state, ideal.as_mut_ptr(), ideal.len(),
-            kept.as_mut_ptr(), kept.len(), fronts.as_mut_ptr(), fronts.len(), lines.as_mut_ptr(), lines.len())
+            kept.as_mut_ptr(), kept.len(), rules.as_mut_ptr(), rules.len(), fronts.as_mut_ptr(), fronts.len(),
+            lines.as_mut_ptr(), lines.len())
     }
 }
 
 #[rustfmt::skip]
 pub fn generate_offspring(call: Selecting, dimensions: &[u64], operators: Operators, offspring: &mut [u64], n_kept: &mut usize) -> u64 {
-    let Selecting { pool, directions, divisions, size, state, ideal, kept, fronts, lines } = call;
+    let Selecting { pool, directions, divisions, size, state, ideal, kept, rules, fronts, lines } = call;
     let [crossover_prob, crossover_eta, mutation_eta] = operators;
     unsafe {
         locustdomino_generate_offspring(
             pool.as_ptr(), pool.len(), directions.as_ptr(), directions.len(), divisions, size, state, dimensions.as_ptr(), dimensions.len(),
             crossover_prob, crossover_eta, mutation_eta, ideal.as_mut_ptr(), ideal.len(), kept.as_mut_ptr(), kept.len(),
-            fronts.as_mut_ptr(), fronts.len(), lines.as_mut_ptr(), lines.len(), offspring.as_mut_ptr(), offspring.len(), n_kept)
+            rules.as_mut_ptr(), rules.len(), fronts.as_mut_ptr(), fronts.len(), lines.as_mut_ptr(), lines.len(),
+            offspring.as_mut_ptr(), offspring.len(), n_kept)
     }
 }
 
@@ -254,6 +263,49 @@ mod tests {
         assert_eq!(session.sample(&dimension(), 0, &history(MAX_HISTORY), CANDIDATE_WORDS), Err(10));
         assert_eq!(session.sample(&[], 0, &[], CANDIDATE_WORDS), Err(10));
         assert_eq!(session.words, before);
+    }
+
+    /// Plans of one objective, of which none dominates another.
+    fn alike(n: u64) -> Vec<u64> {
+        (0..n).flat_map(|number| plan_words(number, &[1.0], &[], &[])).collect()
+    }
+
+    /// A selection or a step of size 2, with room for so many rules; what it answers and leaves of kept list and rules.
+    fn ruled(plans: u64, rules: usize, step: bool) -> (u64, Vec<usize>, Vec<u8>) {
+        let (pool, n) = (alike(plans), plans as usize);
+        let (mut kept, mut rules) = (vec![9; 2], vec![9; rules]);
+        let call = Selecting {
+            pool: &pool,
+            directions: &[0],
+            divisions: 1,
+            size: 2,
+            state: &mut 1,
+            ideal: &mut [f64::INFINITY],
+            kept: &mut kept,
+            rules: &mut rules,
+            fronts: &mut vec![0; n],
+            lines: &mut vec![0; n],
+        };
+        let code = if step {
+            generate_offspring(call, &dimension(), [1.0, 30.0, 20.0], &mut [0; 2], &mut 0)
+        } else {
+            select(call)
+        };
+        (code, kept, rules)
+    }
+
+    #[test]
+    fn too_little_room_for_rules() {
+        for step in [false, true] {
+            assert_eq!(ruled(3, 1, step), (10, vec![9; 2], vec![9]));
+            // One of three alike is the nearest, and the line then has a plan; what is lent past the rules stays.
+            let (code, _, rules) = ruled(3, 3, step);
+            assert_eq!((code, rules), (0, vec![NEAREST, DRAWN, 9]));
+        }
+        // A step from a pool of one hands out no list.
+        assert_eq!(ruled(1, 2, false), (0, vec![0, 0], vec![WHOLE_FRONT, PADDING]));
+        assert_eq!(ruled(1, 2, true), (0, vec![9; 2], vec![9; 2]));
+        assert_eq!(ruled(1, 0, true), (0, vec![9; 2], vec![]));
     }
 
     #[test]

@@ -1,8 +1,8 @@
 //! Each call once accepted and once refused, and what a refusal leaves.
 
 use locustdomino::{
-    Band, Bill, Dimension, Direction, Directions, Ideal, Load, Operators, Plan, Refusal, Rng, Session, Setting, choose,
-    convert, generate_offspring, price_water, select, write_load,
+    Band, Bill, Dimension, Direction, Directions, Ideal, Load, Operators, Plan, Refusal, Rng, Rule, Selection, Session, Setting,
+    choose, convert, generate_offspring, price_water, select, write_load,
 };
 
 fn two() -> Directions {
@@ -35,6 +35,49 @@ fn selection() {
     let nan = [Plan::new(0, &[f64::NAN, 0.0], &[], &[]).unwrap()];
     assert_eq!(select(&nan, &two(), 4, 1, &mut rng, &mut ideal), Err(Refusal::Plan));
     assert_eq!(rng.state(), state);
+}
+
+/// What a kept list's rules say, held against the list itself where a front is split: a plan of it is the nearest exactly where
+/// none before it is on its line.
+fn told_by_the_list(chosen: &Selection) {
+    assert_eq!(chosen.rules.len(), chosen.kept.len());
+    for (i, (&plan, &rule)) in chosen.kept.iter().zip(&chosen.rules).enumerate() {
+        let empty = chosen.kept[..i].iter().all(|&before| chosen.lines[before] != chosen.lines[plan]);
+        assert_eq!(rule, if empty { Rule::Nearest } else { Rule::Drawn });
+    }
+}
+
+#[test]
+fn rules() {
+    let mut rng = Rng::with_seed(1);
+    let mut of = |pool: &[Plan], size| {
+        select(pool, &two(), 4, size, &mut rng, &mut Ideal::unknown(&two())).unwrap()
+    };
+    // One front, split, of plans on five lines: one more is drawn.
+    let split = of(&pool(8), 6);
+    told_by_the_list(&split);
+    assert_eq!(split.rules, [Rule::Nearest, Rule::Nearest, Rule::Nearest, Rule::Nearest, Rule::Nearest, Rule::Drawn]);
+    // The front fits, and fits with places left.
+    assert_eq!(of(&pool(3), 3).rules, [Rule::WholeFront; 3]);
+    assert_eq!(of(&pool(1), 3).rules, [Rule::WholeFront, Rule::Padding, Rule::Padding]);
+    // A front before the split one.
+    let best = Plan::new(8, &[-1.0, 9.0], &[], &[]).unwrap();
+    let behind = of(&[&pool(8)[..], &[best]].concat(), 3);
+    assert_eq!((behind.kept[0], behind.rules[0]), (8, Rule::WholeFront));
+    assert!(behind.rules[1..].iter().all(|rule| matches!(rule, Rule::Nearest | Rule::Drawn)));
+
+    let dimensions = [Dimension::float(0.0, 1.0).unwrap(), Dimension::int(-10, 0).unwrap()];
+    let mut bred = |n| {
+        let operators = Operators::default();
+        let mut ideal = Ideal::unknown(&two());
+        generate_offspring(&pool(n), &two(), 4, 6, &mut rng, &dimensions, &operators, &mut ideal).unwrap().selection
+    };
+    told_by_the_list(&bred(8));
+    assert_eq!(bred(1), Selection::default());
+
+    let all = [Rule::WholeFront, Rule::Nearest, Rule::Drawn, Rule::Padding];
+    assert_eq!(all.map(Rule::mark), [0, 1, 2, 3]);
+    assert_eq!(Rule::Nearest.to_string(), "nearest on an empty line");
 }
 
 #[test]

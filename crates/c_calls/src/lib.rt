@@ -35,6 +35,7 @@ pub fn select(
     rng: Rng,
     ideal: &mut [f64],
     kept: &mut [usize],
+    rules: &mut [u8],
     fronts: &mut [usize],
     lines: &mut [usize],
 ) -> Selection {
@@ -47,6 +48,7 @@ pub fn select(
         &mut s,
         ideal,
         kept,
+        rules,
         fronts,
         lines,
     );
@@ -79,6 +81,7 @@ pub fn generate_offspring(
     mutation_eta: f64,
     ideal: &mut [f64],
     kept: &mut [usize],
+    rules: &mut [u8],
     fronts: &mut [usize],
     lines: &mut [usize],
     offspring: &mut [u64],
@@ -100,6 +103,7 @@ pub fn generate_offspring(
         mutation_eta,
         ideal,
         kept,
+        rules,
         fronts,
         lines,
         offspring,

@@ -29,6 +29,7 @@ pub fn generate_offspring_words(
     mutation_eta: f64,
     ideal: &mut [f64],
     kept: &mut [usize],
+    rules: &mut [u8],
     fronts: &mut [usize],
     lines: &mut [usize],
     offspring: &mut [u64],
@@ -36,8 +37,8 @@ pub fn generate_offspring_words(
 ) -> u64
     ensures { λ r. ⌜ StepsWords (wordOperators (now (dimensions .entry)) «crossover_prob» «crossover_eta» «mutation_eta»)
         (wordRequest (now (pool .entry)) (now (directions .entry)) divisions size (rngOf (now (state .entry))) (now (ideal .entry)))
-        (lent (now (kept .entry)) (now (fronts .entry)) (now (lines .entry))) (now (offspring .entry)) (now («n_kept» .entry))
-        (record { code = r; kept = now («n_kept» .exit); state = now (state .exit); ideal = now (ideal .exit); slices = lent (now (kept .exit)) (now (fronts .exit)) (now (lines .exit)); offspring = now (offspring .exit) }) ⌝ }
+        (lent (now (kept .entry)) (now (rules .entry)) (now (fronts .entry)) (now (lines .entry))) (now (offspring .entry)) (now («n_kept» .entry))
+        (record { code = r; kept = now («n_kept» .exit); state = now (state .exit); ideal = now (ideal .exit); slices = lent (now (kept .exit)) (now (rules .exit)) (now (fronts .exit)) (now (lines .exit)); offspring = now (offspring .exit) }) ⌝ }
 {
     let n_dims = dimensions.len() / session_words::DIMENSION_WORDS;
     let infos = session_words::dimensions_of_words(dimensions, 0);
@@ -57,6 +58,7 @@ pub fn generate_offspring_words(
         operators,
         ideal,
         kept,
+        rules,
         fronts,
         lines,
         offspring,

@@ -24,12 +24,13 @@ pub fn select_words(
     state: &mut u64,
     ideal: &mut [f64],
     kept: &mut [usize],
+    rules: &mut [u8],
     fronts: &mut [usize],
     lines: &mut [usize],
 ) -> u64
     ensures { λ r. ⌜ SelectsWords (wordRequest (now (pool .entry)) (now (directions .entry)) divisions size (rngOf (now (state .entry))) (now (ideal .entry)))
-        (lent (now (kept .entry)) (now (fronts .entry)) (now (lines .entry)))
-        (record { code = r; state = now (state .exit); ideal = now (ideal .exit); slices = lent (now (kept .exit)) (now (fronts .exit)) (now (lines .exit)) }) ⌝ }
+        (lent (now (kept .entry)) (now (rules .entry)) (now (fronts .entry)) (now (lines .entry)))
+        (record { code = r; state = now (state .exit); ideal = now (ideal .exit); slices = lent (now (kept .exit)) (now (rules .exit)) (now (fronts .exit)) (now (lines .exit)) }) ⌝ }
 {
     let answer = nsga3::nsga3_select(
         pool,
@@ -39,6 +40,7 @@ pub fn select_words(
         Rng { s: *state },
         ideal,
         kept,
+        rules,
         fronts,
         lines,
     );

@@ -1,13 +1,15 @@
--- DEMAND 3 as the public calls promise it: a call that is not refused hands out a kept list that meets it.
+-- DEMAND 3 and M-108 as the public calls promise them: a call that is not refused hands out a kept list that meets the one, and beside it rules that meet the
+-- other.
 use Prim.Native.Nat.{ℕ, _+_, _*_, _≤_}
 use mathlib.Core.Path.{_≡_, refl, ap, sym, subst}
 use mathlib.Core.Bool.{true, false}
 use mathlib.Core.List.{List}
 use mathlib.Core.Option.{Option, none, some}
 use native.Mathlib.Omega.{arith}
-use lib.ListN.{length, getD, length-take}
+use lib.ListN.{length, getD, take, length-take}
 use borrow.Author.Tests.{le-ltb}
 use Rattle.model.specs.declared.Distribution.{Distribution}
+use Rattle.model.specs.Lists.{over}
 use Rattle.model.specs.Plan.{planAt, planWords}
 use Rattle.model.specs.Association.{Request, objectives}
 use Rattle.model.specs.Kept.{Selected, selected}
@@ -16,13 +18,14 @@ use Rattle.model.specs.Session.{State, bredFrom, breeds, requestOf}
 use Rattle.model.specs.Property.{SessionOk}
 use Rattle.model.specs.Refusal.{Room, badDirections, badDivisions, badPool, selectRefusal, stepRefusal, sampleRefusal}
 use Rattle.model.specs.Demand3.{Demand3}
+use Rattle.model.specs.Rules.{Ruled}
 use Rattle.model.specs.Calls.{refusedBy, Lent, roomOf, handedOut, selectAccepted, selectBy, selectOf, Selects, stepAccepted, stepBy, stepOf, Steps}
 use Rattle.list_laws.proofs.Built.{over-take}
 use Rattle.list_laws.proofs.Checks.{pool-plan}
 use Rattle.front_laws.proofs.Plans.{InWords, in-words, words-accepted}
 use Rattle.demand3_laws.specs.Facts.{Accepted}
 use Rattle.demand3_laws.proofs.Passed.{some-objectives, select-passed, passed, sample-passed}
-use Rattle.demand3_laws.proofs.Accepted.{demand3}
+use Rattle.demand3_laws.proofs.Accepted.{demand3, ruled}
 
 -- ---- plans that lie in a slice of words
 
@@ -52,6 +55,14 @@ unfolding stepAccepted
 step-refused o r at offspring none = refl
 step-refused o r at offspring (some n) = refl
 
+-- ---- the first entries of the slices that a selection lays its two lists over
+
+module _ (r : Request) (kept rules : List ℕ) where
+  ruled-over : (k u : List ℕ) → Ruled r kept rules → Ruled r (take (length kept) (over kept k)) (take (length kept) (over rules u))
+  ruled-over k u d =
+      subst (λ (l : List ℕ). Ruled r l (take (length kept) (over rules u))) (sym (over-take kept k (length kept) refl))
+      (subst (Ruled r kept) (sym (over-take rules u (length kept) (d .long))) d)
+
 -- ---- a generation step from two plans on breeds, and keeps what a selection keeps
 
 pub generation-many : (o : Operators) (r : Request) → 2 ≤ r .count → generation o r ≡ generationOf o r
@@ -75,11 +86,17 @@ module _ (r : Request) (words : (p : ℕ) → InWords (r .plans p)) where
     whole = refl;
     refused = select-refused r entry (selectRefusal r (roomOf entry));
     demand3 = λ e enough. go e (demand3 r (select-accepted (roomOf entry) e) enough);
+    ruled = λ e. rules e (ruled r (select-accepted (roomOf entry) e));
   }
     where
       go : selectRefusal r (roomOf entry) ≡ none → Demand3 r (selected r .kept)
           → Demand3 r (handedOut (selectOf r entry .answer .outcome) (selectOf r entry .slices .kept))
       go e d = rw e (subst (Demand3 r) (sym (over-take (selected r .kept) (entry .kept) (length (selected r .kept)) refl)) d)
+
+      rules : selectRefusal r (roomOf entry) ≡ none → Ruled r (selected r .kept) (selected r .rules)
+          → Ruled r (handedOut (selectOf r entry .answer .outcome) (selectOf r entry .slices .kept))
+          (handedOut (selectOf r entry .answer .outcome) (selectOf r entry .slices .rules))
+      rules e d = rw e (ruled-over r (selected r .kept) (selected r .rules) (entry .kept) (entry .rules) d)
 
   -- ---- `nsga3_generate_offspring`
 
@@ -96,9 +113,15 @@ module _ (r : Request) (words : (p : ℕ) → InWords (r .plans p)) where
         whole = refl;
         refused = step-refused o r entry offspring (stepRefusal o r (roomOf entry) (length offspring));
         demand3 = λ e two enough. go e (subst (Demand3 r) (sym (ap (λ (s : Selected). s .kept) (generation-selects o r two))) (demand3 r (step-accepted o (roomOf entry) (length offspring) e) enough));
+        ruled = λ e two. rules e (subst (λ (s : Selected). Ruled r (s .kept) (s .rules)) (sym (generation-selects o r two)) (ruled r (step-accepted o (roomOf entry) (length offspring) e)));
         bounds = bounds;
       }
     where
+      rules : stepRefusal o r (roomOf entry) (length offspring) ≡ none → Ruled r (generation o r .selection .kept) (generation o r .selection .rules)
+          → Ruled r (handedOut (stepOf o r entry offspring .answer .outcome) (stepOf o r entry offspring .slices .kept))
+          (handedOut (stepOf o r entry offspring .answer .outcome) (stepOf o r entry offspring .slices .rules))
+      rules e d = rw e (ruled-over r (generation o r .selection .kept) (generation o r .selection .rules) (entry .kept) (entry .rules) d)
+
       go : stepRefusal o r (roomOf entry) (length offspring) ≡ none → Demand3 r (generation o r .selection .kept)
           → Demand3 r (handedOut (stepOf o r entry offspring .answer .outcome) (stepOf o r entry offspring .slices .kept))
       go e d = rw e (subst (Demand3 r) (sym (over-take (generation o r .selection .kept) (entry .kept) (length (generation o r .selection .kept)) refl)) d)

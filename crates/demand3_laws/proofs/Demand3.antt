@@ -43,21 +43,21 @@ module _ (r : Request) where
     whole-demand : Demand3 r (before r)
     whole-demand =
         record {
-          listed = sym (whole-kept r strict enough whole);
+          listed = sym (whole-kept r strict whole enough);
           inPool = before-exactly r .below;
           distinct = before-exactly r .distinct;
-          exactly = whole-fill r strict enough whole;
+          exactly = whole-fill r strict whole enough;
           noneBetter = λ p q m h away. no-pass (dominance r q p)
               (λ dom. away (better-before p q (inFirst-more (dominance r) (r .count) (wholeFronts r) p (before-exactly r .passes p m)) h dom));
-          whole = λ k s. absurd (whole-none r strict enough whole k s);
-          least = λ k s. absurd (whole-none r strict enough whole k s);
-          balanced = λ k s. absurd (whole-none r strict enough whole k s);
+          whole = λ k s. absurd (whole-none r strict whole k s);
+          least = λ k s. absurd (whole-none r strict whole k s);
+          balanced = λ k s. absurd (whole-none r strict whole k s);
         }
 
   -- ---- a front is split
 
   module _ (some : 0 < lineCount r) (split : isSplit r ≡ true) where
-    setting : Niching.Split (before r) (splitFront r) (lineOf r) (lineCount r)
+    pub setting : Niching.Split (before r) (splitFront r) (lineOf r) (lineCount r)
     setting =
         record {
           distinct = split-exactly r .distinct;
@@ -160,4 +160,4 @@ module _ (r : Request) where
   pub demand3-strict : Strict (dominance r) (r .count) → r .size ≤ r .count → 0 < lineCount r → Demand3 r (selected r .kept)
   demand3-strict strict enough some = by-bool (isSplit r)
       (λ e. subst (Demand3 r) (sym (split-kept r e)) (split-demand some e))
-      (λ e. subst (Demand3 r) (sym (whole-kept r strict enough e)) (whole-demand strict enough e))
+      (λ e. subst (Demand3 r) (sym (whole-kept r strict e enough)) (whole-demand strict enough e))

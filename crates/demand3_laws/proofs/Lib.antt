@@ -3,8 +3,10 @@ pub mod Fronts
 pub mod Sizes
 pub mod Cut
 pub mod Demand3
+pub mod Rules
 pub mod Accepted
 pub mod Paper
 pub mod Calls
 pub mod Words
 pub mod ListedOrder
+pub mod RuleCases

@@ -40,13 +40,16 @@ pub count-limits : (n : ℕ) → badCount n ≡ false → (0 < n) × (n ≤ maxP
 count-limits n e = one-to maxPool n e
 
 -- each lent slice has room
-pub room-each : (r : Request) (room : Room) → noRoom r room ≡ false → (r .size ≤ room .kept) × (r .count ≤ room .fronts) × (r .count ≤ room .lines)
+pub room-each : (r : Request) (room : Room) → noRoom r room ≡ false
+    → (r .size ≤ room .kept) × (r .size ≤ room .rules) × (r .count ≤ room .fronts) × (r .count ≤ room .lines)
 unfolding noRoom
 room-each r room e =
-    let rest = or-right (ltb (room .kept) (r .size)) _ e in (
+    let past-kept = or-right (ltb (room .kept) (r .size)) _ e in
+    let past-rules = or-right (ltb (room .rules) (r .size)) _ past-kept in (
       ltb-false (room .kept) (r .size) (or-left _ _ e),
-      ltb-false (room .fronts) (r .count) (or-left _ _ rest),
-      ltb-false (room .lines) (r .count) (or-right (ltb (room .fronts) (r .count)) _ rest),
+      ltb-false (room .rules) (r .size) (or-left _ _ past-kept),
+      ltb-false (room .fronts) (r .count) (or-left _ _ past-rules),
+      ltb-false (room .lines) (r .count) (or-right (ltb (room .fronts) (r .count)) _ past-rules),
     )
 
 -- ---- a selection

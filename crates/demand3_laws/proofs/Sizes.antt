@@ -1,6 +1,7 @@
 -- How many plans the whole fronts have beside the size wanted, where a front is split and where none is.
 use Prim.Native.Nat.{ℕ, suc, _+_, _-_, _≤_, _<_}
-use mathlib.Core.Path.{_≡_, sym, ap}
+use mathlib.Core.Path.{_≡_, sym, ap, _∙_}
+use mathlib.Core.Logic.{_⊎_, inl, inr, ⊎-elim}
 use mathlib.Core.Bool.{true, false}
 use mathlib.Core.List.{_++_, append-nil}
 use native.Mathlib.Omega.{arith}
@@ -18,7 +19,7 @@ use Rattle.list_laws.proofs.First.{firstBelow-le, firstBelow-passes}
 use Rattle.list_laws.proofs.Rows.{joinBelow-up}
 use Rattle.front_laws.specs.Strict.{Strict}
 use Rattle.front_laws.proofs.Listings.{listing-grows}
-use Rattle.front_laws.proofs.Order.{listing-length}
+use Rattle.front_laws.proofs.Order.{listing-length, listing-room}
 use Rattle.front_laws.proofs.Theorems.{listing-length-n}
 use Rattle.niching_laws.proofs.KeptLength.{before-le}
 
@@ -55,6 +56,16 @@ module _ (r : Request) where
     pub split-room : r .size - length (before r) ≤ length (splitFront r)
     split-room = omega (arith, next-exceeds split-inside)
 
+    -- and the pool has more than the size
+    pub split-many : r .size < r .count
+    unfolding before splitFront
+    split-many = omega (
+      arith,
+      next-exceeds split-inside,
+      listing-grows (dominance r) (r .count) (wholeFronts r),
+      listing-room (dominance r) (r .count) (suc (wholeFronts r)),
+    )
+
     pub split-kept : selected r .kept ≡ before r ++ filled r .value
     unfolding selected selectedSplit
     split-kept = rw split
@@ -72,27 +83,35 @@ module _ (r : Request) where
           s .fallShort,
         ))
 
-  -- where none is, from a pool of at least the size
-  module _ (strict : Strict (dominance r) (r .count)) (enough : r .size ≤ r .count) (whole : isSplit r ≡ false) where
-    -- the whole fronts fill the size
-    pub whole-fill : length (before r) ≡ r .size
+  -- where none is
+  module _ (strict : Strict (dominance r) (r .count)) (whole : isSplit r ≡ false) where
+    -- the whole fronts fill the size, or are the pool
+    pub whole-reach : (length (before r) ≡ r .size) ⊎ (length (before r) ≡ r .count)
     unfolding isSplit before wholeFronts
-    whole-fill = by-bool (ltb (wholeFronts r) (r .count))
-        (λ e. omega (arith, before-le r, ltb-false (len (wholeFronts r)) (r .size) (rw e at whole)))
+    whole-reach = by-bool (ltb (wholeFronts r) (r .count))
+        (λ e. inl (omega (arith, before-le r, ltb-false (len (wholeFronts r)) (r .size) (rw e at whole))))
         (λ e. let last : wholeFronts r ≡ r .count = last-one (ltb-false (wholeFronts r) (r .count) e) in
-        omega (arith, before-le r, ap len last, listing-length-n (dominance r) (r .count) strict))
+        inr (ap len last ∙ listing-length-n (dominance r) (r .count) strict))
       where
         last-one : r .count ≤ wholeFronts r → wholeFronts r ≡ r .count
         last-one h = omega (arith, firstBelow-le (exceedsSize r) (r .count))
 
-    pub whole-kept : selected r .kept ≡ before r
-    unfolding selected selectedWhole inTurn
-    whole-kept = rw (whole, none) (append-nil (before r))
-      where
-        none : r .size - length (before r) ≡ 0
-        none = omega (arith, whole-fill)
-
+    -- so the front after them cannot exceed it
     pub whole-none : (k : ℕ) → Split r k → ⊥
     unfolding before
     whole-none k s = by-lt k (wholeFronts r) (whole-not k s)
-        (λ l. omega (arith, whole-fill, sizeOf-len k, s .fallShort, joinBelow-up (front (dominance r) (r .count)) (wholeFronts r) k l))
+        (λ l. let more = joinBelow-up (front (dominance r) (r .count)) (wholeFronts r) k l in
+        ⊎-elim (λ e. omega (arith, sizeOf-len k, s .fallShort))
+        (λ e. omega (arith, before-le r, sizeOf-len (suc k), listing-room (dominance r) (r .count) (suc k), s .exceed)) whole-reach)
+
+    -- from a pool of at least the size
+    module _ (enough : r .size ≤ r .count) where
+      pub whole-fill : length (before r) ≡ r .size
+      whole-fill = ⊎-elim (λ e. e) (λ e. omega (arith, before-le r)) whole-reach
+
+      pub whole-kept : selected r .kept ≡ before r
+      unfolding selected selectedWhole inTurn
+      whole-kept = rw (whole, none) (append-nil (before r))
+        where
+          none : r .size - length (before r) ≡ 0
+          none = omega (arith, whole-fill)

@@ -10,6 +10,7 @@ use Rattle.model.specs.declared.Outcome.{Outcome}
 use Rattle.model.specs.declared.Outcome.the-variants as outcome
 use Rattle.model.specs.Association.{Request}
 use Rattle.model.specs.Demand3.{Demand3}
+use Rattle.model.specs.Rules.{Ruled}
 use Rattle.model.specs.Refusal.{selectRefusal}
 use Rattle.model.specs.Setting.{Operators}
 use Rattle.model.specs.Calls.{Lent, roomOf, refusedBy, chosenRefusedBy, handedOut, textHandedOut, SelectExit, Selects, selectOf, selectAccepted, StepExit, Steps, ChooseExit, Tells, Chooses}
@@ -25,6 +26,11 @@ number-told n given refusal above h e = ap refusalOf (h ∙ ap numberOf e) ∙ t
 handed : (q : Request) (o : Outcome) (before : ℕ) (kept : List ℕ) → refusedBy o ≡ none → Demand3 q (handedOut o kept) → Demand3 q (take (keptOf o before) kept)
 handed q (outcome.Kept n) before kept h d = d
 handed q (outcome.Refused n) before kept h d = absurd (Option·some-ne-none n h)
+
+rules-handed : (q : Request) (o : Outcome) (before : ℕ) (kept rules : List ℕ) → refusedBy o ≡ none → Ruled q (handedOut o kept) (handedOut o rules)
+    → Ruled q (take (keptOf o before) kept) (take (keptOf o before) rules)
+rules-handed q (outcome.Kept n) before kept rules h d = d
+rules-handed q (outcome.Refused n) before kept rules h d = absurd (Option·some-ne-none n h)
 
 pub text-handed : (o : Chosen) (before : ℕ) (out : List ℕ) → chosenRefusedBy o ≡ none → textHandedOut o out ≡ take (chosenLength o before) out
 text-handed (chosen.Written n) before out h = refl
@@ -42,6 +48,8 @@ select-coded q at e n s h =
       refused = number-told n _ _ (select-above q (roomOf at)) h (s .refused);
       demand3 = λ a enough.
           subst (λ x. Demand3 q (handedOut x (e .slices .kept))) (ap (λ (x : SelectExit). x .answer .outcome) (s .whole) ∙ select-kept q at a) (s .demand3 a enough);
+      ruled = λ a.
+          subst (λ x. Ruled q (handedOut x (e .slices .kept)) (handedOut x (e .slices .rules))) (ap (λ (x : SelectExit). x .answer .outcome) (s .whole) ∙ select-kept q at a) (s .ruled a);
     }
 
 module _ (p : Operators) (q : Request) (at : Lent) (old : List ℕ) (e : StepExit) (n k before : ℕ) (s : Steps p q at old e)
@@ -53,6 +61,9 @@ module _ (p : Operators) (q : Request) (at : Lent) (old : List ℕ) (e : StepExi
         refused = number-told n _ _ (step-above p q (roomOf at) (length old)) h (s .refused);
         demand3 = λ a two enough.
             subst (λ x. Demand3 q (take x (e .slices .kept))) (sym i) (handed q (e .answer .outcome) before (e .slices .kept) (s .refused ∙ a) (s .demand3 a two enough));
+        ruled = λ a two.
+            subst (λ x. Ruled q (take x (e .slices .kept)) (take x (e .slices .rules))) (sym i)
+            (rules-handed q (e .answer .outcome) before (e .slices .kept) (e .slices .rules) (s .refused ∙ a) (s .ruled a two));
         bounds = s .bounds;
       }
 

@@ -24,6 +24,7 @@ use Rattle.model.specs.declared.Rng.{Rng}
 use Rattle.model.specs.Association.{Request}
 use Rattle.model.specs.Calls.{Lent, roomOf, refusedBy, chosenRefusedBy, SelectExit, StepExit, ChooseExit, SampleExit, selectOf, stepOf, openOf, sampleOf, chooseOf, Bred, Tells}
 use Rattle.model.specs.Demand3.{Demand3}
+use Rattle.model.specs.Rules.{Ruled}
 use Rattle.model.specs.Lists.{over}
 use Rattle.model.specs.PoolFile.{PoolFile, parse, fileText}
 use Rattle.model.specs.Reference.{orElse}
@@ -75,11 +76,12 @@ selectedAs code e = record { code = code; state = e .answer .rng .s; ideal = e .
 abbrev pub selected : SelectExit → Selected
 selected e = selectedAs (codeOf (e .answer .outcome)) e
 
--- THE PROMISE of `locustdomino_select`. The list that it hands out is the first `size` entries of `kept`
+-- THE PROMISE of `locustdomino_select`. The list that it hands out is the first `size` entries of `kept`, and its rules are those of `rules`
 pub record SelectsWords (r : Request) (entry : Lent) (exit : Selected) : Type 0 where
   pub whole : exit ≡ selected (selectOf r entry)
   pub refused : refusalOf (exit .code) ≡ selectRefusal r (roomOf entry)
   pub demand3 : selectRefusal r (roomOf entry) ≡ none → r .size ≤ r .count → Demand3 r (take (r .size) (exit .slices .kept))
+  pub ruled : selectRefusal r (roomOf entry) ≡ none → Ruled r (take (r .size) (exit .slices .kept)) (take (r .size) (exit .slices .rules))
 
 pub record Stepped : Type 0 where
   pub code : ℕ
@@ -102,13 +104,15 @@ steppedAs code kept e = record {
 abbrev pub stepped : ℕ → StepExit → Stepped
 stepped old e = steppedAs (codeOf (e .answer .outcome)) (keptOf (e .answer .outcome) old) e
 
--- THE PROMISE of `locustdomino_generate_offspring`; `old` is the number that `n_kept` had. The list that it hands out is the first `n_kept` entries of `kept`;
--- it selects from a pool of two plans on, and hands out no setting outside its bounds
+-- THE PROMISE of `locustdomino_generate_offspring`; `old` is the number that `n_kept` had. The list that it hands out is the first `n_kept` entries of `kept`,
+-- and its rules are those of `rules`; it selects from a pool of two plans on, and hands out no setting outside its bounds
 pub record StepsWords (o : Operators) (r : Request) (entry : Lent) (offspring : List ℕ) (old : ℕ) (exit : Stepped) : Type 0 where
   pub whole : exit ≡ stepped old (stepOf o r entry offspring)
   pub refused : refusalOf (exit .code) ≡ stepRefusal o r (roomOf entry) (length offspring)
   pub demand3 : stepRefusal o r (roomOf entry) (length offspring) ≡ none → 2 ≤ r .count → r .size ≤ r .count
       → Demand3 r (take (exit .kept) (exit .slices .kept))
+  pub ruled : stepRefusal o r (roomOf entry) (length offspring) ≡ none → 2 ≤ r .count
+      → Ruled r (take (exit .kept) (exit .slices .kept)) (take (exit .kept) (exit .slices .rules))
   pub bounds : stepRefusal o r (roomOf entry) (length offspring) ≡ none → WordsWithin (o .dims) (o .dimCount) (r .size) (exit .offspring)
 
 -- the operators of a step whose dimensions are given as words: as many as are there whole

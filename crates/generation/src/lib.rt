@@ -18,14 +18,15 @@ pub fn nsga3_generate_offspring(
     operators: Operators,
     ideal: &mut [f64],
     kept: &mut [usize],
+    rules: &mut [u8],
     fronts: &mut [usize],
     lines: &mut [usize],
     offspring: &mut [u64],
 ) -> Selection
     ensures { λ r. ⌜ Steps (operatorsIn operators)
         (wordRequest (now (pool .entry)) (now (directions .entry)) divisions size rng (now (ideal .entry)))
-        (lent (now (kept .entry)) (now (fronts .entry)) (now (lines .entry))) (now (offspring .entry))
-        (stepExit r (now (ideal .exit)) (lent (now (kept .exit)) (now (fronts .exit)) (now (lines .exit))) (now (offspring .exit))) ⌝ }
+        (lent (now (kept .entry)) (now (rules .entry)) (now (fronts .entry)) (now (lines .entry))) (now (offspring .entry))
+        (stepExit r (now (ideal .exit)) (lent (now (kept .exit)) (now (rules .exit)) (now (fronts .exit)) (now (lines .exit))) (now (offspring .exit))) ⌝ }
 {
     let check = step_refusal::refusal(
         pool,
@@ -36,6 +37,7 @@ pub fn nsga3_generate_offspring(
         operators,
         ideal,
         kept.len(),
+        rules.len(),
         fronts.len(),
         lines.len(),
         offspring.len(),
@@ -54,6 +56,7 @@ pub fn nsga3_generate_offspring(
             operators,
             ideal,
             kept,
+            rules,
             fronts,
             lines,
             offspring,

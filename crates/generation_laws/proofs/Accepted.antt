@@ -26,7 +26,7 @@ module _ {o : Operators} {r : Request} {room : Room} {offspring : ℕ} (p : Pass
   kept-room h = room-each r room (select-room h) .0
 
   pub fronts-room : 2 ≤ r .count → r .count ≤ room .fronts
-  fronts-room h = room-each r room (select-room h) .1
+  fronts-room h = room-each r room (select-room h) .2
 
   pub selects : 2 ≤ r .count → selectRefusal r room ≡ none
   unfolding selectRefusal firstOf

@@ -23,6 +23,7 @@ fn select_and_breed(
     operators: Operators,
     ideal: &mut [f64],
     kept: &mut [usize],
+    rules: &mut [u8],
     fronts: &mut [usize],
     lines: &mut [usize],
     by_rows: &mut [usize],
@@ -31,11 +32,11 @@ fn select_and_breed(
     requires { ⌜ (2 ≤ planCount (now pool)) × (planCount (now pool) ≤ length (now «by_rows»)) ⌝ }
     requires { ⌜ stepRefusal (operatorsIn operators)
         (wordRequest (now pool) (now directions) divisions size rng (now ideal))
-        (roomOf (lent (now kept) (now fronts) (now lines))) (length (now offspring)) ≡ none ⌝ }
-    ensures { λ r. ⌜ stepExit r (now (ideal .exit)) (lent (now (kept .exit)) (now (fronts .exit)) (now (lines .exit))) (now (offspring .exit))
+        (roomOf (lent (now kept) (now rules) (now fronts) (now lines))) (length (now offspring)) ≡ none ⌝ }
+    ensures { λ r. ⌜ stepExit r (now (ideal .exit)) (lent (now (kept .exit)) (now (rules .exit)) (now (fronts .exit)) (now (lines .exit))) (now (offspring .exit))
         ≡ stepAccepted (operatorsIn operators)
         (wordRequest (now (pool .entry)) (now (directions .entry)) divisions size rng (now (ideal .entry)))
-        (lent (now (kept .entry)) (now (fronts .entry)) (now (lines .entry))) (now (offspring .entry)) ⌝ }
+        (lent (now (kept .entry)) (now (rules .entry)) (now (fronts .entry)) (now (lines .entry))) (now (offspring .entry)) ⌝ }
 {
     let selection = nsga3::nsga3_select(
         pool,
@@ -45,6 +46,7 @@ fn select_and_breed(
         rng,
         ideal,
         kept,
+        rules,
         fronts,
         lines,
     );
@@ -74,17 +76,18 @@ pub fn step(
     operators: Operators,
     ideal: &mut [f64],
     kept: &mut [usize],
+    rules: &mut [u8],
     fronts: &mut [usize],
     lines: &mut [usize],
     offspring: &mut [u64],
 ) -> Selection
     requires { ⌜ stepRefusal (operatorsIn operators)
         (wordRequest (now pool) (now directions) divisions size rng (now ideal))
-        (roomOf (lent (now kept) (now fronts) (now lines))) (length (now offspring)) ≡ none ⌝ }
-    ensures { λ r. ⌜ stepExit r (now (ideal .exit)) (lent (now (kept .exit)) (now (fronts .exit)) (now (lines .exit))) (now (offspring .exit))
+        (roomOf (lent (now kept) (now rules) (now fronts) (now lines))) (length (now offspring)) ≡ none ⌝ }
+    ensures { λ r. ⌜ stepExit r (now (ideal .exit)) (lent (now (kept .exit)) (now (rules .exit)) (now (fronts .exit)) (now (lines .exit))) (now (offspring .exit))
         ≡ stepAccepted (operatorsIn operators)
         (wordRequest (now (pool .entry)) (now (directions .entry)) divisions size rng (now (ideal .entry)))
-        (lent (now (kept .entry)) (now (fronts .entry)) (now (lines .entry))) (now (offspring .entry)) ⌝ }
+        (lent (now (kept .entry)) (now (rules .entry)) (now (fronts .entry)) (now (lines .entry))) (now (offspring .entry)) ⌝ }
 {
     let count = plans::plan_count(pool);
     if count < 2 {
@@ -105,6 +108,7 @@ pub fn step(
         operators,
         ideal,
         kept,
+        rules,
         fronts,
         lines,
         &mut row_fronts,

@@ -22,12 +22,13 @@ pub extern "C" fn locustdomino_select(
     state: &mut u64,
     ideal: &mut [f64],
     kept: &mut [usize],
+    rules: &mut [u8],
     fronts: &mut [usize],
     lines: &mut [usize],
 ) -> u64
     ensures { λ r. ⌜ SelectsWords (wordRequest (now (pool .entry)) (now (directions .entry)) divisions size (rngOf (now (state .entry))) (now (ideal .entry)))
-        (lent (now (kept .entry)) (now (fronts .entry)) (now (lines .entry)))
-        (record { code = r; state = now (state .exit); ideal = now (ideal .exit); slices = lent (now (kept .exit)) (now (fronts .exit)) (now (lines .exit)) }) ⌝ }
+        (lent (now (kept .entry)) (now (rules .entry)) (now (fronts .entry)) (now (lines .entry)))
+        (record { code = r; state = now (state .exit); ideal = now (ideal .exit); slices = lent (now (kept .exit)) (now (rules .exit)) (now (fronts .exit)) (now (lines .exit)) }) ⌝ }
 {
     c_select::select_words(
         pool,
@@ -37,6 +38,7 @@ pub extern "C" fn locustdomino_select(
         state,
         ideal,
         kept,
+        rules,
         fronts,
         lines,
     )
@@ -57,6 +59,7 @@ pub extern "C" fn locustdomino_generate_offspring(
     mutation_eta: f64,
     ideal: &mut [f64],
     kept: &mut [usize],
+    rules: &mut [u8],
     fronts: &mut [usize],
     lines: &mut [usize],
     offspring: &mut [u64],
@@ -64,8 +67,8 @@ pub extern "C" fn locustdomino_generate_offspring(
 ) -> u64
     ensures { λ r. ⌜ StepsWords (wordOperators (now (dimensions .entry)) «crossover_prob» «crossover_eta» «mutation_eta»)
         (wordRequest (now (pool .entry)) (now (directions .entry)) divisions size (rngOf (now (state .entry))) (now (ideal .entry)))
-        (lent (now (kept .entry)) (now (fronts .entry)) (now (lines .entry))) (now (offspring .entry)) (now («n_kept» .entry))
-        (record { code = r; kept = now («n_kept» .exit); state = now (state .exit); ideal = now (ideal .exit); slices = lent (now (kept .exit)) (now (fronts .exit)) (now (lines .exit)); offspring = now (offspring .exit) }) ⌝ }
+        (lent (now (kept .entry)) (now (rules .entry)) (now (fronts .entry)) (now (lines .entry))) (now (offspring .entry)) (now («n_kept» .entry))
+        (record { code = r; kept = now («n_kept» .exit); state = now (state .exit); ideal = now (ideal .exit); slices = lent (now (kept .exit)) (now (rules .exit)) (now (fronts .exit)) (now (lines .exit)); offspring = now (offspring .exit) }) ⌝ }
 {
     c_generate::generate_offspring_words(
         pool,
@@ -79,6 +82,7 @@ pub extern "C" fn locustdomino_generate_offspring(
         mutation_eta,
         ideal,
         kept,
+        rules,
         fronts,
         lines,
         offspring,

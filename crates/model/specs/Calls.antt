@@ -28,6 +28,7 @@ use Rattle.model.specs.Plan.{planAt, planCount}
 use Rattle.model.specs.Association.{Request}
 use Rattle.model.specs.Kept.{Selected, selected, noLine}
 use Rattle.model.specs.Demand3.{Demand3}
+use Rattle.model.specs.Rules.{Ruled}
 use Rattle.model.specs.Setting.{Operators, Generation, generation, inBounds, wordsOf, WordsWithin}
 use Rattle.model.specs.Session.{State, Answered, given, opened, blank, accepted, state, breeds, requestOf, bredBy, sampleFromCandidate, asked}
 use Rattle.model.specs.PoolFile.{PoolFile, parse, fileRequest, listingText, fileText, refusedText}
@@ -79,14 +80,15 @@ wordRequest pool directions divisions size rng ideal = record {
 -- the lent slices of a selection beside the ideal
 pub record Lent : Type 0 where
   pub kept : List ℕ
+  pub rules : List ℕ
   pub fronts : List ℕ
   pub lines : List ℕ
 
-abbrev pub lent : List ℕ → List ℕ → List ℕ → Lent
-lent k f l = record { kept = k; fronts = f; lines = l }
+abbrev pub lent : List ℕ → List ℕ → List ℕ → List ℕ → Lent
+lent k u f l = record { kept = k; rules = u; fronts = f; lines = l }
 
 abbrev pub roomOf : Lent → Room
-roomOf at = record { kept = length (at .kept); fronts = length (at .fronts); lines = length (at .lines) }
+roomOf at = record { kept = length (at .kept); rules = length (at .rules); fronts = length (at .fronts); lines = length (at .lines) }
 
 pub record SelectExit : Type 0 where
   pub answer : Selection
@@ -101,7 +103,7 @@ answered o s = record { outcome = o; rng = record { s = s } }
 
 -- what a selection leaves in the lent slices
 abbrev pub laid : Selected → Lent → Lent
-laid sel at = lent (over (sel .kept) (at .kept)) (over (sel .fronts) (at .fronts)) (over (sel .lines) (at .lines))
+laid sel at = lent (over (sel .kept) (at .kept)) (over (sel .rules) (at .rules)) (over (sel .fronts) (at .fronts)) (over (sel .lines) (at .lines))
 
 unfoldable pub selectAccepted : Request → Lent → SelectExit
 selectAccepted r at =
@@ -120,6 +122,8 @@ pub record Selects (r : Request) (entry : Lent) (exit : SelectExit) : Type 0 whe
   pub whole : exit ≡ selectOf r entry
   pub refused : refusedBy (exit .answer .outcome) ≡ selectRefusal r (roomOf entry)
   pub demand3 : selectRefusal r (roomOf entry) ≡ none → r .size ≤ r .count → Demand3 r (handedOut (exit .answer .outcome) (exit .slices .kept))
+  pub ruled : selectRefusal r (roomOf entry) ≡ none
+      → Ruled r (handedOut (exit .answer .outcome) (exit .slices .kept)) (handedOut (exit .answer .outcome) (exit .slices .rules))
 
 -- ---- `nsga3_generate_offspring`
 
@@ -154,6 +158,8 @@ pub record Steps (o : Operators) (r : Request) (entry : Lent) (offspring : List 
   pub refused : refusedBy (exit .answer .outcome) ≡ stepRefusal o r (roomOf entry) (length offspring)
   pub demand3 : stepRefusal o r (roomOf entry) (length offspring) ≡ none → 2 ≤ r .count → r .size ≤ r .count
       → Demand3 r (handedOut (exit .answer .outcome) (exit .slices .kept))
+  pub ruled : stepRefusal o r (roomOf entry) (length offspring) ≡ none → 2 ≤ r .count
+      → Ruled r (handedOut (exit .answer .outcome) (exit .slices .kept)) (handedOut (exit .answer .outcome) (exit .slices .rules))
   pub bounds : stepRefusal o r (roomOf entry) (length offspring) ≡ none → WordsWithin (o .dims) (o .dimCount) (r .size) (exit .offspring)
 
 -- ---- `open`

@@ -5,6 +5,8 @@ use mathlib.Core.List.{List, [], _++_, map}
 use lib.Dec.{eqb, leb, ltb}
 use lib.Ieee.{Float, lt}
 use lib.ListN.{length, getD, replicate}
+use Rattle.model.specs.declared.Rule.{Rule}
+use Rattle.model.specs.declared.Rule.the-variants as rule
 use Rattle.model.specs.Lists.{bestIn, listBelow, keepBelow, firstBelow, allIn, has, keep, tally}
 use Rattle.model.specs.Draw.{Drawn, drawn, drawUsize, drawAll}
 use Rattle.model.specs.Front.{front, listing, frontList}
@@ -66,6 +68,32 @@ pickOne line distance lines before split picked s =
 abbrev pub picks : (ℕ → ℕ) → (ℕ → Float) → ℕ → List ℕ → List ℕ → ℕ → ℕ → Drawn (List ℕ)
 picks line distance lines before split n s = drawAll (λ place picked. pickOne line distance lines before split picked) n s
 
+-- ---- the rules (document 02, M-108)
+
+-- "whole front, nearest on an empty line, drawn on a line whose count was above 0, or padding": "with marks 0 to 3 in that order"
+abbrev pub markOf : Rule → ℕ
+markOf rule.WholeFront = 0
+markOf rule.Nearest = 1
+markOf rule.Drawn = 2
+markOf rule.Padding = 3
+
+-- "\"Nearest\" is given exactly when the line's count was 0 at that pick": the rule of a pick, by the niche count of the line that it took
+abbrev pub ruleOf : ℕ → Rule
+ruleOf zero = rule.Nearest
+ruleOf (suc count) = rule.Drawn
+
+-- that count: of the line which the pick draws, before it
+unfoldable pub countAtPick : (ℕ → ℕ) → ℕ → List ℕ → List ℕ → List ℕ → ℕ → ℕ
+countAtPick line lines before split picked s =
+    let counts = nicheCount line (before ++ picked) in
+    counts (drawFrom (leastLines counts (openLines line lines (waiting split picked))) s .value)
+
+-- the marks of n picks, each by what it found
+unfoldable pub pickRules : (ℕ → ℕ) → (ℕ → Float) → ℕ → List ℕ → List ℕ → ℕ → ℕ → List ℕ
+pickRules line distance lines before split n s = listBelow (λ i.
+    let so-far = picks line distance lines before split i s in
+    markOf (ruleOf (countAtPick line lines before split (so-far .value) (so-far .state)))) n
+
 -- ---- the list
 
 -- front k, with those before it, exceeds the size
@@ -91,6 +119,15 @@ unfoldable pub filled : Request → Drawn (List ℕ)
 filled r =
     picks (lineOf r) (λ p. association r p .distance) (lineCount r) (before r) (splitFront r) (r .size - length (before r)) (r .state)
 
+-- the rules of those places
+unfoldable pub filledRules : Request → List ℕ
+filledRules r =
+    pickRules (lineOf r) (λ p. association r p .distance) (lineCount r) (before r) (splitFront r) (r .size - length (before r)) (r .state)
+
+-- the rules of the fronts listed whole
+abbrev pub wholeRules : Request → List ℕ
+wholeRules r = replicate (length (before r)) (markOf rule.WholeFront)
+
 -- "A pool smaller than the size is padded with `usize(0..n)`.": k draws
 abbrev pub padding : ℕ → ℕ → ℕ → Drawn (List ℕ)
 padding n k s = drawAll (λ place listed. drawUsize n) k s
@@ -99,9 +136,11 @@ padding n k s = drawAll (λ place listed. drawUsize n) k s
 abbrev pub noLine : ℕ
 noLine = 2 ^ 64 - 1
 
--- what a selection hands out: the kept list, the front and the line of each plan, the ideal and the generator's state
+-- what a selection hands out: the kept list, "a second list beside every kept list handed out, as long" (M-108), the front and the line of each plan, the
+-- ideal and the generator's state
 pub record Selected : Type 0 where
   pub kept : List ℕ
+  pub rules : List ℕ
   pub fronts : List ℕ
   pub lines : List ℕ
   pub ideal : List Float
@@ -109,7 +148,7 @@ pub record Selected : Type 0 where
 
 -- where nothing is selected: no list, and ideal and generator as they were
 abbrev pub unselected : Request → Selected
-unselected r = record { kept = []; fronts = []; lines = []; ideal = r .ideal; state = r .state }
+unselected r = record { kept = []; rules = []; fronts = []; lines = []; ideal = r .ideal; state = r .state }
 
 -- where a front is split, its open places are filled, the ideal moves and every plan has a line
 unfoldable pub selectedSplit : Request → Selected
@@ -117,6 +156,7 @@ selectedSplit r =
     let f = filled r in
     record {
       kept = before r ++ f .value;
+      rules = wholeRules r ++ filledRules r;
       fronts = frontList (dominance r) (r .count);
       lines = listBelow (lineOf r) (r .count);
       ideal = listBelow (idealOf r) (objectives r);
@@ -129,6 +169,7 @@ selectedWhole r =
     let p = padding (r .count) (r .size - length (before r)) (r .state) in
     record {
       kept = before r ++ p .value;
+      rules = wholeRules r ++ replicate (r .size - length (before r)) (markOf rule.Padding);
       fronts = frontList (dominance r) (r .count);
       lines = replicate (r .count) noLine;
       ideal = r .ideal;

@@ -10,6 +10,7 @@ pub mod Association
 pub mod Kept
 pub mod Papers
 pub mod Demand3
+pub mod Rules
 pub mod Setting
 pub mod Session
 pub mod PoolFile

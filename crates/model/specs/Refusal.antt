@@ -172,13 +172,14 @@ badParents o r = someFails (breedable (o .dims) (o .dimCount)) r
 -- the lengths of a selection's lent slices, beside the ideal's
 pub record Room : Type 0 where
   pub kept : ℕ
+  pub rules : ℕ
   pub fronts : ℕ
   pub lines : ℕ
 
--- 10. "A lent slice is shorter than the call's full answer."
+-- 10. "A lent slice is shorter than the call's full answer." Document 02, M-108: "A lent slice too short for the second list falls under refusal 10."
 -- for what a selection of a size hands out of n plans
 abbrev pub tooShort : Room → ℕ → ℕ → Bool
-tooShort room size n = ltb (room .kept) size || (ltb (room .fronts) n || ltb (room .lines) n)
+tooShort room size n = ltb (room .kept) size || (ltb (room .rules) size || (ltb (room .fronts) n || ltb (room .lines) n))
 
 unfoldable pub noRoom : Request → Room → Bool
 noRoom r room = tooShort room (r .size) (r .count)

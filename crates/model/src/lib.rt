@@ -171,6 +171,15 @@ pub struct Session {
     pub progress: Progress,
 }
 
+// What put a plan on the kept list (document 02, M-108): its front was listed whole, it was the nearest on a line with no plan yet, it was drawn on a line
+// with one, or the pool had no plan left. A list of rules holds their marks, 0 to 3.
+pub enum Rule {
+    WholeFront,
+    Nearest,
+    Drawn,
+    Padding,
+}
+
 // What a selection or a generation step answers: how many plans its kept list has, or why it was turned down.
 pub enum Outcome {
     Kept(usize),

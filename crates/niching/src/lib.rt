@@ -9,7 +9,13 @@ ghost use Rattle.niching_array_laws.specs.Niche.{lineIn, countOf, OnLines, Zero
 use model::MAX_LINES;
 use model::MAX_POOL;
 use model::Rng;
-use rng_util::DrawnUsize;
+
+// A picked plan, with the niche count that its line had before the pick.
+struct Picked {
+    value: usize,
+    count: usize,
+    rng: Rng,
+}
 
 // How many of the plans are on each line.
 fn count_lines(plans: &[usize], lines: &[usize], counts: &mut [usize])
@@ -33,7 +39,8 @@ fn count_waiting(front: &[usize], lines: &[usize], waits: &mut [usize])
     count_lines(front, lines, waits);
 }
 
-// Fills one open place: the plan picked, with the arrays moved on. Its line's number in `waits` is lowered by one, however it was chosen (M-104).
+// Fills one open place: the plan picked, with the arrays moved on. Its line's number in `waits` is lowered by one, however it was chosen (M-104). The count by
+// which it was chosen is handed out, and not the one after it: by that the place gets its rule (M-108).
 fn pick(
     rng: Rng,
     front: &[usize],
@@ -43,10 +50,10 @@ fn pick(
     counts: &mut [usize],
     waits: &mut [usize],
     taken: &mut [bool],
-) -> DrawnUsize
+) -> Picked
     requires { ⌜ Ready (now front) (now lines) (now distances) n (now counts) (now waits) (now taken) ⌝ }
     ensures { λ r. ⌜ Took (now (front .entry)) (now (lines .entry)) (now (distances .entry)) n (rng .s) (now (counts .entry)) (now (counts .exit))
-        (now (waits .entry)) (now (waits .exit)) (now (taken .entry)) (now (taken .exit)) (r .value) (r .rng .s) ⌝ }
+        (now (waits .entry)) (now (waits .exit)) (now (taken .entry)) (now (taken .exit)) (r .value) (r .count) (r .rng .s) ⌝ }
 {
     let d = niching_lines::choose_line(rng, counts, waits, n);
     let l = d.value;
@@ -56,14 +63,15 @@ fn pick(
     let m = niching_members::choose_member(rng, front, lines, distances, taken, l, count, waiting);
     let place = m.value;
     let rng = m.rng;
-    counts[l] = count + 1;
+    let raised = count + 1;
+    counts[l] = raised;
     waits[l] = waiting - 1;
     taken[place] = true;
     let value = front[place];
-    DrawnUsize { value, rng }
+    Picked { value, count, rng }
 }
 
-// Picks `open` plans of the split front, which stands in the order from `start` to `end`; the plans before it are kept already.
+// Picks `open` plans of the split front, which stands in the order from `start` to `end`, each with its mark; the plans before it are kept already.
 pub fn niching_select(
     rng: Rng,
     order: &[usize],
@@ -74,10 +82,11 @@ pub fn niching_select(
     n_lines: usize,
     open: usize,
     picked: &mut [usize],
+    rules: &mut [u8],
 ) -> Rng
-    requires { ⌜ Splits (now order) start end (now lines) (now distances) «n_lines» «open» (now picked) ⌝ }
+    requires { ⌜ Splits (now order) start end (now lines) (now distances) «n_lines» «open» (now picked) (now rules) ⌝ }
     ensures { λ r. ⌜ NichingSelects (now (order .entry)) start end (now (lines .entry)) (now (distances .entry)) «n_lines» «open» (rng .s)
-        (now (picked .entry)) (now (picked .exit)) (r .s) ⌝ }
+        (now (picked .entry)) (now (picked .exit)) (now (rules .entry)) (now (rules .exit)) (r .s) ⌝ }
 {
     let before = &order[..start];
     let front = &order[start..end];
@@ -100,6 +109,8 @@ pub fn niching_select(
             &mut taken,
         );
         picked[at] = d.value;
+        let rule = rule_marks::rule_of(d.count);
+        rules[at] = rule_marks::mark(rule);
         rng = d.rng;
         at += 1;
     }

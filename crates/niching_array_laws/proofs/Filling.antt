@@ -8,11 +8,11 @@ use lib.Dec.{eqb}
 use lib.Ieee.{Float}
 use lib.ListN.{length, getD, set, replicate, length-append, length-set, length-replicate}
 use Rattle.model.specs.Lists.{keepBelow, has, Distinct}
-use Rattle.model.specs.Kept.{nicheCount, waiting, openLines, pickOne, pickFrom}
+use Rattle.model.specs.Kept.{nicheCount, waiting, openLines, leastLines, drawFrom, pickOne, pickFrom, countAtPick}
 use Rattle.model.specs.Refusal.{maxPool, maxLines}
 use Rattle.list_laws.proofs.Members.{tally-le, not-has, place-of}
 use Rattle.niching_laws.proofs.Picks.{some-waits}
-use Rattle.niching_array_laws.specs.Niche.{lineIn, distanceIn, countOf, members, OnLines, Measured, Numbered, Stands, Ready, pickAt, Took}
+use Rattle.niching_array_laws.specs.Niche.{lineIn, distanceIn, countOf, members, OnLines, Measured, Numbered, Stands, Ready, pickAt, countAt, Took}
 use Rattle.niching_array_laws.proofs.Counting.{counts-more}
 use Rattle.niching_array_laws.proofs.Numbering.{stands-first, stands-members, stands-open}
 
@@ -52,6 +52,12 @@ module _ {before front lines picked counts waits : List ℕ} {taken : List Bool}
       ap₂ (λ c o. pickFrom (distanceIn distances) c (keepBelow o n) (members front lines taken) s) (fun-ext (h .counted)) (fun-ext (stands-open (h .stands)))
       ∙ ap (λ m. pickFrom (distanceIn distances) (nicheCount (lineIn lines) (before ++ picked)) (openLines (lineIn lines) n (waiting front picked)) m s) (fun-ext (stands-members (h .stands)))
 
+  -- and so is the count that a pick finds
+  pub holds-found : (n s : ℕ) → countAt n counts waits s ≡ countAtPick (lineIn lines) n before front picked s
+  unfolding countAt countAtPick
+  holds-found n s =
+      ap₂ (λ c o. c (drawFrom (leastLines c (keepBelow o n)) s .value)) (fun-ext (h .counted)) (fun-ext (stands-open (h .stands)))
+
   -- a niche count is at most the number of plans listed
   holds-few : (l : ℕ) → countOf counts l ≤ length before + length picked
   holds-few l = omega (arith, h .counted l, tally-le (λ p. eqb (lineIn lines p) l) (before ++ picked), length-append before picked)
@@ -83,8 +89,8 @@ module _ {before front lines picked counts waits : List ℕ} {taken : List Bool}
 
   -- ---- and after it
 
-  module _ {distances : List Float} {n s r t : ℕ} {counts′ waits′ : List ℕ} {taken′ : List Bool} (g : Given before front lines distances n)
-      (k : Took front lines distances n s counts counts′ waits waits′ taken taken′ r t) where
+  module _ {distances : List Float} {n s r count t : ℕ} {counts′ waits′ : List ℕ} {taken′ : List Bool} (g : Given before front lines distances n)
+      (k : Took front lines distances n s counts counts′ waits waits′ taken taken′ r count t) where
     more-counted : (l : ℕ) → countOf counts′ l ≡ nicheCount (lineIn lines) (before ++ (picked ++ (r ∷ []))) l
     more-counted l =
         ap (λ c. countOf c l) (k .counted) ∙ ap (λ v. countOf (set counts v (countOf counts v + 1)) l) (sym (k .onLine))

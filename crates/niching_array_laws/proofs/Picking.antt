@@ -14,7 +14,7 @@ use Rattle.model.specs.Kept.{leastLines, drawFrom, drawMember}
 use Rattle.list_laws.proofs.Bools.{and-right, and-not-left}
 use Rattle.list_laws.proofs.Counts.{countBelow-at}
 use Rattle.list_laws.proofs.Kept.{keepBelow-length}
-use Rattle.niching_array_laws.specs.Niche.{lineIn, distanceIn, memberAt, countOf, hasWaiting, waitsOn, members, Open, MemberOf, Awaits, Ready, pickAt}
+use Rattle.niching_array_laws.specs.Niche.{lineIn, distanceIn, memberAt, countOf, hasWaiting, waitsOn, members, Open, MemberOf, Awaits, Ready, pickAt, countAt}
 use Rattle.niching_array_laws.proofs.Numbering.{stands-awaits}
 
 module _ {front lines : List ℕ} {distances : List Float} {n : ℕ} {counts waits : List ℕ} {taken : List Bool}
@@ -53,3 +53,9 @@ pub picked-at : (front lines : List ℕ) (distances : List Float) (n : ℕ) (cou
 unfolding pickAt
 picked-at front lines distances n counts waits taken s l u r t e m =
     m ∙ ap (λ (d : Drawn ℕ). drawMember (distanceIn distances) (countOf counts (d .value)) (members front lines taken (d .value)) (d .state)) e
+
+-- and the count of that line is the one that the pick found
+pub found-at : (n : ℕ) (counts waits : List ℕ) (s l u : ℕ) → drawn l u ≡ drawFrom (leastLines (countOf counts) (keepBelow (hasWaiting waits) n)) s
+    → countOf counts l ≡ countAt n counts waits s
+unfolding countAt
+found-at n counts waits s l u e = ap (λ (d : Drawn ℕ). countOf counts (d .value)) e

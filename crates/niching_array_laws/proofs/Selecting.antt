@@ -1,62 +1,80 @@
 -- The loop over the open places: the first j are filled as `picks` fills them.
 use Prim.Native.Nat.{ℕ, _+_, _-_, _<_}
-use mathlib.Core.Path.{_≡_, ap, _∙_}
+use mathlib.Core.Path.{_≡_, refl, ap, sym, _∙_}
 use mathlib.Core.Bool.{Bool, false}
 use mathlib.Core.List.{List, []}
 use native.Mathlib.Omega.{arith}
 use lib.Ieee.{Float}
-use lib.ListN.{length, set, take, drop, replicate, length-drop}
+use lib.ListN.{length, set, take, drop, replicate, length-drop, length-set}
 use lib.Seq.{getD-take, getD-drop, length-take-le}
-use Rattle.model.specs.Lists.{over}
+use Rattle.model.specs.Lists.{listBelow, over}
 use Rattle.model.specs.Refusal.{maxPool, maxLines}
 use Rattle.model.specs.Draw.{Drawn, drawn, inTurn}
-use Rattle.model.specs.Kept.{nicheCount, pickOne, picks}
+use Rattle.model.specs.Kept.{nicheCount, pickOne, picks, markOf, ruleOf, countAtPick, pickRules}
+use Rattle.list_laws.proofs.Built.{over-none, over-set}
 use Rattle.list_laws.proofs.Draws.{drawAll-length}
 use Rattle.list_laws.proofs.Written.{WrittenNumbers, written-none, written-next, written-more}
-use Rattle.niching_array_laws.specs.Niche.{lineIn, distanceIn, memberAt, countOf, Zeros, OnLines, Numbered, Ready, Took, Splits, picksOf, NichingSelects}
+use Rattle.niching_array_laws.specs.Niche.{lineIn, distanceIn, memberAt, countOf, Zeros, OnLines, Numbered, Ready, Took, Splits, picksOf, marksOf, NichingSelects}
 use Rattle.niching_array_laws.proofs.Places.{replicate-at}
-use Rattle.niching_array_laws.proofs.Filling.{Given, Holds, holds-first, holds-pick, holds-ready, holds-more}
+use Rattle.niching_array_laws.proofs.Filling.{Given, Holds, holds-first, holds-pick, holds-found, holds-ready, holds-more}
 
 -- how the loop picks
 abbrev pickIn : List ℕ → List Float → ℕ → List ℕ → List ℕ → ℕ → List ℕ → ℕ → Drawn ℕ
 pickIn lines distances n before front place picked = pickOne (lineIn lines) (distanceIn distances) n before front picked
 
+-- the mark of pick i, by what it finds (M-108)
+abbrev markIn : List ℕ → List Float → ℕ → List ℕ → List ℕ → ℕ → ℕ → ℕ
+markIn lines distances n before front s i =
+    let so-far = picks (lineIn lines) (distanceIn distances) n before front i s in
+    markOf (ruleOf (countAtPick (lineIn lines) n before front (so-far .value) (so-far .state)))
+
 -- the state of the loop
-pub record Selecting (before front lines : List ℕ) (distances : List Float) (n s : ℕ) (old : List ℕ) (j : ℕ) (counts waits : List ℕ) (taken : List Bool)
-    (out : List ℕ) (t : ℕ) : Type 0 where
+pub record Selecting (before front lines : List ℕ) (distances : List Float) (n s : ℕ) (old oldRules : List ℕ) (j : ℕ) (counts waits : List ℕ) (taken : List Bool)
+    (out rules : List ℕ) (t : ℕ) : Type 0 where
   pub holds : Holds before front lines (picks (lineIn lines) (distanceIn distances) n before front j s .value) counts waits taken
   pub picked : WrittenNumbers (pickIn lines distances n before front) s old j out t
+  pub marked : rules ≡ over (listBelow (markIn lines distances n before front s) j) oldRules
+  pub same : length rules ≡ length oldRules
 
-pub selecting-first : (before front lines : List ℕ) (distances : List Float) (n s : ℕ) (old counts waits : List ℕ)
+pub selecting-first : (before front lines : List ℕ) (distances : List Float) (n s : ℕ) (old oldRules counts waits : List ℕ)
     → ((l : ℕ) → countOf counts l ≡ nicheCount (lineIn lines) before l) → Numbered front lines [] waits
     → length counts ≡ maxLines → length waits ≡ maxLines
-    → Selecting before front lines distances n s old 0 counts waits (replicate maxPool false) old s
+    → Selecting before front lines distances n s old oldRules 0 counts waits (replicate maxPool false) old oldRules s
 unfolding inTurn
-selecting-first before front lines distances n s old counts waits a b c d = record {
+selecting-first before front lines distances n s old oldRules counts waits a b c d = record {
   holds = holds-first before front lines counts waits a b c d;
   picked = written-none (pickIn lines distances n before front) s old;
+  marked = sym (over-none (markIn lines distances n before front s) oldRules);
+  same = refl;
 }
 
-module _ {before front lines : List ℕ} {distances : List Float} {n s : ℕ} {old : List ℕ} {j : ℕ} {counts waits : List ℕ} {taken : List Bool} {out : List ℕ} {t : ℕ}
-    (h : Selecting before front lines distances n s old j counts waits taken out t) (g : Given before front lines distances n) where
+module _ {before front lines : List ℕ} {distances : List Float} {n s : ℕ} {old oldRules : List ℕ} {j : ℕ} {counts waits : List ℕ} {taken : List Bool}
+    {out rules : List ℕ} {t : ℕ} (h : Selecting before front lines distances n s old oldRules j counts waits taken out rules t)
+    (g : Given before front lines distances n) where
   pub selecting-ready : j < length front → Ready front lines distances n counts waits taken
   selecting-ready u = holds-ready (h .holds) distances n g (omega (arith, drawAll-length (pickIn lines distances n before front) j s))
 
-  pub selecting-more : {counts′ waits′ : List ℕ} {taken′ : List Bool} {r u : ℕ} → j < length old
-      → Took front lines distances n t counts counts′ waits waits′ taken taken′ r u
-      → Selecting before front lines distances n s old (j + 1) counts′ waits′ taken′ (set out j r) u
-  selecting-more {counts′} {waits′} {taken′} {r} {u} v k = record {
+  pub selecting-more : {counts′ waits′ : List ℕ} {taken′ : List Bool} {r count mark u : ℕ} → j < length old → j < length oldRules
+      → Took front lines distances n t counts counts′ waits waits′ taken taken′ r count u → mark ≡ markOf (ruleOf count)
+      → Selecting before front lines distances n s old oldRules (j + 1) counts′ waits′ taken′ (set out j r) (set rules j mark) u
+  selecting-more {counts′} {waits′} {taken′} {r} {count} {mark} {u} v w k e = record {
     holds = rw (← written-next (pickIn lines distances n before front) s old j out t (h .picked) r u chosen) (holds-more (h .holds) g k);
     picked = written-more (pickIn lines distances n before front) s old j out t (h .picked) v r u chosen;
+    marked = over-set (markIn lines distances n before front s) rules oldRules j mark w (h .marked) (e ∙ ap (λ c. markOf (ruleOf c)) found);
+    same = length-set rules j mark ∙ h .same;
   }
     where
       chosen : drawn r u ≡ pickOne (lineIn lines) (distanceIn distances) n before front (picks (lineIn lines) (distanceIn distances) n before front j s .value) t
       chosen = k .chosen ∙ holds-pick (h .holds) distances n t
 
+      found : count ≡ countAtPick (lineIn lines) n before front (picks (lineIn lines) (distanceIn distances) n before front j s .value)
+          (picks (lineIn lines) (distanceIn distances) n before front j s .state)
+      found = k .found ∙ holds-found (h .holds) n t ∙ ap (countAtPick (lineIn lines) n before front (picks (lineIn lines) (distanceIn distances) n before front j s .value)) (h .picked .state)
+
 -- ---- what the caller knows of the order
 
-module _ {order : List ℕ} {start end : ℕ} {lines : List ℕ} {distances : List Float} {n places : ℕ} {picked : List ℕ}
-    (h : Splits order start end lines distances n places picked) where
+module _ {order : List ℕ} {start end : ℕ} {lines : List ℕ} {distances : List Float} {n places : ℕ} {picked rules : List ℕ}
+    (h : Splits order start end lines distances n places picked rules) where
   front-length : length (take (end - start) (drop start order)) ≡ end - start
   front-length = length-take-le (end - start) (drop start order) (omega (arith, length-drop start order, h .inside))
 
@@ -101,12 +119,14 @@ module _ {order : List ℕ} {start end : ℕ} {lines : List ℕ} {distances : Li
   enough-members j u = omega (arith, front-length, h .enough)
 
 -- with all places filled the promise is kept
-pub selecting-done : {order : List ℕ} {start end : ℕ} {lines : List ℕ} {distances : List Float} {n s : ℕ} {old : List ℕ} {j : ℕ} {counts waits : List ℕ}
-    {taken : List Bool} {out : List ℕ} {t : ℕ} (places : ℕ) → j ≡ places
-    → Selecting (take start order) (take (end - start) (drop start order)) lines distances n s old j counts waits taken out t
-    → NichingSelects order start end lines distances n places s old out t
-selecting-done {order} {start} {end} {lines} {distances} {n} {s} {old} places e h = record {
+pub selecting-done : {order : List ℕ} {start end : ℕ} {lines : List ℕ} {distances : List Float} {n s : ℕ} {old oldRules : List ℕ} {j : ℕ} {counts waits : List ℕ}
+    {taken : List Bool} {out rules : List ℕ} {t : ℕ} (places : ℕ) → j ≡ places
+    → Selecting (take start order) (take (end - start) (drop start order)) lines distances n s old oldRules j counts waits taken out rules t
+    → NichingSelects order start end lines distances n places s old out oldRules rules t
+unfolding pickRules
+selecting-done {order} {start} {end} {lines} {distances} {n} {s} {old} {oldRules} places e h = record {
   written = h .picked .written ∙ ap (λ m. over (picksOf order start end lines distances n m s .value) old) e;
+  ruled = h .marked ∙ ap (λ m. over (marksOf order start end lines distances n m s) oldRules) e;
   state = h .picked .state ∙ ap (λ m. picksOf order start end lines distances n m s .state) e;
 }
 

@@ -9,7 +9,7 @@ use lib.Ieee.{Float, nan, lt}
 use lib.ListN.{length, getD, set, take, drop}
 use Rattle.model.specs.Lists.{keepBelow, countBelow, bestFrom, has, Distinct, over}
 use Rattle.model.specs.Draw.{Drawn, drawn}
-use Rattle.model.specs.Kept.{waitingNumber, picks, pickFrom}
+use Rattle.model.specs.Kept.{waitingNumber, leastLines, drawFrom, picks, pickFrom, pickRules}
 use Rattle.model.specs.Refusal.{maxPool, maxLines}
 
 -- the line of a plan, and its distance from that line
@@ -141,9 +141,13 @@ unfoldable pub pickAt : List ℕ → List ℕ → List Float → ℕ → List �
 pickAt front lines distances n counts waits taken s =
     pickFrom (distanceIn distances) (countOf counts) (keepBelow (hasWaiting waits) n) (members front lines taken) s
 
--- that place filled: the plan r of a place that waited is taken, its line's niche count is one higher and its number of waiting members, which was above 0, one
--- lower; no other line's is touched. Whichever were picked before, the numbers are those before the next pick, with r among the picked.
-pub record Took (front lines : List ℕ) (distances : List Float) (n s : ℕ) (counts₀ counts waits₀ waits : List ℕ) (taken₀ taken : List Bool) (r t : ℕ) : Type 0 where
+-- and the niche count of the line that it draws, before it is raised
+unfoldable pub countAt : ℕ → List ℕ → List ℕ → ℕ → ℕ
+countAt n counts waits s = countOf counts (drawFrom (leastLines (countOf counts) (keepBelow (hasWaiting waits) n)) s .value)
+
+-- that place filled: the plan r of a place that waited is taken, its line's niche count, which was `count`, is one higher and its number of waiting members, which
+-- was above 0, one lower; no other line's is touched. Whichever were picked before, the numbers are those before the next pick, with r among the picked.
+pub record Took (front lines : List ℕ) (distances : List Float) (n s : ℕ) (counts₀ counts waits₀ waits : List ℕ) (taken₀ taken : List Bool) (r count t : ℕ) : Type 0 where
   pub place : ℕ
   pub line : ℕ
   pub inside : place < length front
@@ -157,9 +161,10 @@ pub record Took (front lines : List ℕ) (distances : List Float) (n s : ℕ) (c
   pub marked : taken ≡ set taken₀ place true
   pub stands : (picked : List ℕ) → Stands front lines picked waits₀ taken₀ → Stands front lines (picked ++ (r ∷ [])) waits taken
   pub chosen : drawn r t ≡ pickAt front lines distances n counts₀ waits₀ taken₀ s
+  pub found : count ≡ countAt n counts₀ waits₀ s
 
 -- the first `start` plans of the order are kept, those from there to `end` are the split front, of which `vacant` are to be picked
-pub record Splits (order : List ℕ) (start end : ℕ) (lines : List ℕ) (distances : List Float) (n vacant : ℕ) (picked : List ℕ) : Type 0 where
+pub record Splits (order : List ℕ) (start end : ℕ) (lines : List ℕ) (distances : List Float) (n vacant : ℕ) (picked rules : List ℕ) : Type 0 where
   pub ahead : start ≤ end
   pub inside : end ≤ length order
   pub few : end ≤ maxPool
@@ -168,13 +173,21 @@ pub record Splits (order : List ℕ) (start end : ℕ) (lines : List ℕ) (dista
   pub different : Distinct (take (end - start) (drop start order))
   pub enough : vacant ≤ end - start
   pub room : vacant ≤ length picked
+  pub roomForRules : vacant ≤ length rules
 
 -- what document 01 picks of that order
 abbrev pub picksOf : List ℕ → ℕ → ℕ → List ℕ → List Float → ℕ → ℕ → ℕ → Drawn (List ℕ)
 picksOf order start end lines distances n vacant s =
     picks (lineIn lines) (distanceIn distances) n (take start order) (take (end - start) (drop start order)) vacant s
 
--- THE PROMISE of niching_select: those plans stand at the front of the lent slice, and the generator is where the picks leave it
-pub record NichingSelects (order : List ℕ) (start end : ℕ) (lines : List ℕ) (distances : List Float) (n vacant s : ℕ) (picked₀ picked : List ℕ) (t : ℕ) : Type 0 where
+-- and the marks of these picks (document 02, M-108)
+abbrev pub marksOf : List ℕ → ℕ → ℕ → List ℕ → List Float → ℕ → ℕ → ℕ → List ℕ
+marksOf order start end lines distances n vacant s =
+    pickRules (lineIn lines) (distanceIn distances) n (take start order) (take (end - start) (drop start order)) vacant s
+
+-- THE PROMISE of niching_select: those plans and their marks stand at the front of the lent slices, and the generator is where the picks leave it
+pub record NichingSelects (order : List ℕ) (start end : ℕ) (lines : List ℕ) (distances : List Float) (n vacant s : ℕ) (picked₀ picked rules₀ rules : List ℕ) (t : ℕ)
+    : Type 0 where
   pub written : picked ≡ over (picksOf order start end lines distances n vacant s .value) picked₀
+  pub ruled : rules ≡ over (marksOf order start end lines distances n vacant s) rules₀
   pub state : t ≡ picksOf order start end lines distances n vacant s .state

@@ -82,22 +82,41 @@ module _ (line : ℕ → ℕ) (distance : ℕ → Float) (lines : ℕ) (counts :
       let t = Memᴰ·of-map line waits (has-in (map line waits) l (in-keepBelow (has (map line waits)) lines l m .1)) in
       (t .0, keep-in (λ p. eqb (line p) l) waits (t .0) (t .1) (eq-eqb (line (t .0)) l (t .2)))
 
-  -- any member taken of a line with the least count is chosen as asked
+  -- a member taken of a line with the least count waits, on that line
+  taken-on : (l s : ℕ) → In l (leastLines counts (openLines line lines waits))
+      → In (drawMember distance (counts l) (keep (λ p. eqb (line p) l) waits) s .value) waits
+      × (line (drawMember distance (counts l) (keep (λ p. eqb (line p) l) waits) s .value) ≡ l)
+  taken-on l s m =
+      let on : ℕ → Bool = λ p. eqb (line p) l in
+      let q : ℕ = drawMember distance (counts l) (keep on waits) s .value in
+      let isOpen = in-keep (λ l. allIn (λ k. leb (counts l) (counts k)) (openLines line lines waits)) (openLines line lines waits) l m .0 in
+      let k = in-keep on waits q (drawMember-in distance s (counts l) (keep on waits) (open-member l isOpen .1)) in
+      (k .0, eqb-true (line q) l (k .1))
+
+  -- and is chosen as asked
   chosen-on : (l s : ℕ) → In l (leastLines counts (openLines line lines waits))
       → Chosen line distance counts waits (drawMember distance (counts l) (keep (λ p. eqb (line p) l) waits) s .value)
   chosen-on l s m =
       let on : ℕ → Bool = λ p. eqb (line p) l in
       let q : ℕ = drawMember distance (counts l) (keep on waits) s .value in
-      let isOpen = in-keep (λ l. allIn (λ k. leb (counts l) (counts k)) (openLines line lines waits)) (openLines line lines waits) l m .0 in
-      let k = in-keep on waits q (drawMember-in distance s (counts l) (keep on waits) (open-member l isOpen .1)) in
-      let same : line q ≡ l = eqb-true (line q) l (k .1) in
+      let same : line q ≡ l = taken-on l s m .1 in
       record {
-        listed = k .0;
+        listed = taken-on l s m .0;
         least = λ r i. rw same (leastLines-le counts (openLines line lines waits) l m (line r) (line-open r i));
         nearest = λ z r i e. drawMember-nearest distance s (counts l) (keep on waits) (ap counts (sym same) ∙ z) r
             (keep-in on waits r i (eq-eqb (line r) l (e ∙ same)));
       }
 
+  -- where a plan waits, a line is drawn of those with the least count
+  least-drawn : (s p : ℕ) → In p waits → In (drawFrom (leastLines counts (openLines line lines waits)) s .value) (leastLines counts (openLines line lines waits))
+  least-drawn s p m = drawFrom-in s (least-in counts (openLines line lines waits) (line-open p m) .1)
+
   pub chosen : (s p : ℕ) → In p waits
       → Chosen line distance counts waits (pickFrom distance counts (openLines line lines waits) (λ l. keep (λ p. eqb (line p) l) waits) s .value)
-  chosen s p m = chosen-on _ _ (drawFrom-in s (least-in counts (openLines line lines waits) (line-open p m) .1))
+  chosen s p m = chosen-on _ _ (least-drawn s p m)
+
+  -- the plan picked is on the line that is drawn
+  pub chosen-line : (s p : ℕ) → In p waits
+      → line (pickFrom distance counts (openLines line lines waits) (λ l. keep (λ p. eqb (line p) l) waits) s .value)
+      ≡ drawFrom (leastLines counts (openLines line lines waits)) s .value
+  chosen-line s p m = taken-on _ _ (least-drawn s p m) .1

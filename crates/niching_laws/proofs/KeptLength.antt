@@ -1,11 +1,12 @@
--- The kept list of any request has the size wanted, and the fronts handed out are the pool's.
+-- The kept list of any request has the size wanted, and so has the list of rules beside it; the fronts handed out are the pool's.
 use Prim.Native.Nat.{_≤_}
 use mathlib.Core.Path.{_≡_, refl}
 use native.Mathlib.Omega.{arith}
-use lib.ListN.{length, length-append}
+use lib.ListN.{length, length-append, length-replicate}
 use Rattle.model.specs.Front.{frontList, front}
 use Rattle.model.specs.Association.{Request, dominance}
-use Rattle.model.specs.Kept.{Selected, wholeFronts, before, isSplit, filled, selectedSplit, selectedWhole, selected, exceedsSize}
+use Rattle.model.specs.Kept.{Selected, wholeFronts, before, isSplit, filled, filledRules, selectedSplit, selectedWhole, selected, exceedsSize, pickRules}
+use Rattle.list_laws.proofs.Built.{listBelow-length}
 use Rattle.list_laws.proofs.Rows.{joinBelow-fits}
 use Rattle.list_laws.proofs.Bools.{by-bool}
 use Rattle.list_laws.proofs.Draws.{drawAll-length}
@@ -32,3 +33,11 @@ kept-length r =
     by-split r (λ s. length (s .kept) ≡ r .size)
     (rw (length-append, drawAll-length) (omega arith))
     (rw (length-append, drawAll-length) (omega arith))
+
+pub rules-length : (r : Request) → length (selected r .rules) ≡ r .size
+unfolding selectedSplit selectedWhole filledRules pickRules
+rules-length r =
+    let b = before-le r in
+    by-split r (λ s. length (s .rules) ≡ r .size)
+    (rw (length-append, length-replicate, listBelow-length) (omega arith))
+    (rw (length-append, length-replicate, length-replicate) (omega arith))

@@ -5,6 +5,7 @@ pub mod Niched
 pub mod Choice
 pub mod KeptLength
 pub mod Picks
+pub mod Rules
 pub mod Numbers
 pub mod Procedure
 pub mod Association

@@ -1,6 +1,6 @@
 -- `picks` is a run, so all that holds of any run holds of the plans that it picks.
 use Prim.Native.Nat.{ℕ, _≤_, _<_}
-use mathlib.Core.Path.{ap}
+use mathlib.Core.Path.{_≡_, sym, ap}
 use mathlib.Core.Bool.{true, not}
 use mathlib.Core.List.{List, _++_}
 use native.Mathlib.Omega.{arith}
@@ -8,13 +8,13 @@ use lib.Ieee.{Float}
 use lib.ListN.{length}
 use borrow.Author.Tests.{not-true}
 use Rattle.model.specs.Lists.{In, Distinct, has}
-use Rattle.model.specs.Kept.{nicheCount, waiting, pickOne, picks}
+use Rattle.model.specs.Kept.{nicheCount, waiting, pickOne, picks, countAtPick}
 use Rattle.niching_laws.specs.Niching.{Split, Waiting, Pick, Run, start, next, Niched}
 use Rattle.list_laws.proofs.Draws.{drawAll-keeps}
 use Rattle.list_laws.proofs.Members.{has-not, not-has, keep-in, in-keep, tally-all}
 use Rattle.niching_laws.proofs.Tally.{pigeonhole}
 use Rattle.niching_laws.proofs.Niched.{run-niched}
-use Rattle.niching_laws.proofs.Choice.{Chosen, chosen}
+use Rattle.niching_laws.proofs.Choice.{Chosen, chosen, chosen-line}
 
 -- the list of the waiting holds just those that wait
 module _ (front picked : List ℕ) (p : ℕ) where
@@ -41,6 +41,16 @@ module _ (distance : ℕ → Float) {before front : List ℕ} {line : ℕ → �
       let w = some-waits front picked (split .distinct) h in
       chosen line distance lines (nicheCount line (before ++ picked)) (waiting front picked)
       (λ p m. split .inside p (in-waiting front picked p m .member)) s (w .0) (waiting-in front picked (w .0) (w .1))
+
+  -- it is on the line that the pick draws, so that the count which the pick finds is that of its line
+  pub count-at-pick : (s : ℕ) (picked : List ℕ) → length picked < length front
+      → countAtPick line lines before front picked s ≡ nicheCount line (before ++ picked) (line (pickOne line distance lines before front picked s .value))
+  unfolding pickOne countAtPick
+  count-at-pick s picked h =
+      let w = some-waits front picked (split .distinct) h in
+      ap (nicheCount line (before ++ picked))
+      (sym (chosen-line line distance lines (nicheCount line (before ++ picked)) (waiting front picked)
+      (λ p m. split .inside p (in-waiting front picked p m .member)) s (w .0) (waiting-in front picked (w .0) (w .1))))
 
   pick-of : (picked : List ℕ) (p : ℕ) → Chosen line distance (nicheCount line (before ++ picked)) (waiting front picked) p → Pick before front line picked p
   pick-of picked p c =

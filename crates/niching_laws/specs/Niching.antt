@@ -5,9 +5,9 @@ use mathlib.Core.Path.{_≡_}
 use mathlib.Core.Logic.{_≢_}
 use mathlib.Core.List.{List, [], _∷_, _++_}
 use lib.Ieee.{Float}
-use lib.ListN.{length}
+use lib.ListN.{length, getD, take}
 use Rattle.model.specs.Lists.{In, Distinct}
-use Rattle.model.specs.Kept.{nicheCount, waitingNumber}
+use Rattle.model.specs.Kept.{nicheCount, waitingNumber, markOf, ruleOf}
 use Rattle.model.specs.Papers.DebJain2014.{Reached}
 use Rattle.model.specs.Demand3.{sumSquares}
 
@@ -53,6 +53,12 @@ pub data Run (before front : List ℕ) (line : ℕ → ℕ) : ℕ → List ℕ �
 pub record Lowered (line : ℕ → ℕ) (front picked : List ℕ) (p : ℕ) : Type 0 where
   pub own : waitingNumber line front picked (line p) ≡ waitingNumber line front (picked ++ (p ∷ [])) (line p) + 1
   pub others : (l : ℕ) → line p ≢ l → waitingNumber line front (picked ++ (p ∷ [])) l ≡ waitingNumber line front picked l
+
+-- "\"Nearest\" is given exactly when the line's count was 0 at that pick" (document 02, M-108): each of the n marks is that of the niche count of the picked plan's
+-- line among the plans listed before it
+pub record RuledPicks (before : List ℕ) (line : ℕ → ℕ) (n : ℕ) (picked marks : List ℕ) : Type 0 where
+  pub long : length marks ≡ n
+  pub each : (i : ℕ) → i < n → getD marks i 0 ≡ markOf (ruleOf (nicheCount line (before ++ take i picked) (line (getD picked i 0))))
 
 -- `other` could fill n open places: it is n different plans of the split front
 pub record Filling (front : List ℕ) (n : ℕ) (other : List ℕ) : Type 0 where

@@ -15,7 +15,7 @@ use model::Rng;
 use model::Selection;
 use refusals::Check;
 
-// The kept list where a front is split: the whole fronts, then plans that niching picks from the split one. The ideal moves, and every plan gets a line.
+// The kept list where a front is split, with its rules: the whole fronts, then plans that niching picks from the split one. The ideal moves, and every plan gets a line.
 fn select_split(
     pool: &[u64],
     directions: &[u8],
@@ -27,13 +27,14 @@ fn select_split(
     cut: Cut,
     ideal: &mut [f64],
     kept: &mut [usize],
+    rules: &mut [u8],
     lines: &mut [usize],
 ) -> Rng
     requires { ⌜ SortedPool (wordRequest (now pool) (now directions) divisions size rng (now ideal))
-        (length (now kept)) (length (now lines)) (now rows) (now order) cut ⌝ }
+        (length (now kept)) (length (now rules)) (length (now lines)) (now rows) (now order) cut ⌝ }
     requires { ⌜ cut .split ≡ true ⌝ }
     ensures { λ r. ⌜ Hands (selectedSplit (wordRequest (now (pool .entry)) (now (directions .entry)) divisions size rng (now (ideal .entry))))
-        (now (ideal .exit)) (now (kept .entry)) (now (kept .exit)) (now (lines .entry)) (now (lines .exit)) (r .s) ⌝ }
+        (now (ideal .exit)) (now (kept .entry)) (now (kept .exit)) (now (rules .entry)) (now (rules .exit)) (now (lines .entry)) (now (lines .exit)) (r .s) ⌝ }
 {
     let n = plans::plan_count(pool);
     let m = directions.len();
@@ -43,7 +44,7 @@ fn select_split(
     let n_lines = das_dennis::das_dennis(m, divisions, &mut table);
     let mut distances: [f64; MAX_POOL] = [0.0; MAX_POOL];
     association::associate(rows, n, m, &table, n_lines, ideal, lines, &mut distances);
-    selection_lists::copy_first(order, whole, kept);
+    selection_lists::list_whole(order, whole, kept, rules);
     niching::niching_select(
         rng,
         order,
@@ -54,10 +55,11 @@ fn select_split(
         n_lines,
         size - whole,
         &mut kept[whole..],
+        &mut rules[whole..],
     )
 }
 
-// The kept list of a sorted pool, with the ideal and the lines, by whether a front is split.
+// The kept list of a sorted pool, with its rules, the ideal and the lines, by whether a front is split.
 fn fill_kept(
     pool: &[u64],
     directions: &[u8],
@@ -69,12 +71,13 @@ fn fill_kept(
     cut: Cut,
     ideal: &mut [f64],
     kept: &mut [usize],
+    rules: &mut [u8],
     lines: &mut [usize],
 ) -> Rng
     requires { ⌜ SortedPool (wordRequest (now pool) (now directions) divisions size rng (now ideal))
-        (length (now kept)) (length (now lines)) (now rows) (now order) cut ⌝ }
+        (length (now kept)) (length (now rules)) (length (now lines)) (now rows) (now order) cut ⌝ }
     ensures { λ r. ⌜ Hands (selected (wordRequest (now (pool .entry)) (now (directions .entry)) divisions size rng (now (ideal .entry))))
-        (now (ideal .exit)) (now (kept .entry)) (now (kept .exit)) (now (lines .entry)) (now (lines .exit)) (r .s) ⌝ }
+        (now (ideal .exit)) (now (kept .entry)) (now (kept .exit)) (now (rules .entry)) (now (rules .exit)) (now (lines .entry)) (now (lines .exit)) (r .s) ⌝ }
 {
     let split = cut.split;
     if split {
@@ -89,12 +92,13 @@ fn fill_kept(
             cut,
             ideal,
             kept,
+            rules,
             lines,
         );
     }
     let n = plans::plan_count(pool);
     let whole = cut.whole;
-    selection_lists::select_whole(rng, order, n, whole, size, kept, lines)
+    selection_lists::select_whole(rng, order, n, whole, size, kept, rules, lines)
 }
 
 // A selection that meets no refusal.
@@ -106,14 +110,15 @@ fn select(
     rng: Rng,
     ideal: &mut [f64],
     kept: &mut [usize],
+    rules: &mut [u8],
     fronts: &mut [usize],
     lines: &mut [usize],
 ) -> Selection
     requires { ⌜ Admitted (wordRequest (now pool) (now directions) divisions size rng (now ideal))
-        (roomOf (lent (now kept) (now fronts) (now lines))) ⌝ }
-    ensures { λ r. ⌜ selectExit r (now (ideal .exit)) (lent (now (kept .exit)) (now (fronts .exit)) (now (lines .exit)))
+        (roomOf (lent (now kept) (now rules) (now fronts) (now lines))) ⌝ }
+    ensures { λ r. ⌜ selectExit r (now (ideal .exit)) (lent (now (kept .exit)) (now (rules .exit)) (now (fronts .exit)) (now (lines .exit)))
         ≡ selectAccepted (wordRequest (now (pool .entry)) (now (directions .entry)) divisions size rng (now (ideal .entry)))
-        (lent (now (kept .entry)) (now (fronts .entry)) (now (lines .entry))) ⌝ }
+        (lent (now (kept .entry)) (now (rules .entry)) (now (fronts .entry)) (now (lines .entry))) ⌝ }
 {
     let n = plans::plan_count(pool);
     let mut rows: [f64; MAX_ROW_VALUES] = [0.0; MAX_ROW_VALUES];
@@ -131,6 +136,7 @@ fn select(
         cut,
         ideal,
         kept,
+        rules,
         lines,
     );
     Selection {
@@ -139,7 +145,7 @@ fn select(
     }
 }
 
-// The kept list of a pool of plans: document 01's selection, or the number of the refusal that it meets, with nothing written and no word drawn.
+// The kept list of a pool of plans, and what put each plan on it (document 02, M-108): document 01's selection, or the number of the refusal that it meets, with nothing written and no word drawn.
 pub fn nsga3_select(
     pool: &[u64],
     directions: &[u8],
@@ -148,12 +154,13 @@ pub fn nsga3_select(
     rng: Rng,
     ideal: &mut [f64],
     kept: &mut [usize],
+    rules: &mut [u8],
     fronts: &mut [usize],
     lines: &mut [usize],
 ) -> Selection
     ensures { λ r. ⌜ Selects (wordRequest (now (pool .entry)) (now (directions .entry)) divisions size rng (now (ideal .entry)))
-        (lent (now (kept .entry)) (now (fronts .entry)) (now (lines .entry)))
-        (selectExit r (now (ideal .exit)) (lent (now (kept .exit)) (now (fronts .exit)) (now (lines .exit)))) ⌝ }
+        (lent (now (kept .entry)) (now (rules .entry)) (now (fronts .entry)) (now (lines .entry)))
+        (selectExit r (now (ideal .exit)) (lent (now (kept .exit)) (now (rules .exit)) (now (fronts .exit)) (now (lines .exit)))) ⌝ }
 {
     let check = refusals::refusal(
         pool,
@@ -163,6 +170,7 @@ pub fn nsga3_select(
         rng,
         ideal,
         kept.len(),
+        rules.len(),
         fronts.len(),
         lines.len(),
     );
@@ -179,6 +187,7 @@ pub fn nsga3_select(
             rng,
             ideal,
             kept,
+            rules,
             fronts,
             lines,
         ),

@@ -29,6 +29,7 @@ admitted r room e =
       good = pool-plans r (p .pool);
       ideal = good-ideal-length (objectives r) (r .ideal) (pool-ideal r (p .pool));
       kept = free .0;
-      fronts = free .1;
-      lines = free .2;
+      rules = free .1;
+      fronts = free .2;
+      lines = free .3;
     }

@@ -1,4 +1,4 @@
--- The picks look at the lines and distances of the pool's plans alone: two lists of them that agree below n give the same picks.
+-- The picks look at the lines and distances of the pool's plans alone: two lists of them that agree below n give the same picks, with the same marks.
 use Prim.Native.Nat.{ℕ, zero, suc, _<_}
 use mathlib.Core.Path.{_≡_, refl, ap, ap₂, _∙_, fun-ext}
 use mathlib.Core.Bool.{Bool, not}
@@ -8,12 +8,14 @@ use lib.Ieee.{Float, lt}
 use lib.ListN.{length, getD, List·getD-eq-default}
 use Rattle.model.specs.Lists.{has, keep, keepBelow}
 use Rattle.model.specs.Draw.{Drawn, drawn, drawAll}
-use Rattle.model.specs.Kept.{nicheCount, waiting, openLines, drawFrom, nearest, drawMember, pickOne, picks, pickFrom, nearerPlan}
+use Rattle.model.specs.Kept.{nicheCount, waiting, openLines, leastLines, drawFrom, nearest, drawMember, pickOne, picks, pickFrom, nearerPlan, markOf, ruleOf, countAtPick, pickRules}
 use Rattle.list_laws.proofs.Below.{by-lt}
+use Rattle.list_laws.proofs.Built.{listBelow-same}
 use Rattle.list_laws.proofs.Best.{best-all, best-agree}
 pub use Rattle.list_laws.specs.Occ.{Below}
 use Rattle.list_laws.proofs.Members.{tally-same, keep-same, in-keep, getD-in, below-append, below-none, below-snoc}
 use Rattle.list_laws.proofs.Draws.{inTurn-same, drawAll-keeps}
+use Rattle.niching_laws.proofs.Rules.{markAt}
 
 -- a list of draws below n is below n
 pub drawAll-below : (n : ℕ) (next : ℕ → List ℕ → ℕ → Drawn ℕ) → ((i : ℕ) (l : List ℕ) (t : ℕ) → next i l t .value < n) → (k s : ℕ) → Below n (drawAll next k s .value)
@@ -85,3 +87,19 @@ module _ (n : ℕ) (some : 0 < n) where
           inTurn-same (λ l p. l ++ (p ∷ [])) [] (λ place picked. pickOne line far lines before split picked) (λ place picked. pickOne line′ far′ lines before split picked)
           (λ i. Below n) s k (below-none n) (λ i picked t u h. below-snoc n picked _ h (pick-below line far lines before split within picked t))
           (λ i picked t u. pick-agree picked t)
+
+      -- the count that a pick finds, and so its mark
+      count-agree : (picked : List ℕ) (s : ℕ) → Below n picked → countAtPick line lines before split picked s ≡ countAtPick line′ lines before split picked s
+      unfolding countAtPick
+      count-agree picked s h =
+          let w = waiting split picked in
+          ap (λ c. c (drawFrom (leastLines c (openLines line lines w)) s .value)) (counts-agree (before ++ picked) (below-append n before picked listed h))
+          ∙ ap (λ o. nicheCount line′ (before ++ picked) (drawFrom (leastLines (nicheCount line′ (before ++ picked)) (keepBelow (has o) lines)) s .value))
+          (map-agree w (keep-below (λ p. not (has picked p)) split within))
+
+      pub rules-agree : (k s : ℕ) → pickRules line far lines before split k s ≡ pickRules line′ far′ lines before split k s
+      unfolding pickRules
+      rules-agree k s = listBelow-same (markAt line far lines before split s) (markAt line′ far′ lines before split s) k
+          (λ i h. ap (λ c. markOf (ruleOf c))
+          (count-agree (picks line far lines before split i s .value) (picks line far lines before split i s .state) (picks-below line far lines before split within i s)
+          ∙ ap (λ d. countAtPick line′ lines before split (d .value) (d .state)) (picks-agree i s)))

@@ -21,5 +21,6 @@ pub record Admitted (r : Request) (room : Room) : Type 0 where
   pub good : goodPlans (objectives r) (r .plans) (r .count) ≡ true
   pub ideal : length (r .ideal) ≡ objectives r
   pub kept : r .size ≤ room .kept
+  pub rules : r .size ≤ room .rules
   pub fronts : r .count ≤ room .fronts
   pub lines : r .count ≤ room .lines

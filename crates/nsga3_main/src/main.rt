@@ -101,6 +101,7 @@ fn call(m: usize, divisions: usize, size: usize, plans: usize)
     let directions: [u8; 2] = [0; 2];
     let mut ideal = [1.0 / 0.0; 2];
     let mut kept: [usize; 8] = [9; 8];
+    let mut rules: [u8; 8] = [9; 8];
     let mut fronts: [usize; 4] = [9; 4];
     let mut lines: [usize; 4] = [9; 4];
     let words = plans * PLAN_WORDS;
@@ -112,6 +113,7 @@ fn call(m: usize, divisions: usize, size: usize, plans: usize)
         Rng { s: 5 },
         &mut ideal,
         &mut kept,
+        &mut rules,
         &mut fronts,
         &mut lines,
     );

@@ -34,6 +34,7 @@ fn choose_words(
     let m = directions.len();
     let mut ideal: [f64; MAX_OBJECTIVES] = [1.0 / 0.0; MAX_OBJECTIVES];
     let mut kept: [usize; MAX_SIZE] = [0; MAX_SIZE];
+    let mut rules: [u8; MAX_SIZE] = [0; MAX_SIZE];
     let mut fronts: [usize; MAX_POOL] = [0; MAX_POOL];
     let mut lines: [usize; MAX_POOL] = [0; MAX_POOL];
     let selection = nsga3::nsga3_select(
@@ -44,6 +45,7 @@ fn choose_words(
         rng,
         &mut ideal[..m],
         &mut kept,
+        &mut rules,
         &mut fronts,
         &mut lines,
     );

@@ -23,7 +23,7 @@ textExit text out = chooseBy (textRefusal text (length out)) text out
 
 -- room for every list that a selection hands out
 abbrev pub roomy : Room
-roomy = record { kept = maxSize; fronts = maxPool; lines = maxPool }
+roomy = record { kept = maxSize; rules = maxSize; fronts = maxPool; lines = maxPool }
 
 -- the first of two refusals
 abbrev pub firstSome : Option ℕ → Option ℕ → Option ℕ

@@ -10,7 +10,7 @@ use Rattle.model.specs.PoolFile.{decimal, lineText}
 
 -- a selection of which the listing shows these lists
 abbrev pub listed : List ℕ → List ℕ → List ℕ → Selected
-listed kept fronts lines = record { kept = kept; fronts = fronts; lines = lines; ideal = []; state = 0 }
+listed kept fronts lines = record { kept = kept; rules = []; fronts = fronts; lines = lines; ideal = []; state = 0 }
 
 -- four texts, one after the other
 pub record Four : Type 0 where

@@ -11,8 +11,11 @@ module _ (room : Room) (size n : ℕ) where
   pub room-kept : room .kept < size → true ≡ tooShort room size n
   room-kept h = sym (rw (lt-ltb (room .kept) size h))
 
-  pub room-fronts : size ≤ room .kept → room .fronts < n → true ≡ tooShort room size n
-  room-fronts h k = sym (rw (le-ltb (room .kept) size h, lt-ltb (room .fronts) n k))
+  pub room-rules : size ≤ room .kept → room .rules < size → true ≡ tooShort room size n
+  room-rules h k = sym (rw (le-ltb (room .kept) size h, lt-ltb (room .rules) size k))
 
-  pub room-lines : size ≤ room .kept → n ≤ room .fronts → ltb (room .lines) n ≡ tooShort room size n
-  room-lines h k = sym (rw (le-ltb (room .kept) size h, le-ltb (room .fronts) n k))
+  pub room-fronts : size ≤ room .kept → size ≤ room .rules → room .fronts < n → true ≡ tooShort room size n
+  room-fronts h u k = sym (rw (le-ltb (room .kept) size h, le-ltb (room .rules) size u, lt-ltb (room .fronts) n k))
+
+  pub room-lines : size ≤ room .kept → size ≤ room .rules → n ≤ room .fronts → ltb (room .lines) n ≡ tooShort room size n
+  room-lines h u k = sym (rw (le-ltb (room .kept) size h, le-ltb (room .rules) size u, le-ltb (room .fronts) n k))

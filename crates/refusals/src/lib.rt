@@ -12,10 +12,20 @@ pub enum Check {
 }
 
 // Refusal 10: a lent slice is shorter than the answer that it is for.
-pub fn no_room(size: usize, n: usize, kept: usize, fronts: usize, lines: usize) -> bool
-    ensures { λ r. ⌜ r ≡ tooShort (record { kept = kept; fronts = fronts; lines = lines }) size n ⌝ }
+pub fn no_room(
+    size: usize,
+    n: usize,
+    kept: usize,
+    rules: usize,
+    fronts: usize,
+    lines: usize,
+) -> bool
+    ensures { λ r. ⌜ r ≡ tooShort (record { kept = kept; rules = rules; fronts = fronts; lines = lines }) size n ⌝ }
 {
     if kept < size {
+        return true;
+    }
+    if rules < size {
         return true;
     }
     if fronts < n {
@@ -33,11 +43,12 @@ pub fn refusal(
     rng: Rng,
     ideal: &[f64],
     kept: usize,
+    rules: usize,
     fronts: usize,
     lines: usize,
 ) -> Check
     ensures { λ r. ⌜ checked r ≡ selectRefusal (wordRequest (now (pool .entry)) (now (directions .entry)) divisions size rng (now (ideal .entry)))
-        (record { kept = kept; fronts = fronts; lines = lines }) ⌝ }
+        (record { kept = kept; rules = rules; fronts = fronts; lines = lines }) ⌝ }
 {
     let n = plans::plan_count(pool);
     let bad_size = plans::bad_size(size);
@@ -58,7 +69,7 @@ pub fn refusal(
     if plans::bad_pool(pool, m, ideal) {
         return Check::Refused(8);
     }
-    if no_room(size, n, kept, fronts, lines) {
+    if no_room(size, n, kept, rules, fronts, lines) {
         return Check::Refused(10);
     }
     Check::Good

@@ -17,6 +17,7 @@ use replay_values::Places;
 use replay_values::Pool;
 use replay_values::Reals;
 use replay_values::Room;
+use replay_values::Rules;
 use rng_util::DrawnUsize;
 use settings::DrawnCandidate;
 use settings::Slot;
@@ -279,12 +280,13 @@ fn stepped(
     room: Room,
     ideal: &mut [f64],
     kept: &mut [usize],
+    rules: &mut [u8],
     fronts: &mut [usize],
     lines: &mut [usize],
     offspring: &mut [u64],
 ) -> Selection
     requires { ⌜ (step .call .m ≤ length (now marks)) × (step .call .ideal ≤ length (now ideal)) × (step .call .plans ≤ 1025) × (1025 * planWords ≤ length (now pool)) ⌝ }
-    requires { ⌜ (room .kept ≤ length (now kept)) × (room .fronts ≤ length (now fronts)) × (room .lines ≤ length (now lines))
+    requires { ⌜ (room .kept ≤ length (now kept)) × (room .rules ≤ length (now rules)) × (room .fronts ≤ length (now fronts)) × (room .lines ≤ length (now lines))
         × (room .offspring ≤ length (now offspring)) ⌝ }
 {
     let call = step.call;
@@ -292,9 +294,10 @@ fn stepped(
     let m = call.m;
     let k = call.ideal;
     let a = room.kept;
-    let b = room.fronts;
-    let c = room.lines;
-    let d = room.offspring;
+    let b = room.rules;
+    let c = room.fronts;
+    let d = room.lines;
+    let e = room.offspring;
     let s = call.state;
     let dims = step.dims;
     c_calls::generate_offspring(
@@ -310,9 +313,10 @@ fn stepped(
         step.mutation_eta,
         &mut ideal[..k],
         &mut kept[..a],
-        &mut fronts[..b],
-        &mut lines[..c],
-        &mut offspring[..d],
+        &mut rules[..b],
+        &mut fronts[..c],
+        &mut lines[..d],
+        &mut offspring[..e],
     )
 }
 
@@ -324,12 +328,13 @@ fn step_of(
     room: Room,
     ideal: &mut Reals,
     kept: &mut Places,
+    rules: &mut Rules,
     fronts: &mut Places,
     lines: &mut Places,
     offspring: &mut Offspring,
 ) -> Selection
     requires { ⌜ (step .call .m ≤ 16) × (step .call .ideal ≤ 16) × (step .call .plans ≤ 1025) ⌝ }
-    requires { ⌜ (room .kept ≤ 1025) × (room .fronts ≤ 1025) × (room .lines ≤ 1025) × (room .offspring ≤ maxSize * maxDims) ⌝ }
+    requires { ⌜ (room .kept ≤ 1025) × (room .rules ≤ 1025) × (room .fronts ≤ 1025) × (room .lines ≤ 1025) × (room .offspring ≤ maxSize * maxDims) ⌝ }
 {
     stepped(
         pool,
@@ -338,6 +343,7 @@ fn step_of(
         room,
         ideal,
         kept,
+        rules,
         fronts,
         lines,
         offspring,
@@ -347,6 +353,7 @@ fn step_of(
 // The numbers of an answer that is no refusal.
 fn put_step(
     kept: &Places,
+    rules: &Rules,
     n: usize,
     ideal: &Reals,
     offspring: &Offspring,
@@ -366,10 +373,11 @@ fn put_step(
     }
     let first = replay_values::put_two(out, 0, 0, n as u64);
     let second = replay_values::put_places(out, first, kept, n);
-    let third = replay_values::put_reals(out, second, ideal, call.m);
-    let fourth = replay::put(out, third, size as u64);
-    let fifth = replay_values::put_candidates(out, fourth, offspring, size, dims, n_dims);
-    replay::put(out, fifth, state)
+    let third = replay_values::put_rules(out, second, rules, n);
+    let fourth = replay_values::put_reals(out, third, ideal, call.m);
+    let fifth = replay::put(out, fourth, size as u64);
+    let sixth = replay_values::put_candidates(out, fifth, offspring, size, dims, n_dims);
+    replay::put(out, sixth, state)
 }
 
 // The answer of a call with slices that are short in the way given; the ideal stands at `at`.
@@ -388,6 +396,7 @@ fn answered(
     let mut ideal = [0.0; 16];
     replay_values::read_reals(input, at, call.ideal, &mut ideal);
     let mut kept = [0usize; 1025];
+    let mut rules = [9u8; 1025];
     let mut fronts = [0usize; 1025];
     let mut lines = [0usize; 1025];
     let mut offspring = [0u64; CANDIDATE_WORDS];
@@ -399,6 +408,7 @@ fn answered(
         room,
         &mut ideal,
         &mut kept,
+        &mut rules,
         &mut fronts,
         &mut lines,
         &mut offspring,
@@ -406,7 +416,7 @@ fn answered(
     let rng = s.rng;
     let outcome = s.outcome;
     match outcome {
-        Outcome::Kept(n) => put_step(&kept, n, &ideal, &offspring, step, rng.s, out),
+        Outcome::Kept(n) => put_step(&kept, &rules, n, &ideal, &offspring, step, rng.s, out),
         Outcome::Refused(number) => replay::put(out, 0, number as u64),
     }
 }
@@ -425,7 +435,7 @@ fn tried(
     requires { ⌜ (at ≤ 8193) × (step .call .m ≤ 16) × (step .call .ideal ≤ 16) × (step .call .plans ≤ 1025) ⌝ }
 {
     let call = step.call;
-    if way == 4 {
+    if way == 5 {
         if step.n_dims == 0 {
             return 0;
         }
@@ -451,9 +461,11 @@ fn answered_short(
     let b = tried(input, at, step, pool, marks, 2, out);
     let c = tried(input, at, step, pool, marks, 3, out);
     let d = tried(input, at, step, pool, marks, 4, out);
+    let e = tried(input, at, step, pool, marks, 5, out);
     let first = replay_values::agreed(a, b);
     let last = replay_values::agreed(c, d);
-    replay::put(out, 0, replay_values::agreed(first, last))
+    let lists = replay_values::agreed(first, last);
+    replay::put(out, 0, replay_values::agreed(lists, e))
 }
 
 // The call of a line whose ideal of k reals stands at `at`, whose operators and dimensions come after it, and whose plans are in the pool.

@@ -11,6 +11,7 @@ use replay_values::Places;
 use replay_values::Pool;
 use replay_values::Reals;
 use replay_values::Room;
+use replay_values::Rules;
 ghost use Prim.Native.Nat.{_*_, _≤_};
 ghost use lib.ListN.{length};
 ghost use Rattle.model.specs.Plan.{planWords};
@@ -22,18 +23,20 @@ fn selection(
     room: Room,
     ideal: &mut [f64],
     kept: &mut [usize],
+    rules: &mut [u8],
     fronts: &mut [usize],
     lines: &mut [usize],
 ) -> Selection
     requires { ⌜ (call .m ≤ length (now marks)) × (call .ideal ≤ length (now ideal)) × (call .plans ≤ 1025) × (1025 * planWords ≤ length (now pool)) ⌝ }
-    requires { ⌜ (room .kept ≤ length (now kept)) × (room .fronts ≤ length (now fronts)) × (room .lines ≤ length (now lines)) ⌝ }
+    requires { ⌜ (room .kept ≤ length (now kept)) × (room .rules ≤ length (now rules)) × (room .fronts ≤ length (now fronts)) × (room .lines ≤ length (now lines)) ⌝ }
 {
     let words = call.plans * PLAN_WORDS;
     let m = call.m;
     let k = call.ideal;
     let a = room.kept;
-    let b = room.fronts;
-    let c = room.lines;
+    let b = room.rules;
+    let c = room.fronts;
+    let d = room.lines;
     let s = call.state;
     c_calls::select(
         &pool[..words],
@@ -43,8 +46,9 @@ fn selection(
         Rng { s },
         &mut ideal[..k],
         &mut kept[..a],
-        &mut fronts[..b],
-        &mut lines[..c],
+        &mut rules[..b],
+        &mut fronts[..c],
+        &mut lines[..d],
     )
 }
 
@@ -56,18 +60,20 @@ fn selected(
     room: Room,
     ideal: &mut Reals,
     kept: &mut Places,
+    rules: &mut Rules,
     fronts: &mut Places,
     lines: &mut Places,
 ) -> Selection
     requires { ⌜ (call .m ≤ 16) × (call .ideal ≤ 16) × (call .plans ≤ 1025) ⌝ }
-    requires { ⌜ (room .kept ≤ 1025) × (room .fronts ≤ 1025) × (room .lines ≤ 1025) ⌝ }
+    requires { ⌜ (room .kept ≤ 1025) × (room .rules ≤ 1025) × (room .fronts ≤ 1025) × (room .lines ≤ 1025) ⌝ }
 {
-    selection(pool, marks, call, room, ideal, kept, fronts, lines)
+    selection(pool, marks, call, room, ideal, kept, rules, fronts, lines)
 }
 
 // The numbers of an answer that is no refusal.
 fn put_selection(
     kept: &Places,
+    rules: &Rules,
     size: usize,
     fronts: &Places,
     lines: &Places,
@@ -79,10 +85,11 @@ fn put_selection(
 ) -> usize {
     let first = replay_values::put_two(out, 0, 0, size as u64);
     let second = replay_values::put_places(out, first, kept, size);
-    let third = replay_values::put_places(out, second, fronts, n);
-    let fourth = replay_values::put_places(out, third, lines, n);
-    let fifth = replay_values::put_reals(out, fourth, ideal, m);
-    replay::put(out, fifth, state)
+    let third = replay_values::put_rules(out, second, rules, size);
+    let fourth = replay_values::put_places(out, third, fronts, n);
+    let fifth = replay_values::put_places(out, fourth, lines, n);
+    let sixth = replay_values::put_reals(out, fifth, ideal, m);
+    replay::put(out, sixth, state)
 }
 
 // The answer of a call with slices that are short in the way given.
@@ -102,6 +109,7 @@ fn answered(
     let mut ideal = [0.0; 16];
     replay_values::read_reals(input, m + 7, k, &mut ideal);
     let mut kept = [0usize; 1025];
+    let mut rules = [9u8; 1025];
     let mut fronts = [0usize; 1025];
     let mut lines = [0usize; 1025];
     let room = replay_values::room_for(call.size, n, 0, short);
@@ -112,6 +120,7 @@ fn answered(
         room,
         &mut ideal,
         &mut kept,
+        &mut rules,
         &mut fronts,
         &mut lines,
     );
@@ -120,6 +129,7 @@ fn answered(
     match outcome {
         Outcome::Kept(size) => put_selection(
             &kept,
+            &rules,
             size,
             &fronts,
             &lines,
@@ -148,11 +158,10 @@ fn answered_short(input: &Words, call: Call, pool: &Pool, marks: &Marks, out: &m
     let a = tried(input, call, pool, marks, 1, out);
     let b = tried(input, call, pool, marks, 2, out);
     let c = tried(input, call, pool, marks, 3, out);
-    replay::put(
-        out,
-        0,
-        replay_values::agreed(replay_values::agreed(a, b), c),
-    )
+    let d = tried(input, call, pool, marks, 4, out);
+    let first = replay_values::agreed(a, b);
+    let last = replay_values::agreed(c, d);
+    replay::put(out, 0, replay_values::agreed(first, last))
 }
 
 // 70. The answer to an input line of n numbers; how many numbers it has, 0 for a case passed over.

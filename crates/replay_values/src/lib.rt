@@ -44,6 +44,9 @@ pub type Pool = [u64; OVERFULL];
 
 pub type Places = [usize; 1025];
 
+// A mark for each place of a kept list.
+pub type Rules = [u8; 1025];
+
 // ---- numbers
 
 pub fn real_at(input: &Words, i: usize) -> f64 {
@@ -149,6 +152,19 @@ pub fn put_places(out: &mut Words, at: usize, places: &[usize], k: usize) -> usi
     while j < k {
         if j < places.len() {
             place = replay::put(out, place, places[j] as u64);
+        }
+        j += 1;
+    }
+    place
+}
+
+// The marks of k rules.
+pub fn put_rules(out: &mut Words, at: usize, rules: &[u8], k: usize) -> usize {
+    let mut place = at;
+    let mut j: usize = 0;
+    while j < k {
+        if j < rules.len() {
+            place = replay::put(out, place, words::wide(rules[j]));
         }
         j += 1;
     }
@@ -461,6 +477,7 @@ pub fn call_of(input: &Words, m: usize, ideal: usize, plans: usize) -> Call
 // How much of the lent slices' arrays a call is lent.
 pub struct Room {
     pub kept: usize,
+    pub rules: usize,
     pub fronts: usize,
     pub lines: usize,
     pub offspring: usize,
@@ -474,25 +491,27 @@ fn candidate_words(size: usize, n_dims: usize) -> usize
     size * n_dims
 }
 
-// The lengths of the full answer; where `short` is 1, 2, 3 or 4 the kept list's, the fronts', the lines' or the offspring's slice lacks one place.
+// The lengths of the full answer; where `short` is 1 to 5 the slice of the kept list, the rules, the fronts, the lines or the offspring lacks one place.
 pub fn room_for(size: usize, n: usize, n_dims: usize, short: u64) -> Room
     requires { ⌜ n ≤ 1025 ⌝ }
-    ensures { λ r. ⌜ (r .kept ≤ 1025) × (r .fronts ≤ 1025) × (r .lines ≤ 1025) × (r .offspring ≤ maxSize * maxDims) ⌝ }
+    ensures { λ r. ⌜ (r .kept ≤ 1025) × (r .rules ≤ 1025) × (r .fronts ≤ 1025) × (r .lines ≤ 1025) × (r .offspring ≤ maxSize * maxDims) ⌝ }
 {
     let most = least(size, MAX_SIZE);
     let dims = least(n_dims, MAX_DIMS);
     let words = candidate_words(most, dims);
     let mut room = Room {
         kept: most,
+        rules: most,
         fronts: n,
         lines: n,
         offspring: words,
     };
     match short {
         1 => room.kept = less_one(most),
-        2 => room.fronts = less_one(n),
-        3 => room.lines = less_one(n),
-        4 => room.offspring = less_one(words),
+        2 => room.rules = less_one(most),
+        3 => room.fronts = less_one(n),
+        4 => room.lines = less_one(n),
+        5 => room.offspring = less_one(words),
         _ => {}
     }
     room

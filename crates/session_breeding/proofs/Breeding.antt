@@ -57,6 +57,9 @@ module _ (o p : Operators) (r : Request) where
 kept-room : maxSize ≤ length (blankLent .kept)
 kept-room = omega (arith, length-replicate {A = ℕ} maxSize 0)
 
+rules-room : maxSize ≤ length (blankLent .rules)
+rules-room = omega (arith, length-replicate {A = ℕ} maxSize 0)
+
 plans-room : maxPool ≤ length (blankLent .fronts)
 plans-room = omega (arith, length-replicate {A = ℕ} maxPool 0)
 
@@ -84,22 +87,22 @@ module _ (s : Session) (cs ps : List ℕ) (history : List ℕ) where
 
   module _ (ok : SessionOk (at [])) (long : maxWords ≤ length cs) where
     step-is-refused : stepRefusal (operatorsOf s) (requestOf (at []) history) (roomOf blankLent) (length cs) ≡ breedRefusal (at []) history
-    step-is-refused = step-refusal (at []) history ok (roomOf blankLent) (length cs) kept-room plans-room plans-room long
+    step-is-refused = step-refusal (at []) history ok (roomOf blankLent) (length cs) kept-room rules-room plans-room plans-room long
 
   -- ---- a check of the step alone, with room for what it would hand out
 
   module _ (ok : SessionOk (at [])) (pool gathered : List ℕ) (g : gathered ≡ over (recordsOf history ps size) pool) (c : Check)
       (e : checked c ≡ stepRefusal (operatorsOf s)
       (wordRequest (take (size * planWords) gathered) (take m (s .config .directions)) (s .config .divisions) size (s .rng) ideal)
-      (record { kept = maxSize; fronts = maxPool; lines = maxPool }) maxWords) where
+      (record { kept = maxSize; rules = maxSize; fronts = maxPool; lines = maxPool }) maxWords) where
     abbrev room : Room
-    room = record { kept = maxSize; fronts = maxPool; lines = maxPool }
+    room = record { kept = maxSize; rules = maxSize; fronts = maxPool; lines = maxPool }
 
     check-is : checked c ≡ breedRefusal (at []) history
     check-is =
         e
         ∙ ap (λ (r : Request). stepRefusal (operatorsOf s) r room maxWords) (gathered-request pool gathered g)
-        ∙ step-refusal (at []) history ok room maxWords (le-refl maxSize) (le-refl maxPool) (le-refl maxPool) (le-refl maxWords)
+        ∙ step-refusal (at []) history ok room maxWords (le-refl maxSize) (le-refl maxSize) (le-refl maxPool) (le-refl maxPool) (le-refl maxWords)
 
     -- 10 comes after 8 and 9
     pub short-is : (k : Check) → c ≡ k → shortRefusal (at []) history ≡ some (orElse (checked k) 10)

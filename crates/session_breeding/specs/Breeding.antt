@@ -27,7 +27,7 @@ takenOf e = stepped (e .answer) (e .ideal) (e .offspring)
 
 -- the lists that are lent for the selection
 abbrev pub blankLent : Lent
-blankLent = lent (replicate maxSize 0) (replicate maxPool 0) (replicate maxPool 0)
+blankLent = lent (replicate maxSize 0) (replicate maxSize 0) (replicate maxPool 0) (replicate maxPool 0)
 
 abbrev pub stepOn : Session → List ℕ → List Float → List ℕ → Stepped
 stepOn s pool ideal offspring =

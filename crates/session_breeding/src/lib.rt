@@ -41,7 +41,7 @@ fn operators_of(session: Session) -> Operators
     }
 }
 
-// The step of a session's generation, from the pool of the plans that it breeds from. The kept list, the fronts and the lines are not handed out.
+// The step of a session's generation, from the pool of the plans that it breeds from. The kept list, its rules, the fronts and the lines are not handed out.
 fn step(session: Session, pool: &[u64], ideal: &mut [f64], candidates: &mut [u64]) -> Selection
     requires { ⌜ session .config .«n_obj» ≤ length (session .config .directions) ⌝ }
     ensures { λ r. ⌜ stepped r (now (ideal .exit)) (now (candidates .exit)) ≡ stepOn session (now (pool .entry)) (now (ideal .entry)) (now (candidates .entry)) ⌝ }
@@ -52,6 +52,7 @@ fn step(session: Session, pool: &[u64], ideal: &mut [f64], candidates: &mut [u64
     let rng = session.rng;
     let operators = operators_of(session);
     let mut kept = [0usize; MAX_SIZE];
+    let mut rules = [0u8; MAX_SIZE];
     let mut fronts = [0usize; MAX_POOL];
     let mut lines = [0usize; MAX_POOL];
     generation::nsga3_generate_offspring(
@@ -63,6 +64,7 @@ fn step(session: Session, pool: &[u64], ideal: &mut [f64], candidates: &mut [u64
         operators,
         ideal,
         &mut kept,
+        &mut rules,
         &mut fronts,
         &mut lines,
         candidates,
@@ -144,6 +146,7 @@ pub fn bred_refusal(session: Session, history: &[u64], plans: &[u64]) -> u8
         rng,
         operators,
         &ideal_point[..n_obj],
+        MAX_SIZE,
         MAX_SIZE,
         MAX_POOL,
         MAX_POOL,

@@ -159,15 +159,16 @@ module _ (st : State) (history : List ℕ) (ok : SessionOk st) where
   pub offspring-fit : st .session .config .«population_size» * st .session .progress .«n_dims» ≤ maxWords
   offspring-fit = omega (arith, mul-le-mul (ok .config .atMost) (few _ _ (ok .dimensions)))
 
-  -- what the room has to be: for a kept list of any size, for the fronts and lines of any pool, and `maxWords` words for the offspring
-  module _ (room : Room) (offspring : ℕ) (kept : maxSize ≤ room .kept) (fronts : maxPool ≤ room .fronts) (lines : maxPool ≤ room .lines)
-      (words : maxWords ≤ offspring) where
+  -- what the room has to be: for a kept list of any size and its rules, for the fronts and lines of any pool, and `maxWords` words for the offspring
+  module _ (room : Room) (offspring : ℕ) (kept : maxSize ≤ room .kept) (rules : maxSize ≤ room .rules) (fronts : maxPool ≤ room .fronts)
+      (lines : maxPool ≤ room .lines) (words : maxWords ≤ offspring) where
     request-room : noStepRoom (operatorsOf (st .session)) (requestOf st history) room offspring ≡ false
     unfolding noStepRoom noRoom
     request-room =
         or-both _ _
         (and-no (leb 2 (st .session .config .«population_size»)) _ (or-both _ _ (le-ltb (room .kept) _ (le-trans (ok .config .atMost) kept))
-        (or-both _ _ (le-ltb (room .fronts) _ (le-trans few-plans fronts)) (le-ltb (room .lines) _ (le-trans few-plans lines)))))
+        (or-both _ _ (le-ltb (room .rules) _ (le-trans (ok .config .atMost) rules))
+        (or-both _ _ (le-ltb (room .fronts) _ (le-trans few-plans fronts)) (le-ltb (room .lines) _ (le-trans few-plans lines))))))
         (le-ltb offspring _ (le-trans offspring-fit words))
 
     -- the step is refused by 8 or 9, or not at all

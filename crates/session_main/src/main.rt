@@ -218,6 +218,7 @@ fn constrained(bits: u64) {
     let directions = [0u8; 1];
     let mut ideal = [0.0; 1];
     let mut kept = [0usize; 2];
+    let mut rules = [0u8; 2];
     let mut fronts = [0usize; 2];
     let mut lines = [0usize; 2];
     let mut offspring = [0u64; 2];
@@ -230,6 +231,7 @@ fn constrained(bits: u64) {
         operators,
         &mut ideal,
         &mut kept,
+        &mut rules,
         &mut fronts,
         &mut lines,
         &mut offspring,

@@ -15,12 +15,13 @@ fn no_step_room(
     n: usize,
     n_dims: usize,
     kept: usize,
+    rules: usize,
     fronts: usize,
     lines: usize,
     offspring: usize,
 ) -> bool
     requires { ⌜ (size ≤ maxSize) × («n_dims» ≤ maxDims) ⌝ }
-    ensures { λ r. ⌜ r ≡ stepTooShort (record { kept = kept; fronts = fronts; lines = lines }) offspring size n «n_dims» ⌝ }
+    ensures { λ r. ⌜ r ≡ stepTooShort (record { kept = kept; rules = rules; fronts = fronts; lines = lines }) offspring size n «n_dims» ⌝ }
 {
     if offspring < size * n_dims {
         return true;
@@ -28,7 +29,7 @@ fn no_step_room(
     if n < 2 {
         return false;
     }
-    refusals::no_room(size, n, kept, fronts, lines)
+    refusals::no_room(size, n, kept, rules, fronts, lines)
 }
 
 // The first refusal that applies to a generation step.
@@ -41,13 +42,14 @@ pub fn refusal(
     operators: Operators,
     ideal: &[f64],
     kept: usize,
+    rules: usize,
     fronts: usize,
     lines: usize,
     offspring: usize,
 ) -> Check
     ensures { λ r. ⌜ checked r ≡ stepRefusal (operatorsIn operators)
         (wordRequest (now (pool .entry)) (now (directions .entry)) divisions size rng (now (ideal .entry)))
-        (record { kept = kept; fronts = fronts; lines = lines }) offspring ⌝ }
+        (record { kept = kept; rules = rules; fronts = fronts; lines = lines }) offspring ⌝ }
 {
     if plans::bad_directions(directions) {
         return Check::Refused(2);
@@ -81,7 +83,7 @@ pub fn refusal(
     if parent_checks::bad_parents(pool, dims, n_dims) {
         return Check::Refused(9);
     }
-    if no_step_room(size, n, n_dims, kept, fronts, lines, offspring) {
+    if no_step_room(size, n, n_dims, kept, rules, fronts, lines, offspring) {
         return Check::Refused(10);
     }
     Check::Good

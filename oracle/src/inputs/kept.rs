@@ -104,6 +104,22 @@ pub(super) fn kept_cases() -> Vec<Line> {
         plan.constraints = if at < 2 { vec![0.25] } else { vec![0.5, -1.0] };
     }
     calls.push(Call::new(2, 3, 5, 77, infeasible));
+    // A whole front that leaves one of two lines empty, and four of the next
+    // front's five plans: the nearest on one line, drawn ones on both.
+    calls.push(Call::new(
+        2,
+        1,
+        5,
+        4,
+        pool_of(&[
+            &[0.0, 1.0],
+            &[1.0, 5.0],
+            &[2.0, 4.0],
+            &[3.0, 3.0],
+            &[4.0, 2.0],
+            &[5.0, 1.0],
+        ]),
+    ));
     calls.extend(refused_selections());
     let mut lines: Vec<Line> = calls.iter().map(Call::select).collect();
     // One plan too many (1,024 of them are among the large cases).

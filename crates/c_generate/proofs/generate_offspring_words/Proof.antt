@@ -10,13 +10,13 @@ use Rattle.session_words.specs.Coding.{dimensionCount}
 -- ---- the places, each from the next: the dimensions are read, the step is called, and its answer told
 
 abbrev start : tie.After-dimensions-of-words → tie.Start
-start c = c .before .before .before .before .before .before .before .before .before
+start c = c .before .before .before .before .before .before .before .before .before .before
 
 abbrev read : tie.After-nsga3-generate-offspring → tie.After-dimensions-of-words
-read c = c .before .before .before .before .before .before .before
+read c = c .before .before .before .before .before .before .before .before
 
 abbrev called : tie.After-code → tie.After-nsga3-generate-offspring
-called c = c .before .before .before .before .before .before .before .before .before .before .before .before .before .before
+called c = c .before .before .before .before .before .before .before .before .before .before .before .before .before .before .before .before
 
 -- ---- the needs
 
@@ -47,6 +47,9 @@ same-length-4 c = search needs
 same-length-5 : tie.Need-same-length-5
 same-length-5 c = search needs
 
+same-length-6 : tie.Need-same-length-6
+same-length-6 c = search needs
+
 returns : tie.Need-returns
 returns c =
     let r = read (called c) in
@@ -67,4 +70,5 @@ generate-offspring-words-spec =
     same-length-3
     same-length-4
     same-length-5
+    same-length-6
     returns)

@@ -22,8 +22,11 @@ same-length-3 c = search needs
 same-length-4 : tie.Need-same-length-4
 same-length-4 c = search needs
 
+same-length-5 : tie.Need-same-length-5
+same-length-5 c = search needs
+
 returns : tie.Need-returns
-returns c = select-coded _ _ _ _ (c .before .before .before .before .before .before .before .before .before .before .nsga3-select .ensures) (c .code .ensures)
+returns c = select-coded _ _ _ _ (c .before .before .before .before .before .before .before .before .before .before .before .before .nsga3-select .ensures) (c .code .ensures)
 
 pub select-words-spec : {M : Type 1} → statement M
 select-words-spec =
@@ -35,4 +38,5 @@ select-words-spec =
     same-length-2
     same-length-3
     same-length-4
+    same-length-5
     returns)

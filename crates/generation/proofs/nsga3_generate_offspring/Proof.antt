@@ -16,7 +16,7 @@ abbrev ops : tie.Start → Operators
 ops s = operatorsIn (s .args .operators)
 
 abbrev at : tie.Start → Lent
-at s = lent (s .args .kept .now) (s .args .fronts .now) (s .args .lines .now)
+at s = lent (s .args .kept .now) (s .args .rules .now) (s .args .fronts .now) (s .args .lines .now)
 
 -- the dimensions' numbers are such as the machine holds
 held : (s : tie.Start) → badDimensions (ops s .dims) (ops s .dimCount) ≡ false → AllHeld (ops s .dims) (ops s .dimCount)
@@ -25,16 +25,16 @@ held s = operators-good (s .args .operators) _ (s .good .1 .1 .1 .1 .1 .0)
 -- ---- the places, each from the next: the call starts, is checked, is found good, and the step is made
 
 abbrev start : tie.After-refusal → tie.Start
-start c = c .before .before .before .before .before .before .before .before .before
+start c = c .before .before .before .before .before .before .before .before .before .before
 
 abbrev asked : tie.After-enum-told → tie.After-refusal
 asked c = c .before .before
 
-abbrev good : tie.After-step-arg5 → tie.After-enum-told
-good c = c .before .before .before .before .before
+abbrev good : tie.After-step-arg6 → tie.After-enum-told
+good c = c .before .before .before .before .before .before
 
-abbrev stepped : tie.After-slice-known10 → tie.After-step
-stepped c = c .before .before .before .before .before .before .before .before .before .before
+abbrev stepped : tie.After-slice-known12 → tie.After-step
+stepped c = c .before .before .before .before .before .before .before .before .before .before .before .before
 
 -- ---- the needs
 
@@ -77,6 +77,9 @@ same-length-5 c = search needs
 same-length-6 : tie.Need-same-length-6
 same-length-6 c = search needs
 
+same-length-7 : tie.Need-same-length-7
+same-length-7 c = search needs
+
 returns-2 : tie.Need-returns-2
 returns-2 c =
     let told = good (stepped c .before) in
@@ -100,4 +103,5 @@ nsga3-generate-offspring-spec =
     same-length-4
     same-length-5
     same-length-6
+    same-length-7
     returns-2)

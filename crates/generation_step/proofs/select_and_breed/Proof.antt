@@ -24,7 +24,7 @@ abbrev request : tie.Start → Request
 request s = wordRequest (s .args .pool .now) (s .args .directions .now) (s .args .divisions) (s .args .size) (s .args .rng) (s .args .ideal .now)
 
 abbrev at : tie.Start → Lent
-at s = lent (s .args .kept .now) (s .args .fronts .now) (s .args .lines .now)
+at s = lent (s .args .kept .now) (s .args .rules .now) (s .args .fronts .now) (s .args .lines .now)
 
 abbrev room : tie.Start → ℕ
 room s = length (s .args .offspring .now)
@@ -41,15 +41,15 @@ good-pool s =
 -- ---- the places, each from the next: the plans to breed from are selected, the pool is sorted by rows, and the plans are bred from
 
 abbrev start : tie.After-nsga3-select → tie.Start
-start c = c .before .before .before .before .before .before .before .before .before .before .before .before .before
+start c = c .before .before .before .before .before .before .before .before .before .before .before .before .before .before .before
 
 abbrev selected : tie.After-row-fronts → tie.After-nsga3-select
-selected c = c .before .before .before .before .before .before .before .before .before .before
+selected c = c .before .before .before .before .before .before .before .before .before .before .before .before
 
 abbrev sorted : tie.After-breed-arg3 → tie.After-row-fronts
 sorted c = c .before .before .before .before .before
 
-abbrev bred : tie.After-slice-known12 → tie.After-breed
+abbrev bred : tie.After-slice-known14 → tie.After-breed
 bred c = c .before .before
 
 -- ---- the needs
@@ -58,7 +58,7 @@ nsga3-select-requires : tie.Need-nsga3-select-requires
 nsga3-select-requires c κs = tt
 
 row-fronts-requires : tie.Need-row-fronts-requires
-row-fronts-requires c κs = let s = start (c .before .before .before .before .before .before .before .before .before) in (good-pool s, s .pre .0 .1)
+row-fronts-requires c κs = let s = start (c .before .before .before .before .before .before .before .before .before .before .before) in (good-pool s, s .pre .0 .1)
 
 breed-requires : tie.Need-breed-requires
 breed-requires c κs =
@@ -69,7 +69,7 @@ breed-requires c κs =
     let ok = given s in
     let rows : length (sorted c .row-fronts .last .1 .1 .0) ≡ length (a .by-rows .now) = sorted c .row-fronts .kept .1 .1 .0 in
     -- the selection's fronts have room for the pool too, so that a program which breeds by them fails for its offspring alone
-    let others : length (n .nsga3-select .last .1 .1 .1 .1 .1 .1 .1 .0) ≡ length (a .fronts .now) = n .nsga3-select .kept .1 .1 .1 .1 .1 .1 .1 .0 in
+    let others : length (n .nsga3-select .last .1 .1 .1 .1 .1 .1 .1 .1 .0) ≡ length (a .fronts .now) = n .nsga3-select .kept .1 .1 .1 .1 .1 .1 .1 .1 .0 in
     let kept : length (n .nsga3-select .last .1 .1 .1 .1 .1 .1 .0) ≡ length (a .kept .now) = n .nsga3-select .kept .1 .1 .1 .1 .1 .1 .0 in (
       (omega (arith, rows, s .pre .0 .1, others, fronts-room ok (s .pre .0 .0)), plans-breedable (ops s) (request s) (ok .parents), ok .dimensions, ok .operators),
       (
@@ -99,6 +99,9 @@ same-length-5 c = search needs
 same-length-6 : tie.Need-same-length-6
 same-length-6 c = search needs
 
+same-length-7 : tie.Need-same-length-7
+same-length-7 c = search needs
+
 returns : tie.Need-returns
 returns c =
     let w = sorted (bred c .before) in
@@ -125,4 +128,5 @@ select-and-breed-spec =
     same-length-4
     same-length-5
     same-length-6
+    same-length-7
     returns)

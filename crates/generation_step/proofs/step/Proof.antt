@@ -19,7 +19,7 @@ abbrev request : tie.Start → Request
 request s = wordRequest (s .args .pool .now) (s .args .directions .now) (s .args .divisions) (s .args .size) (s .args .rng) (s .args .ideal .now)
 
 abbrev at : tie.Start → Lent
-at s = lent (s .args .kept .now) (s .args .fronts .now) (s .args .lines .now)
+at s = lent (s .args .kept .now) (s .args .rules .now) (s .args .fronts .now) (s .args .lines .now)
 
 abbrev room : tie.Start → ℕ
 room s = length (s .args .offspring .now)
@@ -31,21 +31,21 @@ given s = passed (ops s) (request s) (roomOf (at s)) (room s) (s .pre)
 
 -- the call starts, and the plans are counted
 abbrev start : tie.After-plan-count → tie.Start
-start c = c .before .before .before .before .before .before .before .before
+start c = c .before .before .before .before .before .before .before .before .before
 
 -- a pool of one: every setting is drawn
 abbrev one : tie.After-sample-candidates-arg → tie.Then1
 one c = c .before .before
 
-abbrev drawn : tie.After-slice-known6 → tie.After-sample-candidates
+abbrev drawn : tie.After-slice-known7 → tie.After-sample-candidates
 drawn c = c .before .before
 
 -- a pool of two or more: a selection is made and bred from
-abbrev more : tie.After-select-and-breed-arg5 → tie.Else1
-more c = c .before .before .before .before .before .before
+abbrev more : tie.After-select-and-breed-arg6 → tie.Else1
+more c = c .before .before .before .before .before .before .before
 
-abbrev bred : tie.After-slice-known11 → tie.After-select-and-breed
-bred c = c .before .before .before .before .before .before .before .before .before .before .before
+abbrev bred : tie.After-slice-known13 → tie.After-select-and-breed
+bred c = c .before .before .before .before .before .before .before .before .before .before .before .before .before
 
 -- ---- a pool of one
 
@@ -95,6 +95,9 @@ same-length-5 c = search needs
 same-length-6 : tie.Need-same-length-6
 same-length-6 c = search needs
 
+same-length-7 : tie.Need-same-length-7
+same-length-7 c = search needs
+
 returns-2 : tie.Need-returns-2
 returns-2 c = bred c .select-and-breed .ensures
 
@@ -113,4 +116,5 @@ step-spec =
     same-length-4
     same-length-5
     same-length-6
+    same-length-7
     returns-2)

@@ -1,24 +1,25 @@
 -- the first `at` open places are filled, and the arrays hold what that leaves
 use Prim.Native.Nat.{_-_, _≤_}
-use mathlib.Core.Path.{_≡_, refl, sym}
+use mathlib.Core.Path.{_≡_, refl, ap, sym, _∙_}
 use lib.ListN.{take}
+use Rattle.model.specs.Kept.{markOf}
 use Rattle.niching_array_laws.proofs.Selecting.{Selecting, selecting-first, selecting-ready, selecting-more, before-lines, front-counts, given, enough-members, no-counts, before-length, selecting-done}
 use native.Mathlib.Omega.{arith}
 use Rattle.niching.proofs.niching_select.Statement.{statement}
 use Rattle.niching.proofs.niching_select.Tie as tie
 
 abbrev Inv-loop : tie.InvT-loop
-Inv-loop order start end lines distances n-lines «open» picked₀ front counts₀ waits₀ taken₀ rng₀ at₀ picked counts waits taken rng at =
+Inv-loop order start end lines distances n-lines «open» picked₀ rules₀ front counts₀ waits₀ taken₀ rng₀ at₀ picked rules counts waits taken rng at =
     (at ≤ «open»)
-    × Selecting (take start order) front lines distances n-lines (rng₀ .s) picked₀ at counts waits taken picked (rng .s)
+    × Selecting (take start order) front lines distances n-lines (rng₀ .s) picked₀ rules₀ at counts waits taken picked rules (rng .s)
 
 abbrev μ-loop : tie.MeasureT-loop
-μ-loop order start end lines distances n-lines «open» picked₀ front counts₀ waits₀ taken₀ rng₀ at₀ picked counts waits taken rng at = «open» - at
+μ-loop order start end lines distances n-lines «open» picked₀ rules₀ front counts₀ waits₀ taken₀ rng₀ at₀ picked rules counts waits taken rng at = «open» - at
 
--- ---- the places, each from the next: the call starts, the front is cut out, the niche counts and the numbers are counted, a turn of the loop, a place filled
+-- ---- the places, each from the next: the call starts, the front is cut out, the niche counts and the numbers are counted, a turn of the loop, a place filled, its rule
 
 abbrev start : tie.After-before2 Inv-loop μ-loop → tie.Start Inv-loop μ-loop
-start c = c .before .before .before .before .before
+start c = c .before .before .before .before .before .before
 
 abbrev cut : tie.After-counts Inv-loop μ-loop → tie.After-before2 Inv-loop μ-loop
 cut c = c .before .before
@@ -37,6 +38,9 @@ turn c = c .before .before .before
 
 abbrev filled : tie.After-taken2 Inv-loop μ-loop → tie.After-pick Inv-loop μ-loop
 filled c = c .before .before .before
+
+abbrev ruled : tie.After-rng Inv-loop μ-loop → tie.After-rule-of Inv-loop μ-loop
+ruled c = c .before .before
 
 -- ---- the needs
 
@@ -71,7 +75,7 @@ loop-holds : tie.Need-loop-holds Inv-loop μ-loop
 loop-holds c =
     let b = counted (c .before .before) .count-lines in
     let f = c .before .count-waiting in
-    (omega arith, selecting-first _ _ _ _ _ _ _ _ _ (b .ensures) (f .ensures) (b .kept .1 .1 .0) (f .kept .1 .1 .0))
+    (omega arith, selecting-first _ _ _ _ _ _ _ _ _ _ (b .ensures) (f .ensures) (b .kept .1 .1 .0) (f .kept .1 .1 .0))
 
 slice-aggregate-pick : tie.Need-slice-aggregate-pick Inv-loop μ-loop
 slice-aggregate-pick c = sym (c .before .before .loop .inv .1 .holds .sizes .0)
@@ -95,21 +99,39 @@ mul-picked c = omega arith
 slice-write-picked : tie.Need-slice-write-picked Inv-loop μ-loop
 slice-write-picked c = omega (arith, turn (filled c .before) .before .loop .inv .1 .picked .same)
 
+rule-of-requires : tie.Need-rule-of-requires Inv-loop μ-loop
+rule-of-requires c κs = tt
+
+mark-requires : tie.Need-mark-requires Inv-loop μ-loop
+mark-requires c κs = tt
+
+slice-write-rules : tie.Need-slice-write-rules Inv-loop μ-loop
+slice-write-rules c =
+    let t = turn (filled (c .before .before) .before) in
+    omega (arith, t .before .loop .inv .1 .same, t .loop-test .taken, entry (t .before) .pre .roomForRules)
+
 add-at : tie.Need-add-at Inv-loop μ-loop
-add-at c = omega arith
+add-at c = let t = turn (filled (ruled c .before) .before) in omega (arith, t .loop-test .taken, entry (t .before) .good)
 
 loop-less : tie.Need-loop-less Inv-loop μ-loop
-loop-less c = omega arith
+loop-less c = omega (arith, turn (filled (ruled c .before) .before) .loop-test .taken)
 
 loop-again : tie.Need-loop-again Inv-loop μ-loop
 loop-again c =
-    let f = filled (c .before) in
+    let f = filled (ruled c .before) in
     let t = turn (f .before) in
     let h = entry (t .before) .pre in
-    (omega arith, selecting-more (t .before .loop .inv .1) (given h) (omega (arith, t .loop-test .taken, h .room)) (f .pick .ensures))
+    let rule = ruled c .rule-of in (
+      omega (arith, t .loop-test .taken),
+      selecting-more (t .before .loop .inv .1) (given h) (omega (arith, t .loop-test .taken, h .room)) (omega (arith, t .loop-test .taken, h .roomForRules))
+          (f .pick .ensures) (c .before .mark .ensures ∙ ap markOf (rule .ensures)),
+    )
 
 same-length : tie.Need-same-length Inv-loop μ-loop
 same-length c = c .before .loop .inv .1 .picked .same
+
+same-length-2 : tie.Need-same-length-2 Inv-loop μ-loop
+same-length-2 c = c .before .loop .inv .1 .same
 
 returns : tie.Need-returns Inv-loop μ-loop
 returns c =
@@ -139,8 +161,12 @@ niching-select-spec =
     pick-requires
     mul-picked
     slice-write-picked
+    rule-of-requires
+    mark-requires
+    slice-write-rules
     add-at
     loop-less
     loop-again
     same-length
+    same-length-2
     returns)

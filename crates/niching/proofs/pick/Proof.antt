@@ -1,7 +1,7 @@
 -- a line is drawn, a member of it chosen, and the three arrays are moved on
 use mathlib.Core.Path.{refl}
 use lib.ListN.{length-set}
-use Rattle.niching_array_laws.proofs.Picking.{ready-awaits, ready-open, open-some, member-waited, member-line, picked-at}
+use Rattle.niching_array_laws.proofs.Picking.{ready-awaits, ready-open, open-some, member-waited, member-line, picked-at, found-at}
 use Rattle.niching_array_laws.proofs.Numbering.{stands-more}
 use native.Mathlib.Omega.{arith}
 use Rattle.niching.proofs.pick.Statement.{statement}
@@ -45,8 +45,8 @@ choose-member-requires c κs =
     let l = drawn-line c .choose-line in
     (h .listed, h .measured, ready-awaits h (l .result .value), open-some (s .args .waits .now) (s .args .n) (l .result .value) (l .ensures .0))
 
-add-counts : tie.Need-add-counts
-add-counts c = omega (arith, entry c .pre .few (line c .choose-line .result .value))
+add-raised : tie.Need-add-raised
+add-raised c = omega (arith, entry c .pre .few (line c .choose-line .result .value))
 
 mul-counts : tie.Need-mul-counts
 mul-counts c = omega (arith, line c .choose-line .ensures .0 .below, entry c .pre .counted, entry c .good)
@@ -105,6 +105,7 @@ returns c =
           (omega (arith, l .ensures .0 .below, h .awaited)) (omega (arith, m .ensures .0 .below, h .listed .marks));
       chosen = picked-at (a .front .now) (a .lines .now) (a .distances .now) (a .n) (a .counts .now) (a .waits .now) (a .taken .now) (a .rng .s)
           (l .result .value) (l .result .rng .s) _ _ (l .ensures .1) (m .ensures .1);
+      found = found-at (a .n) (a .counts .now) (a .waits .now) (a .rng .s) (l .result .value) (l .result .rng .s) (l .ensures .1);
     }
 
 pub pick-spec : {M : Type 1} → statement M
@@ -117,7 +118,7 @@ pick-spec =
     mul-waiting
     slice-read-waiting
     choose-member-requires
-    add-counts
+    add-raised
     mul-counts
     slice-write-counts
     sub-waits

@@ -8,16 +8,16 @@ use Rattle.nsga3.proofs.nsga3_select.Tie as tie
 -- ---- the places, each from the next: the call starts, is checked, is found good, and the selection is made
 
 abbrev start : tie.After-refusal → tie.Start
-start c = c .before .before .before .before .before .before .before .before
+start c = c .before .before .before .before .before .before .before .before .before
 
 abbrev asked : tie.After-enum-told → tie.After-refusal
 asked c = c .before .before
 
-abbrev good : tie.After-select-arg4 → tie.After-enum-told
-good c = c .before .before .before .before
+abbrev good : tie.After-select-arg5 → tie.After-enum-told
+good c = c .before .before .before .before .before
 
-abbrev selected : tie.After-slice-known8 → tie.After-select
-selected c = c .before .before .before .before .before .before .before .before
+abbrev selected : tie.After-slice-known10 → tie.After-select
+selected c = c .before .before .before .before .before .before .before .before .before .before
 
 -- ---- the needs
 
@@ -34,7 +34,7 @@ select-requires : tie.Need-select-requires
 select-requires c κs =
     let told = good c in
     let a = start (asked told) .args in
-    limits-kept (a .pool .now) (a .directions .now) (a .divisions) (a .size) (a .rng) (a .ideal .now) (lent (a .kept .now) (a .fronts .now) (a .lines .now))
+    limits-kept (a .pool .now) (a .directions .now) (a .divisions) (a .size) (a .rng) (a .ideal .now) (lent (a .kept .now) (a .rules .now) (a .fronts .now) (a .lines .now))
     (asked told .refusal .ensures) (told .enum-told .given .1)
 
 same-length : tie.Need-same-length
@@ -45,7 +45,7 @@ returns c =
     let check = c .before in
     let asks = check .before .before in
     let a = start asks .args in
-    refused (a .pool .now) (a .directions .now) (a .divisions) (a .size) (a .rng) (a .ideal .now) (lent (a .kept .now) (a .fronts .now) (a .lines .now))
+    refused (a .pool .now) (a .directions .now) (a .divisions) (a .size) (a .rng) (a .ideal .now) (lent (a .kept .now) (a .rules .now) (a .fronts .now) (a .lines .now))
     (asks .refusal .ensures) _ (check .check .given .1)
 
 same-length-2 : tie.Need-same-length-2
@@ -60,11 +60,14 @@ same-length-4 c = search needs
 same-length-5 : tie.Need-same-length-5
 same-length-5 c = search needs
 
+same-length-6 : tie.Need-same-length-6
+same-length-6 c = search needs
+
 returns-2 : tie.Need-returns-2
 returns-2 c =
     let told = good (selected c .before) in
     let a = start (asked told) .args in
-    selected-so (a .pool .now) (a .directions .now) (a .divisions) (a .size) (a .rng) (a .ideal .now) (lent (a .kept .now) (a .fronts .now) (a .lines .now))
+    selected-so (a .pool .now) (a .directions .now) (a .divisions) (a .size) (a .rng) (a .ideal .now) (lent (a .kept .now) (a .rules .now) (a .fronts .now) (a .lines .now))
     (asked told .refusal .ensures) (told .enum-told .given .1) _ (selected c .select .ensures)
 
 pub nsga3-select-spec : {M : Type 1} → statement M
@@ -81,4 +84,5 @@ nsga3-select-spec =
     same-length-3
     same-length-4
     same-length-5
+    same-length-6
     returns-2)

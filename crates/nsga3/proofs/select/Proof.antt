@@ -21,7 +21,7 @@ request s = wordRequest (s .args .pool .now) (s .args .directions .now) (s .args
 -- ---- the places, each from the next: the call starts, the plans are counted, the rows filled, the pool sorted, and the kept list filled
 
 abbrev start : tie.After-plan-count → tie.Start
-start c = c .before .before .before .before .before .before .before
+start c = c .before .before .before .before .before .before .before .before
 
 abbrev counted : tie.After-fill-rows → tie.After-plan-count
 counted c = c .before .before
@@ -29,11 +29,11 @@ counted c = c .before .before
 abbrev filled : tie.After-sort-pool-arg → tie.After-fill-rows
 filled c = c .before .before .before .before
 
-abbrev sorted : tie.After-fill-kept-arg3 → tie.After-sort-pool
-sorted c = c .before .before .before .before .before .before .before .before
+abbrev sorted : tie.After-fill-kept-arg4 → tie.After-sort-pool
+sorted c = c .before .before .before .before .before .before .before .before .before
 
-abbrev chosen : tie.After-slice-known8 → tie.After-fill-kept
-chosen c = c .before .before .before .before .before .before
+abbrev chosen : tie.After-slice-known10 → tie.After-fill-kept
+chosen c = c .before .before .before .before .before .before .before .before
 
 -- ---- what they leave
 
@@ -98,17 +98,20 @@ same-length-2 : tie.Need-same-length-2
 same-length-2 c = chosen c .fill-kept .kept .1 .1 .1 .1 .1 .1 .1 .1 .1 .0
 
 same-length-3 : tie.Need-same-length-3
-same-length-3 c = sorted (chosen c .before) .sort-pool .kept .1 .1 .1 .1 .1 .0
+same-length-3 c = chosen c .fill-kept .kept .1 .1 .1 .1 .1 .1 .1 .1 .1 .1 .0
 
 same-length-4 : tie.Need-same-length-4
-same-length-4 c = chosen c .fill-kept .kept .1 .1 .1 .1 .1 .1 .1 .1 .1 .1 .0
+same-length-4 c = sorted (chosen c .before) .sort-pool .kept .1 .1 .1 .1 .1 .0
+
+same-length-5 : tie.Need-same-length-5
+same-length-5 c = chosen c .fill-kept .kept .1 .1 .1 .1 .1 .1 .1 .1 .1 .1 .1 .0
 
 returns : tie.Need-returns
 returns c =
     let cut = sorted (chosen c .before) in
     let s = start (counted (filled (cut .before))) in
     let a = s .args in
-    accepted-exit (request s) _ _ _ _ _ _ _ _ _ _ (cut .sort-pool .ensures (a .divisions) (a .rng) (a .ideal .now)) (chosen c .fill-kept .ensures)
+    accepted-exit (request s) _ _ _ _ _ _ _ _ _ _ _ _ (cut .sort-pool .ensures (a .divisions) (a .rng) (a .ideal .now)) (chosen c .fill-kept .ensures)
 
 pub select-spec : {M : Type 1} → statement M
 select-spec =
@@ -127,4 +130,5 @@ select-spec =
     same-length-2
     same-length-3
     same-length-4
+    same-length-5
     returns)

@@ -23,7 +23,7 @@ request s = wordRequest (s .args .pool .now) (s .args .directions .now) (s .args
 -- ---- the places, each from the next: the call starts, the plans are counted, the table filled, the plans associated, the whole fronts copied, and the rest picked
 
 abbrev start : tie.After-plan-count → tie.Start
-start c = c .before .before .before .before .before .before .before .before
+start c = c .before .before .before .before .before .before .before .before .before
 
 abbrev counted : tie.After-das-dennis → tie.After-plan-count
 counted c = c .before .before
@@ -31,25 +31,25 @@ counted c = c .before .before
 abbrev tabled : tie.After-distances → tie.After-das-dennis
 tabled c = c .before .before .before .before .before
 
-abbrev joined : tie.After-copy-first-arg → tie.After-associate
-joined c = c .before .before .before .before .before .before
+abbrev joined : tie.After-list-whole-arg2 → tie.After-associate
+joined c = c .before .before .before .before .before .before .before
 
-abbrev copied : tie.After-distances3 → tie.After-copy-first
-copied c = c .before .before .before .before
+abbrev copied : tie.After-distances3 → tie.After-list-whole
+copied c = c .before .before .before .before .before .before
 
-abbrev picked : tie.After-slice-known7 → tie.After-niching-select
-picked c = c .before .before
+abbrev picked : tie.After-slice-known10 → tie.After-niching-select
+picked c = c .before .before .before .before
 
 -- ---- the same from further on
 
 abbrev start-joined : tie.After-associate → tie.Start
 start-joined c = start (counted (tabled (c .before)))
 
-abbrev start-copied : tie.After-copy-first → tie.Start
+abbrev start-copied : tie.After-list-whole → tie.Start
 start-copied c = start-joined (joined (c .before))
 
-abbrev copied-last : tie.After-slice-known7 → tie.After-copy-first
-copied-last c = copied (picked c .before .before)
+abbrev copied-last : tie.After-slice-known10 → tie.After-list-whole
+copied-last c = copied (picked c .before .before .before)
 
 -- ---- what they leave
 
@@ -65,11 +65,16 @@ associated c =
     c .associate .ensures (request s)
     (pool-rows (s .pre .0) _ e) (λ j h. refl) (lines-at (request s) (s .pre .0 .limits .wide) _ (d .ensures .0) _ _ (d .ensures .1)) (d .ensures .0)
 
--- the whole fronts are within the kept list
-whole-fits : (c : tie.After-copy-first) → start-copied c .args .cut .whole ≤ length (c .copy-first .last .1 .1 .0)
+-- the whole fronts are within the kept list, and their marks within that of the rules
+whole-fits : (c : tie.After-list-whole) → start-copied c .args .cut .whole ≤ length (c .list-whole .last .1 .1 .0)
 whole-fits c =
     let s = start-copied c in
-    omega (arith, s .pre .0 .listed .cut .fits, s .pre .0 .limits .kept, c .copy-first .kept .1 .1 .0)
+    omega (arith, s .pre .0 .listed .cut .fits, s .pre .0 .limits .kept, c .list-whole .kept .1 .1 .0)
+
+whole-marked : (c : tie.After-list-whole) → start-copied c .args .cut .whole ≤ length (c .list-whole .last .1 .1 .1 .0)
+whole-marked c =
+    let s = start-copied c in
+    omega (arith, s .pre .0 .listed .cut .fits, s .pre .0 .limits .rules, c .list-whole .kept .1 .1 .1 .0)
 
 -- ---- the needs
 
@@ -106,11 +111,14 @@ associate-requires c κs =
       omega (arith, e, ok .fewPlans),
     )
 
-copy-first-requires : tie.Need-copy-first-requires
-copy-first-requires c κs =
+list-whole-requires : tie.Need-list-whole-requires
+list-whole-requires c κs =
     let s = start-joined (joined c) in
-    let o = s .pre .0 .listed in
-    (omega (arith, o .cut .ahead, o .cut .within, o .places), omega (arith, o .cut .fits, s .pre .0 .limits .kept))
+    let o = s .pre .0 .listed in (
+      omega (arith, o .cut .ahead, o .cut .within, o .places),
+      omega (arith, o .cut .fits, s .pre .0 .limits .kept),
+      omega (arith, o .cut .fits, s .pre .0 .limits .rules),
+    )
 
 slice-aggregate-niching-select : tie.Need-slice-aggregate-niching-select
 slice-aggregate-niching-select c = search needs
@@ -130,32 +138,49 @@ part-niching-select-start c = whole-fits (copied c)
 part-niching-select-end : tie.Need-part-niching-select-end
 part-niching-select-end c = search needs
 
+sub-niching-select-3 : tie.Need-sub-niching-select-3
+sub-niching-select-3 c = whole-marked (copied (c .before))
+
+part-niching-select-start-2 : tie.Need-part-niching-select-start-2
+part-niching-select-start-2 c = whole-marked (copied (c .before))
+
+part-niching-select-end-2 : tie.Need-part-niching-select-end-2
+part-niching-select-end-2 c = search needs
+
 niching-select-requires : tie.Need-niching-select-requires
 niching-select-requires c κs =
-    let copy = copied (c .before) in
+    let copy = copied (c .before .before) in
     let join = joined (copy .before) in
     let table = tabled (join .before) in
     let s = start (counted table) in
     let ok = s .pre .0 .limits in
     let a = join .associate in
-    let f = copy .copy-first in
+    let f = copy .list-whole in
     let far : length (a .last .1 .1 .1 .1 .1 .1 .1 .0) ≡ maxPool = a .kept .1 .1 .1 .1 .1 .1 .1 .0 in
-    splits (s .pre .0) (s .pre .1) _ _ (counted table .plan-count .ensures) (table .das-dennis .ensures .0) _ _ _ _ _ _ (associated join) _
+    splits (s .pre .0) (s .pre .1) _ _ (counted table .plan-count .ensures) (table .das-dennis .ensures .0) _ _ _ _ _ _ (associated join) _ _
     (omega (arith, a .kept .1 .1 .1 .1 .1 .1 .0, ok .lines)) (omega (arith, far, ok .fewPlans))
     (omega (arith, mid-len (s .args .cut .whole) (length (f .last .1 .1 .0)) (f .last .1 .1 .0) (omega arith), f .kept .1 .1 .0, ok .kept))
+    (omega (arith, mid-len (s .args .cut .whole) (length (f .last .1 .1 .1 .0)) (f .last .1 .1 .1 .0) (omega arith), f .kept .1 .1 .1 .0, ok .rules))
 
 same-length : tie.Need-same-length
 same-length c = joined (copied-last c .before) .associate .kept .1 .1 .1 .1 .1 .0
 
 same-length-2 : tie.Need-same-length-2
 same-length-2 c =
-    let f = copied-last c .copy-first in
+    let f = copied-last c .list-whole in
     let p = picked c .niching-select in
     let w = start-copied (copied-last c) .args .cut .whole in
     same-len-mid w (length (f .last .1 .1 .0) - w) (f .last .1 .1 .0) (p .last .1 .1 .1 .1 .1 .1 .1 .1 .0) (p .kept .1 .1 .1 .1 .1 .1 .1 .1 .0) ∙ f .kept .1 .1 .0
 
 same-length-3 : tie.Need-same-length-3
-same-length-3 c = joined (copied-last c .before) .associate .kept .1 .1 .1 .1 .1 .1 .0
+same-length-3 c =
+    let f = copied-last c .list-whole in
+    let p = picked c .niching-select in
+    let w = start-copied (copied-last c) .args .cut .whole in
+    same-len-mid w (length (f .last .1 .1 .1 .0) - w) (f .last .1 .1 .1 .0) (p .last .1 .1 .1 .1 .1 .1 .1 .1 .1 .0) (p .kept .1 .1 .1 .1 .1 .1 .1 .1 .1 .0) ∙ f .kept .1 .1 .1 .0
+
+same-length-4 : tie.Need-same-length-4
+same-length-4 c = joined (copied-last c .before) .associate .kept .1 .1 .1 .1 .1 .1 .0
 
 returns : tie.Need-returns
 returns c =
@@ -164,9 +189,10 @@ returns c =
     let table = tabled (join .before) in
     let s = start (counted table) in
     let ok = s .pre .0 .limits in
-    let f = copy .copy-first in
+    let f = copy .list-whole in
     hands (s .pre .0) (s .pre .1) _ _ (counted table .plan-count .ensures) (table .das-dennis .ensures .0) _ _ _ _ _ _ (associated join)
-    (ok .ideal) (s .args .kept .now) (f .last .1 .1 .0) _ _ (whole-fits copy) (f .ensures) (picked c .niching-select .ensures)
+    (ok .ideal) (s .args .kept .now) (f .last .1 .1 .0) _ (s .args .rules .now) (f .last .1 .1 .1 .0) _ _ (whole-fits copy) (f .ensures .0) (whole-marked copy) (f .ensures .1)
+    (picked c .niching-select .ensures)
 
 pub select-split-spec : {M : Type 1} → statement M
 select-split-spec =
@@ -178,15 +204,19 @@ select-split-spec =
     slice-aggregate-associate
     slice-aggregate-associate-2
     associate-requires
-    copy-first-requires
+    list-whole-requires
     slice-aggregate-niching-select
     sub-niching-select
     mul-niching-select
     sub-niching-select-2
     part-niching-select-start
     part-niching-select-end
+    sub-niching-select-3
+    part-niching-select-start-2
+    part-niching-select-end-2
     niching-select-requires
     same-length
     same-length-2
     same-length-3
+    same-length-4
     returns)

@@ -42,6 +42,9 @@ slice-aggregate-nsga3-select-5 c = search needs
 slice-aggregate-nsga3-select-6 : tie.Need-slice-aggregate-nsga3-select-6
 slice-aggregate-nsga3-select-6 c = search needs
 
+slice-aggregate-nsga3-select-7 : tie.Need-slice-aggregate-nsga3-select-7
+slice-aggregate-nsga3-select-7 c = search needs
+
 nsga3-select-requires : tie.Need-nsga3-select-requires
 nsga3-select-requires c κs = tt
 
@@ -75,6 +78,7 @@ call-spec =
     slice-aggregate-nsga3-select-4
     slice-aggregate-nsga3-select-5
     slice-aggregate-nsga3-select-6
+    slice-aggregate-nsga3-select-7
     nsga3-select-requires
     slice-aggregate-tell
     slice-aggregate-tell-2

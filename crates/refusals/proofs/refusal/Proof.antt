@@ -15,7 +15,7 @@ abbrev request : tie.Start → Request
 request s = wordRequest (s .args .pool .now) (s .args .directions .now) (s .args .divisions) (s .args .size) (s .args .rng) (s .args .ideal .now)
 
 abbrev room : tie.Start → Room
-room s = record { kept = s .args .kept; fronts = s .args .fronts; lines = s .args .lines }
+room s = record { kept = s .args .kept; rules = s .args .rules; fronts = s .args .fronts; lines = s .args .lines }
 
 -- no test before the k-th applies
 abbrev Past : tie.Start → ℕ → Type 0

@@ -50,6 +50,13 @@ slice-relend-prefix-generate-offspring-5 c = omega arith
 slice-aggregate-generate-offspring-7 : tie.Need-slice-aggregate-generate-offspring-7
 slice-aggregate-generate-offspring-7 c = sym (length-take-le _ _ (omega arith))
 
+slice-relend-prefix-generate-offspring-6 :
+    tie.Need-slice-relend-prefix-generate-offspring-6
+slice-relend-prefix-generate-offspring-6 c = omega arith
+
+slice-aggregate-generate-offspring-8 : tie.Need-slice-aggregate-generate-offspring-8
+slice-aggregate-generate-offspring-8 c = sym (length-take-le _ _ (omega arith))
+
 generate-offspring-requires : tie.Need-generate-offspring-requires
 generate-offspring-requires c κs = tt
 
@@ -67,6 +74,9 @@ same-length-4 c = search needs
 
 same-length-5 : tie.Need-same-length-5
 same-length-5 c = search needs
+
+same-length-6 : tie.Need-same-length-6
+same-length-6 c = search needs
 
 returns : tie.Need-returns
 returns c = tt
@@ -88,10 +98,13 @@ stepped-spec =
     slice-aggregate-generate-offspring-6
     slice-relend-prefix-generate-offspring-5
     slice-aggregate-generate-offspring-7
+    slice-relend-prefix-generate-offspring-6
+    slice-aggregate-generate-offspring-8
     generate-offspring-requires
     same-length
     same-length-2
     same-length-3
     same-length-4
     same-length-5
+    same-length-6
     returns)

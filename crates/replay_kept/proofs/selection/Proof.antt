@@ -39,6 +39,12 @@ slice-relend-prefix-select-4 c = omega arith
 slice-aggregate-select-6 : tie.Need-slice-aggregate-select-6
 slice-aggregate-select-6 c = sym (length-take-le _ _ (omega arith))
 
+slice-relend-prefix-select-5 : tie.Need-slice-relend-prefix-select-5
+slice-relend-prefix-select-5 c = omega arith
+
+slice-aggregate-select-7 : tie.Need-slice-aggregate-select-7
+slice-aggregate-select-7 c = sym (length-take-le _ _ (omega arith))
+
 select-requires : tie.Need-select-requires
 select-requires c κs = tt
 
@@ -53,6 +59,9 @@ same-length-3 c = search needs
 
 same-length-4 : tie.Need-same-length-4
 same-length-4 c = search needs
+
+same-length-5 : tie.Need-same-length-5
+same-length-5 c = search needs
 
 returns : tie.Need-returns
 returns c = tt
@@ -72,9 +81,12 @@ selection-spec =
     slice-aggregate-select-5
     slice-relend-prefix-select-4
     slice-aggregate-select-6
+    slice-relend-prefix-select-5
+    slice-aggregate-select-7
     select-requires
     same-length
     same-length-2
     same-length-3
     same-length-4
+    same-length-5
     returns)

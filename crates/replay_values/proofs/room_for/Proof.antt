@@ -25,6 +25,9 @@ less-one-requires-3 c κs = tt
 less-one-requires-4 : tie.Need-less-one-requires-4
 less-one-requires-4 c κs = tt
 
+less-one-requires-5 : tie.Need-less-one-requires-5
+less-one-requires-5 c κs = tt
+
 returns : tie.Need-returns
 returns c = search needs
 
@@ -40,6 +43,9 @@ returns-4 c = search needs
 returns-5 : tie.Need-returns-5
 returns-5 c = search needs
 
+returns-6 : tie.Need-returns-6
+returns-6 c = search needs
+
 pub room-for-spec : {M : Type 1} → statement M
 room-for-spec =
     tie.close
@@ -51,8 +57,10 @@ room-for-spec =
     less-one-requires-2
     less-one-requires-3
     less-one-requires-4
+    less-one-requires-5
     returns
     returns-2
     returns-3
     returns-4
-    returns-5)
+    returns-5
+    returns-6)

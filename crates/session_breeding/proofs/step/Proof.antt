@@ -12,10 +12,10 @@ abbrev start : tie.After-operators-of → tie.Start
 start c = c .before .before .before .before .before .before .before
 
 abbrev given : tie.After-nsga3-generate-offspring → tie.After-operators-of
-given c = c .before .before .before .before .before .before .before
+given c = c .before .before .before .before .before .before .before .before
 
 abbrev called : tie.After-slice-known4 → tie.After-nsga3-generate-offspring
-called c = c .before .before .before .before .before .before .before
+called c = c .before .before .before .before .before .before .before .before
 
 -- ---- the needs
 
@@ -37,6 +37,9 @@ slice-aggregate-nsga3-generate-offspring-3 c = refl
 slice-aggregate-nsga3-generate-offspring-4 : tie.Need-slice-aggregate-nsga3-generate-offspring-4
 slice-aggregate-nsga3-generate-offspring-4 c = refl
 
+slice-aggregate-nsga3-generate-offspring-5 : tie.Need-slice-aggregate-nsga3-generate-offspring-5
+slice-aggregate-nsga3-generate-offspring-5 c = refl
+
 nsga3-generate-offspring-requires : tie.Need-nsga3-generate-offspring-requires
 nsga3-generate-offspring-requires c κs = tt
 
@@ -44,7 +47,7 @@ same-length : tie.Need-same-length
 same-length c = called c .nsga3-generate-offspring .kept .1 .1 .1 .1 .1 .1 .0
 
 same-length-2 : tie.Need-same-length-2
-same-length-2 c = called c .nsga3-generate-offspring .kept .1 .1 .1 .1 .1 .1 .1 .1 .1 .1 .0
+same-length-2 c = called c .nsga3-generate-offspring .kept .1 .1 .1 .1 .1 .1 .1 .1 .1 .1 .1 .0
 
 returns : tie.Need-returns
 returns c =
@@ -60,6 +63,7 @@ step-spec =
     slice-aggregate-nsga3-generate-offspring-2
     slice-aggregate-nsga3-generate-offspring-3
     slice-aggregate-nsga3-generate-offspring-4
+    slice-aggregate-nsga3-generate-offspring-5
     nsga3-generate-offspring-requires
     same-length
     same-length-2

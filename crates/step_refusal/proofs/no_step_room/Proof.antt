@@ -14,12 +14,12 @@ mul-if1 c = let f : c .args .size * c .args .n-dims ≤ maxSize * maxDims = mul-
 returns : tie.Need-returns
 returns c =
     let a = c .before .args in
-    room-offspring (a .size) (a .n) (a .n-dims) (record { kept = a .kept; fronts = a .fronts; lines = a .lines }) (a .offspring) (c .if1 .taken)
+    room-offspring (a .size) (a .n) (a .n-dims) (record { kept = a .kept; rules = a .rules; fronts = a .fronts; lines = a .lines }) (a .offspring) (c .if1 .taken)
 
 returns-2 : tie.Need-returns-2
 returns-2 c =
     let a = c .before .before .args in
-    room-of-one (a .size) (a .n) (a .n-dims) (record { kept = a .kept; fronts = a .fronts; lines = a .lines }) (a .offspring) (c .before .if1 .left) (c .if2 .taken)
+    room-of-one (a .size) (a .n) (a .n-dims) (record { kept = a .kept; rules = a .rules; fronts = a .fronts; lines = a .lines }) (a .offspring) (c .before .if1 .left) (c .if2 .taken)
 
 no-room-requires : tie.Need-no-room-requires
 no-room-requires c κs = tt
@@ -27,7 +27,7 @@ no-room-requires c κs = tt
 returns-3 : tie.Need-returns-3
 returns-3 c =
     let a = c .before .before .before .args in
-    room-of-many (a .size) (a .n) (a .n-dims) (record { kept = a .kept; fronts = a .fronts; lines = a .lines }) (a .offspring) (c .before .before .if1 .left) (c .before .if2 .left) _ (c .no-room .ensures)
+    room-of-many (a .size) (a .n) (a .n-dims) (record { kept = a .kept; rules = a .rules; fronts = a .fronts; lines = a .lines }) (a .offspring) (c .before .before .if1 .left) (c .before .if2 .left) _ (c .no-room .ensures)
 
 pub no-step-room-spec : {M : Type 1} → statement M
 no-step-room-spec = tie.close (tie.spec mul-if1 returns returns-2 no-room-requires returns-3)

@@ -20,7 +20,7 @@ abbrev ops : tie.Start → Operators
 ops s = operatorsIn (s .args .operators)
 
 abbrev room : tie.Start → Room
-room s = record { kept = s .args .kept; fronts = s .args .fronts; lines = s .args .lines }
+room s = record { kept = s .args .kept; rules = s .args .rules; fronts = s .args .fronts; lines = s .args .lines }
 
 -- no test before the k-th applies
 abbrev Past : tie.Start → ℕ → Type 0
