@@ -6,6 +6,7 @@
 
 include!("common.rs");
 
+use std::collections::HashSet;
 use std::hint::black_box;
 use std::ops::Range;
 
@@ -14,6 +15,8 @@ use mix::Mix;
 use multi_objective::MultiObjectiveSampler;
 use param::ParamValue;
 use plans::{choices, float, int, setting_words};
+use sampler::genetic::Phase;
+use sampler::nsga3::Nsga3Sampler;
 use sampler::{genetic, nsga3};
 use session::Session;
 use words::bits;
@@ -69,15 +72,19 @@ fn agree(call: &Call) -> Option<(usize, bool)> {
 }
 
 /// Times a step and prints its row; answers whether the two agree.
-fn compared(pool: &[Plan], size: usize, divisions: usize) -> bool {
+fn compared(edition: Edition, pool: &[Plan], size: usize) -> bool {
+    let lines = pool.len() / 2;
+    let most = refusals::most_divisions(3, 1024) as usize;
+    let divisions = genetic::auto_divisions(3, lines).min(most);
     let mut call = Call::new(3, divisions as u64, size as u64, 7, pool.to_vec());
+    call.edition = edition;
     call.marks = vec![0, 1, 0];
     call.dimensions = dimensions();
     let (n, split) = (pool.len(), size < pool.len());
     let fronts = match agree(&call) {
         Some((fronts, found)) if found == split => fronts,
         other => {
-            println!("N {n}, size {size}: the answers differ, or the split is another: {other:?}");
+            println!("edition {}, N {n}, size {size}: the answers differ, or the split is another: {other:?}", edition.number());
             return false;
         }
     };
@@ -90,20 +97,24 @@ fn compared(pool: &[Plan], size: usize, divisions: usize) -> bool {
     let lines = genetic::das_dennis(3, divisions).len();
     let split = if split { "yes" } else { "no" };
     let [n, size, fronts, lines] = [n, size, fronts, lines].map(timing::count);
-    timing::row(&[&[n, size, fronts, split.to_string(), lines][..], &timing::beside(ours, theirs)].concat());
+    let edition = edition.number().to_string();
+    timing::row(&[&[edition, n, size, fronts, split.to_string(), lines][..], &timing::beside(ours, theirs)].concat());
     true
 }
 
-/// Six steps; answers how many differ.
+/// Six steps of edition 1 and three of edition 2, from twice the size; answers how many differ.
 fn steps() -> usize {
     let (mut mix, mut wrong) = (Mix(1), 0);
     println!("Generation steps: m 3, ten dimensions.\n");
-    timing::head(&["N", "size", "fronts", "split", "lines", "proved", "Rust", "ratio"]);
+    timing::head(&["edition", "N", "size", "fronts", "split", "lines", "proved", "Rust", "ratio"]);
     for n in [128, 512, 1024] {
         let pool = pool(n, 3, &mut mix);
         for size in [n / 2, n] {
-            wrong += usize::from(!compared(&pool, size, genetic::auto_divisions(3, n / 2)));
+            wrong += usize::from(!compared(Edition::First, &pool, size));
         }
+    }
+    for n in [256, 1024, 2048] {
+        wrong += usize::from(!compared(Edition::Second, &pool(n, 3, &mut mix), n / 2));
     }
     wrong
 }
@@ -189,11 +200,11 @@ type Words = [u64; raw::DIMENSION_WORDS];
 /// A call of the static library: kind and word of the setting.
 fn sample(session: &mut raw::Session, dimensions: &[Words], call: &Asked, history: &[u64]) -> Result<[u64; 2], u64> {
     let history = &history[call.history.start * raw::PLAN_WORDS..call.history.end * raw::PLAN_WORDS];
-    session.sample(&dimensions[call.dimension], call.plan, history, raw::CANDIDATE_WORDS)
+    session.sample(&dimensions[call.dimension], call.plan, history, raw::WHOLE)
 }
 
 /// The records that a session's plans get, where after every call answer,
-/// generator, generation and number of plans are the same.
+/// generator, generation, number of plans and the plans that wait are the same.
 fn records(opening: &Opening, calls: &[Asked]) -> Option<Vec<Plan>> {
     let dimensions = dimensions();
     let words: Vec<Words> = dimensions.iter().map(dimension_words).collect();
@@ -215,6 +226,10 @@ fn records(opening: &Opening, calls: &[Asked]) -> Option<Vec<Plan>> {
         if setting != Ok(setting_words(&value)) || theirs_report != report(&ours) || theirs_report[1] != bred {
             return None;
         }
+        // After each breeding; between them nobody else waits.
+        if call.work == Work::Breeds && !theirs.waiting().iter().map(|p| p.number).eq(waiting(&ours)) {
+            return None;
+        }
         settings.push(value);
         if settings.len() == dimensions.len() {
             let shares: Vec<f64> = dimensions.iter().zip(&settings).map(|(d, v)| share(d, v)).collect();
@@ -234,6 +249,39 @@ fn round(stretches: &[&[Asked]], least: &mut [f64], mut sample: impl FnMut(&Aske
     }
 }
 
+/// The Rust's sampler; in edition 2 with the plans that wait, which it is handed before the children.
+struct Sampler {
+    edition: Edition,
+    sampler: Nsga3Sampler,
+    waiting: Vec<MultiObjectiveTrial>,
+}
+
+impl Sampler {
+    fn sample(
+        &mut self,
+        dimension: &Distribution,
+        plan: u64,
+        history: &[MultiObjectiveTrial],
+        directions: &[Direction],
+    ) -> ParamValue {
+        if self.edition.keeps_parents() {
+            // What the sampler does past discovery, but for the pool.
+            let mut state = self.sampler.state.lock();
+            if matches!(state.evo.phase, Phase::Active) {
+                if let Some(children) = genetic::collect_evaluated_generation(&state.evo, history) {
+                    let numbers: HashSet<u64> = self.waiting.iter().map(|trial| trial.id).collect();
+                    let new = children.into_iter().filter(|child| !numbers.contains(&child.id));
+                    let pool: Vec<&MultiObjectiveTrial> = self.waiting.iter().chain(new).collect();
+                    let kept = session::breed(&mut state, &pool, directions).kept;
+                    self.waiting = kept.iter().map(|&place| pool[place].clone()).collect();
+                }
+                return genetic::sample_from_candidate(&mut state.evo, plan);
+            }
+        }
+        self.sampler.sample(dimension, plan, history, directions)
+    }
+}
+
 /// Times a session whose answers agreed. Both sides' ns for each stretch, or
 /// none where a timed round ends elsewhere than the other side's.
 fn timed_session(opening: &Opening, stretches: &[&[Asked]], records: &[Plan]) -> Option<[Vec<f64>; 2]> {
@@ -248,14 +296,19 @@ fn timed_session(opening: &Opening, stretches: &[&[Asked]], records: &[Plan]) ->
         round(stretches, &mut least[0], |call| {
             let _ = black_box(sample(&mut ours, &words, call, &history));
         });
-        let sampler = opening.sampler();
+        let mut theirs = Sampler {
+            edition: opening.edition,
+            sampler: opening.sampler(),
+            waiting: vec![],
+        };
         round(stretches, &mut least[1], |call| {
             let dimension = &dimensions[call.dimension];
-            black_box(sampler.sample(dimension, call.plan, &trials[call.history.clone()], &directions));
+            black_box(theirs.sample(dimension, call.plan, &trials[call.history.clone()], &directions));
         });
-        let state = sampler.state.lock();
+        let state = theirs.sampler.state.lock();
         let plans = state.evo.generation_trial_ids.len() as u64;
-        if report(&ours) != [state.evo.rng.s, state.evo.generation as u64, plans] {
+        let same = report(&ours) == [state.evo.rng.s, state.evo.generation as u64, plans];
+        if !same || !theirs.waiting.iter().map(|trial| trial.id).eq(waiting(&ours)) {
             return None;
         }
     }
@@ -274,32 +327,36 @@ fn averages(name: String, stretches: &[&[Asked]], least: &[Vec<f64>; 2], works: 
 }
 
 /// Times a session and prints its rows; answers whether the two agree.
-fn compared_session(m: usize, whole: bool) -> bool {
-    let opening = Opening::new(m, Some(SIZE), None, 7);
+fn compared_session(edition: Edition, m: usize, whole: bool) -> bool {
+    let mut opening = Opening::new(m, Some(SIZE), None, 7);
+    opening.edition = edition;
+    let edition = edition.number();
     let calls = calls(whole);
     let stretches: Vec<&[Asked]> = calls.chunk_by(|a, b| a.work == b.work).collect();
     let agreed = records(&opening, &calls);
     let timed = agreed.and_then(|records| timed_session(&opening, &stretches, &records));
     let history = if whole { "all records" } else { "its generation" };
     let Some(least) = timed else {
-        println!("m {m}, {history}: the answers differ");
+        println!("edition {edition}, m {m}, {history}: the answers differ");
         return false;
     };
-    let name = |work| format!("m {m}, {history}: {work}");
+    let name = |work| format!("edition {edition}, m {m}, {history}: {work}");
     averages(name("no breeding"), &stretches, &least, &[Work::Hands, Work::Looks]);
     averages(name("of these, looking"), &stretches, &least, &[Work::Looks]);
     averages(name("breeding"), &stretches, &least, &[Work::Breeds]);
     true
 }
 
-/// Four sessions; answers how many differ.
+/// Four sessions of each edition; answers how many differ.
 fn sessions() -> usize {
     let mut wrong = 0;
     println!("\nSessions: size {SIZE}, ten dimensions, {GENERATIONS} generations; the average of a call.\n");
-    timing::head(&["objectives, history: work", "calls", "proved", "Rust", "ratio"]);
-    for m in [2, 3] {
-        for whole in [false, true] {
-            wrong += usize::from(!compared_session(m, whole));
+    timing::head(&["edition, objectives, history: work", "calls", "proved", "Rust", "ratio"]);
+    for edition in [Edition::First, Edition::Second] {
+        for m in [2, 3] {
+            for whole in [false, true] {
+                wrong += usize::from(!compared_session(edition, m, whole));
+            }
         }
     }
     wrong
@@ -307,7 +364,7 @@ fn sessions() -> usize {
 
 fn main() {
     let wrong = [steps(), sessions()];
-    println!("\n{} of 6 steps and {} of 4 sessions answered differently", wrong[0], wrong[1]);
+    println!("\n{} of 9 steps and {} of 8 sessions answered differently", wrong[0], wrong[1]);
     if wrong != [0, 0] {
         std::process::exit(1);
     }

@@ -6,6 +6,8 @@ mod answers;
 mod convert;
 #[path = "../target/oracle/src/distribution.rs"]
 mod distribution;
+#[path = "../target/oracle/src/edition.rs"]
+mod edition;
 #[path = "../target/oracle/src/load.rs"]
 mod load;
 #[path = "../target/oracle/src/mix.rs"]
@@ -47,6 +49,7 @@ mod water;
 mod words;
 
 use answers::Call;
+use edition::Edition;
 use multi_objective::MultiObjectiveTrial;
 use plans::{Plan, dimension_words};
 use sampler::nsga3::Nsga3State;
@@ -68,6 +71,7 @@ fn direction_bytes(marks: &[u64]) -> Vec<u8> {
 
 /// What the static library's selection and step read and write.
 struct Proved {
+    edition: u64,
     pool: Vec<u64>,
     directions: Vec<u8>,
     divisions: usize,
@@ -90,6 +94,7 @@ impl Proved {
         // A greater size is refused.
         let room = call.size.min(2048) as usize;
         Proved {
+            edition: call.edition.number(),
             pool: laid_out(&call.pool),
             directions: direction_bytes(&call.marks),
             divisions: call.divisions as usize,
@@ -110,6 +115,7 @@ impl Proved {
     /// What the call is lent, and what only a step is.
     fn lent(&mut self) -> (raw::Selecting<'_>, &[u64], &mut [u64], &mut usize) {
         let selecting = raw::Selecting {
+            edition: self.edition,
             pool: &self.pool,
             directions: &self.directions,
             divisions: self.divisions,
@@ -153,7 +159,13 @@ impl Proved {
 fn open(opening: &Opening, session_words: usize) -> Result<raw::Session, u64> {
     let directions = direction_bytes(&opening.marks);
     let [size, divisions] = [opening.size, opening.divisions].map(|n| n.map(|n| n as usize));
-    raw::Session::open(&directions, opening.seed, size, divisions, opening.operators.reals(), session_words)
+    let (edition, operators) = (opening.edition.number(), opening.operators.reals());
+    raw::Session::open(edition, &directions, opening.seed, size, divisions, operators, session_words)
+}
+
+/// The numbers of the plans that wait.
+fn waiting(session: &raw::Session) -> Vec<u64> {
+    session.waiting().iter().map(|plan| plan[0]).collect()
 }
 
 /// Generator, generation and number of plans.

@@ -1,5 +1,6 @@
-//! Asks the static library what the oracle is asked (oracle/README.md) and compares every number of the answers: selections (70), generation steps
-//! (87) and sessions (90), of the named and the large cases and then of generated inputs. Exit code 1 where anything differs.
+//! Asks the static library what the oracle is asked (oracle/README.md) and compares every number of the answers: selections (70, of edition 2 71),
+//! generation steps (87 and 88) and sessions (90 and 91), of the named and the large cases and then of generated inputs. Exit code 1 where anything
+//! differs.
 //!
 //! usage: compare SELECTIONS SESSIONS SEED
 
@@ -10,7 +11,8 @@ include!("common.rs");
 #[path = "../target/oracle/src/inputs/mod.rs"]
 mod inputs;
 
-use answers::{SELECT, STEP};
+use answers::{SELECT, SELECT_SECOND, STEP, STEP_SECOND};
+use session::{SESSION, SESSION_SECOND};
 use words::{Reader, push_reals};
 
 /// The static library's answer, or none where the command is another.
@@ -18,9 +20,10 @@ fn answer(input: &[u64]) -> Result<Option<Vec<u64>>, String> {
     let mut reader = Reader::new(input);
     let command = reader.number()?;
     Ok(match command {
-        SELECT => Some(select(&Call::read(command, &mut reader)?)),
-        STEP => Some(step(&Call::read(command, &mut reader)?)),
-        90 => Some(session(&mut reader)?),
+        SELECT | SELECT_SECOND => Some(select(&Call::read(command, &mut reader)?)),
+        STEP | STEP_SECOND => Some(step(&Call::read(command, &mut reader)?)),
+        SESSION => Some(session(Edition::First, &mut reader)?),
+        SESSION_SECOND => Some(session(Edition::Second, &mut reader)?),
         _ => None,
     })
 }
@@ -78,8 +81,26 @@ fn step(call: &Call) -> Vec<u64> {
     out
 }
 
-fn session(reader: &mut Reader) -> Result<Vec<u64>, String> {
-    let opening = Opening::read(reader)?;
+/// A call of a line, as often as it is made: the last one's answer.
+fn called(session: &mut raw::Session, history: &mut Vec<u64>, call: &session::Call) -> Result<[u64; 2], u64> {
+    let dimension = dimension_words(&call.distribution);
+    history.truncate(call.keep * raw::PLAN_WORDS);
+    history.extend(laid_out(&call.records).repeat(call.copies));
+    // By the plan's number a word of the one slice or of the other is missing.
+    let held_back = match (call.short, call.plan % 2) {
+        (false, _) => raw::WHOLE,
+        (true, 0) => [1, 0],
+        (true, _) => [0, 1],
+    };
+    let mut last = Err(0);
+    for k in 0..call.times {
+        last = session.sample(&dimension, call.plan.wrapping_add(k), history, held_back);
+    }
+    last
+}
+
+fn session(edition: Edition, reader: &mut Reader) -> Result<Vec<u64>, String> {
+    let opening = Opening::read(edition, reader)?;
     let mut session = match open(&opening, raw::SESSION_WORDS - usize::from(opening.short)) {
         Ok(session) => session,
         Err(code) => return Ok(vec![code]),
@@ -88,21 +109,18 @@ fn session(reader: &mut Reader) -> Result<Vec<u64>, String> {
     let mut history: Vec<u64> = vec![];
     for _ in 0..reader.count()? {
         let call = session::Call::read(reader)?;
-        let dimension = dimension_words(&call.distribution);
-        history.truncate(call.keep * raw::PLAN_WORDS);
-        history.extend(laid_out(&call.records).repeat(call.copies));
-        let candidate_words = raw::CANDIDATE_WORDS - usize::from(call.short);
-        let mut last = Err(0);
-        for k in 0..call.times {
-            last = session.sample(&dimension, call.plan.wrapping_add(k), &history, candidate_words);
-        }
-        match last {
+        match called(&mut session, &mut history, &call) {
             Ok([kind, value]) => out.extend([0, kind, value]),
             Err(code) => out.push(code),
         }
         out.extend(report(&session));
         if call.full {
             push_whole(&mut out, &session);
+            if edition.keeps_parents() {
+                let waiting = waiting(&session);
+                out.push(waiting.len() as u64);
+                out.extend(waiting);
+            }
         }
     }
     Ok(out)
@@ -155,6 +173,60 @@ fn compare(name: &str, lines: impl IntoIterator<Item = Vec<u64>>) -> Result<[usi
     Ok([asked, wrong])
 }
 
+/// Runs sessions of edition 2 side by side, call by call, and compares after each call the answer and the whole state, with every word of the plans that
+/// wait. Prints a row, and how many generations were bred from a split front.
+fn side_by_side(name: &str, lines: impl IntoIterator<Item = Vec<u64>>) -> Result<[usize; 2], String> {
+    let (mut asked, mut refused, mut wrong) = (0, 0, 0);
+    let (mut generations, mut split, mut splitting) = (0, 0, 0);
+    for line in lines {
+        let mut reader = Reader::new(&line);
+        reader.number()?;
+        let opening = Opening::read(Edition::Second, &mut reader)?;
+        let theirs = session::Session::open(&opening);
+        let ours = open(&opening, raw::SESSION_WORDS - usize::from(opening.short));
+        asked += 1;
+        let (mut theirs, mut ours) = match (theirs, ours) {
+            (Ok(theirs), Ok(ours)) => (theirs, ours),
+            (theirs, ours) => {
+                refused += 1;
+                wrong += usize::from(theirs.err() != ours.err());
+                continue;
+            }
+        };
+        let mut history: Vec<u64> = vec![];
+        let mut same = true;
+        for _ in 0..reader.count()? {
+            let call = session::Call::read(&mut reader)?;
+            let (answer, expected) = (called(&mut ours, &mut history, &call), theirs.calls(&call)?);
+            let mut at: Vec<u64> = report(&ours).to_vec();
+            push_whole(&mut at, &ours);
+            let (mut expected_at, mut setting) = (vec![], vec![]);
+            theirs.report(true, &mut expected_at);
+            expected_at.truncate(expected_at.len() - 1 - theirs.waiting().len());
+            if let Ok(value) = &expected {
+                plans::write_setting(&mut setting, value);
+            }
+            let words: Vec<u64> = ours.waiting().iter().flatten().copied().collect();
+            same &= answer.map_or(vec![], |pair| pair.to_vec()) == setting && answer.err() == expected.err();
+            same &= at == expected_at && words == laid_out(theirs.waiting());
+        }
+        wrong += usize::from(!same);
+        let bred = theirs.bred();
+        generations += bred.generations;
+        split += bred.split;
+        splitting += usize::from(bred.split > 0);
+    }
+    let [of_asked, of_refused, of_wrong] = [asked, refused, wrong].map(timing::count);
+    timing::row(&[name, &of_asked, &of_refused, &of_wrong]);
+    println!("  {split} of {generations} generations split a front, in {splitting} of these sessions");
+    Ok([asked, wrong])
+}
+
+/// Selections from so many pools past the first edition's limit, each with a size that splits a front where one can be split.
+fn wide(seed: u64, count: u64) -> impl Iterator<Item = Vec<u64>> {
+    (0..count).map(move |at| inputs::wide_input(seed, at))
+}
+
 fn main() -> Result<(), String> {
     let arguments: Vec<u64> = std::env::args().skip(1).filter_map(|text| text.parse().ok()).collect();
     let [selections, sessions, seed] = arguments[..] else {
@@ -165,10 +237,18 @@ fn main() -> Result<(), String> {
         compare("named selections", inputs::cases("kept")?)?,
         compare("named steps", inputs::cases("breeding")?)?,
         compare("named sessions", inputs::cases("session")?)?,
-        compare("large selections and sessions", inputs::cases("large")?)?,
+        compare("named selections, edition 2", inputs::cases("kept_second")?)?,
+        compare("named steps, edition 2", inputs::cases("breeding_second")?)?,
+        compare("named sessions, edition 2", inputs::cases("session_second")?)?,
+        compare("large, of both editions", inputs::cases("large")?)?,
         compare("generated selections", inputs::generated(seed, selections, "kept")?)?,
         compare("generated steps", inputs::generated(seed, sessions, "breeding")?)?,
         compare("generated sessions", inputs::generated(seed, sessions, "session")?)?,
+        compare("generated selections, edition 2", inputs::generated(seed, selections, "kept_second")?)?,
+        compare("generated steps, edition 2", inputs::generated(seed, sessions, "breeding_second")?)?,
+        compare("generated sessions, edition 2", inputs::generated(seed, sessions, "session_second")?)?,
+        side_by_side("the same, call by call", inputs::generated(seed, sessions, "session_second")?)?,
+        compare("pools of 1,025 to 2,048 plans", wide(seed, sessions / 20))?,
     ];
     let [asked, wrong] = rows.iter().fold([0, 0], |[a, w], row| [a + row[0], w + row[1]]);
     println!("\n{wrong} of {} answered differently", timing::count(asked));

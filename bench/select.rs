@@ -54,11 +54,17 @@ fn pool(n: usize, m: usize, rows: Rows, mix: &mut Mix) -> Vec<Plan> {
     (0..n).map(plan).collect()
 }
 
-/// A selection of some more than half of the pool, so that a front is split.
+/// A selection of some more than half of the pool, or of the most plans some less, so that a front is split. Pools past the first
+/// edition's limit are of the second.
 fn selection(n: usize, m: usize, rows: Rows, mix: &mut Mix) -> Call {
-    let size = n / 2 + FRONT / 2;
+    let size = (n / 2 + FRONT / 2).min(1024 - FRONT / 2);
     let divisions = genetic::auto_divisions(m, size) as u64;
-    Call::new(m, divisions, size as u64, 7, pool(n, m, rows, mix))
+    let divisions = divisions.min(refusals::most_divisions(m, 1024));
+    let mut call = Call::new(m, divisions, size as u64, 7, pool(n, m, rows, mix));
+    if n > Edition::First.most_plans() {
+        call.edition = Edition::Second;
+    }
+    call
 }
 
 /// Whether both hand out the same kept list, rules, fronts, lines, ideal and state.
@@ -123,14 +129,14 @@ fn main() {
     let mut mix = Mix(1);
     let mut wrong = 0;
     timing::head(&["N", "m", "rows", "fronts", "lines", "proved", "Rust", "ratio", "the Rust's table"]);
-    for n in [128, 512, 1024] {
+    for n in [128, 512, 1024, 2048] {
         for m in [3, 8] {
             for rows in [Rows::Planes, Rows::Plane, Rows::Uniform] {
                 wrong += usize::from(!compared(n, m, rows, &mut mix));
             }
         }
     }
-    println!("\n{wrong} of 18 pools answered differently");
+    println!("\n{wrong} of 24 pools answered differently");
     if wrong > 0 {
         std::process::exit(1);
     }

@@ -1,4 +1,4 @@
-/* How much stack each call of the library takes: it runs in a thread whose stack was filled with one byte, and the lowest byte
+/* How much stack each call of the library takes, in edition 2, which has the larger pools: it runs in a thread whose stack was filled with one byte, and the lowest byte
  * that changed tells. Argument: a pool file for `choose`. */
 #define _GNU_SOURCE
 #include "locustdomino.h"
@@ -16,7 +16,7 @@ static double ideal[OBJECTIVES];
 static uint64_t session[LOCUSTDOMINO_SESSION_WORDS], candidates[LOCUSTDOMINO_CANDIDATE_WORDS], plans[LOCUSTDOMINO_MAX_PLANS];
 static uint64_t history[SIZE * LOCUSTDOMINO_PLAN_WORDS], dimensions[DIMS * LOCUSTDOMINO_DIMENSION_WORDS], offspring[SIZE * DIMS];
 static size_t next_dims[LOCUSTDOMINO_MAX_PLANS], kept[SIZE], fronts[SIZE], lines[SIZE], records, size, file_length, length;
-static uint64_t plan, state, answer, kind, value;
+static uint64_t pool_words[2 * SIZE * LOCUSTDOMINO_PLAN_WORDS], plan, state, answer, kind, value;
 
 static uint64_t word(double x) {
     uint64_t w;
@@ -27,27 +27,28 @@ static uint64_t word(double x) {
 static void *nothing(void *none) { return none; }
 
 static void *open_session(void *none) {
-    answer = locustdomino_open(directions, OBJECTIVES, 1, 1, SIZE, 0, 0, 1.0, 30.0, 20.0, session, LOCUSTDOMINO_SESSION_WORDS);
+    answer = locustdomino_open(LOCUSTDOMINO_SECOND_EDITION, directions, OBJECTIVES, 1, 1, SIZE, 0, 0, 1.0, 30.0, 20.0, session,
+        LOCUSTDOMINO_SESSION_WORDS);
     return none;
 }
 
 static void *sample(void *none) {
     answer = locustdomino_sample(session, LOCUSTDOMINO_SESSION_WORDS, dimensions, LOCUSTDOMINO_DIMENSION_WORDS, plan, history,
         records * LOCUSTDOMINO_PLAN_WORDS, candidates, LOCUSTDOMINO_CANDIDATE_WORDS, plans, LOCUSTDOMINO_MAX_PLANS, next_dims,
-        LOCUSTDOMINO_MAX_PLANS, &kind, &value);
+        LOCUSTDOMINO_MAX_PLANS, pool_words, 2 * SIZE * LOCUSTDOMINO_PLAN_WORDS, &kind, &value);
     return none;
 }
 
 static void *selects(void *none) {
-    answer = locustdomino_select(history, records * LOCUSTDOMINO_PLAN_WORDS, directions, OBJECTIVES, 4, size, &state, ideal,
-        OBJECTIVES, kept, SIZE, rules, SIZE, fronts, SIZE, lines, SIZE);
+    answer = locustdomino_select(LOCUSTDOMINO_SECOND_EDITION, history, records * LOCUSTDOMINO_PLAN_WORDS, directions, OBJECTIVES, 4,
+        size, &state, ideal, OBJECTIVES, kept, SIZE, rules, SIZE, fronts, SIZE, lines, SIZE);
     return none;
 }
 
 static void *steps(void *none) {
-    answer = locustdomino_generate_offspring(history, records * LOCUSTDOMINO_PLAN_WORDS, directions, OBJECTIVES, 4, size, &state,
-        dimensions, DIMS * LOCUSTDOMINO_DIMENSION_WORDS, 1.0, 30.0, 20.0, ideal, OBJECTIVES, kept, SIZE, rules, SIZE, fronts, SIZE,
-        lines, SIZE, offspring, SIZE * DIMS, &length);
+    answer = locustdomino_generate_offspring(LOCUSTDOMINO_SECOND_EDITION, history, records * LOCUSTDOMINO_PLAN_WORDS, directions,
+        OBJECTIVES, 4, size, &state, dimensions, DIMS * LOCUSTDOMINO_DIMENSION_WORDS, 1.0, 30.0, 20.0, ideal, OBJECTIVES, kept, SIZE,
+        rules, SIZE, fronts, SIZE, lines, SIZE, offspring, SIZE * DIMS, &length);
     return none;
 }
 

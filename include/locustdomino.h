@@ -7,10 +7,9 @@
  * What every call asks of its caller:
  *   - a pointer is aligned and points to as many entries as its length says, and is not null, also where that length is 0;
  *   - what is lent for writing overlaps nothing else that is passed;
- *   - about 2 MB of stack are free. Measured on x86-64: locustdomino_sample 1.33 MB where it breeds and 0.86 elsewhere (the words
- *     of the plans bred from are 819,200 bytes of it), locustdomino_choose 1.1, locustdomino_generate_offspring 0.48,
- *     locustdomino_select 0.24. The pages are touched one by one, so that a call with too little left meets the stack's guard
- *     page, where there is one.
+ *   - about 2 MB of stack are free. Measured on x86-64: locustdomino_sample 1.54 MB where it breeds and 0.88 elsewhere,
+ *     locustdomino_choose 1.27, locustdomino_generate_offspring 0.67, locustdomino_select 0.40. The pages are touched one by one,
+ *     so that a call with too little left meets the stack's guard page, where there is one.
  * What every call answers: LOCUSTDOMINO_ACCEPTED where no refusal applies, and else the number of the first that does, which is
  * never 0. A refused call writes nothing, and leaves the generator where it was.
  *
@@ -38,7 +37,8 @@ enum {
     LOCUSTDOMINO_BAD_OPERATORS = 5,  /* an eta is no whole number 0 to 99, or the probability is not within 0..1 */
     LOCUSTDOMINO_BAD_DIMENSION = 6,  /* a dimension is not valid, is one over LOCUSTDOMINO_MAX_DIMENSIONS, or is to be added and
                                         has fewer than six words */
-    LOCUSTDOMINO_BAD_COUNT = 7,      /* a pool is empty or above 1,024 plans, or a history is above 4,096 */
+    LOCUSTDOMINO_BAD_COUNT = 7,      /* a pool is empty, or above 1,024 plans in edition 1 and LOCUSTDOMINO_MAX_POOL in edition 2, or a
+                                        history is above 4,096 */
     LOCUSTDOMINO_BAD_PLAN = 8,       /* a plan's row, constraints or the ideal: a wrong length, a NaN, or beyond 2^1000 (but the
                                         ideal's plus infinity, which passes) */
     LOCUSTDOMINO_BAD_PARENT = 9,     /* a plan to be bred from has settings that do not fit its dimensions */
@@ -51,6 +51,16 @@ enum {
     LOCUSTDOMINO_BAD_SECOND_FORM = 17, /* a pool file of the second edition, which opens with 64, breaks its form */
     LOCUSTDOMINO_NOT_HELD = 18       /* a pool file that the first edition cannot hold, or whose conversion would be over 65,536 bytes */
 };
+
+/* The editions of selection, generation step and session. In edition 1 a session selects from the children alone, as the Rust does
+ * that this library is carried over from. Edition 2 selects from parents and children in one pool, as the algorithm was published:
+ * the plans kept wait for the next generation, so that a good plan stays where its children are worse. Who begins opens edition 2.
+ * ANY OTHER NUMBER MEANS EDITION 1. */
+#define LOCUSTDOMINO_FIRST_EDITION 1
+#define LOCUSTDOMINO_SECOND_EDITION 2
+
+/* The most plans of a pool in edition 2; in edition 1 they are 1,024. A size is at most 1,024 in both. */
+#define LOCUSTDOMINO_MAX_POOL 2048
 
 /* A plan is LOCUSTDOMINO_PLAN_WORDS words. Pools and histories are plans one after the other; words after the last whole plan
  * are not looked at.
@@ -83,14 +93,21 @@ enum {
 /* "No line", where a selection splits no front. */
 #define LOCUSTDOMINO_NO_LINE SIZE_MAX
 
-/* Sizes of what is lent with a session: 30 words of its own and those of its dimensions; and a word for each setting of the plans
- * of a generation. Its words and its three slices are not to be changed by the caller; all four together may be stored and brought
- * back. */
+/* Sizes of what is lent with a session: 32 words of its own and those of its dimensions; a word for each setting of the plans of a
+ * generation; and the words of the plans bred from, size many in edition 1 and twice as many in edition 2, of which
+ * LOCUSTDOMINO_MAX_POOL are always enough. Its words and its four slices are not to be changed by the caller; all five together may
+ * be stored and brought back. */
 #define LOCUSTDOMINO_MAX_DIMENSIONS LOCUSTDOMINO_MAX_SETTINGS
-#define LOCUSTDOMINO_SESSION_WORDS (30 + LOCUSTDOMINO_DIMENSION_WORDS * LOCUSTDOMINO_MAX_DIMENSIONS)
+#define LOCUSTDOMINO_SESSION_WORDS (32 + LOCUSTDOMINO_DIMENSION_WORDS * LOCUSTDOMINO_MAX_DIMENSIONS)
 #define LOCUSTDOMINO_MAX_PLANS 2048
 #define LOCUSTDOMINO_CANDIDATE_WORDS (LOCUSTDOMINO_MAX_PLANS * LOCUSTDOMINO_MAX_DIMENSIONS)
 #define LOCUSTDOMINO_MAX_HISTORY 4096
+
+/* What may be read of a session's words: how many plans a generation has, and how many plans wait. The plans that wait stand at the
+ * front of the pool's slice, in the kept list's order. In edition 1 none waits; in edition 2 none before the first breeding, and from
+ * then on as many as a generation has. */
+#define LOCUSTDOMINO_SESSION_SIZE 10
+#define LOCUSTDOMINO_SESSION_WAITING 22
 
 /* What put a plan on the kept list: its front was listed whole; it was the nearest on a reference line that had no plan yet; it was
  * drawn among those of a line that had one; or the pool had no plan left, and it was drawn to fill the list. */
@@ -103,8 +120,10 @@ enum {
  * `lines` each plan's reference line.
  * `state` is the generator's and moves on. `ideal` has as many entries as there are objectives: the least values met so far, as
  * minimised, and plus infinity where none was met, so at the start; it moves on where a front is split.
+ * The pool is taken as it is, with no look at plan numbers; parents and children in one pool are for the caller to put there.
  * Refusals: 2, 3, 4, 7, 8, 10. */
 uint64_t locustdomino_select(
+    uint64_t edition,
     const uint64_t *pool, size_t pool_words,
     const uint8_t *directions, size_t objectives, /* 0 minimise, 1 maximise */
     size_t divisions, size_t size,
@@ -120,6 +139,7 @@ uint64_t locustdomino_select(
  * not looked at. `n_kept` gets the length of the kept list: the size; or 0 for a pool of one plan, whose step selects nothing,
  * leaves the ideal alone and writes neither kept, rules, fronts nor lines. Refusals: 2 to 10. */
 uint64_t locustdomino_generate_offspring(
+    uint64_t edition,
     const uint64_t *pool, size_t pool_words,
     const uint8_t *directions, size_t objectives,
     size_t divisions, size_t size,
@@ -134,9 +154,10 @@ uint64_t locustdomino_generate_offspring(
     uint64_t *offspring, size_t offspring_words,
     size_t *n_kept);
 
-/* Opens a session: its LOCUSTDOMINO_SESSION_WORDS words go to `session`, and a shorter slice meets 10 where no lower number
+/* Opens a session of an edition: its LOCUSTDOMINO_SESSION_WORDS words go to `session`, and a shorter slice meets 10 where no lower number
  * applies. A size and divisions count where their mark is not 0. Refusals: 2, 3, 4, 5, 10. */
 uint64_t locustdomino_open(
+    uint64_t edition,
     const uint8_t *directions, size_t objectives,
     uint64_t seed,
     uint8_t has_size, size_t size,
@@ -146,12 +167,18 @@ uint64_t locustdomino_open(
 
 /* The next setting of plan `plan`. Its kind goes to `kind` and its word to `value`. While the first plan asks, each call adds
  * `dimension` to the session: six words, of which fewer meet 6 and more are not looked at. Afterwards the dimension is ignored, and
- * may have no words. `history` has the plans that were tried, with their values; once it has the present generation's plans, the
- * next is bred.
- * `candidates`, `plans` and `next_dims` are lent with every call and are the session's: LOCUSTDOMINO_CANDIDATE_WORDS entries at
- * least, and LOCUSTDOMINO_MAX_PLANS each.
+ * may have no words. `history` has the plans that were tried, with their values; once it has the first size plans of the present
+ * generation, the next is bred.
+ * In edition 1 it is bred from these plans alone, as history has them. In edition 2 the plans that wait come first, in the kept
+ * list's order, and then these, but for those whose number a waiting plan has: they have to stand in history and are left out. The
+ * plans kept wait afterwards, each as history had it when it came into the pool: a later record of its number changes nothing. 8
+ * and 9 look at all plans of that pool, kept or not, and at no other. A waiting plan is no plan of the generation: a call with its
+ * number opens a new one.
+ * `candidates`, `plans`, `next_dims` and `pool` are lent with every call and are the session's: LOCUSTDOMINO_CANDIDATE_WORDS entries
+ * at least, LOCUSTDOMINO_MAX_PLANS for each of the next two, and LOCUSTDOMINO_PLAN_WORDS for each plan bred from: size plans in
+ * edition 1, twice as many in edition 2. A shorter one meets 10.
  * ASKED of the caller, and not checked: the session's words are as an accepted locustdomino_open or the last locustdomino_sample
- * left them, with the same three slices as that call left them (after opening the three may hold anything). Words or slices that
+ * left them, with the same four slices as that call left them (after opening the four may hold anything). Words or slices that
  * were changed may have any effect. A session slice of fewer than LOCUSTDOMINO_SESSION_WORDS words meets 7 where the history is
  * above 4,096, and else 10: nothing else can be told without the session.
  * Refusals: 6 to 11. */
@@ -163,10 +190,12 @@ uint64_t locustdomino_sample(
     uint64_t *candidates, size_t candidate_words,
     uint64_t *plans, size_t plans_length,
     size_t *next_dims, size_t next_dims_length,
+    uint64_t *pool, size_t pool_length,
     uint64_t *kind, uint64_t *value);
 
 /* The listing for a pool file of either edition; `length` gets its length, at most 20,501 bytes. Of a file of the second edition, which
- * opens with 64, the plans' numbers and settings are passed over. Refusals: 1, 17, 2, 3, 4, 7, 8, 10. */
+ * opens with 64, the plans' numbers and settings are passed over. The selection is edition 1's for both. Refusals: 1, 17, 2, 3, 4, 7,
+ * 8, 10. */
 uint64_t locustdomino_choose(
     const uint8_t *file, size_t file_length,
     uint8_t *out, size_t out_length,

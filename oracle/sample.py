@@ -31,8 +31,14 @@ RECORDS = {
     "load": 30,
     "editions": 24,
     "convert": 24,
+    "kept_second": 6,
+    "breeding_second": 6,
+    "session_second": 8,
     "long": 0,
 }
+
+# The record that the replaying programs count a record of edition 2 under.
+COUNTED = {"kept_second": "kept", "breeding_second": "breeding", "session_second": "session"}
 
 # The programs that replay, and the records whose stored files each reads, joined.
 FILES = ["choose", "load", "editions", "convert"]

@@ -1,6 +1,7 @@
 /* A whole session: a drip plan for an orchard block, whose rows are 4 m apart and whose drip lines are 120 m long. A plan is a
  * distance between emitters, the hours of a watering (three a week) and one of three valves. Wanted are little water, a high yield
- * and a low cost; the pressure at a line's far end has to do. Some generations are asked for and tried, and the best plans are
+ * and a low cost; the pressure at a line's far end has to do. Some generations are asked for and tried, in edition 2: the plans kept
+ * wait and are selected from again beside their children. Those that wait at the end are told, and of all plans tried the best are
  * kept, each with its reference line and what put it on the list. */
 #include <math.h>
 #include <stdbool.h>
@@ -30,6 +31,9 @@ static const char *const RULES[] = {
 };
 
 static uint64_t history[PLANS * LOCUSTDOMINO_PLAN_WORDS];
+
+/* The plans bred from, twice the size; those that wait stand in front. */
+static uint64_t pool[2 * SIZE * LOCUSTDOMINO_PLAN_WORDS];
 
 static uint64_t *plan_at(size_t k)
 {
@@ -110,7 +114,19 @@ static uint64_t sample(uint64_t *session, const uint64_t *dimension, uint64_t nu
     return locustdomino_sample(
         session, LOCUSTDOMINO_SESSION_WORDS, dimension, LOCUSTDOMINO_DIMENSION_WORDS, number, history, number * LOCUSTDOMINO_PLAN_WORDS,
         candidates, LOCUSTDOMINO_CANDIDATE_WORDS, plans, LOCUSTDOMINO_MAX_PLANS, next_dims, LOCUSTDOMINO_MAX_PLANS,
-        &setting[1], &setting[2]);
+        pool, sizeof pool / sizeof pool[0], &setting[1], &setting[2]);
+}
+
+/* Tells who waits. One that waits is new where it is of the generation that was bred from last. */
+static void tell_waiting(const uint64_t *session)
+{
+    size_t waiting = session[LOCUSTDOMINO_SESSION_WAITING], new = 0;
+    for (size_t k = 0; k < waiting; k++)
+        new += pool[k * LOCUSTDOMINO_PLAN_WORDS + LOCUSTDOMINO_PLAN_NUMBER] > SIZE * (GENERATIONS - 2);
+    printf("after %d generations %zu plans wait, %zu of them new:\n", GENERATIONS - 1, waiting, new);
+    for (size_t k = 0; k < waiting; k++)
+        printf(" %u", (unsigned)pool[k * LOCUSTDOMINO_PLAN_WORDS + LOCUSTDOMINO_PLAN_NUMBER]);
+    printf("\n");
 }
 
 /* Tries the generations' plans. */
@@ -122,7 +138,8 @@ static void generations(const uint8_t *directions)
         {LOCUSTDOMINO_INT, word_of_int(2), word_of_int(12), 0, 0, 0},
         {LOCUSTDOMINO_CATEGORICAL, 3, 0, 0, 0, 0},
     };
-    must("open", locustdomino_open(directions, 3, 7, 1, SIZE, 0, 0, 1.0, 30.0, 20.0, session, LOCUSTDOMINO_SESSION_WORDS));
+    must("open", locustdomino_open(
+        LOCUSTDOMINO_SECOND_EDITION, directions, 3, 7, 1, SIZE, 0, 0, 1.0, 30.0, 20.0, session, LOCUSTDOMINO_SESSION_WORDS));
     /* One plan more than the generations: the first plan finds the dimensions and is in no generation. */
     for (uint64_t number = 0; number < PLANS; number++) {
         uint64_t *plan = plan_at(number);
@@ -142,6 +159,7 @@ static void generations(const uint8_t *directions)
         }
         try_plan(plan, number != FAULTY);
     }
+    tell_waiting(session);
 }
 
 int main(void)
@@ -154,8 +172,8 @@ int main(void)
 
     generations(directions);
     must("select", locustdomino_select(
-        history, PLANS * LOCUSTDOMINO_PLAN_WORDS, directions, 3, 3, KEPT, &state, ideal, 3, kept, KEPT, rules, KEPT, fronts, PLANS,
-        lines, PLANS));
+        LOCUSTDOMINO_SECOND_EDITION, history, PLANS * LOCUSTDOMINO_PLAN_WORDS, directions, 3, 3, KEPT, &state, ideal, 3, kept, KEPT,
+        rules, KEPT, fronts, PLANS, lines, PLANS));
     for (size_t k = 0; k < PLANS; k++)
         first += fronts[k] == 0;
     printf("%d plans tried, %zu of them dominated by none, %d kept\n", PLANS, first, KEPT);

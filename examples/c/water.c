@@ -63,8 +63,8 @@ static void select_plans(size_t *kept, uint8_t *rules)
         plan[LOCUSTDOMINO_PLAN_ROW + 1] = bits(YIELDS[k]);
     }
     must("select", locustdomino_select(
-        pool, PLANS * LOCUSTDOMINO_PLAN_WORDS, directions, 2, 3, KEPT, &state, ideal, 2, kept, KEPT, rules, KEPT, fronts, PLANS,
-        lines, PLANS));
+        LOCUSTDOMINO_SECOND_EDITION, pool, PLANS * LOCUSTDOMINO_PLAN_WORDS, directions, 2, 3, KEPT, &state, ideal, 2, kept, KEPT, rules,
+        KEPT, fronts, PLANS, lines, PLANS));
 }
 
 int main(void)

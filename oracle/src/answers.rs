@@ -3,6 +3,7 @@
 
 use crate::convert;
 use crate::distribution::Distribution;
+use crate::edition::Edition;
 use crate::load;
 use crate::multi_objective::MultiObjectiveTrial;
 use crate::param::ParamValue;
@@ -31,9 +32,16 @@ pub const NEAREST: u64 = 1;
 pub const DRAWN: u64 = 2;
 pub const PADDING: u64 = 3;
 
-/// The commands of a selection and of a generation step.
+/// The commands of a selection and of a generation step, of either edition.
 pub const SELECT: u64 = 70;
+pub const SELECT_SECOND: u64 = 71;
 pub const STEP: u64 = 87;
+pub const STEP_SECOND: u64 = 88;
+
+/// Whether a command is a generation step.
+fn steps(command: u64) -> bool {
+    matches!(command, STEP | STEP_SECOND)
+}
 
 pub fn answer(input: &[u64]) -> Result<Vec<u64>, String> {
     let mut reader = Reader::new(input);
@@ -195,7 +203,7 @@ pub fn answer(input: &[u64]) -> Result<Vec<u64>, String> {
         }
 
         // Kept list
-        SELECT => {
+        SELECT | SELECT_SECOND => {
             if let Some(call) = accepted(command, r, &mut a)? {
                 let kept = select(&call);
                 push_list(&mut a, &kept.list);
@@ -208,7 +216,7 @@ pub fn answer(input: &[u64]) -> Result<Vec<u64>, String> {
         }
 
         // Generation step
-        STEP => {
+        STEP | STEP_SECOND => {
             if let Some(call) = accepted(command, r, &mut a)? {
                 let bred = step(&call);
                 push_list(&mut a, &bred.kept);
@@ -222,7 +230,8 @@ pub fn answer(input: &[u64]) -> Result<Vec<u64>, String> {
             }
         }
 
-        90 => a = session::answer(r)?,
+        session::SESSION => a = session::answer(Edition::First, r)?,
+        session::SESSION_SECOND => a = session::answer(Edition::Second, r)?,
 
         95 => {
             let text = pool_file::choose(&r.bytes()?);
@@ -398,6 +407,7 @@ fn normalize(ideal: &mut [f64], rows: &[Vec<f64>]) -> (Vec<f64>, Vec<Vec<f64>>) 
 /// own operators, and no dimensions.
 #[derive(Clone)]
 pub struct Call {
+    pub edition: Edition,
     pub short: bool,
     pub marks: Vec<u64>,
     pub divisions: u64,
@@ -410,9 +420,10 @@ pub struct Call {
 }
 
 impl Call {
-    /// All objectives minimised, the ideal unknown.
+    /// Of edition 1, all objectives minimised, the ideal unknown.
     pub fn new(m: usize, divisions: u64, size: u64, state: u64, pool: Vec<Plan>) -> Self {
         Call {
+            edition: Edition::First,
             short: false,
             marks: vec![0; m],
             divisions,
@@ -427,11 +438,14 @@ impl Call {
 
     pub fn read(command: u64, r: &mut Reader) -> Result<Self, String> {
         let mut call = Call::new(0, 0, 0, 0, Vec::new());
+        if matches!(command, SELECT_SECOND | STEP_SECOND) {
+            call.edition = Edition::Second;
+        }
         call.short = r.flag()?;
         call.marks = plans::read_marks(r)?;
         (call.divisions, call.size, call.state) = (r.number()?, r.number()?, r.number()?);
         call.ideal = r.counted(Reader::real)?;
-        if command == STEP {
+        if steps(command) {
             call.operators = Operators::read(r)?;
             call.dimensions = plans::read_dimensions(r)?;
         }
@@ -445,7 +459,7 @@ impl Call {
         plans::write_marks(&mut line, &self.marks);
         line.extend([self.divisions, self.size, self.state]);
         push_counted_reals(&mut line, &self.ideal);
-        if command == STEP {
+        if steps(command) {
             push_reals(&mut line, &self.operators.reals());
             plans::write_dimensions(&mut line, &self.dimensions);
         }
@@ -460,11 +474,11 @@ impl Call {
             (2, refusals::bad_marks(&self.marks)),
             (3, refusals::bad_size(self.size)),
             (4, refusals::bad_divisions(m, self.divisions)),
-            (7, self.pool.is_empty() || self.pool.len() > 1024),
+            (7, self.pool.is_empty() || self.pool.len() > self.edition.most_plans()),
             (8, bad_plan || refusals::bad_ideal(&self.ideal, m)),
             (10, self.short),
         ];
-        if command == STEP {
+        if steps(command) {
             let dimensions = plans::infos(&self.dimensions);
             let bad_dimension = self.dimensions.iter().any(refusals::bad_dimension);
             let bad_parent = |plan: &Plan| refusals::bad_settings(plan, &dimensions);
@@ -532,7 +546,7 @@ pub struct Kept {
 /// before and after its picks.
 pub fn select(call: &Call) -> Kept {
     with_state(call, |state, population, directions| {
-        let ((_, list), counts) =
+        let ((_, list), told) =
             watch::watched(|| nsga3::nsga3_select(state, population, directions));
 
         let (n, size) = (call.pool.len(), call.size as usize);
@@ -554,10 +568,10 @@ pub fn select(call: &Call) -> Kept {
             before += front.len();
         }
         let picks = if split { size - before } else { 0 };
-        assert_eq!(counts.len(), picks, "the picks of the same split");
+        assert_eq!(told.counts.len(), picks, "the picks of the same split");
         let rule = |&count: &usize| if count == 0 { NEAREST } else { DRAWN };
         let mut rules = vec![WHOLE_FRONT; before];
-        rules.extend(counts.iter().map(rule));
+        rules.extend(told.counts.iter().map(rule));
         rules.resize(list.len(), PADDING);
         let mut ideal = call.ideal.clone();
         let mut lines = vec![NO_LINE; n];
@@ -598,14 +612,17 @@ pub struct Bred {
 
 pub fn step(call: &Call) -> Bred {
     with_state(call, |state, population, directions| {
-        let offspring = nsga3::nsga3_generate_offspring(state, population, directions);
-        // The step keeps its list to itself: selection from the same pool has it.
+        let (offspring, told) =
+            watch::watched(|| nsga3::nsga3_generate_offspring(state, population, directions));
+        // The step keeps its list to itself: selection from the same pool has
+        // it, with the rules.
         let (kept, rules) = if population.len() < 2 {
             (Vec::new(), Vec::new())
         } else {
             let kept = select(call);
             (kept.list, kept.rules)
         };
+        assert_eq!(kept, told.kept, "the list of the same pool");
         Bred {
             kept,
             rules,

@@ -16,6 +16,7 @@ mod types;
 // Stand-ins, and the driver around them.
 mod answers;
 mod convert;
+mod edition;
 mod gap;
 mod inputs;
 mod load;

@@ -1,15 +1,23 @@
-//! Sessions: the sampler's own calls, with document 01's refusals in front.
+//! Sessions: the sampler's own calls, with document 01's refusals in front. In
+//! edition 2 the driver hands the Rust's generation step the joined pool
+//! (document 02, M-100).
 
 use crate::answers::push_settings;
 use crate::distribution::Distribution;
+use crate::edition::Edition;
 use crate::multi_objective::{MultiObjectiveSampler, MultiObjectiveTrial};
 use crate::param::ParamValue;
 use crate::plans::{self, Plan};
 use crate::refusals;
-use crate::sampler::genetic::Phase;
-use crate::sampler::nsga3::Nsga3Sampler;
+use crate::sampler::genetic::{self, EvolutionaryState, Phase};
+use crate::sampler::nsga3::{self, Nsga3Sampler, Nsga3State};
 use crate::types::Direction;
+use crate::watch;
 use crate::words::{Reader, push_counted_reals, push_optional, push_reals};
+
+/// The commands of a session, of either edition.
+pub const SESSION: u64 = 90;
+pub const SESSION_SECOND: u64 = 91;
 
 /// The operators that breed.
 #[derive(Clone, Copy, Debug)]
@@ -44,6 +52,7 @@ impl Operators {
 /// What a session is opened with.
 #[derive(Clone, Debug)]
 pub struct Opening {
+    pub edition: Edition,
     pub short: bool,
     pub marks: Vec<u64>,
     pub size: Option<u64>,
@@ -53,9 +62,10 @@ pub struct Opening {
 }
 
 impl Opening {
-    /// All objectives minimised, the sampler's own operators.
+    /// Of edition 1, all objectives minimised, the sampler's own operators.
     pub fn new(m: usize, size: Option<u64>, divisions: Option<u64>, seed: u64) -> Self {
         Opening {
+            edition: Edition::First,
             short: false,
             marks: vec![0; m],
             size,
@@ -65,8 +75,10 @@ impl Opening {
         }
     }
 
-    pub fn read(r: &mut Reader) -> Result<Self, String> {
+    /// What stands behind the command, which says the edition.
+    pub fn read(edition: Edition, r: &mut Reader) -> Result<Self, String> {
         Ok(Opening {
+            edition,
             short: r.flag()?,
             marks: plans::read_marks(r)?,
             size: r.optional()?,
@@ -76,7 +88,12 @@ impl Opening {
         })
     }
 
+    /// The command and the opening.
     pub fn write(&self, line: &mut Vec<u64>) {
+        line.push(match self.edition {
+            Edition::First => SESSION,
+            Edition::Second => SESSION_SECOND,
+        });
         line.push(self.short as u64);
         plans::write_marks(line, &self.marks);
         push_optional(line, self.size);
@@ -102,13 +119,37 @@ impl Opening {
     }
 }
 
-/// A session: the sampler, the directions given at opening, and the history
-/// that the calls hand in.
+/// A session: the sampler, the edition and the directions given at opening, the
+/// history that the calls hand in, and the plans that wait.
 pub struct Session {
     pub sampler: Nsga3Sampler,
+    edition: Edition,
     directions: Vec<Direction>,
     history: Vec<Plan>,
     trials: Vec<MultiObjectiveTrial>,
+    waiting: Vec<Plan>,
+    bred: Bred,
+}
+
+/// How many generations a session of edition 2 has bred, and in how many of
+/// them a front was split.
+#[derive(Clone, Copy, Default)]
+pub struct Bred {
+    pub generations: usize,
+    pub split: usize,
+}
+
+/// The Rust's generation step from a pool, and its new generation; what it
+/// told.
+pub fn breed(
+    state: &mut Nsga3State,
+    pool: &[&MultiObjectiveTrial],
+    directions: &[Direction],
+) -> watch::Told {
+    let (offspring, told) =
+        watch::watched(|| nsga3::nsga3_generate_offspring(state, pool, directions));
+    genetic::advance_generation(&mut state.evo, offspring);
+    told
 }
 
 impl Session {
@@ -124,9 +165,12 @@ impl Session {
         }
         Ok(Session {
             sampler: opening.sampler(),
+            edition: opening.edition,
             directions: plans::directions(&opening.marks),
             history: Vec::new(),
             trials: Vec::new(),
+            waiting: Vec::new(),
+            bred: Bred::default(),
         })
     }
 
@@ -156,6 +200,15 @@ impl Session {
         &self.history
     }
 
+    /// The plans that wait for the next generation's pool, in its order.
+    pub fn waiting(&self) -> &[Plan] {
+        &self.waiting
+    }
+
+    pub fn bred(&self) -> Bred {
+        self.bred
+    }
+
     /// One call: the setting that the Rust answers, or the refusal.
     pub fn call(
         &mut self,
@@ -166,6 +219,9 @@ impl Session {
         let (refused, breeds, generation) = self.judge(distribution, plan, short);
         if let Some(number) = refused {
             return Err(number);
+        }
+        if breeds && self.edition.keeps_parents() {
+            self.breed_joined();
         }
         let value = self
             .sampler
@@ -190,6 +246,39 @@ impl Session {
         Ok(last)
     }
 
+    /// The plans bred from, where the call breeds. The children are the first
+    /// ones of the generation, each by the last record of its number; all have
+    /// to stand in history. The plans that wait come first, and a child whose
+    /// number one of them has is left out.
+    fn bred_from(&self, evo: &EvolutionaryState) -> Option<Vec<&Plan>> {
+        let (size, numbers) = (evo.population_size, &evo.generation_trial_ids);
+        if matches!(evo.phase, Phase::Discovery) || numbers.len() < size {
+            return None;
+        }
+        let record = |&number: &u64| self.history.iter().rev().find(|p| p.number == number);
+        let children: Vec<&Plan> = numbers[..size].iter().map(record).collect::<Option<_>>()?;
+        let new = |child: &&Plan| self.waiting.iter().all(|p| p.number != child.number);
+        let children = children.into_iter().filter(new);
+        Some(self.waiting.iter().chain(children).collect())
+    }
+
+    /// Breeds from the joined pool; the plans kept, as they stood in it, wait.
+    fn breed_joined(&mut self) {
+        let mut state = self.sampler.state.lock();
+        let pool = self.bred_from(&state.evo).expect("a call that breeds");
+        let trials: Vec<MultiObjectiveTrial> = pool.iter().map(|plan| plan.trial()).collect();
+        let trials: Vec<&MultiObjectiveTrial> = trials.iter().collect();
+        let watch::Told { counts, kept } = breed(&mut state, &trials, &self.directions);
+        let size = state.evo.population_size;
+        assert!((size..=2 * size).contains(&pool.len()), "no plan is listed twice");
+        assert_eq!(kept.len(), size, "as many wait as the size");
+        self.waiting = kept.iter().map(|&place| pool[place].clone()).collect();
+        drop(state);
+        self.bred.generations += 1;
+        // Niching picks only where a front is split.
+        self.bred.split += usize::from(!counts.is_empty());
+    }
+
     /// The refusal, whether the call breeds, and the generation so far.
     fn judge(
         &self,
@@ -202,17 +291,7 @@ impl Session {
         let discovers = matches!(evo.phase, Phase::Discovery);
         let adds = discovers && evo.discovery_trial_id.is_none_or(|first| first == plan);
 
-        // The plans bred from: the first ones of the generation, each by the
-        // last record of its number.
-        let parents: Option<Vec<&Plan>> =
-            if discovers || evo.generation_trial_ids.len() < evo.population_size {
-                None
-            } else {
-                evo.generation_trial_ids[..evo.population_size]
-                    .iter()
-                    .map(|&number| self.history.iter().rev().find(|p| p.number == number))
-                    .collect()
-            };
+        let parents = self.bred_from(evo);
         let m = self.directions.len();
         let bad_parent = |bad: &dyn Fn(&Plan) -> bool| {
             parents
@@ -244,7 +323,8 @@ impl Session {
         (refused, breeds, evo.generation)
     }
 
-    /// Generator, generation and number of plans; in full, the rest too.
+    /// Generator, generation and number of plans; in full, the rest too, which
+    /// in edition 2 ends with the plans that wait.
     pub fn report(&self, full: bool, a: &mut Vec<u64>) {
         let state = self.sampler.state.lock();
         let evo = &state.evo;
@@ -287,6 +367,10 @@ impl Session {
             push_settings(a, &candidate.params);
         }
         push_counted_reals(a, &state.ideal_point);
+        if self.edition.keeps_parents() {
+            a.push(self.waiting.len() as u64);
+            a.extend(self.waiting.iter().map(|plan| plan.number));
+        }
     }
 }
 
@@ -331,8 +415,8 @@ impl Call {
 }
 
 /// One line is one session: its opening and its calls.
-pub fn answer(r: &mut Reader) -> Result<Vec<u64>, String> {
-    let opening = Opening::read(r)?;
+pub fn answer(edition: Edition, r: &mut Reader) -> Result<Vec<u64>, String> {
+    let opening = Opening::read(edition, r)?;
     let calls = r.count()?;
     let mut session = Session::open(&opening);
     let mut a = vec![*session.as_ref().err().unwrap_or(&0)];

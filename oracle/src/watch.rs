@@ -1,25 +1,44 @@
-//! What the Rust's niching loop tells at each pick: `oracle/build` puts one
-//! line into it, which hands on the niche count of the line that was drawn,
-//! before that count is raised. Nothing of the Rust reads it.
+//! What the Rust tells while it is watched. `oracle/build` puts two lines into
+//! it: its niching loop hands on, at each pick, the niche count of the line that
+//! was drawn, before that count is raised; and its generation step the kept
+//! list. Nothing of the Rust reads them.
 
 use std::cell::RefCell;
 
-thread_local! {
-    static COUNTS: RefCell<Option<Vec<usize>>> = const { RefCell::new(None) };
+/// What was told.
+#[derive(Default)]
+pub struct Told {
+    /// The niche count of each pick.
+    pub counts: Vec<usize>,
+    /// The kept list of a generation step.
+    pub kept: Vec<usize>,
 }
 
-/// Called by the loop.
-pub fn picked(niche_count: usize) {
-    COUNTS.with_borrow_mut(|counts| {
-        if let Some(counts) = counts {
-            counts.push(niche_count);
+thread_local! {
+    static TOLD: RefCell<Option<Told>> = const { RefCell::new(None) };
+}
+
+fn tell(what: impl FnOnce(&mut Told)) {
+    TOLD.with_borrow_mut(|told| {
+        if let Some(told) = told {
+            what(told);
         }
     });
 }
 
-/// What is run, with the niche count of each pick that it makes.
-pub fn watched<T>(run: impl FnOnce() -> T) -> (T, Vec<usize>) {
-    COUNTS.set(Some(Vec::new()));
+/// Called by the loop.
+pub fn picked(niche_count: usize) {
+    tell(|told| told.counts.push(niche_count));
+}
+
+/// Called by the step.
+pub fn kept(list: &[usize]) {
+    tell(|told| told.kept = list.to_vec());
+}
+
+/// What is run, with what it told.
+pub fn watched<T>(run: impl FnOnce() -> T) -> (T, Told) {
+    TOLD.set(Some(Told::default()));
     let answer = run();
-    (answer, COUNTS.take().unwrap_or_default())
+    (answer, TOLD.take().unwrap_or_default())
 }

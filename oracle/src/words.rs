@@ -8,7 +8,7 @@ pub const NAN: u64 = 9221120237041090560;
 pub const LONGEST: usize = 65_664;
 
 /// Commands by name and number; README describes each.
-pub const COMMANDS: [(&str, u64); 42] = [
+pub const COMMANDS: [(&str, u64); 45] = [
     ("words", 10),
     ("f64", 11),
     ("usize", 12),
@@ -34,6 +34,7 @@ pub const COMMANDS: [(&str, u64); 42] = [
     ("associate", 61),
     ("distance", 62),
     ("select", 70),
+    ("select_second", 71),
     ("sample_random", 80),
     ("extract", 81),
     ("crossover", 82),
@@ -42,7 +43,9 @@ pub const COMMANDS: [(&str, u64); 42] = [
     ("polynomial", 85),
     ("tournament", 86),
     ("step", 87),
+    ("step_second", 88),
     ("session", 90),
+    ("session_second", 91),
     ("choose", 95),
     ("choose_parts", 96),
     ("choose_digest", 97),

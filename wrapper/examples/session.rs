@@ -1,10 +1,11 @@
 //! A whole session: a drip plan for an orchard block, whose rows are 4 m apart and whose drip lines are 120 m long. A plan is a
 //! distance between emitters, the hours of a watering (three a week) and one of three valves. Wanted are little water, a high yield
-//! and a low cost; the pressure at a line's far end has to do. Some generations are asked for and tried, and the best plans are
+//! and a low cost; the pressure at a line's far end has to do. Some generations are asked for and tried, in edition 2: the plans kept
+//! wait and are selected from again beside their children. Those that wait at the end are told, and of all plans tried the best are
 //! kept, each with its reference line and what put it on the list.
 
 use locustdomino::{
-    Dimension, Direction, Directions, Ideal, Operators, Plan, Refusal, Rng, Session, Setting, select,
+    Dimension, Direction, Directions, Edition, Ideal, Operators, Plan, Refusal, Rng, Session, Setting, select,
 };
 
 const SIZE: usize = 24;
@@ -47,7 +48,7 @@ fn tried(number: u64, named: &[(u64, Setting)], read: bool) -> Result<Plan, Refu
 /// Tries the generations' plans; all that was tried.
 fn generations(directions: &Directions) -> Result<Vec<Plan>, Refusal> {
     let dimensions = [Dimension::float(0.3, 1.2)?, Dimension::int(2, 12)?, Dimension::categorical(3)?];
-    let mut session = Session::open(directions, 7, Some(SIZE), None, &Operators::default())?;
+    let mut session = Session::open(Edition::Second, directions, 7, Some(SIZE), None, &Operators::default())?;
     let mut history = vec![];
     // One plan more than the generations: the first plan finds the dimensions and is in no generation.
     for number in 0..=(SIZE * GENERATIONS) as u64 {
@@ -66,6 +67,15 @@ fn generations(directions: &Directions) -> Result<Vec<Plan>, Refusal> {
         }
         history.push(tried(number, &named, number != FAULTY as u64)?);
     }
+    // One that waits is new where it is of the generation that was bred from last.
+    let waiting = session.waiting();
+    let before = (SIZE * (GENERATIONS - 2)) as u64;
+    let new = waiting.iter().filter(|&&number| number > before).count();
+    println!("after {} generations {} plans wait, {new} of them new:", session.generation(), waiting.len());
+    for number in waiting {
+        print!(" {number}");
+    }
+    println!();
     Ok(history)
 }
 
@@ -73,7 +83,7 @@ fn run() -> Result<(), Refusal> {
     let directions = Directions::new(&[Direction::Minimize, Direction::Maximize, Direction::Minimize])?;
     let history = generations(&directions)?;
     let mut ideal = Ideal::unknown(&directions);
-    let selection = select(&history, &directions, 3, KEPT, &mut Rng::with_seed(7), &mut ideal)?;
+    let selection = select(Edition::Second, &history, &directions, 3, KEPT, &mut Rng::with_seed(7), &mut ideal)?;
     let first = selection.fronts.iter().filter(|&&front| front == 0).count();
     println!("{} plans tried, {first} of them dominated by none, {KEPT} kept", history.len());
     println!("plan  spacing  hours  valve  water  yield  cost    far end  ref. line  kept as");

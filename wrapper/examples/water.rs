@@ -2,7 +2,7 @@
 //! company's bands. Every number can be followed by hand, and each row says what put its plan on the list. The same example in C is
 //! `examples/c/water.c`.
 
-use locustdomino::{Band, Direction, Directions, Ideal, Plan, Refusal, Rng, price_water, select};
+use locustdomino::{Band, Direction, Directions, Edition, Ideal, Plan, Refusal, Rng, price_water, select};
 
 const KEPT: usize = 6;
 /// Of each plan its litres in a season, and what it yields (t/ha).
@@ -29,7 +29,7 @@ fn run() -> Result<(), Refusal> {
         pool.push(Plan::new(number, &[litres as f64, yielded], &[], &[])?);
     }
     let mut ideal = Ideal::unknown(&directions);
-    let selection = select(&pool, &directions, 3, KEPT, &mut Rng::with_seed(7), &mut ideal)?;
+    let selection = select(Edition::Second, &pool, &directions, 3, KEPT, &mut Rng::with_seed(7), &mut ideal)?;
     let bill = price_water(&litres, &BANDS.map(|(upper, price)| Band { upper, price }), &selection.kept)?;
 
     println!("plan  litres  at {:<6}  at {:<6}  at {:<6}  hundredths  EUR    kept as", BANDS[0].1, BANDS[1].1, BANDS[2].1);

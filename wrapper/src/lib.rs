@@ -4,8 +4,8 @@
 //!
 //! A session's words are private here. Only the library writes them, so that they are always such as it asks for.
 //!
-//! A call takes stack: measured on x86-64, [`Session::sample`] 1.33 MB where it breeds and 0.86 elsewhere, [`choose`] 1.1,
-//! [`generate_offspring`] 0.48 and [`select`] 0.24. A thread that Rust starts has 2 MB in all, unless it is given more
+//! A call takes stack: measured on x86-64, [`Session::sample`] 1.54 MB where it breeds and 0.88 elsewhere, [`choose`] 1.27,
+//! [`generate_offspring`] 0.67 and [`select`] 0.40. A thread that Rust starts has 2 MB in all, unless it is given more
 //! ([`std::thread::Builder::stack_size`]). Where too little is left, the process ends, as at any overflow of a stack: the library's
 //! code touches the pages that it takes one by one, so that it meets the guard page.
 
@@ -17,7 +17,7 @@ mod raw;
 
 use raw::{DIMENSION_WORDS, PLAN_WORDS, Selecting};
 
-/// The most plans of a selection and of a pool.
+/// The most plans of a selection. Of a pool: [`Edition::max_pool`].
 pub const MAX_SIZE: usize = 1024;
 /// The most dimensions, and settings of a plan.
 pub const MAX_DIMENSIONS: usize = raw::MAX_DIMENSIONS;
@@ -96,7 +96,9 @@ impl fmt::Display for Refusal {
                 "an eta is not a whole number 0 to 99, or the crossover probability is not within 0..1"
             }
             Refusal::Dimension => "a dimension is not within its limits, or is the 25th",
-            Refusal::Count => "a pool is empty or above 1,024 plans, or a history is above 4,096",
+            Refusal::Count => {
+                "a pool is empty or above 1,024 plans (in edition 2 above 2,048), or a history is above 4,096"
+            }
             Refusal::Plan => {
                 "a plan's row length is not the number of objectives, it has over 16 constraints, or a value, a constraint or the ideal is NaN or beyond 2^1000 in magnitude"
             }
@@ -119,6 +121,35 @@ impl fmt::Display for Refusal {
 impl std::error::Error for Refusal {}
 
 // ---- what is given
+
+/// The edition of a selection, a generation step or a session.
+///
+/// They part in what a session selects from. In the first it is the children alone, as in the Rust that the library is carried over
+/// from. The second is the published algorithm: parents and children in one pool. The plans kept wait for the next generation and
+/// come first in its pool ([`Session::waiting`]), so that a good plan stays where its children are worse. Who begins opens the
+/// second. A pool of a selection or step is what the caller puts there, in both; in the second it may have 2,048 plans.
+#[derive(Clone, Copy, Debug, PartialEq, Eq)]
+pub enum Edition {
+    First,
+    Second,
+}
+
+impl Edition {
+    pub fn number(self) -> u64 {
+        match self {
+            Edition::First => raw::FIRST_EDITION,
+            Edition::Second => raw::SECOND_EDITION,
+        }
+    }
+
+    /// The most plans of a pool.
+    pub fn max_pool(self) -> usize {
+        match self {
+            Edition::First => 1024,
+            Edition::Second => raw::MAX_POOL,
+        }
+    }
+}
 
 /// Which way an objective is better.
 #[derive(Clone, Copy, Debug, PartialEq, Eq)]
@@ -444,8 +475,10 @@ impl Room {
         }
     }
 
+    #[allow(clippy::too_many_arguments)]
     fn lend<'a>(
         &'a mut self,
+        edition: Edition,
         pool: &'a [Plan],
         directions: &'a Directions,
         divisions: usize,
@@ -454,6 +487,7 @@ impl Room {
         ideal: &'a mut Ideal,
     ) -> Selecting<'a> {
         Selecting {
+            edition: edition.number(),
             pool: words(pool),
             directions: &directions.0,
             divisions,
@@ -478,8 +512,9 @@ impl Room {
     }
 }
 
-/// `size` plans of the pool to keep.
+/// `size` plans of the pool to keep. Plan numbers are not looked at.
 pub fn select(
+    edition: Edition,
     pool: &[Plan],
     directions: &Directions,
     divisions: usize,
@@ -488,13 +523,14 @@ pub fn select(
     ideal: &mut Ideal,
 ) -> Result<Selection, Refusal> {
     let mut room = Room::new(pool, size);
-    Refusal::of(raw::select(room.lend(pool, directions, divisions, size, rng, ideal)))?;
+    Refusal::of(raw::select(room.lend(edition, pool, directions, divisions, size, rng, ideal)))?;
     Ok(room.selection())
 }
 
 /// A selection, and `size` new plans that are bred from what is kept.
 #[allow(clippy::too_many_arguments)]
 pub fn generate_offspring(
+    edition: Edition,
     pool: &[Plan],
     directions: &Directions,
     divisions: usize,
@@ -509,7 +545,7 @@ pub fn generate_offspring(
     let mut offspring = vec![0; size.min(MAX_SIZE) * n.min(MAX_DIMENSIONS)];
     let mut n_kept = 0;
     Refusal::of(raw::generate_offspring(
-        room.lend(pool, directions, divisions, size, rng, ideal),
+        room.lend(edition, pool, directions, divisions, size, rng, ideal),
         words(dimensions),
         operators.raw(),
         &mut offspring,
@@ -524,7 +560,8 @@ pub fn generate_offspring(
     Ok(Offspring { selection, plans })
 }
 
-/// The listing for a pool file of either edition; numbers and settings of the second are passed over.
+/// The listing for a pool file of either edition; numbers and settings of the second are passed over. The selection is that of
+/// [`Edition::First`] for both.
 pub fn choose(file: &[u8]) -> Result<Vec<u8>, Refusal> {
     let mut out = vec![0; MAX_TEXT];
     let mut length = 0;
@@ -613,22 +650,43 @@ pub struct Session(raw::Session);
 
 impl Session {
     pub fn open(
+        edition: Edition,
         directions: &Directions,
         seed: u64,
         size: Option<usize>,
         divisions: Option<usize>,
         operators: &Operators,
     ) -> Result<Self, Refusal> {
-        let opened = raw::Session::open(&directions.0, seed, size, divisions, operators.raw(), raw::SESSION_WORDS);
+        let operators = operators.raw();
+        let opened = raw::Session::open(
+            edition.number(),
+            &directions.0,
+            seed,
+            size,
+            divisions,
+            operators,
+            raw::SESSION_WORDS,
+        );
         opened.map(Session).map_err(Refusal::from_code)
     }
 
     /// The next setting of a plan. While the first plan asks, each call adds its dimension; afterwards the dimension passed is
-    /// ignored. Once the history has the present generation's plans, the next generation is bred. The records' parameter numbers
-    /// must rise in the order in which the first plan asked: see [`Plan`].
+    /// ignored. Once the history has the first [`size`](Session::size) of the present generation's plans, the next generation is
+    /// bred. The records' parameter numbers must rise in the order in which the first plan asked: see [`Plan`].
+    ///
+    /// In [`Edition::Second`] it is bred from the waiting plans and then from these, but for those whose number waits: they have to
+    /// stand in the history and are left out. [`Refusal::Plan`] and [`Refusal::Parent`] look at all plans of that pool and at no
+    /// other.
     pub fn sample(&mut self, dimension: &Dimension, plan: u64, history: &[Plan]) -> Result<Setting, Refusal> {
-        let sampled = self.0.sample(&dimension.0, plan, words(history), raw::CANDIDATE_WORDS);
+        let sampled = self.0.sample(&dimension.0, plan, words(history), raw::WHOLE);
         sampled.map(|[kind, word]| Setting::of(kind, word)).map_err(Refusal::from_code)
+    }
+
+    pub fn edition(&self) -> Edition {
+        match self.0.words()[raw::SESSION_EDITION] {
+            raw::SECOND_EDITION => Edition::Second,
+            _ => Edition::First,
+        }
     }
 
     /// How many plans a generation has.
@@ -650,15 +708,24 @@ impl Session {
     pub fn plans(&self) -> &[u64] {
         self.0.plans().0
     }
+
+    /// The numbers of the plans that wait for the next generation's pool, in its order: in [`Edition::Second`] those that were kept
+    /// when the present generation was bred, and none before; in [`Edition::First`] none. A plan waits with the row, constraints and
+    /// settings that the history had when it came into the pool.
+    pub fn waiting(&self) -> Vec<u64> {
+        self.0.waiting().iter().map(|plan| plan[0]).collect()
+    }
 }
 
 impl fmt::Debug for Session {
     fn fmt(&self, f: &mut fmt::Formatter) -> fmt::Result {
         f.debug_struct("Session")
+            .field("edition", &self.edition())
             .field("size", &self.size())
             .field("generation", &self.generation())
             .field("dimensions", &self.dimensions())
             .field("plans", &self.plans())
+            .field("waiting", &self.waiting())
             .finish_non_exhaustive()
     }
 }

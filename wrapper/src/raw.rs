@@ -4,6 +4,10 @@
 // bench/ uses what the crate does not.
 #![allow(dead_code)]
 
+// Any other number means the first.
+pub const FIRST_EDITION: u64 = 1;
+pub const SECOND_EDITION: u64 = 2;
+
 pub const MAX_OBJECTIVES: usize = 8;
 pub const MAX_CONSTRAINTS: usize = 16;
 pub const MAX_SETTINGS: usize = 24;
@@ -29,20 +33,28 @@ pub const MAX_DIMENSIONS: usize = MAX_SETTINGS;
 pub const MAX_PLANS: usize = 2048;
 pub const CANDIDATE_WORDS: usize = MAX_PLANS * MAX_DIMENSIONS;
 
+/// Nothing is held back of what a session call is lent.
+pub const WHOLE: [usize; 2] = [0, 0];
+
+/// The most plans of a pool in edition 2.
+pub const MAX_POOL: usize = 2048;
+
 // A session's places, each behind the one before by the width of that; of the operators there are three.
 pub const SESSION_OBJECTIVES: usize = 0;
 pub const SESSION_DIRECTIONS: usize = SESSION_OBJECTIVES + 1;
 pub const SESSION_DIVISIONS: usize = SESSION_DIRECTIONS + MAX_OBJECTIVES;
 pub const SESSION_SIZE: usize = SESSION_DIVISIONS + 1;
 pub const SESSION_OPERATORS: usize = SESSION_SIZE + 1;
-pub const SESSION_ACTIVE: usize = SESSION_OPERATORS + 3;
+pub const SESSION_EDITION: usize = SESSION_OPERATORS + 3;
+pub const SESSION_ACTIVE: usize = SESSION_EDITION + 1;
 pub const SESSION_HAS_FIRST: usize = SESSION_ACTIVE + 1;
 pub const SESSION_FIRST: usize = SESSION_HAS_FIRST + 1;
 pub const SESSION_STATE: usize = SESSION_FIRST + 1;
 pub const SESSION_DIMENSION_COUNT: usize = SESSION_STATE + 1;
 pub const SESSION_CANDIDATE_COUNT: usize = SESSION_DIMENSION_COUNT + 1;
 pub const SESSION_PLAN_COUNT: usize = SESSION_CANDIDATE_COUNT + 1;
-pub const SESSION_GENERATION: usize = SESSION_PLAN_COUNT + 1;
+pub const SESSION_WAITING: usize = SESSION_PLAN_COUNT + 1;
+pub const SESSION_GENERATION: usize = SESSION_WAITING + 1;
 pub const SESSION_IDEAL: usize = SESSION_GENERATION + 1;
 pub const SESSION_DIMENSIONS: usize = SESSION_IDEAL + MAX_OBJECTIVES;
 pub const SESSION_WORDS: usize = SESSION_DIMENSIONS + MAX_DIMENSIONS * DIMENSION_WORDS;
@@ -50,19 +62,19 @@ pub const SESSION_WORDS: usize = SESSION_DIMENSIONS + MAX_DIMENSIONS * DIMENSION
 #[rustfmt::skip]
 #[link(name = "locustdomino", kind = "static")]
 unsafe extern "C" {
-    fn locustdomino_select(pool: *const u64, pool_words: usize, directions: *const u8, objectives: usize, divisions: usize, size: usize,
-        state: *mut u64, ideal: *mut f64, ideal_length: usize, kept: *mut usize, kept_length: usize, rules: *mut u8, rules_length: usize,
+    fn locustdomino_select(edition: u64, pool: *const u64, pool_words: usize, directions: *const u8, objectives: usize, divisions: usize,
+        size: usize, state: *mut u64, ideal: *mut f64, ideal_length: usize, kept: *mut usize, kept_length: usize, rules: *mut u8, rules_length: usize,
         fronts: *mut usize, fronts_length: usize, lines: *mut usize, lines_length: usize) -> u64;
-    fn locustdomino_generate_offspring(pool: *const u64, pool_words: usize, directions: *const u8, objectives: usize, divisions: usize,
-        size: usize, state: *mut u64, dimensions: *const u64, dimension_words: usize, crossover_prob: f64, crossover_eta: f64, mutation_eta: f64,
+    fn locustdomino_generate_offspring(edition: u64, pool: *const u64, pool_words: usize, directions: *const u8, objectives: usize,
+        divisions: usize, size: usize, state: *mut u64, dimensions: *const u64, dimension_words: usize, crossover_prob: f64, crossover_eta: f64, mutation_eta: f64,
         ideal: *mut f64, ideal_length: usize, kept: *mut usize, kept_length: usize, rules: *mut u8, rules_length: usize,
         fronts: *mut usize, fronts_length: usize, lines: *mut usize, lines_length: usize, offspring: *mut u64, offspring_words: usize,
         n_kept: *mut usize) -> u64;
-    fn locustdomino_open(directions: *const u8, objectives: usize, seed: u64, has_size: u8, size: usize, has_divisions: u8, divisions: usize,
-        crossover_prob: f64, crossover_eta: f64, mutation_eta: f64, session: *mut u64, session_words: usize) -> u64;
+    fn locustdomino_open(edition: u64, directions: *const u8, objectives: usize, seed: u64, has_size: u8, size: usize, has_divisions: u8,
+        divisions: usize, crossover_prob: f64, crossover_eta: f64, mutation_eta: f64, session: *mut u64, session_words: usize) -> u64;
     fn locustdomino_sample(session: *mut u64, session_words: usize, dimension: *const u64, dimension_words: usize, plan: u64,
         history: *const u64, history_words: usize, candidates: *mut u64, candidate_words: usize, plans: *mut u64, plans_length: usize,
-        next_dims: *mut usize, next_dims_length: usize, kind: *mut u64, value: *mut u64) -> u64;
+        next_dims: *mut usize, next_dims_length: usize, pool: *mut u64, pool_length: usize, kind: *mut u64, value: *mut u64) -> u64;
     fn locustdomino_choose(file: *const u8, file_length: usize, out: *mut u8, out_length: usize, length: *mut usize) -> u64;
     fn locustdomino_price_water(litres: *const u64, litres_length: usize, bands: *const u64, band_words: usize, kept: *const usize,
         kept_length: usize, costs: *mut u64, costs_length: usize, total: *mut u64) -> u64;
@@ -73,8 +85,9 @@ unsafe extern "C" {
 // A slice is handed on with its own length, and what is written overlaps nothing else. Beside that the library asks what `Session`
 // keeps, and for stack; where too little is left, it meets the guard page and the process ends.
 
-/// The pool and the directions of a selection or step, what is wanted of it, and what it is lent.
+/// The edition, the pool and the directions of a selection or step, what is wanted of it, and what it is lent.
 pub struct Selecting<'a> {
+    pub edition: u64,
     pub pool: &'a [u64],
     pub directions: &'a [u8],
     pub divisions: usize,
@@ -92,23 +105,23 @@ pub type Operators = [f64; 3];
 
 #[rustfmt::skip]
 pub fn select(call: Selecting) -> u64 {
-    let Selecting { pool, directions, divisions, size, state, ideal, kept, rules, fronts, lines } = call;
+    let Selecting { edition, pool, directions, divisions, size, state, ideal, kept, rules, fronts, lines } = call;
     unsafe {
         locustdomino_select(
-            pool.as_ptr(), pool.len(), directions.as_ptr(), directions.len(), divisions, size, state, ideal.as_mut_ptr(), ideal.len(),
-            kept.as_mut_ptr(), kept.len(), rules.as_mut_ptr(), rules.len(), fronts.as_mut_ptr(), fronts.len(),
+            edition, pool.as_ptr(), pool.len(), directions.as_ptr(), directions.len(), divisions, size, state, ideal.as_mut_ptr(),
+            ideal.len(), kept.as_mut_ptr(), kept.len(), rules.as_mut_ptr(), rules.len(), fronts.as_mut_ptr(), fronts.len(),
             lines.as_mut_ptr(), lines.len())
     }
 }
 
 #[rustfmt::skip]
 pub fn generate_offspring(call: Selecting, dimensions: &[u64], operators: Operators, offspring: &mut [u64], n_kept: &mut usize) -> u64 {
-    let Selecting { pool, directions, divisions, size, state, ideal, kept, rules, fronts, lines } = call;
+    let Selecting { edition, pool, directions, divisions, size, state, ideal, kept, rules, fronts, lines } = call;
     let [crossover_prob, crossover_eta, mutation_eta] = operators;
     unsafe {
         locustdomino_generate_offspring(
-            pool.as_ptr(), pool.len(), directions.as_ptr(), directions.len(), divisions, size, state, dimensions.as_ptr(), dimensions.len(),
-            crossover_prob, crossover_eta, mutation_eta, ideal.as_mut_ptr(), ideal.len(), kept.as_mut_ptr(), kept.len(),
+            edition, pool.as_ptr(), pool.len(), directions.as_ptr(), directions.len(), divisions, size, state, dimensions.as_ptr(),
+            dimensions.len(), crossover_prob, crossover_eta, mutation_eta, ideal.as_mut_ptr(), ideal.len(), kept.as_mut_ptr(), kept.len(),
             rules.as_mut_ptr(), rules.len(), fronts.as_mut_ptr(), fronts.len(), lines.as_mut_ptr(), lines.len(),
             offspring.as_mut_ptr(), offspring.len(), n_kept)
     }
@@ -135,7 +148,7 @@ pub fn price_water(litres: &[u64], bands: &[u64], kept: &[usize], costs: &mut [u
     }
 }
 
-/// A session's words and the three slices that are lent with them. Only the library writes them, so that they are always as it
+/// A session's words and the four slices that are lent with them. Only the library writes them, so that they are always as it
 /// left them, which is what it asks.
 #[derive(Clone)]
 pub struct Session {
@@ -143,43 +156,47 @@ pub struct Session {
     candidates: Vec<u64>,
     plans: Vec<u64>,
     next_dims: Vec<usize>,
+    pool: Vec<u64>,
 }
 
 impl Session {
     /// A session in so many words, or the refusal.
     #[rustfmt::skip]
     pub fn open(
-        directions: &[u8], seed: u64, size: Option<usize>, divisions: Option<usize>, operators: Operators, session_words: usize,
+        edition: u64, directions: &[u8], seed: u64, size: Option<usize>, divisions: Option<usize>, operators: Operators, session_words: usize,
     ) -> Result<Self, u64> {
         let mut words = vec![0; session_words];
         let [crossover_prob, crossover_eta, mutation_eta] = operators;
         let code = unsafe {
             locustdomino_open(
-                directions.as_ptr(), directions.len(), seed, size.is_some().into(), size.unwrap_or(0), divisions.is_some().into(),
-                divisions.unwrap_or(0), crossover_prob, crossover_eta, mutation_eta, words.as_mut_ptr(), words.len())
+                edition, directions.as_ptr(), directions.len(), seed, size.is_some().into(), size.unwrap_or(0),
+                divisions.is_some().into(), divisions.unwrap_or(0), crossover_prob, crossover_eta, mutation_eta, words.as_mut_ptr(),
+                words.len())
         };
         match code {
             0 => Ok(Session {
-                words,
                 candidates: vec![0; CANDIDATE_WORDS],
                 plans: vec![0; MAX_PLANS],
                 next_dims: vec![0; MAX_PLANS],
+                pool: vec![0; pool_words(words[SESSION_EDITION], words[SESSION_SIZE] as usize)],
+                words,
             }),
             refusal => Err(refusal),
         }
     }
 
-    /// Kind and word of a plan's next setting, or the refusal; of the candidates' words so many are lent. A call that adds a
-    /// dimension takes six words of it, and meets 6 where there are fewer; another does not look at it.
+    /// Kind and word of a plan's next setting, or the refusal; so many of the candidates' and of the pool's words are held back. A
+    /// call that adds a dimension takes six words of it, and meets 6 where there are fewer; another does not look at it.
     #[rustfmt::skip]
-    pub fn sample(&mut self, dimension: &[u64], plan: u64, history: &[u64], candidate_words: usize) -> Result<[u64; 2], u64> {
-        let candidates = &mut self.candidates[..candidate_words];
+    pub fn sample(&mut self, dimension: &[u64], plan: u64, history: &[u64], held_back: [usize; 2]) -> Result<[u64; 2], u64> {
+        let lent = [self.candidates.len() - held_back[0], self.pool.len() - held_back[1]];
+        let (candidates, pool) = (&mut self.candidates[..lent[0]], &mut self.pool[..lent[1]]);
         let (mut kind, mut value) = (0, 0);
         let code = unsafe {
             locustdomino_sample(
                 self.words.as_mut_ptr(), self.words.len(), dimension.as_ptr(), dimension.len(), plan, history.as_ptr(), history.len(),
                 candidates.as_mut_ptr(), candidates.len(), self.plans.as_mut_ptr(), self.plans.len(), self.next_dims.as_mut_ptr(),
-                self.next_dims.len(), &mut kind, &mut value)
+                self.next_dims.len(), pool.as_mut_ptr(), pool.len(), &mut kind, &mut value)
         };
         match code {
             0 => Ok([kind, value]),
@@ -200,6 +217,18 @@ impl Session {
         let count = self.words[SESSION_PLAN_COUNT] as usize;
         (&self.plans[..count], &self.next_dims[..count])
     }
+
+    /// The words of the plans that wait, in the kept list's order.
+    pub fn waiting(&self) -> &[[u64; PLAN_WORDS]] {
+        let count = self.words[SESSION_WAITING] as usize;
+        &self.pool.as_chunks().0[..count]
+    }
+}
+
+/// The words of the most plans that a session of an edition and a size breeds from.
+pub fn pool_words(edition: u64, size: usize) -> usize {
+    let parents = if edition == SECOND_EDITION { size } else { 0 };
+    (parents + size) * PLAN_WORDS
 }
 
 /// The words of a plan; a setting is its parameter number, its kind and its word. What there is no room for is claimed by its
@@ -226,8 +255,12 @@ mod tests {
 
     const MAX_HISTORY: usize = 4096;
 
+    fn open_as(edition: u64, session_words: usize) -> Result<Session, u64> {
+        Session::open(edition, &[0, 0], 1, Some(4), None, [1.0, 30.0, 20.0], session_words)
+    }
+
     fn open(session_words: usize) -> Result<Session, u64> {
-        Session::open(&[0, 0], 1, Some(4), None, [1.0, 30.0, 20.0], session_words)
+        open_as(SECOND_EDITION, session_words)
     }
 
     /// A Float from 0 to 1.
@@ -243,14 +276,14 @@ mod tests {
     fn a_dimension_to_be_added_has_six_words() {
         let mut session = open(SESSION_WORDS).unwrap();
         let before = session.words.clone();
-        assert_eq!(session.sample(&dimension()[..5], 0, &[], CANDIDATE_WORDS), Err(6));
-        assert_eq!(session.sample(&[], 0, &history(MAX_HISTORY + 1), CANDIDATE_WORDS), Err(6));
+        assert_eq!(session.sample(&dimension()[..5], 0, &[], WHOLE), Err(6));
+        assert_eq!(session.sample(&[], 0, &history(MAX_HISTORY + 1), WHOLE), Err(6));
         assert_eq!(session.words, before);
         let longer = [&dimension()[..], &[9; 3]].concat();
-        assert!(session.sample(&longer, 0, &[], CANDIDATE_WORDS).is_ok());
+        assert!(session.sample(&longer, 0, &[], WHOLE).is_ok());
         // Another plan ends discovery: its call adds no dimension.
-        assert!(session.sample(&[], 1, &[], CANDIDATE_WORDS).is_ok());
-        assert_eq!(session.sample(&[], 1, &history(MAX_HISTORY + 1), CANDIDATE_WORDS), Err(7));
+        assert!(session.sample(&[], 1, &[], WHOLE).is_ok());
+        assert_eq!(session.sample(&[], 1, &history(MAX_HISTORY + 1), WHOLE), Err(7));
     }
 
     #[test]
@@ -259,9 +292,9 @@ mod tests {
         let mut session = open(SESSION_WORDS).unwrap();
         session.words.truncate(SESSION_WORDS - 1);
         let before = session.words.clone();
-        assert_eq!(session.sample(&dimension(), 0, &history(MAX_HISTORY + 1), CANDIDATE_WORDS), Err(7));
-        assert_eq!(session.sample(&dimension(), 0, &history(MAX_HISTORY), CANDIDATE_WORDS), Err(10));
-        assert_eq!(session.sample(&[], 0, &[], CANDIDATE_WORDS), Err(10));
+        assert_eq!(session.sample(&dimension(), 0, &history(MAX_HISTORY + 1), WHOLE), Err(7));
+        assert_eq!(session.sample(&dimension(), 0, &history(MAX_HISTORY), WHOLE), Err(10));
+        assert_eq!(session.sample(&[], 0, &[], WHOLE), Err(10));
         assert_eq!(session.words, before);
     }
 
@@ -272,9 +305,14 @@ mod tests {
 
     /// A selection or a step of size 2, with room for so many rules; what it answers and leaves of kept list and rules.
     fn ruled(plans: u64, rules: usize, step: bool) -> (u64, Vec<usize>, Vec<u8>) {
+        ruled_as(FIRST_EDITION, plans, rules, step)
+    }
+
+    fn ruled_as(edition: u64, plans: u64, rules: usize, step: bool) -> (u64, Vec<usize>, Vec<u8>) {
         let (pool, n) = (alike(plans), plans as usize);
         let (mut kept, mut rules) = (vec![9; 2], vec![9; rules]);
         let call = Selecting {
+            edition,
             pool: &pool,
             directions: &[0],
             divisions: 1,
@@ -306,6 +344,61 @@ mod tests {
         assert_eq!(ruled(1, 2, false), (0, vec![0, 0], vec![WHOLE_FRONT, PADDING]));
         assert_eq!(ruled(1, 2, true), (0, vec![9; 2], vec![9; 2]));
         assert_eq!(ruled(1, 0, true), (0, vec![9; 2], vec![]));
+    }
+
+    #[test]
+    fn any_other_number_means_the_first_edition() {
+        let edges = [0, FIRST_EDITION, 3, 258, 1 << 32 | 2, u64::MAX];
+        for step in [false, true] {
+            for edition in edges {
+                assert_eq!(ruled_as(edition, 1025, 2, step), (7, vec![9; 2], vec![9; 2]));
+                assert_eq!(ruled_as(edition, 1024, 2, step).0, 0);
+            }
+            assert_eq!(ruled_as(SECOND_EDITION, 2049, 2, step), (7, vec![9; 2], vec![9; 2]));
+            assert_eq!(ruled_as(SECOND_EDITION, MAX_POOL as u64, 2, step).0, 0);
+        }
+        for edition in edges {
+            assert_eq!(open_as(edition, SESSION_WORDS).unwrap().words[SESSION_EDITION], FIRST_EDITION);
+        }
+        assert_eq!(open(SESSION_WORDS).unwrap().words[SESSION_EDITION], SECOND_EDITION);
+    }
+
+    #[test]
+    fn too_little_room_for_the_pool() {
+        for (edition, plans) in [(FIRST_EDITION, 4), (SECOND_EDITION, 8)] {
+            let mut session = open_as(edition, SESSION_WORDS).unwrap();
+            assert_eq!(session.pool.len(), plans * PLAN_WORDS);
+            session.pool.fill(7);
+            let before = session.clone();
+            assert_eq!(session.sample(&dimension(), 0, &[], [0, 1]), Err(10));
+            // 6 and 7 come before.
+            assert_eq!(session.sample(&[], 0, &[], [0, 1]), Err(6));
+            assert_eq!(session.sample(&dimension(), 0, &history(MAX_HISTORY + 1), [0, 1]), Err(7));
+            assert!(session.words == before.words && session.pool == before.pool);
+            assert!(session.sample(&dimension(), 0, &[], WHOLE).is_ok());
+            assert!(session.waiting().is_empty());
+        }
+    }
+
+    /// The plans that wait are the words that history had: here also those past their counts.
+    #[test]
+    fn waiting_plans_are_copies() {
+        let mut session = open(SESSION_WORDS).unwrap();
+        assert!(session.sample(&dimension(), 0, &[], WHOLE).is_ok());
+        for plan in 1..=4 {
+            assert!(session.sample(&[], plan, &[], WHOLE).is_ok());
+        }
+        let record = |number: u64| {
+            let mut words = plan_words(number, &[number as f64, 5.0 - number as f64], &[-1.0], &[[3, FLOAT, 0]]);
+            words[PLAN_WORDS - 1] = 77;
+            words
+        };
+        let history = [4, 3, 2, 1].map(record);
+        assert!(session.sample(&[], 5, history.as_flattened(), WHOLE).is_ok());
+        assert_eq!(session.waiting(), [1, 2, 3, 4].map(record));
+        // A call that does not breed leaves them.
+        assert!(session.sample(&[], 6, &[], WHOLE).is_ok());
+        assert_eq!(session.waiting(), [1, 2, 3, 4].map(record));
     }
 
     #[test]

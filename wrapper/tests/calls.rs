@@ -1,7 +1,7 @@
 //! Each call once accepted and once refused, and what a refusal leaves.
 
 use locustdomino::{
-    Band, Bill, Dimension, Direction, Directions, Ideal, Load, Operators, Plan, Refusal, Rng, Rule, Selection, Session, Setting,
+    Band, Bill, Dimension, Direction, Directions, Edition, Ideal, Load, Operators, Plan, Refusal, Rng, Rule, Selection, Session, Setting,
     choose, convert, generate_offspring, price_water, select, write_load,
 };
 
@@ -22,18 +22,18 @@ fn pool(n: u64) -> Vec<Plan> {
 fn selection() {
     let mut rng = Rng::with_seed(1);
     let mut ideal = Ideal::unknown(&two());
-    let chosen = select(&pool(8), &two(), 4, 3, &mut rng, &mut ideal).unwrap();
+    let chosen = select(Edition::First, &pool(8), &two(), 4, 3, &mut rng, &mut ideal).unwrap();
     assert_eq!(chosen.kept.len(), 3);
     assert_eq!(chosen.fronts, [0; 8]);
     assert!(chosen.lines.iter().all(|l| l.is_some_and(|l| l < 5)));
     assert_eq!(ideal.values(), [0.0, -7.0]);
 
     let state = rng.state();
-    assert_eq!(select(&pool(8), &two(), 4, 0, &mut rng, &mut ideal), Err(Refusal::Size));
-    assert_eq!(select(&pool(8), &two(), 4, usize::MAX, &mut rng, &mut ideal), Err(Refusal::Size));
-    assert_eq!(select(&[], &two(), 4, 3, &mut rng, &mut ideal), Err(Refusal::Count));
+    assert_eq!(select(Edition::First, &pool(8), &two(), 4, 0, &mut rng, &mut ideal), Err(Refusal::Size));
+    assert_eq!(select(Edition::First, &pool(8), &two(), 4, usize::MAX, &mut rng, &mut ideal), Err(Refusal::Size));
+    assert_eq!(select(Edition::First, &[], &two(), 4, 3, &mut rng, &mut ideal), Err(Refusal::Count));
     let nan = [Plan::new(0, &[f64::NAN, 0.0], &[], &[]).unwrap()];
-    assert_eq!(select(&nan, &two(), 4, 1, &mut rng, &mut ideal), Err(Refusal::Plan));
+    assert_eq!(select(Edition::First, &nan, &two(), 4, 1, &mut rng, &mut ideal), Err(Refusal::Plan));
     assert_eq!(rng.state(), state);
 }
 
@@ -51,7 +51,7 @@ fn told_by_the_list(chosen: &Selection) {
 fn rules() {
     let mut rng = Rng::with_seed(1);
     let mut of = |pool: &[Plan], size| {
-        select(pool, &two(), 4, size, &mut rng, &mut Ideal::unknown(&two())).unwrap()
+        select(Edition::Second, pool, &two(), 4, size, &mut rng, &mut Ideal::unknown(&two())).unwrap()
     };
     // One front, split, of plans on five lines: one more is drawn.
     let split = of(&pool(8), 6);
@@ -70,7 +70,7 @@ fn rules() {
     let mut bred = |n| {
         let operators = Operators::default();
         let mut ideal = Ideal::unknown(&two());
-        generate_offspring(&pool(n), &two(), 4, 6, &mut rng, &dimensions, &operators, &mut ideal).unwrap().selection
+        generate_offspring(Edition::Second, &pool(n), &two(), 4, 6, &mut rng, &dimensions, &operators, &mut ideal).unwrap().selection
     };
     told_by_the_list(&bred(8));
     assert_eq!(bred(1), Selection::default());
@@ -86,25 +86,25 @@ fn step() {
     let mut ideal = Ideal::unknown(&two());
     let operators = Operators::default();
     let mut rng = Rng::with_seed(1);
-    let bred = generate_offspring(&pool(8), &two(), 4, 5, &mut rng, &dimensions, &operators, &mut ideal).unwrap();
+    let bred = generate_offspring(Edition::First, &pool(8), &two(), 4, 5, &mut rng, &dimensions, &operators, &mut ideal).unwrap();
     assert_eq!(bred.selection.kept.len(), 5);
     assert_eq!(bred.plans.len(), 5);
     for plan in &bred.plans {
         let [Setting::Float(x), Setting::Int(n)] = plan[..] else { panic!("another kind") };
         assert!((0.0..=1.0).contains(&x) && (-10..=0).contains(&n));
     }
-    let one = generate_offspring(&pool(1), &two(), 4, 5, &mut rng, &dimensions, &operators, &mut ideal).unwrap();
+    let one = generate_offspring(Edition::First, &pool(1), &two(), 4, 5, &mut rng, &dimensions, &operators, &mut ideal).unwrap();
     assert!(one.selection.kept.is_empty() && one.plans.len() == 5);
     let narrow = [Dimension::float(0.0, 0.5).unwrap()];
-    let refused = generate_offspring(&pool(8), &two(), 4, 5, &mut rng, &narrow, &operators, &mut ideal);
+    let refused = generate_offspring(Edition::First, &pool(8), &two(), 4, 5, &mut rng, &narrow, &operators, &mut ideal);
     assert_eq!(refused, Err(Refusal::Parent));
 }
 
-#[test]
-fn session() {
+fn session_of(edition: Edition) {
     let bad = Operators { crossover_prob: 2.0, ..Operators::default() };
-    assert_eq!(Session::open(&two(), 1, None, None, &bad).unwrap_err(), Refusal::Operators);
-    let mut session = Session::open(&two(), 1, Some(4), None, &Operators::default()).unwrap();
+    assert_eq!(Session::open(edition, &two(), 1, None, None, &bad).unwrap_err(), Refusal::Operators);
+    let mut session = Session::open(edition, &two(), 1, Some(4), None, &Operators::default()).unwrap();
+    assert_eq!(session.edition(), edition);
     assert_eq!((session.size(), session.generation(), session.dimensions()), (4, 0, 0));
     let x = Dimension::float(-1.0, 1.0).unwrap();
     let mut history = vec![];
@@ -116,11 +116,157 @@ fn session() {
     }
     assert_eq!((session.generation(), session.dimensions()), (1, 1));
     assert_eq!(session.plans(), [5, 6, 7, 8]);
+    // The first generation's plans are a pool of the size: all are kept.
+    let mut waiting = session.waiting();
+    waiting.sort();
+    assert_eq!(waiting, if edition == Edition::Second { vec![1, 2, 3, 4] } else { vec![] });
     let mut copy = session.clone();
     let wrong = vec![history[0]; 4097];
     assert_eq!(session.sample(&x, 9, &wrong), Err(Refusal::Count));
     assert_eq!(session.sample(&x, 9, &history), copy.sample(&x, 9, &history));
     assert_eq!(session.generation(), 2);
+    assert_eq!(session.waiting(), copy.waiting());
+}
+
+#[test]
+fn session() {
+    session_of(Edition::First);
+    session_of(Edition::Second);
+}
+
+/// A session of edition 2 with one objective, of size 4, and what its plans have been tried with.
+struct Tried {
+    session: Session,
+    history: Vec<Plan>,
+}
+
+impl Tried {
+    fn new() -> Self {
+        let one = Directions::new(&[Direction::Minimize]).unwrap();
+        let session = Session::open(Edition::Second, &one, 3, Some(4), None, &Operators::default()).unwrap();
+        let mut tried = Tried { session, history: vec![] };
+        tried.ask(0).unwrap();
+        tried
+    }
+
+    fn ask(&mut self, plan: u64) -> Result<Setting, Refusal> {
+        self.session.sample(&Dimension::float(0.0, 1.0).unwrap(), plan, &self.history)
+    }
+
+    /// The record of a plan comes behind the others.
+    fn record(&mut self, plan: u64, value: f64) {
+        self.history.push(Plan::new(plan, &[value], &[], &[(0, Setting::Float(0.5))]).unwrap());
+    }
+
+    /// Plans come and are tried; the last call, of another plan, breeds.
+    fn generation(&mut self, plans: &[(u64, f64)], next: u64) {
+        let generation = self.session.generation();
+        for &(plan, _) in plans {
+            self.ask(plan).unwrap();
+        }
+        for &(plan, value) in plans {
+            self.record(plan, value);
+        }
+        assert_eq!(self.session.generation(), generation);
+        self.ask(next).unwrap();
+        assert_eq!(self.session.generation(), generation + 1);
+    }
+}
+
+/// With one objective and different values the best plans of parents and children wait, the best first.
+#[test]
+fn parents_wait() {
+    let mut tried = Tried::new();
+    // The plan that found the dimension has the best record, and is in no generation.
+    tried.record(0, -9.0);
+    assert!(tried.session.waiting().is_empty());
+    tried.generation(&[(1, 5.0), (2, 1.0), (3, 7.0), (4, 3.0)], 5);
+    assert_eq!(tried.session.waiting(), [2, 4, 1, 3]);
+    tried.generation(&[(5, 2.0), (6, 9.0), (7, 6.0), (8, 8.0)], 9);
+    assert_eq!(tried.session.waiting(), [2, 5, 4, 1]);
+    // Later records of plans that wait change nothing: not for the worse, not for the better, and not to what meets 8.
+    tried.record(2, 50.0);
+    tried.record(1, -50.0);
+    tried.record(4, f64::NAN);
+    tried.generation(&[(9, 10.0), (10, 4.0), (11, 11.0), (12, 12.0)], 13);
+    assert_eq!(tried.session.waiting(), [2, 5, 4, 10]);
+}
+
+/// A child whose number waits is left out, and what its record has is not looked at.
+#[test]
+fn left_out() {
+    let mut tried = Tried::new();
+    tried.generation(&[(1, 5.0), (2, 1.0), (3, 7.0), (4, 3.0)], 3);
+    tried.record(3, f64::NAN);
+    for plan in [6, 2, 7] {
+        tried.ask(plan).unwrap();
+    }
+    assert_eq!(tried.session.plans(), [3, 6, 2, 7]);
+    // Plans of the generation past the first four are not bred from.
+    tried.ask(8).unwrap();
+    tried.record(8, -9.0);
+    tried.record(2, -9.0);
+    tried.record(6, f64::NAN);
+    tried.record(7, 4.0);
+    assert_eq!(tried.ask(9), Err(Refusal::Plan));
+    tried.record(6, 2.0);
+    tried.ask(9).unwrap();
+    assert_eq!(tried.session.waiting(), [2, 6, 4, 7]);
+    assert_eq!(tried.session.plans(), [9]);
+
+    // All are left out: as their records are there, the next call breeds, from the waiting plans alone.
+    let mut tried = Tried::new();
+    tried.generation(&[(1, 5.0), (2, 1.0), (3, 7.0), (4, 3.0)], 1);
+    for plan in 2..=4 {
+        tried.ask(plan).unwrap();
+    }
+    assert_eq!(tried.session.generation(), 1);
+    tried.ask(5).unwrap();
+    assert_eq!((tried.session.generation(), tried.session.waiting()), (2, vec![2, 4, 1, 3]));
+}
+
+/// In edition 1 nobody waits, and a generation is bred from its own plans alone.
+#[test]
+fn editions_part() {
+    let mut first = Session::open(Edition::First, &two(), 1, Some(4), None, &Operators::default()).unwrap();
+    let mut second = Session::open(Edition::Second, &two(), 1, Some(4), None, &Operators::default()).unwrap();
+    let x = Dimension::float(-1.0, 1.0).unwrap();
+    let mut history = vec![];
+    let mut same = 0;
+    for number in 0..20 {
+        let setting = first.sample(&x, number, &history).unwrap();
+        same += u64::from(setting == second.sample(&x, number, &history).unwrap());
+        let far = (number as i64 - 2).abs() as f64;
+        history.push(Plan::new(number, &[far, -far], &[], &[(0, setting)]).unwrap());
+        assert!(first.waiting().is_empty());
+    }
+    // Up to the second breeding, which plan 9 asks for, the pools are the same.
+    assert!((9..20).contains(&same));
+}
+
+#[test]
+fn larger_pools() {
+    let one = Directions::new(&[Direction::Minimize]).unwrap();
+    let pool: Vec<Plan> = (0..2049).map(|i| Plan::new(i, &[(i * 7 % 2049) as f64], &[], &[]).unwrap()).collect();
+    let chosen = |edition: Edition, n: usize| {
+        let mut ideal = Ideal::unknown(&one);
+        select(edition, &pool[..n], &one, 1, 3, &mut Rng::with_seed(1), &mut ideal)
+    };
+    for edition in [Edition::First, Edition::Second] {
+        let most = edition.max_pool();
+        assert_eq!(chosen(edition, most).unwrap().fronts.len(), most);
+        assert_eq!(chosen(edition, most + 1), Err(Refusal::Count));
+    }
+    assert_eq!(chosen(Edition::First, 1024), chosen(Edition::Second, 1024));
+    assert_eq!((Edition::First.number(), Edition::Second.number()), (1, 2));
+    let dimensions = [Dimension::categorical(5).unwrap()];
+    let bred = |edition: Edition| {
+        let mut ideal = Ideal::unknown(&one);
+        let operators = Operators::default();
+        generate_offspring(edition, &pool[..2048], &one, 1, 7, &mut Rng::with_seed(1), &dimensions, &operators, &mut ideal)
+    };
+    assert_eq!(bred(Edition::First), Err(Refusal::Count));
+    assert_eq!(bred(Edition::Second).unwrap().plans.len(), 7);
 }
 
 #[test]
@@ -134,21 +280,21 @@ fn limits() {
     assert_eq!(Refusal::Full.number(), 11);
 }
 
-/// A session that breeds, in a thread with so much stack.
-fn breed_within(megabytes: usize) {
-    let thread = std::thread::Builder::new().stack_size(megabytes << 20);
+/// Sessions that breed, in a thread with so much stack.
+fn breed_within(kilobytes: usize) {
+    let thread = std::thread::Builder::new().stack_size(kilobytes << 10);
     thread.spawn(session).unwrap().join().unwrap();
 }
 
 #[test]
 fn enough_stack() {
-    breed_within(4);
+    breed_within(2048);
 }
 
 #[test]
 #[ignore = "ends the process"]
 fn too_little_stack() {
-    breed_within(1);
+    breed_within(128);
 }
 
 #[test]

@@ -28,6 +28,7 @@ fn outcome_of(code: u64, n: usize) -> Outcome {
 
 // `nsga3_select`.
 pub fn select(
+    edition: u64,
     pool: &[u64],
     directions: &[u8],
     divisions: usize,
@@ -41,6 +42,7 @@ pub fn select(
 ) -> Selection {
     let mut s = rng.s;
     let code = locustdomino::locustdomino_select(
+        edition,
         pool,
         directions,
         divisions,
@@ -69,6 +71,7 @@ fn width_of(n_dims: usize) -> usize
 
 // `nsga3_generate_offspring`.
 pub fn generate_offspring(
+    edition: u64,
     pool: &[u64],
     directions: &[u8],
     divisions: usize,
@@ -92,6 +95,7 @@ pub fn generate_offspring(
     session_encoding::put_dimensions(dimensions, 0, &mut words);
     let width = width_of(n_dims);
     let code = locustdomino::locustdomino_generate_offspring(
+        edition,
         pool,
         directions,
         divisions,

@@ -3,6 +3,7 @@ use model::Operators;
 use model::Outcome;
 use model::Rng;
 ghost use mathlib.Core.Path.{_≡_};
+ghost use Rattle.model.specs.Edition.{editionOf};
 ghost use Rattle.model.specs.Calls.{wordRequest, lent};
 ghost use Rattle.export_laws.specs.Coded.{keptOf, StepsWords, rngOf, wordOperators};
 
@@ -15,9 +16,10 @@ fn count(outcome: Outcome, old: usize) -> usize
     }
 }
 
-// `nsga3_generate_offspring`: the dimensions are as many as their slice has whole, six words each. `n_kept` is the kept list's length: the size, or 0 for a pool
+// `nsga3_generate_offspring` of an edition, 1 or 2: the dimensions are as many as their slice has whole, six words each. `n_kept` is the kept list's length: the size, or 0 for a pool
 // of one plan.
 pub fn generate_offspring_words(
+    edition: u64,
     pool: &[u64],
     directions: &[u8],
     divisions: usize,
@@ -36,7 +38,7 @@ pub fn generate_offspring_words(
     n_kept: &mut usize,
 ) -> u64
     ensures { λ r. ⌜ StepsWords (wordOperators (now (dimensions .entry)) «crossover_prob» «crossover_eta» «mutation_eta»)
-        (wordRequest (now (pool .entry)) (now (directions .entry)) divisions size (rngOf (now (state .entry))) (now (ideal .entry)))
+        (wordRequest (editionOf edition) (now (pool .entry)) (now (directions .entry)) divisions size (rngOf (now (state .entry))) (now (ideal .entry)))
         (lent (now (kept .entry)) (now (rules .entry)) (now (fronts .entry)) (now (lines .entry))) (now (offspring .entry)) (now («n_kept» .entry))
         (record { code = r; kept = now («n_kept» .exit); state = now (state .exit); ideal = now (ideal .exit); slices = lent (now (kept .exit)) (now (rules .exit)) (now (fronts .exit)) (now (lines .exit)); offspring = now (offspring .exit) }) ⌝ }
 {
@@ -50,6 +52,7 @@ pub fn generate_offspring_words(
         mutation_eta,
     };
     let step = generation::nsga3_generate_offspring(
+        editions::edition_of(edition),
         pool,
         directions,
         divisions,

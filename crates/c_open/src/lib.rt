@@ -14,8 +14,9 @@ fn optional(has: u8, n: usize) -> OptionUsize
     OptionUsize::Some(n)
 }
 
-// `open`: the session's words go to the slice's front. A slice of fewer than `sessionWidth` words meets 10, where no other number applies.
+// `open` of edition 2 for 2, and else of edition 1: the session's words go to the slice's front. A slice of fewer than `sessionWidth` words meets 10, where no other number applies.
 pub fn open_words(
+    edition: u64,
     directions: &[u8],
     seed: u64,
     has_size: u8,
@@ -27,12 +28,14 @@ pub fn open_words(
     mutation_eta: f64,
     session: &mut [u64],
 ) -> u64
-    ensures { λ r. ⌜ OpensWords (now (directions .entry)) seed (optional «has_size» size) (optional «has_divisions» divisions) «crossover_prob» «crossover_eta» «mutation_eta»
+    ensures { λ r. ⌜ OpensWords edition (now (directions .entry)) seed (optional «has_size» size) (optional «has_divisions» divisions) «crossover_prob» «crossover_eta» «mutation_eta»
         (now (session .entry)) r (now (session .exit)) ⌝ }
 {
     let size = optional(has_size, size);
     let divisions = optional(has_divisions, divisions);
+    let edition = editions::edition_of(edition);
     let opened = session_opening::open(
+        edition,
         directions,
         seed,
         size,

@@ -44,13 +44,14 @@ pub fn sample_words(
     candidates: &mut [u64],
     plans: &mut [u64],
     next_dims: &mut [usize],
+    pool: &mut [u64],
     kind: &mut u64,
     value: &mut u64,
 ) -> u64
-    requires { ⌜ (sessionWidth ≤ length (now session) → SessionOk (state (sessionOf (now session)) (now candidates) (now plans) (now «next_dims»))) ⌝ }
-    ensures { λ r. ⌜ SamplesWords (now (session .entry)) (now (dimension .entry)) plan (now (history .entry)) (now (candidates .entry)) (now (plans .entry)) (now («next_dims» .entry))
+    requires { ⌜ (sessionWidth ≤ length (now session) → SessionOk (state (sessionOf (now session)) (now candidates) (now plans) (now «next_dims») (now pool))) ⌝ }
+    ensures { λ r. ⌜ SamplesWords (now (session .entry)) (now (dimension .entry)) plan (now (history .entry)) (now (candidates .entry)) (now (plans .entry)) (now («next_dims» .entry)) (now (pool .entry))
         (now (kind .entry)) (now (value .entry))
-        (sampledWords r (now (kind .exit)) (now (value .exit)) (now (session .exit)) (state (sessionOf (now (session .exit))) (now (candidates .exit)) (now (plans .exit)) (now («next_dims» .exit)))) ⌝ }
+        (sampledWords r (now (kind .exit)) (now (value .exit)) (now (session .exit)) (state (sessionOf (now (session .exit))) (now (candidates .exit)) (now (plans .exit)) (now («next_dims» .exit)) (now (pool .exit)))) ⌝ }
 {
     if session.len() < session_words::SESSION_WORDS {
         return short_session(history);
@@ -70,6 +71,7 @@ pub fn sample_words(
         candidates,
         plans,
         next_dims,
+        pool,
     );
     let outcome = sampled.outcome;
     match outcome {

@@ -2,6 +2,7 @@
 use model::Outcome;
 use model::Rng;
 ghost use mathlib.Core.Path.{_≡_};
+ghost use Rattle.model.specs.Edition.{editionOf};
 ghost use Rattle.model.specs.Calls.{wordRequest, lent};
 ghost use Rattle.export_laws.specs.Coded.{codeOf, SelectsWords, rngOf, ListsWords};
 
@@ -15,8 +16,9 @@ pub fn code(outcome: Outcome) -> u64
     }
 }
 
-// `nsga3_select`: the generator's state moves on in place. The kept list is as long as the size.
+// `nsga3_select` of an edition, 1 or 2: the generator's state moves on in place. The kept list is as long as the size.
 pub fn select_words(
+    edition: u64,
     pool: &[u64],
     directions: &[u8],
     divisions: usize,
@@ -28,11 +30,12 @@ pub fn select_words(
     fronts: &mut [usize],
     lines: &mut [usize],
 ) -> u64
-    ensures { λ r. ⌜ SelectsWords (wordRequest (now (pool .entry)) (now (directions .entry)) divisions size (rngOf (now (state .entry))) (now (ideal .entry)))
+    ensures { λ r. ⌜ SelectsWords (wordRequest (editionOf edition) (now (pool .entry)) (now (directions .entry)) divisions size (rngOf (now (state .entry))) (now (ideal .entry)))
         (lent (now (kept .entry)) (now (rules .entry)) (now (fronts .entry)) (now (lines .entry)))
         (record { code = r; state = now (state .exit); ideal = now (ideal .exit); slices = lent (now (kept .exit)) (now (rules .exit)) (now (fronts .exit)) (now (lines .exit)) }) ⌝ }
 {
     let answer = nsga3::nsga3_select(
+        editions::edition_of(edition),
         pool,
         directions,
         divisions,

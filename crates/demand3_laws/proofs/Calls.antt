@@ -139,9 +139,9 @@ module _ (st : State) (history : List ℕ) (ok : SessionOk st) where
   pub request-accepted : badPool (requestOf st history) ≡ false → Accepted (requestOf st history)
   request-accepted pool = word-accepted (requestOf st history) (planAt-row (bredFrom st history)) (ok .config .directions) request-divisions pool
 
--- the list of the selection that it makes, where a call breeds
+-- the list of the selection that it makes, where a call breeds, from at least as many plans as the size
 pub sample-demand3 : (st : State) (d : Distribution) (plan : ℕ) (history : List ℕ) → SessionOk st → sampleRefusal st d plan history ≡ none → breeds st history ≡ true
-    → Demand3 (requestOf st history) (selected (requestOf st history) .kept)
-sample-demand3 st d plan history ok e bred =
+    → requestOf st history .size ≤ requestOf st history .count → Demand3 (requestOf st history) (selected (requestOf st history) .kept)
+sample-demand3 st d plan history ok e bred enough =
     let pool : badPool (requestOf st history) ≡ false = rw bred at (sample-passed st d plan history e .pool) in
-    demand3 (requestOf st history) (request-accepted st history ok pool) (omega arith)
+    demand3 (requestOf st history) (request-accepted st history ok pool) enough

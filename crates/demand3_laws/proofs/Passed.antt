@@ -9,6 +9,8 @@ use lib.Dec.{eqb, leb, ltb}
 use lib.ListN.{length}
 use borrow.Author.Tests.{eqb-false, leb-true, ltb-false, not-false}
 use Rattle.model.specs.declared.Distribution.{Distribution}
+use Rattle.model.specs.declared.Edition.{Edition}
+use Rattle.model.specs.Edition.{mostPlans}
 use Rattle.model.specs.Plan.{maxObjectives}
 use Rattle.model.specs.Association.{Request, objectives}
 use Rattle.model.specs.Setting.{Operators}
@@ -16,6 +18,7 @@ use Rattle.model.specs.Session.{State, discovers, breeds, isNew, longEnough, re
 use Rattle.model.specs.Refusal.{Room, maxSize, maxPool, badDirections, badSize, badDivisions, badOperators, badDimensions, badCount, badPool, badParents, noRoom, noStepRoom, badNext, badHistory, selectRefusal, stepRefusal, sampleRefusal}
 use Rattle.list_laws.proofs.Bools.{or-left, or-right, and-left, and-right}
 use Rattle.list_laws.proofs.Checks.{applies-at}
+use Rattle.list_laws.proofs.Limits.{edition-in-pool}
 
 -- ---- what each test rules out
 
@@ -35,9 +38,12 @@ one-to most n e =
 pub size-limits : (size : ℕ) → badSize size ≡ false → (0 < size) × (size ≤ maxSize)
 size-limits size e = one-to maxSize size e
 
--- a pool's count is 1 to the most that a pool may have
-pub count-limits : (n : ℕ) → badCount n ≡ false → (0 < n) × (n ≤ maxPool)
-count-limits n e = one-to maxPool n e
+-- a pool's count is 1 to the most that a pool of its edition may have, and so of either
+pub count-limits : (edition : Edition) (n : ℕ) → badCount edition n ≡ false → (0 < n) × (n ≤ mostPlans edition)
+count-limits edition n e = one-to (mostPlans edition) n e
+
+pub count-in-pool : (edition : Edition) (n : ℕ) → badCount edition n ≡ false → n ≤ maxPool
+count-in-pool edition n e = omega (arith, count-limits edition n e .1, edition-in-pool edition)
 
 -- each lent slice has room
 pub room-each : (r : Request) (room : Room) → noRoom r room ≡ false
@@ -58,7 +64,7 @@ pub record SelectPassed (r : Request) (room : Room) : Type 0 where
   pub directions : badDirections (r .marks) ≡ false
   pub size : badSize (r .size) ≡ false
   pub divisions : badDivisions (objectives r) (r .divisions) ≡ false
-  pub count : badCount (r .count) ≡ false
+  pub count : badCount (r .edition) (r .count) ≡ false
   pub pool : badPool r ≡ false
   pub slices : noRoom r room ≡ false
 
@@ -81,7 +87,7 @@ pub record Passed (o : Operators) (r : Request) (room : Room) (offspring : ℕ) 
   pub divisions : badDivisions (objectives r) (r .divisions) ≡ false
   pub operators : badOperators (o .probability) (o .crossoverEta) (o .mutationEta) ≡ false
   pub dimensions : badDimensions (o .dims) (o .dimCount) ≡ false
-  pub count : badCount (r .count) ≡ false
+  pub count : badCount (r .edition) (r .count) ≡ false
   pub pool : badPool r ≡ false
   pub parents : badParents o r ≡ false
   pub slices : noStepRoom o r room offspring ≡ false

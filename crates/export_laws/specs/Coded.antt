@@ -24,6 +24,7 @@ use Rattle.model.specs.declared.Rng.{Rng}
 use Rattle.model.specs.Association.{Request}
 use Rattle.model.specs.Calls.{Lent, roomOf, refusedBy, chosenRefusedBy, SelectExit, StepExit, ChooseExit, SampleExit, selectOf, stepOf, openOf, sampleOf, chooseOf, Bred, Tells}
 use Rattle.model.specs.Demand3.{Demand3}
+use Rattle.model.specs.Edition.{editionOf}
 use Rattle.model.specs.Rules.{Ruled}
 use Rattle.model.specs.Lists.{over}
 use Rattle.model.specs.PoolFile.{PoolFile, parse, fileText}
@@ -146,13 +147,14 @@ unfoldable pub openWordsRefusal : List ℕ → Option ℕ → Option ℕ → Flo
 openWordsRefusal marks size divisions probability crossoverEta mutationEta room =
     orRefusal (openRefusal marks size divisions probability crossoverEta mutationEta) (firstOf (check 10 (ltb room sessionWidth) ∷ []))
 
--- THE PROMISE of `locustdomino_open`: where it answers 0, the words stand for the session that is opened, which has the session property
-pub record OpensWords (directions : List ℕ) (seed : ℕ) (size divisions : OptionUsize) (probability crossoverEta mutationEta : Float) (entry : List ℕ) (code : ℕ) (exit : List ℕ) : Type 0 where
+-- THE PROMISE of `locustdomino_open`, of the edition that a number stands for: where it answers 0, the words stand for the session that is opened, which has the
+-- session property
+pub record OpensWords (edition : ℕ) (directions : List ℕ) (seed : ℕ) (size divisions : OptionUsize) (probability crossoverEta mutationEta : Float) (entry : List ℕ) (code : ℕ) (exit : List ℕ) : Type 0 where
   pub whole : written code exit
-      ≡ openedBy (openOf directions seed size divisions probability crossoverEta mutationEta .outcome) (openOf directions seed size divisions probability crossoverEta mutationEta .session) entry
+      ≡ openedBy (openOf (editionOf edition) directions seed size divisions probability crossoverEta mutationEta .outcome) (openOf (editionOf edition) directions seed size divisions probability crossoverEta mutationEta .session) entry
   pub refused : refusalOf code ≡ openWordsRefusal directions (given size) (given divisions) probability crossoverEta mutationEta (length entry)
-  pub holds : code ≡ 0 → sessionOf exit ≡ openOf directions seed size divisions probability crossoverEta mutationEta .session
-  pub gives : code ≡ 0 → (candidates plans nextDims : List ℕ) → SessionOk (state (sessionOf exit) candidates plans nextDims)
+  pub holds : code ≡ 0 → sessionOf exit ≡ openOf (editionOf edition) directions seed size divisions probability crossoverEta mutationEta .session
+  pub gives : code ≡ 0 → (candidates plans nextDims pool : List ℕ) → SessionOk (state (sessionOf exit) candidates plans nextDims pool)
 
 -- ---- a session call
 
@@ -195,28 +197,28 @@ wordRefusal ws ds plan history =
     firstOf (wordChecks (ltb (length ws) sessionWidth) (lacksWords (s .phase) (s .«discovery_trial_id») plan (length ds)) (badHistory history))
 
 -- THE REFUSALS of `locustdomino_sample`: these, and then what the call looks at. A dimension that is not added is not looked at, so that its slice may be empty
-unfoldable pub sampleWordsRefusal : List ℕ → List ℕ → ℕ → List ℕ → List ℕ → List ℕ → List ℕ → Option ℕ
-sampleWordsRefusal ws ds plan history cs ps ns =
-    orRefusal (wordRefusal ws ds plan history) (sampleRefusal (state (sessionOf ws) cs ps ns) (dimensionAt ds 0) plan history)
+unfoldable pub sampleWordsRefusal : List ℕ → List ℕ → ℕ → List ℕ → List ℕ → List ℕ → List ℕ → List ℕ → Option ℕ
+sampleWordsRefusal ws ds plan history cs ps ns pool =
+    orRefusal (wordRefusal ws ds plan history) (sampleRefusal (state (sessionOf ws) cs ps ns pool) (dimensionAt ds 0) plan history)
 
 -- what is left: where the words are refused, all as it was, and else what the call leaves
 abbrev pub sampledAfter : Option ℕ → SampleExit → State → ℕ → ℕ → List ℕ → SampledWords
 sampledAfter none e st k v ws = sampledExit e k v ws
 sampledAfter (some n) e st k v ws = sampledWords n k v ws st
 
-unfoldable pub sampleWords : List ℕ → List ℕ → ℕ → List ℕ → List ℕ → List ℕ → List ℕ → ℕ → ℕ → SampledWords
-sampleWords ws ds plan history cs ps ns k v =
-    let st = state (sessionOf ws) cs ps ns in
+unfoldable pub sampleWords : List ℕ → List ℕ → ℕ → List ℕ → List ℕ → List ℕ → List ℕ → List ℕ → ℕ → ℕ → SampledWords
+sampleWords ws ds plan history cs ps ns pool k v =
+    let st = state (sessionOf ws) cs ps ns pool in
     sampledAfter (wordRefusal ws ds plan history) (sampleOf st (dimensionAt ds 0) plan history) st k v ws
 
 -- THE PROMISE of `locustdomino_sample`. `after` is what the words and slices at exit stand for: the state that the call leaves, which has the property again.
 -- Where it breeds, its list is selection's; and a setting that it answers is of its dimension's kind and within its bounds
-pub record SamplesWords (ws ds : List ℕ) (plan : ℕ) (history cs ps ns : List ℕ) (k v : ℕ) (exit : SampledWords) : Type 0 where
-  pub whole : exit ≡ sampleWords ws ds plan history cs ps ns k v
-  pub refused : refusalOf (exit .code) ≡ sampleWordsRefusal ws ds plan history cs ps ns
+pub record SamplesWords (ws ds : List ℕ) (plan : ℕ) (history cs ps ns pool : List ℕ) (k v : ℕ) (exit : SampledWords) : Type 0 where
+  pub whole : exit ≡ sampleWords ws ds plan history cs ps ns pool k v
+  pub refused : refusalOf (exit .code) ≡ sampleWordsRefusal ws ds plan history cs ps ns pool
   pub keeps : sessionWidth ≤ length ws → SessionOk (exit .after)
-  pub demand3 : exit .code ≡ 0 → breeds (state (sessionOf ws) cs ps ns) history ≡ true → Bred (state (sessionOf ws) cs ps ns) plan history (exit .after)
-  pub bounds : exit .code ≡ 0 → inBounds (asked (state (sessionOf ws) cs ps ns) (dimensionAt ds 0) plan history) (ofWord (exit .kind) (exit .value)) ≡ true
+  pub demand3 : exit .code ≡ 0 → breeds (state (sessionOf ws) cs ps ns pool) history ≡ true → Bred (state (sessionOf ws) cs ps ns pool) plan history (exit .after)
+  pub bounds : exit .code ≡ 0 → inBounds (asked (state (sessionOf ws) cs ps ns pool) (dimensionAt ds 0) plan history) (ofWord (exit .kind) (exit .value)) ≡ true
 
 -- ---- the choice for a pool file
 

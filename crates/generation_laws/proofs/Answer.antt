@@ -10,6 +10,7 @@ use lib.Ieee.{Float}
 use lib.ListN.{length, getD, take}
 use Rattle.list_laws.proofs.Built.{over-take, over-at, over-below}
 use Rattle.list_laws.proofs.Draws.{drawAll-length}
+use Rattle.model.specs.declared.Edition.{Edition}
 use Rattle.model.specs.declared.ParamValue.{ParamValue}
 use Rattle.model.specs.declared.Outcome.the-variants as outcome
 use Rattle.model.specs.declared.Rng.{Rng}
@@ -36,9 +37,9 @@ use Rattle.generation_laws.proofs.Breeding.{offspring-same}
 abbrev kept-exit : ℕ → ℕ → List Float → Lent → List ℕ → StepExit
 kept-exit n s i at out = stepExit (answered (outcome.Kept n) s) i at out
 
-module _ (o : Operators) (pool directions : List ℕ) (divisions size : ℕ) (g : Rng) (ideal : List Float) (at : Lent) (old : List ℕ) where
+module _ (edition : Edition) (o : Operators) (pool directions : List ℕ) (divisions size : ℕ) (g : Rng) (ideal : List Float) (at : Lent) (old : List ℕ) where
   abbrev r : Request
-  r = wordRequest pool directions divisions size g ideal
+  r = wordRequest edition pool directions divisions size g ideal
 
   -- ---- a pool of one
 

@@ -7,6 +7,7 @@ ghost use Rattle.model.specs.Plan.{planCount};
 ghost use Rattle.model.specs.Refusal.{stepRefusal};
 ghost use Rattle.model.specs.Calls.{wordRequest, lent, roomOf, stepExit, stepAccepted};
 ghost use Rattle.model.specs.Setting.{operatorsIn};
+use model::Edition;
 use model::MAX_POOL;
 use model::Operators;
 use model::Outcome;
@@ -15,6 +16,7 @@ use model::Selection;
 
 // A pool of two plans or more: those to breed from are selected, and bred from by their fronts by rows only, for which `by_rows` has room.
 fn select_and_breed(
+    edition: Edition,
     pool: &[u64],
     directions: &[u8],
     divisions: usize,
@@ -31,14 +33,15 @@ fn select_and_breed(
 ) -> Selection
     requires { ⌜ (2 ≤ planCount (now pool)) × (planCount (now pool) ≤ length (now «by_rows»)) ⌝ }
     requires { ⌜ stepRefusal (operatorsIn operators)
-        (wordRequest (now pool) (now directions) divisions size rng (now ideal))
+        (wordRequest edition (now pool) (now directions) divisions size rng (now ideal))
         (roomOf (lent (now kept) (now rules) (now fronts) (now lines))) (length (now offspring)) ≡ none ⌝ }
     ensures { λ r. ⌜ stepExit r (now (ideal .exit)) (lent (now (kept .exit)) (now (rules .exit)) (now (fronts .exit)) (now (lines .exit))) (now (offspring .exit))
         ≡ stepAccepted (operatorsIn operators)
-        (wordRequest (now (pool .entry)) (now (directions .entry)) divisions size rng (now (ideal .entry)))
+        (wordRequest edition (now (pool .entry)) (now (directions .entry)) divisions size rng (now (ideal .entry)))
         (lent (now (kept .entry)) (now (rules .entry)) (now (fronts .entry)) (now (lines .entry))) (now (offspring .entry)) ⌝ }
 {
     let selection = nsga3::nsga3_select(
+        edition,
         pool,
         directions,
         divisions,
@@ -68,6 +71,7 @@ fn select_and_breed(
 
 // A generation step that meets no refusal. A pool of one breeds nothing and selects nothing: every setting is drawn.
 pub fn step(
+    edition: Edition,
     pool: &[u64],
     directions: &[u8],
     divisions: usize,
@@ -82,11 +86,11 @@ pub fn step(
     offspring: &mut [u64],
 ) -> Selection
     requires { ⌜ stepRefusal (operatorsIn operators)
-        (wordRequest (now pool) (now directions) divisions size rng (now ideal))
+        (wordRequest edition (now pool) (now directions) divisions size rng (now ideal))
         (roomOf (lent (now kept) (now rules) (now fronts) (now lines))) (length (now offspring)) ≡ none ⌝ }
     ensures { λ r. ⌜ stepExit r (now (ideal .exit)) (lent (now (kept .exit)) (now (rules .exit)) (now (fronts .exit)) (now (lines .exit))) (now (offspring .exit))
         ≡ stepAccepted (operatorsIn operators)
-        (wordRequest (now (pool .entry)) (now (directions .entry)) divisions size rng (now (ideal .entry)))
+        (wordRequest edition (now (pool .entry)) (now (directions .entry)) divisions size rng (now (ideal .entry)))
         (lent (now (kept .entry)) (now (rules .entry)) (now (fronts .entry)) (now (lines .entry))) (now (offspring .entry)) ⌝ }
 {
     let count = plans::plan_count(pool);
@@ -100,6 +104,7 @@ pub fn step(
     }
     let mut row_fronts: [usize; MAX_POOL] = [0; MAX_POOL];
     select_and_breed(
+        edition,
         pool,
         directions,
         divisions,

@@ -2,8 +2,16 @@
 use Prim.Native.Nat.{ℕ, _*_, _≤_}
 use native.Mathlib.Nat.{mul-le-mul}
 use native.Mathlib.Omega.{arith}
+use Rattle.model.specs.declared.Edition.{Edition}
+use Rattle.model.specs.declared.Edition.the-variants.{First, Second}
+use Rattle.model.specs.Edition.{mostPlans}
 use Rattle.model.specs.Plan.{maxObjectives}
 use Rattle.model.specs.Refusal.{maxSize, maxPool, maxLines}
+
+-- no edition takes a pool of more plans
+pub edition-in-pool : (edition : Edition) → mostPlans edition ≤ maxPool
+edition-in-pool First = omega arith
+edition-in-pool Second = omega arith
 
 -- as many plans as may be wanted may stand in a pool
 pub size-in-pool : maxSize ≤ maxPool

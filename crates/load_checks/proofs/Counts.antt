@@ -5,6 +5,7 @@ use mathlib.Core.Bool.{true, false, and-false, _||_}
 use borrow.Author.Tests.{lt-leb, le-leb}
 use lib.Dec.{ltb}
 use Rattle.model.specs.Plan.{maxObjectives, maxConstraints}
+use Rattle.model.specs.declared.Edition.the-variants.{First}
 use Rattle.model.specs.Refusal.{badSize, badDivisions, badCount}
 use Rattle.model.specs.Load.{Load, badCounts}
 
@@ -18,7 +19,7 @@ module _ (l : Load) where
   too-many h = sym (rw (lt-leb (l .objectives) maxObjectives h, and-false))
 
   module _ (some : 1 ≤ l .objectives) (few : l .objectives ≤ maxObjectives) where
-    past-1 : badCounts l ≡ badSize (l .size) || (badDivisions (l .objectives) (l .divisions) || (badCount (l .count) || ltb maxConstraints (l .constraints)))
+    past-1 : badCounts l ≡ badSize (l .size) || (badDivisions (l .objectives) (l .divisions) || (badCount First (l .count) || ltb maxConstraints (l .constraints)))
     unfolding badCounts
     past-1 = rw (le-leb 1 (l .objectives) some, le-leb (l .objectives) maxObjectives few)
 
@@ -26,18 +27,18 @@ module _ (l : Load) where
     of-size e = sym (past-1 ∙ rw e)
 
     module _ (good-size : badSize (l .size) ≡ false) where
-      past-2 : badCounts l ≡ badDivisions (l .objectives) (l .divisions) || (badCount (l .count) || ltb maxConstraints (l .constraints))
+      past-2 : badCounts l ≡ badDivisions (l .objectives) (l .divisions) || (badCount First (l .count) || ltb maxConstraints (l .constraints))
       past-2 = past-1 ∙ rw good-size
 
       pub of-divisions : badDivisions (l .objectives) (l .divisions) ≡ true → true ≡ badCounts l
       of-divisions e = sym (past-2 ∙ rw e)
 
       module _ (good-divisions : badDivisions (l .objectives) (l .divisions) ≡ false) where
-        past-3 : badCounts l ≡ badCount (l .count) || ltb maxConstraints (l .constraints)
+        past-3 : badCounts l ≡ badCount First (l .count) || ltb maxConstraints (l .constraints)
         past-3 = past-2 ∙ rw good-divisions
 
-        pub of-count : badCount (l .count) ≡ true → true ≡ badCounts l
+        pub of-count : badCount First (l .count) ≡ true → true ≡ badCounts l
         of-count e = sym (past-3 ∙ rw e)
 
-        pub of-constraints : badCount (l .count) ≡ false → ltb maxConstraints (l .constraints) ≡ badCounts l
+        pub of-constraints : badCount First (l .count) ≡ false → ltb maxConstraints (l .constraints) ≡ badCounts l
         of-constraints e = sym (past-3 ∙ rw e)

@@ -11,7 +11,9 @@ use lib.ListN.{length, take}
 use Rattle.model.specs.declared.Chosen.the-variants as chosen
 use Rattle.model.specs.Plan.{maxObjectives, maxConstraints}
 use Rattle.model.specs.PoolFile.{maxFile}
-use Rattle.model.specs.Refusal.{maxPool, firstOf}
+use Rattle.model.specs.declared.Edition.the-variants.{First}
+use Rattle.model.specs.Edition.{mostPlans}
+use Rattle.model.specs.Refusal.{firstOf}
 use Rattle.model.specs.Calls.{ChooseExit, chooseBy}
 use Rattle.model.specs.Load.{Load, parseLoad, loadText, badCounts, badLoad, filedRefusal, refusalOfLoad, loadRefusal, textOfLoad, loadOf, Loads}
 use Rattle.list_laws.proofs.Bools.{or-right}
@@ -39,10 +41,10 @@ module _ (l : Load) (out : List ℕ) where
   bad-counts bad = turned-down (rw bad)
 
   module _ (counts : badCounts l ≡ false) where
-    pub limits : (l .count ≤ maxPool) × (l .objectives ≤ maxObjectives) × (l .constraints ≤ maxConstraints)
+    pub limits : (l .count ≤ mostPlans First) × (l .objectives ≤ maxObjectives) × (l .constraints ≤ maxConstraints)
     limits =
         let c = counted l counts in
-        (ltb-false maxPool (l .count) (or-right (eqb (l .count) 0) _ (c .count)), c .narrow, c .constraints)
+        (ltb-false (mostPlans First) (l .count) (or-right (eqb (l .count) 0) _ (c .count)), c .narrow, c .constraints)
 
     -- the file is made in a buffer that is as long as the longest one
     module _ (before after : List ℕ) (n : ℕ) (made : Adds (loadText l) before 0 after n) (full : length before ≡ maxFile) where

@@ -13,6 +13,7 @@ use Rattle.model.specs.Real.{infinity}
 use Rattle.model.specs.Plan.{maxObjectives, maxConstraints}
 use Rattle.model.specs.Association.{Request, objectives}
 use Rattle.model.specs.PoolFile.{fileRequest, fileText, noPlan, maxFile}
+use Rattle.model.specs.declared.Edition.the-variants.{First}
 use Rattle.model.specs.Refusal.{firstOf, badDirections, badSize, badDivisions, badCount, badPool, goodPlan, goodEntry, goodIdeal, measurable, fileRefusal}
 use Rattle.model.specs.Calls.{maxText}
 use Rattle.model.specs.Load.{Load, drawPlans, loadPool, loadText, badCounts, badLoad}
@@ -32,7 +33,7 @@ pub record Counted (l : Load) : Type 0 where
   pub narrow : l .objectives ≤ maxObjectives
   pub size : badSize (l .size) ≡ false
   pub divisions : badDivisions (l .objectives) (l .divisions) ≡ false
-  pub count : badCount (l .count) ≡ false
+  pub count : badCount First (l .count) ≡ false
   pub constraints : l .constraints ≤ maxConstraints
 
 pub counted : (l : Load) → badCounts l ≡ false → Counted l
@@ -48,8 +49,8 @@ counted l e =
       narrow = leb-true m maxObjectives (and-right (leb 1 m) _ two);
       size = or-left (badSize (l .size)) _ a;
       divisions = or-left (badDivisions m (l .divisions)) _ b;
-      count = or-left (badCount (l .count)) _ c;
-      constraints = ltb-false maxConstraints (l .constraints) (or-right (badCount (l .count)) _ c);
+      count = or-left (badCount First (l .count)) _ c;
+      constraints = ltb-false maxConstraints (l .constraints) (or-right (badCount First (l .count)) _ c);
     }
 
 pub good-counts : (l : Load) → badLoad l ≡ false → Counted l
@@ -91,7 +92,7 @@ module _ (l : Load) (ok : Counted l) where
   unfolding loadPool
   not-4 = ap (λ m. badDivisions m (l .divisions)) marks-many ∙ ok .divisions
 
-  not-7 : badCount (request .count) ≡ false
+  not-7 : badCount First (request .count) ≡ false
   unfolding loadPool
   not-7 = ok .count
 
@@ -115,7 +116,7 @@ module _ (l : Load) (ok : Counted l) where
   not-10 : length (fileText (loadPool l)) ≤ maxText
   not-10 =
       let four = allowed (objectives request) (request .divisions) not-4 in
-      selected-short request (size-limits (request .size) not-3 .1) (count-limits (request .count) not-7 .1)
+      selected-short request (size-limits (request .size) not-3 .1) (count-limits First (request .count) not-7 .1)
       (lines-some (objectives request) (request .divisions) (subst (λ m. 1 ≤ m) (sym marks-many) (ok .wide))) (four .lines)
 
   pub none-refuses : fileRefusal (loadPool l) maxText ≡ none

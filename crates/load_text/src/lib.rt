@@ -10,7 +10,8 @@ ghost use Prim.Native.Nat.{_≤_};
 ghost use lib.ListN.{replicate};
 ghost use Rattle.model.specs.PoolFile.{writtenAll};
 ghost use Rattle.model.specs.Plan.{maxObjectives, maxConstraints};
-ghost use Rattle.model.specs.Refusal.{maxPool};
+ghost use Rattle.model.specs.declared.Edition.the-variants.{First};
+ghost use Rattle.model.specs.Edition.{mostPlans};
 ghost use Rattle.model.specs.Load.{loadText};
 ghost use Rattle.pool_form.specs.Form.{Adds};
 ghost use Rattle.load_draws.specs.Drawing.{drawMany};
@@ -44,7 +45,7 @@ fn put_header(load: Load, seed: u64, out: &mut [u8], at: usize) -> usize
 
 // The state after the last draw: each value and each constraint takes one word.
 fn last_state(n: u64, m: u64, c: u64, start: Rng) -> u64
-    requires { ⌜ (n ≤ maxPool) × (m ≤ maxObjectives) × (c ≤ maxConstraints) ⌝ }
+    requires { ⌜ (n ≤ mostPlans First) × (m ≤ maxObjectives) × (c ≤ maxConstraints) ⌝ }
     ensures { λ r. ⌜ r ≡ drawMany m c n (start .s) .state ⌝ }
 {
     let end = jump(start, n * (m + c));
@@ -53,7 +54,7 @@ fn last_state(n: u64, m: u64, c: u64, start: Rng) -> u64
 
 // The whole file, from the front of the slice lent.
 pub fn write_text(load: Load, out: &mut [u8]) -> usize
-    requires { ⌜ (load .count ≤ maxPool) × (load .objectives ≤ maxObjectives) × (load .constraints ≤ maxConstraints) ⌝ }
+    requires { ⌜ (load .count ≤ mostPlans First) × (load .objectives ≤ maxObjectives) × (load .constraints ≤ maxConstraints) ⌝ }
     ensures { λ r. ⌜ Adds (loadText (loadFrom load)) (now (out .entry)) 0 (now (out .exit)) r ⌝ }
 {
     let start = jump(Rng { s: load.seed }, load.skip);

@@ -5,6 +5,7 @@ ghost use lib.ListN.{length};
 ghost use Rattle.model.specs.Session.{state};
 ghost use Rattle.model.specs.Property.{SessionOk};
 ghost use Rattle.session_words.specs.Coding.{sessionWidth, sessionOf};
+ghost use Rattle.model.specs.Edition.{editionOf};
 ghost use Rattle.model.specs.Calls.{wordRequest, lent};
 ghost use Rattle.model.specs.Water.{bandsOf};
 ghost use Rattle.export_laws.specs.Coded.{SelectsWords, StepsWords, rngOf, wordOperators, optional, OpensWords, sampledWords, SamplesWords, ListsWords};
@@ -12,9 +13,10 @@ ghost use Rattle.c_water.specs.Coded.{pricedAs, PricesWords};
 ghost use Rattle.c_load.specs.Coded.{LoadsWords};
 ghost use Rattle.c_convert.specs.Coded.{ConvertsWords};
 
-// `nsga3_select`: the generator's state moves on in place. The kept list is as long as the size.
+// `nsga3_select` of edition 2 for 2, and else of edition 1: the generator's state moves on in place. The kept list is as long as the size.
 #[no_mangle]
 pub extern "C" fn locustdomino_select(
+    edition: u64,
     pool: &[u64],
     directions: &[u8],
     divisions: usize,
@@ -26,11 +28,12 @@ pub extern "C" fn locustdomino_select(
     fronts: &mut [usize],
     lines: &mut [usize],
 ) -> u64
-    ensures { λ r. ⌜ SelectsWords (wordRequest (now (pool .entry)) (now (directions .entry)) divisions size (rngOf (now (state .entry))) (now (ideal .entry)))
+    ensures { λ r. ⌜ SelectsWords (wordRequest (editionOf edition) (now (pool .entry)) (now (directions .entry)) divisions size (rngOf (now (state .entry))) (now (ideal .entry)))
         (lent (now (kept .entry)) (now (rules .entry)) (now (fronts .entry)) (now (lines .entry)))
         (record { code = r; state = now (state .exit); ideal = now (ideal .exit); slices = lent (now (kept .exit)) (now (rules .exit)) (now (fronts .exit)) (now (lines .exit)) }) ⌝ }
 {
     c_select::select_words(
+        edition,
         pool,
         directions,
         divisions,
@@ -44,10 +47,11 @@ pub extern "C" fn locustdomino_select(
     )
 }
 
-// `nsga3_generate_offspring`: the dimensions are as many as their slice has whole, six words each. `n_kept` is the kept list's length: the size, or 0 for a pool
+// `nsga3_generate_offspring` of edition 2 for 2, and else of edition 1: the dimensions are as many as their slice has whole, six words each. `n_kept` is the kept list's length: the size, or 0 for a pool
 // of one plan.
 #[no_mangle]
 pub extern "C" fn locustdomino_generate_offspring(
+    edition: u64,
     pool: &[u64],
     directions: &[u8],
     divisions: usize,
@@ -66,11 +70,12 @@ pub extern "C" fn locustdomino_generate_offspring(
     n_kept: &mut usize,
 ) -> u64
     ensures { λ r. ⌜ StepsWords (wordOperators (now (dimensions .entry)) «crossover_prob» «crossover_eta» «mutation_eta»)
-        (wordRequest (now (pool .entry)) (now (directions .entry)) divisions size (rngOf (now (state .entry))) (now (ideal .entry)))
+        (wordRequest (editionOf edition) (now (pool .entry)) (now (directions .entry)) divisions size (rngOf (now (state .entry))) (now (ideal .entry)))
         (lent (now (kept .entry)) (now (rules .entry)) (now (fronts .entry)) (now (lines .entry))) (now (offspring .entry)) (now («n_kept» .entry))
         (record { code = r; kept = now («n_kept» .exit); state = now (state .exit); ideal = now (ideal .exit); slices = lent (now (kept .exit)) (now (rules .exit)) (now (fronts .exit)) (now (lines .exit)); offspring = now (offspring .exit) }) ⌝ }
 {
     c_generate::generate_offspring_words(
+        edition,
         pool,
         directions,
         divisions,
@@ -90,9 +95,10 @@ pub extern "C" fn locustdomino_generate_offspring(
     )
 }
 
-// `open`: the session's words go to the slice's front. A slice of fewer than `sessionWidth` words meets 10, where no other number applies.
+// `open` of edition 2 for 2, and else of edition 1: the session's words go to the slice's front. A slice of fewer than `sessionWidth` words meets 10, where no other number applies.
 #[no_mangle]
 pub extern "C" fn locustdomino_open(
+    edition: u64,
     directions: &[u8],
     seed: u64,
     has_size: u8,
@@ -104,10 +110,11 @@ pub extern "C" fn locustdomino_open(
     mutation_eta: f64,
     session: &mut [u64],
 ) -> u64
-    ensures { λ r. ⌜ OpensWords (now (directions .entry)) seed (optional «has_size» size) (optional «has_divisions» divisions) «crossover_prob» «crossover_eta» «mutation_eta»
+    ensures { λ r. ⌜ OpensWords edition (now (directions .entry)) seed (optional «has_size» size) (optional «has_divisions» divisions) «crossover_prob» «crossover_eta» «mutation_eta»
         (now (session .entry)) r (now (session .exit)) ⌝ }
 {
     c_open::open_words(
+        edition,
         directions,
         seed,
         has_size,
@@ -134,13 +141,14 @@ pub extern "C" fn locustdomino_sample(
     candidates: &mut [u64],
     plans: &mut [u64],
     next_dims: &mut [usize],
+    pool: &mut [u64],
     kind: &mut u64,
     value: &mut u64,
 ) -> u64
-    requires { ⌜ (sessionWidth ≤ length (now session) → SessionOk (state (sessionOf (now session)) (now candidates) (now plans) (now «next_dims»))) ⌝ }
-    ensures { λ r. ⌜ SamplesWords (now (session .entry)) (now (dimension .entry)) plan (now (history .entry)) (now (candidates .entry)) (now (plans .entry)) (now («next_dims» .entry))
+    requires { ⌜ (sessionWidth ≤ length (now session) → SessionOk (state (sessionOf (now session)) (now candidates) (now plans) (now «next_dims») (now pool))) ⌝ }
+    ensures { λ r. ⌜ SamplesWords (now (session .entry)) (now (dimension .entry)) plan (now (history .entry)) (now (candidates .entry)) (now (plans .entry)) (now («next_dims» .entry)) (now (pool .entry))
         (now (kind .entry)) (now (value .entry))
-        (sampledWords r (now (kind .exit)) (now (value .exit)) (now (session .exit)) (state (sessionOf (now (session .exit))) (now (candidates .exit)) (now (plans .exit)) (now («next_dims» .exit)))) ⌝ }
+        (sampledWords r (now (kind .exit)) (now (value .exit)) (now (session .exit)) (state (sessionOf (now (session .exit))) (now (candidates .exit)) (now (plans .exit)) (now («next_dims» .exit)) (now (pool .exit)))) ⌝ }
 {
     c_sample::sample_words(
         session,
@@ -150,6 +158,7 @@ pub extern "C" fn locustdomino_sample(
         candidates,
         plans,
         next_dims,
+        pool,
         kind,
         value,
     )

@@ -4,6 +4,7 @@ use mathlib.Core.Bool.{Bool, true, cond}
 use mathlib.Core.List.{List}
 use lib.Ieee.{Float, nan, inf, binary64, lt, ofBits}
 use lib.ListN.{length, getD}
+use Rattle.model.specs.declared.Edition.{Edition}
 use Rattle.model.specs.Lists.{keepBelow, bestFrom, bestAmong}
 use Rattle.model.specs.Real.{_⊖_, _⊗_, _⊘_, unit, infinity, above, sumTo}
 use Rattle.model.specs.Numbers.{sqrtOf, square}
@@ -13,6 +14,8 @@ use Rattle.model.specs.Reference.{pointCount, line}
 
 -- what a selection is given
 pub record Request : Type 0 where
+  -- document 02, M-100: "selection and generation step take the edition too"
+  pub edition : Edition
   -- the directions' marks, one an objective
   pub marks : List ℕ
   -- H

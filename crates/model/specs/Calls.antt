@@ -9,6 +9,8 @@ use mathlib.Core.Option.{Option, none, some}
 use lib.Ieee.{Float}
 use lib.ListN.{length, getD, take}
 use Rattle.model.specs.declared.Distribution.{Distribution}
+use Rattle.model.specs.declared.Edition.{Edition}
+use Rattle.model.specs.declared.Edition.the-variants.{First}
 use Rattle.model.specs.declared.OptionUsize.{OptionUsize}
 use Rattle.model.specs.declared.ParamValue.{ParamValue}
 use Rattle.model.specs.declared.Rng.{Rng}
@@ -23,6 +25,7 @@ use Rattle.model.specs.declared.Sampling.{Sampling}
 use Rattle.model.specs.declared.Sampling.the-variants as sampling
 use Rattle.model.specs.declared.Chosen.{Chosen}
 use Rattle.model.specs.declared.Chosen.the-variants as chosen
+use Rattle.model.specs.Edition.{mostPlans, waitingOf}
 use Rattle.model.specs.Lists.{over}
 use Rattle.model.specs.Plan.{planAt, planCount}
 use Rattle.model.specs.Association.{Request}
@@ -30,9 +33,9 @@ use Rattle.model.specs.Kept.{Selected, selected, noLine}
 use Rattle.model.specs.Demand3.{Demand3}
 use Rattle.model.specs.Rules.{Ruled}
 use Rattle.model.specs.Setting.{Operators, Generation, generation, inBounds, wordsOf, WordsWithin}
-use Rattle.model.specs.Session.{State, Answered, given, opened, blank, accepted, state, breeds, requestOf, bredBy, sampleFromCandidate, asked}
+use Rattle.model.specs.Session.{State, Answered, given, opened, blank, accepted, state, breeds, requestOf, bredFrom, blockOf, waitingCount, bredBy, sampleFromCandidate, asked}
 use Rattle.model.specs.PoolFile.{PoolFile, parse, fileRequest, listingText, fileText, refusedText}
-use Rattle.model.specs.Refusal.{Room, maxSize, maxPool, maxLines, selectRefusal, stepRefusal, openRefusal, sampleRefusal, chooseRefusal}
+use Rattle.model.specs.Refusal.{Room, maxSize, maxLines, selectRefusal, stepRefusal, openRefusal, sampleRefusal, chooseRefusal}
 use Rattle.model.specs.Property.{SessionOk}
 
 -- ---- the answers' cases: the number of a refusal, or none
@@ -66,8 +69,9 @@ textHandedOut (chosen.Refused n) out = []
 -- ---- `nsga3_select`
 
 -- what the call is given, as a request: the pool is the whole plans of a slice of words
-abbrev pub wordRequest : List ℕ → List ℕ → ℕ → ℕ → Rng → List Float → Request
-wordRequest pool directions divisions size rng ideal = record {
+abbrev pub wordRequest : Edition → List ℕ → List ℕ → ℕ → ℕ → Rng → List Float → Request
+wordRequest edition pool directions divisions size rng ideal = record {
+  edition = edition;
   marks = directions;
   divisions = divisions;
   size = size;
@@ -168,16 +172,16 @@ abbrev pub openBy : Option ℕ → Session → Opened
 openBy none s = record { outcome = opening.Ready; session = s }
 openBy (some n) s = record { outcome = opening.Refused n; session = blank }
 
-unfoldable pub openOf : List ℕ → ℕ → OptionUsize → OptionUsize → Float → Float → Float → Opened
-openOf directions seed size divisions probability crossoverEta mutationEta =
+unfoldable pub openOf : Edition → List ℕ → ℕ → OptionUsize → OptionUsize → Float → Float → Float → Opened
+openOf edition directions seed size divisions probability crossoverEta mutationEta =
     openBy (openRefusal directions (given size) (given divisions) probability crossoverEta mutationEta)
-    (opened directions seed (given size) (given divisions) probability crossoverEta mutationEta)
+    (opened edition directions seed (given size) (given divisions) probability crossoverEta mutationEta)
 
 -- THE PROMISE of `open`: what it answers has the session property, refused or not, whatever the slices hold that are lent with it
-pub record Opens (directions : List ℕ) (seed : ℕ) (size divisions : OptionUsize) (probability crossoverEta mutationEta : Float) (r : Opened) : Type 0 where
-  pub whole : r ≡ openOf directions seed size divisions probability crossoverEta mutationEta
+pub record Opens (edition : Edition) (directions : List ℕ) (seed : ℕ) (size divisions : OptionUsize) (probability crossoverEta mutationEta : Float) (r : Opened) : Type 0 where
+  pub whole : r ≡ openOf edition directions seed size divisions probability crossoverEta mutationEta
   pub refused : openingRefusedBy (r .outcome) ≡ openRefusal directions (given size) (given divisions) probability crossoverEta mutationEta
-  pub gives : (candidates plans nextDims : List ℕ) → SessionOk (state (r .session) candidates plans nextDims)
+  pub gives : (candidates plans nextDims pool : List ℕ) → SessionOk (state (r .session) candidates plans nextDims pool)
 
 -- ---- `sample`
 
@@ -196,11 +200,14 @@ sampleBy (some n) st a = record { answer = sampling.Refused n; after = st }
 unfoldable pub sampleOf : State → Distribution → ℕ → List ℕ → SampleExit
 sampleOf st d plan history = sampleBy (sampleRefusal st d plan history) st (accepted st d plan history)
 
--- a state that a breeding call leaves: it is the one bred from a kept list that meets demand 3, with the plan's next setting handed out
+-- a state that a breeding call leaves: it is the one bred from a kept list that meets demand 3, with the plan's next setting handed out. Document 02, M-100: as
+-- many plans wait as the edition has it, and they are the pool's plans at the kept places, word for word.
 pub record Bred (st : State) (plan : ℕ) (history : List ℕ) (after : State) : Type 0 where
   pub kept : List ℕ
   pub demand3 : Demand3 (requestOf st history) kept
   pub from : after ≡ sampleFromCandidate (bredBy st history kept) plan .after
+  pub count : waitingCount after ≡ waitingOf (st .session .config .edition) (st .session .config .«population_size»)
+  pub waiting : (i : ℕ) → i < waitingCount after → blockOf (after .pool) i ≡ blockOf (bredFrom st history) (getD kept i 0)
 
 -- THE PROMISE of `sample`, for a state with the session property. Where it breeds, its list is selection's; and a setting that it answers is of its
 -- dimension's kind and within its bounds.
@@ -234,18 +241,18 @@ abbrev pub printedBy : Option ℕ → List ℕ → List ℕ
 printedBy none text = text
 printedBy (some n) text = refusedText n
 
--- no listing is longer than a header of 21 bytes and a line of 20 bytes for each plan of a pool
+-- no listing is longer than a header of 21 bytes and a line of 20 bytes for each plan of a pool of edition 1
 abbrev pub maxText : ℕ
-maxText = maxPool * 20 + 21
+maxText = mostPlans First * 20 + 21
 
 unfoldable pub printed : List ℕ → List ℕ
 printed bytes = printedBy (chooseRefusal bytes maxText) (textOf (parse bytes))
 
 -- a selection whose listing tells it: its plan count, list, fronts and lines are within document 01's limits
 pub record Listable (count : ℕ) (sel : Selected) : Type 0 where
-  pub plans : count ≤ maxPool
+  pub plans : count ≤ mostPlans First
   pub kept : length (sel .kept) ≤ maxSize
-  pub fronts : (p : ℕ) → p < count → getD (sel .fronts) p 0 ≤ maxPool
+  pub fronts : (p : ℕ) → p < count → getD (sel .fronts) p 0 ≤ mostPlans First
   pub lines : (p : ℕ) → p < count → (getD (sel .lines) p 0 ≤ maxLines) ⊎ (getD (sel .lines) p 0 ≡ noLine)
 
 -- DEMAND 3 of a text, for a file: the text is the listing of what the file selects, and every selection of which it is the listing has a kept list that meets

@@ -9,6 +9,7 @@ use lib.ListN.{length, getD}
 use Rattle.model.specs.declared.ParamValue.the-variants as value
 use Rattle.model.specs.declared.Distribution.{Distribution}
 use Rattle.model.specs.declared.Distribution.the-variants as dist
+use Rattle.model.specs.declared.Edition.the-variants.{First}
 use Rattle.model.specs.Lists.{keepBelow}
 use Rattle.model.specs.Real.{nought, half, unit, infinity}
 use Rattle.model.specs.Draw.{drawn, step, drawWord}
@@ -46,6 +47,7 @@ planWith row constraints = measuredPlan (length row) row (length constraints) co
 -- a selection that minimises both of two objectives
 unfoldable pub requestWith : ℕ → ℕ → List Plan → Request
 requestWith divisions size plans = record {
+  edition = First;
   marks = 0 ∷ 0 ∷ [];
   divisions = divisions;
   size = size;
@@ -70,6 +72,7 @@ exampleFile = fileOf (2 ∷ 1 ∷ 2 ∷ 3 ∷ 5 ∷ 0 ∷ 0
 -- two plans of one objective, 0 and 1e-10
 unfoldable pub spanOfOne : Request
 spanOfOne = record {
+  edition = First;
   marks = 0 ∷ [];
   divisions = 1;
   size = 1;

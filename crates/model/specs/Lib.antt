@@ -6,6 +6,7 @@ pub mod Plan
 pub mod Row
 pub mod Front
 pub mod Reference
+pub mod Edition
 pub mod Association
 pub mod Kept
 pub mod Papers

@@ -7,6 +7,7 @@ use mathlib.Core.Option.{Option, none, some}
 use lib.Dec.{leb, ltb}
 use lib.Ieee.{Float}
 use lib.ListN.{length, replicate}
+use Rattle.model.specs.declared.Edition.the-variants.{First}
 use Rattle.model.specs.Real.{_⊖_, bits, half}
 use Rattle.model.specs.Draw.{Drawn, drawn, step, drawF64, drawAll}
 use Rattle.model.specs.Plan.{Plan, measuredPlan, maxObjectives, maxConstraints}
@@ -105,7 +106,7 @@ loadText l = firstForm (formOf (loadPool l))
 unfoldable pub badCounts : Load → Bool
 badCounts l =
     not (leb 1 (l .objectives) && leb (l .objectives) maxObjectives)
-    || (badSize (l .size) || (badDivisions (l .objectives) (l .divisions) || (badCount (l .count) || ltb maxConstraints (l .constraints))))
+    || (badSize (l .size) || (badDivisions (l .objectives) (l .divisions) || (badCount First (l .count) || ltb maxConstraints (l .constraints))))
 
 -- 13. ".. or a file over 65,536 bytes"
 unfoldable pub badLoad : Load → Bool

@@ -8,6 +8,7 @@ use mathlib.Core.Option.{Option, none, some}
 use lib.Dec.{eqb, leb, ltb}
 use lib.Signed.{leZ}
 use lib.ListN.{length, getD, drop, replicate}
+use Rattle.model.specs.declared.Edition.the-variants.{First}
 use Rattle.model.specs.Lists.{placeIn, listBelow, joinBelow}
 use Rattle.model.specs.Real.{real, infinity}
 use Rattle.model.specs.Plan.{Plan, Setting, measuredPlan}
@@ -221,9 +222,10 @@ parse bytes = cond (opensSecond bytes) (poolOf (parseBy secondFile bytes)) (pars
 abbrev pub noPlan : Plan
 noPlan = measuredPlan 0 [] 0 []
 
--- "The ideal starts at infinity."
+-- "The ideal starts at infinity." Document 02, M-100: "`choose` stays with 1"
 abbrev pub fileRequest : PoolFile → Request
 fileRequest f = record {
+  edition = First;
   marks = f .marks;
   divisions = f .divisions;
   size = f .size;

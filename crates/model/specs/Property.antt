@@ -2,6 +2,7 @@
 use Prim.Native.Nat.{ℕ, _≤_, _<_, max}
 use mathlib.Core.Path.{_≡_}
 use mathlib.Core.Bool.{true, false}
+use mathlib.Core.Logic.{_⊎_}
 use lib.ListN.{length, getD, take}
 use Rattle.model.specs.declared.OptionU64.{OptionU64}
 use Rattle.model.specs.declared.OptionU64.the-variants as optU64
@@ -9,10 +10,12 @@ use Rattle.model.specs.declared.Phase.{Phase}
 use Rattle.model.specs.declared.Phase.the-variants.{Discovery, Active}
 use Rattle.model.specs.declared.Config.{Config}
 use Rattle.model.specs.declared.Session.{Session}
-use Rattle.model.specs.Lists.{Distinct}
+use Rattle.model.specs.Edition.{waitingOf}
+use Rattle.model.specs.Lists.{Distinct, allBelow}
+use Rattle.model.specs.Plan.{planAt}
 use Rattle.model.specs.Setting.{WordsWithin}
-use Rattle.model.specs.Session.{State, dimensionOf, plansOf, longEnough, maxCome}
-use Rattle.model.specs.Refusal.{badDirections, badDivisions, badOperators, badDimensions, goodIdeal, maxSize}
+use Rattle.model.specs.Session.{State, dimensionOf, plansOf, longEnough, maxCome, numbersOf, waitingCount}
+use Rattle.model.specs.Refusal.{badDirections, badDivisions, badOperators, badDimensions, goodIdeal, goodPlans, breedable, maxSize}
 
 -- what opening settled is within document 01's limits
 pub record ConfigOk (c : Config) : Type 0 where
@@ -23,7 +26,7 @@ pub record ConfigOk (c : Config) : Type 0 where
   pub atMost : c .«population_size» ≤ maxSize
   pub operators : badOperators (c .«crossover_prob») (c .«crossover_eta») (c .«mutation_eta») ≡ false
 
--- in discovery a first plan is known exactly if a dimension is entered, and there is neither a candidate nor a plan
+-- in discovery a first plan is known exactly if a dimension is entered, and there is neither a candidate nor a plan, and nobody waits
 abbrev pub KnownBy : OptionU64 → ℕ → Type 0
 KnownBy optU64.None dims = dims ≡ 0
 KnownBy (optU64.Some plan) dims = 1 ≤ dims
@@ -32,6 +35,7 @@ pub record DiscoveryOk (s : Session) : Type 0 where
   pub first : KnownBy (s .«discovery_trial_id») (s .progress .«n_dims»)
   pub noCandidates : s .progress .«n_candidates» ≡ 0
   pub noPlans : s .progress .«n_plans» ≡ 0
+  pub noWaiting : s .progress .«n_waiting» ≡ 0
 
 -- afterwards there is a dimension, and a candidate for each of the size and of the plans that have come
 pub record ActiveOk (s : Session) : Type 0 where
@@ -43,11 +47,18 @@ abbrev pub PhaseOk : Phase → Session → Type 0
 PhaseOk Discovery s = DiscoveryOk s
 PhaseOk Active s = ActiveOk s
 
--- what the lent slices hold: plan numbers that differ, no plan past the last dimension, and settings within their dimensions' bounds
+-- document 02, M-100: the plans that wait have different numbers, and neither 8 nor 9 applies to one of them
+pub record WaitingOk (st : State) : Type 0 where
+  pub different : Distinct (numbersOf (st .pool) (waitingCount st))
+  pub measured : goodPlans (st .session .config .«n_obj») (planAt (st .pool)) (waitingCount st) ≡ true
+  pub breedable : allBelow (λ p. breedable (dimensionOf (st .session)) (st .session .progress .«n_dims») (planAt (st .pool) p)) (waitingCount st) ≡ true
+
+-- what the lent slices hold: plan numbers that differ, no plan past the last dimension, and settings within their dimensions' bounds; and the plans that wait
 pub record LentOk (st : State) : Type 0 where
   pub different : Distinct (plansOf st)
   pub next : (i : ℕ) → i < st .session .progress .«n_plans» → getD (st .nextDims) i 0 ≤ st .session .progress .«n_dims»
   pub settings : WordsWithin (dimensionOf (st .session)) (st .session .progress .«n_dims») (st .session .progress .«n_candidates») (st .candidates)
+  pub waiting : WaitingOk st
 
 -- Of the lent slices it speaks only where they are as long as refusal 10 asks: with one too short every call is turned down, by 10 or a lower number, and
 -- leaves all as it was.
@@ -56,5 +67,7 @@ pub record SessionOk (st : State) : Type 0 where
   -- at most `maxDims` dimensions are entered, each within its limits
   pub dimensions : badDimensions (dimensionOf (st .session)) (st .session .progress .«n_dims») ≡ false
   pub phase : PhaseOk (st .session .phase) (st .session)
+  -- nobody waits, or as many plans as the edition has wait
+  pub waiting : (waitingCount st ≡ 0) ⊎ (waitingCount st ≡ waitingOf (st .session .config .edition) (st .session .config .«population_size»))
   pub ideal : goodIdeal (st .session .config .«n_obj») (take (st .session .config .«n_obj») (st .session .«ideal_point»)) ≡ true
   pub lent : longEnough st ≡ true → LentOk st

@@ -8,6 +8,9 @@ use lib.Ieee.{Float, binary64, eq, ofBits, toUnsigned}
 use lib.IntN.{pos}
 use lib.ListN.{length, getD}
 use Rattle.model.specs.declared.Distribution.{Distribution}
+use Rattle.model.specs.declared.Edition.{Edition}
+use Rattle.model.specs.declared.Edition.the-variants.{Second}
+use Rattle.model.specs.Edition.{mostPlans}
 use Rattle.model.specs.Lists.{allBelow, allIn}
 use Rattle.model.specs.Real.{nought, unit, infinity, ofWhole, within}
 use Rattle.model.specs.Plan.{Plan, Setting, planCount, maxObjectives, maxConstraints, maxSettings}
@@ -33,12 +36,12 @@ firstOf (c ∷ cs) = cond (c .applies) (some (c .number)) (firstOf cs)
 
 -- ---- what each number asks
 
--- the limits: most plans wanted (of a size), most plans of a pool, lines, records of a history
+-- the limits: most plans wanted (of a size), most plans of a pool of either edition, lines, records of a history
 abbrev pub maxSize : ℕ
 maxSize = 1024
 
 abbrev pub maxPool : ℕ
-maxPool = 1024
+maxPool = mostPlans Second
 
 abbrev pub maxLines : ℕ
 maxLines = 1024
@@ -98,9 +101,9 @@ badNextPast limit n d = leb limit n || not (validDimension d)
 abbrev pub badNext : ℕ → Distribution → Bool
 badNext n d = badNextPast maxDims n d
 
--- 7. "A pool is empty or above 1,024 plans, or a history is above 4,096."
-abbrev pub badCount : ℕ → Bool
-badCount count = eqb count 0 || ltb maxPool count
+-- 7. "A pool is empty or above 1,024 plans, or a history is above 4,096." Document 02, M-100: "Edition 2's pools may reach 2,048, amending refusal 7."
+abbrev pub badCount : Edition → ℕ → Bool
+badCount edition count = eqb count 0 || ltb (mostPlans edition) count
 
 abbrev pub badHistory : List ℕ → Bool
 badHistory history = ltb maxHistory (planCount history)
@@ -190,7 +193,7 @@ selectChecks r short =
     check 2 (badDirections (r .marks))
     ∷ check 3 (badSize (r .size))
     ∷ check 4 (badDivisions (objectives r) (r .divisions))
-    ∷ check 7 (badCount (r .count))
+    ∷ check 7 (badCount (r .edition) (r .count))
     ∷ check 8 (badPool r)
     ∷ check 10 short
     ∷ []
@@ -214,7 +217,7 @@ stepChecksBy six nine o r room offspring =
     ∷ check 4 (badDivisions (objectives r) (r .divisions))
     ∷ check 5 (badOperators (o .probability) (o .crossoverEta) (o .mutationEta))
     ∷ check 6 six
-    ∷ check 7 (badCount (r .count))
+    ∷ check 7 (badCount (r .edition) (r .count))
     ∷ check 8 (badPool r)
     ∷ check 9 nine
     ∷ check 10 (noStepRoom o r room offspring)

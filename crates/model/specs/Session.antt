@@ -1,7 +1,7 @@
 -- Document 01, "Session": the state, what opening answers, and what an accepted call does.
 use Prim.Native.Nat.{ℕ, _+_, _-_, _*_, _%_, _^_, min}
 use mathlib.Core.Bool.{Bool, true, false, cond, not, _&&_, _||_}
-use mathlib.Core.List.{List, map}
+use mathlib.Core.List.{List, [], _++_, map}
 use mathlib.Core.Option.{Option, none, some}
 use lib.Dec.{eqb, leb, ltb}
 use lib.Ieee.{Float}
@@ -15,11 +15,14 @@ use Rattle.model.specs.declared.OptionU64.the-variants as optU64
 use Rattle.model.specs.declared.OptionUsize.{OptionUsize}
 use Rattle.model.specs.declared.OptionUsize.the-variants as optUsize
 use Rattle.model.specs.declared.DimensionInfo.{DimensionInfo}
+use Rattle.model.specs.declared.Edition.{Edition}
+use Rattle.model.specs.declared.Edition.the-variants.{First}
 use Rattle.model.specs.declared.Phase.{Phase}
 use Rattle.model.specs.declared.Phase.the-variants.{Discovery, Active}
 use Rattle.model.specs.declared.Config.{Config}
 use Rattle.model.specs.declared.Progress.{Progress}
 use Rattle.model.specs.declared.Session.{Session}
+use Rattle.model.specs.Edition.{waitingOf}
 use Rattle.model.specs.Lists.{allBelow, lastBelow, listBelow, joinBelow, has, placeIn, over}
 use Rattle.model.specs.Real.{nought, infinity}
 use Rattle.model.specs.Plan.{planAt, planCount, planWords, maxObjectives}
@@ -30,21 +33,26 @@ use Rattle.model.specs.Setting.{toWord, maxDims, dimensionsOf, storedAt,
 
 -- ---- the state
 
--- What a session call is given and leaves: the session by value, and what the three lent slices hold. `plans` has the numbers of the generation's plans in the
+-- What a session call is given and leaves: the session by value, and what the four lent slices hold. `plans` has the numbers of the generation's plans in the
 -- order in which they came, `nextDims` the dimension that each asks for next, and `candidates` the candidates' settings, candidate after candidate, a word
--- each. Plan i has candidate i.
+-- each. Plan i has candidate i. `pool` has at its front the words of the plans that wait (document 02, M-100); past them it is room for those bred from.
 pub record State : Type 0 where
   pub session : Session
   pub candidates : List ℕ
   pub plans : List ℕ
   pub nextDims : List ℕ
+  pub pool : List ℕ
 
--- what the lent slices have to have room for: the 2,048 plans that may come in a generation, of `maxDims` settings each
+-- what the lent slices have to have room for: the 2,048 plans that may come in a generation, of `maxDims` settings each, and the most plans that a session of
+-- an edition and a size breeds from
 abbrev pub maxCome : ℕ
 maxCome = 2048
 
 abbrev pub maxWords : ℕ
 maxWords = maxCome * maxDims
+
+abbrev pub poolRoom : Edition → ℕ → ℕ
+poolRoom edition size = (waitingOf edition size + size) * planWords
 
 -- what the array of dimensions holds where none is entered
 abbrev pub blankDimension : DimensionInfo
@@ -77,11 +85,12 @@ withProgress s p = record {
   progress = p;
 }
 
-abbrev pub progress : ℕ → ℕ → ℕ → ℕ → Progress
-progress dims candidates plans gen = record { «n_dims» = dims; «n_candidates» = candidates; «n_plans» = plans; generation = gen }
+abbrev pub progress : ℕ → ℕ → ℕ → ℕ → ℕ → Progress
+progress dims candidates plans waiting gen =
+    record { «n_dims» = dims; «n_candidates» = candidates; «n_plans» = plans; «n_waiting» = waiting; generation = gen }
 
-abbrev pub state : Session → List ℕ → List ℕ → List ℕ → State
-state s cs ps ns = record { session = s; candidates = cs; plans = ps; nextDims = ns }
+abbrev pub state : Session → List ℕ → List ℕ → List ℕ → List ℕ → State
+state s cs ps ns pool = record { session = s; candidates = cs; plans = ps; nextDims = ns; pool = pool }
 
 -- a session in which no plan has come yet, of a configuration and a seed
 abbrev pub start : Config → ℕ → Session
@@ -92,7 +101,7 @@ start c seed = record {
   rng = record { s = seed };
   dimensions = replicate maxDims blankDimension;
   «ideal_point» = replicate maxObjectives infinity;
-  progress = progress 0 0 0 0;
+  progress = progress 0 0 0 0 0;
 }
 
 -- a session with a dimension more, entered for a plan, by its generator
@@ -104,24 +113,25 @@ entered s d plan g = record {
   rng = record { s = g };
   dimensions = set (s .dimensions) (s .progress .«n_dims») (record { distribution = d });
   «ideal_point» = s .«ideal_point»;
-  progress = progress (s .progress .«n_dims» + 1) (s .progress .«n_candidates») (s .progress .«n_plans») (s .progress .generation);
+  progress = progress (s .progress .«n_dims» + 1) (s .progress .«n_candidates») (s .progress .«n_plans») (s .progress .«n_waiting») (s .progress .generation);
 }
 
--- the session of a new generation, by its generator, its ideal and its number: it has as many candidates as the size, and no plan has come yet
-abbrev pub renewed : Session → ℕ → List Float → ℕ → Session
-renewed s g ideal number = record {
+-- the session of a new generation, by its generator, its ideal, the number of plans that wait and its own number: it has as many candidates as the size, and no
+-- plan has come yet
+abbrev pub renewed : Session → ℕ → List Float → ℕ → ℕ → Session
+renewed s g ideal waiting number = record {
   config = s .config;
   phase = Active;
   «discovery_trial_id» = s .«discovery_trial_id»;
   rng = record { s = g };
   dimensions = s .dimensions;
   «ideal_point» = ideal;
-  progress = progress (s .progress .«n_dims») (s .config .«population_size») 0 number;
+  progress = progress (s .progress .«n_dims») (s .config .«population_size») 0 waiting number;
 }
 
--- the session after breeding: the generation's number wraps at 2^64
+-- the session after breeding: the kept plans wait where the edition has it so, and the generation's number wraps at 2^64
 abbrev pub bredSession : Session → ℕ → List Float → Session
-bredSession s g ideal = renewed s g ideal ((s .progress .generation + 1) % 2 ^ 64)
+bredSession s g ideal = renewed s g ideal (waitingOf (s .config .edition) (s .config .«population_size»)) ((s .progress .generation + 1) % 2 ^ 64)
 
 -- ---- opening
 
@@ -130,9 +140,11 @@ abbrev pub given : OptionUsize → Option ℕ
 given optUsize.None = none
 given (optUsize.Some n) = some n
 
--- The session that an accepted opening answers. "Directions are given at opening (added), with the seed."
-unfoldable pub opened : List ℕ → ℕ → Option ℕ → Option ℕ → Float → Float → Float → Session
-opened marks seed size divisions probability crossoverEta mutationEta = start (record {
+-- The session that an accepted opening answers. "Directions are given at opening (added), with the seed." Document 02, M-100: "A session is opened as edition 1
+-- (today's) or edition 2".
+unfoldable pub opened : Edition → List ℕ → ℕ → Option ℕ → Option ℕ → Float → Float → Float → Session
+opened edition marks seed size divisions probability crossoverEta mutationEta = start (record {
+  edition = edition;
   «n_obj» = length marks;
   directions = over marks (replicate maxObjectives 0);
   divisions = divisionsOf (length marks) size divisions;
@@ -145,6 +157,7 @@ opened marks seed size divisions probability crossoverEta mutationEta = start (r
 -- the session beside a refusal: nothing of what was given is in it. It is the smallest that could be opened, so that it has the session property too.
 abbrev pub blank : Session
 blank = start (record {
+  edition = First;
   «n_obj» = 1;
   directions = replicate maxObjectives 0;
   divisions = 1;
@@ -166,15 +179,15 @@ unfoldable pub discover : State → Distribution → ℕ → Answered
 discover st d plan =
     let s = st .session in
     let v = sampleRandom d (s .rng .s) in
-    record { setting = v .value; after = state (entered s d plan (v .state)) (st .candidates) (st .plans) (st .nextDims) }
+    record { setting = v .value; after = state (entered s d plan (v .state)) (st .candidates) (st .plans) (st .nextDims) (st .pool) }
 
 -- "another plan number ends discovery": as many candidates as the size are drawn
 unfoldable pub activate : State → State
 activate st =
     let s = st .session in
     let cs = sampleCandidates (dimensionOf s) (s .progress .«n_dims») (s .config .«population_size») (s .rng .s) in
-    let active = renewed s (cs .state) (s .«ideal_point») (s .progress .generation) in
-    state active (over (wordsOf (cs .value)) (st .candidates)) (st .plans) (st .nextDims)
+    let active = renewed s (cs .state) (s .«ideal_point») (s .progress .«n_waiting») (s .progress .generation) in
+    state active (over (wordsOf (cs .value)) (st .candidates)) (st .plans) (st .nextDims) (st .pool)
 
 -- a candidate more, drawn, where every candidate has its plan: its words are stored behind those of the others
 unfoldable pub overflow : State → State
@@ -183,16 +196,16 @@ overflow st =
     let n = s .progress .«n_dims» in
     let k = s .progress .«n_candidates» in
     let c = sampleAll (dimensionOf s) n (s .rng .s) in
-    let more = progress n (k + 1) (s .progress .«n_plans») (s .progress .generation) in
-    state (withProgress (withRng s (c .state)) more) (sets (st .candidates) (k * n) (map toWord (c .value))) (st .plans) (st .nextDims)
+    let more = progress n (k + 1) (s .progress .«n_plans») (s .progress .«n_waiting») (s .progress .generation) in
+    state (withProgress (withRng s (c .state)) more) (sets (st .candidates) (k * n) (map toWord (c .value))) (st .plans) (st .nextDims) (st .pool)
 
 -- the plan is entered as the generation's next, at its first dimension
 unfoldable pub enter : State → ℕ → State
 enter st plan =
     let s = st .session in
     let i = s .progress .«n_plans» in
-    let more = progress (s .progress .«n_dims») (s .progress .«n_candidates») (i + 1) (s .progress .generation) in
-    state (withProgress s more) (st .candidates) (set (st .plans) i plan) (set (st .nextDims) i 0)
+    let more = progress (s .progress .«n_dims») (s .progress .«n_candidates») (i + 1) (s .progress .«n_waiting») (s .progress .generation) in
+    state (withProgress s more) (st .candidates) (set (st .plans) i plan) (set (st .nextDims) i 0) (st .pool)
 
 -- a new plan takes the next candidate
 unfoldable pub enlist : State → ℕ → State
@@ -207,8 +220,8 @@ answer st i =
     let stored = storedAt (dimensionOf s) n (st .candidates) i d in
     let fresh = sampleRandom (dimensionOf s (n - 1)) (s .rng .s) in
     cond (ltb d n)
-    (record { setting = stored; after = state s (st .candidates) (st .plans) (set (st .nextDims) i (d + 1)) })
-    (record { setting = fresh .value; after = state (withRng s (fresh .state)) (st .candidates) (st .plans) (st .nextDims) })
+    (record { setting = stored; after = state s (st .candidates) (st .plans) (set (st .nextDims) i (d + 1)) (st .pool) })
+    (record { setting = fresh .value; after = state (withRng s (fresh .state)) (st .candidates) (st .plans) (st .nextDims) (st .pool) })
 
 -- the numbers of the generation's plans; a number is new where it is not among them
 abbrev pub plansOf : State → List ℕ
@@ -240,25 +253,39 @@ allStand history plans come size = leb size come && (leb size (length plans) && 
 unfoldable pub evaluated : State → List ℕ → Bool
 evaluated st history = allStand history (st .plans) (st .session .progress .«n_plans») (st .session .config .«population_size»)
 
--- the words of a record of the history
+-- the words of a plan of a slice
 abbrev pub blockOf : List ℕ → ℕ → List ℕ
-blockOf history k = listBelow (λ j. getD history (k * planWords + j) 0) planWords
+blockOf words k = listBelow (λ j. getD words (k * planWords + j) 0) planWords
 
--- so many plans of a list of numbers, as history has them, record after record
-abbrev pub recordsOf : List ℕ → List ℕ → ℕ → List ℕ
-recordsOf history plans size = joinBelow (λ i. blockOf history (recordOf history (getD plans i 0))) size
+-- the numbers of the first n plans of a slice, and how many plans wait
+abbrev pub numbersOf : List ℕ → ℕ → List ℕ
+numbersOf pool n = listBelow (λ i. planAt pool i .number) n
 
--- the plans bred from: the first size plans of the generation
+abbrev pub waitingCount : State → ℕ
+waitingCount st = st .session .progress .«n_waiting»
+
+-- Plan i of a list of numbers, as history has it. M-100: "A child whose number a waiting plan already has is left out of that pool."
+abbrev pub childOf : List ℕ → List ℕ → List ℕ → ℕ → List ℕ
+childOf waiting history plans i = cond (has waiting (getD plans i 0)) [] (blockOf history (recordOf history (getD plans i 0)))
+
+-- so many plans of a list of numbers, record after record
+abbrev pub childrenOf : List ℕ → List ℕ → List ℕ → ℕ → List ℕ
+childrenOf waiting history plans size = joinBelow (childOf waiting history plans) size
+
+-- the plans bred from: the waiting plans "come first in its pool, in the kept list's order; the children follow", the first size plans of the generation
 unfoldable pub bredFrom : State → List ℕ → List ℕ
-bredFrom st history = recordsOf history (st .plans) (st .session .config .«population_size»)
+bredFrom st history =
+    take (waitingCount st * planWords) (st .pool)
+    ++ childrenOf (numbersOf (st .pool) (waitingCount st)) history (st .plans) (st .session .config .«population_size»)
 
 -- the selection that a session's breeding makes, and its operators
 abbrev pub requestOf : State → List ℕ → Request
 requestOf st history = record {
+  edition = st .session .config .edition;
   marks = take (st .session .config .«n_obj») (st .session .config .directions);
   divisions = st .session .config .divisions;
   size = st .session .config .«population_size»;
-  count = st .session .config .«population_size»;
+  count = planCount (bredFrom st history);
   plans = planAt (bredFrom st history);
   ideal = take (st .session .config .«n_obj») (st .session .«ideal_point»);
   state = st .session .rng .s;
@@ -268,12 +295,24 @@ abbrev pub operatorsOf : Session → Operators
 operatorsOf s =
     operators (s .dimensions) (s .progress .«n_dims») (s .config .«crossover_prob») (s .config .«crossover_eta») (s .config .«mutation_eta»)
 
+-- "the kept plans, with rows, constraints and settings as history gave them, wait for the next generation": the words of the first n of them, in the kept
+-- list's order
+abbrev pub keptWords : List ℕ → List ℕ → ℕ → List ℕ
+keptWords bred kept n = joinBelow (λ i. blockOf bred (getD kept i 0)) n
+
+-- what the pool's slice holds once it is bred from: the plans bred from, and over them those that wait
+abbrev pub poolAfter : State → List ℕ → List ℕ → List ℕ
+poolAfter st history kept =
+    let bred = bredFrom st history in
+    over (keptWords bred kept (waitingOf (st .session .config .edition) (st .session .config .«population_size»))) (over bred (st .pool))
+
 -- "a new generation is bred": its candidates take the place of the old ones
 unfoldable pub breed : State → List ℕ → State
 breed st history =
     let s = st .session in
     let g = generation (operatorsOf s) (requestOf st history) in
     state (bredSession s (g .state) (over (g .selection .ideal) (s .«ideal_point»))) (over (wordsOf (g .offspring)) (st .candidates)) (st .plans) (st .nextDims)
+    (poolAfter st history (g .selection .kept))
 
 -- the same, said of a kept list: the state bred from the plans at its places, by the generator and the ideal that the selection leaves
 unfoldable pub bredBy : State → List ℕ → List ℕ → State
@@ -282,6 +321,7 @@ bredBy st history kept =
     let r = requestOf st history in
     let off = bredOf (operatorsOf s) (r .plans) (rankOf r kept) kept (r .size) (selected r .state) in
     state (bredSession s (off .state) (over (selected r .ideal) (s .«ideal_point»))) (over (wordsOf (off .value)) (st .candidates)) (st .plans) (st .nextDims)
+    (poolAfter st history kept)
 
 -- ---- which of these a call does
 
@@ -305,15 +345,16 @@ unfoldable pub discovers : State → ℕ → Bool
 discovers st plan = addsFor (st .session .phase) (st .session .«discovery_trial_id») plan
 
 -- the lent slices have room for what they must hold: by their lengths, and by what they hold
-abbrev pub roomFor : ℕ → ℕ → ℕ → Bool
-roomFor candidates plans nextDims = leb maxWords candidates && (leb maxCome plans && leb maxCome nextDims)
+abbrev pub roomFor : Config → ℕ → ℕ → ℕ → ℕ → Bool
+roomFor c candidates plans nextDims pool =
+    leb maxWords candidates && (leb maxCome plans && (leb maxCome nextDims && leb (poolRoom (c .edition) (c .«population_size»)) pool))
 
 unfoldable pub longEnough : State → Bool
-longEnough st = roomFor (length (st .candidates)) (length (st .plans)) (length (st .nextDims))
+longEnough st = roomFor (st .session .config) (length (st .candidates)) (length (st .plans)) (length (st .nextDims)) (length (st .pool))
 
--- the call breeds
+-- the call breeds; a slice that is too short to hold the plans that wait shows none of them
 unfoldable pub breeds : State → List ℕ → Bool
-breeds st history = isActive (st .session) && evaluated st history
+breeds st history = isActive (st .session) && (leb (waitingCount st * planWords) (length (st .pool)) && evaluated st history)
 
 -- AN ACCEPTED CALL. "Afterwards the distribution passed is ignored."
 unfoldable pub accepted : State → Distribution → ℕ → List ℕ → Answered

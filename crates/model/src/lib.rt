@@ -5,8 +5,10 @@ pub const MAX_OBJECTIVES: usize = 8;
 // most plans wanted: of a size
 pub const MAX_SIZE: usize = 1024;
 
-// most plans of a pool
-pub const MAX_POOL: usize = 1024;
+// most plans of a pool: of the second edition, and of the first
+pub const MAX_POOL: usize = 2048;
+
+pub const MAX_FIRST_POOL: usize = 1024;
 
 pub const MAX_LINES: usize = 1024;
 
@@ -36,10 +38,12 @@ pub const CONSTRAINTS: usize = 11;
 
 pub const SETTING_COUNT: usize = 27;
 
-// The words of a plan, its settings three words each from word 28 on, of a pool of MAX_POOL of them, and of MAX_SIZE candidates of MAX_DIMS settings.
+// The words of a plan, its settings three words each from word 28 on, of a pool of the first edition, of as many plans as a size has, and of MAX_SIZE candidates of MAX_DIMS settings.
 pub const PLAN_WORDS: usize = 28 + 3 * MAX_SETTINGS;
 
-pub const POOL_WORDS: usize = MAX_POOL * PLAN_WORDS;
+pub const FIRST_POOL_WORDS: usize = MAX_FIRST_POOL * PLAN_WORDS;
+
+pub const SIZE_WORDS: usize = MAX_SIZE * PLAN_WORDS;
 
 pub const CANDIDATE_WORDS: usize = MAX_SIZE * MAX_DIMS;
 
@@ -52,7 +56,13 @@ pub const MAX_TABLE_VALUES: usize = MAX_LINES * MAX_OBJECTIVES;
 pub const NO_LINE: usize = 18446744073709551615;
 
 // The longest listing of `choose`, in bytes.
-pub const MAX_TEXT: usize = MAX_POOL * 20 + 21;
+pub const MAX_TEXT: usize = MAX_FIRST_POOL * 20 + 21;
+
+// The two editions of selection, generation step and session (document 02, M-100): the first is document 01's.
+pub enum Edition {
+    First,
+    Second,
+}
 
 // The generator (document 01, "Draw"): one word of state, which any seed may be.
 pub struct Rng {
@@ -143,6 +153,7 @@ pub enum Phase {
 // What a session was opened with and what follows from it: it never changes.
 // Of directions the first n_obj count: 0 minimise, 1 maximise.
 pub struct Config {
+    pub edition: Edition,
     pub n_obj: usize,
     pub directions: [u8; MAX_OBJECTIVES],
     pub divisions: usize,
@@ -152,15 +163,17 @@ pub struct Config {
     pub mutation_eta: f64,
 }
 
-// How far a session is: its dimensions, the candidates and the plans of the present generation, and the generation's number.
+// How far a session is: its dimensions, the candidates and the plans of the present generation, how many plans wait, and the generation's number.
 pub struct Progress {
     pub n_dims: usize,
     pub n_candidates: usize,
     pub n_plans: usize,
+    pub n_waiting: usize,
     pub generation: u64,
 }
 
-// A session's state that goes by value. Beside it the caller lends the candidates, the plan numbers and the next dimensions.
+// A session's state that goes by value. Beside it the caller lends the candidates, the plan numbers, the next dimensions and the
+// pool.
 pub struct Session {
     pub config: Config,
     pub phase: Phase,

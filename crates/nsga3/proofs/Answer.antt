@@ -6,6 +6,7 @@ use mathlib.Core.List.{List, _++_}
 use native.Mathlib.Omega.{arith}
 use lib.Ieee.{Float}
 use lib.ListN.{length, take, replicate}
+use Rattle.model.specs.declared.Edition.{Edition}
 use Rattle.model.specs.declared.Outcome.the-variants as outcome
 use Rattle.model.specs.declared.Rng.{Rng}
 use Rattle.model.specs.declared.Rule.the-variants as rule
@@ -71,9 +72,9 @@ accepted-exit r o c i k₀ k u₀ u f₀ f l₀ l g a h =
     ∙ ap (λ n. selectExit (answered (outcome.Kept n) (selected r .state)) (selected r .ideal) (laid (selected r) (lent k₀ u₀ f₀ l₀)))
     (sym (kept-length r))
 
-module _ (pool directions : List ℕ) (divisions size : ℕ) (g : Rng) (ideal : List Float) (entry : Lent) where
+module _ (edition : Edition) (pool directions : List ℕ) (divisions size : ℕ) (g : Rng) (ideal : List Float) (entry : Lent) where
   abbrev r : Request
-  r = wordRequest pool directions divisions size g ideal
+  r = wordRequest edition pool directions divisions size g ideal
 
   promise : (x : SelectExit) → x ≡ selectOf r entry → Selects r entry x
   promise x e = subst (Selects r entry) (sym e) (selects r (planAt-row pool) entry)

@@ -7,6 +7,7 @@ ghost use Rattle.model.specs.Calls.{wordRequest, lent, roomOf, selectExit, sele
 ghost use Rattle.nsga3_laws.specs.Admitted.{Admitted};
 ghost use Rattle.nsga3.specs.Handed.{SortedPool, Hands};
 use front_cut::Cut;
+use model::Edition;
 use model::MAX_POOL;
 use model::MAX_ROW_VALUES;
 use model::MAX_TABLE_VALUES;
@@ -17,6 +18,7 @@ use refusals::Check;
 
 // The kept list where a front is split, with its rules: the whole fronts, then plans that niching picks from the split one. The ideal moves, and every plan gets a line.
 fn select_split(
+    edition: Edition,
     pool: &[u64],
     directions: &[u8],
     divisions: usize,
@@ -30,10 +32,10 @@ fn select_split(
     rules: &mut [u8],
     lines: &mut [usize],
 ) -> Rng
-    requires { ⌜ SortedPool (wordRequest (now pool) (now directions) divisions size rng (now ideal))
+    requires { ⌜ SortedPool (wordRequest edition (now pool) (now directions) divisions size rng (now ideal))
         (length (now kept)) (length (now rules)) (length (now lines)) (now rows) (now order) cut ⌝ }
     requires { ⌜ cut .split ≡ true ⌝ }
-    ensures { λ r. ⌜ Hands (selectedSplit (wordRequest (now (pool .entry)) (now (directions .entry)) divisions size rng (now (ideal .entry))))
+    ensures { λ r. ⌜ Hands (selectedSplit (wordRequest edition (now (pool .entry)) (now (directions .entry)) divisions size rng (now (ideal .entry))))
         (now (ideal .exit)) (now (kept .entry)) (now (kept .exit)) (now (rules .entry)) (now (rules .exit)) (now (lines .entry)) (now (lines .exit)) (r .s) ⌝ }
 {
     let n = plans::plan_count(pool);
@@ -61,6 +63,7 @@ fn select_split(
 
 // The kept list of a sorted pool, with its rules, the ideal and the lines, by whether a front is split.
 fn fill_kept(
+    edition: Edition,
     pool: &[u64],
     directions: &[u8],
     divisions: usize,
@@ -74,14 +77,15 @@ fn fill_kept(
     rules: &mut [u8],
     lines: &mut [usize],
 ) -> Rng
-    requires { ⌜ SortedPool (wordRequest (now pool) (now directions) divisions size rng (now ideal))
+    requires { ⌜ SortedPool (wordRequest edition (now pool) (now directions) divisions size rng (now ideal))
         (length (now kept)) (length (now rules)) (length (now lines)) (now rows) (now order) cut ⌝ }
-    ensures { λ r. ⌜ Hands (selected (wordRequest (now (pool .entry)) (now (directions .entry)) divisions size rng (now (ideal .entry))))
+    ensures { λ r. ⌜ Hands (selected (wordRequest edition (now (pool .entry)) (now (directions .entry)) divisions size rng (now (ideal .entry))))
         (now (ideal .exit)) (now (kept .entry)) (now (kept .exit)) (now (rules .entry)) (now (rules .exit)) (now (lines .entry)) (now (lines .exit)) (r .s) ⌝ }
 {
     let split = cut.split;
     if split {
         return select_split(
+            edition,
             pool,
             directions,
             divisions,
@@ -103,6 +107,7 @@ fn fill_kept(
 
 // A selection that meets no refusal.
 fn select(
+    edition: Edition,
     pool: &[u64],
     directions: &[u8],
     divisions: usize,
@@ -114,10 +119,10 @@ fn select(
     fronts: &mut [usize],
     lines: &mut [usize],
 ) -> Selection
-    requires { ⌜ Admitted (wordRequest (now pool) (now directions) divisions size rng (now ideal))
+    requires { ⌜ Admitted (wordRequest edition (now pool) (now directions) divisions size rng (now ideal))
         (roomOf (lent (now kept) (now rules) (now fronts) (now lines))) ⌝ }
     ensures { λ r. ⌜ selectExit r (now (ideal .exit)) (lent (now (kept .exit)) (now (rules .exit)) (now (fronts .exit)) (now (lines .exit)))
-        ≡ selectAccepted (wordRequest (now (pool .entry)) (now (directions .entry)) divisions size rng (now (ideal .entry)))
+        ≡ selectAccepted (wordRequest edition (now (pool .entry)) (now (directions .entry)) divisions size rng (now (ideal .entry)))
         (lent (now (kept .entry)) (now (rules .entry)) (now (fronts .entry)) (now (lines .entry))) ⌝ }
 {
     let n = plans::plan_count(pool);
@@ -126,6 +131,7 @@ fn select(
     let mut order: [usize; MAX_POOL] = [0; MAX_POOL];
     let cut = pool_sort::sort_pool(pool, directions, size, &rows, &mut order, fronts);
     let rng = fill_kept(
+        edition,
         pool,
         directions,
         divisions,
@@ -147,6 +153,7 @@ fn select(
 
 // The kept list of a pool of plans, and what put each plan on it (document 02, M-108): document 01's selection, or the number of the refusal that it meets, with nothing written and no word drawn.
 pub fn nsga3_select(
+    edition: Edition,
     pool: &[u64],
     directions: &[u8],
     divisions: usize,
@@ -158,11 +165,12 @@ pub fn nsga3_select(
     fronts: &mut [usize],
     lines: &mut [usize],
 ) -> Selection
-    ensures { λ r. ⌜ Selects (wordRequest (now (pool .entry)) (now (directions .entry)) divisions size rng (now (ideal .entry)))
+    ensures { λ r. ⌜ Selects (wordRequest edition (now (pool .entry)) (now (directions .entry)) divisions size rng (now (ideal .entry)))
         (lent (now (kept .entry)) (now (rules .entry)) (now (fronts .entry)) (now (lines .entry)))
         (selectExit r (now (ideal .exit)) (lent (now (kept .exit)) (now (rules .exit)) (now (fronts .exit)) (now (lines .exit)))) ⌝ }
 {
     let check = refusals::refusal(
+        edition,
         pool,
         directions,
         divisions,
@@ -180,6 +188,7 @@ pub fn nsga3_select(
             rng,
         },
         Check::Good => select(
+            edition,
             pool,
             directions,
             divisions,

@@ -6,7 +6,7 @@ use Rattle.model.specs.Refusal.{Room, selectRefusal}
 use Rattle.list_laws.proofs.Checks.{pool-plans, pool-ideal, good-ideal-length}
 use Rattle.reference_laws.proofs.Divisions.{allowed}
 use Rattle.reference_laws.proofs.Count.{lines-some}
-use Rattle.demand3_laws.proofs.Passed.{size-limits, count-limits, some-objectives, room-each, select-passed}
+use Rattle.demand3_laws.proofs.Passed.{size-limits, count-limits, count-in-pool, some-objectives, room-each, select-passed}
 use Rattle.nsga3_laws.specs.Admitted.{Admitted}
 
 pub admitted : (r : Request) (room : Room) → selectRefusal r room ≡ none → Admitted r room
@@ -14,7 +14,7 @@ admitted r room e =
     let p = select-passed r room e in
     let m = some-objectives (r .marks) (p .directions) in
     let h = allowed (objectives r) (r .divisions) (p .divisions) in
-    let n = count-limits (r .count) (p .count) in
+    let n = count-limits (r .edition) (r .count) (p .count) in
     let free = room-each r room (p .slices) in
     record {
       wide = m .0;
@@ -24,7 +24,8 @@ admitted r room e =
       someLines = lines-some (objectives r) (r .divisions) (m .0);
       fewLines = h .lines;
       somePlans = n .0;
-      fewPlans = n .1;
+      fewPlans = count-in-pool (r .edition) (r .count) (p .count);
+      ofEdition = n .1;
       few = size-limits (r .size) (p .size) .1;
       good = pool-plans r (p .pool);
       ideal = good-ideal-length (objectives r) (r .ideal) (pool-ideal r (p .pool));

@@ -3,6 +3,7 @@ use Prim.Native.Nat.{_≤_, _<_}
 use mathlib.Core.Path.{_≡_}
 use mathlib.Core.Bool.{true}
 use lib.ListN.{length}
+use Rattle.model.specs.Edition.{mostPlans}
 use Rattle.model.specs.Association.{Request, objectives, lineCount}
 use Rattle.model.specs.Plan.{maxObjectives}
 use Rattle.model.specs.Refusal.{Room, maxSize, maxPool, maxLines, goodPlans}
@@ -17,6 +18,7 @@ pub record Admitted (r : Request) (room : Room) : Type 0 where
   pub fewLines : lineCount r ≤ maxLines
   pub somePlans : 0 < r .count
   pub fewPlans : r .count ≤ maxPool
+  pub ofEdition : r .count ≤ mostPlans (r .edition)
   pub few : r .size ≤ maxSize
   pub good : goodPlans (objectives r) (r .plans) (r .count) ≡ true
   pub ideal : length (r .ideal) ≡ objectives r

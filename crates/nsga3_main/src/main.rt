@@ -1,5 +1,6 @@
 // Runs document 01's example and calls around it through the public selection, and prints all that each leaves. What a call does not write stays 9.
 use libc::STDOUT_FILENO;
+use model::Edition;
 use model::Outcome;
 use model::PLAN_WORDS;
 use model::ROW_LENGTH;
@@ -106,6 +107,7 @@ fn call(m: usize, divisions: usize, size: usize, plans: usize)
     let mut lines: [usize; 4] = [9; 4];
     let words = plans * PLAN_WORDS;
     let s = nsga3::nsga3_select(
+        Edition::First,
         &pool[..words],
         &directions[..m],
         divisions,

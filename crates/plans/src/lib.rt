@@ -2,9 +2,9 @@
 // (2, 3, 7 and 8).
 use model::CONSTRAINT_COUNT;
 use model::CONSTRAINTS;
+use model::Edition;
 use model::MAX_CONSTRAINTS;
 use model::MAX_OBJECTIVES;
-use model::MAX_POOL;
 use model::MAX_SIZE;
 use model::PLAN_WORDS;
 use model::ROW_LENGTH;
@@ -147,14 +147,14 @@ pub fn bad_size(size: usize) -> bool
     MAX_SIZE < size
 }
 
-// Refusal 7 for a pool of n plans: there is none, or there are more than MAX_POOL.
-pub fn bad_count(n: usize) -> bool
-    ensures { λ r. ⌜ r ≡ badCount n ⌝ }
+// Refusal 7 for a pool of n plans: there is none, or there are more than the edition takes.
+pub fn bad_count(edition: Edition, n: usize) -> bool
+    ensures { λ r. ⌜ r ≡ badCount edition n ⌝ }
 {
     if n == 0 {
         return true;
     }
-    MAX_POOL < n
+    editions::most_plans(edition) < n
 }
 
 // Refusal 8 for a pool and its ideal.

@@ -9,7 +9,8 @@ use native.Mathlib.Omega.{arith}
 use lib.ListN.{length, getD, drop}
 use Rattle.model.specs.Plan.{Plan, planFrom, planAt, planWords}
 use Rattle.model.specs.PoolFile.{many, noPlan}
-use Rattle.model.specs.Refusal.{maxPool}
+use Rattle.model.specs.declared.Edition.the-variants.{First}
+use Rattle.model.specs.Edition.{mostPlans}
 use Rattle.list_laws.proofs.Built.{snoc-each}
 use Rattle.list_laws.proofs.Rows.{row-inside}
 use Rattle.pool_plans.specs.declared.End.{End}
@@ -20,7 +21,7 @@ use Rattle.pool_plans.proofs.Blocks.{planOf-same}
 use Rattle.pool_editions.specs.Editions.{planIn, EntryIs, Plans}
 
 -- the plan stored last, and those before it
-blocks-more : (i base : ℕ) (l o : List ℕ) (plans : List Plan) (held : Plan) → length plans ≡ i → (i < maxPool → base ≡ i * planWords) → Blocks i l plans
+blocks-more : (i base : ℕ) (l o : List ℕ) (plans : List Plan) (held : Plan) → length plans ≡ i → (i < mostPlans First → base ≡ i * planWords) → Blocks i l plans
     → Block base l o held → Blocks (i + 1) o (plans ++ (held ∷ []))
 blocks-more i base l o plans held sized place w b h t u =
     let e = place (omega arith) in
@@ -39,7 +40,7 @@ module _ (second : Bool) (file : List ℕ) (at m : ℕ) where
     plans-stop n h e =
         reads-stop (planIn second m) file at (Blocks i l) i p w n h (as-told (planIn second m) (Block base l o) file p e b)
 
-    pub plans-more : (next : ℕ) → (i < maxPool → base ≡ i * planWords) → r ≡ end.At next → Plans second file at m (i + 1) o next
+    pub plans-more : (next : ℕ) → (i < mostPlans First → base ≡ i * planWords) → r ≡ end.At next → Plans second file at m (i + 1) o next
     plans-more next place e =
         let k = as-told (planIn second m) (Block base l o) file p e b in
         reads-more (planIn second m) file at (Blocks i l) i p w (k .value) next (k .reads) (Blocks (i + 1) o)

@@ -1,5 +1,5 @@
 // The plans of a pool file of either edition (document 01, "Pool file"; document 02, M-111), each laid out in its block of words.
-use model::MAX_POOL;
+use model::MAX_FIRST_POOL;
 use model::PLAN_WORDS;
 use pool_number::Read;
 use pool_number::read_number;
@@ -11,7 +11,8 @@ ghost use mathlib.Core.Bool.{true};
 ghost use Prim.Native.Nat.{_+_, _*_, _<_, _≤_};
 ghost use lib.ListN.{length};
 ghost use Rattle.model.specs.Plan.{planWords};
-ghost use Rattle.model.specs.Refusal.{maxPool};
+ghost use Rattle.model.specs.declared.Edition.the-variants.{First};
+ghost use Rattle.model.specs.Edition.{mostPlans};
 ghost use Rattle.pool_editions.specs.Editions.{EntryIs, PlansIs};
 
 // Reads a plan of the second edition: its rows between its number and its settings, both of which are passed over.
@@ -44,14 +45,18 @@ fn read_entry(file: &[u8], at: usize, m: usize, second: bool, pool: &mut [u64], 
 
 // Where plan i is stored: in its block, and past a pool's last one anywhere, since such a pool is refused.
 fn block_of(i: usize) -> usize
-    ensures { λ r. ⌜ (r + planWords ≤ maxPool * planWords) × (i < maxPool → r ≡ i * planWords) ⌝ }
+    ensures { λ r. ⌜ (r + planWords ≤ mostPlans First * planWords) × (i < mostPlans First → r ≡ i * planWords) ⌝ }
 {
-    if i < MAX_POOL { i * PLAN_WORDS } else { 0 }
+    if i < MAX_FIRST_POOL {
+        i * PLAN_WORDS
+    } else {
+        0
+    }
 }
 
 // Reads n plans of m values, each into its block. A count that is larger than the bytes left ends at the first plan that is not there.
 pub fn read_plans(file: &[u8], at: usize, m: usize, n: usize, second: bool, pool: &mut [u64]) -> End
-    requires { ⌜ maxPool * planWords ≤ length (now pool) ⌝ }
+    requires { ⌜ mostPlans First * planWords ≤ length (now pool) ⌝ }
     ensures { λ r. ⌜ PlansIs second (now (file .entry)) at m n (now (pool .exit)) r ⌝ }
 {
     let mut p = at;

@@ -10,7 +10,8 @@ ghost use mathlib.Core.Path.{_≡_};
 ghost use Prim.Native.Nat.{_*_, _≤_};
 ghost use lib.ListN.{length};
 ghost use Rattle.model.specs.Plan.{planWords, maxObjectives};
-ghost use Rattle.model.specs.Refusal.{maxPool};
+ghost use Rattle.model.specs.declared.Edition.the-variants.{First};
+ghost use Rattle.model.specs.Edition.{mostPlans};
 ghost use Rattle.pool_plans.specs.Blocks.{WordsIs};
 ghost use Rattle.model.specs.PoolFile.{opensSecond};
 ghost use Rattle.pool_file.specs.Parsing.{capped, begins, parseIn, HeadingIs, PoolOfIs, PoolIs};
@@ -104,7 +105,7 @@ fn begins(second: bool) -> usize
 // A whole file, read as one of an edition: its header, its first 8 direction marks, and each plan of a pool that is not too large in its block.
 // What breaks the form anywhere, ends early, runs on or is too long is Broken.
 fn parse_in(file: &[u8], second: bool, directions: &mut [u8], pool: &mut [u64]) -> Parsed
-    requires { ⌜ (maxObjectives ≤ length (now directions)) × (maxPool * planWords ≤ length (now pool)) ⌝ }
+    requires { ⌜ (maxObjectives ≤ length (now directions)) × (mostPlans First * planWords ≤ length (now pool)) ⌝ }
     ensures { λ r. ⌜ PoolOfIs (parseIn second (now (file .entry))) (now (directions .exit)) (now (pool .exit)) r ⌝ }
 {
     if MAX_FILE < file.len() {
@@ -129,7 +130,7 @@ fn parse_in(file: &[u8], second: bool, directions: &mut [u8], pool: &mut [u64]) 
 
 // A file of either edition.
 pub fn parse_pool(file: &[u8], directions: &mut [u8], pool: &mut [u64]) -> Parsed
-    requires { ⌜ (maxObjectives ≤ length (now directions)) × (maxPool * planWords ≤ length (now pool)) ⌝ }
+    requires { ⌜ (maxObjectives ≤ length (now directions)) × (mostPlans First * planWords ≤ length (now pool)) ⌝ }
     ensures { λ r. ⌜ PoolIs (now (file .entry)) (now (directions .exit)) (now (pool .exit)) r ⌝ }
 {
     parse_in(file, opens_second(file), directions, pool)

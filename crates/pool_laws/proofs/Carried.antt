@@ -13,10 +13,12 @@ use lib.ListN.{length, getD, take, replicate, length-map, List·getD-eq-default}
 use lib.Seq.{length-take-le, getD-take, take-all}
 use Rattle.model.specs.Lists.{listBelow, allIn}
 use Rattle.model.specs.Real.{infinity}
+use Rattle.model.specs.declared.Edition.the-variants.{First}
+use Rattle.model.specs.Edition.{mostPlans}
 use Rattle.model.specs.Plan.{Plan, planOf, planAt, planCount, planWords, maxObjectives, maxConstraints}
 use Rattle.model.specs.Association.{Request, objectives}
 use Rattle.model.specs.PoolFile.{PoolFile, noPlan, fileRequest}
-use Rattle.model.specs.Refusal.{Room, maxPool, badDirections, badDivisions, badPool, goodPlan, goodPlans, goodIdeal, noRoom, selectRefusal}
+use Rattle.model.specs.Refusal.{Room, badDirections, badDivisions, badPool, goodPlan, goodPlans, goodIdeal, noRoom, selectRefusal}
 use Rattle.model.specs.Calls.{wordRequest}
 use Rattle.list_laws.proofs.Checks.{pool-plan, good-constraints}
 use Rattle.list_laws.proofs.Bools.{by-bool, and-left, and-right, or-right}
@@ -84,6 +86,7 @@ roomed-good m p h s = by-bool (leb (p .constraintCount) maxConstraints)
 
 -- a request of words and a request of a file: what applies to one applies to the other, and where 2 and 8 do not, they are one
 pub record Carried (w r : Request) : Type 0 where
+  pub edition : w .edition ≡ r .edition
   pub two : badDirections (w .marks) ≡ badDirections (r .marks)
   pub size : w .size ≡ r .size
   pub four : badDivisions (objectives w) (w .divisions) ≡ badDivisions (objectives r) (r .divisions)
@@ -93,11 +96,11 @@ pub record Carried (w r : Request) : Type 0 where
 
 pub select-same : (w r : Request) → Carried w r → (room : Room) → selectRefusal w room ≡ selectRefusal r room
 unfolding selectRefusal noRoom
-select-same w r c room = rw (c .eight, c .four, c .two, c .size, c .count)
+select-same w r c room = rw (c .eight, c .four, c .two, c .size, c .count, c .edition)
 
 abbrev asked : List ℕ → ℕ → ℕ → ℕ → (ℕ → Plan) → List Float → ℕ → Request
 asked marks divisions size count plans ideal state =
-    record { marks = marks; divisions = divisions; size = size; count = count; plans = plans; ideal = ideal; state = state }
+    record { edition = First; marks = marks; divisions = divisions; size = size; count = count; plans = plans; ideal = ideal; state = state }
 
 request-same : {m m′ : List ℕ} {h h′ s s′ n n′ g g′ : ℕ} {p p′ : ℕ → Plan} {i i′ : List Float} → m ≡ m′ → h ≡ h′ → s ≡ s′ → n ≡ n′ → p ≡ p′ → i ≡ i′ → g ≡ g′
     → asked m h s n p i g ≡ asked m′ h′ s′ n′ p′ i′ g′
@@ -122,7 +125,7 @@ pool-good r h p l = good-constraints (objectives r) (r .plans p) (pool-plan r h 
 -- the request that the parser's words of k plans form
 abbrev pub stored : Header → List ℕ → List ℕ → ℕ → Request
 stored h directions pool k =
-    wordRequest (take (k * planWords) pool) (take (h .m) directions) (h .divisions) (h .size) (record { s = h .seed })
+    wordRequest First (take (k * planWords) pool) (take (h .m) directions) (h .divisions) (h .size) (record { s = h .seed })
     (replicate (length (take (h .m) directions)) infinity)
 
 -- its marks and divisions are refused as the file's
@@ -139,8 +142,8 @@ module _ (file : List ℕ) (h : Header) (directions pool : List ℕ) (w : Pool f
   pub four-same : badDivisions (length (take (h .m) directions)) (h .divisions) ≡ badDivisions (length (w .values)) (h .divisions)
   four-same = ap (λ (k : ℕ). badDivisions k (h .divisions)) marks-length
 
-module _ (file : List ℕ) (h : Header) (directions pool : List ℕ) (w : Pool file h directions pool) (few : h .m ≤ maxObjectives) (small : h .count ≤ maxPool)
-    (room : maxPool * planWords ≤ length pool) where
+module _ (file : List ℕ) (h : Header) (directions pool : List ℕ) (w : Pool file h directions pool) (few : h .m ≤ maxObjectives) (small : h .count ≤ mostPlans First)
+    (room : mostPlans First * planWords ≤ length pool) where
   abbrev f : PoolFile
   f = fileOf h (w .values) (w .read)
 
@@ -194,6 +197,7 @@ module _ (file : List ℕ) (h : Header) (directions pool : List ℕ) (w : Pool f
       ∙ ap (λ (k : ℕ). goodPlan k (getD (f .plans) p noPlan)) (sym (whole .marks)) in
       let i = ap (λ (k : ℕ). replicate k infinity) objectives-words in
       record {
+        edition = refl;
         two = two-same file h directions pool w few;
         size = refl;
         four = four-same file h directions pool w few;

@@ -45,7 +45,7 @@ choose-demand3 bytes out e f read enough =
 file-listable : (f : PoolFile) (out : ℕ) → fileRefusal f out ≡ none → Listable (f .count) (selected (fileRequest f))
 file-listable f out e =
     let a = admitted (fileRequest f) roomy (file-selects f out e) in
-    selected-listable (fileRequest f) (a .few) (a .fewPlans) (a .someLines) (a .fewLines)
+    selected-listable (fileRequest f) (a .few) (a .ofEdition) (a .someLines) (a .fewLines)
 
 -- THE TEXT DETERMINES THE LIST: whatever selection has the listing that is printed for a file has the file's kept list
 pub text-kept : (f : PoolFile) (out : ℕ) → Whole f → fileRefusal f out ≡ none → f .size ≤ f .count

@@ -8,10 +8,12 @@ use mathlib.Core.Option.{Option, none, some}
 use native.Mathlib.Omega.{arith}
 use lib.ListN.{length}
 use Rattle.model.specs.declared.Chosen.the-variants as chosen
+use Rattle.model.specs.declared.Edition.the-variants.{First}
+use Rattle.model.specs.Edition.{mostPlans}
 use Rattle.model.specs.Plan.{planWords, maxObjectives}
 use Rattle.model.specs.Association.{Request}
 use Rattle.model.specs.PoolFile.{PoolFile, opensSecond, parse, fileRequest, fileText}
-use Rattle.model.specs.Refusal.{maxPool, selectRefusal, formRefusal, refusalOfParsed, fileRefusal, chooseRefusal}
+use Rattle.model.specs.Refusal.{selectRefusal, formRefusal, refusalOfParsed, fileRefusal, chooseRefusal}
 use Rattle.model.specs.Calls.{ChooseExit, chooseBy, textOf, chooseOf, Chooses, chosenRefusedBy, textHandedOut}
 use Rattle.list_laws.proofs.Built.{over-take}
 use Rattle.list_laws.proofs.Bools.{by-option}
@@ -93,9 +95,9 @@ module _ (file directions pool : List ℕ) (a : Answer) (p : PoolIs file directi
       refused 2 (directions-first form (length out) (directions-many (held .values) (omega (arith, parse-whole file form (held .parsed) .marks))))
 
   -- k plans have words: all of them, or none of too many
-  pub chosen-words : h .m ≤ maxObjectives → maxPool * planWords ≤ length pool → (k : ℕ) → (h .count ≤ maxPool → k ≡ h .count) → (maxPool < h .count → k ≡ 0)
+  pub chosen-words : h .m ≤ maxObjectives → mostPlans First * planWords ≤ length pool → (k : ℕ) → (h .count ≤ mostPlans First → k ≡ h .count) → (mostPlans First < h .count → k ≡ 0)
       → (x : ChooseExit) → x ≡ listExit (stored h directions pool k) out → Chooses file out x
-  chosen-words few room k full empty x g = by-parse file out (some form) (held .parsed) x (g ∙ by-lt maxPool (h .count)
+  chosen-words few room k full empty x g = by-parse file out (some form) (held .parsed) x (g ∙ by-lt (mostPlans First) (h .count)
       (λ many. ap (λ (j : ℕ). listExit (stored h directions pool j) out) (empty many)
       ∙ refused-alike (stored h directions pool 0) form out (two-same file h directions pool held few) refl (four-same file h directions pool held few) refl
       (many-plans (h .count) many))

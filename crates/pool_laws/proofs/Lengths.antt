@@ -6,9 +6,11 @@ use mathlib.Core.List.{List}
 use native.Mathlib.Omega.{arith}
 use lib.ListN.{length, getD, length-append}
 use Rattle.model.specs.Lists.{joinBelow}
+use Rattle.model.specs.declared.Edition.the-variants.{First}
+use Rattle.model.specs.Edition.{mostPlans}
 use Rattle.model.specs.Kept.{Selected, noLine}
 use Rattle.model.specs.PoolFile.{lineText, placeOf, headerText, planText, listingText, refusedText}
-use Rattle.model.specs.Refusal.{maxSize, maxPool, maxLines}
+use Rattle.model.specs.Refusal.{maxSize, maxLines}
 use Rattle.model.specs.Calls.{maxText, Listable}
 use Rattle.pool_laws.specs.Text.{fieldsText}
 use Rattle.pool_laws.proofs.Decimals.{decimal-four, line-by}
@@ -18,7 +20,7 @@ use Rattle.pool_laws.proofs.Listing.{header-text, plan-text, refused-te
 line-four : (l : ℕ) → (l ≤ maxLines) ⊎ (l ≡ noLine) → length (lineText l) ≤ 4
 line-four l h = line-by (λ t. length t ≤ 4) l (omega arith) (λ z. decimal-four l (⊎-elim (λ u. omega arith) (λ u. absurd (z u)) h))
 
-header-short : (count kept : ℕ) → count ≤ maxPool → kept ≤ maxSize → length (headerText count kept) ≤ 21
+header-short : (count kept : ℕ) → count ≤ mostPlans First → kept ≤ maxSize → length (headerText count kept) ≤ 21
 header-short count kept h g =
     let a = decimal-four count (omega arith) in
     let b = decimal-four kept (omega arith) in

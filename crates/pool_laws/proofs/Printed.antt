@@ -6,11 +6,13 @@ use mathlib.Core.Logic.{_⊎_, inl, inr}
 use native.Mathlib.Omega.{arith}
 use lib.ListN.{length, getD, getD-replicate}
 use Rattle.model.specs.Lists.{has}
+use Rattle.model.specs.declared.Edition.the-variants.{First}
+use Rattle.model.specs.Edition.{mostPlans}
 use Rattle.model.specs.Front.{front, frontOf, frontList}
 use Rattle.model.specs.Association.{Request, lineCount, dominance, lineOf}
 use Rattle.model.specs.Kept.{selected, selectedSplit, selectedWhole, noLine}
 use Rattle.model.specs.PoolFile.{requestText}
-use Rattle.model.specs.Refusal.{maxSize, maxPool, maxLines}
+use Rattle.model.specs.Refusal.{maxSize, maxLines}
 use Rattle.model.specs.Calls.{maxText, Listable}
 use Rattle.list_laws.proofs.First.{firstBelow-le}
 use Rattle.list_laws.proofs.Built.{listBelow-at}
@@ -24,8 +26,8 @@ front-le d n p h = rw (listBelow-at (frontOf d n) n 0 p h) (firstBelow-le (λ k.
 
 -- ---- the numbers of a selection are small
 
-module _ (r : Request) (size : r .size ≤ maxSize) (count : r .count ≤ maxPool) (some : 0 < lineCount r) (lines : lineCount r ≤ maxLines) where
-  fronts-small : (p : ℕ) → p < r .count → getD (selected r .fronts) p 0 ≤ maxPool
+module _ (r : Request) (size : r .size ≤ maxSize) (count : r .count ≤ mostPlans First) (some : 0 < lineCount r) (lines : lineCount r ≤ maxLines) where
+  fronts-small : (p : ℕ) → p < r .count → getD (selected r .fronts) p 0 ≤ mostPlans First
   fronts-small p h = omega (arith, ap (λ l. getD l p 0) (fronts-all r), front-le (dominance r) (r .count) p h)
 
   lines-small : (p : ℕ) → p < r .count → (getD (selected r .lines) p 0 ≤ maxLines) ⊎ (getD (selected r .lines) p 0 ≡ noLine)

@@ -8,17 +8,19 @@ use borrow.Author.Tests.{lt-ltb, le-ltb}
 use lib.Dec.{ltb}
 use lib.ListN.{length}
 use Rattle.model.specs.declared.Chosen.the-variants as chosen
+use Rattle.model.specs.declared.Edition.the-variants.{First}
+use Rattle.model.specs.Edition.{mostPlans}
 use Rattle.model.specs.Association.{Request, objectives}
 use Rattle.model.specs.PoolFile.{PoolFile, fileRequest, fileText, requestText}
-use Rattle.model.specs.Refusal.{check, firstOf, maxSize, maxPool, badDirections, badSize, badDivisions, badCount, badPool, noRoom, selectRefusal, fileRefusal}
+use Rattle.model.specs.Refusal.{check, firstOf, maxSize, badDirections, badSize, badDivisions, badCount, badPool, noRoom, selectRefusal, fileRefusal}
 use Rattle.list_laws.proofs.Checks.{applies-first}
 use Rattle.demand3_laws.proofs.Passed.{size-limits, count-limits}
 use Rattle.model.specs.Calls.{chooseBy}
 use Rattle.pool_laws.specs.Choice.{exit, textRefusal, textExit, roomy, firstSome, listRefusal, listExit}
 
-enough : (r : Request) → badSize (r .size) ≡ false → badCount (r .count) ≡ false → noRoom r roomy ≡ false
+enough : (r : Request) → badSize (r .size) ≡ false → badCount First (r .count) ≡ false → noRoom r roomy ≡ false
 unfolding noRoom
-enough r a b = rw (le-ltb maxSize (r .size) (size-limits (r .size) a .1), le-ltb maxPool (r .count) (count-limits (r .count) b .1))
+enough r a b = rw (le-ltb maxSize (r .size) (size-limits (r .size) a .1), le-ltb (mostPlans First) (r .count) (count-limits First (r .count) b .1))
 
 abbrev six : Bool → Bool → Bool → Bool → Bool → Bool → Option ℕ
 six a b c d e f = firstOf (check 2 a ∷ check 3 b ∷ check 4 c ∷ check 7 d ∷ check 8 e ∷ check 10 f ∷ [])
@@ -37,7 +39,7 @@ ten-last false false false false false false y f = refl
 pub file-refusal : (f : PoolFile) (out : ℕ) → fileRefusal f out ≡ listRefusal (fileRequest f) out
 unfolding fileRefusal selectRefusal
 file-refusal f out =
-    ten-last (badDirections (f .marks)) (badSize (f .size)) (badDivisions (length (f .marks)) (f .divisions)) (badCount (f .count)) (badPool (fileRequest f))
+    ten-last (badDirections (f .marks)) (badSize (f .size)) (badDivisions (length (f .marks)) (f .divisions)) (badCount First (f .count)) (badPool (fileRequest f))
     (noRoom (fileRequest f) roomy) (ltb out (length (fileText f))) (enough (fileRequest f))
 
 -- so where it is not refused, its request is not
@@ -54,8 +56,8 @@ directions-first f out e = applies-first _ _ e
 
 -- ---- a pool of too many plans is refused as an empty one is
 
-pub many-plans : (n : ℕ) → maxPool < n → badCount n ≡ true
-many-plans n h = rw (lt-ltb maxPool n h, or-true)
+pub many-plans : (n : ℕ) → mostPlans First < n → badCount First n ≡ true
+many-plans n h = rw (lt-ltb (mostPlans First) n h, or-true)
 
 -- where 7 applies, neither a later test nor a text is looked at
 seven-stops : (a b c e f x y : Bool) (o : Option ℕ) (s t out : List ℕ) → chooseBy (firstSome (six a b c true e f) o) s out ≡ chooseBy (six a b c true x y) t out
@@ -66,7 +68,7 @@ seven-stops false false true e f x y o s t out = refl
 seven-stops false false false e f x y o s t out = refl
 
 pub refused-alike : (w : Request) (f : PoolFile) (out : List ℕ) → badDirections (w .marks) ≡ badDirections (f .marks) → badSize (w .size) ≡ badSize (f .size)
-    → badDivisions (objectives w) (w .divisions) ≡ badDivisions (length (f .marks)) (f .divisions) → badCount (w .count) ≡ true → badCount (f .count) ≡ true
+    → badDivisions (objectives w) (w .divisions) ≡ badDivisions (length (f .marks)) (f .divisions) → badCount (w .edition) (w .count) ≡ true → badCount First (f .count) ≡ true
     → listExit w out ≡ chooseBy (fileRefusal f (length out)) (fileText f) out
 unfolding fileRefusal selectRefusal
 refused-alike w f out two three four empty many =

@@ -1,6 +1,6 @@
 -- From a selection's answer to the listing's: there is room for every list that is handed out.
 use Prim.Native.Nat.{ℕ, _≤_}
-use mathlib.Core.Path.{_≡_, ap, sym, _∙_}
+use mathlib.Core.Path.{_≡_, ap, sym, subst, _∙_}
 use mathlib.Core.List.{List}
 use mathlib.Core.Option.{Option, none}
 use native.Mathlib.Omega.{arith}
@@ -9,10 +9,12 @@ use lib.ListN.{length, take, replicate}
 use Rattle.model.specs.declared.Chosen.the-variants as chosen
 use Rattle.model.specs.declared.Outcome.the-variants as outcome
 use Rattle.model.specs.Real.{infinity}
+use Rattle.model.specs.declared.Edition.the-variants.{First}
+use Rattle.model.specs.Edition.{mostPlans}
 use Rattle.model.specs.Plan.{maxObjectives}
 use Rattle.model.specs.Association.{Request}
 use Rattle.model.specs.Kept.{selected}
-use Rattle.model.specs.Refusal.{maxSize, maxPool, selectRefusal}
+use Rattle.model.specs.Refusal.{maxSize, selectRefusal}
 use Rattle.model.specs.Calls.{Lent, roomOf, SelectExit, selectAccepted, selectBy, selectOf, Selects, maxText, refusedBy}
 use Rattle.nsga3_laws.specs.Admitted.{Admitted}
 use Rattle.nsga3_laws.proofs.Admitted.{admitted}
@@ -42,8 +44,8 @@ module _ {r : Request} {entry : Lent} {x : SelectExit} (p : Selects r entry x) (
   pub refused-exit : (n : ℕ) (out : List ℕ) → x .answer .outcome ≡ outcome.Refused n → exit (chosen.Refused n) out ≡ listExit r out
   refused-exit n out h = sym (list-refused r out n (told ∙ ap refusedBy h))
 
-  -- a selection that went through
-  module _ {n : ℕ} (h : x .answer .outcome ≡ outcome.Kept n) where
+  -- a selection of edition 1 that went through
+  module _ (first : r .edition ≡ First) {n : ℕ} (h : x .answer .outcome ≡ outcome.Kept n) where
     accepted : selectRefusal r roomy ≡ none
     accepted = told ∙ ap refusedBy h
 
@@ -66,8 +68,8 @@ module _ {r : Request} {entry : Lent} {x : SelectExit} (p : Selects r entry x) (
     pub few-kept : n ≤ maxSize
     few-kept = omega (arith, limits .few, size)
 
-    pub few-plans : r .count ≤ maxPool
-    few-plans = limits .fewPlans
+    pub few-plans : r .count ≤ mostPlans First
+    few-plans = subst (λ e. r .count ≤ mostPlans e) first (limits .ofEdition)
 
     abbrev text : ℕ → List ℕ
     text count = listingText count (listed (take n (x .slices .kept)) (x .slices .fronts) (x .slices .lines))
@@ -79,7 +81,7 @@ module _ {r : Request} {entry : Lent} {x : SelectExit} (p : Selects r entry x) (
         (ap (λ (t : SelectExit). t .slices .kept) went) (ap (λ (t : SelectExit). t .slices .fronts) went) (ap (λ (t : SelectExit). t .slices .lines) went)
 
     pub text-short : length (text (r .count)) ≤ maxText
-    text-short = let a = limits in rw text-same (selected-short r (a .few) (a .fewPlans) (a .someLines) (a .fewLines))
+    text-short = let a = limits in rw text-same (selected-short r (a .few) few-plans (a .someLines) (a .fewLines))
 
     pub listed-exit : (out : List ℕ) (count : ℕ) → count ≡ r .count → textExit (text count) out ≡ listExit r out
     listed-exit out count e = ap (λ (c : ℕ). textExit (text c) out) e ∙ ap (λ (t : List ℕ). textExit t out) text-same ∙ sym (list-written r out accepted)

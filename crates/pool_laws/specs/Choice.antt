@@ -6,9 +6,11 @@ use mathlib.Core.Option.{Option, none, some}
 use lib.Dec.{ltb}
 use lib.ListN.{length}
 use Rattle.model.specs.declared.Chosen.{Chosen}
+use Rattle.model.specs.declared.Edition.the-variants.{First}
+use Rattle.model.specs.Edition.{mostPlans}
 use Rattle.model.specs.Association.{Request}
 use Rattle.model.specs.PoolFile.{requestText}
-use Rattle.model.specs.Refusal.{Room, maxSize, maxPool, selectRefusal}
+use Rattle.model.specs.Refusal.{Room, maxSize, selectRefusal}
 use Rattle.model.specs.Calls.{ChooseExit, chooseBy}
 
 abbrev pub exit : Chosen → List ℕ → ChooseExit
@@ -21,9 +23,9 @@ textRefusal text out = cond (ltb out (length text)) (some 10) none
 abbrev pub textExit : List ℕ → List ℕ → ChooseExit
 textExit text out = chooseBy (textRefusal text (length out)) text out
 
--- room for every list that a selection hands out
+-- room for every list that a selection of edition 1 hands out
 abbrev pub roomy : Room
-roomy = record { kept = maxSize; rules = maxSize; fronts = maxPool; lines = maxPool }
+roomy = record { kept = maxSize; rules = maxSize; fronts = mostPlans First; lines = mostPlans First }
 
 -- the first of two refusals
 abbrev pub firstSome : Option ℕ → Option ℕ → Option ℕ

@@ -3,7 +3,8 @@ ghost use mathlib.Core.Path.{_≡_};
 ghost use Prim.Native.Nat.{_≤_};
 ghost use lib.ListN.{length};
 ghost use Rattle.model.specs.PoolFile.{listingText};
-ghost use Rattle.model.specs.Refusal.{maxPool};
+ghost use Rattle.model.specs.declared.Edition.the-variants.{First};
+ghost use Rattle.model.specs.Edition.{mostPlans};
 ghost use Rattle.model.specs.Calls.{maxText};
 ghost use Rattle.pool_laws.specs.Text.{listed};
 ghost use Rattle.pool_laws.specs.Choice.{exit, textExit};
@@ -18,7 +19,7 @@ pub fn put_listing(
     lines: &[usize],
     out: &mut [u8],
 ) -> Chosen
-    requires { ⌜ (count ≤ maxPool) × (count ≤ length (now fronts)) × (count ≤ length (now lines)) ⌝ }
+    requires { ⌜ (count ≤ mostPlans First) × (count ≤ length (now fronts)) × (count ≤ length (now lines)) ⌝ }
     requires { ⌜ length (listingText count (listed (now kept) (now fronts) (now lines))) ≤ maxText ⌝ }
     ensures { λ r. ⌜ exit r (now (out .exit))
         ≡ textExit (listingText count (listed (now (kept .entry)) (now (fronts .entry)) (now (lines .entry)))) (now (out .entry)) ⌝ }

@@ -8,7 +8,8 @@ use lib.ListN.{getD, set, take, drop}
 use lib.Seq.{sets}
 use Rattle.model.specs.Plan.{Plan, planFrom, planAt, maxObjectives, maxConstraints, planWords}
 use Rattle.model.specs.PoolFile.{Reader, pure, number, many, rows, measured, noPlan}
-use Rattle.model.specs.Refusal.{maxPool}
+use Rattle.model.specs.declared.Edition.the-variants.{First}
+use Rattle.model.specs.Edition.{mostPlans}
 use Rattle.pool_plans.specs.declared.End.{End}
 use Rattle.pool_plans.specs.declared.End.the-variants as end
 
@@ -60,4 +61,4 @@ BlockIs file at m base before after = ReadsIs (rows m) (λ r. Block base before 
 
 -- if n plans are no more than a pool holds, each stands in its block
 abbrev pub Blocks : ℕ → List ℕ → List Plan → Type 0
-Blocks n after plans = n ≤ maxPool → (p : ℕ) → p < n → planAt after p ≡ roomed (getD plans p noPlan)
+Blocks n after plans = n ≤ mostPlans First → (p : ℕ) → p < n → planAt after p ≡ roomed (getD plans p noPlan)

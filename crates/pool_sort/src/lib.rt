@@ -5,6 +5,7 @@ ghost use lib.Ieee.{Float};
 ghost use lib.ListN.{length};
 ghost use Rattle.model.specs.Plan.{planAt, planCount};
 ghost use Rattle.model.specs.Calls.{wordRequest};
+ghost use Rattle.model.specs.declared.Edition.{Edition};
 ghost use Rattle.model.specs.declared.Rng.{Rng};
 ghost use Rattle.plan_rows.specs.Filled.{GoodPool};
 ghost use Rattle.pool_sort.specs.Laid.{RowsIn, Sorts};
@@ -22,7 +23,7 @@ pub fn sort_pool(
 ) -> Cut
     requires { ⌜ GoodPool (now pool) (now directions) × RowsIn (now directions) (planAt (now pool)) (planCount (now pool)) (now rows)
         × (planCount (now pool) ≤ length (now order)) × (planCount (now pool) ≤ length (now fronts)) ⌝ }
-    ensures { λ r. ⌜ ((h : ℕ) (g : Rng) (i : List Float) → Sorts (wordRequest (now (pool .entry)) (now (directions .entry)) h size g i)
+    ensures { λ r. ⌜ ((e : Edition) (h : ℕ) (g : Rng) (i : List Float) → Sorts (wordRequest e (now (pool .entry)) (now (directions .entry)) h size g i)
         (now (order .exit)) r (now (fronts .entry)) (now (fronts .exit))) ⌝ }
 {
     let n = plans::plan_count(pool);

@@ -1,5 +1,5 @@
 // The text that `choose` prints (document 01, "Pool file"): the listing of a selection, or a refusal's number.
-use model::MAX_POOL;
+use model::MAX_FIRST_POOL;
 use model::NO_LINE;
 use pool_decimal::put_bytes;
 use pool_decimal::put_number;
@@ -7,7 +7,8 @@ ghost use mathlib.Core.Path.{_≡_};
 ghost use Prim.Native.Nat.{_+_, _≤_};
 ghost use lib.ListN.{length};
 ghost use Rattle.model.specs.Lists.{joinBelow, over};
-ghost use Rattle.model.specs.Refusal.{maxPool};
+ghost use Rattle.model.specs.declared.Edition.the-variants.{First};
+ghost use Rattle.model.specs.Edition.{mostPlans};
 ghost use Rattle.model.specs.PoolFile.{lineText, headerText, listingText, refusedText};
 ghost use Rattle.list_laws.specs.Put.{Put};
 ghost use Rattle.pool_laws.specs.Text.{ended, listed, fieldsText, fieldsOf};
@@ -75,13 +76,13 @@ pub fn write_listing(
     lines: &[usize],
     out: &mut [u8],
 ) -> usize
-    requires { ⌜ (count ≤ maxPool) × (count ≤ length (now fronts)) × (count ≤ length (now lines)) ⌝ }
+    requires { ⌜ (count ≤ mostPlans First) × (count ≤ length (now fronts)) × (count ≤ length (now lines)) ⌝ }
     requires { ⌜ length (listingText count (listed (now kept) (now fronts) (now lines))) ≤ length (now out) ⌝ }
     ensures count { λ r. ⌜ r ≡ length (listingText count (listed (now (kept .entry)) (now (fronts .entry)) (now (lines .entry)))) ⌝ }
     ensures text { λ _. ⌜ now (out .exit)
         ≡ over (listingText count (listed (now (kept .entry)) (now (fronts .entry)) (now (lines .entry)))) (now (out .entry)) ⌝ }
 {
-    let mut places = [0; MAX_POOL];
+    let mut places = [0; MAX_FIRST_POOL];
     pool_places::mark_places(kept, &mut places);
     let at = put_header(count, kept.len(), out, 0);
     put_plans(count, fronts, lines, &places, out, at)

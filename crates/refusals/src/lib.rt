@@ -3,6 +3,7 @@ ghost use mathlib.Core.Path.{_≡_};
 ghost use Rattle.model.specs.Calls.{wordRequest};
 ghost use Rattle.model.specs.Refusal.{tooShort, selectRefusal};
 ghost use Rattle.refusals.specs.Checked.{checked};
+use model::Edition;
 use model::Rng;
 
 // Whether a call goes through, or the number of the refusal that it meets.
@@ -36,6 +37,7 @@ pub fn no_room(
 
 // The first refusal that applies to a selection.
 pub fn refusal(
+    edition: Edition,
     pool: &[u64],
     directions: &[u8],
     divisions: usize,
@@ -47,12 +49,12 @@ pub fn refusal(
     fronts: usize,
     lines: usize,
 ) -> Check
-    ensures { λ r. ⌜ checked r ≡ selectRefusal (wordRequest (now (pool .entry)) (now (directions .entry)) divisions size rng (now (ideal .entry)))
+    ensures { λ r. ⌜ checked r ≡ selectRefusal (wordRequest edition (now (pool .entry)) (now (directions .entry)) divisions size rng (now (ideal .entry)))
         (record { kept = kept; rules = rules; fronts = fronts; lines = lines }) ⌝ }
 {
     let n = plans::plan_count(pool);
     let bad_size = plans::bad_size(size);
-    let bad_count = plans::bad_count(n);
+    let bad_count = plans::bad_count(edition, n);
     if plans::bad_directions(directions) {
         return Check::Refused(2);
     }

@@ -301,6 +301,7 @@ fn stepped(
     let s = call.state;
     let dims = step.dims;
     c_calls::generate_offspring(
+        call.edition,
         &pool[..words],
         &marks[..m],
         call.divisions,
@@ -519,7 +520,7 @@ fn step_from(input: &Words, n: usize, at: usize, m: usize, k: usize, out: &mut W
     step_call(input, at, m, k, dims, plans, &pool, out)
 }
 
-// 87: after the marks stand divisions, size, state and the ideal.
+// 87 and 88: after the marks stand divisions, size, state and the ideal.
 fn generate(input: &Words, n: usize, out: &mut Words) -> usize {
     let m = replay::word(input, 2) as usize;
     if 16 < m {
@@ -543,7 +544,7 @@ pub fn answer(input: &Words, n: usize, out: &mut Words) -> usize {
         84 => mutate(input, n, out),
         85 => polynomial(input, n, out),
         86 => tournament(input, n, out),
-        87 => generate(input, n, out),
+        87..=88 => generate(input, n, out),
         _ => 0,
     }
 }

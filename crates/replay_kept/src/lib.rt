@@ -39,6 +39,7 @@ fn selection(
     let d = room.lines;
     let s = call.state;
     c_calls::select(
+        call.edition,
         &pool[..words],
         &marks[..m],
         call.divisions,
@@ -164,7 +165,7 @@ fn answered_short(input: &Words, call: Call, pool: &Pool, marks: &Marks, out: &m
     replay::put(out, 0, replay_values::agreed(first, last))
 }
 
-// 70. The answer to an input line of n numbers; how many numbers it has, 0 for a case passed over.
+// 70 and 71. The answer to an input line of n numbers; how many numbers it has, 0 for a case passed over.
 pub fn answer(input: &Words, n: usize, out: &mut Words) -> usize {
     let m = replay::word(input, 2) as usize;
     if 16 < m {

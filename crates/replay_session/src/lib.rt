@@ -1,14 +1,17 @@
 // The answers to the oracle's lines of sessions, and of an opening alone. A line of sessions is one session: its opening and its calls, each with the history that is handed in; after every call
 // the answer and the state are written.
+use model::Config;
 use model::DimensionInfo;
 use model::Distribution;
 use model::MAX_COME;
 use model::MAX_DIMS;
 use model::MAX_OBJECTIVES;
+use model::MAX_SIZE;
 use model::MAX_WORDS;
 use model::Opened;
 use model::Opening;
 use model::OptionU64;
+use model::PLAN_WORDS;
 use model::Phase;
 use model::Sampled;
 use model::Sampling;
@@ -20,14 +23,19 @@ use session_calls::History;
 use session_calls::NextDims;
 use session_calls::Numbers;
 use session_calls::OVERLONG;
+use session_calls::POOL_WORDS;
+use session_calls::Pool;
 ghost use mathlib.Core.Path.{_≡_};
 ghost use mathlib.Core.Bool.{false};
 ghost use mathlib.Core.List.{List};
-ghost use Prim.Native.Nat.{ℕ, _≤_};
+ghost use Prim.Native.Nat.{ℕ, _≤_, _<_};
 ghost use lib.ListN.{length};
-ghost use Rattle.model.specs.Session.{state, longEnough};
+ghost use Rattle.model.specs.Session.{state, longEnough, maxWords};
 ghost use Rattle.model.specs.Property.{SessionOk};
 ghost use Rattle.session_calls.specs.Usable.{usableBy};
+
+// The plans that a pool has room for here.
+const POOL_PLANS: usize = POOL_WORDS / PLAN_WORDS;
 
 // ---- the calls of `sample`
 
@@ -55,11 +63,11 @@ fn next_sevens(next_dims: &[usize]) -> bool {
     true
 }
 
-// Whether two lists of plan numbers are the same.
-fn same_numbers(a: &Numbers, b: &Numbers) -> bool {
+// Whether words are the same as others, as far as these go.
+fn same_words(a: &[u64], b: &[u64]) -> bool {
     let mut i: usize = 0;
-    while i < MAX_COME {
-        if a[i] != b[i] {
+    while i < a.len() {
+        if i < b.len() && a[i] != b[i] {
             return false;
         }
         i += 1;
@@ -67,8 +75,72 @@ fn same_numbers(a: &Numbers, b: &Numbers) -> bool {
     true
 }
 
-// Slices of their own are lent: candidates and next dimensions each one place short and full of sevens, and the generation's plan numbers. Where any of them
-// is not left as it was, the answer is 99, which is no refusal.
+// A pool's words go to another.
+fn put_words(from: &Pool, to: &mut Pool)
+    ensures { λ r. ⌜ length (now (to .exit)) ≡ length (now (to .entry)) ⌝ }
+{
+    let mut i: usize = 0;
+    while i < POOL_WORDS {
+        to[i] = from[i];
+        i += 1;
+    }
+}
+
+// The words that a session's pool asks room for; those of a size that no session has are more than there are here.
+fn room_of(config: Config) -> usize {
+    let edition = config.edition;
+    let size = config.population_size;
+    if MAX_SIZE < size {
+        return POOL_WORDS + 1;
+    }
+    (editions::waiting_of(edition, size) + size) * PLAN_WORDS
+}
+
+// One word fewer, and not more than there are here.
+fn one_short(config: Config) -> usize
+    ensures { λ r. ⌜ r ≤ 102400 ⌝ }
+{
+    let room = room_of(config);
+    if room < 1 {
+        return 0;
+    }
+    if POOL_WORDS < room {
+        return POOL_WORDS;
+    }
+    room - 1
+}
+
+// A call with candidates that are too short, and of the pool the first words alone.
+fn sampled_of(
+    session: Session,
+    distribution: Distribution,
+    plan: u64,
+    history: &History,
+    n: usize,
+    candidates: &mut [u64],
+    plans: &mut [u64],
+    next_dims: &mut [usize],
+    pool: &mut [u64],
+    words: usize,
+) -> Sampled
+    requires { ⌜ ((cs ps ns pool : List ℕ) → longEnough (state session cs ps ns pool) ≡ false → SessionOk (state session cs ps ns pool)) ⌝ }
+    requires { ⌜ (n ≤ 4097) × (length (now candidates) < maxWords) × (words ≤ length (now pool)) ⌝ }
+{
+    session_calls::sampled(
+        session,
+        distribution,
+        plan,
+        history,
+        n,
+        candidates,
+        plans,
+        next_dims,
+        &mut pool[..words],
+    )
+}
+
+// Slices of their own are lent: candidates and next dimensions each one place short and full of sevens, the generation's plan numbers, and the pool's words but
+// the last that it asks room for. Where any of them is not left as it was, the answer is 99, which is no refusal.
 fn tried_short(
     session: Session,
     distribution: Distribution,
@@ -76,14 +148,18 @@ fn tried_short(
     history: &History,
     n: usize,
     numbers: Numbers,
+    words: &Pool,
 ) -> Sampled
-    requires { ⌜ ((cs ps ns : List ℕ) → longEnough (state session cs ps ns) ≡ false → SessionOk (state session cs ps ns)) ⌝ }
+    requires { ⌜ ((cs ps ns pool : List ℕ) → longEnough (state session cs ps ns pool) ≡ false → SessionOk (state session cs ps ns pool)) ⌝ }
     requires { ⌜ n ≤ 4097 ⌝ }
 {
     let mut candidates = [7u64; MAX_WORDS - 1];
     let mut plans = numbers;
     let mut next_dims = [7usize; MAX_COME - 1];
-    let r = session_calls::sampled(
+    let mut pool = [0u64; POOL_WORDS];
+    put_words(words, &mut pool);
+    let short = one_short(session.config);
+    let r = sampled_of(
         session,
         distribution,
         plan,
@@ -92,8 +168,14 @@ fn tried_short(
         &mut candidates,
         &mut plans,
         &mut next_dims,
+        &mut pool,
+        short,
     );
-    if sevens(&candidates) && next_sevens(&next_dims) && same_numbers(&plans, &numbers) {
+    if sevens(&candidates)
+        && next_sevens(&next_dims)
+        && same_words(&plans, &numbers)
+        && same_words(&pool, words)
+    {
         return r;
     }
     let session = r.session;
@@ -182,6 +264,19 @@ fn put_ideal(out: &mut Words, at: usize, ideal: [f64; MAX_OBJECTIVES], m: usize)
     replay_values::put_reals(out, place, &ideal, m)
 }
 
+// How many plans wait, and the number of each.
+fn put_waiting(out: &mut Words, at: usize, pool: &Pool, n: usize) -> usize {
+    let mut place = replay::put(out, at, n as u64);
+    let mut i: usize = 0;
+    while i < n {
+        if i < POOL_PLANS {
+            place = replay::put(out, place, pool[i * PLAN_WORDS]);
+        }
+        i += 1;
+    }
+    place
+}
+
 // What discovery has found: whether it is over, the first plan, and the dimensions.
 fn put_found(out: &mut Words, at: usize, active: bool, session: Session, n: usize) -> usize {
     let first = session.discovery_trial_id;
@@ -191,7 +286,7 @@ fn put_found(out: &mut Words, at: usize, active: bool, session: Session, n: usiz
     put_dimensions(out, place, dims, n)
 }
 
-// The rest of the state. In discovery the Rust has settled neither the size nor the ideal.
+// The rest of the state. In discovery the Rust has settled neither the size nor the ideal. In edition 2 the plans that wait follow.
 fn put_full(
     out: &mut Words,
     at: usize,
@@ -199,6 +294,7 @@ fn put_full(
     candidates: &Candidates,
     plans: &Numbers,
     next_dims: &NextDims,
+    pool: &Pool,
 ) -> usize {
     let dims = session.dimensions;
     let ideal = session.ideal_point;
@@ -214,7 +310,12 @@ fn put_full(
     let b = replay_values::put_two(out, a, size as u64, n as u64);
     let c = put_plans(out, b, plans, next_dims, n);
     let d = put_candidates(out, c, candidates, progress.n_candidates, dims, n_dims);
-    put_ideal(out, d, ideal, m)
+    let e = put_ideal(out, d, ideal, m);
+    let edition = config.edition;
+    if editions::edition_number(edition) == 2 {
+        return put_waiting(out, e, pool, progress.n_waiting);
+    }
+    e
 }
 
 // The answer of a call: its outcome, then generator, generation and number of plans; with `full` the rest too.
@@ -226,6 +327,7 @@ fn put_answer(
     candidates: &Candidates,
     plans: &Numbers,
     next_dims: &NextDims,
+    pool: &Pool,
 ) -> usize {
     let outcome = r.outcome;
     let session = r.session;
@@ -235,7 +337,7 @@ fn put_answer(
     let b = replay_values::put_two(out, a, rng.s, progress.generation);
     let c = replay::put(out, b, progress.n_plans as u64);
     if full {
-        return put_full(out, c, session, candidates, plans, next_dims);
+        return put_full(out, c, session, candidates, plans, next_dims, pool);
     }
     c
 }
@@ -304,14 +406,15 @@ fn answer_short(
     candidates: &Candidates,
     plans: &Numbers,
     next_dims: &NextDims,
+    pool: &Pool,
     out: &mut Words,
 ) -> usize
-    requires { ⌜ ((cs ps ns : List ℕ) → longEnough (state session cs ps ns) ≡ false → SessionOk (state session cs ps ns)) ⌝ }
+    requires { ⌜ ((cs ps ns pool : List ℕ) → longEnough (state session cs ps ns pool) ≡ false → SessionOk (state session cs ps ns pool)) ⌝ }
     requires { ⌜ asked .held ≤ 4097 ⌝ }
 {
     let d = asked.distribution;
-    let r = tried_short(session, d, asked.plan, history, asked.held, *plans);
-    put_answer(out, put, r, asked.full, candidates, plans, next_dims)
+    let r = tried_short(session, d, asked.plan, history, asked.held, *plans, pool);
+    put_answer(out, put, r, asked.full, candidates, plans, next_dims, pool)
 }
 
 // Makes a call and writes its answer. One that is to be short leaves the session as it was.
@@ -323,11 +426,12 @@ fn answer_call(
     candidates: &mut Candidates,
     plans: &mut Numbers,
     next_dims: &mut NextDims,
+    pool: &mut Pool,
     out: &mut Words,
 ) -> Stand
-    requires { ⌜ SessionOk (state session (now candidates) (now plans) (now «next_dims»)) ⌝ }
+    requires { ⌜ SessionOk (state session (now candidates) (now plans) (now «next_dims») (now pool)) ⌝ }
     requires { ⌜ (asked .held ≤ 4097) × (asked .next ≤ 8193) ⌝ }
-    ensures { λ r. ⌜ SessionOk (state (r .session) (now (candidates .exit)) (now (plans .exit)) (now («next_dims» .exit))) ⌝ }
+    ensures { λ r. ⌜ SessionOk (state (r .session) (now (candidates .exit)) (now (plans .exit)) (now («next_dims» .exit)) (now (pool .exit))) ⌝ }
     ensures { λ r. ⌜ r .next ≤ 8193 ⌝ }
 {
     let next = asked.next;
@@ -340,6 +444,7 @@ fn answer_call(
             candidates,
             plans,
             next_dims,
+            pool,
             out,
         );
         return Stand { session, next, put };
@@ -355,9 +460,10 @@ fn answer_call(
         candidates,
         plans,
         next_dims,
+        pool,
     );
     let session = r.session;
-    let put = put_answer(out, put, r, asked.full, candidates, plans, next_dims);
+    let put = put_answer(out, put, r, asked.full, candidates, plans, next_dims, pool);
     Stand { session, next, put }
 }
 
@@ -396,11 +502,12 @@ fn next_call(
     candidates: &mut Candidates,
     plans: &mut Numbers,
     next_dims: &mut NextDims,
+    pool: &mut Pool,
     out: &mut Words,
 ) -> Stand
-    requires { ⌜ SessionOk (state (stand .session) (now candidates) (now plans) (now «next_dims»)) ⌝ }
+    requires { ⌜ SessionOk (state (stand .session) (now candidates) (now plans) (now «next_dims») (now pool)) ⌝ }
     requires { ⌜ stand .next ≤ 8193 ⌝ }
-    ensures { λ r. ⌜ SessionOk (state (r .session) (now (candidates .exit)) (now (plans .exit)) (now («next_dims» .exit))) ⌝ }
+    ensures { λ r. ⌜ SessionOk (state (r .session) (now (candidates .exit)) (now (plans .exit)) (now («next_dims» .exit)) (now (pool .exit))) ⌝ }
     ensures { λ r. ⌜ r .next ≤ 8193 ⌝ }
 {
     let asked = read_call(input, stand.next, history);
@@ -413,19 +520,21 @@ fn next_call(
         candidates,
         plans,
         next_dims,
+        pool,
         out,
     )
 }
 
 // The calls of a line of n numbers; how many numbers the answer has.
 fn calls(input: &Words, n: usize, at: usize, count: u64, session: Session, out: &mut Words) -> usize
-    requires { ⌜ ((cs ps ns : List ℕ) → SessionOk (state session cs ps ns)) ⌝ }
+    requires { ⌜ ((cs ps ns pool : List ℕ) → SessionOk (state session cs ps ns pool)) ⌝ }
     requires { ⌜ at ≤ 8193 ⌝ }
 {
     let mut history = [0u64; OVERLONG];
     let mut candidates = [0u64; MAX_WORDS];
     let mut plans = [0u64; MAX_COME];
     let mut next_dims = [0usize; MAX_COME];
+    let mut pool = [0u64; POOL_WORDS];
     let put = replay::put(out, 0, 0);
     let mut stand = Stand {
         session,
@@ -441,6 +550,7 @@ fn calls(input: &Words, n: usize, at: usize, count: u64, session: Session, out: 
             &mut candidates,
             &mut plans,
             &mut next_dims,
+            &mut pool,
             out,
         );
         i += 1;
@@ -455,16 +565,18 @@ fn calls(input: &Words, n: usize, at: usize, count: u64, session: Session, out: 
 
 // What an opening is given beside marks, size and divisions.
 struct Given {
+    edition: u64,
     probability: f64,
     crossover_eta: f64,
     mutation_eta: f64,
     seed: u64,
 }
 
-fn given_at(input: &Words, at: usize) -> Given
+fn given_at(input: &Words, at: usize, edition: u64) -> Given
     requires { ⌜ at ≤ 8193 ⌝ }
 {
     Given {
+        edition,
         probability: replay_values::real_at(input, at),
         crossover_eta: replay_values::real_at(input, at + 1),
         mutation_eta: replay_values::real_at(input, at + 2),
@@ -480,6 +592,7 @@ fn opened(input: &Words, at: usize, marks: &[u8], m: usize, given: Given) -> Ope
     let size = replay_values::option_at(input, at);
     let divisions = replay_values::option_at(input, at + 2);
     session_calls::opened(
+        given.edition,
         &marks[..m],
         given.seed,
         size,
@@ -497,7 +610,16 @@ fn opened_by(input: &Words, at: usize, marks: &Marks, m: usize, given: Given) ->
     opened(input, at, marks, m, given)
 }
 
-// An opening and what follows it; an opening that is to be short, which `open` cannot be, is passed over where nothing else refuses it.
+// A line that is passed over where its opening is ready: its opening is to be short, which `open` cannot be, or its session's pool asks for more room than there
+// is here.
+fn passed_over(input: &Words, config: Config) -> bool {
+    if replay::word(input, 1) == 1 {
+        return true;
+    }
+    POOL_WORDS < room_of(config)
+}
+
+// An opening and what follows it.
 fn follow(input: &Words, n: usize, at: usize, opened: Opened, out: &mut Words) -> usize
     requires { ⌜ at ≤ 19 ⌝ }
     requires { ⌜ usableBy (opened .outcome) (opened .session) ⌝ }
@@ -507,7 +629,7 @@ fn follow(input: &Words, n: usize, at: usize, opened: Opened, out: &mut Words) -
     match outcome {
         Opening::Refused(number) => replay::put(out, 0, number as u64),
         Opening::Ready => {
-            if replay::word(input, 1) == 1 {
+            if passed_over(input, session.config) {
                 return 0;
             }
             let count = replay::word(input, at + 8);
@@ -516,7 +638,15 @@ fn follow(input: &Words, n: usize, at: usize, opened: Opened, out: &mut Words) -
     }
 }
 
-// 90
+// The edition of a session's line.
+fn edition_of(command: u64) -> u64 {
+    match command {
+        91 => 2,
+        _ => 1,
+    }
+}
+
+// 90 and 91
 fn session(input: &Words, n: usize, out: &mut Words) -> usize {
     let m = replay::word(input, 2) as usize;
     if 16 < m {
@@ -524,7 +654,8 @@ fn session(input: &Words, n: usize, out: &mut Words) -> usize {
     }
     let mut marks = [0u8; 16];
     replay_values::read_marks(input, 3, m, &mut marks);
-    let opened = opened_by(input, m + 3, &marks, m, given_at(input, m + 7));
+    let edition = edition_of(replay::word(input, 0));
+    let opened = opened_by(input, m + 3, &marks, m, given_at(input, m + 7, edition));
     follow(input, n, m + 3, opened, out)
 }
 
@@ -556,6 +687,7 @@ fn population(input: &Words, n: usize, out: &mut Words) -> usize {
     let mut marks = [0u8; 16];
     replay_values::read_marks(input, 2, m, &mut marks);
     let given = Given {
+        edition: 1,
         probability: 1.0,
         crossover_eta: 30.0,
         mutation_eta: 20.0,

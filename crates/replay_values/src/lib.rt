@@ -7,8 +7,8 @@ use model::FloatDistribution;
 use model::IntDistribution;
 use model::MAX_CONSTRAINTS;
 use model::MAX_DIMS;
+use model::MAX_FIRST_POOL;
 use model::MAX_OBJECTIVES;
-use model::MAX_POOL;
 use model::MAX_ROW_VALUES;
 use model::MAX_SETTINGS;
 use model::MAX_SIZE;
@@ -37,8 +37,8 @@ pub type Rows = [f64; MAX_ROW_VALUES];
 
 pub type Table = [f64; MAX_TABLE_VALUES];
 
-// The words of 1,025 plans, one plan more than is accepted, and a number for each.
-pub const OVERFULL: usize = (MAX_POOL + 1) * PLAN_WORDS;
+// The words of 1,025 plans, one plan more than is accepted in edition 1, and a number for each.
+pub const OVERFULL: usize = (MAX_FIRST_POOL + 1) * PLAN_WORDS;
 
 pub type Pool = [u64; OVERFULL];
 
@@ -448,10 +448,11 @@ pub fn put_candidates(
     place
 }
 
-// ---- the calls on a pool, 70 and 87
+// ---- the calls on a pool: 70 and 87 of edition 1, 71 and 88 of edition 2
 
-// What their lines begin with, but for marks and ideal: the numbers after the marks, how long the ideal is, and how many plans follow.
+// What their lines begin with, but for marks and ideal: the edition, the numbers after the marks, how long the ideal is, and how many plans follow.
 pub struct Call {
+    pub edition: u64,
     pub m: usize,
     pub divisions: usize,
     pub size: usize,
@@ -460,11 +461,19 @@ pub struct Call {
     pub plans: usize,
 }
 
+fn edition_of(command: u64) -> u64 {
+    match command {
+        71 | 88 => 2,
+        _ => 1,
+    }
+}
+
 pub fn call_of(input: &Words, m: usize, ideal: usize, plans: usize) -> Call
     requires { ⌜ m ≤ 16 ⌝ }
     ensures { λ r. ⌜ (r .m ≡ m) × (r .ideal ≡ ideal) × (r .plans ≡ plans) ⌝ }
 {
     Call {
+        edition: edition_of(replay::word(input, 0)),
         m,
         divisions: replay::word(input, m + 3) as usize,
         size: replay::word(input, m + 4) as usize,

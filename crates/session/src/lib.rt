@@ -12,6 +12,7 @@ ghost use Rattle.model.specs.Property.{SessionOk};
 ghost use Rattle.model.specs.declared.Distribution.{Distribution};
 ghost use Rattle.session_steps.specs.Exits.{exit};
 use model::Distribution;
+use model::PLAN_WORDS;
 use model::Phase;
 use model::Sampled;
 use model::Session;
@@ -27,8 +28,8 @@ fn sample_discovering(
     long: bool,
 ) -> Sampled
     requires { ⌜ (addsFor (session .phase) (session .«discovery_trial_id») plan ≡ true) × (session .progress .«n_plans» ≡ 0) ⌝ }
-    ensures { λ r. ⌜ ((cs ps ns : List ℕ) → longEnough (state session cs ps ns) ≡ long
-        → exit r cs ps ns ≡ sampleOf (state session cs ps ns) distribution plan (now (history .entry))) ⌝ }
+    ensures { λ r. ⌜ ((cs ps ns pool : List ℕ) → longEnough (state session cs ps ns pool) ≡ long
+        → exit r cs ps ns pool ≡ sampleOf (state session cs ps ns pool) distribution plan (now (history .entry))) ⌝ }
 {
     let progress = session.progress;
     let n = progress.n_dims;
@@ -47,11 +48,11 @@ fn sample_discovering(
 // ---- a call that is lent a slice too short
 
 // The number of a call that adds no dimension.
-fn short_refusal(session: Session, history: &[u64], plans: &[u64]) -> u8
-    requires { ⌜ SessionOk (state session [] (now plans) []) × (badHistory (now history) ≡ false) ⌝ }
-    ensures { λ r. ⌜ ((cs ns : List ℕ) (d : Distribution) (plan : ℕ) → discovers (state session cs (now (plans .entry)) ns) plan ≡ false
-        → longEnough (state session cs (now (plans .entry)) ns) ≡ false
-        → sampleRefusal (state session cs (now (plans .entry)) ns) d plan (now (history .entry)) ≡ some r) ⌝ }
+fn short_refusal(session: Session, history: &[u64], plans: &[u64], pool: &[u64]) -> u8
+    requires { ⌜ SessionOk (state session [] [] [] []) × (badHistory (now history) ≡ false) ⌝ }
+    ensures { λ r. ⌜ ((cs ns : List ℕ) (d : Distribution) (plan : ℕ) → discovers (state session cs (now (plans .entry)) ns (now (pool .entry))) plan ≡ false
+        → longEnough (state session cs (now (plans .entry)) ns (now (pool .entry))) ≡ false
+        → sampleRefusal (state session cs (now (plans .entry)) ns (now (pool .entry))) d plan (now (history .entry)) ≡ some r) ⌝ }
 {
     let config = session.config;
     let size = config.population_size;
@@ -61,8 +62,12 @@ fn short_refusal(session: Session, history: &[u64], plans: &[u64]) -> u8
     let Phase::Active = phase else {
         return 10;
     };
+    let n_waiting = progress.n_waiting;
+    if pool.len() < n_waiting * PLAN_WORDS {
+        return 10;
+    }
     if session_records::evaluated(history, plans, n, size) {
-        return session_breeding::bred_refusal(session, history, plans);
+        return session_breeding::bred_refusal(session, history, plans, pool);
     }
     10
 }
@@ -78,14 +83,22 @@ fn answered(
     candidates: &mut [u64],
     plans: &mut [u64],
     next_dims: &mut [usize],
+    pool: &mut [u64],
 ) -> Sampled
-    requires { ⌜ SessionOk (state session (now candidates) (now plans) (now «next_dims»)) ⌝ }
-    ensures { λ r. ⌜ exit r (now (candidates .exit)) (now (plans .exit)) (now («next_dims» .exit))
-        ≡ sampleOf (state session (now (candidates .entry)) (now (plans .entry)) (now («next_dims» .entry))) distribution plan (now (history .entry)) ⌝ }
+    requires { ⌜ SessionOk (state session (now candidates) (now plans) (now «next_dims») (now pool)) ⌝ }
+    ensures { λ r. ⌜ exit r (now (candidates .exit)) (now (plans .exit)) (now («next_dims» .exit)) (now (pool .exit))
+        ≡ sampleOf (state session (now (candidates .entry)) (now (plans .entry)) (now («next_dims» .entry)) (now (pool .entry))) distribution plan (now (history .entry)) ⌝ }
 {
     let phase = session.phase;
     let first = session.discovery_trial_id;
-    let long = session_records::long_enough(candidates.len(), plans.len(), next_dims.len());
+    let config = session.config;
+    let long = session_records::long_enough(
+        config,
+        candidates.len(),
+        plans.len(),
+        next_dims.len(),
+        pool.len(),
+    );
     if session_records::discovers(phase, first, plan) {
         return sample_discovering(session, distribution, plan, history, long);
     }
@@ -101,6 +114,7 @@ fn answered(
                 candidates,
                 plans,
                 next_dims,
+                pool,
             ),
             Phase::Active => session_active::sample_active(
                 session,
@@ -109,10 +123,11 @@ fn answered(
                 candidates,
                 plans,
                 next_dims,
+                pool,
             ),
         };
     }
-    let number = short_refusal(session, history, plans);
+    let number = short_refusal(session, history, plans, pool);
     session_active::refused(session, number)
 }
 
@@ -126,10 +141,11 @@ pub fn sample(
     candidates: &mut [u64],
     plans: &mut [u64],
     next_dims: &mut [usize],
+    pool: &mut [u64],
 ) -> Sampled
-    requires { ⌜ SessionOk (state session (now candidates) (now plans) (now «next_dims»)) ⌝ }
-    ensures { λ r. ⌜ Samples (state session (now (candidates .entry)) (now (plans .entry)) (now («next_dims» .entry))) distribution plan (now (history .entry))
-        (record { answer = r .outcome; after = state (r .session) (now (candidates .exit)) (now (plans .exit)) (now («next_dims» .exit)) }) ⌝ }
+    requires { ⌜ SessionOk (state session (now candidates) (now plans) (now «next_dims») (now pool)) ⌝ }
+    ensures { λ r. ⌜ Samples (state session (now (candidates .entry)) (now (plans .entry)) (now («next_dims» .entry)) (now (pool .entry))) distribution plan (now (history .entry))
+        (record { answer = r .outcome; after = state (r .session) (now (candidates .exit)) (now (plans .exit)) (now («next_dims» .exit)) (now (pool .exit)) }) ⌝ }
 {
     answered(
         session,
@@ -139,5 +155,6 @@ pub fn sample(
         candidates,
         plans,
         next_dims,
+        pool,
     )
 }

@@ -1,27 +1,28 @@
 -- The ways of a call: what it meets, and what it leaves.
-use Prim.Native.Nat.{ℕ, _≤_}
+use Prim.Native.Nat.{ℕ, _*_, _≤_, _<_}
 use mathlib.Core.Path.{_≡_, refl, sym, ap, _∙_, subst}
-use mathlib.Core.Bool.{Bool, true, false, _&&_}
+use mathlib.Core.Bool.{Bool, true, false}
 use mathlib.Core.List.{List, [], _∷_}
 use mathlib.Core.Option.{Option, none, some}
-use lib.Dec.{leb}
 use lib.Ieee.{Float}
 use lib.ListN.{length}
-use Rattle.list_laws.proofs.Bools.{and-right, and-not-left, and-not, and-no}
+use Rattle.list_laws.proofs.Bools.{and-not-left, and-not, and-no, past}
+use borrow.Author.Tests.{le-leb, lt-leb}
 use Rattle.model.specs.declared.Distribution.{Distribution}
 use Rattle.model.specs.declared.Phase.the-variants.{Discovery, Active}
 use Rattle.model.specs.declared.Sampled.{Sampled}
 use Rattle.model.specs.declared.Session.{Session}
-use Rattle.model.specs.Session.{State, Answered, state, dimensionOf, renewed, discovers, discover, activate, breed, breeds, isActive, pastDiscovery, addsFor, longEnough, roomFor, evaluated, allStand, accepted, sampleFromCandidate, maxCome, maxWords}
+use Rattle.model.specs.Session.{State, Answered, state, dimensionOf, renewed, discovers, discover, activate, breed, breeds, isActive, pastDiscovery, addsFor, longEnough, roomFor, evaluated, allStand, accepted, sampleFromCandidate, waitingCount}
+use Rattle.model.specs.Plan.{planWords}
 use Rattle.model.specs.Refusal.{check, sampleRefusal, badDimensions, badHistory}
 use Rattle.model.specs.Calls.{SampleExit, sampleBy, sampleOf, settled}
 use Rattle.model.specs.Property.{SessionOk}
 use Rattle.session_laws.specs.Refused.{shortRefusal}
-use Rattle.session_laws.proofs.Request.{bred-checks-same, breeds-active, active-good, short-refusal}
+use Rattle.session_laws.proofs.Request.{breeding, bred-checks-same, breeds-active, active-good, short-refusal}
 use Rattle.session_laws.proofs.Steps.{short-ok, phase-ok}
 use Rattle.session_laws.proofs.Sample.{discovery-phase}
 use Rattle.session_steps.specs.Exits.{exit, Ready}
-use Rattle.session_breeding.specs.Breeding.{BredExit, bredExit, bredTo, breedBy}
+use Rattle.session_breeding.specs.Breeding.{Gatherable, BredExit, bredExit, bredTo, breedBy}
 use Rattle.session_active.specs.Exits.{refusedWith}
 
 module _ (st : State) (d : Distribution) (plan : ℕ) (history : List ℕ) where
@@ -29,11 +30,11 @@ module _ (st : State) (d : Distribution) (plan : ℕ) (history : List ℕ) where
   refusal = sampleRefusal st d plan history
 
   -- refused, with all as it was
-  pub leaves-refused : (n : ℕ) (u : Session) (after : List ℕ) (r : Sampled) → r ≡ refusedWith n u → state u after (st .plans) (st .nextDims) ≡ st → refusal ≡ some n
-      → exit r after (st .plans) (st .nextDims) ≡ sampleOf st d plan history
+  pub leaves-refused : (n : ℕ) (u : Session) (after pool : List ℕ) (r : Sampled) → r ≡ refusedWith n u → state u after (st .plans) (st .nextDims) pool ≡ st → refusal ≡ some n
+      → exit r after (st .plans) (st .nextDims) pool ≡ sampleOf st d plan history
   unfolding sampleOf
-  leaves-refused n u after r h f e =
-      ap (λ (x : Sampled). exit x after (st .plans) (st .nextDims)) h ∙ ap (λ (x : State). record { answer = refusedWith n u .outcome; after = x }) f
+  leaves-refused n u after pool r h f e =
+      ap (λ (x : Sampled). exit x after (st .plans) (st .nextDims) pool) h ∙ ap (λ (x : State). record { answer = refusedWith n u .outcome; after = x }) f
       ∙ ap (λ (o : Option ℕ). sampleBy o st (accepted st d plan history)) (sym e)
 
   pub leaves-accepted : (x : SampleExit) (a : Answered) → x ≡ settled a → refusal ≡ none → a ≡ accepted st d plan history → x ≡ sampleOf st d plan history
@@ -67,7 +68,7 @@ module _ (st : State) (d : Distribution) (plan : ℕ) (history : List ℕ) where
   -- ---- a slice is too short
 
   pub short-bred : (n : ℕ) → breeds st history ≡ true → longEnough st ≡ false → badHistory history ≡ false
-      → shortRefusal (state (st .session) [] (st .plans) []) history ≡ some n → refusal ≡ some n
+      → shortRefusal (state (st .session) [] (st .plans) [] (st .pool)) history ≡ some n → refusal ≡ some n
   short-bred n b l few e = short-refusal st d plan history (active-good st plan _ (breeds-active st history b)) few b l ∙ bred-checks-same st [] [] history (check 10 true ∷ []) ∙ e
 
 -- ---- tests of the state, as code makes them
@@ -93,34 +94,36 @@ module _ (st : State) (history : List ℕ) where
   pub adds-unbred : (plan : ℕ) → addsFor (st .session .phase) (st .session .«discovery_trial_id») plan ≡ true → breeds st history ≡ false
   adds-unbred plan e = first-unbred (and-not-left (isActive (st .session)) _ e)
 
-  pub evaluated-by : (r b : Bool) → r ≡ allStand history (st .plans) (st .session .progress .«n_plans») (st .session .config .«population_size») → r ≡ b
-      → evaluated st history ≡ b
-  unfolding evaluated
-  evaluated-by r b e f = sym e ∙ f
-
-  pub breeds-by : (r b : Bool) → isActive (st .session) ≡ true
+  pub breeds-by : (r b : Bool) → isActive (st .session) ≡ true → waitingCount st * planWords ≤ length (st .pool)
       → r ≡ allStand history (st .plans) (st .session .progress .«n_plans») (st .session .config .«population_size») → r ≡ b → breeds st history ≡ b
-  unfolding breeds
-  breeds-by r b a e f = ap (λ (x : Bool). x && evaluated st history) a ∙ evaluated-by r b e f
-
-  pub evaluated-without : breeds st history ≡ true → evaluated (state (st .session) (st .candidates) (st .plans) []) history ≡ true
   unfolding breeds evaluated
-  evaluated-without e = and-right (isActive (st .session)) _ e
+  breeds-by r b a w e f = past a (past (le-leb (waitingCount st * planWords) (length (st .pool)) w) (sym e ∙ f))
+
+  -- a pool too short to hold those that wait shows none of them
+  pub breeds-not : length (st .pool) < waitingCount st * planWords → breeds st history ≡ false
+  unfolding breeds
+  breeds-not h = and-no (isActive (st .session)) _ (and-not _ _ (lt-leb (waitingCount st * planWords) (length (st .pool)) h))
 
 module _ (st : State) where
-  pub long-by : (b : Bool) → b ≡ roomFor (length (st .candidates)) (length (st .plans)) (length (st .nextDims)) → longEnough st ≡ b
+  pub long-by : (b : Bool) → b ≡ roomFor (st .session .config) (length (st .candidates)) (length (st .plans)) (length (st .nextDims)) (length (st .pool)) → longEnough st ≡ b
   unfolding longEnough
   long-by b e = sym e
 
   -- ---- the property
 
-  no-next : (xs : List ℕ) → longEnough (state (st .session) xs (st .plans) []) ≡ false
+  none-lent : longEnough (state (st .session) [] [] [] []) ≡ false
   unfolding longEnough
-  no-next xs = and-no (leb maxWords (length xs)) _ (and-no (leb maxCome (length (st .plans))) _ refl)
+  none-lent = refl
 
-  -- where no next dimensions are lent, the property asks nothing of the slices
-  pub without-next : (xs : List ℕ) → SessionOk st → SessionOk (state (st .session) xs (st .plans) [])
-  without-next xs ok = short-ok (st .session) (st .candidates) (st .plans) (st .nextDims) xs (st .plans) [] ok (no-next xs)
+  -- where nothing is lent, the property asks nothing of the slices
+  pub without-slices : SessionOk st → SessionOk (state (st .session) [] [] [] [])
+  without-slices ok = short-ok (st .session) (st .candidates) (st .plans) (st .nextDims) (st .pool) [] [] [] [] ok none-lent
+
+  -- a call that breeds can gather the plans that it breeds from
+  pub gatherable : (history : List ℕ) → SessionOk (state (st .session) [] [] [] []) → breeds st history ≡ true → Gatherable (st .session) history (st .plans) (st .pool)
+  gatherable history ok b =
+      let e = breeding st history b in
+      record { ok = ok; waits = e .pool; held = e .held; stand = e .stand }
 
   pub ready-active : SessionOk st → st .session .phase ≡ Active → Ready (st .session)
   ready-active ok e =
@@ -129,20 +132,20 @@ module _ (st : State) where
 
   -- ---- a new generation: it can be drawn from, and no plan of it has come
 
-  renewed-ready : (u : Session) (g : ℕ) (ideal : List Float) (number : ℕ) → badDimensions (dimensionOf (st .session)) (st .session .progress .«n_dims») ≡ false
-      → 1 ≤ st .session .progress .«n_dims» → u ≡ renewed (st .session) g ideal number → Ready u × (u .progress .«n_plans» ≡ 0)
-  renewed-ready u g ideal number dims h e =
+  renewed-ready : (u : Session) (g : ℕ) (ideal : List Float) (waits number : ℕ) → badDimensions (dimensionOf (st .session)) (st .session .progress .«n_dims») ≡ false
+      → 1 ≤ st .session .progress .«n_dims» → u ≡ renewed (st .session) g ideal waits number → Ready u × (u .progress .«n_plans» ≡ 0)
+  renewed-ready u g ideal waits number dims h e =
       (subst Ready (sym e) (record { dims = dims; some = h }), ap (λ (x : Session). x .progress .«n_plans») e)
 
-  pub ready-first : (u : Session) (after : List ℕ) → SessionOk st → 1 ≤ st .session .progress .«n_dims» → state u after (st .plans) (st .nextDims) ≡ activate st
+  pub ready-first : (u : Session) (after : List ℕ) → SessionOk st → 1 ≤ st .session .progress .«n_dims» → state u after (st .plans) (st .nextDims) (st .pool) ≡ activate st
       → Ready u × (u .progress .«n_plans» ≡ 0)
   unfolding activate
-  ready-first u after ok h e = renewed-ready u _ _ _ (ok .dimensions) h (ap (λ (x : State). x .session) e)
+  ready-first u after ok h e = renewed-ready u _ _ _ _ (ok .dimensions) h (ap (λ (x : State). x .session) e)
 
-  pub ready-bred : (history : List ℕ) (u : Session) (after : List ℕ) → Ready (st .session) → state u after (st .plans) (st .nextDims) ≡ breed st history
+  pub ready-bred : (history : List ℕ) (u : Session) (after pool : List ℕ) → Ready (st .session) → state u after (st .plans) (st .nextDims) pool ≡ breed st history
       → Ready u × (u .progress .«n_plans» ≡ 0)
   unfolding breed
-  ready-bred history u after r e = renewed-ready u _ _ _ (r .dims) (r .some) (ap (λ (x : State). x .session) e)
+  ready-bred history u after pool r e = renewed-ready u _ _ _ _ (r .dims) (r .some) (ap (λ (x : State). x .session) e)
 
 -- what breeding's answer tells: its refusal, and the state after it
 pub breed-tells : (st : State) (history : List ℕ) (o p q : Option ℕ) (x : State) → bredExit q x ≡ breedBy o st history → q ≡ p → (o ≡ p) × (x ≡ bredTo p st history)

@@ -7,7 +7,7 @@ ghost use Rattle.model.specs.declared.Phase.the-variants as phase;
 ghost use Rattle.session_steps.specs.Exits.{exit};
 ghost use Rattle.session_active.specs.Exits.{refusedWith, Called, Answers};
 use model::Outcome;
-use model::POOL_WORDS;
+use model::SIZE_WORDS;
 use model::Sampled;
 use model::Sampling;
 use model::Session;
@@ -28,14 +28,15 @@ fn sample_bred(
     candidates: &mut [u64],
     plans: &mut [u64],
     next_dims: &mut [usize],
+    pool: &mut [u64],
 ) -> Sampled
-    requires { ⌜ Called (state session (now candidates) (now plans) (now «next_dims»)) (now history)
-        × (breeds (state session (now candidates) (now plans) (now «next_dims»)) (now history) ≡ true) ⌝ }
-    ensures { λ r. ⌜ Answers (exit r (now (candidates .exit)) (now (plans .exit)) (now («next_dims» .exit)))
-        (state session (now (candidates .entry)) (now (plans .entry)) (now («next_dims» .entry))) plan (now (history .entry)) ⌝ }
+    requires { ⌜ Called (state session (now candidates) (now plans) (now «next_dims») (now pool)) (now history)
+        × (breeds (state session (now candidates) (now plans) (now «next_dims») (now pool)) (now history) ≡ true) ⌝ }
+    ensures { λ r. ⌜ Answers (exit r (now (candidates .exit)) (now (plans .exit)) (now («next_dims» .exit)) (now (pool .exit)))
+        (state session (now (candidates .entry)) (now (plans .entry)) (now («next_dims» .entry)) (now (pool .entry))) plan (now (history .entry)) ⌝ }
 {
-    let mut pool = [0u64; POOL_WORDS];
-    let bred = session_breeding::breed(session, history, plans, &mut pool, candidates);
+    let mut room = [0u64; SIZE_WORDS];
+    let bred = session_breeding::breed(session, history, plans, &mut room, pool, candidates);
     let outcome = bred.outcome;
     let session = bred.session;
     match outcome {
@@ -54,17 +55,18 @@ pub fn sample_active(
     candidates: &mut [u64],
     plans: &mut [u64],
     next_dims: &mut [usize],
+    pool: &mut [u64],
 ) -> Sampled
-    requires { ⌜ Called (state session (now candidates) (now plans) (now «next_dims»)) (now history) × (session .phase ≡ phase.Active) ⌝ }
-    ensures { λ r. ⌜ Answers (exit r (now (candidates .exit)) (now (plans .exit)) (now («next_dims» .exit)))
-        (state session (now (candidates .entry)) (now (plans .entry)) (now («next_dims» .entry))) plan (now (history .entry)) ⌝ }
+    requires { ⌜ Called (state session (now candidates) (now plans) (now «next_dims») (now pool)) (now history) × (session .phase ≡ phase.Active) ⌝ }
+    ensures { λ r. ⌜ Answers (exit r (now (candidates .exit)) (now (plans .exit)) (now («next_dims» .exit)) (now (pool .exit)))
+        (state session (now (candidates .entry)) (now (plans .entry)) (now («next_dims» .entry)) (now (pool .entry))) plan (now (history .entry)) ⌝ }
 {
     let config = session.config;
     let size = config.population_size;
     let progress = session.progress;
     let n = progress.n_plans;
     if session_records::evaluated(history, plans, n, size) {
-        return sample_bred(session, plan, history, candidates, plans, next_dims);
+        return sample_bred(session, plan, history, candidates, plans, next_dims, pool);
     }
     if session_records::full(plans, n, plan) {
         return refused(session, 11);
@@ -80,11 +82,12 @@ pub fn sample_first(
     candidates: &mut [u64],
     plans: &mut [u64],
     next_dims: &mut [usize],
+    pool: &[u64],
 ) -> Sampled
-    requires { ⌜ Called (state session (now candidates) (now plans) (now «next_dims»)) (now history) × (session .phase ≡ phase.Discovery)
+    requires { ⌜ Called (state session (now candidates) (now plans) (now «next_dims») (now pool)) (now history) × (session .phase ≡ phase.Discovery)
         × (discoversFor (session .«discovery_trial_id») plan ≡ false) ⌝ }
-    ensures { λ r. ⌜ Answers (exit r (now (candidates .exit)) (now (plans .exit)) (now («next_dims» .exit)))
-        (state session (now (candidates .entry)) (now (plans .entry)) (now («next_dims» .entry))) plan (now (history .entry)) ⌝ }
+    ensures { λ r. ⌜ Answers (exit r (now (candidates .exit)) (now (plans .exit)) (now («next_dims» .exit)) (now (pool .entry)))
+        (state session (now (candidates .entry)) (now (plans .entry)) (now («next_dims» .entry)) (now (pool .entry))) plan (now (history .entry)) ⌝ }
 {
     let session = session_steps::activate(session, candidates);
     session_steps::sample_from_candidate(session, plan, candidates, plans, next_dims)

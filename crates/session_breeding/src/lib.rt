@@ -1,26 +1,27 @@
-// A session's breeding (document 01, "Session"; Rust: sampler/nsga3.rs): the public generation step on the plans bred from. All functions are internal.
+// A session's breeding (documents 01, "Session", and 02, M-100; Rust: sampler/nsga3.rs): the generation step on the plans that wait and the children behind
+// them. All functions are internal.
 ghost use mathlib.Core.Path.{_≡_};
-ghost use mathlib.Core.Bool.{true};
 ghost use mathlib.Core.List.{List, []};
-ghost use mathlib.Core.Option.{some};
+ghost use mathlib.Core.Option.{none, some};
 ghost use Prim.Native.Nat.{ℕ, _*_, _≤_};
-ghost use lib.ListN.{length};
-ghost use Rattle.model.specs.Session.{state, evaluated, bredSession, operatorsOf, maxCome, maxWords};
+ghost use lib.ListN.{length, take};
+ghost use Rattle.model.specs.Edition.{waitingOf};
+ghost use Rattle.model.specs.Lists.{over};
+ghost use Rattle.model.specs.Session.{state, bredSession, operatorsOf, keptWords, maxWords, poolRoom};
 ghost use Rattle.model.specs.Setting.{operatorsIn};
 ghost use Rattle.model.specs.Plan.{planWords};
-ghost use Rattle.model.specs.Refusal.{maxPool};
-ghost use Rattle.model.specs.Calls.{refusedBy};
-ghost use Rattle.model.specs.Property.{SessionOk};
+ghost use Rattle.model.specs.Refusal.{stepRefusal, maxSize};
+ghost use Rattle.model.specs.Calls.{refusedBy, roomOf};
 ghost use Rattle.session_laws.specs.Refused.{shortRefusal};
-ghost use Rattle.session_breeding.specs.Breeding.{stepped, stepOn, bredExit, breedOf};
+ghost use Rattle.session_breeding.specs.Breeding.{stepped, stepRequest, stepOn, lentWith, Poised, Keeping, Gatherable, bredOn, bredExit, breedOf};
+use model::Edition;
 use model::MAX_POOL;
 use model::MAX_SIZE;
-use model::MAX_WORDS;
 use model::Operators;
 use model::Outcome;
 use model::PLAN_WORDS;
-use model::POOL_WORDS;
 use model::Rng;
+use model::SIZE_WORDS;
 use model::Selection;
 use model::Session;
 use refusals::Check;
@@ -41,21 +42,30 @@ fn operators_of(session: Session) -> Operators
     }
 }
 
-// The step of a session's generation, from the pool of the plans that it breeds from. The kept list, its rules, the fronts and the lines are not handed out.
-fn step(session: Session, pool: &[u64], ideal: &mut [f64], candidates: &mut [u64]) -> Selection
+// The step of a session's generation, from a pool that it is not refused for. The kept list is handed out; its rules, the fronts and the lines are not.
+fn step(
+    session: Session,
+    pool: &[u64],
+    ideal: &mut [f64],
+    kept: &mut [usize],
+    candidates: &mut [u64],
+) -> Selection
     requires { ⌜ session .config .«n_obj» ≤ length (session .config .directions) ⌝ }
-    ensures { λ r. ⌜ stepped r (now (ideal .exit)) (now (candidates .exit)) ≡ stepOn session (now (pool .entry)) (now (ideal .entry)) (now (candidates .entry)) ⌝ }
+    requires { ⌜ stepRefusal (operatorsOf session) (stepRequest session (now pool) (now ideal)) (roomOf (lentWith (now kept))) (length (now candidates)) ≡ none ⌝ }
+    ensures { λ r. ⌜ stepped r (now (ideal .exit)) (now (kept .exit)) (now (candidates .exit))
+        ≡ stepOn session (now (pool .entry)) (now (ideal .entry)) (now (kept .entry)) (now (candidates .entry)) ⌝ }
 {
     let config = session.config;
+    let edition = config.edition;
     let n_obj = config.n_obj;
     let directions = config.directions;
     let rng = session.rng;
     let operators = operators_of(session);
-    let mut kept = [0usize; MAX_SIZE];
     let mut rules = [0u8; MAX_SIZE];
     let mut fronts = [0usize; MAX_POOL];
     let mut lines = [0usize; MAX_POOL];
-    generation::nsga3_generate_offspring(
+    generation_step::step(
+        edition,
         pool,
         &directions[..n_obj],
         config.divisions,
@@ -63,7 +73,7 @@ fn step(session: Session, pool: &[u64], ideal: &mut [f64], candidates: &mut [u64
         rng,
         operators,
         ideal,
-        &mut kept,
+        kept,
         &mut rules,
         &mut fronts,
         &mut lines,
@@ -71,13 +81,65 @@ fn step(session: Session, pool: &[u64], ideal: &mut [f64], candidates: &mut [u64
     )
 }
 
-// The session after breeding: its candidates are new, and no plan has come.
+// The session after breeding: its candidates are new, no plan has come, and the kept plans wait where the edition has it so.
 fn bred_session(session: Session, rng: Rng, ideal_point: [f64; 8]) -> Session
     ensures { λ r. ⌜ r ≡ bredSession session (rng .s) «ideal_point» ⌝ }
 {
+    let config = session.config;
+    let edition = config.edition;
+    let waiting = editions::waiting_of(edition, config.population_size);
     let before = session.progress;
     let number = std::num::wrapping_add_u64(before.generation, 1);
-    session_steps::renewed(session, rng, ideal_point, number)
+    session_steps::renewed(session, rng, ideal_point, waiting, number)
+}
+
+// The kept plans' words are put at the pool's front, in the kept list's order, where the edition has it that they wait. The pool's first `end` words are the
+// plans that they are kept from; `room` takes them up in between.
+fn let_wait(
+    edition: Edition,
+    size: usize,
+    kept: &[usize],
+    end: usize,
+    room: &mut [u64],
+    pool: &mut [u64],
+)
+    requires { ⌜ Keeping edition size (now kept) (take end (now pool)) (length (now room)) (length (now pool)) × (end ≤ length (now pool)) ⌝ }
+    ensures { λ _. ⌜ now (pool .exit) ≡ over (keptWords (take end (now (pool .entry))) (now (kept .entry)) (waitingOf edition size)) (now (pool .entry)) ⌝ }
+{
+    let n = editions::waiting_of(edition, size);
+    session_records::keep_plans(&pool[..end], kept, n, room);
+    let words = n * PLAN_WORDS;
+    words::put(&room[..words], 0, pool);
+}
+
+// A new generation, bred from the plans of the pool's first `end` words, for which no refusal applies.
+fn bred_on(
+    session: Session,
+    end: usize,
+    room: &mut [u64],
+    pool: &mut [u64],
+    candidates: &mut [u64],
+) -> Session
+    requires { ⌜ Poised session (take end (now pool)) (length (now room)) (length (now pool)) (length (now candidates)) × (end ≤ length (now pool)) ⌝ }
+    ensures { λ r. ⌜ state r (now (candidates .exit)) [] [] (now (pool .exit))
+        ≡ bredOn session (take end (now (pool .entry))) (now (candidates .entry)) (now (pool .entry)) ⌝ }
+{
+    let config = session.config;
+    let edition = config.edition;
+    let n_obj = config.n_obj;
+    let size = config.population_size;
+    let mut ideal_point = session.ideal_point;
+    let mut kept = [0usize; MAX_SIZE];
+    let selection = step(
+        session,
+        &pool[..end],
+        &mut ideal_point[..n_obj],
+        &mut kept,
+        candidates,
+    );
+    let rng = selection.rng;
+    let_wait(edition, size, &kept, end, room, pool);
+    bred_session(session, rng, ideal_point)
 }
 
 // What breeding answers: the refusal that it meets, with the session as it was, or the session after it.
@@ -86,72 +148,57 @@ pub struct Bred {
     pub session: Session,
 }
 
-// A new generation, bred from the first `size` plans of the present one, which the pool has room for.
+// A new generation, bred from the plans that wait at the pool's front and the children behind them. The children are gathered into `room` first, and 8 and 9
+// looked at, so that a refusal leaves the pool as it is.
 pub fn breed(
     session: Session,
     history: &[u64],
     plans: &[u64],
+    room: &mut [u64],
     pool: &mut [u64],
     candidates: &mut [u64],
 ) -> Bred
-    requires { ⌜ maxPool * planWords ≤ length (now pool) ⌝ }
-    requires { ⌜ SessionOk (state session (now candidates) (now plans) []) × (evaluated (state session (now candidates) (now plans) []) (now history) ≡ true)
-        × (maxCome ≤ length (now plans)) × (maxWords ≤ length (now candidates)) ⌝ }
-    ensures { λ r. ⌜ ((ns : List ℕ) → bredExit (refusedBy (r .outcome)) (state (r .session) (now (candidates .exit)) (now (plans .entry)) ns)
-        ≡ breedOf (state session (now (candidates .entry)) (now (plans .entry)) ns) (now (history .entry))) ⌝ }
+    requires { ⌜ Gatherable session (now history) (now plans) (now pool) × (poolRoom (session .config .edition) (session .config .«population_size») ≤ length (now pool))
+        × (maxSize * planWords ≤ length (now room)) × (maxWords ≤ length (now candidates)) ⌝ }
+    ensures { λ r. ⌜ ((ns : List ℕ) → bredExit (refusedBy (r .outcome)) (state (r .session) (now (candidates .exit)) (now (plans .entry)) ns (now (pool .exit)))
+        ≡ breedOf (state session (now (candidates .entry)) (now (plans .entry)) ns (now (pool .entry))) (now (history .entry))) ⌝ }
 {
     let config = session.config;
-    let n_obj = config.n_obj;
     let size = config.population_size;
-    let mut ideal_point = session.ideal_point;
-    session_records::gather(history, plans, size, pool);
-    let words = size * PLAN_WORDS;
-    let selection = step(
-        session,
-        &pool[..words],
-        &mut ideal_point[..n_obj],
-        candidates,
-    );
-    let outcome = selection.outcome;
-    let rng = selection.rng;
-    match outcome {
-        Outcome::Refused(_) => Bred { outcome, session },
-        Outcome::Kept(_) => {
-            let session = bred_session(session, rng, ideal_point);
-            Bred { outcome, session }
+    let progress = session.progress;
+    let n_waiting = progress.n_waiting;
+    let n = session_records::gather(history, plans, size, pool, n_waiting, room);
+    let at = n_waiting * PLAN_WORDS;
+    let check = session_pool_checks::joined_refusal(session, &pool[..at], &room[..n]);
+    match check {
+        Check::Refused(number) => Bred {
+            outcome: Outcome::Refused(number),
+            session,
+        },
+        Check::Good => {
+            words::put(&room[..n], at, pool);
+            let session = bred_on(session, at + n, room, pool, candidates);
+            Bred {
+                outcome: Outcome::Kept(size),
+                session,
+            }
         }
     }
 }
 
-// The number of a call that would breed: 8 or 9 for the plans bred from, or else 10. The step is asked with room for all that it would hand out.
-pub fn bred_refusal(session: Session, history: &[u64], plans: &[u64]) -> u8
-    requires { ⌜ SessionOk (state session [] (now plans) []) × (evaluated (state session [] (now plans) []) (now history) ≡ true) ⌝ }
-    ensures { λ r. ⌜ shortRefusal (state session [] (now (plans .entry)) []) (now (history .entry)) ≡ some r ⌝ }
+// The number of a call that would breed, were a slice not too short: 8 or 9 for the plans bred from, or else 10.
+pub fn bred_refusal(session: Session, history: &[u64], plans: &[u64], pool: &[u64]) -> u8
+    requires { ⌜ Gatherable session (now history) (now plans) (now pool) ⌝ }
+    ensures { λ r. ⌜ shortRefusal (state session [] (now (plans .entry)) [] (now (pool .entry))) (now (history .entry)) ≡ some r ⌝ }
 {
     let config = session.config;
-    let n_obj = config.n_obj;
     let size = config.population_size;
-    let directions = config.directions;
-    let ideal_point = session.ideal_point;
-    let rng = session.rng;
-    let operators = operators_of(session);
-    let mut pool = [0u64; POOL_WORDS];
-    session_records::gather(history, plans, size, &mut pool);
-    let words = size * PLAN_WORDS;
-    let check = step_refusal::refusal(
-        &pool[..words],
-        &directions[..n_obj],
-        config.divisions,
-        size,
-        rng,
-        operators,
-        &ideal_point[..n_obj],
-        MAX_SIZE,
-        MAX_SIZE,
-        MAX_POOL,
-        MAX_POOL,
-        MAX_WORDS,
-    );
+    let progress = session.progress;
+    let n_waiting = progress.n_waiting;
+    let mut room = [0u64; SIZE_WORDS];
+    let n = session_records::gather(history, plans, size, pool, n_waiting, &mut room);
+    let at = n_waiting * PLAN_WORDS;
+    let check = session_pool_checks::joined_refusal(session, &pool[..at], &room[..n]);
     match check {
         Check::Refused(number) => number,
         Check::Good => 10,

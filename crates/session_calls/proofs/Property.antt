@@ -11,10 +11,10 @@ use Rattle.model.specs.Session.{state, maxWords, longEnough}
 use Rattle.model.specs.Property.{SessionOk}
 
 -- an equal session has the property too
-pub same-session : (r s : Session) (cs ps ns : List ℕ) → r ≡ s → SessionOk (state s cs ps ns) → SessionOk (state r cs ps ns)
-same-session r s cs ps ns e ok = subst (λ x. SessionOk (state x cs ps ns)) (sym e) ok
+pub same-session : (r s : Session) (cs ps ns pool : List ℕ) → r ≡ s → SessionOk (state s cs ps ns pool) → SessionOk (state r cs ps ns pool)
+same-session r s cs ps ns pool e ok = subst (λ x. SessionOk (state x cs ps ns pool)) (sym e) ok
 
 -- one slice that is too short is enough
-pub too-short : (s : Session) (cs ps ns : List ℕ) → length cs < maxWords → longEnough (state s cs ps ns) ≡ false
+pub too-short : (s : Session) (cs ps ns pool : List ℕ) → length cs < maxWords → longEnough (state s cs ps ns pool) ≡ false
 unfolding longEnough
-too-short s cs ps ns h = and-not _ _ (lt-leb maxWords (length cs) h)
+too-short s cs ps ns pool h = and-not _ _ (lt-leb maxWords (length cs) h)

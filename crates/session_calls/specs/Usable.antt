@@ -8,5 +8,5 @@ use Rattle.model.specs.Session.{state}
 use Rattle.model.specs.Property.{SessionOk}
 
 abbrev pub usableBy : Opening → Session → Type 0
-usableBy Ready s = (cs ps ns : List ℕ) → SessionOk (state s cs ps ns)
+usableBy Ready s = (cs ps ns pool : List ℕ) → SessionOk (state s cs ps ns pool)
 usableBy (Refused n) s = Unit

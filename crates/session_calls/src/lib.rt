@@ -2,6 +2,7 @@
 // written for each, and read back. They keep the session property, which an opening that is ready gives.
 use model::Distribution;
 use model::MAX_COME;
+use model::MAX_FIRST_POOL;
 use model::MAX_WORDS;
 use model::Opened;
 use model::Opening;
@@ -24,6 +25,11 @@ pub type Numbers = [u64; MAX_COME];
 
 pub type NextDims = [usize; MAX_COME];
 
+// What a session of any size of edition 1 breeds from, and one of edition 2 up to a size of 512.
+pub const POOL_WORDS: usize = MAX_FIRST_POOL * PLAN_WORDS;
+
+pub type Pool = [u64; POOL_WORDS];
+
 // The words of 4,097 records: one more than is accepted.
 pub const OVERLONG: usize = 4097 * PLAN_WORDS;
 
@@ -45,8 +51,9 @@ fn number_of(x: OptionUsize) -> usize {
     }
 }
 
-// An opening.
+// An opening of edition 2 for 2, and else of edition 1.
 pub fn opened(
+    edition: u64,
     directions: &[u8],
     seed: u64,
     size: OptionUsize,
@@ -59,6 +66,7 @@ pub fn opened(
 {
     let mut words = [0u64; SESSION_WORDS];
     let code = locustdomino::locustdomino_open(
+        edition,
         directions,
         seed,
         given(size),
@@ -102,10 +110,11 @@ pub fn sampled(
     candidates: &mut [u64],
     plans: &mut [u64],
     next_dims: &mut [usize],
+    pool: &mut [u64],
 ) -> Sampled
-    requires { ⌜ SessionOk (state session (now candidates) (now plans) (now «next_dims»)) ⌝ }
+    requires { ⌜ SessionOk (state session (now candidates) (now plans) (now «next_dims») (now pool)) ⌝ }
     requires { ⌜ (n ≤ 4097) × (4097 * planWords ≤ length (now history)) ⌝ }
-    ensures { λ r. ⌜ SessionOk (state (r .session) (now (candidates .exit)) (now (plans .exit)) (now («next_dims» .exit))) ⌝ }
+    ensures { λ r. ⌜ SessionOk (state (r .session) (now (candidates .exit)) (now (plans .exit)) (now («next_dims» .exit)) (now (pool .exit))) ⌝ }
 {
     let used = n * PLAN_WORDS;
     let mut words = [0u64; SESSION_WORDS];
@@ -121,6 +130,7 @@ pub fn sampled(
         candidates,
         plans,
         next_dims,
+        pool,
         &mut kind,
         &mut value,
     );
@@ -140,10 +150,11 @@ pub fn repeated(
     candidates: &mut Candidates,
     plans: &mut Numbers,
     next_dims: &mut NextDims,
+    pool: &mut Pool,
 ) -> Sampled
-    requires { ⌜ SessionOk (state session (now candidates) (now plans) (now «next_dims»)) ⌝ }
+    requires { ⌜ SessionOk (state session (now candidates) (now plans) (now «next_dims») (now pool)) ⌝ }
     requires { ⌜ n ≤ 4097 ⌝ }
-    ensures { λ r. ⌜ SessionOk (state (r .session) (now (candidates .exit)) (now (plans .exit)) (now («next_dims» .exit))) ⌝ }
+    ensures { λ r. ⌜ SessionOk (state (r .session) (now (candidates .exit)) (now (plans .exit)) (now («next_dims» .exit)) (now (pool .exit))) ⌝ }
 {
     let mut last = Sampled {
         outcome: Sampling::Refused(0),
@@ -162,6 +173,7 @@ pub fn repeated(
             candidates,
             plans,
             next_dims,
+            pool,
         );
         number = std::num::wrapping_add_u64(number, 1);
         i += 1;

@@ -4,6 +4,7 @@ use mathlib.Core.Path.{_≡_, refl, ap, ap₂, _∙_}
 use mathlib.Core.List.{List, [], _∷_, _++_}
 use lib.ListN.{length, getD}
 use Rattle.model.specs.declared.Config.{Config}
+use Rattle.model.specs.Edition.{editionNumber}
 use Rattle.model.specs.declared.Distribution.{Distribution}
 use Rattle.model.specs.declared.Distribution.the-variants as dist
 use Rattle.model.specs.declared.Session.{Session}
@@ -27,15 +28,15 @@ pub six-laid : (kind : ℕ) {low high log has step low′ high′ log′ has′ 
     → (kind ∷ low ∷ high ∷ log ∷ has ∷ step ∷ []) ≡ (kind ∷ low′ ∷ high′ ∷ log′ ∷ has′ ∷ step′ ∷ [])
 six-laid kind p q r t u = rw (p, q, r, t, u)
 
-pub config-laid : (x : Config) {a b c d e f g h p q r : ℕ} → (a ∷ b ∷ c ∷ d ∷ e ∷ f ∷ g ∷ h ∷ []) ≡ eight (λ i. getD (x .directions) i 0) → p ≡ bits (x .«crossover_prob»)
-    → q ≡ bits (x .«crossover_eta») → r ≡ bits (x .«mutation_eta»)
-    → (x .«n_obj» ∷ a ∷ b ∷ c ∷ d ∷ e ∷ f ∷ g ∷ h ∷ x .divisions ∷ x .«population_size» ∷ p ∷ q ∷ r ∷ []) ≡ configWords x
+pub config-laid : (x : Config) {a b c d e f g h p q r v : ℕ} → (a ∷ b ∷ c ∷ d ∷ e ∷ f ∷ g ∷ h ∷ []) ≡ eight (λ i. getD (x .directions) i 0) → p ≡ bits (x .«crossover_prob»)
+    → q ≡ bits (x .«crossover_eta») → r ≡ bits (x .«mutation_eta») → v ≡ editionNumber (x .edition)
+    → (x .«n_obj» ∷ a ∷ b ∷ c ∷ d ∷ e ∷ f ∷ g ∷ h ∷ x .divisions ∷ x .«population_size» ∷ p ∷ q ∷ r ∷ v ∷ []) ≡ configWords x
 unfolding configWords
-config-laid x {p = p} {q = q} {r = r} m hp hq hr =
-    ap (λ l. x .«n_obj» ∷ l ++ (x .divisions ∷ x .«population_size» ∷ p ∷ q ∷ r ∷ [])) m ∙ rw (hp, hq, hr)
+config-laid x {p = p} {q = q} {r = r} {v = v} m hp hq hr hv =
+    ap (λ l. x .«n_obj» ∷ l ++ (x .divisions ∷ x .«population_size» ∷ p ∷ q ∷ r ∷ v ∷ [])) m ∙ rw (hp, hq, hr, hv)
 
 pub state-laid : (s : Session) (p has plan : ℕ) → p ≡ phaseWord (s .phase) → has ≡ hasFirst (s .«discovery_trial_id») → plan ≡ firstWord (s .«discovery_trial_id»)
-    → (p ∷ has ∷ plan ∷ s .rng .s ∷ s .progress .«n_dims» ∷ s .progress .«n_candidates» ∷ s .progress .«n_plans» ∷ s .progress .generation ∷ []) ≡ stateWords s
+    → (p ∷ has ∷ plan ∷ s .rng .s ∷ s .progress .«n_dims» ∷ s .progress .«n_candidates» ∷ s .progress .«n_plans» ∷ s .progress .«n_waiting» ∷ s .progress .generation ∷ []) ≡ stateWords s
 unfolding stateWords
 state-laid s p has plan a b c = rw (a, b, c)
 

@@ -13,6 +13,9 @@ use lib.Seq.{getD-append-add}
 use Rattle.list_laws.proofs.Built.{listBelow-whole}
 use Rattle.real_laws.proofs.Ints.{int-of-word-of}
 use Rattle.model.specs.declared.Config.{Config}
+use Rattle.model.specs.declared.Edition.{Edition}
+use Rattle.model.specs.declared.Edition.the-variants.{First, Second}
+use Rattle.model.specs.Edition.{editionNumber, editionOf}
 use Rattle.model.specs.declared.Distribution.{Distribution}
 use Rattle.model.specs.declared.Distribution.the-variants as dist
 use Rattle.model.specs.declared.OptionF64.{OptionF64}
@@ -87,6 +90,10 @@ phase-back : (p : Phase) → phaseOf (phaseWord p) ≡ p
 phase-back Discovery = refl
 phase-back Active = refl
 
+edition-back : (e : Edition) → editionOf (editionNumber e) ≡ e
+edition-back First = refl
+edition-back Second = refl
+
 first-back : (o : OptionU64) → firstOf (hasFirst o) (firstWord o) ≡ o
 first-back optU64.None = refl
 first-back (optU64.Some n) = refl
@@ -142,7 +149,7 @@ module _ (s : Session) (old : List ℕ) (ok : Stored s) where
   config-back : configAt words ≡ s .config
   unfolding sessionWords configWords
   config-back =
-      config-same (s .config) _ (marksAt words) _ _ _ _ _ refl marks-back refl refl (ofBits-toBits binary64 (s .config .«crossover_prob») (ok .config .probability))
+      config-same (s .config) _ _ (marksAt words) _ _ _ _ _ (edition-back (s .config .edition)) refl marks-back refl refl (ofBits-toBits binary64 (s .config .«crossover_prob») (ok .config .probability))
       (ofBits-toBits binary64 (s .config .«crossover_eta») (ok .config .crossoverEta)) (ofBits-toBits binary64 (s .config .«mutation_eta») (ok .config .mutationEta))
 
   pub session-back : sessionOf words ≡ s

@@ -24,7 +24,7 @@ use Rattle.session_encoding.proofs.Stored.{ConfigStored, Stored}
 module _ (s : Session) (vs : List Val) (p : Is (struct.row session.the-type) s vs) where
   config-stored : ConfigStored (s .config)
   config-stored =
-      let q = p .1 .1 .0 .1 .1 in
+      let q = p .1 .1 .0 .1 .1 .1 in
       let e = session-directions s vs p in
       record {
         marks = session-directions s vs p;

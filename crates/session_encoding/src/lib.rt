@@ -164,10 +164,12 @@ fn config_words(config: Config) -> [u64; CONFIG_WORDS]
     let p = real::word_of_real(config.crossover_prob);
     let q = real::word_of_real(config.crossover_eta);
     let r = real::word_of_real(config.mutation_eta);
+    let edition = config.edition;
+    let v = editions::edition_number(edition);
     let n = config.n_obj as u64;
     let divisions = config.divisions as u64;
     let size = config.population_size as u64;
-    [n, a, b, c, d, e, f, g, h, divisions, size, p, q, r]
+    [n, a, b, c, d, e, f, g, h, divisions, size, p, q, r, v]
 }
 
 fn state_words(session: Session) -> [u64; STATE_WORDS]
@@ -183,7 +185,8 @@ fn state_words(session: Session) -> [u64; STATE_WORDS]
     let d = progress.n_dims as u64;
     let c = progress.n_candidates as u64;
     let n = progress.n_plans as u64;
-    [p, has, plan, rng.s, d, c, n, progress.generation]
+    let w = progress.n_waiting as u64;
+    [p, has, plan, rng.s, d, c, n, w, progress.generation]
 }
 
 // The words of as many dimensions as a session holds, from a place on.

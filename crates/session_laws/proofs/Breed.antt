@@ -1,72 +1,114 @@
--- Breeding keeps the session property: the ideal that its selection leaves is good, and the offspring lie within their bounds. The pool is as large as the
--- size, so no front is split.
-use Prim.Native.Nat.{ℕ, suc, _≤_}
-use mathlib.Core.Path.{_≡_, ap, ap₂, sym, _∙_}
-use mathlib.Core.Bool.{Bool, true, false, _&&_}
+-- Breeding keeps the session property: the ideal that its selection leaves is good, the offspring lie within their bounds, and the plans that wait afterwards
+-- have different numbers and pass 8 and 9, as all plans bred from do.
+use Prim.Native.Nat.{ℕ, _*_, _≤_, _<_}
+use mathlib.Core.Path.{_≡_, refl, ap, ap₂, sym, subst, _∙_}
+use mathlib.Core.Bool.{Bool, true, false}
 use mathlib.Core.List.{List}
+use mathlib.Core.Logic.{inr, ⊎-elim}
 use native.Mathlib.Omega.{arith}
-use lib.Dec.{ltb}
-use lib.ListN.{length, take}
-use borrow.Author.Tests.{le-ltb}
-use Rattle.list_laws.proofs.First.{firstBelow-nowhere}
-use Rattle.front_laws.proofs.Order.{listing-room}
-use Rattle.model.specs.Lists.{over}
-use Rattle.model.specs.Association.{Request, dominance}
-use Rattle.model.specs.Kept.{Selected, exceedsSize, wholeFronts, before, isSplit, selected}
+use borrow.Author.Tests.{not-false}
+use lib.ListN.{length, getD, take, drop}
+use Rattle.model.specs.Lists.{over, In}
+use Rattle.model.specs.Edition.{waitingOf}
+use Rattle.model.specs.Plan.{Plan, planCount, planWords}
+use Rattle.model.specs.Association.{Request, objectives}
+use Rattle.model.specs.Kept.{Selected, selected}
+use Rattle.model.specs.Demand3.{Demand3}
 use Rattle.model.specs.Setting.{Generation, generation, generationOf, wordsOf}
-use Rattle.model.specs.Session.{State, state, dimensionOf, bredSession, breed, bredBy, requestOf, operatorsOf}
-use Rattle.model.specs.Refusal.{goodIdeal, badPool, badParents}
-use Rattle.model.specs.Property.{SessionOk}
-use Rattle.list_laws.proofs.Built.{over-take}
-use Rattle.list_laws.proofs.Checks.{good-ideal-length}
-use Rattle.demand3_laws.proofs.Accepted.{selected-ideal}
+use Rattle.model.specs.Session.{State, state, dimensionOf, bredSession, breed, bredBy, bredFrom, requestOf, operatorsOf, keptWords, poolAfter, waitingCount, blockOf}
+use Rattle.model.specs.Refusal.{goodIdeal, goodPlan, goodPlans, breedable, badPool, badParents}
+use Rattle.model.specs.Property.{WaitingOk, LentOk, SessionOk}
+use Rattle.list_laws.proofs.Built.{over-take, over-long}
+use Rattle.list_laws.proofs.Checks.{good-ideal-length, pool-plans}
+use Rattle.list_laws.proofs.Members.{getD-in}
+use Rattle.demand3_laws.proofs.Accepted.{selected-ideal, demand3}
 use Rattle.demand3_laws.proofs.Calls.{generation-many, generation-selects, request-objectives, request-accepted}
 use Rattle.candidate_laws.proofs.Sound.{AllHeld}
 use Rattle.candidate_laws.proofs.Generations.{generation-words}
+use Rattle.session_pool_laws.proofs.Kept.{kept-length, kept-block, kept-test, kept-distinct}
+use Rattle.session_laws.proofs.Lists.{waiting-none}
+use Rattle.session_laws.proofs.Request.{Breeding, bred-enough, bred-distinct, waits-by}
 use Rattle.session_laws.proofs.Steps.{renewed-ok}
 
--- ---- a selection of the whole pool
+-- the pool's slice does not become shorter
+pub pool-after-long : (st : State) (history kept : List ℕ) → length (st .pool) ≤ length (poolAfter st history kept)
+pool-after-long st history kept =
+    let bred = bredFrom st history in
+    let words = keptWords bred kept (waitingOf (st .session .config .edition) (st .session .config .«population_size»)) in
+    omega (arith, over-long bred (st .pool), over-long words (over bred (st .pool)))
 
-module _ (r : Request) (whole : r .size ≡ r .count) where
-  all-fronts : wholeFronts r ≡ r .count
-  unfolding wholeFronts
-  all-fronts = firstBelow-nowhere (exceedsSize r) (r .count) (λ k l. le-ltb (r .size) _ (omega (arith, listing-room (dominance r) (r .count) (suc k))))
+-- and what waits in it are the pool's plans at the kept places, word for word
+pub waiting-blocks : (st : State) (history kept : List ℕ) (i : ℕ) → i < waitingOf (st .session .config .edition) (st .session .config .«population_size»)
+    → blockOf (poolAfter st history kept) i ≡ blockOf (bredFrom st history) (getD kept i 0)
+waiting-blocks st history kept i h =
+    kept-block (bredFrom st history) kept (waitingOf (st .session .config .edition) (st .session .config .«population_size»)) _ i h
 
-  -- splits no front
-  pub whole-pool : isSplit r ≡ false
-  unfolding isSplit
-  whole-pool = ap (λ (b : Bool). b && ltb (length (before r)) (r .size)) (le-ltb (wholeFronts r) (r .count) (omega (arith, all-fronts)))
+module _ (st : State) (history : List ℕ) (ok : SessionOk st) (b : Breeding st history) where
+  abbrev request : Request
+  request = requestOf st history
 
--- ---- breeding
+  pub enough : request .size ≤ request .count
+  enough = bred-enough st ok history (b .pool)
 
--- it is from the selection's kept list, as a session's size is above one plan
-pub breed-kept : (st : State) (history : List ℕ) → SessionOk st → breed st history ≡ bredBy st history (selected (requestOf st history) .kept)
-unfolding breed bredBy generationOf
-breed-kept st history ok =
-    let s = st .session in
-    ap (λ (g : Generation). state (bredSession s (g .state) (over (g .selection .ideal) (s .«ideal_point»))) (over (wordsOf (g .offspring)) (st .candidates)) (st .plans) (st .nextDims))
-    (generation-many (operatorsOf s) (requestOf st history) (omega (arith, ok .config .atLeast4)))
+  two : 2 ≤ request .count
+  two = omega (arith, enough, ok .config .atLeast4)
 
--- 8 does not apply to the pool bred from
-module _ (st : State) (history : List ℕ) (ok : SessionOk st) (pool : badPool (requestOf st history) ≡ false) where
-  -- so the ideal that its selection leaves is good, and it is put in front
-  breed-ideal : goodIdeal (st .session .config .«n_obj») (take (st .session .config .«n_obj») (breed st history .session .«ideal_point»)) ≡ true
-  unfolding breed
-  breed-ideal =
-      let m = st .session .config .«n_obj» in
-      let r = requestOf st history in
-      let ideal = generation (operatorsOf (st .session)) r .selection .ideal in
-      let left = ap (λ (s : Selected). s .ideal) (generation-selects (operatorsOf (st .session)) r (omega (arith, ok .config .atLeast4))) in
-      let good : goodIdeal m ideal ≡ true =
-      ap₂ goodIdeal (sym (request-objectives st history ok)) left ∙ selected-ideal r (request-accepted st history ok pool) in
-      ap (goodIdeal m) (over-take ideal (st .session .«ideal_point») m (good-ideal-length m ideal good)) ∙ good
+  -- it is from the selection's kept list, as a session's size is above one plan
+  pub breed-kept : breed st history ≡ bredBy st history (selected request .kept)
+  unfolding breed bredBy generationOf
+  breed-kept =
+      let s = st .session in
+      ap (λ (g : Generation). state (bredSession s (g .state) (over (g .selection .ideal) (s .«ideal_point»))) (over (wordsOf (g .offspring)) (st .candidates)) (st .plans) (st .nextDims)
+      (poolAfter st history (g .selection .kept)))
+      (generation-many (operatorsOf s) request two)
 
-  -- nor 9 to the plans
-  module _ (some : 1 ≤ st .session .progress .«n_dims») (held : AllHeld (dimensionOf (st .session)) (st .session .progress .«n_dims»))
-      (parents : badParents (operatorsOf (st .session)) (requestOf st history) ≡ false) where
-    pub breed-ok : SessionOk (breed st history)
+  selects : generation (operatorsOf (st .session)) request .selection ≡ selected request
+  selects = generation-selects (operatorsOf (st .session)) request two
+
+  -- 8 does not apply to the pool bred from
+  module _ (pool : badPool request ≡ false) where
+    -- so the ideal that its selection leaves is good, and it is put in front
+    breed-ideal : goodIdeal (st .session .config .«n_obj») (take (st .session .config .«n_obj») (breed st history .session .«ideal_point»)) ≡ true
     unfolding breed
-    breed-ok =
-        let g = generation (operatorsOf (st .session)) (requestOf st history) in
-        renewed-ok st (g .state) _ _ (wordsOf (g .offspring)) ok some breed-ideal
-        (generation-words (operatorsOf (st .session)) (requestOf st history) held (ok .dimensions) parents (st .candidates))
+    breed-ideal =
+        let m = st .session .config .«n_obj» in
+        let ideal = generation (operatorsOf (st .session)) request .selection .ideal in
+        let good : goodIdeal m ideal ≡ true =
+        ap₂ goodIdeal (sym (request-objectives st history ok)) (ap (λ (s : Selected). s .ideal) selects) ∙ selected-ideal request (request-accepted st history ok pool) in
+        ap (goodIdeal m) (over-take ideal (st .session .«ideal_point») m (good-ideal-length m ideal good)) ∙ good
+
+    -- the kept list meets demand 3
+    abbrev kept : List ℕ
+    kept = generation (operatorsOf (st .session)) request .selection .kept
+
+    listed : Demand3 request kept
+    listed = subst (λ (s : Selected). Demand3 request (s .kept)) (sym selects) (demand3 request (request-accepted st history ok pool) enough)
+
+    -- nor does 9 apply to the plans
+    module _ (parents : badParents (operatorsOf (st .session)) request ≡ false) (lent : LentOk st) where
+      abbrev waits : ℕ
+      waits = waitingOf (st .session .config .edition) (st .session .config .«population_size»)
+
+      -- so as many as the size wait
+      breed-waiting : waits ≡ st .session .config .«population_size» → WaitingOk (breed st history)
+      unfolding breed badParents
+      breed-waiting e =
+          let bred = bredFrom st history in
+          let rest = drop (length (keptWords bred kept waits)) (over bred (st .pool)) in
+          let within : (i : ℕ) → i < waits → getD kept i 0 < request .count = λ i h. listed .inPool (getD kept i 0) (getD-in kept i (omega (arith, listed .exactly))) in
+          record {
+            different = kept-distinct bred kept waits rest (request .count) (listed .exactly ∙ sym e) (listed .distinct) (listed .inPool)
+                (bred-distinct st history (b .pool) (b .come) (b .held) (b .stand) (lent .waiting .different) (lent .different));
+            measured = kept-test bred kept waits rest (goodPlan (st .session .config .«n_obj»)) (request .count) within
+                (ap (λ (m : ℕ). goodPlans m (request .plans) (request .count)) (sym (request-objectives st history ok)) ∙ pool-plans request pool);
+            breedable = kept-test bred kept waits rest (breedable (dimensionOf (st .session)) (st .session .progress .«n_dims»)) (request .count) within (not-false _ parents);
+          }
+
+      module _ (some : 1 ≤ st .session .progress .«n_dims») (held : AllHeld (dimensionOf (st .session)) (st .session .progress .«n_dims»)) where
+        pub breed-ok : SessionOk (breed st history)
+        unfolding breed
+        breed-ok =
+            let g = generation (operatorsOf (st .session)) request in
+            renewed-ok st (g .state) _ _ _ (wordsOf (g .offspring)) (poolAfter st history (g .selection .kept)) ok some breed-ideal
+            (generation-words (operatorsOf (st .session)) request held (ok .dimensions) parents (st .candidates)) (inr refl)
+            (⊎-elim (λ e. waiting-none _ e) breed-waiting (waits-by (st .session .config .edition) (st .session .config .«population_size»)))

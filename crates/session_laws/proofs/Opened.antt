@@ -4,6 +4,7 @@ use mathlib.Core.Path.{_≡_, refl, ap, _∙_, sym}
 use mathlib.Core.Bool.{true, false}
 use mathlib.Core.List.{List, [], _∷_}
 use mathlib.Core.Option.{Option, none, some}
+use mathlib.Core.Logic.{inl}
 use native.Mathlib.Omega.{arith}
 use lib.Dec.{ltb}
 use lib.Ieee.{Float, binary64, eq, le, lt, ofBits, ofInt, toUnsigned}
@@ -18,6 +19,7 @@ use Rattle.model.specs.Lists.{firstBelow, allIn, allBelow}
 use Rattle.model.specs.Real.{infinity, unit}
 use Rattle.model.specs.Plan.{maxObjectives}
 use Rattle.model.specs.Reference.{binomial, pointCount, autoDivisions, divisionsOf, populationSize}
+use Rattle.model.specs.declared.Edition.{Edition}
 use Rattle.model.specs.declared.OptionUsize.{OptionUsize}
 use Rattle.model.specs.declared.Session.{Session}
 use Rattle.model.specs.Session.{state, given, opened, blank}
@@ -51,7 +53,7 @@ size-within m (some size) divisions e f = let h = ltb-false maxSize size e in (o
 
 -- ---- opening
 
-module _ (marks : List ℕ) (seed : ℕ) (size divisions : Option ℕ) (probability crossoverEta mutationEta : Float)
+module _ (edition : Edition) (marks : List ℕ) (seed : ℕ) (size divisions : Option ℕ) (probability crossoverEta mutationEta : Float)
     (accepted : openRefusal marks size divisions probability crossoverEta mutationEta ≡ none) where
   pub directions-good : badDirections marks ≡ false
   unfolding openRefusal
@@ -73,7 +75,7 @@ module _ (marks : List ℕ) (seed : ℕ) (size divisions : Option ℕ) (probabil
   unfolding badSessionDivisions
   few-lines = or-right (badGivenDivisions divisions) _ divisions-good
 
-  config-good : ConfigOk (opened marks seed size divisions probability crossoverEta mutationEta .config)
+  config-good : ConfigOk (opened edition marks seed size divisions probability crossoverEta mutationEta .config)
   unfolding opened
   config-good =
       record {
@@ -86,15 +88,17 @@ module _ (marks : List ℕ) (seed : ℕ) (size divisions : Option ℕ) (probabil
       }
 
   -- THE THEOREM: the field `gives` of `Opens`, whatever slices are lent
-  pub opened-ok : (candidates plans nextDims : List ℕ) → SessionOk (state (opened marks seed size divisions probability crossoverEta mutationEta) candidates plans nextDims)
+  pub opened-ok : (candidates plans nextDims pool : List ℕ)
+      → SessionOk (state (opened edition marks seed size divisions probability crossoverEta mutationEta) candidates plans nextDims pool)
   unfolding opened badDimensions allBelow
-  opened-ok candidates plans nextDims =
+  opened-ok candidates plans nextDims pool =
       record {
         config = config-good;
         dimensions = refl;
-        phase = record { first = refl; noCandidates = refl; noPlans = refl };
+        phase = record { first = refl; noCandidates = refl; noPlans = refl; noWaiting = refl };
+        waiting = inl refl;
         ideal = infinite-ideal (length marks) (some-objectives marks directions-good .1);
-        lent = λ e. lent-empty _ refl refl;
+        lent = λ e. lent-empty _ refl refl refl;
       }
 
 -- ---- a refused opening
@@ -111,14 +115,15 @@ blank-config = record {
 }
 
 -- its session has the property too
-pub blank-ok : (candidates plans nextDims : List ℕ) → SessionOk (state blank candidates plans nextDims)
+pub blank-ok : (candidates plans nextDims pool : List ℕ) → SessionOk (state blank candidates plans nextDims pool)
 unfolding badDimensions allBelow
-blank-ok candidates plans nextDims = record {
+blank-ok candidates plans nextDims pool = record {
   config = blank-config;
   dimensions = refl;
-  phase = record { first = refl; noCandidates = refl; noPlans = refl };
+  phase = record { first = refl; noCandidates = refl; noPlans = refl; noWaiting = refl };
+  waiting = inl refl;
   ideal = infinite-ideal 1 (omega arith);
-  lent = λ e. lent-empty _ refl refl;
+  lent = λ e. lent-empty _ refl refl refl;
 }
 
 -- ---- an answer tells the refusal, or that there is none
@@ -128,16 +133,16 @@ opening-tells none s t e = ap openingRefusedBy e
 opening-tells (some n) s t e = ap openingRefusedBy e
 
 -- the whole promise of `open`, of its definition
-pub opens : (directions : List ℕ) (seed : ℕ) (size divisions : OptionUsize) (probability crossoverEta mutationEta : Float)
-    → Opens directions seed size divisions probability crossoverEta mutationEta (openOf directions seed size divisions probability crossoverEta mutationEta)
+pub opens : (edition : Edition) (directions : List ℕ) (seed : ℕ) (size divisions : OptionUsize) (probability crossoverEta mutationEta : Float)
+    → Opens edition directions seed size divisions probability crossoverEta mutationEta (openOf edition directions seed size divisions probability crossoverEta mutationEta)
 unfolding openOf
-opens directions seed size divisions probability crossoverEta mutationEta =
+opens edition directions seed size divisions probability crossoverEta mutationEta =
     record {
       whole = refl;
       refused = sym (opening-tells (openRefusal directions (given size) (given divisions) probability crossoverEta mutationEta) _ _ refl);
-      gives = λ candidates plans nextDims. by-option (openRefusal directions (given size) (given divisions) probability crossoverEta mutationEta)
-          (λ e. rw e (opened-ok directions seed (given size) (given divisions) probability crossoverEta mutationEta e candidates plans nextDims))
-          (λ n e. rw e (blank-ok candidates plans nextDims));
+      gives = λ candidates plans nextDims pool. by-option (openRefusal directions (given size) (given divisions) probability crossoverEta mutationEta)
+          (λ e. rw e (opened-ok edition directions seed (given size) (given divisions) probability crossoverEta mutationEta e candidates plans nextDims pool))
+          (λ n e. rw e (blank-ok candidates plans nextDims pool));
     }
 
 -- ---- the property can be met: document 01's defaults for two objectives
@@ -151,5 +156,5 @@ unfolding openRefusal firstOf badDirections badSessionDivisions badOperators who
     eq le lt ofBits ofInt toUnsigned
 defaults-accepted = refl
 
-pub some-session : SessionOk (state (opened (0 ∷ 0 ∷ []) 0 none none unit twenty twenty) [] [] [])
-some-session = opened-ok (0 ∷ 0 ∷ []) 0 none none unit twenty twenty defaults-accepted [] [] []
+pub some-session : (edition : Edition) → SessionOk (state (opened edition (0 ∷ 0 ∷ []) 0 none none unit twenty twenty) [] [] [] [])
+some-session edition = opened-ok edition (0 ∷ 0 ∷ []) 0 none none unit twenty twenty defaults-accepted [] [] [] []

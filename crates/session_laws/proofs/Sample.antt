@@ -4,6 +4,7 @@ use mathlib.Core.Path.{_≡_, refl, sym, ap, subst, _∙_}
 use mathlib.Core.Bool.{Bool, true, false, cond, not, _||_, or-true, true≢false, false≢true}
 use mathlib.Core.List.{List}
 use mathlib.Core.Option.{Option, none, some, Option·some-ne-none}
+use native.Mathlib.Nat.{le-refl}
 use native.Mathlib.Omega.{arith}
 use lib.ListN.{length}
 use mir.Val.{Val}
@@ -19,8 +20,8 @@ use Rattle.model.specs.declared.Phase.{Phase}
 use Rattle.model.specs.declared.Phase.the-variants.{Discovery, Active}
 use Rattle.model.specs.declared.Sampling.the-variants as sampling
 use Rattle.model.specs.Kept.{selected}
-use Rattle.model.specs.Setting.{maxDims, validDimension, inBounds, wordsOf}
-use Rattle.model.specs.Session.{State, Answered, dimensionOf, isActive, pastDiscovery, discovers, breeds, breed, bredBy, requestOf, activate, discover, isNew, sampleFromCandidate, accepted, asked}
+use Rattle.model.specs.Setting.{maxDims, validDimension, inBounds, generation, wordsOf}
+use Rattle.model.specs.Session.{State, Answered, dimensionOf, isActive, pastDiscovery, discovers, breeds, breed, bredBy, requestOf, operatorsOf, activate, discover, isNew, sampleFromCandidate, accepted, asked, waitingCount, blockOf}
 use Rattle.model.specs.Refusal.{sampleRefusal}
 use Rattle.model.specs.Property.{SessionOk}
 use Rattle.model.specs.Calls.{SampleExit, sampleBy, sampleOf, Bred, Samples, samplingRefusedBy}
@@ -29,9 +30,9 @@ use Rattle.settings.proofs.InBounds.{Held, sampled-in-bounds}
 use Rattle.settings.proofs.Valid.{few}
 use Rattle.candidate_laws.proofs.Sound.{AllHeld}
 use Rattle.typed_laws.proofs.Held.{session-dimensions, session-held}
-use Rattle.session_laws.proofs.Request.{breeds-active, active-discovers, fit-dimension, room-left}
-use Rattle.session_laws.proofs.Steps.{Long, long, some-dimension, phase-ok, discover-ok, activate-ok, renewed-long}
-use Rattle.session_laws.proofs.Breed.{breed-ok, breed-kept}
+use Rattle.session_laws.proofs.Request.{breeding, breeds-active, active-discovers, fit-dimension, room-left}
+use Rattle.session_laws.proofs.Steps.{Long, long, long-enough, sampled-leaves, some-dimension, phase-ok, discover-ok, activate-ok, renewed-long}
+use Rattle.session_laws.proofs.Breed.{breed-ok, breed-kept, enough, pool-after-long, waiting-blocks}
 use Rattle.session_laws.proofs.Bounds.{Ready, ready-ok, dimensionAt, nextOf, none-come, sampleFromCandidate-in, first-in}
 
 -- ---- the two phases
@@ -77,7 +78,7 @@ module _ (st : State) (d : Distribution) (plan : ℕ) (history : List ℕ) (ok :
         record {
           ok = activate-ok st ok first some held;
           active = refl;
-          long = renewed-long st _ (wordsOf _) lengths;
+          long = renewed-long st _ (wordsOf _) (st .pool) refl (le-refl _) lengths;
           room = λ new. omega arith;
           held = held;
         }
@@ -89,9 +90,9 @@ module _ (st : State) (d : Distribution) (plan : ℕ) (history : List ℕ) (ok :
         let pool = and-fails (breeds st history) _ (sample-passed st d plan history e .pool) h in
         let parents = and-fails (breeds st history) _ (sample-passed st d plan history e .parents) h in
         record {
-          ok = breed-ok st history ok pool some held parents;
+          ok = breed-ok st history ok (breeding st history h) pool parents (ok .lent (long-enough st lengths)) some held;
           active = refl;
-          long = renewed-long st _ (wordsOf _) lengths;
+          long = renewed-long st _ (wordsOf _) _ refl (pool-after-long st history (generation (operatorsOf (st .session)) (requestOf st history) .selection .kept)) lengths;
           room = λ new. omega arith;
           held = held;
         }
@@ -169,10 +170,22 @@ module _ (st : State) (d : Distribution) (plan : ℕ) (history : List ℕ) (ok :
         let left : State → State = λ x. sampleFromCandidate x plan .after in
         ap (λ (o : Option ℕ). sampleBy o st (accepted st d plan history) .after) e
         ∙ ap (λ (c : Bool). cond c (discover st d plan) (sampleFromCandidate (answersFrom (isActive (st .session)) (breeds st history)) plan) .after) (active-discovers st plan active)
-        ∙ ap (λ (x : Bool). left (answersFrom x (breeds st history))) active ∙ ap (λ (x : Bool). left (answersFrom true x)) b ∙ ap left (breed-kept st history ok)
+        ∙ ap (λ (x : Bool). left (answersFrom x (breeds st history))) active ∙ ap (λ (x : Bool). left (answersFrom true x)) b ∙ ap left (breed-kept st history ok (breeding st history b))
 
     pub sample-bred : breeds st history ≡ true → Bred st plan history (sampleOf st d plan history .after)
-    sample-bred b = record { kept = selected (requestOf st history) .kept; demand3 = sample-demand3 st d plan history ok e b; from = left-bred b }
+    unfolding bredBy
+    sample-bred b =
+        let kept = selected (requestOf st history) .kept in
+        let bred = bredBy st history kept in
+        let count = ap (λ (x : State). waitingCount x) (left-bred b) ∙ sampled-leaves bred plan .waits in
+        record {
+          kept = kept;
+          demand3 = sample-demand3 st d plan history ok e b (enough st history ok (breeding st history b));
+          from = left-bred b;
+          count = count;
+          waiting = λ i h. ap (λ (x : State). blockOf (x .pool) i) (left-bred b) ∙ ap (λ (x : List ℕ). blockOf x i) (sampled-leaves bred plan .pool)
+              ∙ waiting-blocks st history kept i (subst (λ (n : ℕ). i < n) count h);
+        }
 
   -- THE THEOREM: refused or not, the field `keeps` of `Samples`
   pub sample-ok : SessionOk (sampleOf st d plan history .after)

@@ -3,7 +3,8 @@ use Prim.Native.Nat.{ℕ, _+_, _-_, _*_, _≤_, _<_, max}
 use mathlib.Core.Path.{_≡_, refl, sym, ap, _∙_, subst}
 use mathlib.Core.Bool.{true, false, true≢false, not}
 use mathlib.Core.List.{List, map}
-use native.Mathlib.Nat.{le-trans, mul-le-mul}
+use mathlib.Core.Logic.{_⊎_}
+use native.Mathlib.Nat.{le-refl, le-trans, mul-le-mul}
 use native.Mathlib.Omega.{arith}
 use lib.Dec.{leb, ltb}
 use lib.ListN.{length, getD, set, take, length-set, drop}
@@ -14,15 +15,17 @@ use Rattle.list_laws.proofs.Members.{distinct-snoc, has-not}
 use Rattle.model.specs.declared.Distribution.{Distribution}
 use Rattle.model.specs.declared.Phase.{Phase}
 use Rattle.model.specs.declared.Phase.the-variants.{Discovery, Active}
+use Rattle.model.specs.declared.Config.{Config}
 use Rattle.model.specs.declared.Session.{Session}
+use Rattle.model.specs.Edition.{waitingOf}
 use Rattle.model.specs.declared.DimensionInfo.{DimensionInfo}
 use Rattle.model.specs.declared.OptionU64.{OptionU64}
 use Rattle.model.specs.declared.OptionU64.the-variants as optU64
 use Rattle.model.specs.Lists.{has, placeIn, Distinct, over}
 use Rattle.model.specs.Setting.{validDimension, sampleRandom, sampleAll, toWord, wordsOf, noDimension, maxDims, WordsWithin, sampleCandidates}
-use Rattle.model.specs.Session.{State, state, dimensionOf, longEnough, maxCome, maxWords, discover, activate, overflow, enter, enlist, answer, plansOf, isNew, sampleFromCandidate, discoversFor, withRng, Answered, entered, renewed}
+use Rattle.model.specs.Session.{State, state, dimensionOf, longEnough, maxCome, maxWords, discover, activate, overflow, enter, enlist, answer, plansOf, isNew, sampleFromCandidate, discoversFor, withRng, Answered, entered, renewed, poolRoom, waitingCount}
 use Rattle.model.specs.Refusal.{goodIdeal, badDimensions}
-use Rattle.model.specs.Property.{KnownBy, ConfigOk, ActiveOk, PhaseOk, LentOk, SessionOk}
+use Rattle.model.specs.Property.{KnownBy, ConfigOk, ActiveOk, PhaseOk, WaitingOk, LentOk, SessionOk}
 use lib.Ieee.{Float}
 use native.Mathlib.Numerals.{add-one}
 use Rattle.list_laws.proofs.Tests.{allBelow-every}
@@ -33,7 +36,7 @@ use Rattle.candidate_laws.proofs.Words.{words-within, words-put}
 use Rattle.list_laws.proofs.Built.{over-long}
 use Rattle.list_laws.proofs.Below.{by-lt}
 use Rattle.list_laws.proofs.Stores.{set-cases, set-each}
-use Rattle.session_laws.proofs.Lists.{lent-none, lent-empty}
+use Rattle.session_laws.proofs.Lists.{waiting-none, lent-none, lent-empty}
 
 -- ---- the lengths of the lent slices
 
@@ -41,32 +44,43 @@ pub record Long (st : State) : Type 0 where
   pub words : maxWords ≤ length (st .candidates)
   pub plans : maxCome ≤ length (st .plans)
   pub next : maxCome ≤ length (st .nextDims)
+  pub pool : poolRoom (st .session .config .edition) (st .session .config .«population_size») ≤ length (st .pool)
 
 pub long : (st : State) → longEnough st ≡ true → Long st
 unfolding longEnough
 long st e =
     let rest = and-right (leb maxWords (length (st .candidates))) _ e in
+    let last = and-right (leb maxCome (length (st .plans))) _ rest in
     record {
       words = leb-true maxWords _ (and-left _ _ e);
       plans = leb-true maxCome _ (and-left _ _ rest);
-      next = leb-true maxCome _ (and-right (leb maxCome (length (st .plans))) _ rest);
+      next = leb-true maxCome _ (and-left _ _ last);
+      pool = leb-true _ _ (and-right (leb maxCome (length (st .nextDims))) _ last);
     }
 
 pub long-enough : (st : State) → Long st → longEnough st ≡ true
 unfolding longEnough
-long-enough st l = and-both _ _ (le-leb maxWords _ (l .words)) (and-both _ _ (le-leb maxCome _ (l .plans)) (le-leb maxCome _ (l .next)))
+long-enough st l =
+    and-both _ _ (le-leb maxWords _ (l .words)) (and-both _ _ (le-leb maxCome _ (l .plans)) (and-both _ _ (le-leb maxCome _ (l .next)) (le-leb _ _ (l .pool))))
 
--- and stay so where words are put into the candidates
-put-long : (st : State) (u : Session) (cs : List ℕ) → length (st .candidates) ≤ length cs → Long st → Long (state u cs (st .plans) (st .nextDims))
-put-long st u cs h l = record { words = le-trans (l .words) h; plans = l .plans; next = l .next }
+-- and stay so where words are put into the candidates and the pool
+put-long : (st : State) (u : Session) (cs pool : List ℕ) → u .config ≡ st .session .config → length (st .candidates) ≤ length cs → length (st .pool) ≤ length pool
+    → Long st → Long (state u cs (st .plans) (st .nextDims) pool)
+put-long st u cs pool e h k l = record {
+  words = le-trans (l .words) h;
+  plans = l .plans;
+  next = l .next;
+  pool = subst (λ (c : Config). poolRoom (c .edition) (c .«population_size») ≤ length pool) (sym e) (le-trans (l .pool) k);
+}
 
 -- slices that are too short say nothing
-pub short-ok : (s : Session) (cs ps ns cs' ps' ns' : List ℕ) → SessionOk (state s cs ps ns) → longEnough (state s cs' ps' ns') ≡ false
-    → SessionOk (state s cs' ps' ns')
-short-ok s cs ps ns cs' ps' ns' ok short = record {
+pub short-ok : (s : Session) (cs ps ns pool cs' ps' ns' pool' : List ℕ) → SessionOk (state s cs ps ns pool) → longEnough (state s cs' ps' ns' pool') ≡ false
+    → SessionOk (state s cs' ps' ns' pool')
+short-ok s cs ps ns pool cs' ps' ns' pool' ok short = record {
   config = ok .config;
   dimensions = ok .dimensions;
   phase = ok .phase;
+  waiting = ok .waiting;
   ideal = ok .ideal;
   lent = λ long. absurd (true≢false (sym long ∙ short));
 }
@@ -94,9 +108,10 @@ module _ (st : State) (d : Distribution) (plan : ℕ) (ok : SessionOk st) (disco
       record {
         config = ok .config;
         dimensions = dimensions-more;
-        phase = record { first = omega arith; noCandidates = at .noCandidates; noPlans = at .noPlans };
+        phase = record { first = omega arith; noCandidates = at .noCandidates; noPlans = at .noPlans; noWaiting = at .noWaiting };
+        waiting = ok .waiting;
         ideal = ok .ideal;
-        lent = λ e. lent-empty _ (at .noPlans) (at .noCandidates);
+        lent = λ e. lent-empty _ (at .noPlans) (at .noCandidates) (at .noWaiting);
       }
 
 -- ---- the end of discovery
@@ -110,17 +125,20 @@ pub some-dimension : (st : State) (plan : ℕ) → SessionOk st → st .session 
     → 1 ≤ st .session .progress .«n_dims»
 some-dimension st plan ok e f = known (st .session .«discovery_trial_id») plan (st .session .progress .«n_dims») f (phase-ok st Discovery ok e .first)
 
--- a new generation, whose ideal is good and whose candidates lie within their bounds
-pub renewed-ok : (st : State) (g : ℕ) (ideal : List Float) (number : ℕ) (words : List ℕ) → SessionOk st → 1 ≤ st .session .progress .«n_dims»
+-- a new generation, whose ideal is good and whose candidates lie within their bounds, and for which the plans wait that its pool has at its front
+pub renewed-ok : (st : State) (g : ℕ) (ideal : List Float) (waits number : ℕ) (words pool : List ℕ) → SessionOk st → 1 ≤ st .session .progress .«n_dims»
     → goodIdeal (st .session .config .«n_obj») (take (st .session .config .«n_obj») ideal) ≡ true
     → WordsWithin (dimensionOf (st .session)) (st .session .progress .«n_dims») (st .session .config .«population_size») (over words (st .candidates))
-    → SessionOk (state (renewed (st .session) g ideal number) (over words (st .candidates)) (st .plans) (st .nextDims))
-renewed-ok st g ideal number words ok some good settings = record {
+    → (waits ≡ 0) ⊎ (waits ≡ waitingOf (st .session .config .edition) (st .session .config .«population_size»))
+    → WaitingOk (state (renewed (st .session) g ideal waits number) (over words (st .candidates)) (st .plans) (st .nextDims) pool)
+    → SessionOk (state (renewed (st .session) g ideal waits number) (over words (st .candidates)) (st .plans) (st .nextDims) pool)
+renewed-ok st g ideal waits number words pool ok some good settings many waiting = record {
   config = ok .config;
   dimensions = ok .dimensions;
   phase = record { someDimension = some; candidates = omega arith; room = omega arith };
+  waiting = many;
   ideal = good;
-  lent = λ e. lent-none _ refl settings;
+  lent = λ e. lent-none _ refl settings waiting;
 }
 
 module _ (st : State) (ok : SessionOk st) (discovery : st .session .phase ≡ Discovery) (some : 1 ≤ st .session .progress .«n_dims»)
@@ -129,13 +147,15 @@ module _ (st : State) (ok : SessionOk st) (discovery : st .session .phase ≡ Di
   unfolding activate
   activate-ok =
       let cs = sampleCandidates (dimensionOf (st .session)) (st .session .progress .«n_dims») (st .session .config .«population_size») (st .session .rng .s) in
-      renewed-ok st (cs .state) (st .session .«ideal_point») (st .session .progress .generation) (wordsOf (cs .value)) ok some (ok .ideal)
+      renewed-ok st (cs .state) (st .session .«ideal_point») (st .session .progress .«n_waiting») (st .session .progress .generation) (wordsOf (cs .value)) (st .pool) ok some (ok .ideal)
       (words-within (dimensionOf (st .session)) (st .session .progress .«n_dims») (st .session .config .«population_size») (cs .value)
       (sampleCandidates-sound (dimensionOf (st .session)) (st .session .progress .«n_dims») held (ok .dimensions) (st .session .config .«population_size») (st .session .rng .s))
       (drop (length (wordsOf (cs .value))) (st .candidates)))
+      (ok .waiting) (waiting-none _ (phase-ok st Discovery ok discovery .noWaiting))
 
-pub renewed-long : (st : State) (u : Session) (words : List ℕ) → Long st → Long (state u (over words (st .candidates)) (st .plans) (st .nextDims))
-renewed-long st u words l = put-long st u _ (over-long words (st .candidates)) l
+pub renewed-long : (st : State) (u : Session) (words pool : List ℕ) → u .config ≡ st .session .config → length (st .pool) ≤ length pool → Long st
+    → Long (state u (over words (st .candidates)) (st .plans) (st .nextDims) pool)
+renewed-long st u words pool e h l = put-long st u _ pool e (over-long words (st .candidates)) h l
 
 -- ---- a plan more
 
@@ -147,6 +167,7 @@ pub record Waiting (st : State) : Type 0 where
   pub someDimension : 1 ≤ st .session .progress .«n_dims»
   pub candidates : st .session .progress .«n_candidates» ≡ max (st .session .config .«population_size») (st .session .progress .«n_plans» + 1)
   pub room : st .session .progress .«n_plans» < maxCome
+  pub waits : (waitingCount st ≡ 0) ⊎ (waitingCount st ≡ waitingOf (st .session .config .edition) (st .session .config .«population_size»))
   pub ideal : goodIdeal (st .session .config .«n_obj») (take (st .session .config .«n_obj») (st .session .«ideal_point»)) ≡ true
   pub lent : LentOk st
   pub long : Long st
@@ -156,7 +177,7 @@ unfolding overflow
 overflow-long st l =
     let e = length-sets (st .candidates) (st .session .progress .«n_candidates» * st .session .progress .«n_dims»)
     (map toWord (sampleAll (dimensionOf (st .session)) (st .session .progress .«n_dims») (st .session .rng .s) .value)) in
-    put-long st _ _ (omega arith) l
+    put-long st _ _ (st .pool) refl (omega arith) (le-refl _) l
 
 module _ (st : State) (ok : SessionOk st) (active : st .session .phase ≡ Active) (lengths : Long st) (room : st .session .progress .«n_plans» < maxCome) where
   waiting : st .session .progress .«n_plans» < st .session .progress .«n_candidates» → Waiting st
@@ -169,6 +190,7 @@ module _ (st : State) (ok : SessionOk st) (active : st .session .phase ≡ Activ
         someDimension = at .someDimension;
         candidates = omega (arith, at .candidates);
         room = room;
+        waits = ok .waiting;
         ideal = ok .ideal;
         lent = ok .lent (long-enough st lengths);
         long = lengths;
@@ -188,6 +210,7 @@ module _ (st : State) (ok : SessionOk st) (active : st .session .phase ≡ Activ
         someDimension = at .someDimension;
         candidates = omega (arith, at .candidates);
         room = room;
+        waits = ok .waiting;
         ideal = ok .ideal;
         lent = record {
           different = lent .different;
@@ -195,6 +218,7 @@ module _ (st : State) (ok : SessionOk st) (active : st .session .phase ≡ Activ
           settings = words-put (dimensionOf (st .session)) (st .session .progress .«n_dims») (st .session .progress .«n_candidates») _ (st .candidates)
               (sampleAll-sound (dimensionOf (st .session)) (st .session .progress .«n_dims») held (ok .dimensions) (st .session .rng .s))
               (lent .settings) fits;
+          waiting = record { different = lent .waiting .different; measured = lent .waiting .measured; breedable = lent .waiting .breedable };
         };
         long = overflow-long st lengths;
       }
@@ -215,6 +239,7 @@ enter-ok st plan ready new =
       dimensions = ready .dimensions;
       phase = subst (λ (p : Phase). PhaseOk p (enter st plan .session)) (sym (ready .active))
           (record { someDimension = ready .someDimension; candidates = ready .candidates; room = omega (arith, ready .room) });
+      waiting = ready .waits;
       ideal = ready .ideal;
       lent = λ e. record {
         different = entered-different (st .plans) (st .session .progress .«n_plans») plan (omega (arith, ready .room, ready .long .plans)) (not-true _ new)
@@ -222,6 +247,7 @@ enter-ok st plan ready new =
         next = set-each (λ k (x : ℕ). x ≤ st .session .progress .«n_dims») 0 (st .nextDims) (st .session .progress .«n_plans») 0
             (omega (arith, ready .room, ready .long .next)) (omega arith) (ready .lent .next);
         settings = ready .lent .settings;
+        waiting = record { different = ready .lent .waiting .different; measured = ready .lent .waiting .measured; breedable = ready .lent .waiting .breedable };
       };
     }
 
@@ -232,6 +258,7 @@ enter-long st plan l =
       words = l .words;
       plans = omega (arith, length-set (st .plans) (st .session .progress .«n_plans») plan, l .plans);
       next = omega (arith, length-set (st .nextDims) (st .session .progress .«n_plans») 0, l .next);
+      pool = l .pool;
     }
 
 -- a new plan takes a candidate that stands, or one more is drawn for it
@@ -278,11 +305,13 @@ module _ (st : State) (i : ℕ) (ok : SessionOk st) (active : st .session .phase
         config = ok .config;
         dimensions = ok .dimensions;
         phase = ok .phase;
+        waiting = ok .waiting;
         ideal = ok .ideal;
         lent = λ _. record {
           different = at-lent .different;
           next = λ k l. moved-next (st .nextDims) k i (getD (st .nextDims) i 0) (st .session .progress .«n_dims») (ltb-true _ _ e) (at-lent .next k l);
           settings = at-lent .settings;
+          waiting = record { different = at-lent .waiting .different; measured = at-lent .waiting .measured; breedable = at-lent .waiting .breedable };
         };
       })
       (λ e. record {
@@ -291,8 +320,14 @@ module _ (st : State) (i : ℕ) (ok : SessionOk st) (active : st .session .phase
         phase = subst (λ (p : Phase). PhaseOk p (withRng (st .session) (sampleRandom (dimensionOf (st .session) (st .session .progress .«n_dims» - 1)) (st .session .rng .s) .state)))
             (sym active)
             (record { someDimension = at-active .someDimension; candidates = at-active .candidates; room = at-active .room });
+        waiting = ok .waiting;
         ideal = ok .ideal;
-        lent = λ _. record { different = at-lent .different; next = at-lent .next; settings = at-lent .settings };
+        lent = λ _. record {
+          different = at-lent .different;
+          next = at-lent .next;
+          settings = at-lent .settings;
+          waiting = record { different = at-lent .waiting .different; measured = at-lent .waiting .measured; breedable = at-lent .waiting .breedable };
+        };
       })
 
 -- ---- `sample_from_candidate`
@@ -305,3 +340,27 @@ module _ (st : State) (plan : ℕ) (ok : SessionOk st) (active : st .session .ph
       (λ new. answer-ok (enlist st plan) (st .session .progress .«n_plans») (enlist-ok st ok active lengths (room new) held plan new) (enlist-phase st plan ∙ active)
       (enlist-long st plan lengths))
       (λ old. answer-ok st (placeIn (plansOf st) plan) ok active lengths)
+
+-- it leaves those that wait as they are
+pub record Untouched (st x : State) : Type 0 where
+  pub waits : waitingCount x ≡ waitingCount st
+  pub pool : x .pool ≡ st .pool
+
+answer-leaves : (st : State) (i : ℕ) → Untouched st (answer st i .after)
+unfolding answer
+answer-leaves st i =
+    by-cond (λ (x : Answered). Untouched st (x .after)) (ltb (getD (st .nextDims) i 0) (st .session .progress .«n_dims»)) _ _ (λ e. record { waits = refl; pool = refl })
+    (λ e. record { waits = refl; pool = refl })
+
+enlist-leaves : (st : State) (plan : ℕ) → Untouched st (enlist st plan)
+unfolding enter overflow
+enlist-leaves st plan = enlist-by (λ (x : State). Untouched st x) st plan (λ h. record { waits = refl; pool = refl }) (λ h. record { waits = refl; pool = refl })
+
+pub sampled-leaves : (st : State) (plan : ℕ) → Untouched st (sampleFromCandidate st plan .after)
+unfolding sampleFromCandidate
+sampled-leaves st plan =
+    by-cond (λ (x : Answered). Untouched st (x .after)) (isNew st plan) _ _
+    (λ new. let a = answer-leaves (enlist st plan) (st .session .progress .«n_plans») in
+    let b = enlist-leaves st plan in
+    record { waits = a .waits ∙ b .waits; pool = a .pool ∙ b .pool })
+    (λ old. answer-leaves st (placeIn (plansOf st) plan))

@@ -3,10 +3,27 @@ use Prim.Native.Nat.{ℕ}
 use mathlib.Core.Bool.{true}
 use mathlib.Core.List.{List, [], _∷_}
 use mathlib.Core.Option.{Option}
+use lib.ListN.{take}
+use Rattle.model.specs.declared.Session.{Session}
+use Rattle.model.specs.Association.{Request}
 use Rattle.model.specs.Session.{State, requestOf, operatorsOf}
 use Rattle.model.specs.Refusal.{Check, check, firstOf, badPool, badParents}
+use Rattle.model.specs.Calls.{wordRequest}
 
--- 8 and 9 for the plans bred from, and what comes after them
+-- a session's selection from the plans that words hold; from those that it breeds from it is `requestOf`
+abbrev pub requestFrom : Session → List ℕ → Request
+requestFrom s words =
+    wordRequest (s .config .edition) words (take (s .config .«n_obj») (s .config .directions)) (s .config .divisions) (s .config .«population_size») (s .rng)
+    (take (s .config .«n_obj») (s .«ideal_point»))
+
+-- 8 and 9 for them, and what comes after them
+abbrev pub wordChecks : Session → List ℕ → List Check → List Check
+wordChecks s words cs = check 8 (badPool (requestFrom s words)) ∷ check 9 (badParents (operatorsOf s) (requestFrom s words)) ∷ cs
+
+abbrev pub wordRefusal : Session → List ℕ → Option ℕ
+wordRefusal s words = firstOf (wordChecks s words [])
+
+-- the same for the plans bred from
 abbrev pub bredChecks : State → List ℕ → List Check → List Check
 bredChecks st history cs = check 8 (badPool (requestOf st history)) ∷ check 9 (badParents (operatorsOf (st .session)) (requestOf st history)) ∷ cs
 

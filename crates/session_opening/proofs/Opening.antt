@@ -6,6 +6,7 @@ use mathlib.Core.List.{List, []}
 use mathlib.Core.Option.{Option}
 use lib.Ieee.{Float}
 use lib.ListN.{length, replicate}
+use Rattle.model.specs.declared.Edition.{Edition}
 use Rattle.model.specs.declared.Opening.{Opening}
 use Rattle.model.specs.declared.Opening.the-variants as opening
 use Rattle.model.specs.declared.Opened.{Opened}
@@ -54,15 +55,15 @@ module _ (marks : List ℕ) (size divisions : Option ℕ) (probability crossover
 
 -- ---- the promise, by the answer
 
-module _ (marks : List ℕ) (seed : ℕ) (size divisions : OptionUsize) (probability crossoverEta mutationEta : Float) where
+module _ (edition : Edition) (marks : List ℕ) (seed : ℕ) (size divisions : OptionUsize) (probability crossoverEta mutationEta : Float) where
   abbrev refusal : Option ℕ
   refusal = openRefusal marks (given size) (given divisions) probability crossoverEta mutationEta
 
   abbrev good : Session
-  good = opened marks seed (given size) (given divisions) probability crossoverEta mutationEta
+  good = opened edition marks seed (given size) (given divisions) probability crossoverEta mutationEta
 
   abbrev Promise : Opened → Type 0
-  Promise = Opens marks seed size divisions probability crossoverEta mutationEta
+  Promise = Opens edition marks seed size divisions probability crossoverEta mutationEta
 
   -- the outcome t is found to be u, and the session v is the one that goes with it: the answer is the definition's, which has the rest of the promise
   pub by-answer : (t u : Opening) (s v : Session) → t ≡ openingBy refusal → t ≡ u → s ≡ v → record { outcome = u; session = v } ≡ openBy (openingRefusedBy u) good
@@ -71,13 +72,13 @@ module _ (marks : List ℕ) (seed : ℕ) (size divisions : OptionUsize) (probabi
   by-answer t u s v e f g h =
       subst Promise
       (sym (ap₂ (λ (x : Opening) (y : Session). record { outcome = x; session = y }) f g ∙ h ∙ ap (λ (x : Option ℕ). openBy x good) (sym (opening-tells refusal blank u (sym e ∙ f)))))
-      (opens marks seed size divisions probability crossoverEta mutationEta)
+      (opens edition marks seed size divisions probability crossoverEta mutationEta)
 
 -- ---- the session that is opened, from its parts
 
-pub opened-is : (marks : List ℕ) (seed : ℕ) (size divisions : Option ℕ) (probability crossoverEta mutationEta : Float) (m : List ℕ) (h n : ℕ)
+pub opened-is : (edition : Edition) (marks : List ℕ) (seed : ℕ) (size divisions : Option ℕ) (probability crossoverEta mutationEta : Float) (m : List ℕ) (h n : ℕ)
     → m ≡ over marks (replicate maxObjectives 0) → h ≡ divisionsOf (length marks) size divisions → n ≡ populationSize (length marks) size divisions
-    → start (record { «n_obj» = length marks; directions = m; divisions = h; «population_size» = n; «crossover_prob» = probability; «crossover_eta» = crossoverEta; «mutation_eta» = mutationEta }) seed
-    ≡ opened marks seed size divisions probability crossoverEta mutationEta
+    → start (record { edition = edition; «n_obj» = length marks; directions = m; divisions = h; «population_size» = n; «crossover_prob» = probability; «crossover_eta» = crossoverEta; «mutation_eta» = mutationEta }) seed
+    ≡ opened edition marks seed size divisions probability crossoverEta mutationEta
 unfolding opened
-opened-is marks seed size divisions probability crossoverEta mutationEta m h n e f g = rw (e, f, g)
+opened-is edition marks seed size divisions probability crossoverEta mutationEta m h n e f g = rw (e, f, g)

@@ -10,6 +10,7 @@ ghost use Rattle.model.specs.Session.{given, opened, blank, start};
 ghost use Rattle.model.specs.Calls.{Opens};
 ghost use Rattle.session_opening.specs.Opening.{openingBy};
 use model::Config;
+use model::Edition;
 use model::MAX_OBJECTIVES;
 use model::MAX_SIZE;
 use model::Opened;
@@ -34,6 +35,7 @@ fn start(config: Config, rng: Rng) -> Session
         n_dims: 0,
         n_candidates: 0,
         n_plans: 0,
+        n_waiting: 0,
         generation: 0,
     };
     Session {
@@ -53,6 +55,7 @@ fn blank() -> Session
 {
     let directions = [0u8; MAX_OBJECTIVES];
     let config = Config {
+        edition: Edition::First,
         n_obj: 1,
         directions,
         divisions: 1,
@@ -81,6 +84,7 @@ fn marks_of(directions: &[u8]) -> [u8; 8]
 
 // The session that an accepted opening answers.
 fn opened(
+    edition: Edition,
     directions: &[u8],
     seed: u64,
     size: OptionUsize,
@@ -90,13 +94,14 @@ fn opened(
     mutation_eta: f64,
 ) -> Session
     requires { ⌜ (badDirections (now directions) ≡ false) × (badSessionDivisions (length (now directions)) (given size) (given divisions) ≡ false) ⌝ }
-    ensures { λ r. ⌜ r ≡ opened (now (directions .entry)) seed (given size) (given divisions) probability «crossover_eta» «mutation_eta» ⌝ }
+    ensures { λ r. ⌜ r ≡ opened edition (now (directions .entry)) seed (given size) (given divisions) probability «crossover_eta» «mutation_eta» ⌝ }
 {
     let n_obj = directions.len();
     let marks = marks_of(directions);
     let h = divisions::divisions_of(n_obj, size, divisions);
     let n = divisions::population_size(n_obj, size, divisions);
     let config = Config {
+        edition,
         n_obj,
         directions: marks,
         divisions: h,
@@ -147,9 +152,10 @@ fn open_refusal(
     Opening::Ready
 }
 
-// A session for directions (0 minimise, 1 maximise) and a seed, with a size, divisions and operators; or the number of what is wrong with them, beside a
+// A session of an edition for directions (0 minimise, 1 maximise) and a seed, with a size, divisions and operators; or the number of what is wrong with them, beside a
 // session that has the session property too.
 pub fn open(
+    edition: Edition,
     directions: &[u8],
     seed: u64,
     size: OptionUsize,
@@ -158,7 +164,7 @@ pub fn open(
     crossover_eta: f64,
     mutation_eta: f64,
 ) -> Opened
-    ensures { λ r. ⌜ Opens (now (directions .entry)) seed size divisions probability «crossover_eta» «mutation_eta» r ⌝ }
+    ensures { λ r. ⌜ Opens edition (now (directions .entry)) seed size divisions probability «crossover_eta» «mutation_eta» r ⌝ }
 {
     let outcome = open_refusal(
         directions,
@@ -173,6 +179,7 @@ pub fn open(
         return Opened { outcome, session };
     };
     let session = opened(
+        edition,
         directions,
         seed,
         size,

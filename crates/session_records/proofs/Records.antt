@@ -1,8 +1,8 @@
 -- Plans found by their numbers: the last record of one in a history, its place in a generation, and the records bred from.
-use Prim.Native.Nat.{ℕ, _+_, _-_, _*_, _≤_, _<_}
-use mathlib.Core.Path.{_≡_, sym, ap, ap₂, _∙_}
-use mathlib.Core.Bool.{Bool, false, not}
-use mathlib.Core.List.{List}
+use Prim.Native.Nat.{ℕ, zero, suc, _+_, _-_, _*_, _≤_, _<_}
+use mathlib.Core.Path.{_≡_, refl, sym, ap, ap₂, _∙_}
+use mathlib.Core.Bool.{Bool, false, not, _||_, or-false}
+use mathlib.Core.List.{List, [], _∷_}
 use mathlib.Core.Logic.{⊎-elim}
 use native.Mathlib.Nat.{eq-or-lt-of-le, add-zero}
 use native.Mathlib.Omega.{arith}
@@ -11,13 +11,15 @@ use lib.Dec.{eqb, leb, ltb}
 use lib.ListN.{length, getD, take, drop, length-drop}
 use lib.Seq.{length-take-le, sets, getD-drop}
 use Rattle.list_laws.proofs.Bools.{by-bool}
-use Rattle.list_laws.proofs.Built.{listBelow-length, listBelow-take}
+use Rattle.list_laws.proofs.Built.{listBelow-length, listBelow-take, joinBelow-more, over-run}
+use Rattle.session_pool_laws.proofs.Children.{comers-few, child-few, children-length}
 use Rattle.list_laws.proofs.First.{lastBelow-nowhere, lastBelow-at, lastBelow-same}
-use Rattle.model.specs.Lists.{lastBelow, joinBelow, has, over, placeIn}
+use Rattle.model.specs.Lists.{anyBelow, lastBelow, listBelow, joinBelow, has, over, placeIn}
 use Rattle.model.specs.Plan.{planOf, planAt, planCount, planWords}
-use Rattle.model.specs.Session.{recordOf, blockOf}
+use Rattle.model.specs.Session.{recordOf, blockOf, numbersOf, childOf, childrenOf}
 use Rattle.list_laws.proofs.Rows.{joinBelow-run}
-use Rattle.list_laws.proofs.Members.{has-place}
+use Rattle.list_laws.proofs.Members.{has-nil, has-cons, has-append, has-place}
+use Rattle.list_laws.proofs.Tests.{anyBelow-same}
 
 -- ---- the last record of a number
 
@@ -49,6 +51,17 @@ others-more history plan n j l e h t a b =
     (λ m. h t (omega arith) b)
     (eq-or-lt-of-le a)
 
+-- a number waits where it is that of one of the first n plans
+has-below : (f : ℕ → ℕ) (n q : ℕ) → has (listBelow f n) q ≡ anyBelow (λ t. eqb (f t) q) n
+unfolding listBelow anyBelow
+has-below f zero q = has-nil q
+has-below f (suc n) q =
+    has-append (listBelow f n) (f n ∷ []) q
+    ∙ ap₂ _||_ (has-below f n q) (has-cons (f n) [] q ∙ ap (λ (b : Bool). eqb (f n) q || b) (has-nil q) ∙ or-false (eqb (f n) q))
+
+pub waits-by : (pool : List ℕ) (plan n : ℕ) → has (numbersOf pool n) plan ≡ anyBelow (isRecord pool plan) n
+waits-by pool plan n = has-below _ n plan ∙ anyBelow-same _ _ n (λ t l. ap (λ x. eqb x plan) (number-at pool t))
+
 -- a number is new among the first n where its place is past them
 pub is-new-by : (ps : List ℕ) (n plan i : ℕ) → n ≤ length ps → i ≡ placeIn (take n ps) plan → not (has (take n ps) plan) ≡ leb n i
 is-new-by ps n plan i h e =
@@ -66,8 +79,24 @@ part-block history k h =
     ap (λ x. take x (drop (k * planWords) history)) n
     ∙ listBelow-take (λ j. getD history (k * planWords + j) 0) planWords 0 (drop (k * planWords) history) (omega (arith, length-drop (k * planWords) history)) (λ t l. getD-drop (k * planWords) history t 0)
 
-pub records-more : (f : ℕ → ℕ) (history old pool : List ℕ) (i k : ℕ) → i * planWords + planWords ≤ length old → k ≡ f i
-    → pool ≡ over (joinBelow (λ i. blockOf history (f i)) i) old → sets pool (i * planWords) (blockOf history k) ≡ over (joinBelow (λ i. blockOf history (f i)) (i + 1)) old
-records-more f history old pool i k room e g =
-    ap₂ (λ a b. sets b (i * planWords) (blockOf history a)) e g
+-- the next child has room behind i of them, where there is room for all
+pub child-room : (waiting history plans : List ℕ) (i size len : ℕ) → i < size → size * planWords ≤ len → length (childrenOf waiting history plans i) + planWords ≤ len
+child-room waiting history plans i size len h room =
+    omega (arith, children-length waiting history plans i, comers-few waiting plans i)
+
+-- and is put behind them
+pub children-more : (waiting history plans old to : List ℕ) (i at : ℕ) → length (childrenOf waiting history plans i) + planWords ≤ length old
+    → to ≡ over (childrenOf waiting history plans i) old → at ≡ length (childrenOf waiting history plans i)
+    → sets to at (childOf waiting history plans i) ≡ over (childrenOf waiting history plans (i + 1)) old
+children-more waiting history plans old to i at room e f =
+    let a = childrenOf waiting history plans i in
+    let b = childOf waiting history plans i in
+    ap₂ (λ (x : List ℕ) (k : ℕ). sets x k b) e f ∙ over-run a b old (length a) refl (omega (arith, child-few waiting history plans i))
+    ∙ ap (λ l. over l old) (sym (joinBelow-more (childOf waiting history plans) i))
+
+-- one block more behind i of them
+pub blocks-more : (f : ℕ → ℕ) (history old pool : List ℕ) (i : ℕ) → i * planWords + planWords ≤ length old → pool ≡ over (joinBelow (λ i. blockOf history (f i)) i) old
+    → sets pool (i * planWords) (blockOf history (f i)) ≡ over (joinBelow (λ i. blockOf history (f i)) (i + 1)) old
+blocks-more f history old pool i room g =
+    ap (λ b. sets b (i * planWords) (blockOf history (f i))) g
     ∙ joinBelow-run (λ i. blockOf history (f i)) planWords i (λ t u. listBelow-length _ planWords) old (omega (arith, listBelow-length (λ j. getD history (f i * planWords + j) 0) planWords))

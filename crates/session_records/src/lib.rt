@@ -2,13 +2,16 @@
 // sampler/nsga3.rs). All functions are internal.
 ghost use mathlib.Core.Path.{_≡_};
 ghost use mathlib.Core.Bool.{true, not, _&&_};
-ghost use Prim.Native.Nat.{_-_, _*_, _≤_, _<_};
+ghost use Prim.Native.Nat.{ℕ, _+_, _-_, _*_, _≤_, _<_};
 ghost use lib.Dec.{leb};
-ghost use lib.ListN.{length, take};
+ghost use lib.ListN.{length, getD, take};
+ghost use lib.Seq.{sets};
 ghost use Rattle.model.specs.Lists.{allBelow, has, over, placeIn};
-ghost use Rattle.model.specs.Plan.{planWords};
-ghost use Rattle.model.specs.Session.{recordOf, allStand, standsIn, recordsOf, addsFor, roomFor, maxCome};
-ghost use Rattle.model.specs.Refusal.{badNext, badHistory};
+ghost use Rattle.model.specs.Plan.{planCount, planWords};
+ghost use Rattle.model.specs.Session.{recordOf, allStand, standsIn, blockOf, numbersOf, childrenOf, keptWords, addsFor, roomFor, maxCome};
+ghost use Rattle.model.specs.Refusal.{badNext, badHistory, maxSize};
+ghost use Rattle.session_records.specs.Gathered.{childFor, Put, Gathered};
+use model::Config;
 use model::Distribution;
 use model::MAX_COME;
 use model::MAX_DIMS;
@@ -67,18 +70,82 @@ pub fn evaluated(history: &[u64], plans: &[u64], n_plans: usize, size: usize) ->
     true
 }
 
-// The plans bred from: the first `size` plans of the generation as history has them, at the pool's front.
-pub fn gather(history: &[u64], plans: &[u64], size: usize, pool: &mut [u64])
-    requires { ⌜ (size ≤ length (now plans)) × (size * planWords ≤ length (now pool))
-        × (allBelow (standsIn (now history) (now plans)) size ≡ true) ⌝ }
-    ensures { λ _. ⌜ now (pool .exit) ≡ over (recordsOf (now (history .entry)) (now (plans .entry)) size) (now (pool .entry)) ⌝ }
+// A number is that of one of the first n plans of a pool.
+fn waits(pool: &[u64], n: usize, plan: u64) -> bool
+    requires { ⌜ n * planWords ≤ length (now pool) ⌝ }
+    ensures { λ r. ⌜ r ≡ has (numbersOf (now (pool .entry)) n) plan ⌝ }
 {
     let mut i = 0;
+    while i < n {
+        if pool[i * PLAN_WORDS] == plan {
+            return true;
+        }
+        i += 1;
+    }
+    false
+}
+
+// The words of a plan of a slice, from a place of another on.
+fn put_plan(from: &[u64], k: usize, at: usize, to: &mut [u64])
+    requires { ⌜ (k < planCount (now from)) × (at + planWords ≤ length (now to)) ⌝ }
+    ensures { λ _. ⌜ now (to .exit) ≡ sets (now (to .entry)) at (blockOf (now (from .entry)) k) ⌝ }
+{
+    let start = k * PLAN_WORDS;
+    let end = start + PLAN_WORDS;
+    words::put(&from[start..end], at, to);
+}
+
+// A plan's last record, from a place on, unless the plan waits; the place behind it.
+fn put_child(
+    history: &[u64],
+    plan: u64,
+    pool: &[u64],
+    n_waiting: usize,
+    at: usize,
+    to: &mut [u64],
+) -> usize
+    requires { ⌜ («n_waiting» * planWords ≤ length (now pool)) × (recordOf (now history) plan < planCount (now history)) × (at + planWords ≤ length (now to)) ⌝ }
+    ensures { λ r. ⌜ Put (childFor (numbersOf (now (pool .entry)) «n_waiting») (now (history .entry)) plan) at (now (to .entry)) (now (to .exit)) r ⌝ }
+{
+    if waits(pool, n_waiting, plan) {
+        return at;
+    }
+    let k = record_of(history, plan);
+    put_plan(history, k, at, to);
+    at + PLAN_WORDS
+}
+
+// The children bred from: the first `size` plans of the generation as history has them, without those that wait, at the front of a slice; how many words they
+// are. The first n plans of the pool wait.
+pub fn gather(
+    history: &[u64],
+    plans: &[u64],
+    size: usize,
+    pool: &[u64],
+    n_waiting: usize,
+    to: &mut [u64],
+) -> usize
+    requires { ⌜ (size ≤ length (now plans)) × (allBelow (standsIn (now history) (now plans)) size ≡ true) × («n_waiting» * planWords ≤ length (now pool))
+        × (size * planWords ≤ length (now to)) ⌝ }
+    ensures { λ r. ⌜ Gathered (childrenOf (numbersOf (now (pool .entry)) «n_waiting») (now (history .entry)) (now (plans .entry)) size) (now (to .entry)) (now (to .exit)) r ⌝ }
+{
+    let mut at = 0;
+    let mut i = 0;
     while i < size {
-        let k = record_of(history, plans[i]);
-        let from = k * PLAN_WORDS;
-        let end = from + PLAN_WORDS;
-        words::put(&history[from..end], i * PLAN_WORDS, pool);
+        at = put_child(history, plans[i], pool, n_waiting, at, to);
+        i += 1;
+    }
+    at
+}
+
+// The words of the plans that a kept list's first n places name, in its order, at the front of a slice.
+pub fn keep_plans(bred: &[u64], kept: &[usize], n: usize, to: &mut [u64])
+    requires { ⌜ (n ≤ length (now kept)) × (n * planWords ≤ length (now to)) × ((i : ℕ) → i < n → getD (now kept) i 0 < planCount (now bred)) ⌝ }
+    ensures { λ _. ⌜ now (to .exit) ≡ over (keptWords (now (bred .entry)) (now (kept .entry)) n) (now (to .entry)) ⌝ }
+{
+    let mut i = 0;
+    while i < n {
+        put_plan(bred, kept[i], i * PLAN_WORDS, to);
         i += 1;
     }
 }
@@ -114,8 +181,15 @@ pub fn discovers(phase: Phase, first: OptionU64, plan: u64) -> bool
 }
 
 // The lent slices have room for what they must hold.
-pub fn long_enough(candidates: usize, plans: usize, next_dims: usize) -> bool
-    ensures { λ r. ⌜ r ≡ roomFor candidates plans «next_dims» ⌝ }
+pub fn long_enough(
+    config: Config,
+    candidates: usize,
+    plans: usize,
+    next_dims: usize,
+    pool: usize,
+) -> bool
+    requires { ⌜ config .«population_size» ≤ maxSize ⌝ }
+    ensures { λ r. ⌜ r ≡ roomFor config candidates plans «next_dims» pool ⌝ }
 {
     if candidates < MAX_WORDS {
         return false;
@@ -123,7 +197,12 @@ pub fn long_enough(candidates: usize, plans: usize, next_dims: usize) -> bool
     if plans < MAX_COME {
         return false;
     }
-    MAX_COME <= next_dims
+    if next_dims < MAX_COME {
+        return false;
+    }
+    let edition = config.edition;
+    let size = config.population_size;
+    (editions::waiting_of(edition, size) + size) * PLAN_WORDS <= pool
 }
 
 // Refusal 6 for the dimension that a session of n dimensions would add.

@@ -10,8 +10,8 @@ use Rattle.model.specs.Refusal.{badDimensions}
 use Rattle.model.specs.Calls.{SampleExit}
 
 -- what a call leaves
-abbrev pub exit : Sampled → List ℕ → List ℕ → List ℕ → SampleExit
-exit r cs ps ns = record { answer = r .outcome; after = state (r .session) cs ps ns }
+abbrev pub exit : Sampled → List ℕ → List ℕ → List ℕ → List ℕ → SampleExit
+exit r cs ps ns pool = record { answer = r .outcome; after = state (r .session) cs ps ns pool }
 
 -- what a state past discovery needs to be drawn from
 pub record Ready (s : Session) : Type 0 where

@@ -2,7 +2,7 @@
 // internal.
 ghost use mathlib.Core.Path.{_≡_};
 ghost use mathlib.Core.Bool.{true, false};
-ghost use mathlib.Core.List.{List};
+ghost use mathlib.Core.List.{List, []};
 ghost use Prim.Native.Nat.{ℕ, _*_, _≤_, _<_};
 ghost use lib.ListN.{length};
 ghost use Rattle.model.specs.Setting.{validDimension, maxDims};
@@ -25,7 +25,7 @@ use model::Session;
 // The first plan's call: the dimension is entered, and a setting drawn from it.
 pub fn discover(session: Session, distribution: Distribution, plan: u64) -> Sampled
     requires { ⌜ (session .progress .«n_dims» < maxDims) × (validDimension distribution ≡ true) ⌝ }
-    ensures { λ r. ⌜ ((cs ps ns : List ℕ) → exit r cs ps ns ≡ settled (discover (state session cs ps ns) distribution plan)) ⌝ }
+    ensures { λ r. ⌜ ((cs ps ns pool : List ℕ) → exit r cs ps ns pool ≡ settled (discover (state session cs ps ns pool) distribution plan)) ⌝ }
 {
     let rng = session.rng;
     let v = sampling::sample_random(distribution, rng);
@@ -43,6 +43,7 @@ pub fn discover(session: Session, distribution: Distribution, plan: u64) -> Samp
         n_dims: n + 1,
         n_candidates: before.n_candidates,
         n_plans: before.n_plans,
+        n_waiting: before.n_waiting,
         generation: before.generation,
     };
     let session = Session {
@@ -58,9 +59,15 @@ pub fn discover(session: Session, distribution: Distribution, plan: u64) -> Samp
     Sampled { outcome, session }
 }
 
-// The session of a new generation: its candidates are as many as the size, and no plan has come.
-pub fn renewed(session: Session, rng: Rng, ideal_point: [f64; 8], generation: u64) -> Session
-    ensures { λ r. ⌜ r ≡ renewed session (rng .s) «ideal_point» generation ⌝ }
+// The session of a new generation, for which so many plans wait: its candidates are as many as the size, and no plan has come.
+pub fn renewed(
+    session: Session,
+    rng: Rng,
+    ideal_point: [f64; 8],
+    n_waiting: usize,
+    generation: u64,
+) -> Session
+    ensures { λ r. ⌜ r ≡ renewed session (rng .s) «ideal_point» «n_waiting» generation ⌝ }
 {
     let config = session.config;
     let before = session.progress;
@@ -68,6 +75,7 @@ pub fn renewed(session: Session, rng: Rng, ideal_point: [f64; 8], generation: u6
         n_dims: before.n_dims,
         n_candidates: config.population_size,
         n_plans: 0,
+        n_waiting,
         generation,
     };
     let phase = Phase::Active;
@@ -88,7 +96,7 @@ pub fn renewed(session: Session, rng: Rng, ideal_point: [f64; 8], generation: u6
 pub fn activate(session: Session, candidates: &mut [u64]) -> Session
     requires { ⌜ (badDimensions (dimensionOf session) (session .progress .«n_dims») ≡ false)
         × (session .config .«population_size» * session .progress .«n_dims» ≤ length (now candidates)) ⌝ }
-    ensures { λ r. ⌜ ((ps ns : List ℕ) → state r (now (candidates .exit)) ps ns ≡ activate (state session (now (candidates .entry)) ps ns)) ⌝ }
+    ensures { λ r. ⌜ ((ps ns pool : List ℕ) → state r (now (candidates .exit)) ps ns pool ≡ activate (state session (now (candidates .entry)) ps ns pool)) ⌝ }
 {
     let config = session.config;
     let size = config.population_size;
@@ -98,7 +106,13 @@ pub fn activate(session: Session, candidates: &mut [u64]) -> Session
     let dimensions = session.dimensions;
     let rng = candidates::sample_candidates(dimensions, n, size, rng, candidates);
     let ideal_point = session.ideal_point;
-    renewed(session, rng, ideal_point, before.generation)
+    renewed(
+        session,
+        rng,
+        ideal_point,
+        before.n_waiting,
+        before.generation,
+    )
 }
 
 // ---- a plan's calls past discovery
@@ -122,7 +136,7 @@ fn with_progress(session: Session, progress: Progress) -> Session
 // A candidate more, drawn, where every candidate has its plan.
 fn overflow(session: Session, candidates: &mut [u64]) -> Session
     requires { ⌜ (badDimensions (dimensionOf session) (session .progress .«n_dims») ≡ false) × (session .progress .«n_candidates» < maxCome) × (maxWords ≤ length (now candidates)) ⌝ }
-    ensures { λ r. ⌜ ((ps ns : List ℕ) → state r (now (candidates .exit)) ps ns ≡ overflow (state session (now (candidates .entry)) ps ns)) ⌝ }
+    ensures { λ r. ⌜ ((ps ns pool : List ℕ) → state r (now (candidates .exit)) ps ns pool ≡ overflow (state session (now (candidates .entry)) ps ns pool)) ⌝ }
 {
     let before = session.progress;
     let n = before.n_dims;
@@ -137,6 +151,7 @@ fn overflow(session: Session, candidates: &mut [u64]) -> Session
         n_dims: n,
         n_candidates: k + 1,
         n_plans: before.n_plans,
+        n_waiting: before.n_waiting,
         generation: before.generation,
     };
     with_progress(with_rng(session, rng), progress)
@@ -145,7 +160,8 @@ fn overflow(session: Session, candidates: &mut [u64]) -> Session
 // The plan is entered as the generation's next, at its first dimension.
 fn enter(session: Session, plan: u64, plans: &mut [u64], next_dims: &mut [usize]) -> Session
     requires { ⌜ (session .progress .«n_plans» < maxCome) × (maxCome ≤ length (now plans)) × (maxCome ≤ length (now «next_dims»)) ⌝ }
-    ensures { λ r. ⌜ ((cs : List ℕ) → state r cs (now (plans .exit)) (now («next_dims» .exit)) ≡ enter (state session cs (now (plans .entry)) (now («next_dims» .entry))) plan) ⌝ }
+    ensures { λ r. ⌜ ((cs pool : List ℕ) → state r cs (now (plans .exit)) (now («next_dims» .exit)) pool
+        ≡ enter (state session cs (now (plans .entry)) (now («next_dims» .entry)) pool) plan) ⌝ }
 {
     let before = session.progress;
     let i = before.n_plans;
@@ -155,6 +171,7 @@ fn enter(session: Session, plan: u64, plans: &mut [u64], next_dims: &mut [usize]
         n_dims: before.n_dims,
         n_candidates: before.n_candidates,
         n_plans: i + 1,
+        n_waiting: before.n_waiting,
         generation: before.generation,
     };
     with_progress(session, progress)
@@ -169,8 +186,8 @@ fn enlist(
     next_dims: &mut [usize],
 ) -> Session
     requires { ⌜ Ready session × (session .progress .«n_plans» < maxCome) × (maxWords ≤ length (now candidates)) × (maxCome ≤ length (now plans)) × (maxCome ≤ length (now «next_dims»)) ⌝ }
-    ensures { λ r. ⌜ state r (now (candidates .exit)) (now (plans .exit)) (now («next_dims» .exit))
-        ≡ enlist (state session (now (candidates .entry)) (now (plans .entry)) (now («next_dims» .entry))) plan ⌝ }
+    ensures { λ r. ⌜ ((pool : List ℕ) → state r (now (candidates .exit)) (now (plans .exit)) (now («next_dims» .exit)) pool
+        ≡ enlist (state session (now (candidates .entry)) (now (plans .entry)) (now («next_dims» .entry)) pool) plan) ⌝ }
 {
     let progress = session.progress;
     let i = progress.n_plans;
@@ -185,8 +202,8 @@ fn enlist(
 // Plan i is answered its candidate's setting at its next dimension, or past the last a setting drawn from the last.
 fn answer(session: Session, i: usize, candidates: &[u64], next_dims: &mut [usize]) -> Sampled
     requires { ⌜ Ready session × (i < maxCome) × (maxWords ≤ length (now candidates)) × (maxCome ≤ length (now «next_dims»)) ⌝ }
-    ensures { λ r. ⌜ ((ps : List ℕ) → exit r (now (candidates .entry)) ps (now («next_dims» .exit))
-        ≡ settled (answer (state session (now (candidates .entry)) ps (now («next_dims» .entry))) i)) ⌝ }
+    ensures { λ r. ⌜ ((ps pool : List ℕ) → exit r (now (candidates .entry)) ps (now («next_dims» .exit)) pool
+        ≡ settled (answer (state session (now (candidates .entry)) ps (now («next_dims» .entry)) pool) i)) ⌝ }
 {
     let progress = session.progress;
     let n = progress.n_dims;
@@ -221,9 +238,9 @@ pub fn sample_from_candidate(
     next_dims: &mut [usize],
 ) -> Sampled
     requires { ⌜ Ready session × (session .progress .«n_plans» ≤ maxCome) × (maxWords ≤ length (now candidates)) × (maxCome ≤ length (now plans)) × (maxCome ≤ length (now «next_dims»))
-        × (isNew (state session (now candidates) (now plans) (now «next_dims»)) plan ≡ true → session .progress .«n_plans» < maxCome) ⌝ }
-    ensures { λ r. ⌜ exit r (now (candidates .exit)) (now (plans .exit)) (now («next_dims» .exit))
-        ≡ settled (sampleFromCandidate (state session (now (candidates .entry)) (now (plans .entry)) (now («next_dims» .entry))) plan) ⌝ }
+        × (isNew (state session (now candidates) (now plans) (now «next_dims») []) plan ≡ true → session .progress .«n_plans» < maxCome) ⌝ }
+    ensures { λ r. ⌜ ((pool : List ℕ) → exit r (now (candidates .exit)) (now (plans .exit)) (now («next_dims» .exit)) pool
+        ≡ settled (sampleFromCandidate (state session (now (candidates .entry)) (now (plans .entry)) (now («next_dims» .entry)) pool) plan)) ⌝ }
 {
     let progress = session.progress;
     let n = progress.n_plans;

@@ -16,6 +16,7 @@ use Rattle.model.specs.declared.OptionU64.the-variants as optU64
 use Rattle.model.specs.declared.Phase.{Phase}
 use Rattle.model.specs.declared.Phase.the-variants.{Discovery, Active}
 use Rattle.model.specs.declared.Config.{Config}
+use Rattle.model.specs.Edition.{editionNumber, editionOf}
 use Rattle.model.specs.declared.Progress.{Progress}
 use Rattle.model.specs.declared.Session.{Session}
 use Rattle.model.specs.Lists.{one, listBelow, joinBelow}
@@ -126,14 +127,15 @@ eight f = f 0 ∷ f 1 ∷ f 2 ∷ f 3 ∷ f 4 ∷ f 5 ∷ f 6 ∷ f 7 ∷ []
 unfoldable pub configWords : Config → List ℕ
 configWords c =
     c .«n_obj» ∷ eight (λ i. getD (c .directions) i 0)
-    ++ (c .divisions ∷ c .«population_size» ∷ bits (c .«crossover_prob») ∷ bits (c .«crossover_eta») ∷ bits (c .«mutation_eta») ∷ [])
+    ++ (c .divisions ∷ c .«population_size» ∷ bits (c .«crossover_prob») ∷ bits (c .«crossover_eta») ∷ bits (c .«mutation_eta») ∷ editionNumber (c .edition)
+    ∷ [])
 
 -- how far it is, from `place.phase` on: phase (0 discovery, else active), first plan, generator, counts and generation
 unfoldable pub stateWords : Session → List ℕ
 stateWords s =
     let p = s .progress in
     phaseWord (s .phase) ∷ hasFirst (s .«discovery_trial_id») ∷ firstWord (s .«discovery_trial_id») ∷ s .rng .s
-    ∷ p .«n_dims» ∷ p .«n_candidates» ∷ p .«n_plans» ∷ p .generation ∷ []
+    ∷ p .«n_dims» ∷ p .«n_candidates» ∷ p .«n_plans» ∷ p .«n_waiting» ∷ p .generation ∷ []
 
 -- from `place.ideal` on
 unfoldable pub idealWords : List Float → List ℕ
@@ -153,6 +155,7 @@ idealAt ws = listBelow (λ i. real (getD ws (place.ideal + i) 0)) maxObjectives
 
 abbrev pub configAt : List ℕ → Config
 configAt ws = record {
+  edition = editionOf (getD ws place.edition 0);
   «n_obj» = getD ws place.objectives 0;
   directions = marksAt ws;
   divisions = getD ws place.divisions 0;
@@ -163,7 +166,7 @@ configAt ws = record {
 }
 
 abbrev pub progressAt : List ℕ → Progress
-progressAt ws = progress (getD ws place.dims 0) (getD ws place.candidates 0) (getD ws place.plans 0) (getD ws place.generation 0)
+progressAt ws = progress (getD ws place.dims 0) (getD ws place.candidates 0) (getD ws place.plans 0) (getD ws place.waiting 0) (getD ws place.generation 0)
 
 unfoldable pub sessionOf : List ℕ → Session
 sessionOf ws = record {

@@ -24,8 +24,11 @@ crossoverEta = crossoverProb + 1
 abbrev pub mutationEta : ℕ
 mutationEta = crossoverEta + 1
 
+abbrev pub edition : ℕ
+edition = mutationEta + 1
+
 abbrev pub phase : ℕ
-phase = mutationEta + 1
+phase = edition + 1
 
 -- whether there is a first plan, and its number
 abbrev pub hasFirst : ℕ
@@ -37,7 +40,7 @@ first = hasFirst + 1
 abbrev pub rng : ℕ
 rng = first + 1
 
--- the counts of dimensions, candidates and plans, and the generation
+-- the counts of dimensions, candidates, plans and waiting plans, and the generation
 abbrev pub dims : ℕ
 dims = rng + 1
 
@@ -47,8 +50,11 @@ candidates = dims + 1
 abbrev pub plans : ℕ
 plans = candidates + 1
 
+abbrev pub waiting : ℕ
+waiting = plans + 1
+
 abbrev pub generation : ℕ
-generation = plans + 1
+generation = waiting + 1
 
 abbrev pub ideal : ℕ
 ideal = generation + 1

@@ -38,7 +38,9 @@ pub const CROSSOVER_ETA_AT: usize = CROSSOVER_PROB_AT + 1;
 
 pub const MUTATION_ETA_AT: usize = CROSSOVER_ETA_AT + 1;
 
-pub const PHASE_AT: usize = MUTATION_ETA_AT + 1;
+pub const EDITION_AT: usize = MUTATION_ETA_AT + 1;
+
+pub const PHASE_AT: usize = EDITION_AT + 1;
 
 // whether there is a first plan, and its number
 pub const HAS_FIRST_AT: usize = PHASE_AT + 1;
@@ -47,14 +49,16 @@ pub const FIRST_AT: usize = HAS_FIRST_AT + 1;
 
 pub const RNG_AT: usize = FIRST_AT + 1;
 
-// the counts of dimensions, candidates and plans, and the generation
+// the counts of dimensions, candidates, plans and waiting plans, and the generation
 pub const DIMS_AT: usize = RNG_AT + 1;
 
 pub const CANDIDATES_AT: usize = DIMS_AT + 1;
 
 pub const PLANS_AT: usize = CANDIDATES_AT + 1;
 
-pub const GENERATION_AT: usize = PLANS_AT + 1;
+pub const WAITING_AT: usize = PLANS_AT + 1;
+
+pub const GENERATION_AT: usize = WAITING_AT + 1;
 
 pub const IDEAL_AT: usize = GENERATION_AT + 1;
 
@@ -240,7 +244,9 @@ fn config_at(words: &[u64]) -> Config
     let crossover_prob = real_at(words, CROSSOVER_PROB_AT);
     let crossover_eta = real_at(words, CROSSOVER_ETA_AT);
     let mutation_eta = real_at(words, MUTATION_ETA_AT);
+    let edition = editions::edition_of(word_at(words, EDITION_AT));
     Config {
+        edition,
         n_obj,
         directions,
         divisions,
@@ -257,11 +263,13 @@ fn progress_at(words: &[u64]) -> Progress
     let n_dims = word_at(words, DIMS_AT) as usize;
     let n_candidates = word_at(words, CANDIDATES_AT) as usize;
     let n_plans = word_at(words, PLANS_AT) as usize;
+    let n_waiting = word_at(words, WAITING_AT) as usize;
     let generation = word_at(words, GENERATION_AT);
     Progress {
         n_dims,
         n_candidates,
         n_plans,
+        n_waiting,
         generation,
     }
 }

@@ -5,6 +5,7 @@ ghost use Rattle.model.specs.Refusal.{maxSize, stepRefusal, stepTooShort};
 ghost use Rattle.model.specs.Calls.{wordRequest};
 ghost use Rattle.model.specs.Setting.{maxDims, operatorsIn};
 ghost use Rattle.refusals.specs.Checked.{checked};
+use model::Edition;
 use model::Operators;
 use model::Rng;
 use refusals::Check;
@@ -34,6 +35,7 @@ fn no_step_room(
 
 // The first refusal that applies to a generation step.
 pub fn refusal(
+    edition: Edition,
     pool: &[u64],
     directions: &[u8],
     divisions: usize,
@@ -48,7 +50,7 @@ pub fn refusal(
     offspring: usize,
 ) -> Check
     ensures { λ r. ⌜ checked r ≡ stepRefusal (operatorsIn operators)
-        (wordRequest (now (pool .entry)) (now (directions .entry)) divisions size rng (now (ideal .entry)))
+        (wordRequest edition (now (pool .entry)) (now (directions .entry)) divisions size rng (now (ideal .entry)))
         (record { kept = kept; rules = rules; fronts = fronts; lines = lines }) offspring ⌝ }
 {
     if plans::bad_directions(directions) {
@@ -74,7 +76,7 @@ pub fn refusal(
         return Check::Refused(6);
     }
     let n = plans::plan_count(pool);
-    if plans::bad_count(n) {
+    if plans::bad_count(edition, n) {
         return Check::Refused(7);
     }
     if plans::bad_pool(pool, m, ideal) {

@@ -104,4 +104,4 @@ module _ (s : Session) (vs : List Val) (p : Is (struct.row session.the-type) s v
   session-ideal = sym (length-map (s .«ideal_point») _) ∙ p .1 .1 .1 .1 .1 .1 .1 .0 .1 .0 .1
 
   pub session-directions : length (s .config .directions) ≡ 8
-  session-directions = sym (length-map (s .config .directions) _) ∙ p .1 .1 .0 .1 .1 .1 .0 .1 .0 .1
+  session-directions = sym (length-map (s .config .directions) _) ∙ p .1 .1 .0 .1 .1 .1 .1 .0 .1 .0 .1

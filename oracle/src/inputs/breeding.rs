@@ -335,13 +335,17 @@ pub(super) fn breeding_input(mix: &mut Mix, at: u64) -> Line {
         }
         _ => {
             let turn = at / 10 * 2 + at % 2;
-            let mut call = selection(mix, turn, if many { 3 } else { 6 });
-            call = bred(call, &dimensions, mix);
-            call.operators = operators(mix);
-            if mix.once_in(8) {
-                spoil(mix, &mut call);
-            }
-            call.step()
+            generated_step(mix, turn, if many { 3 } else { 6 }, &dimensions).step()
         }
     }
+}
+
+/// A generation step from at most so many plans; now and then one thing is wrong.
+pub(super) fn generated_step(mix: &mut Mix, at: u64, most: u64, dimensions: &[Distribution]) -> Call {
+    let mut call = bred(selection(mix, at, most), dimensions, mix);
+    call.operators = operators(mix);
+    if mix.once_in(8) {
+        spoil(mix, &mut call);
+    }
+    call
 }

@@ -9,11 +9,13 @@ mod load;
 mod long;
 mod numbers;
 mod rows;
+mod second;
 mod sessions;
 mod water;
 
-use crate::answers::{Call, SELECT, STEP};
+use crate::answers::{Call, SELECT, SELECT_SECOND, STEP, STEP_SECOND};
 use crate::distribution::{Distribution, FloatDistribution, IntDistribution};
+use crate::edition::Edition;
 use crate::mix::Mix;
 use crate::param::ParamValue;
 use crate::plans::{self, Plan, choices, float, int, write_dimensions, write_marks};
@@ -27,7 +29,7 @@ type Cases = fn() -> Vec<Line>;
 type Input = fn(&mut Mix, u64) -> Line;
 
 /// Each record: its named cases, and how an input is generated.
-const RECORDS: [(&str, Cases, Input); 14] = [
+const RECORDS: [(&str, Cases, Input); 17] = [
     ("draw", numbers::draw_cases, numbers::draw_input),
     ("numbers", numbers::number_cases, numbers::number_input),
     ("dominance", rows::dominance_cases, rows::dominance_input),
@@ -58,6 +60,17 @@ const RECORDS: [(&str, Cases, Input); 14] = [
         editions::convert_cases,
         editions::convert_input,
     ),
+    ("kept_second", second::kept_cases, second::kept_input),
+    (
+        "breeding_second",
+        second::breeding_cases,
+        second::breeding_input,
+    ),
+    (
+        "session_second",
+        second::session_cases,
+        second::session_input,
+    ),
 ];
 
 /// The place of a record.
@@ -73,7 +86,7 @@ pub fn cases(kind: &str) -> Result<Vec<Line>, String> {
     match kind {
         "tables" => Ok(rows::table_cases()),
         "long" => Ok(long::long_cases()),
-        "large" => Ok(files::large_cases()),
+        "large" => Ok([files::large_cases(), second::large_cases()].concat()),
         _ => match record(kind) {
             Ok(place) => Ok(RECORDS[place].1()),
             Err(message) => Err(message + ", tables, long, large"),
@@ -96,6 +109,12 @@ pub fn generated(
         mix.word();
         RECORDS[place].2(&mut mix, at)
     }))
+}
+
+/// A selection of edition 2 from a pool past the first edition's limit; not of a
+/// record, as it is too long to be stored.
+pub fn wide_input(seed: u64, at: u64) -> Line {
+    second::wide_input(&mut Mix(seed ^ (at << 24)), at)
 }
 
 /// The number of objectives of a generated input.
@@ -410,11 +429,17 @@ impl But for Opening {}
 
 impl Call {
     fn select(&self) -> Line {
-        self.write(SELECT)
+        self.write(match self.edition {
+            Edition::First => SELECT,
+            Edition::Second => SELECT_SECOND,
+        })
     }
 
     fn step(&self) -> Line {
-        self.write(STEP)
+        self.write(match self.edition {
+            Edition::First => STEP,
+            Edition::Second => STEP_SECOND,
+        })
     }
 
     /// As a pool file; the ideal is not part of it.

@@ -79,7 +79,7 @@ impl Script {
     }
 
     pub(super) fn line(&self) -> Line {
-        let mut line = vec![90];
+        let mut line = Vec::new();
         self.opening.write(&mut line);
         line.push(self.calls.len() as u64);
         for call in &self.calls {

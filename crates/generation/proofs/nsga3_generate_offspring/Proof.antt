@@ -20,7 +20,7 @@ at s = lent (s .args .kept .now) (s .args .rules .now) (s .args .fronts .now) (s
 
 -- the dimensions' numbers are such as the machine holds
 held : (s : tie.Start) → badDimensions (ops s .dims) (ops s .dimCount) ≡ false → AllHeld (ops s .dims) (ops s .dimCount)
-held s = operators-good (s .args .operators) _ (s .good .1 .1 .1 .1 .1 .0)
+held s = operators-good (s .args .operators) _ (s .good .1 .1 .1 .1 .1 .1 .0)
 
 -- ---- the places, each from the next: the call starts, is checked, is found good, and the step is made
 
@@ -59,7 +59,7 @@ returns c =
     let checks = told .before .before in
     let s = start checks in
     let a = s .args in
-    refused-so (ops s) (a .pool .now) (a .directions .now) (a .divisions) (a .size) (a .rng) (a .ideal .now) (at s) (a .offspring .now) (held s) _
+    refused-so (a .edition) (ops s) (a .pool .now) (a .directions .now) (a .divisions) (a .size) (a .rng) (a .ideal .now) (at s) (a .offspring .now) (held s) _
     (sym (ap checked (told .check .given .1)) ∙ checks .refusal .ensures)
 
 same-length-2 : tie.Need-same-length-2
@@ -85,7 +85,7 @@ returns-2 c =
     let told = good (stepped c .before) in
     let s = start (asked told) in
     let a = s .args in
-    stepped-so (ops s) (a .pool .now) (a .directions .now) (a .divisions) (a .size) (a .rng) (a .ideal .now) (at s) (a .offspring .now) (held s)
+    stepped-so (a .edition) (ops s) (a .pool .now) (a .directions .now) (a .divisions) (a .size) (a .rng) (a .ideal .now) (at s) (a .offspring .now) (held s)
     (sym (ap checked (told .enum-told .given .1)) ∙ asked told .refusal .ensures) _ (stepped c .step .ensures)
 
 pub nsga3-generate-offspring-spec : {M : Type 1} → statement M

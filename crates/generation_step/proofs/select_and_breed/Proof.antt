@@ -9,7 +9,7 @@ use Rattle.model.specs.Setting.{Operators, operatorsIn}
 use Rattle.model.specs.Calls.{wordRequest, Lent, lent, roomOf}
 use Rattle.plan_rows.specs.Filled.{GoodPool}
 use Rattle.list_laws.proofs.Checks.{pool-plans}
-use Rattle.demand3_laws.proofs.Passed.{Passed, passed, some-objectives, size-limits, count-limits}
+use Rattle.demand3_laws.proofs.Passed.{Passed, passed, some-objectives, size-limits, count-in-pool}
 use Rattle.candidate_laws.proofs.Generations.{plans-breedable}
 use Rattle.generation_laws.specs.Bred.{bredOfWords}
 use Rattle.generation_laws.proofs.Accepted.{offspring-room, kept-room, fronts-room}
@@ -21,7 +21,7 @@ abbrev ops : tie.Start → Operators
 ops s = operatorsIn (s .args .operators)
 
 abbrev request : tie.Start → Request
-request s = wordRequest (s .args .pool .now) (s .args .directions .now) (s .args .divisions) (s .args .size) (s .args .rng) (s .args .ideal .now)
+request s = wordRequest (s .args .edition) (s .args .pool .now) (s .args .directions .now) (s .args .divisions) (s .args .size) (s .args .rng) (s .args .ideal .now)
 
 abbrev at : tie.Start → Lent
 at s = lent (s .args .kept .now) (s .args .rules .now) (s .args .fronts .now) (s .args .lines .now)
@@ -36,7 +36,7 @@ given s = passed (ops s) (request s) (roomOf (at s)) (room s) (s .pre .1)
 good-pool : (s : tie.Start) → GoodPool (s .args .pool .now) (s .args .directions .now)
 good-pool s =
     let ok = given s in
-    record { few = count-limits _ (ok .count) .1; narrow = some-objectives _ (ok .directions) .1; good = pool-plans (request s) (ok .pool) }
+    record { few = count-in-pool (s .args .edition) _ (ok .count); narrow = some-objectives _ (ok .directions) .1; good = pool-plans (request s) (ok .pool) }
 
 -- ---- the places, each from the next: the plans to breed from are selected, the pool is sorted by rows, and the plans are bred from
 
@@ -65,18 +65,18 @@ breed-requires c κs =
     let n = selected (sorted c) in
     let s = start n in
     let a = s .args in
-    let e = select-exit (ops s) (a .pool .now) (a .directions .now) (a .divisions) (a .size) (a .rng) (a .ideal .now) (at s) (a .offspring .now) (s .pre .1) (s .pre .0 .0) _ (n .nsga3-select .ensures) in
+    let e = select-exit (a .edition) (ops s) (a .pool .now) (a .directions .now) (a .divisions) (a .size) (a .rng) (a .ideal .now) (at s) (a .offspring .now) (s .pre .1) (s .pre .0 .0) _ (n .nsga3-select .ensures) in
     let ok = given s in
     let rows : length (sorted c .row-fronts .last .1 .1 .0) ≡ length (a .by-rows .now) = sorted c .row-fronts .kept .1 .1 .0 in
     -- the selection's fronts have room for the pool too, so that a program which breeds by them fails for its offspring alone
-    let others : length (n .nsga3-select .last .1 .1 .1 .1 .1 .1 .1 .1 .0) ≡ length (a .fronts .now) = n .nsga3-select .kept .1 .1 .1 .1 .1 .1 .1 .1 .0 in
-    let kept : length (n .nsga3-select .last .1 .1 .1 .1 .1 .1 .0) ≡ length (a .kept .now) = n .nsga3-select .kept .1 .1 .1 .1 .1 .1 .0 in (
+    let others : length (n .nsga3-select .last .1 .1 .1 .1 .1 .1 .1 .1 .1 .0) ≡ length (a .fronts .now) = n .nsga3-select .kept .1 .1 .1 .1 .1 .1 .1 .1 .1 .0 in
+    let kept : length (n .nsga3-select .last .1 .1 .1 .1 .1 .1 .1 .0) ≡ length (a .kept .now) = n .nsga3-select .kept .1 .1 .1 .1 .1 .1 .1 .0 in (
       (omega (arith, rows, s .pre .0 .1, others, fronts-room ok (s .pre .0 .0)), plans-breedable (ops s) (request s) (ok .parents), ok .dimensions, ok .operators),
       (
         size-limits _ (ok .size) .0,
         size-limits _ (ok .size) .1,
         omega (arith, kept, kept-room ok (s .pre .0 .0)),
-        kept-in-pool (ops s) (a .pool .now) (a .directions .now) (a .divisions) (a .size) (a .rng) (a .ideal .now) (at s) (a .offspring .now) (s .pre .1) (s .pre .0 .0) _ e,
+        kept-in-pool (a .edition) (ops s) (a .pool .now) (a .directions .now) (a .divisions) (a .size) (a .rng) (a .ideal .now) (at s) (a .offspring .now) (s .pre .1) (s .pre .0 .0) _ e,
         offspring-room ok,
       ),
     )
@@ -110,9 +110,9 @@ returns c =
     let a = s .args in
     let b = bred c .breed in
     -- the ranks that it draws by are the fronts by rows
-    let drawn : b .result .s ≡ bredOfWords (ops s) (a .pool .now) (w .row-fronts .last .1 .1 .0) (n .nsga3-select .last .1 .1 .1 .1 .1 .1 .0) (a .size) (n .nsga3-select .result .rng .s) .state = b .ensures .1 in
-    let e = select-exit (ops s) (a .pool .now) (a .directions .now) (a .divisions) (a .size) (a .rng) (a .ideal .now) (at s) (a .offspring .now) (s .pre .1) (s .pre .0 .0) _ (n .nsga3-select .ensures) in
-    bred-exit (ops s) (a .pool .now) (a .directions .now) (a .divisions) (a .size) (a .rng) (a .ideal .now) (at s) (a .offspring .now) (s .pre .1) (s .pre .0 .0) _ e (w .row-fronts .last .1 .1 .0) (a .by-rows .now)
+    let drawn : b .result .s ≡ bredOfWords (ops s) (a .pool .now) (w .row-fronts .last .1 .1 .0) (n .nsga3-select .last .1 .1 .1 .1 .1 .1 .1 .0) (a .size) (n .nsga3-select .result .rng .s) .state = b .ensures .1 in
+    let e = select-exit (a .edition) (ops s) (a .pool .now) (a .directions .now) (a .divisions) (a .size) (a .rng) (a .ideal .now) (at s) (a .offspring .now) (s .pre .1) (s .pre .0 .0) _ (n .nsga3-select .ensures) in
+    bred-exit (a .edition) (ops s) (a .pool .now) (a .directions .now) (a .divisions) (a .size) (a .rng) (a .ideal .now) (at s) (a .offspring .now) (s .pre .1) (s .pre .0 .0) _ e (w .row-fronts .last .1 .1 .0) (a .by-rows .now)
     (w .row-fronts .ensures) _ _ (b .ensures .0) drawn
 
 pub select-and-breed-spec : {M : Type 1} → statement M

@@ -6,7 +6,7 @@ use lib.ListN.{length}
 use Rattle.model.specs.Association.{Request}
 use Rattle.model.specs.Setting.{Operators, operatorsIn}
 use Rattle.model.specs.Calls.{wordRequest, Lent, lent, roomOf}
-use Rattle.demand3_laws.proofs.Passed.{Passed, passed, count-limits}
+use Rattle.demand3_laws.proofs.Passed.{Passed, passed, count-in-pool}
 use Rattle.generation_laws.proofs.Accepted.{offspring-room}
 use Rattle.generation_laws.proofs.Answer.{one-exit}
 use Rattle.generation_step.proofs.step.Statement.{statement}
@@ -16,7 +16,7 @@ abbrev ops : tie.Start → Operators
 ops s = operatorsIn (s .args .operators)
 
 abbrev request : tie.Start → Request
-request s = wordRequest (s .args .pool .now) (s .args .directions .now) (s .args .divisions) (s .args .size) (s .args .rng) (s .args .ideal .now)
+request s = wordRequest (s .args .edition) (s .args .pool .now) (s .args .directions .now) (s .args .divisions) (s .args .size) (s .args .rng) (s .args .ideal .now)
 
 abbrev at : tie.Start → Lent
 at s = lent (s .args .kept .now) (s .args .rules .now) (s .args .fronts .now) (s .args .lines .now)
@@ -66,7 +66,7 @@ returns c =
     let s = start (t .before) in
     let a = s .args in
     let d = drawn c .sample-candidates in
-    one-exit (ops s) (a .pool .now) (a .directions .now) (a .divisions) (a .size) (a .rng) (a .ideal .now) (at s) (a .offspring .now)
+    one-exit (a .edition) (ops s) (a .pool .now) (a .directions .now) (a .divisions) (a .size) (a .rng) (a .ideal .now) (at s) (a .offspring .now)
     (omega (arith, t .before .plan-count .ensures, t .if1 .taken)) _ _ (d .ensures .0) (d .ensures .1)
 
 -- ---- a pool of two or more
@@ -78,7 +78,7 @@ select-and-breed-requires : tie.Need-select-and-breed-requires
 select-and-breed-requires c κs =
     let m = more c in
     let s = start (m .before) in
-    ((omega (arith, m .before .plan-count .ensures, m .if1 .left), count-limits _ (given s .count) .1), s .pre)
+    ((omega (arith, m .before .plan-count .ensures, m .if1 .left), count-in-pool (s .args .edition) _ (given s .count)), s .pre)
 
 same-length-2 : tie.Need-same-length-2
 same-length-2 c = search needs

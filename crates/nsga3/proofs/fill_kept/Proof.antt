@@ -9,7 +9,7 @@ use Rattle.nsga3.proofs.fill_kept.Statement.{statement}
 use Rattle.nsga3.proofs.fill_kept.Tie as tie
 
 abbrev request : tie.Start → Request
-request s = wordRequest (s .args .pool .now) (s .args .directions .now) (s .args .divisions) (s .args .size) (s .args .rng) (s .args .ideal .now)
+request s = wordRequest (s .args .edition) (s .args .pool .now) (s .args .directions .now) (s .args .divisions) (s .args .size) (s .args .rng) (s .args .ideal .now)
 
 -- ---- the places, each from the next
 
@@ -40,16 +40,16 @@ select-split-requires : tie.Need-select-split-requires
 select-split-requires c κs = (start (parted c .before) .pre, parted c .if1 .taken)
 
 same-length : tie.Need-same-length
-same-length c = chosen c .select-split .kept .1 .1 .1 .1 .1 .1 .1 .1 .0
+same-length c = chosen c .select-split .kept .1 .1 .1 .1 .1 .1 .1 .1 .1 .0
 
 same-length-2 : tie.Need-same-length-2
-same-length-2 c = chosen c .select-split .kept .1 .1 .1 .1 .1 .1 .1 .1 .1 .0
+same-length-2 c = chosen c .select-split .kept .1 .1 .1 .1 .1 .1 .1 .1 .1 .1 .0
 
 same-length-3 : tie.Need-same-length-3
-same-length-3 c = chosen c .select-split .kept .1 .1 .1 .1 .1 .1 .1 .1 .1 .1 .0
+same-length-3 c = chosen c .select-split .kept .1 .1 .1 .1 .1 .1 .1 .1 .1 .1 .1 .0
 
 same-length-4 : tie.Need-same-length-4
-same-length-4 c = chosen c .select-split .kept .1 .1 .1 .1 .1 .1 .1 .1 .1 .1 .1 .0
+same-length-4 c = chosen c .select-split .kept .1 .1 .1 .1 .1 .1 .1 .1 .1 .1 .1 .1 .0
 
 returns : tie.Need-returns
 returns c =

@@ -34,7 +34,7 @@ select-requires : tie.Need-select-requires
 select-requires c κs =
     let told = good c in
     let a = start (asked told) .args in
-    limits-kept (a .pool .now) (a .directions .now) (a .divisions) (a .size) (a .rng) (a .ideal .now) (lent (a .kept .now) (a .rules .now) (a .fronts .now) (a .lines .now))
+    limits-kept (a .edition) (a .pool .now) (a .directions .now) (a .divisions) (a .size) (a .rng) (a .ideal .now) (lent (a .kept .now) (a .rules .now) (a .fronts .now) (a .lines .now))
     (asked told .refusal .ensures) (told .enum-told .given .1)
 
 same-length : tie.Need-same-length
@@ -45,7 +45,7 @@ returns c =
     let check = c .before in
     let asks = check .before .before in
     let a = start asks .args in
-    refused (a .pool .now) (a .directions .now) (a .divisions) (a .size) (a .rng) (a .ideal .now) (lent (a .kept .now) (a .rules .now) (a .fronts .now) (a .lines .now))
+    refused (a .edition) (a .pool .now) (a .directions .now) (a .divisions) (a .size) (a .rng) (a .ideal .now) (lent (a .kept .now) (a .rules .now) (a .fronts .now) (a .lines .now))
     (asks .refusal .ensures) _ (check .check .given .1)
 
 same-length-2 : tie.Need-same-length-2
@@ -67,7 +67,7 @@ returns-2 : tie.Need-returns-2
 returns-2 c =
     let told = good (selected c .before) in
     let a = start (asked told) .args in
-    selected-so (a .pool .now) (a .directions .now) (a .divisions) (a .size) (a .rng) (a .ideal .now) (lent (a .kept .now) (a .rules .now) (a .fronts .now) (a .lines .now))
+    selected-so (a .edition) (a .pool .now) (a .directions .now) (a .divisions) (a .size) (a .rng) (a .ideal .now) (lent (a .kept .now) (a .rules .now) (a .fronts .now) (a .lines .now))
     (asked told .refusal .ensures) (told .enum-told .given .1) _ (selected c .select .ensures)
 
 pub nsga3-select-spec : {M : Type 1} → statement M

@@ -16,7 +16,7 @@ use Rattle.nsga3.proofs.select.Statement.{statement}
 use Rattle.nsga3.proofs.select.Tie as tie
 
 abbrev request : tie.Start → Request
-request s = wordRequest (s .args .pool .now) (s .args .directions .now) (s .args .divisions) (s .args .size) (s .args .rng) (s .args .ideal .now)
+request s = wordRequest (s .args .edition) (s .args .pool .now) (s .args .directions .now) (s .args .divisions) (s .args .size) (s .args .rng) (s .args .ideal .now)
 
 -- ---- the places, each from the next: the call starts, the plans are counted, the rows filled, the pool sorted, and the kept list filled
 
@@ -88,30 +88,30 @@ fill-kept-requires c κs =
       fronts = length (a .fronts .now);
       limits = s .pre;
       laid = laid rows;
-      listed = sorted c .sort-pool .ensures (a .divisions) (a .rng) (a .ideal .now) .order;
+      listed = sorted c .sort-pool .ensures (a .edition) (a .divisions) (a .rng) (a .ideal .now) .order;
     }
 
 same-length : tie.Need-same-length
-same-length c = chosen c .fill-kept .kept .1 .1 .1 .1 .1 .1 .1 .1 .0
+same-length c = chosen c .fill-kept .kept .1 .1 .1 .1 .1 .1 .1 .1 .1 .0
 
 same-length-2 : tie.Need-same-length-2
-same-length-2 c = chosen c .fill-kept .kept .1 .1 .1 .1 .1 .1 .1 .1 .1 .0
+same-length-2 c = chosen c .fill-kept .kept .1 .1 .1 .1 .1 .1 .1 .1 .1 .1 .0
 
 same-length-3 : tie.Need-same-length-3
-same-length-3 c = chosen c .fill-kept .kept .1 .1 .1 .1 .1 .1 .1 .1 .1 .1 .0
+same-length-3 c = chosen c .fill-kept .kept .1 .1 .1 .1 .1 .1 .1 .1 .1 .1 .1 .0
 
 same-length-4 : tie.Need-same-length-4
 same-length-4 c = sorted (chosen c .before) .sort-pool .kept .1 .1 .1 .1 .1 .0
 
 same-length-5 : tie.Need-same-length-5
-same-length-5 c = chosen c .fill-kept .kept .1 .1 .1 .1 .1 .1 .1 .1 .1 .1 .1 .0
+same-length-5 c = chosen c .fill-kept .kept .1 .1 .1 .1 .1 .1 .1 .1 .1 .1 .1 .1 .0
 
 returns : tie.Need-returns
 returns c =
     let cut = sorted (chosen c .before) in
     let s = start (counted (filled (cut .before))) in
     let a = s .args in
-    accepted-exit (request s) _ _ _ _ _ _ _ _ _ _ _ _ (cut .sort-pool .ensures (a .divisions) (a .rng) (a .ideal .now)) (chosen c .fill-kept .ensures)
+    accepted-exit (request s) _ _ _ _ _ _ _ _ _ _ _ _ (cut .sort-pool .ensures (a .edition) (a .divisions) (a .rng) (a .ideal .now)) (chosen c .fill-kept .ensures)
 
 pub select-spec : {M : Type 1} → statement M
 select-spec =

@@ -18,7 +18,7 @@ use Rattle.nsga3.proofs.select_split.Statement.{statement}
 use Rattle.nsga3.proofs.select_split.Tie as tie
 
 abbrev request : tie.Start → Request
-request s = wordRequest (s .args .pool .now) (s .args .directions .now) (s .args .divisions) (s .args .size) (s .args .rng) (s .args .ideal .now)
+request s = wordRequest (s .args .edition) (s .args .pool .now) (s .args .directions .now) (s .args .divisions) (s .args .size) (s .args .rng) (s .args .ideal .now)
 
 -- ---- the places, each from the next: the call starts, the plans are counted, the table filled, the plans associated, the whole fronts copied, and the rest picked
 

@@ -7,7 +7,8 @@ use native.Mathlib.Omega.{arith}
 use lib.ListN.{length, take, length-replicate}
 use lib.Seq.{length-take-le}
 use Rattle.model.specs.Plan.{planWords}
-use Rattle.model.specs.Refusal.{maxPool}
+use Rattle.model.specs.declared.Edition.the-variants.{First}
+use Rattle.model.specs.Edition.{mostPlans}
 use Rattle.pool_laws.proofs.Files.{broken-first, broken-second, many-objectives, chosen-words}
 use borrow.Author.Needs.{needs}
 use Rattle.pool_choice.proofs.choose.Statement.{statement}
@@ -18,7 +19,7 @@ use Rattle.pool_choice.proofs.choose.Tie as tie
 few-marks : (m n : ℕ) → m ≤ 8 → n ≡ 8 → m ≤ n
 few-marks m n h e = omega arith
 
-few-words : (k n : ℕ) → k ≤ maxPool → n ≡ maxPool * planWords → k * planWords ≤ n
+few-words : (k n : ℕ) → k ≤ mostPlans First → n ≡ mostPlans First * planWords → k * planWords ≤ n
 few-words k n h e = omega arith
 
 taken-marks : (m : ℕ) (l : List ℕ) → m ≤ 8 → length l ≡ 8 → length (take m l) ≤ 8
@@ -28,17 +29,17 @@ taken-marks m l h e = omega (arith, length-take-le m l (omega arith))
 marks-length : (s : tie.After-parse-pool) → length (s .parse-pool .last .1 .0) ≡ 8
 marks-length s = s .parse-pool .kept .1 .0
 
-words-length : (s : tie.After-parse-pool) → length (s .parse-pool .last .1 .1 .0) ≡ maxPool * planWords
-words-length s = s .parse-pool .kept .1 .1 .0 ∙ length-replicate {A = ℕ} (maxPool * planWords) 0
+words-length : (s : tie.After-parse-pool) → length (s .parse-pool .last .1 .1 .0) ≡ mostPlans First * planWords
+words-length s = s .parse-pool .kept .1 .1 .0 ∙ length-replicate {A = ℕ} (mostPlans First * planWords) 0
 
 slice-aggregate-parse-pool : tie.Need-slice-aggregate-parse-pool
 slice-aggregate-parse-pool c = refl
 
 slice-aggregate-parse-pool-2 : tie.Need-slice-aggregate-parse-pool-2
-slice-aggregate-parse-pool-2 c = sym (length-replicate {A = ℕ} (maxPool * planWords) 0)
+slice-aggregate-parse-pool-2 c = sym (length-replicate {A = ℕ} (mostPlans First * planWords) 0)
 
 parse-pool-requires : tie.Need-parse-pool-requires
-parse-pool-requires c κs = (le-of-eq refl, le-of-eq (sym (length-replicate {A = ℕ} (maxPool * planWords) 0)))
+parse-pool-requires c κs = (le-of-eq refl, le-of-eq (sym (length-replicate {A = ℕ} (mostPlans First * planWords) 0)))
 
 enum-known-parsed : tie.Need-enum-known-parsed
 enum-known-parsed c = search needs

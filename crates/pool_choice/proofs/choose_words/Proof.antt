@@ -1,16 +1,18 @@
 -- `choose_words`: the selection's answer, and the listing of what it hands out
 use Prim.Native.Nat.{ℕ, _≤_}
-use mathlib.Core.Path.{_≡_, ap₂, sym, _∙_, subst}
+use mathlib.Core.Path.{_≡_, refl, ap₂, sym, _∙_, subst}
 use mathlib.Core.List.{List}
 use lib.Ieee.{Float}
 use lib.ListN.{length, take, replicate, length-replicate}
 use lib.Seq.{length-take-le}
 use native.Mathlib.Omega.{arith}
 use borrow.Author.Needs.{needs}
+use Rattle.model.specs.declared.Edition.the-variants.{First}
+use Rattle.model.specs.Edition.{mostPlans}
 use Rattle.model.specs.Real.{infinity}
 use Rattle.model.specs.Association.{Request}
 use Rattle.model.specs.PoolFile.{listingText}
-use Rattle.model.specs.Refusal.{Room, maxSize, maxPool}
+use Rattle.model.specs.Refusal.{Room, maxSize}
 use Rattle.model.specs.Calls.{Lent, lent, roomOf, SelectExit, selectExit, Selects, wordRequest}
 use Rattle.pool_laws.specs.Text.{listed}
 use Rattle.pool_laws.specs.Choice.{roomy, textExit}
@@ -20,13 +22,13 @@ use Rattle.pool_choice.proofs.choose_words.Tie as tie
 
 -- the lists that are lent: for a kept list of any size and its rules, and for the fronts and lines of any pool
 abbrev zeros : Lent
-zeros = lent (replicate maxSize 0) (replicate maxSize 0) (replicate maxPool 0) (replicate maxPool 0)
+zeros = lent (replicate maxSize 0) (replicate maxSize 0) (replicate (mostPlans First) 0) (replicate (mostPlans First) 0)
 
 abbrev room : ℕ → ℕ → Room
 room size count = record { kept = size; rules = size; fronts = count; lines = count }
 
 roomed : roomOf zeros ≡ roomy
-roomed = ap₂ room (length-replicate {A = ℕ} maxSize 0) (length-replicate {A = ℕ} maxPool 0)
+roomed = ap₂ room (length-replicate {A = ℕ} maxSize 0) (length-replicate {A = ℕ} (mostPlans First) 0)
 
 -- ---- the places: the call starts, and the selection is made
 
@@ -40,14 +42,14 @@ called o = o .before .before .before .before .before .before .before
 abbrev asked : tie.After-nsga3-select → List Float → Request
 asked s ideal =
     let a = start s .args in
-    wordRequest (a .pool .now) (a .directions .now) (a .divisions) (a .size) (a .rng) ideal
+    wordRequest First (a .pool .now) (a .directions .now) (a .divisions) (a .size) (a .rng) ideal
 
 abbrev objectives : tie.After-nsga3-select → ℕ
 objectives s = length (start s .args .directions .now)
 
 abbrev left : tie.After-nsga3-select → SelectExit
 left s =
-    let l = s .nsga3-select .last .1 .1 .1 .1 .1 in
+    let l = s .nsga3-select .last .1 .1 .1 .1 .1 .1 in
     selectExit (s .nsga3-select .result) (l .0) (lent (l .1 .0) (l .1 .1 .0) (l .1 .1 .1 .0) (l .1 .1 .1 .1 .0))
 
 -- what the selection promises, of the ideal at infinity
@@ -57,7 +59,7 @@ promised s =
     (s .nsga3-select .ensures)
 
 kept-few : (o : tie.After-outcome2) → o .outcome2 .given .0 .0 ≤ maxSize
-kept-few o = few-kept (promised (called o)) roomed (o .outcome2 .given .1)
+kept-few o = few-kept (promised (called o)) roomed refl (o .outcome2 .given .1)
 
 array-borrow-prefix-ideal : tie.Need-array-borrow-prefix-ideal
 array-borrow-prefix-ideal c = search needs
@@ -96,7 +98,7 @@ slice-aggregate-put-listing : tie.Need-slice-aggregate-put-listing
 slice-aggregate-put-listing c =
     let o = c .before .before .before in
     let s = called o in
-    sym (length-take-le _ (s .nsga3-select .last .1 .1 .1 .1 .1 .1 .0) (omega (arith, kept-few o, s .nsga3-select .kept .1 .1 .1 .1 .1 .1 .0)))
+    sym (length-take-le _ (s .nsga3-select .last .1 .1 .1 .1 .1 .1 .1 .0) (omega (arith, kept-few o, s .nsga3-select .kept .1 .1 .1 .1 .1 .1 .1 .0)))
 
 slice-aggregate-put-listing-2 : tie.Need-slice-aggregate-put-listing-2
 slice-aggregate-put-listing-2 c = search needs
@@ -109,13 +111,13 @@ put-listing-requires c κs =
     let p = c .before .before .before .before in
     let o = p .before .before in
     let s = called o in
-    let few = few-plans (promised s) roomed (o .outcome2 .given .1) in (
+    let few = few-plans (promised s) roomed refl (o .outcome2 .given .1) in (
       (
         omega (arith, few, p .plan-count .ensures),
-        omega (arith, few, p .plan-count .ensures, s .nsga3-select .kept .1 .1 .1 .1 .1 .1 .1 .1 .0),
         omega (arith, few, p .plan-count .ensures, s .nsga3-select .kept .1 .1 .1 .1 .1 .1 .1 .1 .1 .0),
+        omega (arith, few, p .plan-count .ensures, s .nsga3-select .kept .1 .1 .1 .1 .1 .1 .1 .1 .1 .1 .0),
       ),
-      rw (p .plan-count .ensures) (text-short (promised s) roomed (o .outcome2 .given .1)),
+      rw (p .plan-count .ensures) (text-short (promised s) roomed refl (o .outcome2 .given .1)),
     )
 
 returns : tie.Need-returns
@@ -135,7 +137,7 @@ returns-2 c =
     let s = called o in
     let out = start s .args .out .now in
     let text = listingText (p .plan-count .result) (listed (take (o .outcome2 .given .0 .0) (left s .slices .kept)) (left s .slices .fronts) (left s .slices .lines)) in
-    _∙_ {b = textExit text out} (l .put-listing .ensures) (listed-exit (promised s) roomed (o .outcome2 .given .1) out (p .plan-count .result) (p .plan-count .ensures))
+    _∙_ {b = textExit text out} (l .put-listing .ensures) (listed-exit (promised s) roomed refl (o .outcome2 .given .1) out (p .plan-count .result) (p .plan-count .ensures))
 
 pub choose-words-spec : {M : Type 1} → statement M
 choose-words-spec =

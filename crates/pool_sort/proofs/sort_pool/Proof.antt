@@ -6,6 +6,7 @@ use native.Mathlib.Omega.{arith}
 use borrow.Author.Needs.{needs}
 use lib.Ieee.{Float}
 use lib.ListN.{length}
+use Rattle.model.specs.declared.Edition.{Edition}
 use Rattle.model.specs.declared.Rng.{Rng}
 use Rattle.model.specs.Calls.{wordRequest}
 use Rattle.model.specs.Plan.{planAt}
@@ -17,9 +18,9 @@ use Rattle.pool_sort.proofs.Sorting.{sorts}
 use Rattle.pool_sort.proofs.sort_pool.Statement.{statement}
 use Rattle.pool_sort.proofs.sort_pool.Tie as tie
 
--- the request, for divisions, a generator and an ideal that the sort does not look at
-abbrev request : tie.Start → ℕ → Rng → List Float → Request
-request s h g i = wordRequest (s .args .pool .now) (s .args .directions .now) h (s .args .size) g i
+-- the request, for an edition, divisions, a generator and an ideal that the sort does not look at
+abbrev request : tie.Start → Edition → ℕ → Rng → List Float → Request
+request s v h g i = wordRequest v (s .args .pool .now) (s .args .directions .now) h (s .args .size) g i
 
 -- ---- the places, each from the next: the call starts, the plans are counted, their constraints laid out, and they are sorted
 
@@ -107,12 +108,12 @@ same-length-2 : tie.Need-same-length-2
 same-length-2 c = sorted-last c .fast-non-dominated-sort-constrained .kept .1 .1 .1 .1 .1 .1 .0
 
 returns : tie.Need-returns
-returns c h g i =
+returns c v h g i =
     let at = sorted-last c .before in
     let n = counted-laid at in
     let s = start n in
     let f = sorted-last c .fast-non-dominated-sort-constrained in
-    sorts (request s h g i) _ (n .plan-count .ensures) (s .args .rows .now) (s .pre .1) (pool-known (s .pre .0) refl) _ _ _ _ _ _ _ _ _ _ _ _
+    sorts (request s v h g i) _ (n .plan-count .ensures) (s .args .rows .now) (s .pre .1) (pool-known (s .pre .0) refl) _ _ _ _ _ _ _ _ _ _ _ _
     (omega (arith, f .kept .1 .1 .1 .1 .1 .0, s .pre .2)) (laid at .fill-constraints .ensures) (f .ensures) (c .split-at .ensures)
 
 pub sort-pool-spec : {M : Type 1} → statement M

@@ -6,7 +6,8 @@ use native.Mathlib.Omega.{arith}
 use borrow.Author.Needs.{needs}
 use lib.ListN.{getD, length-replicate, getD-replicate}
 use Rattle.model.specs.PoolFile.{placeOf}
-use Rattle.model.specs.Refusal.{maxPool}
+use Rattle.model.specs.declared.Edition.the-variants.{First}
+use Rattle.model.specs.Edition.{mostPlans}
 use Rattle.list_laws.proofs.Stores.{put-over}
 use Rattle.pool_laws.proofs.Listing.{header-room, rows-room, listing-put}
 use Rattle.pool_text.proofs.write_listing.Statement.{statement}
@@ -16,12 +17,12 @@ slice-aggregate-mark-places : tie.Need-slice-aggregate-mark-places
 slice-aggregate-mark-places c = search needs
 
 mark-places-requires : tie.Need-mark-places-requires
-mark-places-requires c κs p h = getD-replicate maxPool p 0 0 (omega (arith, length-replicate {A = ℕ} maxPool 0))
+mark-places-requires c κs p h = getD-replicate (mostPlans First) p 0 0 (omega (arith, length-replicate {A = ℕ} (mostPlans First) 0))
 
 -- the places that are marked
 right : (c : tie.After-mark-places) (p : ℕ) → p < c .before .before .before .before .before .before .args .count
     → getD (c .mark-places .last .1 .0) p 0 ≡ placeOf (c .before .before .before .before .before .before .args .kept .now) p
-right c p l = c .mark-places .ensures p (omega (arith, length-replicate {A = ℕ} maxPool 0, c .before .before .before .before .before .before .pre .0 .0))
+right c p l = c .mark-places .ensures p (omega (arith, length-replicate {A = ℕ} (mostPlans First) 0, c .before .before .before .before .before .before .pre .0 .0))
 
 put-header-requires : tie.Need-put-header-requires
 put-header-requires c κs =
@@ -39,7 +40,7 @@ put-plans-requires c κs =
     let m = h .before .before .before in
     let s = m .before .before .before .before .before .before in
     let a = s .args in (
-      (s .pre .0 .1, s .pre .0 .2, omega (arith, m .mark-places .kept .1 .0, length-replicate {A = ℕ} maxPool 0, s .pre .0 .0)),
+      (s .pre .0 .1, s .pre .0 .2, omega (arith, m .mark-places .kept .1 .0, length-replicate {A = ℕ} (mostPlans First) 0, s .pre .0 .0)),
       rows-room (a .count) (a .kept .now) (a .fronts .now) (a .lines .now) (m .mark-places .last .1 .0) (right m) (a .out .now) (s .pre .1) _ _ (h .put-header .ensures),
     )
 

@@ -12,7 +12,7 @@ use Rattle.refusals.proofs.refusal.Statement.{statement}
 use Rattle.refusals.proofs.refusal.Tie as tie
 
 abbrev request : tie.Start → Request
-request s = wordRequest (s .args .pool .now) (s .args .directions .now) (s .args .divisions) (s .args .size) (s .args .rng) (s .args .ideal .now)
+request s = wordRequest (s .args .edition) (s .args .pool .now) (s .args .directions .now) (s .args .divisions) (s .args .size) (s .args .rng) (s .args .ideal .now)
 
 abbrev room : tie.Start → Room
 room s = record { kept = s .args .kept; rules = s .args .rules; fronts = s .args .fronts; lines = s .args .lines }
@@ -45,8 +45,8 @@ good-directions : (c : tie.Else1) → badDirections (start-1 c .args .directions
 good-directions c = sym (c .before .bad-directions .ensures) ∙ c .if1 .left
 
 -- the pool's count
-counted : (c : tie.After-bad-count) → c .bad-count .result ≡ badCount (request (start c) .count)
-counted c = c .bad-count .ensures ∙ ap badCount (c .before .before .plan-count .ensures)
+counted : (c : tie.After-bad-count) → c .bad-count .result ≡ badCount (request (start c) .edition) (request (start c) .count)
+counted c = c .bad-count .ensures ∙ ap (badCount (request (start c) .edition)) (c .before .before .plan-count .ensures)
 
 past-1 : (c : tie.Else1) → Past (start-1 c) 1
 unfolding selectRefusal

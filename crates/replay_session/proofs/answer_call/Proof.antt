@@ -5,7 +5,7 @@ use Rattle.replay_session.proofs.answer_call.Statement.{statement}
 use Rattle.replay_session.proofs.answer_call.Tie as tie
 
 answer-short-requires : tie.Need-answer-short-requires
-answer-short-requires c κs = ((λ cs ps ns short. short-ok _ _ _ _ cs ps ns (c .before .before .before .before .before .pre .0) short), search needs)
+answer-short-requires c κs = ((λ cs ps ns pool short. short-ok _ _ _ _ _ cs ps ns pool (c .before .before .before .before .before .before .pre .0) short), search needs)
 
 returns : tie.Need-returns
 returns c = search needs

@@ -15,8 +15,8 @@ put-requires c κs = tt
 enum-told : tie.Need-enum-told
 enum-told c = search needs
 
-word-requires : tie.Need-word-requires
-word-requires c κs = tt
+passed-over-requires : tie.Need-passed-over-requires
+passed-over-requires c κs = tt
 
 returns : tie.Need-returns
 returns c = tt
@@ -24,8 +24,8 @@ returns c = tt
 add-word : tie.Need-add-word
 add-word c = search needs
 
-word-requires-2 : tie.Need-word-requires-2
-word-requires-2 c κs = tt
+word-requires : tie.Need-word-requires
+word-requires c κs = tt
 
 add-calls : tie.Need-add-calls
 add-calls c = search needs
@@ -47,10 +47,10 @@ follow-spec =
     cast-put
     put-requires
     enum-told
-    word-requires
+    passed-over-requires
     returns
     add-word
-    word-requires-2
+    word-requires
     add-calls
     calls-requires
     returns-2

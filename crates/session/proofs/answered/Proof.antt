@@ -1,27 +1,26 @@
 -- each way is as the definition has it
 use mathlib.Core.Path.{_≡_, refl, sym, ap, _∙_}
 use mathlib.Core.Bool.{false, not}
-use mathlib.Core.List.{[]}
 use Rattle.list_laws.proofs.Bools.{and-not, and-fails}
 use Rattle.model.specs.declared.Phase.{Phase}
 use Rattle.model.specs.Session.{State, state, pastDiscovery}
 use Rattle.model.specs.Refusal.{badHistory}
 use Rattle.session_laws.proofs.Request.{refused-7}
 use Rattle.session_active.specs.Exits.{Called}
-use Rattle.session_active.proofs.Ways.{leaves-refused, adds-by, long-by, without-next, discovery-plans}
+use Rattle.session_active.proofs.Ways.{leaves-refused, adds-by, long-by, without-slices, discovery-plans}
 use borrow.Author.Needs.{needs}
 use Rattle.session.proofs.answered.Statement.{statement}
 use Rattle.session.proofs.answered.Tie as tie
 
 -- the state that the call is given
 abbrev before : tie.Start → State
-before s = state (s .args .session) (s .args .candidates .now) (s .args .plans .now) (s .args .next-dims .now)
+before s = state (s .args .session) (s .args .candidates .now) (s .args .plans .now) (s .args .next-dims .now) (s .args .pool .now)
 
 -- ---- the places, each from the next
 
 -- the call starts, its slices are measured, and it is asked whether it discovers
 abbrev start : tie.After-long-enough → tie.Start
-start c = c .before .before .before .before .before
+start c = c .before .before .before .before .before .before .before
 
 abbrev measured : tie.After-discovers → tie.After-long-enough
 measured c = c .before
@@ -31,27 +30,27 @@ abbrev other : tie.Else2 → tie.Else1
 other c = c .before .before
 
 -- the slices are long enough: by the phase
-abbrev first : tie.After-sample-first-arg3 → tie.After-enum-told
-first c = c .before .before .before
+abbrev first : tie.After-sample-first-arg4 → tie.After-enum-told
+first c = c .before .before .before .before
 
 abbrev roomy : tie.After-enum-told → tie.Then3
 roomy c = c .before .before
 
-abbrev active : tie.After-sample-active-arg3 → tie.After-enum-told2
-active c = c .before .before .before
+abbrev active : tie.After-sample-active-arg4 → tie.After-enum-told2
+active c = c .before .before .before .before
 
 abbrev roomy-2 : tie.After-enum-told2 → tie.Then3
 roomy-2 c = c .before .before
 
-abbrev sampled-first : tie.After-slice-known6 → tie.After-sample-first
+abbrev sampled-first : tie.After-slice-known7 → tie.After-sample-first
 sampled-first c = c .before .before .before .before .before .before
 
-abbrev sampled-active : tie.After-slice-known9 → tie.After-sample-active
-sampled-active c = c .before .before .before .before .before .before
+abbrev sampled-active : tie.After-slice-known11 → tie.After-sample-active
+sampled-active c = c .before .before .before .before .before .before .before .before
 
 -- they are not
-abbrev short : tie.After-short-refusal-arg → tie.Else3
-short c = c .before
+abbrev short : tie.After-short-refusal-arg2 → tie.Else3
+short c = c .before .before
 
 -- ---- the same from further on
 
@@ -64,7 +63,7 @@ entry-2 c = entry (other c .before)
 -- ---- the needs
 
 long-enough-requires : tie.Need-long-enough-requires
-long-enough-requires c κs = tt
+long-enough-requires c κs = c .before .before .before .before .before .before .pre .config .atMost
 
 discovers-requires : tie.Need-discovers-requires
 discovers-requires c κs = tt
@@ -82,7 +81,7 @@ returns c =
     let s = entry asked in
     let a = s .args in
     let st = before s in
-    c .sample-discovering .ensures (a .candidates .now) (a .plans .now) (a .next-dims .now) (long-by st _ (measured asked .long-enough .ensures))
+    c .sample-discovering .ensures (a .candidates .now) (a .plans .now) (a .next-dims .now) (a .pool .now) (long-by st _ (measured asked .long-enough .ensures))
 
 bad-history-requires : tie.Need-bad-history-requires
 bad-history-requires c κs = tt
@@ -97,7 +96,7 @@ returns-2 c =
     let s = entry (e .before) in
     let a = s .args in
     let st = before s in
-    leaves-refused st (a .distribution) (a .plan) (a .history .now) 7 (a .session) (a .candidates .now) _ (c .refused .ensures) refl
+    leaves-refused st (a .distribution) (a .plan) (a .history .now) 7 (a .session) (a .candidates .now) (a .pool .now) _ (c .refused .ensures) refl
     (refused-7 st (a .distribution) (a .plan) (a .history .now) (and-not _ _ (adds-by st (a .plan) false (sym (e .before .discovers .ensures) ∙ e .if1 .left))) (sym (asked .bad-history .ensures) ∙ c .before .if2 .taken))
 
 -- 7 does not apply
@@ -135,17 +134,23 @@ same-length-2 c = sampled-first c .sample-first .kept .1 .1 .1 .1 .0
 same-length-3 : tie.Need-same-length-3
 same-length-3 c = sampled-first c .sample-first .kept .1 .1 .1 .1 .1 .0
 
+same-length-4 : tie.Need-same-length-4
+same-length-4 c = refl
+
 returns-3 : tie.Need-returns-3
 returns-3 c = sampled-first c .sample-first .ensures _
 
-same-length-4 : tie.Need-same-length-4
-same-length-4 c = sampled-active c .sample-active .kept .1 .1 .1 .0
-
 same-length-5 : tie.Need-same-length-5
-same-length-5 c = sampled-active c .sample-active .kept .1 .1 .1 .1 .0
+same-length-5 c = sampled-active c .sample-active .kept .1 .1 .1 .0
 
 same-length-6 : tie.Need-same-length-6
-same-length-6 c = sampled-active c .sample-active .kept .1 .1 .1 .1 .1 .0
+same-length-6 c = sampled-active c .sample-active .kept .1 .1 .1 .1 .0
+
+same-length-7 : tie.Need-same-length-7
+same-length-7 c = sampled-active c .sample-active .kept .1 .1 .1 .1 .1 .0
+
+same-length-8 : tie.Need-same-length-8
+same-length-8 c = sampled-active c .sample-active .kept .1 .1 .1 .1 .1 .1 .0
 
 returns-4 : tie.Need-returns-4
 returns-4 c = sampled-active c .sample-active .ensures _
@@ -154,13 +159,16 @@ short-refusal-requires : tie.Need-short-refusal-requires
 short-refusal-requires c κs =
     let few-past = short c .before in
     let s = entry-2 few-past in
-    (without-next (before s) [] (s .pre), few few-past)
+    (without-slices (before s) (s .pre), few few-past)
 
 refused-requires-2 : tie.Need-refused-requires-2
 refused-requires-2 c κs = tt
 
-same-length-7 : tie.Need-same-length-7
-same-length-7 c = refl
+same-length-9 : tie.Need-same-length-9
+same-length-9 c = refl
+
+same-length-10 : tie.Need-same-length-10
+same-length-10 c = refl
 
 returns-5 : tie.Need-returns-5
 returns-5 c =
@@ -169,7 +177,7 @@ returns-5 c =
     let s = entry (e .before) in
     let a = s .args in
     let st = before s in
-    leaves-refused st (a .distribution) (a .plan) (a .history .now) _ (a .session) (a .candidates .now) _ (c .refused2 .ensures) refl
+    leaves-refused st (a .distribution) (a .plan) (a .history .now) _ (a .session) (a .candidates .now) (a .pool .now) _ (c .refused2 .ensures) refl
     (c .before .short-refusal .ensures (a .candidates .now) (a .next-dims .now) (a .distribution) (a .plan)
     (adds-by st (a .plan) false (sym (e .before .discovers .ensures) ∙ e .if1 .left))
     (long-by st _ (measured (e .before) .long-enough .ensures) ∙ t .if3 .left))
@@ -192,12 +200,15 @@ answered-spec =
     same-length
     same-length-2
     same-length-3
-    returns-3
     same-length-4
+    returns-3
     same-length-5
     same-length-6
+    same-length-7
+    same-length-8
     returns-4
     short-refusal-requires
     refused-requires-2
-    same-length-7
+    same-length-9
+    same-length-10
     returns-5)

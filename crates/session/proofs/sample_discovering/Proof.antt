@@ -30,11 +30,11 @@ refused-requires : tie.Need-refused-requires
 refused-requires c κs = tt
 
 returns : tie.Need-returns
-returns c cs ps ns l =
+returns c cs ps ns pool l =
     let s = start (c .before .before) in
     let a = s .args in
-    let st = state (a .session) cs ps ns in
-    leaves-refused st _ _ _ 6 (a .session) cs _ (c .refused .ensures) refl
+    let st = state (a .session) cs ps ns pool in
+    leaves-refused st _ _ _ 6 (a .session) cs pool _ (c .refused .ensures) refl
     (refused-6 st _ _ _ (adds-by st _ true (s .pre .0)) (sym (c .before .before .bad-dimension .ensures) ∙ c .before .if1 .taken))
 
 -- 6 does not apply
@@ -48,12 +48,12 @@ refused-requires-2 : tie.Need-refused-requires-2
 refused-requires-2 c κs = tt
 
 returns-2 : tie.Need-returns-2
-returns-2 c cs ps ns l =
+returns-2 c cs ps ns pool l =
     let asked = c .before .before in
     let s = start (passed-1 asked .before) in
     let a = s .args in
-    let st = state (a .session) cs ps ns in
-    leaves-refused st _ _ _ 7 (a .session) cs _ (c .refused2 .ensures) refl
+    let st = state (a .session) cs ps ns pool in
+    leaves-refused st _ _ _ 7 (a .session) cs pool _ (c .refused2 .ensures) refl
     (refused-7 st _ _ _ (and-no (discovers st (a .plan)) _ (fit (passed-1 asked))) (sym (asked .bad-history .ensures) ∙ c .before .if2 .taken))
 
 -- nor does 7
@@ -64,12 +64,12 @@ discover-requires : tie.Need-discover-requires
 discover-requires c κs = fit-dimension _ _ (fit (first-2 (c .before)))
 
 returns-3 : tie.Need-returns-3
-returns-3 c cs ps ns l =
+returns-3 c cs ps ns pool l =
     let e = c .before .before in
     let s = start (first-2 e .before) in
     let a = s .args in
-    let st = state (a .session) cs ps ns in
-    leaves-accepted st _ _ _ _ _ (c .discover .ensures cs ps ns)
+    let st = state (a .session) cs ps ns pool in
+    leaves-accepted st _ _ _ _ _ (c .discover .ensures cs ps ns pool)
     (not-refused st _ _ _ (and-no (discovers st (a .plan)) _ (fit (first-2 e))) (few e) (adds-unbred st _ (a .plan) (s .pre .0))
     (l ∙ c .before .if3 .taken) (λ new. omega (arith, s .pre .1)))
     (adds-accepted st _ _ _ (adds-by st _ true (s .pre .0)))
@@ -78,12 +78,12 @@ refused-requires-3 : tie.Need-refused-requires-3
 refused-requires-3 c κs = tt
 
 returns-4 : tie.Need-returns-4
-returns-4 c cs ps ns l =
+returns-4 c cs ps ns pool l =
     let e = c .before .before in
     let s = start (first-2 e .before) in
     let a = s .args in
-    let st = state (a .session) cs ps ns in
-    leaves-refused st _ _ _ 10 (a .session) cs _ (c .refused3 .ensures) refl
+    let st = state (a .session) cs ps ns pool in
+    leaves-refused st _ _ _ 10 (a .session) cs pool _ (c .refused3 .ensures) refl
     (refused-10 st _ _ _ (and-no (discovers st (a .plan)) _ (fit (first-2 e))) (few e) (adds-unbred st _ (a .plan) (s .pre .0))
     (l ∙ c .before .if3 .left))
 

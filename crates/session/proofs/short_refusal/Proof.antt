@@ -1,25 +1,34 @@
 -- 10, but for a call that would breed
+use Prim.Native.Nat.{ℕ, _*_, _≤_}
 use mathlib.Core.Bool.{true, false}
-use mathlib.Core.List.{[]}
+use mathlib.Core.List.{List, []}
 use mathlib.Core.Path.{ap}
+use native.Mathlib.Omega.{arith}
 use Rattle.list_laws.proofs.Bools.{and-not}
-use Rattle.model.specs.Session.{state, pastDiscovery}
-use Rattle.session_laws.proofs.Request.{refused-10}
-use Rattle.session_active.proofs.Ways.{first-unbred, breeds-by, evaluated-by, short-bred}
+use Rattle.model.specs.Session.{State, state, pastDiscovery}
+use Rattle.session_laws.proofs.Request.{refused-10, waits-size}
+use Rattle.session_active.proofs.Ways.{first-unbred, breeds-by, breeds-not, gatherable, short-bred}
 use borrow.Author.Needs.{needs}
 use Rattle.session.proofs.short_refusal.Statement.{statement}
 use Rattle.session.proofs.short_refusal.Tie as tie
 
--- ---- the places, each from the next: the call starts, is active, and is asked whether its generation is evaluated
+-- the state that the call is given, with slices that it does not look at
+abbrev given : tie.Start → List ℕ → List ℕ → State
+given s cs ns = state (s .args .session) cs (s .args .plans .now) ns (s .args .pool .now)
+
+-- ---- the places, each from the next: the call starts, is active, its pool holds the plans that wait, and it is asked whether its generation is evaluated
 
 abbrev start : tie.After-progress → tie.Start
-start c = c .before .before .before .before
+start c = c .before .before .before .before .before
 
-abbrev active : tie.After-evaluated → tie.After-enum-told
+abbrev active : tie.After-evaluated → tie.Else1
 active c = c .before
 
-abbrev entry : tie.After-evaluated → tie.Start
-entry c = start (active c .before .before)
+abbrev entry : tie.After-enum-told → tie.Start
+entry c = start (c .before .before)
+
+abbrev entry-last : tie.After-evaluated → tie.Start
+entry-last c = entry (active c .before)
 
 -- ---- the needs
 
@@ -32,36 +41,44 @@ enum-told-2 c = search needs
 returns : tie.Need-returns
 returns c cs ns d plan other short =
     let s = start (c .before .before) in
-    let a = s .args in
-    refused-10 (state (a .session) cs (a .plans .now) ns) d plan (a .history .now) (and-not _ _ other) (s .pre .1)
-    (first-unbred (state (a .session) cs (a .plans .now) ns) (a .history .now) (ap pastDiscovery (c .enum-told2 .given .1))) short
+    refused-10 (given s cs ns) d plan (s .args .history .now) (and-not _ _ other) (s .pre .1)
+    (first-unbred (given s cs ns) (s .args .history .now) (ap pastDiscovery (c .enum-told2 .given .1))) short
+
+mul-if1 : tie.Need-mul-if1
+mul-if1 c =
+    let s = entry c in
+    record { fits = omega (arith, waits-size _ (s .pre .0), s .pre .0 .config .atMost) }
+
+returns-2 : tie.Need-returns-2
+returns-2 c cs ns d plan other short =
+    let s = entry (c .before) in
+    refused-10 (given s cs ns) d plan (s .args .history .now) (and-not _ _ other) (s .pre .1) (breeds-not (given s cs ns) (s .args .history .now) (c .if1 .taken)) short
 
 evaluated-requires : tie.Need-evaluated-requires
 evaluated-requires c κs = tt
 
 bred-refusal-requires : tie.Need-bred-refusal-requires
 bred-refusal-requires c κs =
-    let s = entry (c .before) in
-    let a = s .args in
-    (s .pre .0, evaluated-by (state (a .session) [] (a .plans .now) []) (a .history .now) _ true (c .before .evaluated .ensures) (c .if1 .taken))
-
-returns-2 : tie.Need-returns-2
-returns-2 c cs ns d plan other short =
-    let t = c .before in
-    let s = entry (t .before) in
-    let a = s .args in
-    short-bred (state (a .session) cs (a .plans .now) ns) d plan (a .history .now) _
-    (breeds-by (state (a .session) cs (a .plans .now) ns) (a .history .now) _ true (ap pastDiscovery (active (t .before) .enum-told .given .1))
-    (t .before .evaluated .ensures) (t .if1 .taken))
-    short (s .pre .1) (c .bred-refusal .ensures)
+    let e = c .before in
+    let s = entry-last e in
+    gatherable (given s [] []) (s .args .history .now) (s .pre .0)
+    (breeds-by (given s [] []) (s .args .history .now) _ true (ap pastDiscovery (active e .before .enum-told .given .1)) (active e .if1 .left) (e .evaluated .ensures) (c .if2 .taken))
 
 returns-3 : tie.Need-returns-3
 returns-3 c cs ns d plan other short =
-    let s = entry (c .before) in
-    let a = s .args in
-    refused-10 (state (a .session) cs (a .plans .now) ns) d plan (a .history .now) (and-not _ _ other) (s .pre .1)
-    (breeds-by (state (a .session) cs (a .plans .now) ns) (a .history .now) _ false (ap pastDiscovery (active (c .before) .enum-told .given .1))
-    (c .before .evaluated .ensures) (c .if1 .left)) short
+    let t = c .before in
+    let e = t .before in
+    let s = entry-last e in
+    short-bred (given s cs ns) d plan (s .args .history .now) _
+    (breeds-by (given s cs ns) (s .args .history .now) _ true (ap pastDiscovery (active e .before .enum-told .given .1)) (active e .if1 .left) (e .evaluated .ensures) (t .if2 .taken))
+    short (s .pre .1) (c .bred-refusal .ensures)
+
+returns-4 : tie.Need-returns-4
+returns-4 c cs ns d plan other short =
+    let e = c .before in
+    let s = entry-last e in
+    refused-10 (given s cs ns) d plan (s .args .history .now) (and-not _ _ other) (s .pre .1)
+    (breeds-by (given s cs ns) (s .args .history .now) _ false (ap pastDiscovery (active e .before .enum-told .given .1)) (active e .if1 .left) (e .evaluated .ensures) (c .if2 .left)) short
 
 pub short-refusal-spec : {M : Type 1} → statement M
 short-refusal-spec =
@@ -70,7 +87,9 @@ short-refusal-spec =
     enum-told
     enum-told-2
     returns
+    mul-if1
+    returns-2
     evaluated-requires
     bred-refusal-requires
-    returns-2
-    returns-3)
+    returns-3
+    returns-4)

@@ -16,12 +16,12 @@ use Rattle.session_active.proofs.sample_first.Tie as tie
 
 -- the state that the call is given
 abbrev before : tie.Start → State
-before s = state (s .args .session) (s .args .candidates .now) (s .args .plans .now) (s .args .next-dims .now)
+before s = state (s .args .session) (s .args .candidates .now) (s .args .plans .now) (s .args .next-dims .now) (s .args .pool .now)
 
 -- ---- the places, each from the next: the call starts, the candidates are drawn, and the plan takes one
 
 abbrev start : tie.After-activate-arg → tie.Start
-start c = c .before .before .before .before .before
+start c = c .before .before .before .before .before .before
 
 abbrev activated : tie.After-sample-from-candidate-arg3 → tie.After-activate
 activated c = c .before .before .before .before .before
@@ -39,7 +39,7 @@ activate-requires c κs =
     let s = start c in
     let a = s .args in
     let st = before s in
-    (s .pre .0 .ok .dimensions, omega (arith, offspring-fit st [] (s .pre .0 .ok), long st (s .pre .0 .room) .words))
+    (s .pre .0 .ok .dimensions, omega (arith, offspring-fit (a .session) [] (s .pre .0 .ok .config) (s .pre .0 .ok .dimensions), long st (s .pre .0 .room) .words))
 
 sample-from-candidate-requires : tie.Need-sample-from-candidate-requires
 sample-from-candidate-requires c κs =
@@ -48,7 +48,7 @@ sample-from-candidate-requires c κs =
     let st = before s in
     let l = long st (s .pre .0 .room) in
     let e = activated c .activate in
-    let r = ready-first st _ _ (s .pre .0 .ok) (some-dimension st (a .plan) (s .pre .0 .ok) (s .pre .1) (s .pre .2)) (e .ensures (a .plans .now) (a .next-dims .now)) in
+    let r = ready-first st _ _ (s .pre .0 .ok) (some-dimension st (a .plan) (s .pre .0 .ok) (s .pre .1) (s .pre .2)) (e .ensures (a .plans .now) (a .next-dims .now) (a .pool .now)) in
     let same : length (e .last .1 .0) ≡ length (a .candidates .now) = e .kept .1 .0 in
     (r .0, omega (arith, r .1), omega (arith, l .words), l .plans, l .next, λ new. omega (arith, r .1))
 
@@ -70,7 +70,7 @@ returns c d =
     let o = adds-by st (a .plan) false (and-no (not (pastDiscovery (a .session .phase))) _ (s .pre .2)) in
     let i = ap pastDiscovery (s .pre .1) in
     let full : a .session .progress .«n_plans» < maxCome = omega (arith, phase-ok st Discovery (s .pre .0 .ok) (s .pre .1) .noPlans) in
-    leaves-taken st d (a .plan) (a .history .now) _ _ _ (taken c .sample-from-candidate .ensures) (e .ensures (a .plans .now) (a .next-dims .now))
+    leaves-taken st d (a .plan) (a .history .now) _ _ _ (taken c .sample-from-candidate .ensures (a .pool .now)) (e .ensures (a .plans .now) (a .next-dims .now) (a .pool .now))
     (not-refused st d (a .plan) (a .history .now) (and-not _ _ o) (s .pre .0 .few) (first-unbred st (a .history .now) i) (s .pre .0 .room) (λ new. full))
     (first-accepted st d (a .plan) (a .history .now) o i)
 

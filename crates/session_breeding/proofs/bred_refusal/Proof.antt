@@ -1,76 +1,69 @@
--- the step's check, on the words bred from
-use Prim.Native.Nat.{_*_, _≤_}
-use native.Mathlib.Nat.{le-trans, mul-le-mul-right}
-use mathlib.Core.List.{[]}
-use mathlib.Core.Path.{refl, sym, _∙_}
+-- 8 and 9 for the plans that wait and the children, and then 10
+use Prim.Native.Nat.{ℕ, _*_, _≤_}
+use mathlib.Core.Path.{_≡_, refl, sym, _∙_}
+use native.Mathlib.Nat.{mul-le-mul-right}
+use native.Mathlib.Omega.{arith}
+use lib.ListN.{length}
 use lib.Seq.{length-take-le}
 use Rattle.model.specs.Plan.{planWords}
-use Rattle.model.specs.Refusal.{maxPool}
-use Rattle.list_laws.proofs.Limits.{size-in-pool}
-use Rattle.session_breeding.proofs.Breeding.{ideal-room, evaluated-tells, refusal-by, short-is}
-use native.Mathlib.Omega.{arith}
+use Rattle.model.specs.Refusal.{maxSize}
+use Rattle.session_breeding.proofs.Breeding.{few-waiting, front-whole, blank-room, gathered-room, short-is}
 use borrow.Author.Needs.{needs}
 use Rattle.session_breeding.proofs.bred_refusal.Statement.{statement}
 use Rattle.session_breeding.proofs.bred_refusal.Tie as tie
 
--- ---- the places, each from the next: the call starts, the plans' words are gathered, and the step is asked
+-- ---- the places, each from the next: the call starts, the children are gathered, and 8 and 9 looked at
 
-abbrev start : tie.After-pool → tie.Start
-start c = c .before .before .before .before .before .before .before .before
+abbrev start : tie.After-room → tie.Start
+start c = c .before .before .before .before .before .before
 
-abbrev gathered : tie.After-directions2 → tie.After-gather
-gathered c = c .before .before .before
+abbrev gathered : tie.After-joined-refusal-arg → tie.After-gather
+gathered c = c .before .before
 
-abbrev asked : tie.After-refusal → tie.After-directions2
-asked c = c .before .before
-
--- what the session breeds with is read
-abbrev given : tie.After-directions2 → tie.After-operators-of
-given c = gathered c .before .before
+abbrev looked : tie.After-joined-refusal → tie.After-joined-refusal-arg
+looked c = c .before .before
 
 -- ---- the same from further on
 
-abbrev entry : tie.After-directions2 → tie.Start
+abbrev entry : tie.After-joined-refusal-arg → tie.Start
 entry c = start (gathered c .before)
 
--- ---- the needs
+-- the room holds the children
+children-room : (c : tie.After-joined-refusal-arg) → gathered c .gather .result ≤ length (gathered c .gather .last .1 .1 .1 .1 .1 .0)
+children-room c =
+    let s = entry c in
+    let a = s .args in
+    gathered-room (a .session) (a .history .now) (a .plans .now) (a .pool .now) (s .pre) (gathered c .gather .last .1 .1 .1 .1 .1 .0) _ _ blank-room (gathered c .gather .kept .1 .1 .1 .1 .1 .0)
+    (gathered c .gather .ensures .count)
 
-operators-of-requires : tie.Need-operators-of-requires
-operators-of-requires c κs = tt
+-- ---- the needs
 
 slice-aggregate-gather : tie.Need-slice-aggregate-gather
 slice-aggregate-gather c = refl
 
 gather-requires : tie.Need-gather-requires
 gather-requires c κs =
-    let s = start c in
-    let room : s .args .session .config .«population_size» * planWords ≤ maxPool * planWords = mul-le-mul-right planWords (le-trans (s .pre .0 .config .atMost) size-in-pool) in
-    let e = evaluated-tells _ _ (s .pre .1) in
-    (e .0, room, e .1)
+    let g = start c .pre in
+    (g .held, g .stand, g .waits, mul-le-mul-right planWords (g .ok .config .atMost))
 
-mul-words : tie.Need-mul-words
-mul-words c = search needs
+mul-at : tie.Need-mul-at
+mul-at c =
+    let s = start (c .before .before) in
+    record { fits = omega (arith, few-waiting _ _ _ _ (s .pre)) }
 
-array-share-prefix-pool : tie.Need-array-share-prefix-pool
-array-share-prefix-pool c = search needs
+slice-aggregate-joined-refusal : tie.Need-slice-aggregate-joined-refusal
+slice-aggregate-joined-refusal c = sym (length-take-le _ _ (entry c .pre .waits))
 
-slice-aggregate-refusal : tie.Need-slice-aggregate-refusal
-slice-aggregate-refusal c = sym (length-take-le _ _ (array-share-prefix-pool (c .before)))
+array-share-prefix-room : tie.Need-array-share-prefix-room
+array-share-prefix-room c = children-room c
 
-array-share-prefix-directions : tie.Need-array-share-prefix-directions
-array-share-prefix-directions c = search needs
+slice-aggregate-joined-refusal-2 : tie.Need-slice-aggregate-joined-refusal-2
+slice-aggregate-joined-refusal-2 c = sym (length-take-le _ _ (children-room (c .before)))
 
-slice-aggregate-refusal-2 : tie.Need-slice-aggregate-refusal-2
-slice-aggregate-refusal-2 c = sym (length-take-le _ _ (entry c .pre .0 .config .objectives))
-
-array-share-prefix-ideal-point : tie.Need-array-share-prefix-ideal-point
-array-share-prefix-ideal-point c = ideal-room _ _ (entry c .pre .0 .ideal)
-
-slice-aggregate-refusal-3 : tie.Need-slice-aggregate-refusal-3
-slice-aggregate-refusal-3 c = sym (length-take-le _ _ (ideal-room _ _ (entry (c .before) .pre .0 .ideal)))
-
-refusal-requires : tie.Need-refusal-requires
-refusal-requires c κs = tt
+joined-refusal-requires : tie.Need-joined-refusal-requires
+joined-refusal-requires c κs =
+    let s = entry (c .before) in
+    (s .pre .ok, front-whole _ _ _ _ (s .pre))
 
 enum-known-check : tie.Need-enum-known-check
 enum-known-check c = search needs
@@ -82,32 +75,30 @@ returns : tie.Need-returns
 returns c =
     let told = c .before in
     let r = told .before .before in
-    let s = entry (asked r) in
+    let g = gathered (looked r) .gather .ensures in
+    let s = entry (looked r) in
     let a = s .args in
-    short-is (a .session) [] (a .plans .now) (a .history .now) (s .pre .0) _ _ (gathered (asked r) .gather .ensures) _ (r .refusal .ensures ∙ refusal-by _ _ _ _ _ (given (asked r) .operators-of .ensures)) _ (told .check .given .1)
+    short-is (a .session) (a .history .now) (a .plans .now) (a .pool .now) (s .pre) _ _ _ (g .laid) (g .count) _ (r .joined-refusal .ensures) _ (told .check .given .1)
 
 returns-2 : tie.Need-returns-2
 returns-2 c =
     let r = c .before .before in
-    let s = entry (asked r) in
+    let g = gathered (looked r) .gather .ensures in
+    let s = entry (looked r) in
     let a = s .args in
-    short-is (a .session) [] (a .plans .now) (a .history .now) (s .pre .0) _ _ (gathered (asked r) .gather .ensures) _ (r .refusal .ensures ∙ refusal-by _ _ _ _ _ (given (asked r) .operators-of .ensures)) _ (c .enum-told .given .1)
+    short-is (a .session) (a .history .now) (a .plans .now) (a .pool .now) (s .pre) _ _ _ (g .laid) (g .count) _ (r .joined-refusal .ensures) _ (c .enum-told .given .1)
 
 pub bred-refusal-spec : {M : Type 1} → statement M
 bred-refusal-spec =
     tie.close
     (tie.spec
-    operators-of-requires
     slice-aggregate-gather
     gather-requires
-    mul-words
-    array-share-prefix-pool
-    slice-aggregate-refusal
-    array-share-prefix-directions
-    slice-aggregate-refusal-2
-    array-share-prefix-ideal-point
-    slice-aggregate-refusal-3
-    refusal-requires
+    mul-at
+    slice-aggregate-joined-refusal
+    array-share-prefix-room
+    slice-aggregate-joined-refusal-2
+    joined-refusal-requires
     enum-known-check
     enum-told
     returns

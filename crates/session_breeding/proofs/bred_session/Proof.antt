@@ -1,10 +1,13 @@
--- the generation's number wraps
+-- as many wait as the edition has it, and the generation's number wraps
 use Prim.Native.Nat.{ℕ}
-use mathlib.Core.Path.{ap, _∙_}
+use mathlib.Core.Path.{ap₂, _∙_}
 use Rattle.model.specs.Session.{renewed}
 use borrow.Author.Needs.{needs}
 use Rattle.session_breeding.proofs.bred_session.Statement.{statement}
 use Rattle.session_breeding.proofs.bred_session.Tie as tie
+
+waiting-of-requires : tie.Need-waiting-of-requires
+waiting-of-requires c κs = tt
 
 wrapping-add-u64-requires : tie.Need-wrapping-add-u64-requires
 wrapping-add-u64-requires c κs = search needs
@@ -14,8 +17,11 @@ renewed-requires c κs = tt
 
 returns : tie.Need-returns
 returns c =
-    let a = c .before .before .before .args in
-    c .renewed .ensures ∙ ap (λ (g : ℕ). renewed (a .session) (a .rng .s) (a .ideal-point) g) (c .before .wrapping-add-u64 .ensures)
+    let counted = c .before in
+    let waiting = counted .before .before in
+    let a = waiting .before .before .args in
+    c .renewed .ensures ∙ ap₂ (λ (w g : ℕ). renewed (a .session) (a .rng .s) (a .ideal-point) w g) (waiting .waiting-of .ensures) (counted .wrapping-add-u64 .ensures)
 
 pub bred-session-spec : {M : Type 1} → statement M
-bred-session-spec = tie.close (tie.spec wrapping-add-u64-requires renewed-requires returns)
+bred-session-spec =
+    tie.close (tie.spec waiting-of-requires wrapping-add-u64-requires renewed-requires returns)

@@ -1,136 +1,201 @@
--- the step on the words bred from
-use Prim.Native.Nat.{_*_}
+-- the children are gathered, 8 and 9 looked at, and the generation is bred on the pool with the children behind those that wait
+use Prim.Native.Nat.{ℕ, _+_, _*_, _≤_}
+use mathlib.Core.Path.{refl, sym, ap, subst, _∙_}
+use mathlib.Core.Option.{none, some}
+use native.Mathlib.Nat.{le-trans, mul-le-mul-right}
+use native.Mathlib.Omega.{arith}
 use lib.ListN.{length}
-use mathlib.Core.Path.{_≡_, refl, sym, _∙_}
 use lib.Seq.{length-take-le}
 use Rattle.model.specs.Plan.{planWords}
-use Rattle.session_breeding.proofs.Breeding.{ideal-room, evaluated-tells, breed-refused, breed-kept}
-use native.Mathlib.Omega.{arith}
+use Rattle.model.specs.Session.{state}
+use Rattle.model.specs.Refusal.{maxSize}
+use Rattle.refusals.specs.Checked.{checked}
+use Rattle.session_breeding.specs.Breeding.{bredExit}
+use Rattle.session_breeding.proofs.Breeding.{few-waiting, children-few, front-whole, gathered-room, refused-is, behind-fits, behind-room, front-fits, poised, breed-is, breed-answer}
 use borrow.Author.Needs.{needs}
 use Rattle.session_breeding.proofs.breed.Statement.{statement}
 use Rattle.session_breeding.proofs.breed.Tie as tie
 
--- ---- the places, each from the next: the call starts, the plans' words are gathered, the step is called, and its answer is taken apart
+-- ---- the places, each from the next: the call starts, the children are gathered, 8 and 9 are looked at, the children are put, and the generation is bred
 
-abbrev start : tie.After-gather-arg → tie.Start
-start c = c .before .before .before .before .before .before .before
+abbrev start : tie.After-gather-arg2 → tie.Start
+start c = c .before .before .before .before .before .before .before .before .before
 
-abbrev gathered : tie.After-slice-known3 → tie.After-gather
+abbrev gathered : tie.After-slice-known4 → tie.After-gather
 gathered c = c .before .before
 
-abbrev called : tie.After-step-arg2 → tie.After-slice-known3
-called c = c .before .before .before
+abbrev looked : tie.After-joined-refusal → tie.After-slice-known4
+looked c = c .before .before .before
 
-abbrev stepped : tie.After-rng → tie.After-step
-stepped c = c .before .before .before .before
+abbrev refused : tie.After-known-told → tie.After-joined-refusal
+refused c = c .before .before .before
 
-abbrev refused : tie.After-enum-told → tie.After-rng
-refused c = c .before .before
+abbrev good : tie.After-enum-told → tie.After-joined-refusal
+good c = c .before .before
 
-abbrev bred : tie.After-bred-session → tie.After-rng
-bred c = c .before .before .before
+abbrev put : tie.After-bred-on-arg3 → tie.After-put
+put c = c .before .before .before .before .before
+
+abbrev bred : tie.After-slice-known8 → tie.After-bred-on
+bred c = c .before .before .before .before .before .before
 
 -- ---- the same from further on
 
-abbrev entry : tie.After-slice-known3 → tie.Start
+abbrev entry : tie.After-slice-known4 → tie.Start
 entry c = start (gathered c .before)
 
-abbrev entry-last : tie.After-rng → tie.Start
-entry-last c = entry (called (stepped c .before))
+abbrev told : tie.After-put → tie.After-enum-told
+told c = c .before .before .before
 
-abbrev gathered-last : tie.After-rng → tie.After-gather
-gathered-last c = gathered (called (stepped c .before))
+abbrev entry-put : tie.After-put → tie.Start
+entry-put c = entry (looked (good (told c)))
+
+-- the room holds the children
+children-room : (c : tie.After-slice-known4) → gathered c .gather .result ≤ length (gathered c .gather .last .1 .1 .1 .1 .1 .0)
+children-room c =
+    let s = entry c in
+    let a = s .args in
+    gathered-room (a .session) (a .history .now) (a .plans .now) (a .pool .now) (s .pre .0) (gathered c .gather .last .1 .1 .1 .1 .1 .0) _ _ (s .pre .2) (gathered c .gather .kept .1 .1 .1 .1 .1 .0) (gathered c .gather .ensures .count)
 
 -- ---- the needs
 
 gather-requires : tie.Need-gather-requires
 gather-requires c κs =
     let s = start c in
-    let e = evaluated-tells _ _ (s .pre .1 .1) in
-    (e .0, omega (arith, s .pre .1 .0 .config .atMost, s .pre .0), e .1)
+    let g = s .pre .0 in
+    (g .held, g .stand, g .waits, le-trans (mul-le-mul-right planWords (g .ok .config .atMost)) (s .pre .2))
 
-mul-words : tie.Need-mul-words
-mul-words c = record { fits = omega (arith, entry c .pre .1 .0 .config .atMost) }
+mul-at : tie.Need-mul-at
+mul-at c = record { fits = omega (arith, few-waiting _ _ _ _ (entry c .pre .0)) }
 
-slice-reshare-prefix-step : tie.Need-slice-reshare-prefix-step
-slice-reshare-prefix-step c =
-    let s = entry c in
-    let same : length (gathered c .gather .last .1 .1 .1 .0) ≡ length (s .args .pool .now) = gathered c .gather .kept .1 .1 .1 .0 in
-    omega (arith, s .pre .0, s .pre .1 .0 .config .atMost)
+slice-reshare-prefix-joined-refusal : tie.Need-slice-reshare-prefix-joined-refusal
+slice-reshare-prefix-joined-refusal c = entry c .pre .0 .waits
 
-slice-aggregate-step : tie.Need-slice-aggregate-step
-slice-aggregate-step c =
-    let s = entry (c .before) in
-    let g = gathered (c .before) .gather in
-    let same : length (g .last .1 .1 .1 .0) ≡ length (s .args .pool .now) = g .kept .1 .1 .1 .0 in
-    sym (length-take-le (s .args .session .config .«population_size» * planWords) (g .last .1 .1 .1 .0) (omega (arith, s .pre .0, s .pre .1 .0 .config .atMost)))
+slice-aggregate-joined-refusal : tie.Need-slice-aggregate-joined-refusal
+slice-aggregate-joined-refusal c = sym (length-take-le _ _ (entry (c .before) .pre .0 .waits))
 
-array-borrow-prefix-ideal-point : tie.Need-array-borrow-prefix-ideal-point
-array-borrow-prefix-ideal-point c = ideal-room _ _ (entry (c .before) .pre .1 .0 .ideal)
+slice-reshare-prefix-joined-refusal-2 : tie.Need-slice-reshare-prefix-joined-refusal-2
+slice-reshare-prefix-joined-refusal-2 c = children-room (c .before)
 
-slice-aggregate-step-2 : tie.Need-slice-aggregate-step-2
-slice-aggregate-step-2 c = sym (length-take-le _ _ (ideal-room _ _ (entry (c .before .before) .pre .1 .0 .ideal)))
+slice-aggregate-joined-refusal-2 : tie.Need-slice-aggregate-joined-refusal-2
+slice-aggregate-joined-refusal-2 c = sym (length-take-le _ _ (children-room (c .before .before)))
 
-step-requires : tie.Need-step-requires
-step-requires c κs = entry (called c) .pre .1 .0 .config .objectives
+joined-refusal-requires : tie.Need-joined-refusal-requires
+joined-refusal-requires c κs =
+    let g = entry (c .before .before) .pre .0 in
+    (g .ok, front-whole _ _ _ _ g)
+
+enum-known-check : tie.Need-enum-known-check
+enum-known-check c = search needs
 
 enum-told : tie.Need-enum-told
 enum-told c = search needs
 
-enum-told-2 : tie.Need-enum-told-2
-enum-told-2 c = search needs
+slice-reshare-prefix-put : tie.Need-slice-reshare-prefix-put
+slice-reshare-prefix-put c = children-room (looked (good c))
 
-bred-session-requires : tie.Need-bred-session-requires
-bred-session-requires c κs = tt
+slice-aggregate-put : tie.Need-slice-aggregate-put
+slice-aggregate-put c = sym (length-take-le _ _ (children-room (looked (good (c .before)))))
+
+put-requires : tie.Need-put-requires
+put-requires c κs =
+    let k = looked (good (c .before .before)) in
+    let s = entry k in
+    let a = s .args in
+    let g = gathered k .gather in
+    behind-room (a .session) (a .history .now) (a .plans .now) (a .pool .now) (s .pre .0) (a .room .now) (g .last .1 .1 .1 .1 .1 .0) (g .result) (g .ensures .laid) (g .ensures .count) (s .pre .1)
+
+add-bred-on : tie.Need-add-bred-on
+add-bred-on c =
+    let k = looked (good (told (c .before .before))) in
+    let s = entry k in
+    let a = s .args in
+    let g = gathered k .gather in
+    let h = behind-fits (a .session) (a .history .now) (a .plans .now) (a .pool .now) (s .pre .0) (a .room .now) (g .last .1 .1 .1 .1 .1 .0) (g .result) (g .ensures .laid) (g .ensures .count) (s .pre .1) in
+    record { fits = omega (arith, h, few-waiting _ _ _ _ (s .pre .0), g .ensures .count, children-few (a .session) (a .history .now) (a .plans .now) (a .pool .now) (s .pre .0), s .pre .0 .ok .config .atMost) }
+
+bred-on-requires : tie.Need-bred-on-requires
+bred-on-requires c κs =
+    let p = put c in
+    let t = told p in
+    let j = good t in
+    let k = looked j in
+    let s = entry k in
+    let a = s .args in
+    let g = gathered k .gather in
+    let room : maxSize * planWords ≤ length (g .last .1 .1 .1 .1 .1 .0) = subst (λ (x : ℕ). maxSize * planWords ≤ x) (sym (g .kept .1 .1 .1 .1 .1 .0)) (s .pre .2) in (
+      poised (a .session) (a .history .now) (a .plans .now) (a .pool .now) (s .pre .0) (a .room .now) (g .last .1 .1 .1 .1 .1 .0) (g .result) (g .ensures .laid) (g .ensures .count) (s .pre .1)
+          _ (p .put .ensures) (j .joined-refusal .result) _ _ (j .joined-refusal .ensures) (ap checked (t .enum-told .given .1)) room (s .pre .3),
+      front-fits (a .session) (a .history .now) (a .plans .now) (a .pool .now) (s .pre .0) (a .room .now) (g .last .1 .1 .1 .1 .1 .0) (g .result) (g .ensures .laid) (g .ensures .count) (s .pre .1)
+          _ (p .put .ensures),
+    )
 
 same-length : tie.Need-same-length
-same-length c = gathered-last (refused c) .gather .kept .1 .1 .1 .0
+same-length c = gathered (looked (refused c)) .gather .kept .1 .1 .1 .1 .1 .0
 
 same-length-2 : tie.Need-same-length-2
-same-length-2 c = stepped (refused c) .step .kept .1 .1 .1 .0
+same-length-2 c = refl
 
 returns : tie.Need-returns
 returns c ns =
-    let s = entry-last (refused c) in
+    let told = c .before .check .given in
+    let j = refused c in
+    let k = looked j in
+    let s = entry k in
     let a = s .args in
-    let g = gathered-last (refused c) .gather in
-    let t = stepped (refused c) .step in
-    let told = c .enum-told .given in
-    breed-refused (a .session) (a .candidates .now) (a .plans .now) (a .history .now) (s .pre .1 .0) (s .pre .1 .3) (a .pool .now) _ (g .ensures) _ _ _ ns (t .ensures) (told .0 .0) (told .1)
+    let g = gathered k .gather in
+    breed-answer (state (a .session) (a .candidates .now) (a .plans .now) ns (a .pool .now)) _ (a .history .now) (some (told .0 .0))
+    (refused-is (a .session) (a .history .now) (a .plans .now) (a .pool .now) (s .pre .0) (a .room .now) (g .last .1 .1 .1 .1 .1 .0) (g .result) (g .ensures .laid) (g .ensures .count)
+    _ (j .joined-refusal .ensures) _ _ (a .candidates .now) ns (told .1) refl)
+    refl
 
 same-length-3 : tie.Need-same-length-3
-same-length-3 c = gathered-last (bred c) .gather .kept .1 .1 .1 .0
+same-length-3 c = bred c .bred-on .kept .1 .1 .0 ∙ gathered (looked (good (told (put (bred c .before))))) .gather .kept .1 .1 .1 .1 .1 .0
 
 same-length-4 : tie.Need-same-length-4
-same-length-4 c = stepped (bred c) .step .kept .1 .1 .1 .0
+same-length-4 c = bred c .bred-on .kept .1 .1 .1 .0 ∙ put (bred c .before) .put .kept .1 .1 .0
+
+same-length-5 : tie.Need-same-length-5
+same-length-5 c = bred c .bred-on .kept .1 .1 .1 .1 .0
 
 returns-2 : tie.Need-returns-2
 returns-2 c ns =
-    let s = entry-last (bred c) in
+    let b = bred c in
+    let p = put (b .before) in
+    let t = told p in
+    let j = good t in
+    let k = looked j in
+    let s = entry k in
     let a = s .args in
-    let g = gathered-last (bred c) .gather in
-    let t = stepped (bred c) .step in
-    let told = c .before .enum-told2 .given in
-    breed-kept (a .session) (a .candidates .now) (a .plans .now) (a .history .now) (s .pre .1 .0) (s .pre .1 .3) (a .pool .now) _ (g .ensures) _ _ _ ns (t .ensures) (told .0 .0) _ _ (told .1)
-    (t .kept .1 .1 .0 ∙ length-take-le _ _ (ideal-room _ _ (s .pre .1 .0 .ideal))) refl (c .bred-session .ensures)
+    let g = gathered k .gather in
+    breed-answer (state (a .session) (a .candidates .now) (a .plans .now) ns (a .pool .now)) _ (a .history .now) none
+    (refused-is (a .session) (a .history .now) (a .plans .now) (a .pool .now) (s .pre .0) (a .room .now) (g .last .1 .1 .1 .1 .1 .0) (g .result) (g .ensures .laid) (g .ensures .count)
+    _ (j .joined-refusal .ensures) _ _ (a .candidates .now) ns (t .enum-told .given .1) refl)
+    (ap (bredExit none) (breed-is (a .session) (a .history .now) (a .plans .now) (a .pool .now) (s .pre .0) (a .room .now) (g .last .1 .1 .1 .1 .1 .0) (g .result) (g .ensures .laid) (g .ensures .count)
+    (s .pre .1) _ (p .put .ensures) (a .candidates .now) ns _ _ _ (b .bred-on .ensures)))
 
 pub breed-spec : {M : Type 1} → statement M
 breed-spec =
     tie.close
     (tie.spec
     gather-requires
-    mul-words
-    slice-reshare-prefix-step
-    slice-aggregate-step
-    array-borrow-prefix-ideal-point
-    slice-aggregate-step-2
-    step-requires
+    mul-at
+    slice-reshare-prefix-joined-refusal
+    slice-aggregate-joined-refusal
+    slice-reshare-prefix-joined-refusal-2
+    slice-aggregate-joined-refusal-2
+    joined-refusal-requires
+    enum-known-check
     enum-told
-    enum-told-2
-    bred-session-requires
+    slice-reshare-prefix-put
+    slice-aggregate-put
+    put-requires
+    add-bred-on
+    bred-on-requires
     same-length
     same-length-2
     returns
     same-length-3
     same-length-4
+    same-length-5
     returns-2)

@@ -31,7 +31,7 @@ session-of-words-requires c κs = tt
 returns : tie.Need-returns
 returns c =
     let r = c .before in
-    λ cs ps ns. same-session _ _ cs ps ns (r .session-of-words .ensures) (r .before .before .before .locustdomino-open .ensures .gives (c .if1 .taken) cs ps ns)
+    λ cs ps ns pool. same-session _ _ cs ps ns pool (r .session-of-words .ensures) (r .before .before .before .locustdomino-open .ensures .gives (c .if1 .taken) cs ps ns pool)
 
 refusal-requires : tie.Need-refusal-requires
 refusal-requires c κs = tt

@@ -8,17 +8,17 @@ use Rattle.session_calls.proofs.repeated.Statement.{statement}
 use Rattle.session_calls.proofs.repeated.Tie as tie
 
 abbrev Inv-loop : tie.InvT-loop
-Inv-loop distribution plan times history n candidates₀ plans₀ next-dims₀ last₀ number₀ i₀ candidates plans next-dims last number i = (i ≤ times) × SessionOk (state (last .session) candidates plans next-dims)
+Inv-loop distribution plan times history n candidates₀ plans₀ next-dims₀ pool₀ last₀ number₀ i₀ candidates plans next-dims pool last number i = (i ≤ times) × SessionOk (state (last .session) candidates plans next-dims pool)
 
 abbrev μ-loop : tie.MeasureT-loop
-μ-loop distribution plan times history n candidates₀ plans₀ next-dims₀ last₀ number₀ i₀ candidates plans next-dims last number i = times - i
+μ-loop distribution plan times history n candidates₀ plans₀ next-dims₀ pool₀ last₀ number₀ i₀ candidates plans next-dims pool last number i = times - i
 
 loop-holds : tie.Need-loop-holds Inv-loop μ-loop
 loop-holds c = (omega arith, c .pre .0)
 
 sampled-requires : tie.Need-sampled-requires Inv-loop μ-loop
 sampled-requires c κs =
-    (c .before .before .before .before .before .before .loop .inv .1, (c .before .before .before .before .before .before .before .pre .1, search needs))
+    (c .before .before .before .before .before .before .before .loop .inv .1, (c .before .before .before .before .before .before .before .before .pre .1, search needs))
 
 wrapping-add-u64-requires : tie.Need-wrapping-add-u64-requires Inv-loop μ-loop
 wrapping-add-u64-requires c κs = search needs

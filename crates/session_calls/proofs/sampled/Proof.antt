@@ -30,9 +30,9 @@ slice-aggregate-locustdomino-sample-3 c = sym (length-take-le _ _ (omega arith))
 
 locustdomino-sample-requires : tie.Need-locustdomino-sample-requires
 locustdomino-sample-requires c κs =
-    let w = c .before .before .before .before .before .before .before .before .before .before in
-    let s = w .before .before .before .before .before .before in
-    λ enough. same-session _ _ _ _ _ (w .words-of-session .ensures .1) (s .pre .0)
+    let w = c .before .before .before .before .before .before .before .before .before .before .before in
+    let s = w .before .before .before .before .before .before .before in
+    λ enough. same-session _ _ _ _ _ _ (w .words-of-session .ensures .1) (s .pre .0)
 
 outcome-of-requires : tie.Need-outcome-of-requires
 outcome-of-requires c κs = tt
@@ -52,10 +52,13 @@ same-length-2 c = search needs
 same-length-3 : tie.Need-same-length-3
 same-length-3 c = search needs
 
+same-length-4 : tie.Need-same-length-4
+same-length-4 c = search needs
+
 returns : tie.Need-returns
 returns c =
-    let l = c .before .before .before .before .before .before .before .before .before .before in
-    same-session _ _ _ _ _ (c .session-of-words .ensures) (l .locustdomino-sample .ensures .keeps (search needs))
+    let l = c .before .before .before .before .before .before .before .before .before .before .before .before in
+    same-session _ _ _ _ _ _ (c .session-of-words .ensures) (l .locustdomino-sample .ensures .keeps (omega (arith, l .before .before .before .before .before .before .before .before .before .before .before .words2 .given)))
 
 pub sampled-spec : {M : Type 1} → statement M
 sampled-spec =
@@ -75,4 +78,5 @@ sampled-spec =
     same-length
     same-length-2
     same-length-3
+    same-length-4
     returns)

@@ -63,9 +63,13 @@ word-of-real-requires-2 c κs = tt
 word-of-real-requires-3 : tie.Need-word-of-real-requires-3
 word-of-real-requires-3 c κs = tt
 
+edition-number-requires : tie.Need-edition-number-requires
+edition-number-requires c κs = tt
+
 returns : tie.Need-returns
 returns c =
-    let crossover = c .before in
+    let mutation = c .before in
+    let crossover = mutation .before in
     let probability = crossover .before in
     let d8 = probability .before in
     let d7 = d8 .before in
@@ -79,7 +83,7 @@ returns c =
     config-laid x
     (eight-same (λ i. getD (x .directions) i 0) (d1 .wide .ensures) (d2 .wide2 .ensures) (d3 .wide3 .ensures) (d4 .wide4 .ensures) (d5 .wide5 .ensures) (d6 .wide6 .ensures)
     (d7 .wide7 .ensures) (d8 .wide8 .ensures))
-    (probability .word-of-real .ensures) (crossover .word-of-real2 .ensures) (c .word-of-real3 .ensures)
+    (probability .word-of-real .ensures) (crossover .word-of-real2 .ensures) (mutation .word-of-real3 .ensures) (c .edition-number .ensures)
 
 pub config-words-spec : {M : Type 1} → statement M
 config-words-spec =
@@ -104,4 +108,5 @@ config-words-spec =
     word-of-real-requires
     word-of-real-requires-2
     word-of-real-requires-3
+    edition-number-requires
     returns)

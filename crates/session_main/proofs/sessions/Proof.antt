@@ -13,7 +13,7 @@ enum-told : tie.Need-enum-told
 enum-told c = search needs
 
 fill-requires : tie.Need-fill-requires
-fill-requires c κs = rw (c .enum-told .given .1) at (c .before .before .before .opened .ensures)
+fill-requires c κs = (rw (c .enum-told .given .1) at (c .before .before .before .opened .ensures), search needs)
 
 enum-known-outcome : tie.Need-enum-known-outcome
 enum-known-outcome c = search needs

@@ -14,9 +14,9 @@ same-length : tie.Need-same-length
 same-length c = search needs
 
 returns : tie.Need-returns
-returns c ps ns =
+returns c ps ns pool =
     let r = c .before .before .before .before .sample-candidates in
-    activate-is _ _ _ _ ps ns _ (c .renewed .ensures) (r .ensures .0) (r .ensures .1)
+    activate-is _ _ _ _ ps ns pool _ (c .renewed .ensures) (r .ensures .0) (r .ensures .1)
 
 pub activate-spec : {M : Type 1} → statement M
 activate-spec = tie.close (tie.spec sample-candidates-requires renewed-requires same-length returns)

@@ -62,7 +62,7 @@ same-length : tie.Need-same-length
 same-length c = search needs
 
 returns : tie.Need-returns
-returns c ps = answer-stored _ _ _ ps _ _ _ (c .before .before .before .before .if1 .taken) (c .of-word .ensures) (c .before .before .kind-of-dimension .ensures)
+returns c ps pool = answer-stored _ _ _ ps _ pool _ _ (c .before .before .before .before .if1 .taken) (c .of-word .ensures) (c .before .before .kind-of-dimension .ensures)
 
 sub-info : tie.Need-sub-info
 sub-info c = search needs
@@ -82,7 +82,7 @@ with-rng-requires : tie.Need-with-rng-requires
 with-rng-requires c κs = tt
 
 returns-2 : tie.Need-returns-2
-returns-2 c ps = answer-drawn _ _ _ ps _ _ _ _ (c .before .before .before .before .before .if1 .left) (c .before .before .sample-random .ensures) (c .with-rng .ensures)
+returns-2 c ps pool = answer-drawn _ _ _ ps _ pool _ _ _ (c .before .before .before .before .before .if1 .left) (c .before .before .sample-random .ensures) (c .with-rng .ensures)
 
 pub answer-spec : {M : Type 1} → statement M
 answer-spec =

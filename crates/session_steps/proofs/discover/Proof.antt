@@ -17,7 +17,7 @@ add-t19 : tie.Need-add-t19
 add-t19 c = search needs
 
 returns : tie.Need-returns
-returns c cs ps ns = discover-is _ _ _ _ _ cs ps ns (c .before .before .before .before .before .sample-random .ensures)
+returns c cs ps ns pool = discover-is _ _ _ _ _ cs ps ns pool (c .before .before .before .before .before .sample-random .ensures)
 
 pub discover-spec : {M : Type 1} → statement M
 discover-spec =

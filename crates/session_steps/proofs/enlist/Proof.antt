@@ -1,4 +1,5 @@
 -- the plan is entered, after a candidate more where there is none for it
+use mathlib.Core.List.{[]}
 use mathlib.Core.Path.{ap, _∙_}
 use Rattle.model.specs.Session.{State, enter}
 use Rattle.session_steps.proofs.States.{enlist-next, enlist-over, overflowed-plans}
@@ -41,9 +42,9 @@ same-length-2 : tie.Need-same-length-2
 same-length-2 c = search needs
 
 returns : tie.Need-returns
-returns c =
+returns c pool =
     let t = there (entered c) in
-    entered c .enter .ensures (start (t .before) .args .candidates .now) ∙ enlist-next _ _ (t .if1 .taken)
+    entered c .enter .ensures (start (t .before) .args .candidates .now) pool ∙ enlist-next _ _ (t .if1 .taken)
 
 overflow-requires : tie.Need-overflow-requires
 overflow-requires c κs = search needs
@@ -52,7 +53,7 @@ enter-requires-2 : tie.Need-enter-requires-2
 enter-requires-2 c κs =
     let o = overflowed c in
     let s = start (none o .before) in
-    let e = overflowed-plans _ _ _ _ _ (o .overflow .ensures (s .args .plans .now) (s .args .next-dims .now)) in
+    let e = overflowed-plans _ _ _ _ _ [] (o .overflow .ensures (s .args .plans .now) (s .args .next-dims .now) []) in
     (omega (arith, s .pre .1), s .pre .3, s .pre .4)
 
 same-length-3 : tie.Need-same-length-3
@@ -65,12 +66,12 @@ same-length-5 : tie.Need-same-length-5
 same-length-5 c = search needs
 
 returns-2 : tie.Need-returns-2
-returns-2 c =
+returns-2 c pool =
     let o = overflowed (entered-last c .before) in
     let n = none o in
     let a = start (n .before) .args in
-    entered-last c .enter2 .ensures (o .overflow .last .1 .0)
-    ∙ ap (λ (x : State). enter x (a .plan)) (o .overflow .ensures (a .plans .now) (a .next-dims .now)) ∙ enlist-over _ _ (n .if1 .left)
+    entered-last c .enter2 .ensures (o .overflow .last .1 .0) pool
+    ∙ ap (λ (x : State). enter x (a .plan)) (o .overflow .ensures (a .plans .now) (a .next-dims .now) pool) ∙ enlist-over _ _ (n .if1 .left)
 
 pub enlist-spec : {M : Type 1} → statement M
 enlist-spec =

@@ -29,7 +29,7 @@ same-length-2 : tie.Need-same-length-2
 same-length-2 c = search needs
 
 returns : tie.Need-returns
-returns c cs = enter-is _ _ cs _ _ _ (c .with-progress .ensures)
+returns c cs pool = enter-is _ _ cs _ _ pool _ (c .with-progress .ensures)
 
 pub enter-spec : {M : Type 1} → statement M
 enter-spec =

@@ -33,10 +33,10 @@ same-length : tie.Need-same-length
 same-length c = search needs
 
 returns : tie.Need-returns
-returns c ps ns =
+returns c ps ns pool =
     let p = c .before .before .before .before .put-candidate in
     let v = c .before .before .before .before .before .before .before .before .sample-all in
-    overflow-is _ _ _ _ ps ns _ _ _ (v .ensures) (p .ensures) (c .before .with-rng .ensures) (c .with-progress .ensures)
+    overflow-is _ _ _ _ ps ns pool _ _ _ (v .ensures) (p .ensures) (c .before .with-rng .ensures) (c .with-progress .ensures)
 
 pub overflow-spec : {M : Type 1} → statement M
 overflow-spec =

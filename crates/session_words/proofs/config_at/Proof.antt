@@ -1,4 +1,6 @@
 -- Field by field.
+use mathlib.Core.Path.{ap, _∙_}
+use Rattle.model.specs.Edition.{editionOf}
 use Rattle.session_words.specs.Coding.{configAt}
 use Rattle.session_words.proofs.Parts.{config-same}
 use Rattle.session_words.proofs.config_at.Statement.{statement}
@@ -25,17 +27,25 @@ real-at-requires-2 c κs = tt
 real-at-requires-3 : tie.Need-real-at-requires-3
 real-at-requires-3 c κs = tt
 
+word-at-requires-4 : tie.Need-word-at-requires-4
+word-at-requires-4 c κs = tt
+
+edition-of-requires : tie.Need-edition-of-requires
+edition-of-requires c κs = tt
+
 returns : tie.Need-returns
 returns c =
-    let crossover = c .before in
+    let number = c .before in
+    let mutation = number .before in
+    let crossover = mutation .before in
     let probability = crossover .before in
     let size = probability .before in
     let divisions = size .before in
     let directions = divisions .before in
     let objectives = directions .before in
     let start = objectives .before .before in
-    config-same (configAt (start .args .words .now)) _ _ _ _ _ _ _ (objectives .word-at .ensures) (directions .marks-at .ensures) (divisions .word-at2 .ensures)
-    (size .word-at3 .ensures) (probability .real-at .ensures) (crossover .real-at2 .ensures) (c .real-at3 .ensures)
+    config-same (configAt (start .args .words .now)) _ _ _ _ _ _ _ _ (c .edition-of .ensures ∙ ap editionOf (number .word-at4 .ensures)) (objectives .word-at .ensures) (directions .marks-at .ensures) (divisions .word-at2 .ensures)
+    (size .word-at3 .ensures) (probability .real-at .ensures) (crossover .real-at2 .ensures) (mutation .real-at3 .ensures)
 
 pub config-at-spec : {M : Type 1} → statement M
 config-at-spec =
@@ -48,4 +58,6 @@ config-at-spec =
     real-at-requires
     real-at-requires-2
     real-at-requires-3
+    word-at-requires-4
+    edition-of-requires
     returns)

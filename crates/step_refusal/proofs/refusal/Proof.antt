@@ -14,7 +14,7 @@ use Rattle.step_refusal.proofs.refusal.Statement.{statement}
 use Rattle.step_refusal.proofs.refusal.Tie as tie
 
 abbrev request : tie.Start → Request
-request s = wordRequest (s .args .pool .now) (s .args .directions .now) (s .args .divisions) (s .args .size) (s .args .rng) (s .args .ideal .now)
+request s = wordRequest (s .args .edition) (s .args .pool .now) (s .args .directions .now) (s .args .divisions) (s .args .size) (s .args .rng) (s .args .ideal .now)
 
 abbrev ops : tie.Start → Operators
 ops s = operatorsIn (s .args .operators)
@@ -97,8 +97,8 @@ good-dimensions : (c : tie.Else5) → let o = ops (start (first-5 c)) in badDime
 good-dimensions c = sym (c .before .bad-dimensions .ensures) ∙ c .if5 .left
 
 -- the pool's count
-counted : (c : tie.After-bad-count) → c .bad-count .result ≡ badCount (request (start (first-5 (passed-5 c))) .count)
-counted c = c .bad-count .ensures ∙ ap badCount (counts c .plan-count .ensures)
+counted : (c : tie.After-bad-count) → let r = request (start (first-5 (passed-5 c))) in c .bad-count .result ≡ badCount (r .edition) (r .count)
+counted c = c .bad-count .ensures ∙ ap (badCount (request (start (first-5 (passed-5 c))) .edition)) (counts c .plan-count .ensures)
 
 slices : (c : tie.After-no-step-room) → let s = start (first-8 (c .before)) in c .no-step-room .result ≡ noStepRoom (ops s) (request s) (room s) (s .args .offspring)
 unfolding noStepRoom

@@ -1,0 +1,45 @@
+// Where the two editions part (document 02; specs/Edition.antt of `model`). No other function looks at an edition.
+ghost use mathlib.Core.Path.{_≡_};
+ghost use Rattle.model.specs.Edition.{editionNumber, editionOf, mostPlans, waitingOf};
+use model::Edition;
+use model::MAX_FIRST_POOL;
+use model::MAX_POOL;
+
+// The edition that a number from outside stands for: the second for 2, and else the first.
+pub fn edition_of(n: u64) -> Edition
+    ensures { λ r. ⌜ r ≡ editionOf n ⌝ }
+{
+    if n == 2 {
+        return Edition::Second;
+    }
+    Edition::First
+}
+
+pub fn edition_number(edition: Edition) -> u64
+    ensures { λ r. ⌜ r ≡ editionNumber edition ⌝ }
+{
+    match edition {
+        Edition::First => 1,
+        Edition::Second => 2,
+    }
+}
+
+// The most plans of a pool.
+pub fn most_plans(edition: Edition) -> usize
+    ensures { λ r. ⌜ r ≡ mostPlans edition ⌝ }
+{
+    match edition {
+        Edition::First => MAX_FIRST_POOL,
+        Edition::Second => MAX_POOL,
+    }
+}
+
+// How many plans wait once a generation of a size is bred from.
+pub fn waiting_of(edition: Edition, size: usize) -> usize
+    ensures { λ r. ⌜ r ≡ waitingOf edition size ⌝ }
+{
+    match edition {
+        Edition::First => 0,
+        Edition::Second => size,
+    }
+}

@@ -1,0 +1,25 @@
+-- Document 02: where the two editions part. Nothing else looks at an edition.
+use Prim.Native.Nat.{ℕ}
+use mathlib.Core.Bool.{cond}
+use lib.Dec.{eqb}
+use Rattle.model.specs.declared.Edition.{Edition}
+use Rattle.model.specs.declared.Edition.the-variants.{First, Second}
+
+-- "edition 1 (today's) or edition 2, an enum of two cases": the number of each, and the edition that a number from outside stands for, which is the second for 2
+-- and else the first
+abbrev pub editionNumber : Edition → ℕ
+editionNumber First = 1
+editionNumber Second = 2
+
+abbrev pub editionOf : ℕ → Edition
+editionOf n = cond (eqb n 2) Second First
+
+-- M-100: "Edition 2's pools may reach 2,048, amending refusal 7."
+abbrev pub mostPlans : Edition → ℕ
+mostPlans First = 1024
+mostPlans Second = 2048
+
+-- M-100: "In edition 2 the kept plans .. wait for the next generation and come first in its pool": how many wait once a generation of a size is bred from
+abbrev pub waitingOf : Edition → ℕ → ℕ
+waitingOf First size = 0
+waitingOf Second size = size
