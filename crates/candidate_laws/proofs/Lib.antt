@@ -4,5 +4,6 @@ pub mod Words
 pub mod Extracted
 pub mod Bred
 pub mod KeptPlans
+pub mod Pressure
 pub mod Generations
 pub mod RootArguments

@@ -28,7 +28,7 @@ module _ (r : Request) (accepted : Accepted r) where
   values-real p j h k =
       accepted-known (r .marks) (objectives r) (r .plans p) (record { good = pool-plan r (accepted .pool) p h; whole = accepted .rows p h }) j k
 
-  dominance-strict : Strict (dominance r) (r .count)
+  pub dominance-strict : Strict (dominance r) (r .count)
   dominance-strict = beats-strict (r .marks) (r .plans) (r .count) (λ p h j k. values-real p j h k)
 
   -- THE THEOREM, split or not

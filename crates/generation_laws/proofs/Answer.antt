@@ -1,27 +1,28 @@
 -- The answer of a generation step, from what its parts leave.
 use Prim.Native.Nat.{ℕ, _≤_, _<_}
-use mathlib.Core.Path.{_≡_, ap, ap₂, sym, subst, _∙_}
-use mathlib.Core.Bool.{false}
+use mathlib.Core.Path.{_≡_, refl, ap, ap₂, sym, subst, _∙_}
+use mathlib.Core.Bool.{Bool, true, false, cond}
 use mathlib.Core.List.{List}
 use mathlib.Core.Option.{none, some}
 use native.Mathlib.Omega.{arith}
 use borrow.Author.Tests.{lt-ltb}
 use lib.Ieee.{Float}
 use lib.ListN.{length, getD, take}
-use Rattle.list_laws.proofs.Built.{over-take, over-at, over-below}
+use Rattle.list_laws.proofs.Built.{listBelow-length, over-take, over-at, over-below}
 use Rattle.list_laws.proofs.Draws.{drawAll-length}
 use Rattle.model.specs.declared.Edition.{Edition}
 use Rattle.model.specs.declared.ParamValue.{ParamValue}
 use Rattle.model.specs.declared.Outcome.the-variants as outcome
 use Rattle.model.specs.declared.Rng.{Rng}
+use Rattle.model.specs.Edition.{ranksByRows}
 use Rattle.model.specs.Lists.{over}
 use Rattle.model.specs.Draw.{Drawn, drawn}
 use Rattle.model.specs.Plan.{planAt, planCount}
 use Rattle.model.specs.Row.{rowBeats}
 use Rattle.model.specs.Front.{frontOf, frontList}
-use Rattle.model.specs.Association.{Request}
-use Rattle.model.specs.Kept.{selected}
-use Rattle.model.specs.Setting.{Operators, wordsOf, WordsWithin, sampleCandidates, parentIn, parentsOf, bredOf, rankIn, rankOf, generationOf, generationOfOne, byPool, generation}
+use Rattle.model.specs.Association.{Request, dominance}
+use Rattle.model.specs.Kept.{isSplit, selectedSplit, selectedWhole, bySplit, selected}
+use Rattle.model.specs.Setting.{Operators, wordsOf, WordsWithin, sampleCandidates, parentIn, parentsOf, bredOf, rankIn, rankBeats, rankOf, generationOf, generationOfOne, byPool, generation}
 use Rattle.model.specs.Refusal.{badDimensions, stepRefusal}
 use Rattle.model.specs.Calls.{wordRequest, Lent, roomOf, SelectExit, answered, selectAccepted, selectBy, selectOf, Selects, StepExit, stepExit, stepAccepted, stepBy, stepOf, Steps, generationExit, laid}
 use Rattle.demand3_laws.proofs.Passed.{passed, size-limits}
@@ -77,16 +78,36 @@ module _ (edition : Edition) (o : Operators) (pool directions : List ℕ) (divis
           let z = kept-length r in
           subst (λ p. p < planCount pool) (sym (place-is i h)) (kept-below r (omega arith) i (omega arith))
 
-      -- and what is bred from them, ranked by their fronts by rows, is the generation's offspring
-      module _ (fronts fronts₀ : List ℕ) (sorted : fronts ≡ over (frontList (rowBeats directions (planAt pool)) (planCount pool)) fronts₀) where
+      -- the fronts that it handed out are those of the constraint rule, split or not
+      fronts-by : (b : Bool) → bySplit b r .fronts ≡ frontList (dominance r) (planCount pool)
+      unfolding selectedSplit selectedWhole
+      fronts-by true = refl
+      fronts-by false = refl
+
+      pub fronts-are : take (planCount pool) (x .slices .fronts) ≡ frontList (dominance r) (planCount pool)
+      unfolding selectAccepted selected frontList
+      fronts-are =
+          let all = frontList (dominance r) (planCount pool) in
+          ap (λ (y : SelectExit). take (planCount pool) (y .slices .fronts)) e
+          ∙ ap (λ l. take (planCount pool) (over l (at .fronts))) (fronts-by (isSplit r))
+          ∙ over-take all (at .fronts) (planCount pool) (listBelow-length (frontOf (dominance r) (planCount pool)) (planCount pool))
+
+      -- so that the edition's fronts are what the plans are ranked by
+      ranked-by : (b : Bool) → cond b (frontList (rowBeats directions (planAt pool)) (planCount pool)) (take (planCount pool) (x .slices .fronts))
+          ≡ frontList (cond b (rowBeats directions (planAt pool)) (dominance r)) (planCount pool)
+      ranked-by true = refl
+      ranked-by false = fronts-are
+
+      -- and what is bred from them, so ranked, is the generation's offspring
+      module _ (fronts fronts₀ : List ℕ) (sorted : fronts ≡ over (cond (ranksByRows edition) (frontList (rowBeats directions (planAt pool)) (planCount pool)) (take (planCount pool) (x .slices .fronts))) fronts₀) where
         abbrev ranks : ℕ → ℕ
-        ranks = rankIn (rowBeats directions (planAt pool)) (planCount pool) (selected r .kept)
+        ranks = rankIn (rankBeats r) (planCount pool) (selected r .kept)
 
         rank-is : (i : ℕ) → i < size → rankAt fronts (x .slices .kept) i ≡ ranks i
         unfolding frontList
         rank-is i h =
-            let front = frontOf (rowBeats directions (planAt pool)) (planCount pool) in
-            over-below front (planCount pool) fronts fronts₀ (getD (x .slices .kept) i 0) 0 sorted (kept-in-pool i h) ∙ ap front (place-is i h)
+            let front = frontOf (rankBeats r) (planCount pool) in
+            over-below front (planCount pool) fronts fronts₀ (getD (x .slices .kept) i 0) 0 (sorted ∙ ap (λ l. over l fronts₀) (ranked-by (ranksByRows edition))) (kept-in-pool i h) ∙ ap front (place-is i h)
 
         bred-generation : bredOfWords o pool fronts (x .slices .kept) size (x .answer .rng .s) ≡ drawn (generationOf o r .offspring) (generationOf o r .state)
         unfolding bredOfWords generationOf rankOf

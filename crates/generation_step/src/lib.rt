@@ -14,7 +14,7 @@ use model::Outcome;
 use model::Rng;
 use model::Selection;
 
-// A pool of two plans or more: those to breed from are selected, and bred from by their fronts by rows only, for which `by_rows` has room.
+// A pool of two plans or more: those to breed from are selected, and bred from by the edition's fronts, for which `ranks` has room.
 fn select_and_breed(
     edition: Edition,
     pool: &[u64],
@@ -28,10 +28,10 @@ fn select_and_breed(
     rules: &mut [u8],
     fronts: &mut [usize],
     lines: &mut [usize],
-    by_rows: &mut [usize],
+    ranks: &mut [usize],
     offspring: &mut [u64],
 ) -> Selection
-    requires { ⌜ (2 ≤ planCount (now pool)) × (planCount (now pool) ≤ length (now «by_rows»)) ⌝ }
+    requires { ⌜ (2 ≤ planCount (now pool)) × (planCount (now pool) ≤ length (now ranks)) ⌝ }
     requires { ⌜ stepRefusal (operatorsIn operators)
         (wordRequest edition (now pool) (now directions) divisions size rng (now ideal))
         (roomOf (lent (now kept) (now rules) (now fronts) (now lines))) (length (now offspring)) ≡ none ⌝ }
@@ -53,16 +53,8 @@ fn select_and_breed(
         fronts,
         lines,
     );
-    ranks::row_fronts(pool, directions, by_rows);
-    let rng = breeding::breed(
-        pool,
-        by_rows,
-        kept,
-        size,
-        operators,
-        selection.rng,
-        offspring,
-    );
+    ranks::rank_fronts(edition, pool, directions, fronts, ranks);
+    let rng = breeding::breed(pool, ranks, kept, size, operators, selection.rng, offspring);
     Selection {
         outcome: Outcome::Kept(size),
         rng,
@@ -102,7 +94,7 @@ pub fn step(
             rng,
         };
     }
-    let mut row_fronts: [usize; MAX_POOL] = [0; MAX_POOL];
+    let mut ranks: [usize; MAX_POOL] = [0; MAX_POOL];
     select_and_breed(
         edition,
         pool,
@@ -116,7 +108,7 @@ pub fn step(
         rules,
         fronts,
         lines,
-        &mut row_fronts,
+        &mut ranks,
         offspring,
     )
 }

@@ -30,6 +30,19 @@ pub record Request : Type 0 where
   -- where the generator stands
   pub state : ℕ
 
+-- the same request in another edition
+abbrev pub inEdition : Edition → Request → Request
+inEdition e r = record {
+  edition = e;
+  marks = r .marks;
+  divisions = r .divisions;
+  size = r .size;
+  count = r .count;
+  plans = r .plans;
+  ideal = r .ideal;
+  state = r .state;
+}
+
 abbrev pub objectives : Request → ℕ
 objectives r = length (r .marks)
 

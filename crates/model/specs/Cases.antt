@@ -9,17 +9,17 @@ use lib.ListN.{length, getD}
 use Rattle.model.specs.declared.ParamValue.the-variants as value
 use Rattle.model.specs.declared.Distribution.{Distribution}
 use Rattle.model.specs.declared.Distribution.the-variants as dist
-use Rattle.model.specs.declared.Edition.the-variants.{First}
+use Rattle.model.specs.declared.Edition.the-variants.{First, Second}
 use Rattle.model.specs.Lists.{keepBelow}
 use Rattle.model.specs.Real.{nought, half, unit, infinity}
 use Rattle.model.specs.Draw.{drawn, step, drawWord}
 use Rattle.model.specs.Numbers.{roundOf, R}
 use Rattle.model.specs.Plan.{Plan, Setting, measuredPlan}
 use Rattle.model.specs.Row.{dominates, feasible, constrainedDominates}
-use Rattle.model.specs.Front.{front, frontOf}
+use Rattle.model.specs.Front.{front}
 use Rattle.model.specs.Papers.Deb2002.{inFront}
 use Rattle.model.specs.Reference.{dasDennis, lattice, pointCount, autoDivisions}
-use Rattle.model.specs.Association.{Request, smallSpan, dominance, interceptOf, normalised, coordinate, squaresOf, nearestOf, lineOf}
+use Rattle.model.specs.Association.{Request, inEdition, smallSpan, dominance, interceptOf, normalised, coordinate, squaresOf, nearestOf, lineOf}
 use Rattle.model.specs.Kept.{before, splitFront, openLines, leastLines, nicheCount, selected}
 use Rattle.model.specs.Setting.{extract, sortByParam, crossover, children, rankOf}
 use Rattle.model.specs.PoolFile.{written, ascii}
@@ -170,11 +170,11 @@ pub record Traps : Type 0 where
   -- "listing a later front by index"
   pub asFreed : front (dominance freedLater) 4 1 ≡ 3 ∷ 2 ∷ []
   pub byIndex : keepBelow (inFront (dominance freedLater) 4 1) 4 ≡ 2 ∷ 3 ∷ []
-  -- "ranking tournaments with constraints"
+  -- "ranking tournaments with constraints", which is edition 1's trap and edition 2's rule (M-101)
   pub rankByRows : rankOf betterButInfeasible (0 ∷ 1 ∷ []) 0 ≡ 0
   pub rankByRows-other : rankOf betterButInfeasible (0 ∷ 1 ∷ []) 1 ≡ 1
-  pub rankConstrained : frontOf (dominance betterButInfeasible) 2 0 ≡ 1
-  pub rankConstrained-other : frontOf (dominance betterButInfeasible) 2 1 ≡ 0
+  pub rankConstrained : rankOf (inEdition Second betterButInfeasible) (0 ∷ 1 ∷ []) 0 ≡ 1
+  pub rankConstrained-other : rankOf (inEdition Second betterButInfeasible) (0 ∷ 1 ∷ []) 1 ≡ 0
   -- "drawing nothing when one line is left": at the one open place of document 01's example
   pub oneLine : leastLines (nicheCount (lineOf example) (before example)) (openLines (lineOf example) 2 (splitFront example)) ≡ 1 ∷ []
   pub oneDraw : selected example .state ≡ step 5

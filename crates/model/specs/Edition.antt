@@ -1,6 +1,6 @@
 -- Document 02: where the two editions part. Nothing else looks at an edition.
 use Prim.Native.Nat.{ℕ}
-use mathlib.Core.Bool.{cond}
+use mathlib.Core.Bool.{Bool, true, false, cond}
 use lib.Dec.{eqb}
 use Rattle.model.specs.declared.Edition.{Edition}
 use Rattle.model.specs.declared.Edition.the-variants.{First, Second}
@@ -23,3 +23,8 @@ mostPlans Second = 2048
 abbrev pub waitingOf : Edition → ℕ → ℕ
 waitingOf First size = 0
 waitingOf Second size = size
+
+-- M-101: "From edition 2 on, ranks are those of the constrained fronts that selection used. Edition 1 stays with its rule.": whether ranks look at rows only
+abbrev pub ranksByRows : Edition → Bool
+ranksByRows First = true
+ranksByRows Second = false

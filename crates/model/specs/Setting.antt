@@ -26,7 +26,8 @@ use Rattle.model.specs.Numbers.{roundOf, midpoint, P, R}
 use Rattle.model.specs.Plan.{Plan, Setting, maxSettings}
 use Rattle.model.specs.Row.{rowBeats}
 use Rattle.model.specs.Front.{frontOf}
-use Rattle.model.specs.Association.{Request}
+use Rattle.model.specs.Edition.{ranksByRows}
+use Rattle.model.specs.Association.{Request, dominance}
 use Rattle.model.specs.Kept.{Selected, selected, unselected}
 
 -- ---- settings as words
@@ -404,9 +405,12 @@ pub record Generation : Type 0 where
 abbrev pub rankIn : (ℕ → ℕ → Bool) → ℕ → List ℕ → ℕ → ℕ
 rankIn d n kept i = frontOf d n (getD kept i 0)
 
--- "`nsga3_generate_offspring` ranks by rows only"
+-- "`nsga3_generate_offspring` ranks by rows only"; M-101: in edition 2 by the constrained fronts, which selection used
+abbrev pub rankBeats : Request → ℕ → ℕ → Bool
+rankBeats r = cond (ranksByRows (r .edition)) (rowBeats (r .marks) (r .plans)) (dominance r)
+
 unfoldable pub rankOf : Request → List ℕ → ℕ → ℕ
-rankOf r kept i = rankIn (rowBeats (r .marks) (r .plans)) (r .count) kept i
+rankOf r kept i = rankIn (rankBeats r) (r .count) kept i
 
 -- the parents of a kept list, by their ranks, and their offspring
 abbrev pub bredOf : Operators → (ℕ → Plan) → (ℕ → ℕ) → List ℕ → ℕ → ℕ → Drawn (List (List ParamValue))

@@ -1,4 +1,5 @@
-// The lists that a selection hands out, filled from their front. `nsga3` calls `list_whole` and `select_whole`; the other functions are their parts.
+// The lists that a selection hands out, filled from their front. `nsga3` calls `list_whole` and `select_whole`, `ranks` calls `copy_first`; the other functions are
+// their parts.
 ghost use mathlib.Core.Path.{_≡_};
 ghost use mathlib.Core.List.{_++_};
 ghost use Prim.Native.Nat.{_-_, _<_, _≤_};
@@ -11,7 +12,7 @@ use model::Rng;
 use model::Rule;
 
 // The first n entries of a list, at the front of another.
-fn copy_first(from: &[usize], n: usize, to: &mut [usize])
+pub fn copy_first(from: &[usize], n: usize, to: &mut [usize])
     requires { ⌜ (n ≤ length (now from)) × (n ≤ length (now to)) ⌝ }
     ensures { λ _. ⌜ now (to .exit) ≡ over (take n (now (from .entry))) (now (to .entry)) ⌝ }
 {

@@ -1,4 +1,4 @@
--- `select_and_breed`: the selection, the fronts by rows, and what is bred by them
+-- `select_and_breed`: the selection, the edition's fronts, and what is bred by them
 use Prim.Native.Nat.{ℕ}
 use mathlib.Core.Path.{_≡_}
 use native.Mathlib.Omega.{arith}
@@ -38,15 +38,15 @@ good-pool s =
     let ok = given s in
     record { few = count-in-pool (s .args .edition) _ (ok .count); narrow = some-objectives _ (ok .directions) .1; good = pool-plans (request s) (ok .pool) }
 
--- ---- the places, each from the next: the plans to breed from are selected, the pool is sorted by rows, and the plans are bred from
+-- ---- the places, each from the next: the plans to breed from are selected, their ranks' fronts filled in, and the plans are bred from
 
 abbrev start : tie.After-nsga3-select → tie.Start
 start c = c .before .before .before .before .before .before .before .before .before .before .before .before .before .before .before
 
-abbrev selected : tie.After-row-fronts → tie.After-nsga3-select
-selected c = c .before .before .before .before .before .before .before .before .before .before .before .before
+abbrev selected : tie.After-rank-fronts → tie.After-nsga3-select
+selected c = c .before .before .before .before .before .before .before .before .before .before .before .before .before
 
-abbrev sorted : tie.After-breed-arg3 → tie.After-row-fronts
+abbrev sorted : tie.After-breed-arg3 → tie.After-rank-fronts
 sorted c = c .before .before .before .before .before
 
 abbrev bred : tie.After-slice-known14 → tie.After-breed
@@ -57,8 +57,12 @@ bred c = c .before .before
 nsga3-select-requires : tie.Need-nsga3-select-requires
 nsga3-select-requires c κs = tt
 
-row-fronts-requires : tie.Need-row-fronts-requires
-row-fronts-requires c κs = let s = start (c .before .before .before .before .before .before .before .before .before .before .before) in (good-pool s, s .pre .0 .1)
+rank-fronts-requires : tie.Need-rank-fronts-requires
+rank-fronts-requires c κs =
+    let n = c .before .before .before .before .before .before .before .before .before .before .before .before in
+    let s = start n in
+    let handed : length (n .nsga3-select .last .1 .1 .1 .1 .1 .1 .1 .1 .1 .0) ≡ length (s .args .fronts .now) = n .nsga3-select .kept .1 .1 .1 .1 .1 .1 .1 .1 .1 .0 in
+    (good-pool s, omega (arith, handed, fronts-room (given s) (s .pre .0 .0)), s .pre .0 .1)
 
 breed-requires : tie.Need-breed-requires
 breed-requires c κs =
@@ -67,7 +71,7 @@ breed-requires c κs =
     let a = s .args in
     let e = select-exit (a .edition) (ops s) (a .pool .now) (a .directions .now) (a .divisions) (a .size) (a .rng) (a .ideal .now) (at s) (a .offspring .now) (s .pre .1) (s .pre .0 .0) _ (n .nsga3-select .ensures) in
     let ok = given s in
-    let rows : length (sorted c .row-fronts .last .1 .1 .0) ≡ length (a .by-rows .now) = sorted c .row-fronts .kept .1 .1 .0 in
+    let rows : length (sorted c .rank-fronts .last .1 .1 .1 .1 .0) ≡ length (a .ranks .now) = sorted c .rank-fronts .kept .1 .1 .1 .1 .0 in
     -- the selection's fronts have room for the pool too, so that a program which breeds by them fails for its offspring alone
     let others : length (n .nsga3-select .last .1 .1 .1 .1 .1 .1 .1 .1 .1 .0) ≡ length (a .fronts .now) = n .nsga3-select .kept .1 .1 .1 .1 .1 .1 .1 .1 .1 .0 in
     let kept : length (n .nsga3-select .last .1 .1 .1 .1 .1 .1 .1 .0) ≡ length (a .kept .now) = n .nsga3-select .kept .1 .1 .1 .1 .1 .1 .1 .0 in (
@@ -109,18 +113,18 @@ returns c =
     let s = start n in
     let a = s .args in
     let b = bred c .breed in
-    -- the ranks that it draws by are the fronts by rows
-    let drawn : b .result .s ≡ bredOfWords (ops s) (a .pool .now) (w .row-fronts .last .1 .1 .0) (n .nsga3-select .last .1 .1 .1 .1 .1 .1 .1 .0) (a .size) (n .nsga3-select .result .rng .s) .state = b .ensures .1 in
+    -- the ranks that it draws by are the edition's fronts
+    let drawn : b .result .s ≡ bredOfWords (ops s) (a .pool .now) (w .rank-fronts .last .1 .1 .1 .1 .0) (n .nsga3-select .last .1 .1 .1 .1 .1 .1 .1 .0) (a .size) (n .nsga3-select .result .rng .s) .state = b .ensures .1 in
     let e = select-exit (a .edition) (ops s) (a .pool .now) (a .directions .now) (a .divisions) (a .size) (a .rng) (a .ideal .now) (at s) (a .offspring .now) (s .pre .1) (s .pre .0 .0) _ (n .nsga3-select .ensures) in
-    bred-exit (a .edition) (ops s) (a .pool .now) (a .directions .now) (a .divisions) (a .size) (a .rng) (a .ideal .now) (at s) (a .offspring .now) (s .pre .1) (s .pre .0 .0) _ e (w .row-fronts .last .1 .1 .0) (a .by-rows .now)
-    (w .row-fronts .ensures) _ _ (b .ensures .0) drawn
+    bred-exit (a .edition) (ops s) (a .pool .now) (a .directions .now) (a .divisions) (a .size) (a .rng) (a .ideal .now) (at s) (a .offspring .now) (s .pre .1) (s .pre .0 .0) _ e (w .rank-fronts .last .1 .1 .1 .1 .0) (a .ranks .now)
+    (w .rank-fronts .ensures) _ _ (b .ensures .0) drawn
 
 pub select-and-breed-spec : {M : Type 1} → statement M
 select-and-breed-spec =
     tie.close
     (tie.spec
     nsga3-select-requires
-    row-fronts-requires
+    rank-fronts-requires
     breed-requires
     same-length
     same-length-2
