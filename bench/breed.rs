@@ -272,7 +272,7 @@ impl Sampler {
                     let numbers: HashSet<u64> = self.waiting.iter().map(|trial| trial.id).collect();
                     let new = children.into_iter().filter(|child| !numbers.contains(&child.id));
                     let pool: Vec<&MultiObjectiveTrial> = self.waiting.iter().chain(new).collect();
-                    let kept = session::breed(&mut state, &pool, directions).kept;
+                    let kept = session::breed(self.edition, &mut state, &pool, directions).kept;
                     self.waiting = kept.iter().map(|&place| pool[place].clone()).collect();
                 }
                 return genetic::sample_from_candidate(&mut state.evo, plan);

@@ -507,8 +507,8 @@ impl Call {
     }
 }
 
-/// Runs on the state that the Rust's sampler has before a selection or
-/// generation step, with the step's population and directions.
+/// Runs in the call's edition, on the state that the Rust's sampler has before a
+/// selection or generation step, with the step's population and directions.
 pub fn with_state<T>(
     call: &Call,
     run: impl FnOnce(&mut Nsga3State, &[&MultiObjectiveTrial], &[Direction]) -> T,
@@ -527,7 +527,9 @@ pub fn with_state<T>(
     state.reference_points = genetic::das_dennis(call.marks.len(), call.divisions as usize);
     state.ideal_point = call.ideal.clone();
     state.initialized = true;
-    run(&mut state, &population, &plans::directions(&call.marks))
+    let directions = plans::directions(&call.marks);
+    call.edition
+        .run(|| run(&mut state, &population, &directions))
 }
 
 /// What a selection hands out.

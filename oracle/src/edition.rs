@@ -1,9 +1,22 @@
-//! Document 02's two editions, and where they part.
+//! Document 02's two editions, and where they part. Of the Rust, the lines that
+//! `oracle/build` lists for edition 2 ask here; in edition 1 they are answered
+//! as they stood.
+
+use std::cell::Cell;
+
+use crate::multi_objective::MultiObjectiveTrial;
+use crate::pareto;
+use crate::types::Direction;
 
 #[derive(Clone, Copy, Debug, PartialEq, Eq)]
 pub enum Edition {
     First,
     Second,
+}
+
+thread_local! {
+    /// The edition that the Rust is run in.
+    static RUN_IN: Cell<Edition> = const { Cell::new(Edition::First) };
 }
 
 impl Edition {
@@ -25,5 +38,30 @@ impl Edition {
     /// Whether the kept plans wait for the next generation's pool (M-100).
     pub fn keeps_parents(self) -> bool {
         self == Edition::Second
+    }
+
+    /// Runs the Rust in this edition.
+    pub fn run<T>(self, run: impl FnOnce() -> T) -> T {
+        let outside = RUN_IN.replace(self);
+        let answer = run();
+        RUN_IN.set(outside);
+        answer
+    }
+}
+
+/// The sort that ranks for tournaments, called by the Rust's generation step:
+/// "The oracle for edition 2 passes constraints to the ranking sort" (M-101).
+pub fn ranking_sort(
+    rows: &[Vec<f64>],
+    directions: &[Direction],
+    population: &[&MultiObjectiveTrial],
+) -> Vec<Vec<usize>> {
+    match RUN_IN.get() {
+        Edition::First => pareto::fast_non_dominated_sort(rows, directions),
+        Edition::Second => {
+            let constraints = |trial: &&MultiObjectiveTrial| trial.constraints.clone();
+            let constraints: Vec<Vec<f64>> = population.iter().map(constraints).collect();
+            pareto::fast_non_dominated_sort_constrained(rows, directions, &constraints)
+        }
     }
 }

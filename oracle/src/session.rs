@@ -139,15 +139,16 @@ pub struct Bred {
     pub split: usize,
 }
 
-/// The Rust's generation step from a pool, and its new generation; what it
-/// told.
+/// The Rust's generation step from a pool, in an edition, and its new
+/// generation; what it told.
 pub fn breed(
+    edition: Edition,
     state: &mut Nsga3State,
     pool: &[&MultiObjectiveTrial],
     directions: &[Direction],
 ) -> watch::Told {
-    let (offspring, told) =
-        watch::watched(|| nsga3::nsga3_generate_offspring(state, pool, directions));
+    let step = || nsga3::nsga3_generate_offspring(state, pool, directions);
+    let (offspring, told) = watch::watched(|| edition.run(step));
     genetic::advance_generation(&mut state.evo, offspring);
     told
 }
@@ -268,7 +269,7 @@ impl Session {
         let pool = self.bred_from(&state.evo).expect("a call that breeds");
         let trials: Vec<MultiObjectiveTrial> = pool.iter().map(|plan| plan.trial()).collect();
         let trials: Vec<&MultiObjectiveTrial> = trials.iter().collect();
-        let watch::Told { counts, kept } = breed(&mut state, &trials, &self.directions);
+        let watch::Told { counts, kept } = breed(self.edition, &mut state, &trials, &self.directions);
         let size = state.evo.population_size;
         assert!((size..=2 * size).contains(&pool.len()), "no plan is listed twice");
         assert_eq!(kept.len(), size, "as many wait as the size");

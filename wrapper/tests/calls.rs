@@ -100,6 +100,24 @@ fn step() {
     assert_eq!(refused, Err(Refusal::Parent));
 }
 
+/// An infeasible plan with the better row beside a feasible one: in edition 1 the row wins tournaments, in edition 2 the feasible plan.
+#[test]
+fn tournaments() {
+    let one = Directions::new(&[Direction::Minimize]).unwrap();
+    let dimensions = [Dimension::float(0.0, 1.0).unwrap()];
+    let plan = |number, row, constraint, setting| Plan::new(number, &[row], &[constraint], &[(0, Setting::Float(setting))]).unwrap();
+    let pool = [plan(0, 0.0, 1.0, 0.25), plan(1, 1.0, -1.0, 0.75)];
+    let [first, second] = [Edition::First, Edition::Second].map(|edition| {
+        let mut ideal = Ideal::unknown(&one);
+        let operators = Operators::default();
+        generate_offspring(edition, &pool, &one, 1, 2, &mut Rng::with_seed(11), &dimensions, &operators, &mut ideal).unwrap()
+    });
+    assert_eq!(first.selection, second.selection);
+    assert_eq!(first.selection.kept, [1, 0]);
+    let low = |plan: &Vec<Setting>| matches!(plan[..], [Setting::Float(x)] if x < 0.5);
+    assert!(first.plans.iter().all(low) && !second.plans.iter().any(low));
+}
+
 fn session_of(edition: Edition) {
     let bad = Operators { crossover_prob: 2.0, ..Operators::default() };
     assert_eq!(Session::open(edition, &two(), 1, None, None, &bad).unwrap_err(), Refusal::Operators);

@@ -3,7 +3,7 @@
 use super::kept::*;
 use super::numbers::*;
 use super::*;
-use crate::answers::push_settings;
+use crate::answers::{self, push_settings};
 
 pub(super) fn sample_random(state: u64, dimension: &Distribution) -> Line {
     let mut line = vec![80, state];
@@ -252,8 +252,52 @@ pub(super) fn breeding_cases() -> Vec<Line> {
             c.dimensions = vec![choices(2); count];
         }));
     }
+    calls.extend(pressed());
     lines.extend(calls.iter().map(Call::step));
     lines
+}
+
+/// Steps on which the editions part: ranks by rows and ranks of the constrained
+/// fronts let other plans win tournaments.
+pub(super) fn pressed() -> Vec<Call> {
+    let rows: &[&[f64]] = &[&[0.0], &[1.0]];
+    let chain: &[&[f64]] = &[&[2.0, 2.0], &[0.0, 0.0], &[1.0, 1.0]];
+    let front: &[&[f64]] = &[&[0.0, 2.0], &[3.0, 3.0], &[1.0, 1.0], &[2.0, 4.0], &[4.0, 0.0]];
+    let step = |rows: &[&[f64]], violations: &[f64], size, state| {
+        let mut call = Call::new(rows[0].len(), 2, size, state, pool_of(rows));
+        call.dimensions = vec![float(0.0, 1.0), choices(3)];
+        for (at, (plan, &violation)) in call.pool.iter_mut().zip(violations).enumerate() {
+            plan.constraints = vec![violation];
+            let share = at as f64 / rows.len() as f64;
+            plan.settings = vec![(0, 0, of_real(share)), (1, 2, at as u64 % 3)];
+        }
+        call
+    };
+    let calls = vec![
+        // The infeasible plan has the better row.
+        step(rows, &[1.0, -1.0], 2, 1),
+        // So has the one of the greater violation.
+        step(rows, &[1.0, 0.5], 2, 2),
+        // Equal violations are one front, the rows a chain; the list is padded.
+        step(chain, &[0.5; 3], 4, 3),
+        // A front of infeasible plans is split, in which one row is better.
+        step(front, &[0.25, -1.0, 0.25, 0.25, 0.0], 4, 4),
+    ];
+    for call in &calls {
+        let other = call.but(|c| c.edition = Edition::Second);
+        let [ranked, pressed] = [call, &other].map(answers::step);
+        assert_eq!(ranked.kept, pressed.kept, "selection is the same");
+        assert_ne!(bred_words(&ranked), bred_words(&pressed), "tournaments are not");
+    }
+    calls
+}
+
+fn bred_words(bred: &answers::Bred) -> Line {
+    let mut line = Vec::new();
+    for child in &bred.offspring {
+        push_settings(&mut line, child);
+    }
+    line
 }
 
 /// Dimensions that meet refusal 6, each for one reason.

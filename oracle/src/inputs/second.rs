@@ -96,7 +96,9 @@ pub(super) fn breeding_cases() -> Vec<Line> {
         good.but(wrong_setting),
         good.but(|c| c.short = true),
     ];
-    calls.iter().map(Call::step).collect()
+    // Those on which the editions part.
+    let pressed = pressed().iter().map(second).collect();
+    [calls.to_vec(), pressed].concat().iter().map(Call::step).collect()
 }
 
 pub(super) fn breeding_input(mix: &mut Mix, at: u64) -> Line {
@@ -127,6 +129,11 @@ impl Script {
 
     fn generation(&self) -> usize {
         self.opened().sampler.state.lock().evo.generation
+    }
+
+    /// The generator's state.
+    fn state(&self) -> u64 {
+        self.opened().sampler.state.lock().evo.rng.s
     }
 
     /// The numbers of the plans that wait.
@@ -421,7 +428,36 @@ pub(super) fn session_cases() -> Vec<Line> {
     for (m, size, rows, bounds) in [(2, 5, 9, 0), (3, 7, 1, 2), (3, 8, 0, 4), (1, 6, 9, 3), (2, 12, 5, 0)] {
         lines.push(several(&mut mix, m, size, rows, bounds));
     }
+
+    // Ranks: the first generation, whose pool is alike in both editions, is kept
+    // whole in both and bred from otherwise. In the second, a front of infeasible
+    // plans is split.
+    let [first, mut second] = [Edition::First, Edition::Second].map(pressed_session);
+    assert_ne!(first.state(), second.state(), "the editions part");
+    second.come(6..=8);
+    let mut records = front(5..=8, -30.0);
+    for record in &mut records {
+        record.constraints = vec![0.125];
+    }
+    second.breed(9, records);
+    assert_eq!(second.waiting()[..2], [3, 4]);
+    lines.push(second.line());
     lines
+}
+
+/// A session of size 4 that has bred once, from infeasible plans with the better
+/// rows beside feasible ones.
+pub(super) fn pressed_session(edition: Edition) -> Script {
+    let opening = Opening::new(2, Some(4), None, 12);
+    let mut script = Script::new(opening.but(|o| o.edition = edition));
+    script.discover(0, &three().0);
+    script.come(1..=4);
+    let mut records = front([1, 2], -20.0);
+    records.extend(front([3, 4], 0.0));
+    records[0].constraints = vec![0.5, -1.0];
+    records[1].constraints = vec![0.25, 0.5];
+    script.breed(5, records);
+    script
 }
 
 /// A call that hands out a setting or breeds; `come` has the generation's plans.

@@ -270,6 +270,9 @@ pub(super) fn session_cases() -> Vec<Line> {
         .collect();
     let _ = script.call(27, true);
     lines.push(script.line());
+
+    // Infeasible plans with the better rows, as in edition 2's cases.
+    lines.push(super::second::pressed_session(Edition::First).line());
     lines
 }
 
