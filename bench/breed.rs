@@ -102,7 +102,7 @@ fn compared(edition: Edition, pool: &[Plan], size: usize) -> bool {
     true
 }
 
-/// Six steps of edition 1 and three of edition 2, from twice the size; answers how many differ.
+/// Steps of both editions from the same pools, of twice the size and of the size, and one of edition 2 from 2,048 plans; answers how many differ.
 fn steps() -> usize {
     let (mut mix, mut wrong) = (Mix(1), 0);
     println!("Generation steps: m 3, ten dimensions.\n");
@@ -110,13 +110,12 @@ fn steps() -> usize {
     for n in [128, 512, 1024] {
         let pool = pool(n, 3, &mut mix);
         for size in [n / 2, n] {
-            wrong += usize::from(!compared(Edition::First, &pool, size));
+            for edition in [Edition::First, Edition::Second] {
+                wrong += usize::from(!compared(edition, &pool, size));
+            }
         }
     }
-    for n in [256, 1024, 2048] {
-        wrong += usize::from(!compared(Edition::Second, &pool(n, 3, &mut mix), n / 2));
-    }
-    wrong
+    wrong + usize::from(!compared(Edition::Second, &pool(2048, 3, &mut mix), 1024))
 }
 
 // ---- sessions

@@ -54,7 +54,8 @@ enum {
 
 /* The editions of selection, generation step and session. In edition 1 a session selects from the children alone, as the Rust does
  * that this library is carried over from. Edition 2 selects from parents and children in one pool, as the algorithm was published:
- * the plans kept wait for the next generation, so that a good plan stays where its children are worse. Who begins opens edition 2.
+ * the plans kept wait for the next generation, so that a good plan stays where its children are worse. In the tournaments of edition 1
+ * the better row wins, of edition 2 a plan that keeps its constraints against one that breaks them. Who begins opens edition 2.
  * ANY OTHER NUMBER MEANS EDITION 1. */
 #define LOCUSTDOMINO_FIRST_EDITION 1
 #define LOCUSTDOMINO_SECOND_EDITION 2

@@ -124,10 +124,11 @@ impl std::error::Error for Refusal {}
 
 /// The edition of a selection, a generation step or a session.
 ///
-/// They part in what a session selects from. In the first it is the children alone, as in the Rust that the library is carried over
-/// from. The second is the published algorithm: parents and children in one pool. The plans kept wait for the next generation and
-/// come first in its pool ([`Session::waiting`]), so that a good plan stays where its children are worse. Who begins opens the
-/// second. A pool of a selection or step is what the caller puts there, in both; in the second it may have 2,048 plans.
+/// They part in what a session selects from and in how tournaments are decided. In the first it selects from the children alone, as the Rust does
+/// that the library is carried over from, and in tournaments the better row wins. The second is the published algorithm: parents and
+/// children in one pool. The plans kept wait for the next generation and come first in its pool ([`Session::waiting`]), so that a good
+/// plan stays where its children are worse; and a plan that keeps its constraints wins against one that breaks them. Who begins opens
+/// the second. A pool of a selection or step is what the caller puts there, in both; in the second it may have 2,048 plans.
 #[derive(Clone, Copy, Debug, PartialEq, Eq)]
 pub enum Edition {
     First,
