@@ -52,10 +52,13 @@ enum {
     LOCUSTDOMINO_NOT_HELD = 18       /* a pool file that the first edition cannot hold, or whose conversion would be over 65,536 bytes */
 };
 
-/* The editions of selection, generation step and session. In edition 1 a session selects from the children alone, as the Rust does
- * that this library is carried over from. Edition 2 selects from parents and children in one pool, as the algorithm was published:
- * the plans kept wait for the next generation, so that a good plan stays where its children are worse. In the tournaments of edition 1
- * the better row wins, of edition 2 a plan that keeps its constraints against one that breaks them. Who begins opens edition 2.
+/* The editions of selection, generation step and session. Edition 1 is the Rust that this library is carried over from, edition 2 the
+ * algorithm as it was published. Who begins opens edition 2. They part in
+ *   the pool: in edition 1 a session selects from the children alone, in edition 2 from parents and children together: the plans kept
+ *     wait for the next generation, so that a good plan stays where its children are worse;
+ *   tournaments: in edition 1 the better row wins, in edition 2 a plan that keeps its constraints against one that breaks them;
+ *   distances: edition 2 compares their squares, of which edition 1 takes the roots, so that row order decides between equally near
+ *     plans only.
  * ANY OTHER NUMBER MEANS EDITION 1. */
 #define LOCUSTDOMINO_FIRST_EDITION 1
 #define LOCUSTDOMINO_SECOND_EDITION 2

@@ -124,11 +124,14 @@ impl std::error::Error for Refusal {}
 
 /// The edition of a selection, a generation step or a session.
 ///
-/// They part in what a session selects from and in how tournaments are decided. In the first it selects from the children alone, as the Rust does
-/// that the library is carried over from, and in tournaments the better row wins. The second is the published algorithm: parents and
-/// children in one pool. The plans kept wait for the next generation and come first in its pool ([`Session::waiting`]), so that a good
-/// plan stays where its children are worse; and a plan that keeps its constraints wins against one that breaks them. Who begins opens
-/// the second. A pool of a selection or step is what the caller puts there, in both; in the second it may have 2,048 plans.
+/// The first is the Rust that the library is carried over from, the second the algorithm as it was published. Who begins opens the
+/// second. They part in
+/// - the pool of a session: in the first it selects from the children alone, in the second from parents and children together: the
+///   plans kept wait for the next generation and come first in its pool ([`Session::waiting`]), so that a good plan stays where its
+///   children are worse. A pool of a selection or step is what the caller puts there, in both; in the second it may have 2,048 plans;
+/// - tournaments: in the first the better row wins, in the second a plan that keeps its constraints against one that breaks them;
+/// - distances: the second compares their squares, where the first compares their roots and lets row order decide between plans whose
+///   roots are equal.
 #[derive(Clone, Copy, Debug, PartialEq, Eq)]
 pub enum Edition {
     First,

@@ -1,9 +1,9 @@
 // Association (document 01, "Association"; Rust: sampler/nsga3.rs), over flat rows: plan p's value at objective j is entry p * m + j.
 // The layer's calls are `associate_to_reference_points` and `associate`; the other functions are their parts.
+use model::Edition;
 use model::MAX_LINES;
 use model::MAX_OBJECTIVES;
 use model::MAX_ROW_VALUES;
-use square_root;
 ghost use mathlib.Core.Path.{_≡_};
 ghost use Prim.Native.Nat.{_+_, _*_, _≤_, min};
 ghost use lib.ListN.{length};
@@ -23,6 +23,7 @@ struct Nearest {
 
 // The line nearest to a point: the first strictly smaller distance wins, from line 0.
 fn nearest_line(
+    edition: Edition,
     points: &[f64],
     at: usize,
     m: usize,
@@ -33,8 +34,8 @@ fn nearest_line(
 ) -> Nearest
     requires { ⌜ (at + m ≤ length (now points)) × («n_lines» * m ≤ length (now table)) × (known ≤ length (now norms))
         × NormsIn (now table) m (now norms) known ⌝ }
-    ensures { λ r. ⌜ (r .line ≡ nearestOf (distanceAt (now (points .entry)) at m (now (table .entry))) «n_lines» .line)
-        × (r .distance ≡ nearestOf (distanceAt (now (points .entry)) at m (now (table .entry))) «n_lines» .distance) ⌝ }
+    ensures { λ r. ⌜ (r .line ≡ nearestOf (distanceAt edition (now (points .entry)) at m (now (table .entry))) «n_lines» .line)
+        × (r .distance ≡ nearestOf (distanceAt edition (now (points .entry)) at m (now (table .entry))) «n_lines» .distance) ⌝ }
 {
     let mut best = block_search::Best {
         line: 0,
@@ -45,18 +46,19 @@ fn nearest_line(
     while l < n_lines {
         let norm = distances::line_norm(table, m, l, norms, known);
         let squares = distances::distance_squared(points, at, table, line_at, m, norm);
-        best = block_search::nearer(best, l, squares);
+        best = block_search::nearer(edition, best, l, squares);
         l += 1;
         line_at += m;
     }
     Nearest {
         line: best.line,
-        distance: square_root::sqrt(best.squares),
+        distance: distances::measure(edition, best.squares),
     }
 }
 
 // Each plan's nearest line, and its distance from it, plan by plan.
 fn nearest_each(
+    edition: Edition,
     normalized: &[f64],
     n: usize,
     m: usize,
@@ -69,12 +71,12 @@ fn nearest_each(
 )
     requires { ⌜ (n * m ≤ length (now normalized)) × («n_lines» * m ≤ length (now table)) × (known ≤ length (now norms))
         × NormsIn (now table) m (now norms) known × (n ≤ length (now lines)) × (n ≤ length (now distances)) ⌝ }
-    ensures { λ _. ⌜ NearestAll (now (normalized .entry)) m (now (table .entry)) «n_lines» n (now (lines .entry)) (now (lines .exit))
+    ensures { λ _. ⌜ NearestAll edition (now (normalized .entry)) m (now (table .entry)) «n_lines» n (now (lines .entry)) (now (lines .exit))
         (now (distances .entry)) (now (distances .exit)) ⌝ }
 {
     let mut p = 0;
     while p < n {
-        let near = nearest_line(normalized, p * m, m, table, n_lines, norms, known);
+        let near = nearest_line(edition, normalized, p * m, m, table, n_lines, norms, known);
         lines[p] = near.line;
         distances[p] = near.distance;
         p += 1;
@@ -83,6 +85,7 @@ fn nearest_each(
 
 // Each plan's nearest line, and its distance from it: by blocks of plans, of no more objectives than those have room for.
 fn nearest_lines(
+    edition: Edition,
     normalized: &[f64],
     n: usize,
     m: usize,
@@ -95,11 +98,12 @@ fn nearest_lines(
 )
     requires { ⌜ (n * m ≤ length (now normalized)) × («n_lines» * m ≤ length (now table)) × (known ≤ length (now norms))
         × NormsIn (now table) m (now norms) known × (n ≤ length (now lines)) × (n ≤ length (now distances)) ⌝ }
-    ensures { λ _. ⌜ NearestAll (now (normalized .entry)) m (now (table .entry)) «n_lines» n (now (lines .entry)) (now (lines .exit))
+    ensures { λ _. ⌜ NearestAll edition (now (normalized .entry)) m (now (table .entry)) «n_lines» n (now (lines .entry)) (now (lines .exit))
         (now (distances .entry)) (now (distances .exit)) ⌝ }
 {
     if m <= MAX_OBJECTIVES {
         block_lines::nearest_by_blocks(
+            edition,
             normalized,
             n,
             m,
@@ -113,6 +117,7 @@ fn nearest_lines(
         return;
     }
     nearest_each(
+        edition,
         normalized,
         n,
         m,
@@ -138,6 +143,7 @@ fn known_norms(n_lines: usize) -> usize
 
 // Each plan's nearest line, and its distance from it.
 pub fn associate_to_reference_points(
+    edition: Edition,
     normalized: &[f64],
     n: usize,
     m: usize,
@@ -147,13 +153,14 @@ pub fn associate_to_reference_points(
     distances: &mut [f64],
 )
     requires { ⌜ (n * m ≤ length (now normalized)) × («n_lines» * m ≤ length (now table)) × (n ≤ length (now lines)) × (n ≤ length (now distances)) ⌝ }
-    ensures { λ _. ⌜ NearestAll (now (normalized .entry)) m (now (table .entry)) «n_lines» n (now (lines .entry)) (now (lines .exit))
+    ensures { λ _. ⌜ NearestAll edition (now (normalized .entry)) m (now (table .entry)) «n_lines» n (now (lines .entry)) (now (lines .exit))
         (now (distances .entry)) (now (distances .exit)) ⌝ }
 {
     let known = known_norms(n_lines);
     let mut norms = [0.0; MAX_LINES];
     distances::line_norms(table, known, m, &mut norms);
     nearest_lines(
+        edition,
         normalized,
         n,
         m,
@@ -170,6 +177,7 @@ pub fn associate_to_reference_points(
 
 // Moves the ideal, normalises the rows, and gives each plan its line and its distance from it.
 pub fn associate(
+    edition: Edition,
     rows: &[f64],
     n: usize,
     m: usize,
@@ -181,7 +189,7 @@ pub fn associate(
 )
     requires { ⌜ (m ≤ maxObjectives) × (n * m ≤ maxPool * maxObjectives) × (n * m ≤ length (now rows)) × («n_lines» * m ≤ length (now table)) × (m ≤ length (now ideal))
         × (n ≤ length (now lines)) × (n ≤ length (now distances)) ⌝ }
-    ensures { λ _. ⌜ ((r : Request) → Pool r (now (rows .entry)) n m → StartIn r (now (ideal .entry)) m → LinesIn r (now (table .entry)) «n_lines» m
+    ensures { λ _. ⌜ ((r : Request) → edition ≡ r .edition → Pool r (now (rows .entry)) n m → StartIn r (now (ideal .entry)) m → LinesIn r (now (table .entry)) «n_lines» m
         → «n_lines» ≡ lineCount r → Associates r n m (now (ideal .entry)) (now (ideal .exit)) (now (lines .entry)) (now (lines .exit))
         (now (distances .entry)) (now (distances .exit))) ⌝ }
 {
@@ -190,5 +198,5 @@ pub fn associate(
     normalization::update_ideal_point(rows, n, m, ideal);
     normalization::find_intercepts(rows, n, m, ideal, &mut intercepts);
     normalization::normalize_objectives(rows, n, m, ideal, &intercepts, &mut normalized);
-    associate_to_reference_points(&normalized, n, m, table, n_lines, lines, distances);
+    associate_to_reference_points(edition, &normalized, n, m, table, n_lines, lines, distances);
 }

@@ -5,6 +5,7 @@ use mathlib.Core.Bool.{true}
 use mathlib.Core.List.{List, flatten}
 use lib.Ieee.{Float, nan, inf, lt}
 use lib.ListN.{getD}
+use Rattle.model.specs.declared.Edition.{Edition}
 use Rattle.model.specs.Lists.{In, listBelow, over}
 use Rattle.model.specs.Real.{_⊖_, _⊘_, above}
 use Rattle.model.specs.Reference.{dasDennis}
@@ -65,25 +66,27 @@ module _ (r : Request) (rows : List Float) (n m : ℕ) (P : Pool r rows n m) whe
         ∙ ap₂ (λ v i. v ⊘ i) (ap₂ (λ v i. v ⊖ i) (P .values p j h k) (z j k)) (a j k)
 
   -- ---- what `associate_to_reference_points` leaves, from the normalised rows and the table
-  module _ (normalized : List Float) (a : NormalisedIn r normalized n m) (table : List Float) (k : ℕ) (b : LinesIn r table k m) (c : k ≡ lineCount r) where
-    nearest-is : (p : ℕ) → p < n → nearestAt normalized m table k p ≡ association r p
+  module _ (e : Edition) (same : e ≡ r .edition) (normalized : List Float) (a : NormalisedIn r normalized n m) (table : List Float) (k : ℕ) (b : LinesIn r table k m)
+      (c : k ≡ lineCount r) where
+    nearest-is : (p : ℕ) → p < n → nearestAt e normalized m table k p ≡ association r p
     unfolding association distanceTo
     nearest-is p h =
-        nearest-same _ _ k (λ l g. distance-same m _ (normalised r p) _ (coordinate r l) (λ j i. a p j h i) (λ j i. b l j g i)
-        ∙ ap (λ w. distance w (normalised r p) (coordinate r l)) (P .width))
+        nearest-same _ _ k (λ l g. distance-same e m _ (normalised r p) _ (coordinate r l) (λ j i. a p j h i) (λ j i. b l j g i)
+        ∙ ap₂ (λ v w. distance v w (normalised r p) (coordinate r l)) same (P .width))
         ∙ ap (nearestOf (distanceTo r p)) c
 
 -- ---- what `associate` leaves: the four steps one after the other
-module _ (r : Request) (rows : List Float) (n m : ℕ) (P : Pool r rows n m) (table : List Float) (k : ℕ) (T : LinesIn r table k m) (c : k ≡ lineCount r)
+module _ (r : Request) (e : Edition) (same : e ≡ r .edition) (rows : List Float) (n m : ℕ) (P : Pool r rows n m)
+    (table : List Float) (k : ℕ) (T : LinesIn r table k m) (c : k ≡ lineCount r)
     (ideal₀ ideal : List Float) (start : StartIn r ideal₀ m) (e₁ : ideal ≡ over (listBelow (leastAt rows n m ideal₀) m) ideal₀)
     (intercepts₀ intercepts : List Float) (e₂ : intercepts ≡ over (listBelow (interceptAt rows n m ideal) m) intercepts₀)
     (normalized₀ normalized : List Float) (e₃ : normalized ≡ over (flatRows (normalAt rows m ideal intercepts) n m) normalized₀)
-    (lines₀ lines : List ℕ) (distances₀ distances : List Float) (e₄ : NearestAll normalized m table k n lines₀ lines distances₀ distances) where
+    (lines₀ lines : List ℕ) (distances₀ distances : List Float) (e₄ : NearestAll e normalized m table k n lines₀ lines distances₀ distances) where
   pub all-steps : Associates r n m ideal₀ ideal lines₀ lines distances₀ distances
   all-steps =
       let z = ideal-at r rows n m P ideal₀ start ideal e₁ in
       let a = normalised-at r rows n m P ideal z intercepts (intercepts-at r rows n m P ideal z intercepts intercepts₀ e₂) normalized normalized₀ e₃ in
-      let near = nearest-is r rows n m P normalized a table k T c in
+      let near = nearest-is r rows n m P e same normalized a table k T c in
       record {
         moved = over-same _ _ m ideal ideal₀ (least-is r rows n m P ideal₀ start) e₁;
         nearest = over-same _ _ n lines lines₀ (λ p h. ap (λ x. x .line) (near p h)) (e₄ .line);

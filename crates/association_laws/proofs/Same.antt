@@ -3,9 +3,10 @@ use Prim.Native.Nat.{ℕ, _<_}
 use mathlib.Core.Path.{_≡_, ap, ap₂}
 use mathlib.Core.Bool.{cond}
 use lib.Ieee.{Float, lt}
+use Rattle.model.specs.declared.Edition.{Edition}
 use Rattle.model.specs.Real.{_⊖_, _⊗_, _⊘_, infinity}
-use Rattle.model.specs.Numbers.{sqrtOf, square}
-use Rattle.model.specs.Association.{dot, offSquares, squaresOf, distance, smallNorm, near, nearestOf, nearer}
+use Rattle.model.specs.Numbers.{square}
+use Rattle.model.specs.Association.{dot, offSquares, squaresOf, measureOf, distance, smallNorm, near, nearestOf, nearer}
 use Rattle.float_laws.proofs.Sums.{sum-same}
 use Rattle.list_laws.proofs.Best.{best-same}
 
@@ -26,6 +27,6 @@ squares-same m p q r s f g =
     let t = ap₂ (λ x y. x ⊘ y) (dot-same m p q r s f g) norm in
     ap₂ (λ n x. cond (lt n smallNorm) infinity x) norm (off-same m p q r s f g _ _ t)
 
-pub distance-same : (m : ℕ) (p q r s : ℕ → Float) → ((j : ℕ) → j < m → p j ≡ q j) → ((j : ℕ) → j < m → r j ≡ s j) → distance m p r ≡ distance m q s
+pub distance-same : (e : Edition) (m : ℕ) (p q r s : ℕ → Float) → ((j : ℕ) → j < m → p j ≡ q j) → ((j : ℕ) → j < m → r j ≡ s j) → distance e m p r ≡ distance e m q s
 unfolding distance
-distance-same m p q r s f g = ap sqrtOf (squares-same m p q r s f g)
+distance-same e m p q r s f g = ap (measureOf e) (squares-same m p q r s f g)

@@ -5,6 +5,7 @@ use mathlib.Core.Bool.{true}
 use mathlib.Core.List.{List}
 use lib.Ieee.{Float, nan}
 use lib.ListN.{getD}
+use Rattle.model.specs.declared.Edition.{Edition}
 use Rattle.model.specs.Lists.{keepBelow, listBelow, over}
 use Rattle.model.specs.Real.{_⊖_, _⊘_}
 pub use Rattle.front_laws.specs.Flat.{from, rowAt}
@@ -38,14 +39,14 @@ abbrev pub NormsIn : List Float → ℕ → List Float → ℕ → Type 0
 NormsIn table m norms n = (l : ℕ) → l < n → getD norms l nan ≡ normAt table m l
 
 -- the distance of the point at `at` from line l of a table
-abbrev pub distanceAt : List Float → ℕ → ℕ → List Float → ℕ → Float
-distanceAt points at m table l = distance m (from points at) (rowAt table m l)
+abbrev pub distanceAt : Edition → List Float → ℕ → ℕ → List Float → ℕ → Float
+distanceAt e points at m table l = distance e m (from points at) (rowAt table m l)
 
 -- the line nearest to plan p, and its distance
-abbrev pub nearestAt : List Float → ℕ → List Float → ℕ → ℕ → Near
-nearestAt points m table lines p = nearestOf (distanceAt points (p * m) m table) lines
+abbrev pub nearestAt : Edition → List Float → ℕ → List Float → ℕ → ℕ → Near
+nearestAt e points m table lines p = nearestOf (distanceAt e points (p * m) m table) lines
 
 -- the line and the distance of each of n plans, from k lines, at the front of two slices; what lies past them is as it was
-pub record NearestAll (points : List Float) (m : ℕ) (table : List Float) (k n : ℕ) (lines₀ lines : List ℕ) (distances₀ distances : List Float) : Type 0 where
-  pub line : lines ≡ over (listBelow (λ p. nearestAt points m table k p .line) n) lines₀
-  pub distance : distances ≡ over (listBelow (λ p. nearestAt points m table k p .distance) n) distances₀
+pub record NearestAll (e : Edition) (points : List Float) (m : ℕ) (table : List Float) (k n : ℕ) (lines₀ lines : List ℕ) (distances₀ distances : List Float) : Type 0 where
+  pub line : lines ≡ over (listBelow (λ p. nearestAt e points m table k p .line) n) lines₀
+  pub distance : distances ≡ over (listBelow (λ p. nearestAt e points m table k p .distance) n) distances₀

@@ -2,3 +2,4 @@ pub mod Flat
 pub mod Request
 pub mod Measurable
 pub mod Search
+pub mod Paper

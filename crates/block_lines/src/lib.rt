@@ -1,7 +1,7 @@
 // The nearest lines of all plans (document 01, "Association"), a block of plans at a time.
 use columns::BLOCK;
 use columns::BLOCK_VALUES;
-use square_root;
+use model::Edition;
 ghost use mathlib.Core.Path.{_≡_};
 ghost use Prim.Native.Nat.{_+_, _*_, _≤_, min};
 ghost use lib.ListN.{length};
@@ -10,8 +10,9 @@ ghost use Rattle.association_laws.specs.Flat.{NormsIn, NearestAll};
 ghost use Rattle.columns.specs.Block.{maxBlock};
 ghost use Rattle.block_lines.specs.Blocks.{Handed, NearestBlock};
 
-// The lines of a block, and the roots of its squares, from place `start` on.
+// The lines of a block, and the distances whose squares it has, from place `start` on.
 fn hand_out(
+    edition: Edition,
     near: &[usize],
     best: &[f64],
     start: usize,
@@ -20,19 +21,20 @@ fn hand_out(
     distances: &mut [f64],
 )
     requires { ⌜ (len ≤ length (now near)) × (len ≤ length (now best)) × (start + len ≤ length (now lines)) × (start + len ≤ length (now distances)) ⌝ }
-    ensures { λ _. ⌜ Handed (now (near .entry)) (now (best .entry)) start len (now (lines .entry)) (now (lines .exit))
+    ensures { λ _. ⌜ Handed edition (now (near .entry)) (now (best .entry)) start len (now (lines .entry)) (now (lines .exit))
         (now (distances .entry)) (now (distances .exit)) ⌝ }
 {
     let mut b = 0;
     while b < len {
         lines[start + b] = near[b];
-        distances[start + b] = square_root::sqrt(best[b]);
+        distances[start + b] = distances::measure(edition, best[b]);
         b += 1;
     }
 }
 
 // The nearest lines of len plans, from plan `start` on.
 fn nearest_block(
+    edition: Edition,
     points: &[f64],
     start: usize,
     len: usize,
@@ -46,7 +48,7 @@ fn nearest_block(
 )
     requires { ⌜ ((start + len) * m ≤ length (now points)) × (m ≤ maxObjectives) × (len ≤ maxBlock) × («n_lines» * m ≤ length (now table))
         × (known ≤ length (now norms)) × NormsIn (now table) m (now norms) known × (start + len ≤ length (now lines)) × (start + len ≤ length (now distances)) ⌝ }
-    ensures { λ _. ⌜ NearestBlock (now (points .entry)) m (now (table .entry)) «n_lines» start len (now (lines .entry)) (now (lines .exit))
+    ensures { λ _. ⌜ NearestBlock edition (now (points .entry)) m (now (table .entry)) «n_lines» start len (now (lines .entry)) (now (lines .exit))
         (now (distances .entry)) (now (distances .exit)) ⌝ }
 {
     let mut x = [0.0; BLOCK_VALUES];
@@ -55,6 +57,7 @@ fn nearest_block(
     let mut best = [far; BLOCK];
     columns::lay(points, start, m, len, &mut x);
     block_search::search(
+        edition,
         &x,
         m,
         len,
@@ -65,7 +68,7 @@ fn nearest_block(
         &mut near,
         &mut best,
     );
-    hand_out(&near, &best, start, len, lines, distances);
+    hand_out(edition, &near, &best, start, len, lines, distances);
 }
 
 // How many of the plans that are left make the next block.
@@ -77,6 +80,7 @@ fn block_length(left: usize) -> usize
 
 // Each plan's nearest line, and its distance from it.
 pub fn nearest_by_blocks(
+    edition: Edition,
     points: &[f64],
     n: usize,
     m: usize,
@@ -89,13 +93,14 @@ pub fn nearest_by_blocks(
 )
     requires { ⌜ (n * m ≤ length (now points)) × (m ≤ maxObjectives) × («n_lines» * m ≤ length (now table)) × (known ≤ length (now norms))
         × NormsIn (now table) m (now norms) known × (n ≤ length (now lines)) × (n ≤ length (now distances)) ⌝ }
-    ensures { λ _. ⌜ NearestAll (now (points .entry)) m (now (table .entry)) «n_lines» n (now (lines .entry)) (now (lines .exit))
+    ensures { λ _. ⌜ NearestAll edition (now (points .entry)) m (now (table .entry)) «n_lines» n (now (lines .entry)) (now (lines .exit))
         (now (distances .entry)) (now (distances .exit)) ⌝ }
 {
     let mut start = 0;
     while start < n {
         let len = block_length(n - start);
         nearest_block(
+            edition,
             points,
             start,
             len,

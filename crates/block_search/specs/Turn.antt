@@ -5,10 +5,10 @@ use mathlib.Core.Bool.{Bool, not, cond, _&&_}
 use mathlib.Core.List.{List}
 use lib.Ieee.{Float, nan, lt}
 use lib.ListN.{getD}
+use Rattle.model.specs.declared.Edition.{Edition}
 use Rattle.model.specs.Lists.{listBelow, over}
 use Rattle.model.specs.Real.{_⊗_}
-use Rattle.model.specs.Numbers.{sqrtOf}
-use Rattle.model.specs.Association.{distance}
+use Rattle.model.specs.Association.{measureOf, distance}
 use Rattle.association_laws.specs.Flat.{rowAt}
 use Rattle.association_laws.specs.Search.{Square, Found}
 use Rattle.real_laws.proofs.Roots.Apart.{nearlyOne}
@@ -22,25 +22,25 @@ abbrev pub closeAt : List Float → List Float → ℕ → Bool
 closeAt squares best b = closeTo (getD squares b nan) (getD best b nan)
 
 -- the distance of plan b of the block from line l of a table
-abbrev pub blockDistance : List Float → ℕ → ℕ → List Float → ℕ → ℕ → Float
-blockDistance x m len table b l = distance m (planAt x len b) (rowAt table m l)
+abbrev pub blockDistance : Edition → List Float → ℕ → ℕ → List Float → ℕ → ℕ → Float
+blockDistance e x m len table b l = distance e m (planAt x len b) (rowAt table m l)
 
--- after n lines, each plan has its line and the square that its distance is the root of
-pub record FoundAll (d : ℕ → ℕ → Float) (n len : ℕ) (lines : List ℕ) (best : List Float) : Type 0 where
-  pub at : (b : ℕ) → b < len → Found (d b) n (getD lines b 0) (getD best b nan)
+-- after n lines, each plan has its line and the square of its distance
+pub record FoundAll (e : Edition) (d : ℕ → ℕ → Float) (n len : ℕ) (lines : List ℕ) (best : List Float) : Type 0 where
+  pub at : (b : ℕ) → b < len → Found e (d b) n (getD lines b 0) (getD best b nan)
 
 -- the squares of each plan's distance from line n
-pub record Next (d : ℕ → Float) (n : ℕ) (s : Float) : Type 0 where
+pub record Next (e : Edition) (d : ℕ → Float) (n : ℕ) (s : Float) : Type 0 where
   pub square : Square s
-  pub root : sqrtOf s ≡ d n
+  pub measured : measureOf e s ≡ d n
 
-pub record NextAll (d : ℕ → ℕ → Float) (n len : ℕ) (squares : List Float) : Type 0 where
-  pub at : (b : ℕ) → b < len → Next (d b) n (getD squares b nan)
+pub record NextAll (e : Edition) (d : ℕ → ℕ → Float) (n len : ℕ) (squares : List Float) : Type 0 where
+  pub at : (b : ℕ) → b < len → Next e (d b) n (getD squares b nan)
 
 -- line n has been tried for the first i plans
-pub record Turned (d : ℕ → ℕ → Float) (n len i : ℕ) (lines : List ℕ) (best : List Float) : Type 0 where
-  pub done : (b : ℕ) → b < i → Found (d b) (n + 1) (getD lines b 0) (getD best b nan)
-  pub rest : (b : ℕ) → i ≤ b → b < len → Found (d b) n (getD lines b 0) (getD best b nan)
+pub record Turned (e : Edition) (d : ℕ → ℕ → Float) (n len i : ℕ) (lines : List ℕ) (best : List Float) : Type 0 where
+  pub done : (b : ℕ) → b < i → Found e (d b) (n + 1) (getD lines b 0) (getD best b nan)
+  pub rest : (b : ℕ) → i ≤ b → b < len → Found e (d b) n (getD lines b 0) (getD best b nan)
 
 -- what the lesser square leaves
 abbrev pub lessAt : List Float → List Float → ℕ → Bool

@@ -1,13 +1,14 @@
 // The search for the nearest lines of a block of plans (document 01, "Association"): line by line, for all plans of the block at a time.
 use columns::BLOCK;
-use square_root;
+use model::Edition;
 ghost use mathlib.Core.Path.{_≡_};
-ghost use mathlib.Core.Bool.{cond};
+ghost use mathlib.Core.Bool.{cond, _&&_};
 ghost use Prim.Native.Nat.{ℕ, _+_, _*_, _≤_};
 ghost use lib.Ieee.{Float};
 ghost use lib.ListN.{length};
 ghost use Rattle.model.specs.Lists.{anyBelow};
-ghost use Rattle.model.specs.Numbers.{sqrtOf};
+ghost use Rattle.model.specs.Edition.{takesRoot};
+ghost use Rattle.model.specs.Association.{measureOf};
 ghost use Rattle.association_laws.specs.Flat.{NormsIn, normAt};
 ghost use Rattle.association_laws.specs.Search.{Square, Found};
 ghost use Rattle.columns.specs.Block.{maxBlock};
@@ -20,10 +21,10 @@ pub struct Best {
 }
 
 // The nearer of the best line so far and the next one, which must be strictly nearer. Distances decide, since two squares can have one root; but no root need be
-// taken of a square that is not below the best one, nor of one that is below it by one in 2^30 (0.9999999990686774 is 1 - 2^-30).
-pub fn nearer(best: Best, line: usize, squares: f64) -> Best
-    ensures { λ r. ⌜ ((d : ℕ → Float) → Found d line (best .line) (best .squares) → Square squares → sqrtOf squares ≡ d line
-        → Found d (line + 1) (r .line) (r .squares)) ⌝ }
+// taken of a square that is not below the best one, nor of one that is below it by one in 2^30 (0.9999999990686774 is 1 - 2^-30), nor ever in edition 2.
+pub fn nearer(edition: Edition, best: Best, line: usize, squares: f64) -> Best
+    ensures { λ r. ⌜ ((d : ℕ → Float) → Found edition d line (best .line) (best .squares) → Square squares → measureOf edition squares ≡ d line
+        → Found edition d (line + 1) (r .line) (r .squares)) ⌝ }
 {
     let least_squares = best.squares;
     if squares < least_squares {
@@ -33,8 +34,8 @@ pub fn nearer(best: Best, line: usize, squares: f64) -> Best
                 squares: squares,
             };
         }
-        let distance = square_root::sqrt(squares);
-        let least = square_root::sqrt(least_squares);
+        let distance = distances::measure(edition, squares);
+        let least = distances::measure(edition, least_squares);
         if distance < least {
             return Best {
                 line: line,
@@ -48,10 +49,17 @@ pub fn nearer(best: Best, line: usize, squares: f64) -> Best
 // ---- each plan of a block
 
 // The nearer for each plan, one by one.
-fn keep_nearer(line: usize, squares: &[f64], len: usize, lines: &mut [usize], best: &mut [f64])
+fn keep_nearer(
+    edition: Edition,
+    line: usize,
+    squares: &[f64],
+    len: usize,
+    lines: &mut [usize],
+    best: &mut [f64],
+)
     requires { ⌜ (len ≤ length (now squares)) × (len ≤ length (now lines)) × (len ≤ length (now best)) ⌝ }
-    ensures { λ _. ⌜ ((d : ℕ → ℕ → Float) → FoundAll d line len (now (lines .entry)) (now (best .entry)) → NextAll d line len (now (squares .entry))
-        → FoundAll d (line + 1) len (now (lines .exit)) (now (best .exit))) ⌝ }
+    ensures { λ _. ⌜ ((d : ℕ → ℕ → Float) → FoundAll edition d line len (now (lines .entry)) (now (best .entry)) → NextAll edition d line len (now (squares .entry))
+        → FoundAll edition d (line + 1) len (now (lines .exit)) (now (best .exit))) ⌝ }
 {
     let mut b = 0;
     while b < len {
@@ -59,7 +67,7 @@ fn keep_nearer(line: usize, squares: &[f64], len: usize, lines: &mut [usize], be
             line: lines[b],
             squares: best[b],
         };
-        let near = nearer(was, line, squares[b]);
+        let near = nearer(edition, was, line, squares[b]);
         lines[b] = near.line;
         best[b] = near.squares;
         b += 1;
@@ -85,6 +93,17 @@ fn any_close(squares: &[f64], best: &[f64], len: usize) -> bool
         b += 1;
     }
     any
+}
+
+// Only the roots tell, for some plan. In edition 2 the squares always do.
+fn roots_tell(edition: Edition, squares: &[f64], best: &[f64], len: usize) -> bool
+    requires { ⌜ (len ≤ length (now squares)) × (len ≤ length (now best)) ⌝ }
+    ensures { λ r. ⌜ r ≡ (takesRoot edition && anyBelow (closeAt (now (squares .entry)) (now (best .entry))) len) ⌝ }
+{
+    if editions::takes_root(edition) {
+        return any_close(squares, best, len);
+    }
+    false
 }
 
 // One of two values.
@@ -116,14 +135,21 @@ fn keep_less(line: usize, squares: &[f64], len: usize, lines: &mut [usize], best
     }
 }
 
-// The nearer for each plan: by the squares alone, where none is close.
-fn keep(line: usize, squares: &[f64], len: usize, lines: &mut [usize], best: &mut [f64])
+// The nearer for each plan: by the squares alone, where they tell.
+fn keep(
+    edition: Edition,
+    line: usize,
+    squares: &[f64],
+    len: usize,
+    lines: &mut [usize],
+    best: &mut [f64],
+)
     requires { ⌜ (len ≤ length (now squares)) × (len ≤ length (now lines)) × (len ≤ length (now best)) ⌝ }
-    ensures { λ _. ⌜ ((d : ℕ → ℕ → Float) → FoundAll d line len (now (lines .entry)) (now (best .entry)) → NextAll d line len (now (squares .entry))
-        → FoundAll d (line + 1) len (now (lines .exit)) (now (best .exit))) ⌝ }
+    ensures { λ _. ⌜ ((d : ℕ → ℕ → Float) → FoundAll edition d line len (now (lines .entry)) (now (best .entry)) → NextAll edition d line len (now (squares .entry))
+        → FoundAll edition d (line + 1) len (now (lines .exit)) (now (best .exit))) ⌝ }
 {
-    if any_close(squares, best, len) {
-        keep_nearer(line, squares, len, lines, best);
+    if roots_tell(edition, squares, best, len) {
+        keep_nearer(edition, line, squares, len, lines, best);
         return;
     }
     keep_less(line, squares, len, lines, best);
@@ -131,6 +157,7 @@ fn keep(line: usize, squares: &[f64], len: usize, lines: &mut [usize], best: &mu
 
 // The next line, for each plan of a block. One that is too short is infinitely far.
 fn next_line(
+    edition: Edition,
     x: &[f64],
     m: usize,
     len: usize,
@@ -141,19 +168,20 @@ fn next_line(
     best: &mut [f64],
 )
     requires { ⌜ (m * len ≤ length (now x)) × (line * m + m ≤ length (now table)) × (len ≤ maxBlock) × (norm ≡ normAt (now table) m line)
-        × (len ≤ length (now lines)) × (len ≤ length (now best)) × FoundAll (blockDistance (now x) m len (now table)) line len (now lines) (now best) ⌝ }
-    ensures { λ _. ⌜ FoundAll (blockDistance (now (x .entry)) m len (now (table .entry))) (line + 1) len (now (lines .exit)) (now (best .exit)) ⌝ }
+        × (len ≤ length (now lines)) × (len ≤ length (now best)) × FoundAll edition (blockDistance edition (now x) m len (now table)) line len (now lines) (now best) ⌝ }
+    ensures { λ _. ⌜ FoundAll edition (blockDistance edition (now (x .entry)) m len (now (table .entry))) (line + 1) len (now (lines .exit)) (now (best .exit)) ⌝ }
 {
     if norm < 1e-30 {
         return;
     }
     let mut squares = [-0.0; BLOCK];
     columns::line_squares(x, m, len, table, line * m, norm, &mut squares);
-    keep(line, &squares, len, lines, best);
+    keep(edition, line, &squares, len, lines, best);
 }
 
 // All lines.
 pub fn search(
+    edition: Edition,
     x: &[f64],
     m: usize,
     len: usize,
@@ -166,13 +194,13 @@ pub fn search(
 )
     requires { ⌜ (m * len ≤ length (now x)) × («n_lines» * m ≤ length (now table)) × (len ≤ maxBlock) × (known ≤ length (now norms))
         × NormsIn (now table) m (now norms) known × (len ≤ length (now lines)) × (len ≤ length (now best))
-        × FoundAll (blockDistance (now x) m len (now table)) 0 len (now lines) (now best) ⌝ }
-    ensures { λ _. ⌜ FoundAll (blockDistance (now (x .entry)) m len (now (table .entry))) «n_lines» len (now (lines .exit)) (now (best .exit)) ⌝ }
+        × FoundAll edition (blockDistance edition (now x) m len (now table)) 0 len (now lines) (now best) ⌝ }
+    ensures { λ _. ⌜ FoundAll edition (blockDistance edition (now (x .entry)) m len (now (table .entry))) «n_lines» len (now (lines .exit)) (now (best .exit)) ⌝ }
 {
     let mut l = 0;
     while l < n_lines {
         let norm = distances::line_norm(table, m, l, norms, known);
-        next_line(x, m, len, table, l, norm, lines, best);
+        next_line(edition, x, m, len, table, l, norm, lines, best);
         l += 1;
     }
 }

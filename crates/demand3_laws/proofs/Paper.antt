@@ -6,7 +6,7 @@ use mathlib.Core.Bool.{true, false}
 use lib.Dec.{T}
 use lib.Ieee.{le, isNan}
 use Rattle.model.specs.Plan.{maxObjectives}
-use Rattle.model.specs.Papers.DebJain2014.{perpendicular, Associated}
+use Rattle.model.specs.Papers.DebJain2014.{Associated}
 use Rattle.model.specs.Association.{Request, objectives, lineCount, normalised, coordinate, distanceTo, association, lineOf}
 use Rattle.model.specs.Kept.{before, isSplit, splitFront, filled}
 use Rattle.float_laws.proofs.Compared.{lt-le}
@@ -17,9 +17,9 @@ use Rattle.niching_laws.proofs.Association.{association-nearest}
 use Rattle.association_laws.specs.Measurable.{Measurable}
 use Rattle.association_laws.proofs.Shapers.{all-shape}
 use Rattle.association_laws.proofs.Within.{normalised-within}
-use Rattle.association_laws.proofs.Finite.{distanceTo-perpendicular, distanceTo-number}
+use Rattle.association_laws.proofs.Finite.{distanceTo-paper, distanceTo-number}
 use Rattle.demand3_laws.specs.Facts.{Accepted}
-use Rattle.demand3_laws.specs.Paper.{Scaled, fromLine, ByPaper}
+use Rattle.demand3_laws.specs.Paper.{Scaled, measuredBy, fromLine, ByPaper}
 use Rattle.demand3_laws.proofs.Passed.{some-objectives}
 use Rattle.demand3_laws.proofs.Accepted.{accepted-lines}
 use Rattle.demand3_laws.proofs.Demand3.{filled-procedure}
@@ -35,9 +35,9 @@ module _ (r : Request) (accepted : Accepted r) (measured : Measurable r) where
   divided : Allowed (objectives r) (r .divisions)
   divided = allowed (objectives r) (r .divisions) (accepted .divisions)
 
-  -- each distance is the paper's, and no NaN
-  perpendicular-to : (p l : ℕ) → l < lineCount r → distanceTo r p l ≡ perpendicular (objectives r) (normalised r p) (coordinate r l)
-  perpendicular-to = distanceTo-perpendicular r (width .0) (width .1) (divided .least) (divided .most)
+  -- each distance is the paper's, or in edition 2 its square, and no NaN
+  perpendicular-to : (p l : ℕ) → l < lineCount r → distanceTo r p l ≡ measuredBy r (normalised r p) (coordinate r l)
+  perpendicular-to = distanceTo-paper r (width .0) (width .1) (divided .least) (divided .most)
 
   known : (p l : ℕ) → p < r .count → l < lineCount r → isNan (distanceTo r p l) ≡ false
   known p l h k = distanceTo-number r (width .0) (width .1) (divided .least) (divided .most) measured p (all-shape r p h) l k .0
@@ -45,13 +45,13 @@ module _ (r : Request) (accepted : Accepted r) (measured : Measurable r) where
   nearest : (p : ℕ) → NearestLine (distanceTo r p) (lineCount r) (lineOf r p) (association r p .distance)
   nearest p = association-nearest r p (accepted-lines r accepted)
 
-  -- the distance that is kept beside a plan is the paper's from its line
+  -- and so is the distance that is kept beside a plan
   kept-distance : (p : ℕ) → p < r .count → association r p .distance ≡ fromLine r p
   kept-distance p h =
       let inside = nearest p .inside in
       nearest p .distance (known p (lineOf r p) h inside) ∙ perpendicular-to p (lineOf r p) inside
 
-  pub association-associated : (p : ℕ) → p < r .count → Associated (objectives r) (normalised r) (coordinate r) (lineCount r) p (lineOf r p)
+  pub association-associated : (p : ℕ) → p < r .count → Associated (measuredBy r) (normalised r) (coordinate r) (lineCount r) p (lineOf r p)
   association-associated p h =
       let l = lineOf r p in
       let inside = nearest p .inside in

@@ -1,11 +1,13 @@
 // Distances of points from lines (document 01, "Association"; Rust: perpendicular_distance of sampler/nsga3.rs), over flat lists: a point or a line is the
-// m entries from a place on. `perpendicular_distance` is the Rust's; `association` takes it apart, with each line's r·r worked out once.
+// m entries from a place on. `perpendicular_distance` is the Rust's, in edition 2 without its root (document 02, M-105); `association` takes it apart, with each line's
+// r·r worked out once.
+use model::Edition;
 use square_root;
 ghost use mathlib.Core.Path.{_≡_};
 ghost use Prim.Native.Nat.{_+_, _*_, _≤_};
 ghost use lib.ListN.{length};
 ghost use Rattle.model.specs.Lists.{listBelow, over};
-ghost use Rattle.model.specs.Association.{dot, offSquares, squaresOf, distance};
+ghost use Rattle.model.specs.Association.{dot, offSquares, squaresOf, measureOf, distance};
 ghost use Rattle.association_laws.specs.Flat.{from, normAt, NormsIn};
 
 // The sum of the products of m entries, from left to right.
@@ -81,8 +83,19 @@ pub fn distance_squared(
     off_squares(points, at, table, line_at, m, t)
 }
 
+// The distance whose square is given: its root, or in edition 2 the square itself.
+pub fn measure(edition: Edition, squares: f64) -> f64
+    ensures { λ r. ⌜ r ≡ measureOf edition squares ⌝ }
+{
+    if editions::takes_root(edition) {
+        return square_root::sqrt(squares);
+    }
+    squares
+}
+
 // The distance of a point from a line.
 pub fn perpendicular_distance(
+    edition: Edition,
     points: &[f64],
     at: usize,
     table: &[f64],
@@ -90,8 +103,8 @@ pub fn perpendicular_distance(
     m: usize,
 ) -> f64
     requires { ⌜ (at + m ≤ length (now points)) × («line_at» + m ≤ length (now table)) ⌝ }
-    ensures { λ r. ⌜ r ≡ distance m (from (now (points .entry)) at) (from (now (table .entry)) «line_at») ⌝ }
+    ensures { λ r. ⌜ r ≡ distance edition m (from (now (points .entry)) at) (from (now (table .entry)) «line_at») ⌝ }
 {
     let norm = dot_product(table, line_at, table, line_at, m);
-    square_root::sqrt(distance_squared(points, at, table, line_at, m, norm))
+    measure(edition, distance_squared(points, at, table, line_at, m, norm))
 }

@@ -1,6 +1,6 @@
 // Where the two editions part (document 02; specs/Edition.antt of `model`). No other function looks at an edition.
 ghost use mathlib.Core.Path.{_≡_};
-ghost use Rattle.model.specs.Edition.{editionNumber, editionOf, mostPlans, waitingOf, ranksByRows};
+ghost use Rattle.model.specs.Edition.{editionNumber, editionOf, mostPlans, waitingOf, ranksByRows, takesRoot};
 use model::Edition;
 use model::MAX_FIRST_POOL;
 use model::MAX_POOL;
@@ -47,6 +47,16 @@ pub fn waiting_of(edition: Edition, size: usize) -> usize
 // Whether the ranks of tournaments look at rows only.
 pub fn ranks_by_rows(edition: Edition) -> bool
     ensures { λ r. ⌜ r ≡ ranksByRows edition ⌝ }
+{
+    match edition {
+        Edition::First => true,
+        Edition::Second => false,
+    }
+}
+
+// Whether a distance is the root of its sum of squares.
+pub fn takes_root(edition: Edition) -> bool
+    ensures { λ r. ⌜ r ≡ takesRoot edition ⌝ }
 {
     match edition {
         Edition::First => true,

@@ -40,7 +40,7 @@ unfolding flatten add sub mul div lt le eq ofBits ofInt neg Deb.undominatedOfRes
     Refusal.badDimensions Refusal.measurable Refusal.goodPlan Refusal.goodIdeal Refusal.badPool Refusal.namedOnce Refusal.fitsDimension Refusal.fitsAt
     Refusal.breedable Refusal.badParents Refusal.noRoom Refusal.selectRefusal Refusal.noStepRoom Refusal.stepRefusal Refusal.openRefusal
     Refusal.sampleRefusal Refusal.fileRefusal Refusal.chooseRefusal Calls.selectAccepted Calls.selectOf Calls.stepAccepted Calls.stepOf Calls.openOf
-    Calls.sampleOf Calls.chooseOf Calls.printed Cases.planWith Cases.requestWith Cases.fileOf Cases.exampleFile Cases.spanOfOne Cases.nearTie
+    Calls.sampleOf Calls.chooseOf Calls.printed Cases.planWith Cases.requestWith Cases.fileOf Cases.exampleFile Cases.spanOfOne Cases.nearTie Cases.nearMembers
     Cases.freedLater Cases.betterButInfeasible Cases.example
 both = (
   record {
@@ -66,6 +66,8 @@ both = (
   record {
     byRoots = refl;
     bySquares = refl;
+    memberByRoots = refl;
+    memberBySquares = refl;
     asFreed = refl;
     byIndex = refl;
     rankByRows = refl;

@@ -5,6 +5,7 @@ use mathlib.Core.List.{List}
 use lib.Ieee.{Float, nan, inf, binary64, lt, ofBits}
 use lib.ListN.{length, getD}
 use Rattle.model.specs.declared.Edition.{Edition}
+use Rattle.model.specs.Edition.{takesRoot}
 use Rattle.model.specs.Lists.{keepBelow, bestFrom, bestAmong}
 use Rattle.model.specs.Real.{_⊖_, _⊗_, _⊘_, unit, infinity, above, sumTo}
 use Rattle.model.specs.Numbers.{sqrtOf, square}
@@ -30,7 +31,7 @@ pub record Request : Type 0 where
   -- where the generator stands
   pub state : ℕ
 
--- the same request in another edition
+-- the same request in an edition
 abbrev pub inEdition : Edition → Request → Request
 inEdition e r = record {
   edition = e;
@@ -107,17 +108,20 @@ dot m p r = sumTo (λ j. p j ⊗ r j) m
 abbrev pub offSquares : ℕ → (ℕ → Float) → (ℕ → Float) → Float → Float
 offSquares m p r t = sumTo (λ j. square (p j ⊖ (t ⊗ r j))) m
 
--- "r·r below 1e-30 gives infinity": the sum of squares for p·r / r·r, whose root is the distance
+-- "r·r below 1e-30 gives infinity": the sum of squares for p·r / r·r, in both editions
 unfoldable pub squaresOf : ℕ → (ℕ → Float) → (ℕ → Float) → Float
 squaresOf m p r = cond (lt (dot m r r) smallNorm) infinity (offSquares m p r (dot m p r ⊘ dot m r r))
 
--- ".. root taken"; the root of infinity is infinity
-unfoldable pub distance : ℕ → (ℕ → Float) → (ℕ → Float) → Float
-distance m p r = sqrtOf (squaresOf m p r)
+-- ".. root taken"; the root of infinity is infinity. Document 02, M-105: "In edition 2 the distance leaf hands out the sum of squares"
+abbrev pub measureOf : Edition → Float → Float
+measureOf e squares = cond (takesRoot e) (sqrtOf squares) squares
 
--- plan p's distance from line l
+unfoldable pub distance : Edition → ℕ → (ℕ → Float) → (ℕ → Float) → Float
+distance e m p r = measureOf e (squaresOf m p r)
+
+-- plan p's distance from line l. M-105: "association, niching and the records that carry a distance all compare that"
 unfoldable pub distanceTo : Request → ℕ → ℕ → Float
-distanceTo r p l = distance (objectives r) (normalised r p) (coordinate r l)
+distanceTo r p l = distance (r .edition) (objectives r) (normalised r p) (coordinate r l)
 
 -- ---- the nearest line
 
@@ -132,7 +136,7 @@ near l d = record { line = l; distance = d }
 abbrev pub nearer : Near → Near → Bool
 nearer x y = lt (x .distance) (y .distance)
 
--- "First strictly smaller distance wins, from line 0", among the first n lines
+-- "First strictly smaller distance wins, from line 0", among the first n lines. M-105: "\"Nearest\" in edition 2 is read by squares"
 abbrev pub nearestOf : (ℕ → Float) → ℕ → Near
 nearestOf d n = bestFrom nearer (near 0 infinity) (λ l. near l (d l)) n
 

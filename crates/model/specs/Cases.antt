@@ -19,7 +19,7 @@ use Rattle.model.specs.Row.{dominates, feasible, constrainedDominates}
 use Rattle.model.specs.Front.{front}
 use Rattle.model.specs.Papers.Deb2002.{inFront}
 use Rattle.model.specs.Reference.{dasDennis, lattice, pointCount, autoDivisions}
-use Rattle.model.specs.Association.{Request, inEdition, smallSpan, dominance, interceptOf, normalised, coordinate, squaresOf, nearestOf, lineOf}
+use Rattle.model.specs.Association.{Request, inEdition, smallSpan, dominance, interceptOf, lineOf}
 use Rattle.model.specs.Kept.{before, splitFront, openLines, leastLines, nicheCount, selected}
 use Rattle.model.specs.Setting.{extract, sortByParam, crossover, children, rankOf}
 use Rattle.model.specs.PoolFile.{written, ascii}
@@ -138,9 +138,13 @@ nearTie = requestWith 2 2 (planWith (nought ∷ unit ∷ []) []
     ∷ planWith (ofBits binary64 0x3fd5_4c00_0000_0000 ∷ ofBits binary64 0x3fe9_b525_6b76_ed6c ∷ []) []
     ∷ [])
 
--- the sum of squares of plan 2's distance from a line
-abbrev pub squaresTo : ℕ → Float
-squaresTo l = squaresOf 2 (normalised nearTie 2) (coordinate nearTie l)
+-- (0,1), (1,0) and two plans of line 1 of five: plan 3's squared distance from it is smaller than plan 2's, while both have the same root
+unfoldable pub nearMembers : Request
+nearMembers = requestWith 4 3 (planWith (nought ∷ unit ∷ []) []
+    ∷ planWith (unit ∷ nought ∷ []) []
+    ∷ planWith (ofBits binary64 0x3fc8_0000_0000_0000 ∷ ofBits binary64 0x3fe6_0000_0000_0000 ∷ []) []
+    ∷ planWith (ofBits binary64 0x3fd0_d3fe_bebc_5fa2 ∷ ofBits binary64 0x3fe5_3dfe_1e1a_8f73 ∷ []) []
+    ∷ [])
 
 -- (0,1), (1,0), (1.5,0.5) and (0.5,1.5): plan 3 is freed by plan 0, plan 2 only later by plan 1
 unfoldable pub freedLater : Request
@@ -164,9 +168,11 @@ arrived = record { param = 7; kind = 2; value = 1 } ∷ record { param = 3; kind
 
 -- THE TRAPS: the right reading, and beside it the wrong one
 pub record Traps : Type 0 where
-  -- "ordering distances by squares alone"
+  -- "ordering distances by squares alone": so edition 2 does (document 02, M-105), at the plan between two lines and at the two members of one line
   pub byRoots : lineOf nearTie 2 ≡ 0
-  pub bySquares : nearestOf squaresTo 3 .line ≡ 1
+  pub bySquares : lineOf (inEdition Second nearTie) 2 ≡ 1
+  pub memberByRoots : selected nearMembers .kept ≡ 1 ∷ 0 ∷ 2 ∷ []
+  pub memberBySquares : selected (inEdition Second nearMembers) .kept ≡ 1 ∷ 0 ∷ 3 ∷ []
   -- "listing a later front by index"
   pub asFreed : front (dominance freedLater) 4 1 ≡ 3 ∷ 2 ∷ []
   pub byIndex : keepBelow (inFront (dominance freedLater) 4 1) 4 ≡ 2 ∷ 3 ∷ []

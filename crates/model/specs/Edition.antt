@@ -28,3 +28,8 @@ waitingOf Second size = size
 abbrev pub ranksByRows : Edition → Bool
 ranksByRows First = true
 ranksByRows Second = false
+
+-- M-105: "In edition 2 the distance leaf hands out the sum of squares": whether its root is taken
+abbrev pub takesRoot : Edition → Bool
+takesRoot First = true
+takesRoot Second = false

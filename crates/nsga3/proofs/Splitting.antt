@@ -5,7 +5,7 @@ use mathlib.Core.Bool.{true}
 use mathlib.Core.List.{List, _++_}
 use native.Mathlib.Omega.{arith}
 use borrow.Rule.Slice.PartMut.{midOf, putMid}
-use lib.Ieee.{Float, nan}
+use lib.Ieee.{Float, nan, lt}
 use lib.ListN.{length, getD, take, replicate, length-replicate}
 use lib.Seq.{getD-take, length-take-le}
 use Rattle.model.specs.declared.Rule.the-variants as rule
@@ -54,6 +54,10 @@ module _ {r : Request} {keptRoom rulesRoom linesRoom : ℕ} {rows : List Float} 
       distance-of : (p : ℕ) → p < r .count → getD distances p nan ≡ association r p .distance
       distance-of p h = over-below (λ p. association r p .distance) n distances distances₀ p nan (A .distance) (omega (arith, e))
 
+      order-of : (p q : ℕ) → p < r .count → q < r .count → getD lines p 0 ≡ getD lines q 0
+          → lt (getD distances p nan) (getD distances q nan) ≡ lt (association r p .distance) (association r q .distance)
+      order-of p q h k same = ap₂ lt (distance-of p h) (distance-of q k)
+
       pub splits : (picked rules : List ℕ) → r .count ≤ length lines → r .count ≤ length distances → r .size - c .whole ≤ length picked
           → r .size - c .whole ≤ length rules → Splits order (c .whole) (c .end) lines distances k (r .size - c .whole) picked rules
       splits picked rules wide far free marks = record {
@@ -75,7 +79,7 @@ module _ {r : Request} {keptRoom rulesRoom linesRoom : ℕ} {rows : List Float} 
       unfolding filled
       picks-are =
           ap₂ (λ s t. picks (λ p. getD lines p 0) (λ p. getD distances p nan) k s t (r .size - c .whole) (r .state)) (S .listed .cut .listed) (S .listed .cut .waiting split)
-          ∙ picks-agree (r .count) (S .limits .somePlans) (λ p. getD lines p 0) (lineOf r) (λ p. getD distances p nan) (λ p. association r p .distance) line-of distance-of k
+          ∙ picks-agree (r .count) (S .limits .somePlans) (λ p. getD lines p 0) (lineOf r) (λ p. getD distances p nan) (λ p. association r p .distance) line-of order-of k
           (before r) (splitFront r) (before-exactly r .below) (split-exactly r .below) (r .size - c .whole) (r .state)
           ∙ ap₂ (λ l w. picks (lineOf r) (λ p. association r p .distance) l (before r) (splitFront r) (r .size - w) (r .state)) g (S .listed .cut .whole)
 
@@ -84,7 +88,7 @@ module _ {r : Request} {keptRoom rulesRoom linesRoom : ℕ} {rows : List Float} 
       unfolding filledRules
       marks-are =
           ap₂ (λ s t. pickRules (λ p. getD lines p 0) (λ p. getD distances p nan) k s t (r .size - c .whole) (r .state)) (S .listed .cut .listed) (S .listed .cut .waiting split)
-          ∙ rules-agree (r .count) (S .limits .somePlans) (λ p. getD lines p 0) (lineOf r) (λ p. getD distances p nan) (λ p. association r p .distance) line-of distance-of k
+          ∙ rules-agree (r .count) (S .limits .somePlans) (λ p. getD lines p 0) (lineOf r) (λ p. getD distances p nan) (λ p. association r p .distance) line-of order-of k
           (before r) (splitFront r) (before-exactly r .below) (split-exactly r .below) (r .size - c .whole) (r .state)
           ∙ ap₂ (λ l w. pickRules (lineOf r) (λ p. association r p .distance) l (before r) (splitFront r) (r .size - w) (r .state)) g (S .listed .cut .whole)
 

@@ -45,7 +45,17 @@ fn select_split(
     let mut table: [f64; MAX_TABLE_VALUES] = [0.0; MAX_TABLE_VALUES];
     let n_lines = das_dennis::das_dennis(m, divisions, &mut table);
     let mut distances: [f64; MAX_POOL] = [0.0; MAX_POOL];
-    association::associate(rows, n, m, &table, n_lines, ideal, lines, &mut distances);
+    association::associate(
+        edition,
+        rows,
+        n,
+        m,
+        &table,
+        n_lines,
+        ideal,
+        lines,
+        &mut distances,
+    );
     selection_lists::list_whole(order, whole, kept, rules);
     niching::niching_select(
         rng,

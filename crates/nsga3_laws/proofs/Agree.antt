@@ -1,12 +1,14 @@
--- The picks look at the lines and distances of the pool's plans alone: two lists of them that agree below n give the same picks, with the same marks.
+-- The picks look at the lines of the pool's plans and the order of the distances of those on one line alone: two lists of them that agree below n give the
+-- same picks, with the same marks.
 use Prim.Native.Nat.{ℕ, zero, suc, _<_}
-use mathlib.Core.Path.{_≡_, refl, ap, ap₂, _∙_, fun-ext}
+use mathlib.Core.Path.{_≡_, refl, ap, ap₂, sym, _∙_, fun-ext}
 use mathlib.Core.Bool.{Bool, not}
 use mathlib.Core.List.{List, [], _∷_, _++_, map, List·Memᴰ·head, List·Memᴰ·tail}
+use borrow.Author.Tests.{eqb-true}
 use lib.Dec.{eqb}
 use lib.Ieee.{Float, lt}
 use lib.ListN.{length, getD, List·getD-eq-default}
-use Rattle.model.specs.Lists.{has, keep, keepBelow}
+use Rattle.model.specs.Lists.{In, has, keep, keepBelow, bestFrom}
 use Rattle.model.specs.Draw.{Drawn, drawn, drawAll}
 use Rattle.model.specs.Kept.{nicheCount, waiting, openLines, leastLines, drawFrom, nearest, drawMember, pickOne, picks, pickFrom, nearerPlan, markOf, ruleOf, countAtPick, pickRules}
 use Rattle.list_laws.proofs.Below.{by-lt}
@@ -49,7 +51,8 @@ module _ (n : ℕ) (some : 0 < n) where
 
   -- ---- and looks at plans below n alone
 
-  module _ (line line′ : ℕ → ℕ) (far far′ : ℕ → Float) (lines-agree : (p : ℕ) → p < n → line p ≡ line′ p) (far-agree : (p : ℕ) → p < n → far p ≡ far′ p) where
+  module _ (line line′ : ℕ → ℕ) (far far′ : ℕ → Float) (lines-agree : (p : ℕ) → p < n → line p ≡ line′ p)
+      (far-agree : (p q : ℕ) → p < n → q < n → line p ≡ line q → lt (far p) (far q) ≡ lt (far′ p) (far′ q)) where
     counts-agree : (l : List ℕ) → Below n l → nicheCount line l ≡ nicheCount line′ l
     counts-agree l h = fun-ext (λ k. tally-same _ _ l (λ q m. ap (λ t. eqb t k) (lines-agree q (h q m))))
 
@@ -60,15 +63,20 @@ module _ (n : ℕ) (some : 0 < n) where
     members-agree : (l : List ℕ) → Below n l → _≡_ {A = ℕ → List ℕ} (λ v. keep (λ p. eqb (line p) v) l) (λ v. keep (λ p. eqb (line′ p) v) l)
     members-agree l h = fun-ext (λ v. keep-same _ _ l (λ q m. ap (λ t. eqb t v) (lines-agree q (h q m))))
 
-    nearest-agree : (l : List ℕ) → Below n l → nearest far l ≡ nearest far′ l
-    unfolding nearest
-    nearest-agree l h = best-agree (nearerPlan far) (nearerPlan far′) (λ p. p < n) (getD l 0 0) (λ i. getD l i 0) (length l)
-        (at-below l 0 h) (λ t u. at-below l t h) (λ p q u v. ap₂ lt (far-agree p u) (far-agree q v))
+    -- every one listed is below n and on line v
+    abbrev On : ℕ → List ℕ → Type 0
+    On v l = (q : ℕ) → In q l → (q < n) × (line q ≡ v)
 
-    member-agree : (count : ℕ) (l : List ℕ) (s : ℕ) → Below n l → drawMember far count l s ≡ drawMember far′ count l s
+    nearest-agree : (v : ℕ) (l : List ℕ) → On v l → nearest far l ≡ nearest far′ l
+    unfolding nearest bestFrom
+    nearest-agree v [] h = refl
+    nearest-agree v (x ∷ l) h = best-agree (nearerPlan far) (nearerPlan far′) (λ p. (p < n) × (line p ≡ v)) x (λ i. getD (x ∷ l) i 0) (length (x ∷ l))
+        (h x (List·Memᴰ·head refl)) (λ t u. h (getD (x ∷ l) t 0) (getD-in (x ∷ l) t u)) (λ p q u w. far-agree p q (u .0) (w .0) (u .1 ∙ sym (w .1)))
+
+    member-agree : (v count : ℕ) (l : List ℕ) (s : ℕ) → On v l → drawMember far count l s ≡ drawMember far′ count l s
     unfolding drawMember
-    member-agree zero l s h = ap (λ p. drawn p s) (nearest-agree l h)
-    member-agree (suc count) l s h = refl
+    member-agree v zero l s h = ap (λ p. drawn p s) (nearest-agree v l h)
+    member-agree v (suc count) l s h = refl
 
     module _ (lines : ℕ) (before split : List ℕ) (listed : Below n before) (within : Below n split) where
       pick-agree : (picked : List ℕ) (s : ℕ) → Below n picked → pickOne line far lines before split picked s ≡ pickOne line′ far′ lines before split picked s
@@ -79,7 +87,7 @@ module _ (n : ℕ) (some : 0 < n) where
           ap (λ c. pickFrom far c (openLines line lines w) (λ v. keep (λ p. eqb (line p) v) w) s) (counts-agree (before ++ picked) (below-append n before picked listed h))
           ∙ ap (λ o. pickFrom far (nicheCount line′ (before ++ picked)) (keepBelow (has o) lines) (λ v. keep (λ p. eqb (line p) v) w) s) (map-agree w k)
           ∙ ap (λ m. pickFrom far (nicheCount line′ (before ++ picked)) (openLines line′ lines w) m s) (members-agree w k)
-          ∙ member-agree _ _ _ (keep-below _ w k)
+          ∙ member-agree _ _ _ _ (λ q m. let i = in-keep _ w q m in (k q (i .0), lines-agree q (k q (i .0)) ∙ eqb-true _ _ (i .1)))
 
       -- THE LAW
       pub picks-agree : (k s : ℕ) → picks line far lines before split k s ≡ picks line′ far′ lines before split k s

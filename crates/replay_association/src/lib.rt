@@ -1,4 +1,5 @@
 // The answers to the oracle's lines of association: normalisation, the nearest lines, and the distance from a line.
+use model::Edition;
 use model::MAX_POOL;
 use model::MAX_ROW_VALUES;
 use model::MAX_TABLE_VALUES;
@@ -76,6 +77,7 @@ fn normalize(input: &Words, words: usize, m: usize, out: &mut Words) -> usize
 // ---- the nearest lines
 
 fn nearest(
+    edition: Edition,
     rows: &Rows,
     n: usize,
     m: usize,
@@ -86,7 +88,16 @@ fn nearest(
 )
     requires { ⌜ (n ≤ maxPool) × (n * m ≤ maxPool * maxObjectives) × («n_lines» * m ≤ maxLines * maxObjectives) ⌝ }
 {
-    association::associate_to_reference_points(rows, n, m, table, n_lines, lines, distances);
+    association::associate_to_reference_points(
+        edition,
+        rows,
+        n,
+        m,
+        table,
+        n_lines,
+        lines,
+        distances,
+    );
 }
 
 // Per row its line and distance.
@@ -104,7 +115,14 @@ fn put_nearest(out: &mut Words, lines: &Places, distances: &Distances, n: usize)
 }
 
 // The answer of n rows and the table of m and h.
-fn associated(rows: &Rows, n: usize, m: usize, h: usize, out: &mut Words) -> usize
+fn associated(
+    edition: Edition,
+    rows: &Rows,
+    n: usize,
+    m: usize,
+    h: usize,
+    out: &mut Words,
+) -> usize
     requires { ⌜ (1 ≤ m) × (m ≤ 8) × (n ≤ maxPool) × (n * m ≤ maxPool * maxObjectives) ⌝ }
 {
     let mut table = [0.0; MAX_TABLE_VALUES];
@@ -114,12 +132,21 @@ fn associated(rows: &Rows, n: usize, m: usize, h: usize, out: &mut Words) -> usi
     }
     let mut lines = [0usize; MAX_POOL];
     let mut distances = [0.0; MAX_POOL];
-    nearest(rows, n, m, &table, n_lines, &mut lines, &mut distances);
+    nearest(
+        edition,
+        rows,
+        n,
+        m,
+        &table,
+        n_lines,
+        &mut lines,
+        &mut distances,
+    );
     put_nearest(out, &lines, &distances, n)
 }
 
-// 61: after m stand h, n and n rows.
-fn associate(input: &Words, words: usize, m: usize, out: &mut Words) -> usize
+// 61, and 63 in edition 2: after m stand h, n and n rows.
+fn associate(edition: Edition, input: &Words, words: usize, m: usize, out: &mut Words) -> usize
     requires { ⌜ (1 ≤ m) × (m ≤ 8) ⌝ }
 {
     let h = replay::word(input, 2) as usize;
@@ -133,19 +160,19 @@ fn associate(input: &Words, words: usize, m: usize, out: &mut Words) -> usize
     if end != words {
         return 0;
     }
-    associated(&rows, n, m, h, out)
+    associated(edition, &rows, n, m, h, out)
 }
 
 // ---- the distance
 
-fn distance_of(point: &Reals, line: &Reals, m: usize) -> f64
+fn distance_of(edition: Edition, point: &Reals, line: &Reals, m: usize) -> f64
     requires { ⌜ m ≤ 8 ⌝ }
 {
-    distances::perpendicular_distance(point, 0, line, 0, m)
+    distances::perpendicular_distance(edition, point, 0, line, 0, m)
 }
 
-// 62: after m stand the point and the line.
-fn distance(input: &Words, words: usize, m: usize, out: &mut Words) -> usize
+// 62, and 64 in edition 2: after m stand the point and the line.
+fn distance(edition: Edition, input: &Words, words: usize, m: usize, out: &mut Words) -> usize
     requires { ⌜ m ≤ 8 ⌝ }
 {
     if words != m + m + 2 {
@@ -155,7 +182,7 @@ fn distance(input: &Words, words: usize, m: usize, out: &mut Words) -> usize
     let mut line = [0.0; 16];
     replay_values::read_reals(input, 2, m, &mut point);
     replay_values::read_reals(input, m + 2, m, &mut line);
-    replay_values::put_real(out, 0, distance_of(&point, &line, m))
+    replay_values::put_real(out, 0, distance_of(edition, &point, &line, m))
 }
 
 // The answer to an input line of n numbers; how many numbers it has, 0 for a case passed over.
@@ -170,8 +197,10 @@ pub fn answer(input: &Words, n: usize, out: &mut Words) -> usize {
     }
     match command {
         60 => normalize(input, n, m, out),
-        61 => associate(input, n, m, out),
-        62 => distance(input, n, m, out),
+        61 => associate(Edition::First, input, n, m, out),
+        62 => distance(Edition::First, input, n, m, out),
+        63 => associate(Edition::Second, input, n, m, out),
+        64 => distance(Edition::Second, input, n, m, out),
         _ => 0,
     }
 }

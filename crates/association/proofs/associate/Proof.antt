@@ -40,13 +40,13 @@ same-length-3 : tie.Need-same-length-3
 same-length-3 c = search needs
 
 returns : tie.Need-returns
-returns c r P S L k =
+returns c r e P S L k =
     let near = c .before .before .before .before in
     let normal = near .before .before .before .before .before in
     let span = normal .before .before .before .before .before in
     let ideal = span .before .before .before .before .before in
     let a = ideal .before .before .before .before .before .before .before .args in
-    all-steps r (a .rows .now) (a .n) (a .m) P (a .table .now) (a .n-lines) L k (a .ideal .now) _ S (ideal .update-ideal-point .ensures) _ _ (span .find-intercepts .ensures) _ _ (normal .normalize-objectives .ensures .0)
+    all-steps r (a .edition) e (a .rows .now) (a .n) (a .m) P (a .table .now) (a .n-lines) L k (a .ideal .now) _ S (ideal .update-ideal-point .ensures) _ _ (span .find-intercepts .ensures) _ _ (normal .normalize-objectives .ensures .0)
     _ _ _ _ (near .associate-to-reference-points .ensures)
 
 pub associate-spec : {M : Type 1} → statement M

@@ -10,11 +10,11 @@ use Rattle.association.proofs.nearest_each.Statement.{statement}
 use Rattle.association.proofs.nearest_each.Tie as tie
 
 abbrev Inv-loop : tie.InvT-loop
-Inv-loop normalized n m table n-lines norms known lines₀ distances₀ p₀ lines distances p =
-    (p ≤ n) × (length lines ≡ length lines₀) × (length distances ≡ length distances₀) × NearestAll normalized m table n-lines p lines₀ lines distances₀ distances
+Inv-loop edition normalized n m table n-lines norms known lines₀ distances₀ p₀ lines distances p =
+    (p ≤ n) × (length lines ≡ length lines₀) × (length distances ≡ length distances₀) × NearestAll edition normalized m table n-lines p lines₀ lines distances₀ distances
 
 abbrev μ-loop : tie.MeasureT-loop
-μ-loop normalized n m table n-lines norms known lines₀ distances₀ p₀ lines distances p = n - p
+μ-loop edition normalized n m table n-lines norms known lines₀ distances₀ p₀ lines distances p = n - p
 
 -- the function's entry, seen from a turn
 abbrev entry : tie.In-loop Inv-loop μ-loop → tie.Start Inv-loop μ-loop

@@ -4,21 +4,20 @@ use mathlib.Core.Path.{_≡_, ap, sym, subst, _∙_}
 use native.Mathlib.Nat.{zero-mul, one-mul, add-mul}
 use native.Mathlib.Omega.{arith}
 use lib.Ieee.{div, ofBits}
-use Rattle.model.specs.Numbers.{sqrtOf}
-use Rattle.model.specs.Association.{dot, squaresOf}
+use Rattle.model.specs.Association.{dot, squaresOf, measureOf}
 use Rattle.association_laws.specs.Flat.{from, distanceAt}
 use Rattle.association_laws.specs.Search.{Square, Found}
 use Rattle.list_laws.proofs.Rows.{row-inside}
-use Rattle.association_laws.proofs.Search.{distance-root, found-none}
+use Rattle.association_laws.proofs.Search.{distance-measure, found-none}
 use Rattle.association_laws.proofs.Squares.{squares-square}
 use Rattle.association.proofs.nearest_line.Statement.{statement}
 use Rattle.association.proofs.nearest_line.Tie as tie
 
 abbrev Inv-loop : tie.InvT-loop
-Inv-loop points at m table n-lines norms known best₀ l₀ line-at₀ best l line-at = (l ≤ n-lines) × (line-at ≡ l * m) × Found (distanceAt points at m table) l (best .line) (best .squares)
+Inv-loop edition points at m table n-lines norms known best₀ l₀ line-at₀ best l line-at = (l ≤ n-lines) × (line-at ≡ l * m) × Found edition (distanceAt edition points at m table) l (best .line) (best .squares)
 
 abbrev μ-loop : tie.MeasureT-loop
-μ-loop points at m table n-lines norms known best₀ l₀ line-at₀ best l line-at = n-lines - l
+μ-loop edition points at m table n-lines norms known best₀ l₀ line-at₀ best l line-at = n-lines - l
 
 -- the function's entry, seen from a turn
 abbrev entry : tie.In-loop Inv-loop μ-loop → tie.Start Inv-loop μ-loop
@@ -30,7 +29,7 @@ inside c = row-inside _ _ _ (c .loop-test .taken)
 
 loop-holds : tie.Need-loop-holds Inv-loop μ-loop
 unfolding div ofBits
-loop-holds c = (omega arith, sym (zero-mul _), found-none _)
+loop-holds c = (omega arith, sym (zero-mul _), found-none _ _)
 
 line-norm-requires : tie.Need-line-norm-requires Inv-loop μ-loop
 line-norm-requires c κs = (omega (arith, inside c), omega arith, entry c .pre .3)
@@ -62,19 +61,19 @@ loop-again c =
     let s = subst (λ i. c .before .distance-squared .result ≡ squaresOf (a .m) p (from (a .table .now) i)) (l .inv .1) (c .before .distance-squared .ensures) in (
       omega arith,
       omega (arith, l .inv .1, add-mul (l .l) 1 (a .m), one-mul (a .m)),
-      c .nearer .ensures (distanceAt (a .points .now) (a .at) (a .m) (a .table .now)) (l .inv .2)
-          (subst Square (sym s) (squares-square (a .m) p r)) (ap sqrtOf s ∙ sym (distance-root (a .m) p r)),
+      c .nearer .ensures (distanceAt (a .edition) (a .points .now) (a .at) (a .m) (a .table .now)) (l .inv .2)
+          (subst Square (sym s) (squares-square (a .m) p r)) (ap (measureOf (a .edition)) s ∙ sym (distance-measure (a .edition) (a .m) p r)),
     )
 
-sqrt-requires : tie.Need-sqrt-requires Inv-loop μ-loop
-sqrt-requires c κs = tt
+measure-requires : tie.Need-measure-requires Inv-loop μ-loop
+measure-requires c κs = tt
 
 returns : tie.Need-returns Inv-loop μ-loop
 returns c =
     let l = c .before .before .loop in
     let e : l .l ≡ c .before .before .before .before .before .before .args .n-lines = omega arith in
     let f = rw e at (l .inv .2) in
-    (f .nearest, c .sqrt .ensures ∙ f .root)
+    (f .nearest, c .measure .ensures ∙ f .measured)
 
 pub nearest-line-spec : {M : Type 1} → statement M
 nearest-line-spec =
@@ -90,5 +89,5 @@ nearest-line-spec =
     add-line-at
     loop-less
     loop-again
-    sqrt-requires
+    measure-requires
     returns)

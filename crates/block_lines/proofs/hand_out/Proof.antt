@@ -9,11 +9,11 @@ use Rattle.block_lines.proofs.hand_out.Statement.{statement}
 use Rattle.block_lines.proofs.hand_out.Tie as tie
 
 abbrev Inv-loop : tie.InvT-loop
-Inv-loop near best start len lines₀ distances₀ b₀ lines distances b =
-    (b ≤ len) × (length lines ≡ length lines₀) × (length distances ≡ length distances₀) × Handed near best start b lines₀ lines distances₀ distances
+Inv-loop edition near best start len lines₀ distances₀ b₀ lines distances b =
+    (b ≤ len) × (length lines ≡ length lines₀) × (length distances ≡ length distances₀) × Handed edition near best start b lines₀ lines distances₀ distances
 
 abbrev μ-loop : tie.MeasureT-loop
-μ-loop near best start len lines₀ distances₀ b₀ lines distances b = len - b
+μ-loop edition near best start len lines₀ distances₀ b₀ lines distances b = len - b
 
 loop-holds : tie.Need-loop-holds Inv-loop μ-loop
 loop-holds c = (omega arith, refl, refl, record { line = run-none _ _ _; distance = run-none _ _ _ })
@@ -33,14 +33,14 @@ mul-lines-2 c = omega arith
 slice-write-lines : tie.Need-slice-write-lines Inv-loop μ-loop
 slice-write-lines c = omega arith
 
-mul-sqrt : tie.Need-mul-sqrt Inv-loop μ-loop
-mul-sqrt c = omega arith
+mul-measure : tie.Need-mul-measure Inv-loop μ-loop
+mul-measure c = omega arith
 
-shared-slice-read-sqrt : tie.Need-shared-slice-read-sqrt Inv-loop μ-loop
-shared-slice-read-sqrt c = omega arith
+shared-slice-read-measure : tie.Need-shared-slice-read-measure Inv-loop μ-loop
+shared-slice-read-measure c = omega arith
 
-sqrt-requires : tie.Need-sqrt-requires Inv-loop μ-loop
-sqrt-requires c κs = tt
+measure-requires : tie.Need-measure-requires Inv-loop μ-loop
+measure-requires c κs = tt
 
 add-distances : tie.Need-add-distances Inv-loop μ-loop
 add-distances c = omega arith
@@ -64,7 +64,7 @@ loop-again c =
       omega arith,
       simp length-set (l .inv .1),
       simp length-set (l .inv .2),
-      record { line = run-more _ _ _ _ _ _ (h .line) refl; distance = run-more _ _ _ _ _ _ (h .distance) (c .sqrt .ensures) },
+      record { line = run-more _ _ _ _ _ _ (h .line) refl; distance = run-more _ _ _ _ _ _ (h .distance) (c .measure .ensures) },
     )
 
 same-length : tie.Need-same-length Inv-loop μ-loop
@@ -91,9 +91,9 @@ hand-out-spec =
     add-lines
     mul-lines-2
     slice-write-lines
-    mul-sqrt
-    shared-slice-read-sqrt
-    sqrt-requires
+    mul-measure
+    shared-slice-read-measure
+    measure-requires
     add-distances
     mul-distances
     slice-write-distances

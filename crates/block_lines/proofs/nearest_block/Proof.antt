@@ -51,7 +51,7 @@ unfolding div ofBits
 search-requires c κs =
     let e = start (laid c .before) in
     let s = small e in
-    (omega arith, omega arith, omega arith, omega arith, e .pre .5, omega arith, omega arith, start-found _ _ maxBlock (omega arith))
+    (omega arith, omega arith, omega arith, omega arith, e .pre .5, omega arith, omega arith, start-found _ _ _ maxBlock (omega arith))
 
 slice-aggregate-hand-out : tie.Need-slice-aggregate-hand-out
 slice-aggregate-hand-out c = search needs
@@ -73,7 +73,7 @@ returns c =
     let found = searched (handed c .before) in
     let block = laid (found .before) in
     let a = start (block .before) .args in
-    block-handed (a .points .now) (a .m) (a .start) (a .len) _ _ (a .table .now) (a .n-lines) (block .lay .ensures) _ _ _ _ _ _ (found .search .ensures) (handed c .hand-out .ensures)
+    block-handed (a .edition) (a .points .now) (a .m) (a .start) (a .len) _ _ (a .table .now) (a .n-lines) (block .lay .ensures) _ _ _ _ _ _ (found .search .ensures) (handed c .hand-out .ensures)
 
 pub nearest-block-spec : {M : Type 1} → statement M
 nearest-block-spec =

@@ -11,11 +11,11 @@ use Rattle.block_lines.proofs.nearest_by_blocks.Statement.{statement}
 use Rattle.block_lines.proofs.nearest_by_blocks.Tie as tie
 
 abbrev Inv-loop : tie.InvT-loop
-Inv-loop points n m table n-lines norms known lines₀ distances₀ start₀ lines distances start =
-    (start ≤ n) × (length lines ≡ length lines₀) × (length distances ≡ length distances₀) × NearestAll points m table n-lines start lines₀ lines distances₀ distances
+Inv-loop edition points n m table n-lines norms known lines₀ distances₀ start₀ lines distances start =
+    (start ≤ n) × (length lines ≡ length lines₀) × (length distances ≡ length distances₀) × NearestAll edition points m table n-lines start lines₀ lines distances₀ distances
 
 abbrev μ-loop : tie.MeasureT-loop
-μ-loop points n m table n-lines norms known lines₀ distances₀ start₀ lines distances start = n - start
+μ-loop edition points n m table n-lines norms known lines₀ distances₀ start₀ lines distances start = n - start
 
 -- ---- the places, each from the next: the call starts, a turn of the loop, and a block that is handed out
 
@@ -58,9 +58,9 @@ loop-again c =
     let a = entry (turn (handed c .before)) .args in
     let f = handed c .nearest-block in (
       omega arith,
-      f .kept .1 .1 .1 .1 .1 .1 .1 .1 .0 ∙ l .inv .1,
-      f .kept .1 .1 .1 .1 .1 .1 .1 .1 .1 .0 ∙ l .inv .2,
-      block-after (a .points .now) (a .m) (a .table .now) (a .n-lines) (l .start) _ _ _ _ _ _ _ (omega arith) (omega arith) (l .inv .3) (f .ensures),
+      f .kept .1 .1 .1 .1 .1 .1 .1 .1 .1 .0 ∙ l .inv .1,
+      f .kept .1 .1 .1 .1 .1 .1 .1 .1 .1 .1 .0 ∙ l .inv .2,
+      block-after (a .edition) (a .points .now) (a .m) (a .table .now) (a .n-lines) (l .start) _ _ _ _ _ _ _ (omega arith) (omega arith) (l .inv .3) (f .ensures),
     )
 
 same-length : tie.Need-same-length Inv-loop μ-loop

@@ -1,12 +1,12 @@
--- where none is close, the lesser square is the nearer one
+-- where the squares tell, the lesser is the nearer one
 use mathlib.Core.Path.{sym, _∙_}
 use Rattle.block_search.proofs.Turns.{less-found}
 use borrow.Author.Needs.{needs}
 use Rattle.block_search.proofs.keep.Statement.{statement}
 use Rattle.block_search.proofs.keep.Tie as tie
 
-any-close-requires : tie.Need-any-close-requires
-any-close-requires c κs = search needs
+roots-tell-requires : tie.Need-roots-tell-requires
+roots-tell-requires c κs = search needs
 
 keep-nearer-requires : tie.Need-keep-nearer-requires
 keep-nearer-requires c κs = search needs
@@ -31,14 +31,14 @@ same-length-4 c = search needs
 
 returns-2 : tie.Need-returns-2
 returns-2 c =
-    let none = sym (c .before .before .before .before .before .before .before .before .any-close .ensures) ∙ c .before .before .before .before .before .before .before .if1 .left in
-    λ d f s. less-found d _ _ _ _ _ _ _ none (c .before .before .before .before .keep-less .ensures) f s
+    let none = sym (c .before .before .before .before .before .before .before .before .roots-tell .ensures) ∙ c .before .before .before .before .before .before .before .if1 .left in
+    λ d f s. less-found _ d _ _ _ _ _ _ _ none (c .before .before .before .before .keep-less .ensures) f s
 
 pub keep-spec : {M : Type 1} → statement M
 keep-spec =
     tie.close
     (tie.spec
-    any-close-requires
+    roots-tell-requires
     keep-nearer-requires
     same-length
     same-length-2

@@ -10,15 +10,15 @@ use Rattle.block_search.proofs.keep_nearer.Statement.{statement}
 use Rattle.block_search.proofs.keep_nearer.Tie as tie
 
 abbrev Inv-loop : tie.InvT-loop
-Inv-loop line squares len lines₀ best₀ b₀ lines best b =
+Inv-loop edition line squares len lines₀ best₀ b₀ lines best b =
     (b ≤ len) × (length lines ≡ length lines₀) × (length best ≡ length best₀)
-    × ((d : ℕ → ℕ → Float) → FoundAll d line len lines₀ best₀ → NextAll d line len squares → Turned d line len b lines best)
+    × ((d : ℕ → ℕ → Float) → FoundAll edition d line len lines₀ best₀ → NextAll edition d line len squares → Turned edition d line len b lines best)
 
 abbrev μ-loop : tie.MeasureT-loop
-μ-loop line squares len lines₀ best₀ b₀ lines best b = len - b
+μ-loop edition line squares len lines₀ best₀ b₀ lines best b = len - b
 
 loop-holds : tie.Need-loop-holds Inv-loop μ-loop
-loop-holds c = (omega arith, refl, refl, λ d f s. turn-none d _ _ _ _ f)
+loop-holds c = (omega arith, refl, refl, λ d f s. turn-none _ d _ _ _ _ f)
 
 mul-best : tie.Need-mul-best Inv-loop μ-loop
 mul-best c = omega arith
@@ -68,7 +68,7 @@ loop-again c =
       λ d f s.
           let t = l .inv .3 d f s in
           let e = s .at (l .b) (omega arith) in
-          turn-more d _ _ (l .b) _ _ _ _ (omega arith) (omega arith) t (c .nearer .ensures (d (l .b)) (t .rest (l .b) (omega arith) (omega arith)) (e .square) (e .root)),
+          turn-more _ d _ _ (l .b) _ _ _ _ (omega arith) (omega arith) t (c .nearer .ensures (d (l .b)) (t .rest (l .b) (omega arith) (omega arith)) (e .square) (e .measured)),
     )
 
 same-length : tie.Need-same-length Inv-loop μ-loop
@@ -81,7 +81,7 @@ returns : tie.Need-returns Inv-loop μ-loop
 returns c =
     let l = c .before .loop in
     let e : l .b ≡ c .before .before .before .before .before .args .len = omega arith in
-    λ d f s. turn-all d _ _ _ _ (rw e at (l .inv .3 d f s))
+    λ d f s. turn-all _ d _ _ _ _ (rw e at (l .inv .3 d f s))
 
 pub keep-nearer-spec : {M : Type 1} → statement M
 keep-nearer-spec =

@@ -16,7 +16,7 @@ unfolding ofBits
 returns c =
     let e = c .before .before .before .before .before in
     let a = e .args in
-    turn-short (a .x .now) (a .m) (a .len) (a .table .now) (a .line) (a .norm) _ _ (e .pre .3) (c .if1 .taken) (e .pre .6)
+    turn-short (a .edition) (a .x .now) (a .m) (a .len) (a .table .now) (a .line) (a .norm) _ _ (e .pre .3) (c .if1 .taken) (e .pre .6)
 
 mul-line-squares : tie.Need-mul-line-squares
 mul-line-squares c = search needs
@@ -44,8 +44,8 @@ returns-2 : tie.Need-returns-2
 returns-2 c =
     let e = c .before .before .before .before .before .before .before .before .before .before .before .before .before .before .before .before in
     let a = e .args in
-    c .before .before .before .before .keep .ensures (blockDistance (a .x .now) (a .m) (a .len) (a .table .now)) (e .pre .6)
-    (turn-squares (a .x .now) (a .m) (a .len) (a .table .now) (a .line) _ (c .before .before .before .before .before .before .before .before .before .line-squares .ensures))
+    c .before .before .before .before .keep .ensures (blockDistance (a .edition) (a .x .now) (a .m) (a .len) (a .table .now)) (e .pre .6)
+    (turn-squares (a .edition) (a .x .now) (a .m) (a .len) (a .table .now) (a .line) _ (c .before .before .before .before .before .before .before .before .before .line-squares .ensures))
 
 pub next-line-spec : {M : Type 1} → statement M
 next-line-spec =

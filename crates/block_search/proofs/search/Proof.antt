@@ -9,11 +9,11 @@ use Rattle.block_search.proofs.search.Statement.{statement}
 use Rattle.block_search.proofs.search.Tie as tie
 
 abbrev Inv-loop : tie.InvT-loop
-Inv-loop x m len table n-lines norms known lines₀ best₀ l₀ lines best l =
-    (l ≤ n-lines) × (length lines ≡ length lines₀) × (length best ≡ length best₀) × FoundAll (blockDistance x m len table) l len lines best
+Inv-loop edition x m len table n-lines norms known lines₀ best₀ l₀ lines best l =
+    (l ≤ n-lines) × (length lines ≡ length lines₀) × (length best ≡ length best₀) × FoundAll edition (blockDistance edition x m len table) l len lines best
 
 abbrev μ-loop : tie.MeasureT-loop
-μ-loop x m len table n-lines norms known lines₀ best₀ l₀ lines best l = n-lines - l
+μ-loop edition x m len table n-lines norms known lines₀ best₀ l₀ lines best l = n-lines - l
 
 -- line l lies within the table
 inside : (c : tie.In-loop Inv-loop μ-loop) → c .before .loop .l * c .before .before .before .before .before .before .before .args .m + c .before .before .before .before .before .before .before .args .m ≤ c .before .before .before .before .before .before .before .args .n-lines * c .before .before .before .before .before .before .before .args .m
@@ -39,7 +39,7 @@ loop-again : tie.Need-loop-again Inv-loop μ-loop
 loop-again c =
     let l = c .before .before .before .before .before .before .before .before .before .loop in
     let f = c .before .before .before .before .next-line in
-    (omega arith, f .kept .1 .1 .1 .1 .1 .1 .0 ∙ l .inv .1, f .kept .1 .1 .1 .1 .1 .1 .1 .0 ∙ l .inv .2, f .ensures)
+    (omega arith, f .kept .1 .1 .1 .1 .1 .1 .1 .0 ∙ l .inv .1, f .kept .1 .1 .1 .1 .1 .1 .1 .1 .0 ∙ l .inv .2, f .ensures)
 
 same-length : tie.Need-same-length Inv-loop μ-loop
 same-length c = c .before .loop .inv .1

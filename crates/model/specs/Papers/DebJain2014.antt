@@ -20,16 +20,23 @@ inner m s w = sumTo (λ j. s j ⊗ w j) m
 abbrev pub norm : ℕ → (ℕ → Float) → Float
 norm m s = sqrtOf (inner m s s)
 
--- the perpendicular distance of the point s from the line through the origin and the reference point w, ‖s - (w·s / ‖w‖²) w‖: the length of what is left of s
--- once its part along w is taken away
-unfoldable pub perpendicular : ℕ → (ℕ → Float) → (ℕ → Float) → Float
-perpendicular m s w = norm m (λ j. s j ⊖ ((inner m s w ⊘ inner m w w) ⊗ w j))
+-- what is left of the point s once its part along the reference point w is taken away, s - (w·s / ‖w‖²) w
+abbrev pub rest : ℕ → (ℕ → Float) → (ℕ → Float) → ℕ → Float
+rest m s w j = s j ⊖ ((inner m s w ⊘ inner m w w) ⊗ w j)
 
--- A member belongs to the line, of `lines`, from which its perpendicular distance is least; `point` gives each member's normalised point, and `reference` the
--- reference point of each line. No NaN is least, since none is at most anything.
-pub record Associated (m : ℕ) (point reference : ℕ → ℕ → Float) (lines p l : ℕ) : Type 0 where
+-- the perpendicular distance of the point s from the line through the origin and the reference point w: the length of what is left
+unfoldable pub perpendicular : ℕ → (ℕ → Float) → (ℕ → Float) → Float
+perpendicular m s w = norm m (rest m s w)
+
+-- its square, of which it is the root
+unfoldable pub perpendicularSquare : ℕ → (ℕ → Float) → (ℕ → Float) → Float
+perpendicularSquare m s w = inner m (rest m s w) (rest m s w)
+
+-- A member belongs to the line, of `lines`, from which its perpendicular distance is least: `far` measures that of a point from a line, itself or by its square.
+-- `point` gives each member's normalised point, and `reference` the reference point of each line. No NaN is least, since none is at most anything.
+pub record Associated (far : (ℕ → Float) → (ℕ → Float) → Float) (point reference : ℕ → ℕ → Float) (lines p l : ℕ) : Type 0 where
   pub inside : l < lines
-  pub least : (j : ℕ) → j < lines → T (le (perpendicular m (point p) (reference l)) (perpendicular m (point p) (reference j)))
+  pub least : (j : ℕ) → j < lines → T (le (far (point p) (reference l)) (far (point p) (reference j)))
 
 -- ---- niching
 -- `before` are the members accepted from the fronts before, `last` is the front from which the rest is picked, and `line` gives each member its line.

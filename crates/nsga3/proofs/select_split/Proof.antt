@@ -57,12 +57,12 @@ copied-last c = copied (picked c .before .before .before)
 associated : (c : tie.After-associate) →
     let a = c .associate in
     let s = start-joined c in
-    Associates (request s) (counted (tabled (c .before)) .plan-count .result) (objectives (request s)) (s .args .ideal .now) (a .last .1 .1 .1 .1 .1 .0) (s .args .lines .now) (a .last .1 .1 .1 .1 .1 .1 .0) (replicate maxPool (ofBits binary64 0)) (a .last .1 .1 .1 .1 .1 .1 .1 .0)
+    Associates (request s) (counted (tabled (c .before)) .plan-count .result) (objectives (request s)) (s .args .ideal .now) (a .last .1 .1 .1 .1 .1 .1 .0) (s .args .lines .now) (a .last .1 .1 .1 .1 .1 .1 .1 .0) (replicate maxPool (ofBits binary64 0)) (a .last .1 .1 .1 .1 .1 .1 .1 .1 .0)
 associated c =
     let s = start-joined c in
     let d = tabled (c .before) .das-dennis in
     let e = counted (tabled (c .before)) .plan-count .ensures in
-    c .associate .ensures (request s)
+    c .associate .ensures (request s) refl
     (pool-rows (s .pre .0) _ e) (λ j h. refl) (lines-at (request s) (s .pre .0 .limits .wide) _ (d .ensures .0) _ _ (d .ensures .1)) (d .ensures .0)
 
 -- the whole fronts are within the kept list, and their marks within that of the rules
@@ -156,14 +156,14 @@ niching-select-requires c κs =
     let ok = s .pre .0 .limits in
     let a = join .associate in
     let f = copy .list-whole in
-    let far : length (a .last .1 .1 .1 .1 .1 .1 .1 .0) ≡ maxPool = a .kept .1 .1 .1 .1 .1 .1 .1 .0 in
+    let far : length (a .last .1 .1 .1 .1 .1 .1 .1 .1 .0) ≡ maxPool = a .kept .1 .1 .1 .1 .1 .1 .1 .1 .0 in
     splits (s .pre .0) (s .pre .1) _ _ (counted table .plan-count .ensures) (table .das-dennis .ensures .0) _ _ _ _ _ _ (associated join) _ _
-    (omega (arith, a .kept .1 .1 .1 .1 .1 .1 .0, ok .lines)) (omega (arith, far, ok .fewPlans))
+    (omega (arith, a .kept .1 .1 .1 .1 .1 .1 .1 .0, ok .lines)) (omega (arith, far, ok .fewPlans))
     (omega (arith, mid-len (s .args .cut .whole) (length (f .last .1 .1 .0)) (f .last .1 .1 .0) (omega arith), f .kept .1 .1 .0, ok .kept))
     (omega (arith, mid-len (s .args .cut .whole) (length (f .last .1 .1 .1 .0)) (f .last .1 .1 .1 .0) (omega arith), f .kept .1 .1 .1 .0, ok .rules))
 
 same-length : tie.Need-same-length
-same-length c = joined (copied-last c .before) .associate .kept .1 .1 .1 .1 .1 .0
+same-length c = joined (copied-last c .before) .associate .kept .1 .1 .1 .1 .1 .1 .0
 
 same-length-2 : tie.Need-same-length-2
 same-length-2 c =
@@ -180,7 +180,7 @@ same-length-3 c =
     same-len-mid w (length (f .last .1 .1 .1 .0) - w) (f .last .1 .1 .1 .0) (p .last .1 .1 .1 .1 .1 .1 .1 .1 .1 .0) (p .kept .1 .1 .1 .1 .1 .1 .1 .1 .1 .0) ∙ f .kept .1 .1 .1 .0
 
 same-length-4 : tie.Need-same-length-4
-same-length-4 c = joined (copied-last c .before) .associate .kept .1 .1 .1 .1 .1 .1 .0
+same-length-4 c = joined (copied-last c .before) .associate .kept .1 .1 .1 .1 .1 .1 .1 .0
 
 returns : tie.Need-returns
 returns c =
