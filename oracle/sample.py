@@ -31,6 +31,7 @@ RECORDS = {
     "load": 30,
     "editions": 24,
     "convert": 24,
+    "association_second": 20,
     "kept_second": 6,
     "breeding_second": 6,
     "session_second": 8,
@@ -38,7 +39,7 @@ RECORDS = {
 }
 
 # The record that the replaying programs count a record of edition 2 under.
-COUNTED = {"kept_second": "kept", "breeding_second": "breeding", "session_second": "session"}
+COUNTED = {"association_second": "association", "kept_second": "kept", "breeding_second": "breeding", "session_second": "session"}
 
 # The programs that replay, and the records whose stored files each reads, joined.
 FILES = ["choose", "load", "editions", "convert"]

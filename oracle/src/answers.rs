@@ -38,6 +38,20 @@ pub const SELECT_SECOND: u64 = 71;
 pub const STEP: u64 = 87;
 pub const STEP_SECOND: u64 = 88;
 
+/// The commands of the nearest lines and of a distance, of either edition.
+pub const ASSOCIATE: u64 = 61;
+pub const ASSOCIATE_SECOND: u64 = 63;
+pub const DISTANCE: u64 = 62;
+pub const DISTANCE_SECOND: u64 = 64;
+
+/// The edition of a command that is of either.
+fn edition_of(command: u64) -> Edition {
+    match command {
+        SELECT_SECOND | STEP_SECOND | ASSOCIATE_SECOND | DISTANCE_SECOND => Edition::Second,
+        _ => Edition::First,
+    }
+}
+
 /// Whether a command is a generation step.
 fn steps(command: u64) -> bool {
     matches!(command, STEP | STEP_SECOND)
@@ -188,18 +202,18 @@ pub fn answer(input: &[u64]) -> Result<Vec<u64>, String> {
                 push_reals(&mut a, row);
             }
         }
-        61 => {
+        ASSOCIATE | ASSOCIATE_SECOND => {
             let (m, h) = fit_divisions(r)?;
             let rows = r.counted(|r| r.reals(m))?;
-            let table = genetic::das_dennis(m, h);
-            for (line, distance) in nsga3::associate_to_reference_points(&rows, &table) {
+            for (line, distance) in associate(edition_of(command), &rows, &genetic::das_dennis(m, h)) {
                 a.extend([line as u64, of_real(distance)]);
             }
         }
-        62 => {
+        DISTANCE | DISTANCE_SECOND => {
             let m = positive(r)?;
             let (point, reference) = (r.reals(m)?, r.reals(m)?);
-            a.push(of_real(nsga3::perpendicular_distance(&point, &reference)));
+            let leaf = || nsga3::perpendicular_distance(&point, &reference);
+            a.push(of_real(edition_of(command).run(leaf)));
         }
 
         // Kept list
@@ -403,6 +417,11 @@ fn normalize(ideal: &mut [f64], rows: &[Vec<f64>]) -> (Vec<f64>, Vec<Vec<f64>>) 
     (intercepts, normalized)
 }
 
+/// The line of each row and its distance from it, in an edition.
+pub fn associate(edition: Edition, rows: &[Vec<f64>], table: &[Vec<f64>]) -> Vec<(usize, f64)> {
+    edition.run(|| nsga3::associate_to_reference_points(rows, table))
+}
+
 /// The input of a selection or a generation step. A selection has the sampler's
 /// own operators, and no dimensions.
 #[derive(Clone)]
@@ -438,9 +457,7 @@ impl Call {
 
     pub fn read(command: u64, r: &mut Reader) -> Result<Self, String> {
         let mut call = Call::new(0, 0, 0, 0, Vec::new());
-        if matches!(command, SELECT_SECOND | STEP_SECOND) {
-            call.edition = Edition::Second;
-        }
+        call.edition = edition_of(command);
         call.short = r.flag()?;
         call.marks = plans::read_marks(r)?;
         (call.divisions, call.size, call.state) = (r.number()?, r.number()?, r.number()?);

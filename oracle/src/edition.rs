@@ -65,3 +65,12 @@ pub fn ranking_sort(
         }
     }
 }
+
+/// What the Rust's distance leaf hands out: "In edition 2 the distance leaf hands
+/// out the sum of squares"; "the oracle's root is left out there" (M-105).
+pub fn distance(squares: f64) -> f64 {
+    match RUN_IN.get() {
+        Edition::First => squares.sqrt(),
+        Edition::Second => squares,
+    }
+}

@@ -8,7 +8,7 @@ pub const NAN: u64 = 9221120237041090560;
 pub const LONGEST: usize = 65_664;
 
 /// Commands by name and number; README describes each.
-pub const COMMANDS: [(&str, u64); 45] = [
+pub const COMMANDS: [(&str, u64); 47] = [
     ("words", 10),
     ("f64", 11),
     ("usize", 12),
@@ -33,6 +33,8 @@ pub const COMMANDS: [(&str, u64); 45] = [
     ("normalize", 60),
     ("associate", 61),
     ("distance", 62),
+    ("associate_second", 63),
+    ("distance_second", 64),
     ("select", 70),
     ("select_second", 71),
     ("sample_random", 80),

@@ -100,6 +100,22 @@ fn step() {
     assert_eq!(refused, Err(Refusal::Parent));
 }
 
+/// Two members of a line whose squares share a root: in edition 1 the first listed is the nearest, in edition 2 the one of the lesser square.
+#[test]
+fn nearest() {
+    let both = Directions::new(&[Direction::Minimize; 2]).unwrap();
+    let rows = [[1.0, 0.0], [0.0, 1.0], [0.6, 0.8], [0.65, 0.45]];
+    let pool: Vec<Plan> = (0..).zip(rows).map(|(number, row)| Plan::new(number, &row, &[], &[]).unwrap()).collect();
+    let [first, second] = [Edition::First, Edition::Second].map(|edition| {
+        let mut ideal = Ideal::new(&[0.0, 0.0]);
+        select(edition, &pool, &both, 2, 3, &mut Rng::with_seed(6), &mut ideal).unwrap()
+    });
+    assert_eq!(first.lines, second.lines);
+    assert_eq!(first.lines, [Some(2), Some(0), Some(1), Some(1)]);
+    assert!(first.kept.contains(&2) && !first.kept.contains(&3));
+    assert!(second.kept.contains(&3) && !second.kept.contains(&2));
+}
+
 /// An infeasible plan with the better row beside a feasible one: in edition 1 the row wins tournaments, in edition 2 the feasible plan.
 #[test]
 fn tournaments() {

@@ -3,7 +3,7 @@
 use super::kept::*;
 use super::numbers::*;
 use super::*;
-use crate::answers::{self, push_settings};
+use crate::answers::push_settings;
 
 pub(super) fn sample_random(state: u64, dimension: &Distribution) -> Line {
     let mut line = vec![80, state];

@@ -13,7 +13,8 @@ mod second;
 mod sessions;
 mod water;
 
-use crate::answers::{Call, SELECT, SELECT_SECOND, STEP, STEP_SECOND};
+use crate::answers::{self, Call, SELECT, SELECT_SECOND, STEP, STEP_SECOND};
+use crate::answers::{ASSOCIATE, ASSOCIATE_SECOND, DISTANCE, DISTANCE_SECOND};
 use crate::distribution::{Distribution, FloatDistribution, IntDistribution};
 use crate::edition::Edition;
 use crate::mix::Mix;
@@ -29,7 +30,7 @@ type Cases = fn() -> Vec<Line>;
 type Input = fn(&mut Mix, u64) -> Line;
 
 /// Each record: its named cases, and how an input is generated.
-const RECORDS: [(&str, Cases, Input); 17] = [
+const RECORDS: [(&str, Cases, Input); 18] = [
     ("draw", numbers::draw_cases, numbers::draw_input),
     ("numbers", numbers::number_cases, numbers::number_input),
     ("dominance", rows::dominance_cases, rows::dominance_input),
@@ -70,6 +71,11 @@ const RECORDS: [(&str, Cases, Input); 17] = [
         "session_second",
         second::session_cases,
         second::session_input,
+    ),
+    (
+        "association_second",
+        second::association_cases,
+        second::association_input,
     ),
 ];
 

@@ -293,13 +293,13 @@ pub(super) fn normalize(marks: &[u64], ideal: &[f64], rows: &[Vec<f64>]) -> Line
 }
 
 pub(super) fn associate(m: usize, h: u64, rows: &[Vec<f64>]) -> Line {
-    let mut line = vec![61, m as u64, h];
+    let mut line = vec![ASSOCIATE, m as u64, h];
     push_rows(&mut line, rows);
     line
 }
 
 pub(super) fn distance(point: &[f64], reference: &[f64]) -> Line {
-    let mut line = vec![62, point.len() as u64];
+    let mut line = vec![DISTANCE, point.len() as u64];
     push_reals(&mut line, point);
     push_reals(&mut line, reference);
     line
@@ -378,21 +378,26 @@ pub(super) fn association_input(mix: &mut Mix, at: u64) -> Line {
                 .collect();
             normalize(&marks(mix, m), &ideal, &rows)
         }
-        3 => {
-            // Points within 0..1, as normalisation gives them.
-            let points: Vec<Vec<f64>> = (0..n)
-                .map(|_| {
-                    let flavour = mix.pick(&[1, 9, 1]);
-                    row(mix, flavour, m, 0, 1)
-                })
-                .collect();
-            associate(m, divisions(mix, m, 40), &points)
-        }
-        _ => {
-            let point: Vec<f64> = (0..m).map(|_| mix.unit()).collect();
-            let h = divisions(mix, m, 400) as f64;
-            let reference: Vec<f64> = (0..m).map(|_| mix.below(h as u64 + 1) as f64 / h).collect();
-            distance(&point, &reference)
-        }
+        3 => associated_points(mix, m, n),
+        _ => distant_point(mix, m),
     }
+}
+
+/// Points within 0..1, as normalisation gives them.
+pub(super) fn associated_points(mix: &mut Mix, m: usize, n: usize) -> Line {
+    let points: Vec<Vec<f64>> = (0..n)
+        .map(|_| {
+            let flavour = mix.pick(&[1, 9, 1]);
+            row(mix, flavour, m, 0, 1)
+        })
+        .collect();
+    associate(m, divisions(mix, m, 40), &points)
+}
+
+/// A point and a line of a table.
+pub(super) fn distant_point(mix: &mut Mix, m: usize) -> Line {
+    let point: Vec<f64> = (0..m).map(|_| mix.unit()).collect();
+    let h = divisions(mix, m, 400) as f64;
+    let reference: Vec<f64> = (0..m).map(|_| mix.below(h as u64 + 1) as f64 / h).collect();
+    distance(&point, &reference)
 }

@@ -4,14 +4,112 @@ use super::breeding::*;
 use super::kept::*;
 use super::sessions::*;
 use super::*;
+use crate::sampler::genetic;
 
 fn second(call: &Call) -> Call {
     call.but(|c| c.edition = Edition::Second)
 }
 
 // ---------------------------------------------------------------------------
+// Association
+// ---------------------------------------------------------------------------
+
+/// A line of the nearest lines or of a distance, in edition 2; the same inputs.
+fn by_squares(mut line: Line) -> Option<Line> {
+    line[0] = match line[0] {
+        ASSOCIATE => ASSOCIATE_SECOND,
+        DISTANCE => DISTANCE_SECOND,
+        _ => return None,
+    };
+    Some(line)
+}
+
+/// Whether the editions associate a point with different lines.
+fn parts(point: &[f64], table: &[Vec<f64>]) -> bool {
+    let rows = [point.to_vec()];
+    let [root, square] = [Edition::First, Edition::Second].map(|e| answers::associate(e, &rows, table));
+    root[0].0 != square[0].0
+}
+
+pub(super) fn association_cases() -> Vec<Line> {
+    // Points as near to two lines by the roots, and not by the squares.
+    let apart: [(usize, Vec<f64>); 4] = [
+        (2, vec![0.4, 0.6, 0.4]),
+        (2, vec![0.3, 0.2, 0.2]),
+        (3, vec![0.1, 0.9, 0.9]),
+        (1, vec![0.1, 0.6, 0.2, 0.6]),
+    ];
+    let mut lines = rows::association_cases();
+    for (h, point) in &apart {
+        let table = genetic::das_dennis(point.len(), *h);
+        assert!(parts(point, &table), "the editions part");
+        lines.push(rows::associate(point.len(), *h as u64, &[point.clone()]));
+    }
+    // The two lines of the first.
+    lines.push(rows::distance(&apart[0].1, &[0.0, 0.5, 0.5]));
+    lines.push(rows::distance(&apart[0].1, &[0.5, 0.5, 0.0]));
+    // Squares round too: line 4 is nearer, and line 5 wins.
+    lines.push(rows::associate(2, 8, &[vec![0.8179462534424142, 0.6386331363947232]]));
+    lines.into_iter().filter_map(by_squares).collect()
+}
+
+/// By turns: points within 0..1, a point and a line, a point at which the
+/// editions part, where one is found.
+pub(super) fn association_input(mix: &mut Mix, at: u64) -> Line {
+    let m = objectives(at);
+    let line = match mix.below(3) {
+        0 => {
+            let n = mix.within(1, 3) as usize;
+            rows::associated_points(mix, m, n)
+        }
+        1 => rows::distant_point(mix, m),
+        _ => {
+            let h = divisions(mix, m, 40);
+            let table = genetic::das_dennis(m, h as usize);
+            let mut point = row(mix, 9, m, 0, 1);
+            for _ in 0..400 {
+                if parts(&point, &table) {
+                    break;
+                }
+                // Two coordinates alike lie between two lines.
+                point = row(mix, 9, m, 0, 1);
+                point[m - 1] = mix.pick(&point);
+            }
+            rows::associate(m, h, &[point])
+        }
+    };
+    by_squares(line).expect("nearest lines or a distance")
+}
+
+// ---------------------------------------------------------------------------
 // Selections and generation steps
 // ---------------------------------------------------------------------------
+
+/// Selections on which the editions part by their distances: by the line of a
+/// plan, or by the nearest of a line's members.
+fn by_distances() -> Vec<Call> {
+    let ends: &[&[f64]] = &[&[1.0, 0.0], &[0.0, 1.0]];
+    let corners: &[&[f64]] = &[&[1.0, 0.0, 0.0], &[0.0, 1.0, 0.0], &[0.0, 0.0, 1.0]];
+    let select = |divisions, size, ends: &[&[f64]], rows: &[&[f64]]| {
+        let pool = pool_of(&[ends, rows].concat());
+        let call = Call::new(ends[0].len(), divisions, size, 6, pool);
+        call.but(|c| c.ideal = vec![0.0; ends[0].len()])
+    };
+    let calls = vec![
+        // A plan between two lines.
+        select(2, 2, corners, &[&[0.4, 0.6, 0.4]]),
+        select(3, 3, corners, &[&[0.1, 0.9, 0.9]]),
+        // Two members of line 1, the second nearer by its square alone.
+        select(2, 3, ends, &[&[0.6, 0.8], &[0.65, 0.45]]),
+        select(2, 3, ends, &[&[0.12, 0.17], &[0.13, 0.08]]),
+    ];
+    for call in &calls {
+        let other = second(call);
+        let [root, square] = [call, &other].map(answers::select);
+        assert_ne!((root.list, root.lines), (square.list, square.lines), "the editions part");
+    }
+    calls
+}
 
 pub(super) fn kept_cases() -> Vec<Line> {
     let good = second(&listing());
@@ -55,7 +153,8 @@ pub(super) fn kept_cases() -> Vec<Line> {
         good.but(|c| c.short = true),
         crowded.but(|c| c.edition = Edition::First),
     ];
-    calls.iter().map(Call::select).collect()
+    let apart = by_distances().iter().map(second).collect();
+    [calls.to_vec(), apart].concat().iter().map(Call::select).collect()
 }
 
 pub(super) fn kept_input(mix: &mut Mix, at: u64) -> Line {
