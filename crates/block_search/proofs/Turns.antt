@@ -68,8 +68,8 @@ less-found e d n squares len lines₀ lines best₀ best none k f g = record { a
         let l = getD lines₀ b 0 in
         let S = g .at b h in
         let far : takesRoot e ≡ true → lt s q ≡ true → lt s (q ⊗ nearlyOne) ≡ true = λ root k.
-            not-no (lt s (q ⊗ nearlyOne)) (and-fails (lt s q) (not (lt s (q ⊗ nearlyOne)))
-            (anyBelow-each (closeAt squares best₀) len (and-fails (takesRoot e) (anyBelow (closeAt squares best₀) len) none root) b h) k) in
+        not-no (lt s (q ⊗ nearlyOne)) (and-fails (lt s q) (not (lt s (q ⊗ nearlyOne)))
+        (anyBelow-each (closeAt squares best₀) len (and-fails (takesRoot e) (anyBelow (closeAt squares best₀) len) none root) b h) k) in
         rw (over-below (lineLess n squares lines₀ best₀) len lines lines₀ b 0 (k .line) h, over-below (squareLess squares best₀) len best best₀ b nan (k .square) h)
         (by-bool (lt s q)
         (λ k. rw k (by-bool (takesRoot e)

@@ -106,5 +106,8 @@ pub fn perpendicular_distance(
     ensures { λ r. ⌜ r ≡ distance edition m (from (now (points .entry)) at) (from (now (table .entry)) «line_at») ⌝ }
 {
     let norm = dot_product(table, line_at, table, line_at, m);
-    measure(edition, distance_squared(points, at, table, line_at, m, norm))
+    measure(
+        edition,
+        distance_squared(points, at, table, line_at, m, norm),
+    )
 }

@@ -26,12 +26,12 @@ use Rattle.demand3_laws.proofs.Paper.{association-associated}
 -- what is least by an edition's measure is least by roots
 by-roots : (e : Edition) (m : ℕ) (s v w : ℕ → Float) → Square (perpendicularSquare m s v) → Square (perpendicularSquare m s w)
     → T (le (perpendicularBy e m s v) (perpendicularBy e m s w)) → T (le (perpendicular m s v) (perpendicular m s w))
-by-roots First m s v w V W h = h
-by-roots Second m s v w V W h =
+by-roots First m s v w hv hw h = h
+by-roots Second m s v w hv hw h =
     let x = perpendicularSquare m s v in
     let y = perpendicularSquare m s w in
     rw (perpendicular-root m s v, perpendicular-root m s w)
-    (sqrt-mono x y (V .held) (W .held) (nlt→le x nought (le-not-nan x y h .0) nought-not-nan (V .low)) h)
+    (sqrt-mono x y (hv .held) (hw .held) (nlt→le x nought (le-not-nan x y h .0) nought-not-nan (hv .low)) h)
 
 module _ (r : Request) (accepted : Accepted r) (measured : Measurable r) where
   square-of : (p l : ℕ) → l < lineCount r → Square (perpendicularSquare (objectives r) (normalised r p) (coordinate r l))

@@ -74,7 +74,7 @@ module _ (s : ℕ → Float) (S : (k : ℕ) → Square (s k)) where
     less h = elim (b .origin .known) [
       | inl e ↦ subst (λ x. lt (sqrtOf (s n)) (sqrtOf x) ≡ true) (sym e) (root-finite (s n) (S n) (subst (λ x. lt (s n) x ≡ true) e h))
       | inr o ↦ subst (λ x. lt (sqrtOf (s n)) (sqrtOf x) ≡ true) (sym (o .1))
-            (roots-apart (s n) (s line) (S n) (S line .held) (none line (o .0)) (subst (λ x. lt (s n) x ≡ true) (o .1) h))
+          (roots-apart (s n) (s line) (S n) (S line .held) (none line (o .0)) (subst (λ x. lt (s n) x ≡ true) (o .1) h))
     ]
 
     both-taken : lt (s n) q ≡ true → Both (n + 1) n (s n)
@@ -86,7 +86,7 @@ module _ (s : ℕ → Float) (S : (k : ℕ) → Square (s k)) where
     both-passed : lt (s n) q ≡ false → Both (n + 1) line q
     both-passed h = record {
       found = found-farther First roots n line q (s n) (b .found) (S n) refl h;
-      origin = record { known = elim (b .origin .known) [ | inl e ↦ inl e | inr o ↦ inr (omega (arith, o .0), o .1) ] };
+      origin = record { known = elim (b .origin .known) [ inl e ↦ inl e | inr o ↦ inr (omega (arith, o .0), o .1) ] };
     }
 
   -- THE LAW

@@ -115,14 +115,7 @@ fn put_nearest(out: &mut Words, lines: &Places, distances: &Distances, n: usize)
 }
 
 // The answer of n rows and the table of m and h.
-fn associated(
-    edition: Edition,
-    rows: &Rows,
-    n: usize,
-    m: usize,
-    h: usize,
-    out: &mut Words,
-) -> usize
+fn associated(edition: Edition, rows: &Rows, n: usize, m: usize, h: usize, out: &mut Words) -> usize
     requires { ⌜ (1 ≤ m) × (m ≤ 8) × (n ≤ maxPool) × (n * m ≤ maxPool * maxObjectives) ⌝ }
 {
     let mut table = [0.0; MAX_TABLE_VALUES];
