@@ -5,7 +5,7 @@ use model::MAX_LINES;
 use model::MAX_OBJECTIVES;
 use model::MAX_ROW_VALUES;
 ghost use mathlib.Core.Path.{_≡_};
-ghost use Prim.Native.Nat.{_+_, _*_, _≤_, min};
+ghost use Prim.Native.Nat.{_+_, _*_, _<_, _≤_, min};
 ghost use lib.ListN.{length};
 ghost use Rattle.model.specs.Plan.{maxObjectives};
 ghost use Rattle.model.specs.Association.{nearestOf, Request, lineCount};
@@ -188,7 +188,7 @@ pub fn associate(
     distances: &mut [f64],
 )
     requires { ⌜ (m ≤ maxObjectives) × (n * m ≤ maxPool * maxObjectives) × (n * m ≤ length (now rows)) × («n_lines» * m ≤ length (now table)) × (m ≤ length (now ideal))
-        × (n ≤ length (now lines)) × (n ≤ length (now distances)) ⌝ }
+        × (n ≤ length (now lines)) × (n ≤ length (now distances)) × (0 < n) ⌝ }
     ensures { λ _. ⌜ ((r : Request) → edition ≡ r .edition → Pool r (now (rows .entry)) n m → StartIn r (now (ideal .entry)) m → LinesIn r (now (table .entry)) «n_lines» m
         → «n_lines» ≡ lineCount r → Associates r n m (now (ideal .entry)) (now (ideal .exit)) (now (lines .entry)) (now (lines .exit))
         (now (distances .entry)) (now (distances .exit))) ⌝ }
@@ -196,7 +196,7 @@ pub fn associate(
     let mut intercepts = [1.0; MAX_OBJECTIVES];
     let mut normalized = [0.0; MAX_ROW_VALUES];
     normalization::update_ideal_point(rows, n, m, ideal);
-    normalization::find_intercepts(rows, n, m, ideal, &mut intercepts);
+    hyperplane::find_edition_intercepts(edition, rows, n, m, ideal, &mut intercepts);
     normalization::normalize_objectives(rows, n, m, ideal, &intercepts, &mut normalized);
     associate_to_reference_points(edition, &normalized, n, m, table, n_lines, lines, distances);
 }

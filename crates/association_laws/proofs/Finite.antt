@@ -22,7 +22,7 @@ use Rattle.real_laws.proofs.Roots.Monotone.{sqrt-mono, sqrt-from-zero}
 use Rattle.association_laws.specs.Measurable.{Measurable}
 use Rattle.association_laws.specs.Paper.{perpendicularBy}
 use Rattle.association_laws.proofs.Search.{squares-long, distance-measure, squares-perpendicular, perpendicular-root}
-use Rattle.association_laws.proofs.Within.{normalised-unit}
+use Rattle.association_laws.proofs.Within.{normalised-wide}
 use Rattle.association_laws.proofs.Squares.{squares-square}
 use Rattle.float_laws.proofs.Sums.{sum-within}
 use Rattle.association_laws.proofs.Coordinates.{sixtyFourth, usable}
@@ -108,10 +108,10 @@ module _ (r : Request) (wide : 1 ≤ objectives r) (narrow : objectives r ≤ 8)
       ∙ ap (λ x. cond (takesRoot (r .edition)) x (perpendicularSquare (objectives r) (normalised r p) (coordinate r l)))
       (sym (perpendicular-root (objectives r) (normalised r p) (coordinate r l)))
 
-  -- THEOREM: no distance of a plan that shapes the scale is a NaN, and each is below infinity: its normalised values lie within 0..2 ^ 0
+  -- THEOREM: no distance of a plan that shapes the scale is a NaN, and each is below infinity: its normalised values lie within 0..2 ^ 100
   pub distanceTo-number : Measurable r → (p : ℕ) → In p (shapers r) → (l : ℕ) → l < lineCount r
       → (isNan (distanceTo r p l) ≡ false) × (lt (distanceTo r p l) infinity ≡ true)
   unfolding distanceTo coordinate
   distanceTo-number M p h l k =
       let u = usable (objectives r) (r .divisions) l wide narrow some few k in
-      distance-number (objectives r) narrow 0 (lit≤ tt) (normalised r p) (coordinate r l) (λ j g. normalised-unit r M p j h g) (u .inUnit) (u .norm) (u .notSmall) (r .edition)
+      distance-number (objectives r) narrow 100 (lit≤ tt) (normalised r p) (coordinate r l) (λ j g. normalised-wide r M p j h g) (u .inUnit) (u .norm) (u .notSmall) (r .edition)

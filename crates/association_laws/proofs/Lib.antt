@@ -2,6 +2,7 @@ pub mod Search
 pub mod Same
 pub mod Shapers
 pub mod Request
+pub mod ByEdition
 pub mod Extremes
 pub mod Within
 pub mod Good

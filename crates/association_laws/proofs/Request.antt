@@ -1,7 +1,7 @@
 -- What the functions of `association` leave is what document 01 says of a request: its ideal, intercepts, normalised rows, lines and distances.
 use Prim.Native.Nat.{ℕ, _≤_, _<_}
-use mathlib.Core.Path.{_≡_, ap, ap₂, subst, _∙_}
-use mathlib.Core.Bool.{true}
+use mathlib.Core.Path.{_≡_, ap, ap₂, sym, subst, _∙_}
+use mathlib.Core.Bool.{true, cond}
 use mathlib.Core.List.{List, flatten}
 use lib.Ieee.{Float, nan, inf, lt}
 use lib.ListN.{getD}
@@ -9,16 +9,20 @@ use Rattle.model.specs.declared.Edition.{Edition}
 use Rattle.model.specs.Lists.{In, listBelow, over}
 use Rattle.model.specs.Real.{_⊖_, _⊘_, above}
 use Rattle.model.specs.Reference.{dasDennis}
-use Rattle.model.specs.Association.{Request, objectives, lineCount, valueOf, idealOf, interceptOf, normalised, coordinate, distanceTo, distance, association, leastFrom, greatest, interceptFrom, nearestOf}
+use Rattle.model.specs.Association.{Request, objectives, lineCount, valueOf, idealOf, oldInterceptOf, shaperValue, planeInterceptOf, interceptOf, normalised, coordinate, distanceTo, distance, association, leastFrom, greatest, interceptFrom, nearestOf}
+use Rattle.model.specs.Edition.{usesPlane}
+use Rattle.model.specs.Hyperplane.{interceptsOf}
 use Rattle.list_laws.specs.Rows.{flatRows}
 use Rattle.list_laws.proofs.Best.{among-same}
 use Rattle.list_laws.proofs.Kept.{keepBelow-below}
 use Rattle.list_laws.proofs.Built.{over-same, over-below}
 use Rattle.list_laws.proofs.Rows.{rows-at}
 use Rattle.reference_laws.proofs.Rows.{table-at}
-use Rattle.association_laws.specs.Flat.{rowAt, column, shapersOf, leastAt, interceptAt, normalAt, nearestAt, NearestAll}
+use Rattle.hyperplane_laws.specs.Flat.{listed}
+use Rattle.hyperplane_laws.proofs.Same.{intercepts-same}
+use Rattle.association_laws.specs.Flat.{rowAt, column, shapersOf, leastAt, interceptAt, planeInterceptAt, interceptBy, normalAt, nearestAt, NearestAll}
 use Rattle.association_laws.specs.Request.{Pool, StartIn, IdealIn, InterceptsIn, NormalisedIn, LinesIn, Associates}
-use Rattle.association_laws.proofs.Shapers.{shapers-are}
+use Rattle.association_laws.proofs.Shapers.{shapers-are, shaper-at, shapers-count}
 use Rattle.association_laws.proofs.Same.{distance-same, nearest-same}
 
 -- ---- what `das_dennis` leaves: the request's k lines
@@ -44,18 +48,30 @@ module _ (r : Request) (rows : List Float) (n m : ℕ) (P : Pool r rows n m) whe
     ideal-at : (ideal : List Float) → ideal ≡ over (listBelow (leastAt rows n m old) m) old → IdealIn r ideal m
     ideal-at ideal e j h = over-below (leastAt rows n m old) m ideal old j nan e h ∙ least-is j h
 
-  -- ---- what `find_intercepts` leaves, from the ideal
+  -- ---- what `find_edition_intercepts` leaves, from the ideal
   module _ (ideal : List Float) (z : IdealIn r ideal m) where
-    intercept-is : (j : ℕ) → j < m → interceptAt rows n m ideal j ≡ interceptOf r j
-    unfolding interceptOf
-    intercept-is j h =
+    old-is : (j : ℕ) → j < m → interceptAt rows n m ideal j ≡ oldInterceptOf r j
+    unfolding oldInterceptOf
+    old-is j h =
         ap₂ (λ g i. interceptFrom (g ⊖ i))
         (among-same above (inf true) (column rows m j) (λ p. valueOf r p j) (shapersOf n) (shaper-value j h)
         ∙ ap (greatest (λ p. valueOf r p j)) (shapers-are r n (P .count)))
         (z j h)
 
-    intercepts-at : (intercepts old : List Float) → intercepts ≡ over (listBelow (interceptAt rows n m ideal) m) old → InterceptsIn r intercepts m
-    intercepts-at intercepts old e j h = over-below (interceptAt rows n m ideal) m intercepts old j nan e h ∙ intercept-is j h
+    plane-is : 0 < n → (j : ℕ) → j < m → planeInterceptAt rows n m ideal j ≡ planeInterceptOf r j
+    unfolding planeInterceptOf
+    plane-is some j h =
+        intercepts-same n m (rowAt rows m) (shaperValue r) (listed ideal) (idealOf r)
+        (λ i t u v. P .values i t u v ∙ ap (λ p. valueOf r p t) (sym (shaper-at r i (subst (λ w. i < w) (P .count) u)))) z some
+        (interceptAt rows n m ideal) (oldInterceptOf r) j (old-is j h)
+        ∙ ap₂ (λ (a b : ℕ). interceptsOf a b (shaperValue r) (idealOf r) (oldInterceptOf r) j) (P .count ∙ sym (shapers-count r)) (P .width)
+
+    intercept-is : 0 < n → (j : ℕ) → j < m → interceptBy (r .edition) rows n m ideal j ≡ interceptOf r j
+    unfolding interceptOf
+    intercept-is some j h = ap₂ (λ (a b : Float). cond (usesPlane (r .edition)) a b) (plane-is some j h) (old-is j h)
+
+    intercepts-at : 0 < n → (intercepts old : List Float) → intercepts ≡ over (listBelow (interceptBy (r .edition) rows n m ideal) m) old → InterceptsIn r intercepts m
+    intercepts-at some intercepts old e j h = over-below (interceptBy (r .edition) rows n m ideal) m intercepts old j nan e h ∙ intercept-is some j h
 
     -- ---- what `normalize_objectives` leaves, from both
     pub normalised-at : (intercepts : List Float) → InterceptsIn r intercepts m → (normalized old : List Float)
@@ -76,16 +92,17 @@ module _ (r : Request) (rows : List Float) (n m : ℕ) (P : Pool r rows n m) whe
         ∙ ap (nearestOf (distanceTo r p)) c
 
 -- ---- what `associate` leaves: the four steps one after the other
-module _ (r : Request) (e : Edition) (same : e ≡ r .edition) (rows : List Float) (n m : ℕ) (P : Pool r rows n m)
+module _ (r : Request) (e : Edition) (same : e ≡ r .edition) (rows : List Float) (n m : ℕ) (some : 0 < n) (P : Pool r rows n m)
     (table : List Float) (k : ℕ) (T : LinesIn r table k m) (c : k ≡ lineCount r)
     (ideal₀ ideal : List Float) (start : StartIn r ideal₀ m) (e₁ : ideal ≡ over (listBelow (leastAt rows n m ideal₀) m) ideal₀)
-    (intercepts₀ intercepts : List Float) (e₂ : intercepts ≡ over (listBelow (interceptAt rows n m ideal) m) intercepts₀)
+    (intercepts₀ intercepts : List Float) (e₂ : intercepts ≡ over (listBelow (interceptBy e rows n m ideal) m) intercepts₀)
     (normalized₀ normalized : List Float) (e₃ : normalized ≡ over (flatRows (normalAt rows m ideal intercepts) n m) normalized₀)
     (lines₀ lines : List ℕ) (distances₀ distances : List Float) (e₄ : NearestAll e normalized m table k n lines₀ lines distances₀ distances) where
   pub all-steps : Associates r n m ideal₀ ideal lines₀ lines distances₀ distances
   all-steps =
       let z = ideal-at r rows n m P ideal₀ start ideal e₁ in
-      let a = normalised-at r rows n m P ideal z intercepts (intercepts-at r rows n m P ideal z intercepts intercepts₀ e₂) normalized normalized₀ e₃ in
+      let own = e₂ ∙ ap (λ (v : Edition). over (listBelow (interceptBy v rows n m ideal) m) intercepts₀) same in
+      let a = normalised-at r rows n m P ideal z intercepts (intercepts-at r rows n m P ideal z some intercepts intercepts₀ own) normalized normalized₀ e₃ in
       let near = nearest-is r rows n m P e same normalized a table k T c in
       record {
         moved = over-same _ _ m ideal ideal₀ (least-is r rows n m P ideal₀ start) e₁;

@@ -1,15 +1,19 @@
--- THEOREM: every normalised value of a plan that shapes the scale lies within 0..1, in a request whose numbers refusal 8 lets pass.
+-- THEOREM: every normalised value of a plan that shapes the scale lies within 0 and the edition's bound, 1 in edition 1 and 2 ^ 100 in edition 2, in a request whose
+-- numbers refusal 8 lets pass.
 use Prim.Native.Nat.{ℕ, _<_}
 use mathlib.Core.Path.{_≡_, refl, ap, sym, subst, _∙_}
-use mathlib.Core.Bool.{true, false, not, true≢false}
+use mathlib.Core.Bool.{Bool, true, false, cond, not, true≢false}
 use mathlib.Core.List.{List}
 use lib.Dec.{T, lit≤}
 use lib.Ieee.{Float, nan, inf, fin, binary64, lt, le, eq, ofBits, fits, isNan}
 use lib.Ieee.Fits.{inf-fits}
-use lib.ListN.{getD}
+use lib.ListN.{length, getD}
+use Rattle.model.specs.declared.Edition.{Edition}
+use Rattle.model.specs.declared.Edition.the-variants.{First, Second}
+use Rattle.model.specs.Edition.{usesPlane, greatestScaled}
 use Rattle.model.specs.Lists.{In, over}
-use Rattle.model.specs.Real.{_⊖_, _⊘_, nought, unit, within, above}
-use Rattle.model.specs.Association.{Request, objectives, valueOf, shapers, idealOf, interceptOf, normalised, leastFrom, greatest, smallSpan, interceptFrom}
+use Rattle.model.specs.Real.{_⊖_, _⊘_, nought, unit, smallSpan, within, above}
+use Rattle.model.specs.Association.{Request, objectives, valueOf, shapers, idealOf, oldInterceptOf, shaperValue, planeInterceptOf, interceptOf, normalised, leastFrom, greatest, interceptFrom}
 use Rattle.model.specs.Refusal.{measurable, isInfinity, goodEntry}
 use Rattle.list_laws.specs.Rows.{flatRows}
 use Rattle.list_laws.proofs.Bools.{by-bool, and-both, T-true, true-T, false-T}
@@ -20,10 +24,12 @@ use Rattle.float_laws.proofs.Arithmetic.{itself}
 use Rattle.float_laws.proofs.FromZero.{Upto, upto-wider, sub-upto, share}
 use Rattle.float_laws.proofs.Magnitude.{Within, within-number, within-not-nan, sub-within}
 use Rattle.list_laws.proofs.Best.{among-all}
+use Rattle.list_laws.proofs.Members.{place-of}
 use Rattle.front_laws.proofs.Feasible.{measurable-within}
+use Rattle.hyperplane_laws.proofs.Bound.{intercepts-upto}
 use Rattle.association_laws.specs.Flat.{normalAt}
 use Rattle.association_laws.specs.Measurable.{Measurable}
-use Rattle.association_laws.specs.Request.{Pool, IdealIn, InterceptsIn, InUnit}
+use Rattle.association_laws.specs.Request.{Pool, IdealIn, InterceptsIn, InScale}
 use Rattle.association_laws.proofs.Shapers.{shaper-below, all-shape}
 use Rattle.association_laws.proofs.Extremes.{Known, least-le, greatest-ge}
 use Rattle.association_laws.proofs.Request.{normalised-at}
@@ -109,21 +115,76 @@ module _ (b : Float) (f : ℕ → Float) (ps : List ℕ) (B : Start b) (F : (q :
 -- ---- a request, and a plan that shapes its scale
 
 module _ (r : Request) (M : Measurable r) (p j : ℕ) (h : In p (shapers r)) (k : j < objectives r) where
-  pub normalised-unit : Upto one (normalised r p j)
-  unfolding normalised idealOf interceptOf
-  normalised-unit =
-      normal-unit (getD (r .ideal) j nan) (λ q. valueOf r q j) (shapers r) (start-of (getD (r .ideal) j nan) (M .startDoubles j k) (M .start j k))
-      (λ q m. let l = shaper-below r q m in measurable-within (valueOf r q j) (M .doubles q j l k) (M .values q j l k)) p h
+  abbrev start : Float
+  start = getD (r .ideal) j nan
+
+  abbrev rise : Float
+  rise = valueOf r p j ⊖ idealOf r j
+
+  started : Start start
+  started = start-of start (M .startDoubles j k) (M .start j k)
+
+  held : (q : ℕ) → In q (shapers r) → Within 1000 (valueOf r q j)
+  held q m = let l = shaper-below r q m in measurable-within (valueOf r q j) (M .doubles q j l k) (M .values q j l k)
+
+  -- by the old intercepts within 0..1
+  old-unit : Upto one (rise ⊘ oldInterceptOf r j)
+  unfolding idealOf oldInterceptOf
+  old-unit = normal-unit start (λ q. valueOf r q j) (shapers r) started held p h
+
+  ideal-below : T (le (idealOf r j) (valueOf r p j))
+  unfolding idealOf
+  ideal-below = least-below start (λ q. valueOf r q j) (shapers r) started held p h
+
+  ideal-within : Within 1000 (idealOf r j)
+  unfolding idealOf
+  ideal-within = least-within start (λ q. valueOf r q j) (shapers r) started held p h
+
+  old-wide : Upto (exp2 100) (rise ⊘ oldInterceptOf r j)
+  unfolding le
+  old-wide = upto-wider one (exp2 100) (rise ⊘ oldInterceptOf r j) tt old-unit
+
+  -- by the plane's, or the old ones where it does not serve, within 0..2 ^ 100
+  plane-upto : Upto (exp2 100) (rise ⊘ planeInterceptOf r j)
+  unfolding planeInterceptOf
+  plane-upto =
+      let s = place-of h in
+      let e : valueOf r (getD (shapers r) (s .0) 0) j ≡ valueOf r p j = ap (λ q. valueOf r q j) (s .2) in
+      subst (λ v. Upto (exp2 100) ((v ⊖ idealOf r j) ⊘ planeInterceptOf r j)) e
+      (intercepts-upto (length (shapers r)) (objectives r) (shaperValue r) (idealOf r) (s .0) j (s .1) k (subst (Within 1000) (sym e) (held p h)) ideal-within
+      (subst (λ v. T (le (idealOf r j) v)) (sym e) ideal-below) (oldInterceptOf r)
+      (subst (λ v. Upto (exp2 100) ((v ⊖ idealOf r j) ⊘ oldInterceptOf r j)) (sym e) old-wide))
+
+  abbrev scaled-by : Bool → Float
+  scaled-by b = rise ⊘ cond b (planeInterceptOf r j) (oldInterceptOf r j)
+
+  by-edition : (e : Edition) → Upto (greatestScaled e) (scaled-by (usesPlane e))
+  unfolding ofBits
+  by-edition First = old-unit
+  by-edition Second = plane-upto
 
   -- THEOREM
-  pub normalised-within : within nought unit (normalised r p j) ≡ true
+  pub normalised-upto : Upto (greatestScaled (r .edition)) (normalised r p j)
+  unfolding normalised interceptOf
+  normalised-upto = by-edition (r .edition)
+
+  -- in either edition within 0..2 ^ 100
+  pub normalised-wide : Upto (exp2 100) (normalised r p j)
+  unfolding le ofBits
+  normalised-wide = upto-wider (greatestScaled (r .edition)) (exp2 100) (normalised r p j) (at-most (r .edition)) normalised-upto
+    where
+      at-most : (e : Edition) → T (le (greatestScaled e) (exp2 100))
+      at-most First = tt
+      at-most Second = tt
+
+  pub normalised-within : within nought (greatestScaled (r .edition)) (normalised r p j) ≡ true
   unfolding ofBits
-  normalised-within = and-both _ _ (T-true (le nought (normalised r p j)) (normalised-unit .from)) (T-true (le (normalised r p j) unit) (normalised-unit .to))
+  normalised-within = and-both _ _ (T-true (le nought (normalised r p j)) (normalised-upto .from)) (T-true (le (normalised r p j) (greatestScaled (r .edition))) (normalised-upto .to))
 
 -- ---- what `normalize_objectives` leaves in flat rows
-pub rows-in-unit : (r : Request) → Measurable r → (rows : List Float) (n m : ℕ) (P : Pool r rows n m) (ideal : List Float) → IdealIn r ideal m
+pub rows-in-scale : (r : Request) → Measurable r → (rows : List Float) (n m : ℕ) (P : Pool r rows n m) (ideal : List Float) → IdealIn r ideal m
     → (intercepts : List Float) → InterceptsIn r intercepts m → (normalized old : List Float)
-    → normalized ≡ over (flatRows (normalAt rows m ideal intercepts) n m) old → InUnit normalized n m
-rows-in-unit r M rows n m P ideal z intercepts a normalized old e p j h k =
-    ap (λ x. within nought unit x) (normalised-at r rows n m P ideal z intercepts a normalized old e p j h k)
+    → normalized ≡ over (flatRows (normalAt rows m ideal intercepts) n m) old → InScale (r .edition) normalized n m
+rows-in-scale r M rows n m P ideal z intercepts a normalized old e p j h k =
+    ap (λ x. within nought (greatestScaled (r .edition)) x) (normalised-at r rows n m P ideal z intercepts a normalized old e p j h k)
     ∙ normalised-within r M p j (all-shape r p (subst (λ t. p < t) (P .count) h)) (subst (λ t. j < t) (P .width) k)

@@ -1,15 +1,18 @@
 -- Document 01's association over flat lists: plan p's value at objective j is entry p * m + j of its rows, coordinate j of line l entry l * m + j of its table.
 use Prim.Native.Nat.{ℕ, _*_, _<_}
 use mathlib.Core.Path.{_≡_}
-use mathlib.Core.Bool.{true}
+use mathlib.Core.Bool.{true, cond}
 use mathlib.Core.List.{List}
 use lib.Ieee.{Float, nan}
 use lib.ListN.{getD}
 use Rattle.model.specs.declared.Edition.{Edition}
 use Rattle.model.specs.Lists.{keepBelow, listBelow, over}
+use Rattle.model.specs.declared.Edition.{Edition}
+use Rattle.model.specs.Edition.{usesPlane}
 use Rattle.model.specs.Real.{_⊖_, _⊘_}
 pub use Rattle.front_laws.specs.Flat.{from, rowAt}
 use Rattle.model.specs.Association.{leastFrom, greatest, interceptFrom, dot, distance, Near, nearestOf}
+use Rattle.hyperplane_laws.specs.Flat.{planeInterceptFrom}
 
 -- the values of objective j, plan by plan
 abbrev pub column : List Float → ℕ → ℕ → ℕ → Float
@@ -23,9 +26,15 @@ shapersOf n = keepBelow (λ p. true) n
 abbrev pub leastAt : List Float → ℕ → ℕ → List Float → ℕ → Float
 leastAt rows n m ideal j = leastFrom (getD ideal j nan) (column rows m j) (shapersOf n)
 
--- the intercept of objective j
+-- the intercept of objective j: the old one, that of the plane, and the edition's
 abbrev pub interceptAt : List Float → ℕ → ℕ → List Float → ℕ → Float
 interceptAt rows n m ideal j = interceptFrom (greatest (column rows m j) (shapersOf n) ⊖ getD ideal j nan)
+
+abbrev pub planeInterceptAt : List Float → ℕ → ℕ → List Float → ℕ → Float
+planeInterceptAt rows n m ideal j = planeInterceptFrom rows n m ideal (interceptAt rows n m ideal) j
+
+abbrev pub interceptBy : Edition → List Float → ℕ → ℕ → List Float → ℕ → Float
+interceptBy e rows n m ideal j = cond (usesPlane e) (planeInterceptAt rows n m ideal j) (interceptAt rows n m ideal j)
 
 -- plan p's normalised value at objective j
 abbrev pub normalAt : List Float → ℕ → List Float → List Float → ℕ → ℕ → Float

@@ -6,7 +6,9 @@ use mathlib.Core.List.{List}
 use lib.Ieee.{Float, nan}
 use lib.ListN.{getD}
 use Rattle.model.specs.Lists.{listBelow, over}
-use Rattle.model.specs.Real.{nought, unit, within}
+use Rattle.model.specs.declared.Edition.{Edition}
+use Rattle.model.specs.Edition.{greatestScaled}
+use Rattle.model.specs.Real.{nought, within}
 use Rattle.front_laws.specs.Flat.{rowAt}
 use Rattle.model.specs.Association.{Request, objectives, valueOf, idealOf, interceptOf, normalised, coordinate, association, lineOf}
 
@@ -32,9 +34,9 @@ NormalisedIn r normalized n m = (p j : ℕ) → p < n → j < m → rowAt normal
 abbrev pub LinesIn : Request → List Float → ℕ → ℕ → Type 0
 LinesIn r table k m = (l j : ℕ) → l < k → j < m → rowAt table m l j ≡ coordinate r l j
 
--- flat rows whose values all lie within 0..1
-abbrev pub InUnit : List Float → ℕ → ℕ → Type 0
-InUnit normalized n m = (p j : ℕ) → p < n → j < m → within nought unit (rowAt normalized m p j) ≡ true
+-- flat rows whose values all lie within 0 and the greatest that the edition allows: 1 in edition 1, 2 ^ 100 in edition 2
+abbrev pub InScale : Edition → List Float → ℕ → ℕ → Type 0
+InScale e normalized n m = (p j : ℕ) → p < n → j < m → within nought (greatestScaled e) (rowAt normalized m p j) ≡ true
 
 -- the ideal moved, and each plan's line and its distance from it; what lies past them in a lent slice is as it was
 pub record Associates (r : Request) (n m : ℕ) (ideal₀ ideal : List Float) (lines₀ lines : List ℕ) (distances₀ distances : List Float) : Type 0 where

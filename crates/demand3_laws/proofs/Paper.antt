@@ -24,7 +24,7 @@ use Rattle.demand3_laws.proofs.Passed.{some-objectives}
 use Rattle.demand3_laws.proofs.Accepted.{accepted-lines}
 use Rattle.demand3_laws.proofs.Demand3.{filled-procedure}
 
--- every plan shapes the scale, so every normalised value lies within 0..1
+-- every plan shapes the scale, so every normalised value lies within 0 and the edition's bound
 pub scaled : (r : Request) → Measurable r → Scaled r
 scaled r measured p j h k = normalised-within r measured p j (all-shape r p h) k
 

@@ -1,18 +1,19 @@
--- What Deb and Jain 2014 ask of a selection's association and niching, and document 01's bound on its normalised rows.
+-- What Deb and Jain 2014 ask of a selection's association and niching, and the bound on its normalised rows of documents 01 and 02.
 use Prim.Native.Nat.{ℕ, _<_}
 use mathlib.Core.Path.{_≡_}
 use mathlib.Core.Bool.{true}
 use lib.Ieee.{Float}
-use Rattle.model.specs.Real.{nought, unit, within}
+use Rattle.model.specs.Edition.{greatestScaled}
+use Rattle.model.specs.Real.{nought, within}
 use Rattle.model.specs.Papers.DebJain2014.{Associated}
 use Rattle.model.specs.Association.{Request, objectives, lineCount, normalised, coordinate, lineOf}
 use Rattle.model.specs.Kept.{before, isSplit, splitFront, filled}
 use Rattle.association_laws.specs.Paper.{perpendicularBy}
 use Rattle.niching_laws.specs.Niching.{ByProcedure}
 
--- every normalised value lies within 0..1
+-- every normalised value lies within 0 and the greatest that the edition allows: 1 in edition 1, 2^100 in edition 2
 abbrev pub Scaled : Request → Type 0
-Scaled r = (p j : ℕ) → p < r .count → j < objectives r → within nought unit (normalised r p j) ≡ true
+Scaled r = (p j : ℕ) → p < r .count → j < objectives r → within nought (greatestScaled (r .edition)) (normalised r p j) ≡ true
 
 -- what the selection measures by: the perpendicular distance of a point from a line, or in edition 2 its square
 abbrev pub measuredBy : Request → (ℕ → Float) → (ℕ → Float) → Float

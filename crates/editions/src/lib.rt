@@ -1,6 +1,6 @@
 // Where the two editions part (document 02; specs/Edition.antt of `model`). No other function looks at an edition.
 ghost use mathlib.Core.Path.{_≡_};
-ghost use Rattle.model.specs.Edition.{editionNumber, editionOf, mostPlans, waitingOf, ranksByRows, takesRoot};
+ghost use Rattle.model.specs.Edition.{editionNumber, editionOf, mostPlans, waitingOf, ranksByRows, takesRoot, usesPlane};
 use model::Edition;
 use model::MAX_FIRST_POOL;
 use model::MAX_POOL;
@@ -61,5 +61,15 @@ pub fn takes_root(edition: Edition) -> bool
     match edition {
         Edition::First => true,
         Edition::Second => false,
+    }
+}
+
+// Whether intercepts are those of the plane through the extremes.
+pub fn uses_plane(edition: Edition) -> bool
+    ensures { λ r. ⌜ r ≡ usesPlane edition ⌝ }
+{
+    match edition {
+        Edition::First => false,
+        Edition::Second => true,
     }
 }

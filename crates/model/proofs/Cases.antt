@@ -12,6 +12,7 @@ use Rattle.model.specs.Row as Row
 use Rattle.model.specs.Front as Front
 use Rattle.model.specs.Reference as Reference
 use Rattle.model.specs.Association as Association
+use Rattle.model.specs.Hyperplane as Hyperplane
 use Rattle.model.specs.Kept as Kept
 use Rattle.model.specs.Setting as Setting
 use Rattle.model.specs.PoolFile as PoolFile
@@ -28,7 +29,11 @@ unfolding flatten add sub mul div lt le eq ofBits ofInt neg Deb.undominatedOfRes
     Numbers.roundOf Numbers.powerUp Numbers.halfBy Numbers.halved Numbers.halvings Numbers.R Plan.planOf Row.rowOf Row.dominates Row.feasible
     Row.violation Row.constrainedDominates Row.rowBeats Row.beats Front.lower Front.freed Front.lowerAll Front.freedAll Front.firstRound
     Front.nextRound Front.round Front.frontOf Front.frontList Reference.tuples Reference.dasDennis Reference.binomial Reference.pointCount
-    Reference.autoDivisions Reference.divisionsOf Reference.populationSize Association.shapers Association.idealOf Association.interceptOf Association.normalised
+    Reference.autoDivisions Reference.divisionsOf Reference.populationSize Association.shapers Association.idealOf Association.oldInterceptOf Association.planeInterceptOf Association.interceptOf
+    Association.normalised Hyperplane.asf Hyperplane.extreme Hyperplane.planeRows Hyperplane.pivotRow Hyperplane.swapped Hyperplane.lessRow Hyperplane.cleared Hyperplane.stepped
+    Hyperplane.eliminated Hyperplane.lessKnown Hyperplane.unknown Hyperplane.solved Hyperplane.planeThrough Hyperplane.planeOf Hyperplane.sameBefore Hyperplane.sameExtremes
+    Hyperplane.zeroPivot Hyperplane.unboundedRow Hyperplane.unboundedMatrix Hyperplane.unboundedIn Hyperplane.unbounded Hyperplane.lowIntercept Hyperplane.beyondRow
+    Hyperplane.beyondBound Hyperplane.fallsBack Hyperplane.interceptsOf
     Association.coordinate Association.squaresOf Association.distance Association.distanceTo Association.association Kept.drawFrom Kept.nearest Kept.drawMember Kept.pickOne
     Kept.wholeFronts Kept.before Kept.isSplit Kept.splitFront Kept.filled Kept.selectedSplit Kept.selectedWhole Kept.selected Setting.intOfWord
     Setting.validDimension Setting.inBounds Setting.sampleInt Setting.sampleRandom Setting.insert Setting.sortByParam Setting.extractOne

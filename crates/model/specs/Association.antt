@@ -5,13 +5,14 @@ use mathlib.Core.List.{List}
 use lib.Ieee.{Float, nan, inf, binary64, lt, ofBits}
 use lib.ListN.{length, getD}
 use Rattle.model.specs.declared.Edition.{Edition}
-use Rattle.model.specs.Edition.{takesRoot}
+use Rattle.model.specs.Edition.{usesPlane, takesRoot}
 use Rattle.model.specs.Lists.{keepBelow, bestFrom, bestAmong}
-use Rattle.model.specs.Real.{_⊖_, _⊗_, _⊘_, unit, infinity, above, sumTo}
+use Rattle.model.specs.Real.{_⊖_, _⊗_, _⊘_, unit, infinity, smallSpan, above, sumTo}
 use Rattle.model.specs.Numbers.{sqrtOf, square}
 use Rattle.model.specs.Plan.{Plan}
 use Rattle.model.specs.Row.{rowOf, beats}
 use Rattle.model.specs.Reference.{pointCount, line}
+use Rattle.model.specs.Hyperplane.{interceptsOf}
 
 -- what a selection is given
 pub record Request : Type 0 where
@@ -76,10 +77,7 @@ greatest f ps = bestAmong above (inf true) f ps
 unfoldable pub idealOf : Request → ℕ → Float
 idealOf r j = leastFrom (getD (r .ideal) j nan) (λ p. valueOf r p j) (shapers r)
 
--- 1e-10 and 1e-30
-abbrev pub smallSpan : Float
-smallSpan = ofBits binary64 0x3ddb_7cdf_d9d7_bdbb
-
+-- 1e-30
 abbrev pub smallNorm : Float
 smallNorm = ofBits binary64 0x39b4_484b_feeb_c2a0
 
@@ -87,8 +85,19 @@ smallNorm = ofBits binary64 0x39b4_484b_feeb_c2a0
 abbrev pub interceptFrom : Float → Float
 interceptFrom span = cond (lt smallSpan span) span unit
 
+unfoldable pub oldInterceptOf : Request → ℕ → Float
+oldInterceptOf r j = interceptFrom (greatest (λ p. valueOf r p j) (shapers r) ⊖ idealOf r j)
+
+-- document 02, M-102: those of the plane through the extremes, or the old ones where it does not serve; value j of the i-th plan that shapes the scale
+abbrev pub shaperValue : Request → ℕ → ℕ → Float
+shaperValue r i j = valueOf r (getD (shapers r) i 0) j
+
+unfoldable pub planeInterceptOf : Request → ℕ → Float
+planeInterceptOf r j = interceptsOf (length (shapers r)) (objectives r) (shaperValue r) (idealOf r) (oldInterceptOf r) j
+
+-- by the edition
 unfoldable pub interceptOf : Request → ℕ → Float
-interceptOf r j = interceptFrom (greatest (λ p. valueOf r p j) (shapers r) ⊖ idealOf r j)
+interceptOf r j = cond (usesPlane (r .edition)) (planeInterceptOf r j) (oldInterceptOf r j)
 
 -- "the row becomes (value - ideal) / intercept"
 unfoldable pub normalised : Request → ℕ → ℕ → Float

@@ -11,7 +11,7 @@ use Rattle.model.specs.declared.Distribution.{Distribution}
 use Rattle.model.specs.declared.Distribution.the-variants as dist
 use Rattle.model.specs.declared.Edition.the-variants.{First, Second}
 use Rattle.model.specs.Lists.{keepBelow}
-use Rattle.model.specs.Real.{nought, half, unit, infinity}
+use Rattle.model.specs.Real.{nought, half, unit, smallSpan, infinity}
 use Rattle.model.specs.Draw.{drawn, step, drawWord}
 use Rattle.model.specs.Numbers.{roundOf, R}
 use Rattle.model.specs.Plan.{Plan, Setting, measuredPlan}
@@ -19,7 +19,7 @@ use Rattle.model.specs.Row.{dominates, feasible, constrainedDominates}
 use Rattle.model.specs.Front.{front}
 use Rattle.model.specs.Papers.Deb2002.{inFront}
 use Rattle.model.specs.Reference.{dasDennis, lattice, pointCount, autoDivisions}
-use Rattle.model.specs.Association.{Request, inEdition, smallSpan, dominance, interceptOf, lineOf}
+use Rattle.model.specs.Association.{Request, inEdition, dominance, interceptOf, lineOf}
 use Rattle.model.specs.Kept.{before, splitFront, openLines, leastLines, nicheCount, selected}
 use Rattle.model.specs.Setting.{extract, sortByParam, crossover, children, rankOf}
 use Rattle.model.specs.PoolFile.{written, ascii}

@@ -2,8 +2,10 @@
 use Prim.Native.Nat.{ℕ}
 use mathlib.Core.Bool.{Bool, true, false, cond}
 use lib.Dec.{eqb}
+use lib.Ieee.{Float, binary64, ofBits}
 use Rattle.model.specs.declared.Edition.{Edition}
 use Rattle.model.specs.declared.Edition.the-variants.{First, Second}
+use Rattle.model.specs.Real.{unit}
 
 -- "edition 1 (today's) or edition 2, an enum of two cases": the number of each, and the edition that a number from outside stands for, which is the second for 2
 -- and else the first
@@ -33,3 +35,13 @@ ranksByRows Second = false
 abbrev pub takesRoot : Edition → Bool
 takesRoot First = true
 takesRoot Second = false
+
+-- M-102: "The stations use the paper's normalisation. In edition 2 .. the plane through the extremes": whether intercepts are the plane's
+abbrev pub usesPlane : Edition → Bool
+usesPlane First = false
+usesPlane Second = true
+
+-- M-102: ".. 2^100, the bound that takes the place of 1 in edition 2": the greatest that a normalised value may be
+abbrev pub greatestScaled : Edition → Float
+greatestScaled First = unit
+greatestScaled Second = ofBits binary64 0x4630_0000_0000_0000

@@ -7,6 +7,7 @@ pub mod Row
 pub mod Front
 pub mod Reference
 pub mod Edition
+pub mod Hyperplane
 pub mod Association
 pub mod Kept
 pub mod Papers

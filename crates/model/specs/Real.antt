@@ -42,6 +42,10 @@ unit = ofBits binary64 0x3ff0_0000_0000_0000
 abbrev pub two : Float
 two = ofBits binary64 0x4000_0000_0000_0000
 
+-- 1e-10
+abbrev pub smallSpan : Float
+smallSpan = ofBits binary64 0x3ddb_7cdf_d9d7_bdbb
+
 -- plus infinity
 abbrev pub infinity : Float
 infinity = inf false

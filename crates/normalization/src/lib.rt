@@ -9,7 +9,7 @@ ghost use Rattle.model.specs.Association.{leastFrom, greatest, interceptFrom, R
 ghost use Rattle.list_laws.specs.Rows.{flatRows};
 ghost use Rattle.association_laws.specs.Flat.{column, shapersOf, leastAt, interceptAt, normalAt};
 ghost use Rattle.association_laws.specs.Measurable.{Measurable};
-ghost use Rattle.association_laws.specs.Request.{Pool, IdealIn, InterceptsIn, InUnit};
+ghost use Rattle.association_laws.specs.Request.{Pool, IdealIn, InterceptsIn, InScale};
 
 // The smaller of `start` and the least value of objective j; `start` stands where they are equal.
 fn least_of(rows: &[f64], n: usize, m: usize, j: usize, start: f64) -> f64
@@ -99,7 +99,8 @@ fn normalize_row(
     }
 }
 
-// Each value becomes (value - ideal) / intercept; within 0..1, for a pool that refusal 8 lets pass and its own ideal and intercepts.
+// Each value becomes (value - ideal) / intercept; within 0..1 in edition 1 and 0..2^100 in edition 2, for a pool that refusal 8 lets pass and its own ideal and
+// intercepts.
 pub fn normalize_objectives(
     rows: &[f64],
     n: usize,
@@ -111,8 +112,8 @@ pub fn normalize_objectives(
     requires { ⌜ (n * m ≤ length (now rows)) × (m ≤ length (now ideal)) × (m ≤ length (now intercepts)) × (n * m ≤ length (now normalized)) ⌝ }
     ensures { λ _. ⌜ now (normalized .exit)
         ≡ over (flatRows (normalAt (now (rows .entry)) m (now (ideal .entry)) (now (intercepts .entry))) n m) (now (normalized .entry)) ⌝ }
-    ensures in_unit { λ _. ⌜ ((r : Request) → Measurable r → Pool r (now (rows .entry)) n m → IdealIn r (now (ideal .entry)) m
-        → InterceptsIn r (now (intercepts .entry)) m → InUnit (now (normalized .exit)) n m) ⌝ }
+    ensures in_scale { λ _. ⌜ ((r : Request) → Measurable r → Pool r (now (rows .entry)) n m → IdealIn r (now (ideal .entry)) m
+        → InterceptsIn r (now (intercepts .entry)) m → InScale (r .edition) (now (normalized .exit)) n m) ⌝ }
 {
     let mut p = 0;
     while p < n {

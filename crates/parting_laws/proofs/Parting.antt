@@ -1,7 +1,7 @@
--- THEOREM: the two editions of a request hand out the same selection, unless two squares that it compares share one root.
+-- THEOREM: the two editions of a request whose intercepts are the same in both hand out the same selection, unless two squares that it compares share one root.
 use Prim.Native.Nat.{ℕ, _-_, _<_}
 use mathlib.Core.Path.{_≡_, refl, ap, ap₂, sym, subst, _∙_}
-use mathlib.Core.Bool.{Bool, true, false, _&&_}
+use mathlib.Core.Bool.{Bool, true, false, cond, _&&_}
 use mathlib.Core.List.{List, _++_}
 use mathlib.Core.Logic.{_⊎_, inl, inr}
 use native.Mathlib.Omega.{arith}
@@ -11,23 +11,25 @@ use lib.Ieee.{Float, lt}
 use lib.ListN.{length}
 use Rattle.model.specs.declared.Edition.the-variants.{First, Second}
 use Rattle.model.specs.Lists.{anyBelow, listBelow}
+use Rattle.model.specs.Edition.{usesPlane}
+use Rattle.model.specs.Real.{_⊖_, _⊘_}
 use Rattle.model.specs.Numbers.{sqrtOf}
 use Rattle.model.specs.Draw.{Drawn}
 use Rattle.model.specs.Front.{frontList}
-use Rattle.model.specs.Association.{Request, inEdition, objectives, lineCount, dominance, shapers, idealOf, interceptOf, normalised, coordinate, distance, distanceTo, Near, nearestOf, association, lineOf}
+use Rattle.model.specs.Association.{Request, inEdition, objectives, lineCount, valueOf, dominance, shapers, idealOf, oldInterceptOf, planeInterceptOf, interceptOf, normalised, coordinate, distance, distanceTo, Near, nearestOf, association, lineOf}
 use Rattle.model.specs.Kept.{before, isSplit, splitFront, filled, filledRules, selectedSplit, selectedWhole, bySplit, selected, wholeFronts, wholeRules, Selected}
 use Rattle.list_laws.proofs.Bools.{by-bool, and-left, and-right, and-fails}
 use Rattle.list_laws.proofs.Built.{listBelow-same}
 use Rattle.list_laws.proofs.Tests.{anyBelow-some, anyBelow-each}
 use Rattle.association_laws.specs.Search.{Square}
-use Rattle.association_laws.proofs.Same.{nearest-same}
+use Rattle.association_laws.proofs.Same.{distance-same, nearest-same}
 use Rattle.association_laws.proofs.Squares.{squares-square}
 use Rattle.demand3_laws.proofs.Cut.{before-exactly, split-exactly}
 use Rattle.nsga3_laws.proofs.Agree.{picks-agree, rules-agree}
-use Rattle.parting_laws.specs.Parting.{sharedRoot, squareTo, firstLine, BetweenLines, OnOneLine}
+use Rattle.parting_laws.specs.Parting.{SameScale, sharedRoot, squareTo, firstLine, BetweenLines, OnOneLine}
 use Rattle.parting_laws.proofs.Shared.{Both, both, same-order}
 
-module _ (r : Request) where
+module _ (r : Request) (scale : SameScale r) where
   abbrev one : Request
   one = inEdition First r
 
@@ -43,13 +45,31 @@ module _ (r : Request) where
   abbrev found : ℕ → Near
   found p = nearestOf (squareTo r p) (lineCount r)
 
+  -- the request's own scale is that of both
+  scaled : (b : Bool) (j : ℕ) → j < objectives r → oldInterceptOf r j ≡ cond b (planeInterceptOf r j) (oldInterceptOf r j)
+  unfolding interceptOf oldInterceptOf planeInterceptOf idealOf shapers
+  scaled true j h = scale j h
+  scaled false j h = refl
+
+  first-scale : (p j : ℕ) → j < objectives r → normalised one p j ≡ normalised r p j
+  unfolding normalised interceptOf oldInterceptOf idealOf shapers
+  first-scale p j h = ap (λ i. (valueOf r p j ⊖ idealOf r j) ⊘ i) (scaled (usesPlane (r .edition)) j h)
+
+  second-scale : (p j : ℕ) → j < objectives r → normalised two p j ≡ normalised r p j
+  unfolding normalised interceptOf planeInterceptOf oldInterceptOf idealOf shapers
+  second-scale p j h = ap (λ i. (valueOf r p j ⊖ idealOf r j) ⊘ i) (sym (scaled true j h) ∙ scaled (usesPlane (r .edition)) j h)
+
   by-roots : (p : ℕ) → association one p ≡ nearestOf (λ l. sqrtOf (squareTo r p l)) (lineCount r)
   unfolding association
-  by-roots p = nearest-same _ _ (lineCount r) (λ l h. unfold distanceTo distance normalised coordinate idealOf interceptOf shapers in refl)
+  by-roots p = nearest-same _ _ (lineCount r)
+      (λ l h. unfold distanceTo distance coordinate in
+      distance-same First (objectives r) (normalised one p) (normalised r p) (coordinate r l) (coordinate r l) (first-scale p) (λ j k. refl))
 
   by-squares : (p : ℕ) → association two p ≡ found p
   unfolding association
-  by-squares p = nearest-same _ _ (lineCount r) (λ l h. unfold distanceTo distance normalised coordinate idealOf interceptOf shapers in refl)
+  by-squares p = nearest-same _ _ (lineCount r)
+      (λ l h. unfold distanceTo distance coordinate in
+      distance-same Second (objectives r) (normalised two p) (normalised r p) (coordinate r l) (coordinate r l) (second-scale p) (λ j k. refl))
 
   -- ---- what looks at no distance
 

@@ -5,7 +5,11 @@ use mathlib.Core.Bool.{Bool, true, false, _&&_}
 use lib.Ieee.{Float, lt, eq}
 use Rattle.model.specs.declared.Edition.the-variants.{First, Second}
 use Rattle.model.specs.Numbers.{sqrtOf}
-use Rattle.model.specs.Association.{Request, inEdition, objectives, lineCount, normalised, coordinate, squaresOf, lineOf}
+use Rattle.model.specs.Association.{Request, inEdition, objectives, lineCount, interceptOf, normalised, coordinate, squaresOf, lineOf}
+
+-- the intercepts of the two editions are the same, as where the plane does not serve (M-102): only then are the same squares compared
+abbrev pub SameScale : Request → Type 0
+SameScale r = (j : ℕ) → j < objectives r → interceptOf (inEdition First r) j ≡ interceptOf (inEdition Second r) j
 
 -- two squares in order that share one root
 abbrev pub sharedRoot : Float → Float → Bool

@@ -9,7 +9,7 @@ use replay_values::Reals;
 use replay_values::Rows;
 use replay_values::Table;
 ghost use mathlib.Core.Path.{_≡_};
-ghost use Prim.Native.Nat.{_*_, _≤_};
+ghost use Prim.Native.Nat.{_*_, _<_, _≤_};
 ghost use Rattle.model.specs.Plan.{maxObjectives};
 ghost use Rattle.model.specs.Refusal.{maxPool, maxLines};
 
@@ -25,7 +25,9 @@ fn values_of(n: usize, m: usize) -> usize
 
 // ---- normalisation
 
+// By the edition.
 fn normalized_of(
+    edition: Edition,
     rows: &Rows,
     n: usize,
     m: usize,
@@ -33,32 +35,51 @@ fn normalized_of(
     intercepts: &mut Reals,
     normalized: &mut Rows,
 )
-    requires { ⌜ (m ≤ 8) × (n * m ≤ maxPool * maxObjectives) ⌝ }
+    requires { ⌜ (m ≤ 8) × (n * m ≤ maxPool * maxObjectives) × (0 < n) ⌝ }
 {
     normalization::update_ideal_point(rows, n, m, ideal);
-    normalization::find_intercepts(rows, n, m, ideal, intercepts);
+    hyperplane::find_edition_intercepts(edition, rows, n, m, ideal, intercepts);
     normalization::normalize_objectives(rows, n, m, ideal, intercepts, normalized);
 }
 
 // The ideal after, the intercepts, and the normalised rows.
-fn put_normalized(rows: &Rows, n: usize, m: usize, k: usize, start: Reals, out: &mut Words) -> usize
-    requires { ⌜ (m ≤ 8) × (n * m ≤ maxPool * maxObjectives) ⌝ }
+fn put_normalized(
+    edition: Edition,
+    rows: &Rows,
+    n: usize,
+    m: usize,
+    k: usize,
+    start: Reals,
+    out: &mut Words,
+) -> usize
+    requires { ⌜ (m ≤ 8) × (n * m ≤ maxPool * maxObjectives) × (0 < n) ⌝ }
 {
     let mut ideal = start;
     let mut intercepts = [0.0; 16];
     let mut normalized = [0.0; MAX_ROW_VALUES];
-    normalized_of(rows, n, m, &mut ideal, &mut intercepts, &mut normalized);
+    normalized_of(
+        edition,
+        rows,
+        n,
+        m,
+        &mut ideal,
+        &mut intercepts,
+        &mut normalized,
+    );
     let a = replay_values::put_row(out, 0, &ideal, m);
     let b = replay_values::put_row(out, a, &intercepts, m);
     replay_values::put_rows(out, b, &normalized, k)
 }
 
-// 60: after the marks stand the ideal, n and n rows.
-fn normalize(input: &Words, words: usize, m: usize, out: &mut Words) -> usize
+// 60 in edition 1 and 65 in edition 2: after the marks stand the ideal, n and n rows.
+fn normalize(edition: Edition, input: &Words, words: usize, m: usize, out: &mut Words) -> usize
     requires { ⌜ (1 ≤ m) × (m ≤ 8) ⌝ }
 {
     let n = replay::word(input, m + m + 2) as usize;
     if MAX_POOL < n {
+        return 0;
+    }
+    if n < 1 {
         return 0;
     }
     let k = values_of(n, m);
@@ -71,7 +92,7 @@ fn normalize(input: &Words, words: usize, m: usize, out: &mut Words) -> usize
     }
     let mut ideal = [0.0; 16];
     replay_values::read_reals(input, m + 2, m, &mut ideal);
-    put_normalized(&rows, n, m, k, ideal, out)
+    put_normalized(edition, &rows, n, m, k, ideal, out)
 }
 
 // ---- the nearest lines
@@ -189,11 +210,12 @@ pub fn answer(input: &Words, n: usize, out: &mut Words) -> usize {
         return 0;
     }
     match command {
-        60 => normalize(input, n, m, out),
+        60 => normalize(Edition::First, input, n, m, out),
         61 => associate(Edition::First, input, n, m, out),
         62 => distance(Edition::First, input, n, m, out),
         63 => associate(Edition::Second, input, n, m, out),
         64 => distance(Edition::Second, input, n, m, out),
+        65 => normalize(Edition::Second, input, n, m, out),
         _ => 0,
     }
 }

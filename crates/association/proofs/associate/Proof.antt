@@ -8,11 +8,11 @@ use Rattle.association.proofs.associate.Tie as tie
 update-ideal-point-requires : tie.Need-update-ideal-point-requires
 update-ideal-point-requires c κs = search needs
 
-slice-aggregate-find-intercepts : tie.Need-slice-aggregate-find-intercepts
-slice-aggregate-find-intercepts c = refl
+slice-aggregate-find-edition-intercepts : tie.Need-slice-aggregate-find-edition-intercepts
+slice-aggregate-find-edition-intercepts c = refl
 
-find-intercepts-requires : tie.Need-find-intercepts-requires
-find-intercepts-requires c κs = search needs
+find-edition-intercepts-requires : tie.Need-find-edition-intercepts-requires
+find-edition-intercepts-requires c κs = search needs
 
 slice-aggregate-normalize-objectives : tie.Need-slice-aggregate-normalize-objectives
 slice-aggregate-normalize-objectives c = search needs
@@ -46,7 +46,7 @@ returns c r e P S L k =
     let span = normal .before .before .before .before .before in
     let ideal = span .before .before .before .before .before in
     let a = ideal .before .before .before .before .before .before .before .args in
-    all-steps r (a .edition) e (a .rows .now) (a .n) (a .m) P (a .table .now) (a .n-lines) L k (a .ideal .now) _ S (ideal .update-ideal-point .ensures) _ _ (span .find-intercepts .ensures) _ _ (normal .normalize-objectives .ensures .0)
+    all-steps r (a .edition) e (a .rows .now) (a .n) (a .m) (ideal .before .before .before .before .before .before .before .pre .7) P (a .table .now) (a .n-lines) L k (a .ideal .now) _ S (ideal .update-ideal-point .ensures) _ _ (span .find-edition-intercepts .ensures) _ _ (normal .normalize-objectives .ensures .0)
     _ _ _ _ (near .associate-to-reference-points .ensures)
 
 pub associate-spec : {M : Type 1} → statement M
@@ -54,8 +54,8 @@ associate-spec =
     tie.close
     (tie.spec
     update-ideal-point-requires
-    slice-aggregate-find-intercepts
-    find-intercepts-requires
+    slice-aggregate-find-edition-intercepts
+    find-edition-intercepts-requires
     slice-aggregate-normalize-objectives
     slice-aggregate-normalize-objectives-2
     normalize-objectives-requires

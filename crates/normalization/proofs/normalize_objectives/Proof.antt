@@ -7,7 +7,7 @@ use Rattle.model.specs.Lists.{over}
 use Rattle.list_laws.specs.Rows.{flatRows}
 use Rattle.list_laws.proofs.Rows.{row-inside, row-within, rows-none, rows-more}
 use Rattle.association_laws.specs.Flat.{normalAt}
-use Rattle.association_laws.proofs.Within.{rows-in-unit}
+use Rattle.association_laws.proofs.Within.{rows-in-scale}
 use Rattle.normalization.proofs.normalize_objectives.Statement.{statement}
 use Rattle.normalization.proofs.normalize_objectives.Tie as tie
 
@@ -51,7 +51,7 @@ returns c =
     let e : l .p ≡ a .n = omega arith in
     let left : l .normalized ≡ over (flatRows (normalAt (a .rows .now) (a .m) (a .ideal .now) (a .intercepts .now)) (a .n) (a .m)) (a .normalized .now) =
     rw e at (l .inv .2) in
-    (left, λ r M P z i. rows-in-unit r M (a .rows .now) (a .n) (a .m) P (a .ideal .now) z (a .intercepts .now) i _ (a .normalized .now) left)
+    (left, λ r M P z i. rows-in-scale r M (a .rows .now) (a .n) (a .m) P (a .ideal .now) z (a .intercepts .now) i _ (a .normalized .now) left)
 
 pub normalize-objectives-spec : {M : Type 1} → statement M
 normalize-objectives-spec =

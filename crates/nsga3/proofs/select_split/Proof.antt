@@ -109,6 +109,7 @@ associate-requires c κs =
       omega (arith, ok .ideal),
       omega (arith, e, ok .lines),
       omega (arith, e, ok .fewPlans),
+      omega (arith, e, ok .somePlans),
     )
 
 list-whole-requires : tie.Need-list-whole-requires

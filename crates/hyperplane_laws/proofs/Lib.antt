@@ -1,0 +1,13 @@
+pub mod Cases
+pub mod Rows
+pub mod Steps
+pub mod Entries
+pub mod Finite
+pub mod Unknowns
+pub mod Search
+pub mod First
+pub mod Agree
+pub mod Redundant
+pub mod Worked
+pub mod Same
+pub mod Bound
