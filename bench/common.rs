@@ -20,6 +20,8 @@ mod param;
 mod parameter;
 #[path = "../target/oracle/src/pareto.rs"]
 mod pareto;
+#[path = "../target/oracle/src/plane.rs"]
+mod plane;
 #[path = "../target/oracle/src/plans.rs"]
 mod plans;
 #[path = "../target/oracle/src/pool_file.rs"]

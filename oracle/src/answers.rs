@@ -3,7 +3,7 @@
 
 use crate::convert;
 use crate::distribution::Distribution;
-use crate::edition::Edition;
+use crate::edition::{self, Edition};
 use crate::load;
 use crate::multi_objective::MultiObjectiveTrial;
 use crate::param::ParamValue;
@@ -38,7 +38,10 @@ pub const SELECT_SECOND: u64 = 71;
 pub const STEP: u64 = 87;
 pub const STEP_SECOND: u64 = 88;
 
-/// The commands of the nearest lines and of a distance, of either edition.
+/// The commands of normalisation, of the nearest lines and of a distance, of
+/// either edition.
+pub const NORMALIZE: u64 = 60;
+pub const NORMALIZE_SECOND: u64 = 65;
 pub const ASSOCIATE: u64 = 61;
 pub const ASSOCIATE_SECOND: u64 = 63;
 pub const DISTANCE: u64 = 62;
@@ -47,7 +50,8 @@ pub const DISTANCE_SECOND: u64 = 64;
 /// The edition of a command that is of either.
 fn edition_of(command: u64) -> Edition {
     match command {
-        SELECT_SECOND | STEP_SECOND | ASSOCIATE_SECOND | DISTANCE_SECOND => Edition::Second,
+        SELECT_SECOND | STEP_SECOND => Edition::Second,
+        NORMALIZE_SECOND | ASSOCIATE_SECOND | DISTANCE_SECOND => Edition::Second,
         _ => Edition::First,
     }
 }
@@ -189,13 +193,14 @@ pub fn answer(input: &[u64]) -> Result<Vec<u64>, String> {
         }
 
         // Association
-        60 => {
+        NORMALIZE | NORMALIZE_SECOND => {
             let directions = plans::read_directions(r)?;
             let m = directions.len();
             let mut ideal = r.reals(m)?;
             let count = positive(r)?;
             let rows = r.list(count, |r| Ok(minimize(&r.reals(m)?, &directions)))?;
-            let (intercepts, normalized) = normalize(&mut ideal, &rows);
+            let (intercepts, normalized) =
+                edition_of(command).run(|| normalize(&mut ideal, &rows));
             push_reals(&mut a, &ideal);
             push_reals(&mut a, &intercepts);
             for row in &normalized {
@@ -412,7 +417,7 @@ fn all_minimize(m: usize) -> Vec<Direction> {
 /// As `nsga3_select` does it where a front is split: the ideal moves first.
 fn normalize(ideal: &mut [f64], rows: &[Vec<f64>]) -> (Vec<f64>, Vec<Vec<f64>>) {
     nsga3::update_ideal_point(ideal, rows);
-    let intercepts = nsga3::find_intercepts(rows, ideal);
+    let intercepts = edition::intercepts(rows, ideal);
     let normalized = nsga3::normalize_objectives(rows, ideal, &intercepts);
     (intercepts, normalized)
 }

@@ -6,6 +6,8 @@ use std::cell::Cell;
 
 use crate::multi_objective::MultiObjectiveTrial;
 use crate::pareto;
+use crate::plane;
+use crate::sampler::nsga3;
 use crate::types::Direction;
 
 #[derive(Clone, Copy, Debug, PartialEq, Eq)]
@@ -72,5 +74,15 @@ pub fn distance(squares: f64) -> f64 {
     match RUN_IN.get() {
         Edition::First => squares.sqrt(),
         Edition::Second => squares,
+    }
+}
+
+/// The intercepts of a pool, asked by the Rust where a front is split: "the
+/// oracle receives the intercepts" (M-102). The old ones are the Rust's own.
+pub fn intercepts(rows: &[Vec<f64>], ideal: &[f64]) -> Vec<f64> {
+    let old = nsga3::find_intercepts(rows, ideal);
+    match RUN_IN.get() {
+        Edition::First => old,
+        Edition::Second => plane::intercepts(rows, ideal).unwrap_or(old),
     }
 }

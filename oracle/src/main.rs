@@ -21,6 +21,7 @@ mod gap;
 mod inputs;
 mod load;
 mod mix;
+mod plane;
 mod plans;
 mod pool_file;
 mod powers;

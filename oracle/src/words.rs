@@ -8,7 +8,7 @@ pub const NAN: u64 = 9221120237041090560;
 pub const LONGEST: usize = 65_664;
 
 /// Commands by name and number; README describes each.
-pub const COMMANDS: [(&str, u64); 47] = [
+pub const COMMANDS: [(&str, u64); 48] = [
     ("words", 10),
     ("f64", 11),
     ("usize", 12),
@@ -35,6 +35,7 @@ pub const COMMANDS: [(&str, u64); 47] = [
     ("distance", 62),
     ("associate_second", 63),
     ("distance_second", 64),
+    ("normalize_second", 65),
     ("select", 70),
     ("select_second", 71),
     ("sample_random", 80),

@@ -100,6 +100,22 @@ fn step() {
     assert_eq!(refused, Err(Refusal::Parent));
 }
 
+/// A dominated plan far out: in edition 1 it stretches the scale, in edition 2 the plane goes through the plans that dominate it.
+#[test]
+fn intercepts() {
+    let both = Directions::new(&[Direction::Minimize; 2]).unwrap();
+    let rows = [[0.0, 2.0], [1.0, 1.0], [2.0, 0.0], [0.0, 20.0]];
+    let pool: Vec<Plan> = (0..).zip(rows).map(|(number, row)| Plan::new(number, &row, &[], &[]).unwrap()).collect();
+    let lines = |edition| {
+        let mut ideal = Ideal::unknown(&both);
+        let chosen = select(edition, &pool, &both, 2, 2, &mut Rng::with_seed(1), &mut ideal).unwrap();
+        assert_eq!(ideal.values(), [0.0, 0.0]);
+        chosen.lines
+    };
+    assert_eq!(lines(Edition::First), [0, 2, 2, 0].map(Some));
+    assert_eq!(lines(Edition::Second), [0, 1, 2, 0].map(Some));
+}
+
 /// Two members of a line whose squares share a root: in edition 1 the first listed is the nearest, in edition 2 the one of the lesser square.
 #[test]
 fn nearest() {

@@ -8,13 +8,14 @@ mod kept;
 mod load;
 mod long;
 mod numbers;
+mod planes;
 mod rows;
 mod second;
 mod sessions;
 mod water;
 
 use crate::answers::{self, Call, SELECT, SELECT_SECOND, STEP, STEP_SECOND};
-use crate::answers::{ASSOCIATE, ASSOCIATE_SECOND, DISTANCE, DISTANCE_SECOND};
+use crate::answers::{ASSOCIATE, ASSOCIATE_SECOND, DISTANCE, DISTANCE_SECOND, NORMALIZE, NORMALIZE_SECOND};
 use crate::distribution::{Distribution, FloatDistribution, IntDistribution};
 use crate::edition::Edition;
 use crate::mix::Mix;

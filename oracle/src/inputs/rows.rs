@@ -285,7 +285,7 @@ fn push_rows(line: &mut Line, rows: &[Vec<f64>]) {
 }
 
 pub(super) fn normalize(marks: &[u64], ideal: &[f64], rows: &[Vec<f64>]) -> Line {
-    let mut line = vec![60];
+    let mut line = vec![NORMALIZE];
     write_marks(&mut line, marks);
     push_reals(&mut line, ideal);
     push_rows(&mut line, rows);

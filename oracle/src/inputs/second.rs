@@ -24,6 +24,13 @@ fn by_squares(mut line: Line) -> Option<Line> {
     Some(line)
 }
 
+/// A line of normalisation, in edition 2.
+fn by_plane(mut line: Line) -> Line {
+    assert_eq!(line[0], NORMALIZE);
+    line[0] = NORMALIZE_SECOND;
+    line
+}
+
 /// Whether the editions associate a point with different lines.
 fn parts(point: &[f64], table: &[Vec<f64>]) -> bool {
     let rows = [point.to_vec()];
@@ -50,12 +57,20 @@ pub(super) fn association_cases() -> Vec<Line> {
     lines.push(rows::distance(&apart[0].1, &[0.5, 0.5, 0.0]));
     // Squares round too: line 4 is nearer, and line 5 wins.
     lines.push(rows::associate(2, 8, &[vec![0.8179462534424142, 0.6386331363947232]]));
-    lines.into_iter().filter_map(by_squares).collect()
+    // Points as far out as a normalised value may be.
+    let far = two(100);
+    lines.push(rows::associate(2, 3, &[vec![far, 1.0], vec![far, far], vec![0.0, far]]));
+    lines.push(rows::distance(&[far; 8], &[0.0, 0.0, 0.0, 0.0, 0.0, 0.0, 0.0, 1.0]));
+    let planes = planes::normalize_cases().into_iter().map(by_plane);
+    lines.into_iter().filter_map(by_squares).chain(planes).collect()
 }
 
-/// By turns: points within 0..1, a point and a line, a point at which the
-/// editions part, where one is found.
+/// Points within 0..1, a point and a line, a point at which the editions part,
+/// where one is found; and the half of them normalisations, twenty by twenty.
 pub(super) fn association_input(mix: &mut Mix, at: u64) -> Line {
+    if at % 40 >= 20 {
+        return by_plane(planes::normalize_input(mix, objectives(at - 20)));
+    }
     let m = objectives(at);
     let line = match mix.below(3) {
         0 => {
@@ -153,11 +168,15 @@ pub(super) fn kept_cases() -> Vec<Line> {
         good.but(|c| c.short = true),
         crowded.but(|c| c.edition = Edition::First),
     ];
-    let apart = by_distances().iter().map(second).collect();
-    [calls.to_vec(), apart].concat().iter().map(Call::select).collect()
+    let apart = [by_distances(), planes::selections()].concat();
+    [calls.to_vec(), apart.iter().map(second).collect()].concat().iter().map(Call::select).collect()
 }
 
+/// Half of them, six by six, from pools made for the plane.
 pub(super) fn kept_input(mix: &mut Mix, at: u64) -> Line {
+    if at % 12 >= 6 {
+        return second(&planes::selection(mix, objectives(at - 6))).select();
+    }
     let mut call = second(&selection(mix, at, 24));
     // Plans that stand in the pool twice.
     if mix.once_in(4) {
