@@ -57,6 +57,8 @@ enum {
  *   the pool: in edition 1 a session selects from the children alone, in edition 2 from parents and children together: the plans kept
  *     wait for the next generation, so that a good plan stays where its children are worse;
  *   tournaments: in edition 1 the better row wins, in edition 2 a plan that keeps its constraints against one that breaks them;
+ *   the scale: edition 1 divides by the greatest value less the ideal, edition 2 by the intercepts of the plane through the extreme
+ *     plans, and by edition 1's where that plane does not serve;
  *   distances: edition 2 compares their squares, of which edition 1 takes the roots, so that row order decides between equally near
  *     plans only.
  * ANY OTHER NUMBER MEANS EDITION 1. */

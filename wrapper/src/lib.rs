@@ -130,6 +130,8 @@ impl std::error::Error for Refusal {}
 ///   plans kept wait for the next generation and come first in its pool ([`Session::waiting`]), so that a good plan stays where its
 ///   children are worse. A pool of a selection or step is what the caller puts there, in both; in the second it may have 2,048 plans;
 /// - tournaments: in the first the better row wins, in the second a plan that keeps its constraints against one that breaks them;
+/// - the scale: the first divides each objective by its greatest value less the ideal, the second by the intercepts of the plane through
+///   the extreme plans, and by the first's where that plane does not serve;
 /// - distances: the second compares their squares, where the first compares their roots and lets row order decide between plans whose
 ///   roots are equal.
 #[derive(Clone, Copy, Debug, PartialEq, Eq)]

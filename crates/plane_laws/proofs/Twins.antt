@@ -237,9 +237,11 @@ module _ (m : ℕ) (few : m ≤ 8) where
         let a = eliminated m M k in
         let wide : 72 ≤ length a = omega (arith, r .0) in
         let F = bounded-at k (omega arith) in
-        let N = bounded-at (suc k) h in
-        (stepped-length m few a k wide (omega arith) ∙ r .0, next-held a k wide (omega arith) (r .1) F N,
-        subst (λ t. Fate t (stepped m a k)) (let e : k + 1 ≡ suc k = omega arith in e) (step-fate a k wide (omega arith) (r .1) F N (r .2)))
+        let N = bounded-at (suc k) h in (
+          stepped-length m few a k wide (omega arith) ∙ r .0,
+          next-held a k wide (omega arith) (r .1) F N,
+          subst (λ t. Fate t (stepped m a k)) (let e : k + 1 ≡ suc k = omega arith in e) (step-fate a k wide (omega arith) (r .1) F N (r .2)),
+        )
 
     twins-end : Ended m (eliminated m M m)
     twins-end = elim (fate-at m (omega arith) .2) [
