@@ -363,7 +363,7 @@ fn sessions() -> usize {
 
 fn main() {
     let wrong = [steps(), sessions()];
-    println!("\n{} of 9 steps and {} of 8 sessions answered differently", wrong[0], wrong[1]);
+    println!("\n{} of 13 steps and {} of 8 sessions answered differently", wrong[0], wrong[1]);
     if wrong != [0, 0] {
         std::process::exit(1);
     }

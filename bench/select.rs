@@ -87,7 +87,7 @@ fn rust_select(state: &mut Nsga3State, population: &[&MultiObjectiveTrial], dire
 
 /// Times a selection and prints its row; the proved side's time, where the two agree. `first` is its time in edition 1, where that is known.
 fn compared(call: &Call, rows: Rows, first: Option<f64>) -> Option<f64> {
-    let (n, m, edition) = (call.plans.len(), call.marks.len(), call.edition.number());
+    let (n, m, edition) = (call.pool.len(), call.marks.len(), call.edition.number());
     if call.refused(answers::SELECT).is_some() || !agree(call) {
         println!("edition {edition}, N {n}, m {m}, {}: the answers differ", rows.name());
         return None;
