@@ -60,7 +60,9 @@ enum {
  *   the scale: edition 1 divides by the greatest value less the ideal, edition 2 by the intercepts of the plane through the extreme
  *     plans, and by edition 1's where that plane does not serve;
  *   distances: edition 2 compares their squares, of which edition 1 takes the roots, so that row order decides between equally near
- *     plans only.
+ *     plans only;
+ *   infeasible plans: in edition 2, where every plan of the split front is feasible, the feasible plans alone make the scale (ideal,
+ *     greatest values, extremes), so that absurd readings of the others stretch nothing, and the others have no line.
  * ANY OTHER NUMBER MEANS EDITION 1. */
 #define LOCUSTDOMINO_FIRST_EDITION 1
 #define LOCUSTDOMINO_SECOND_EDITION 2
@@ -96,7 +98,7 @@ enum {
  * A mark of 0 is no and any other yes. A kind other than 0 and 1 is Categorical. */
 #define LOCUSTDOMINO_DIMENSION_WORDS 6
 
-/* "No line", where a selection splits no front. */
+/* "No line": where a selection splits no front, and in edition 2 of an infeasible plan where the split front is feasible. */
 #define LOCUSTDOMINO_NO_LINE SIZE_MAX
 
 /* Sizes of what is lent with a session: 32 words of its own and those of its dimensions; a word for each setting of the plans of a
