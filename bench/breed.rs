@@ -68,7 +68,7 @@ fn agree(call: &Call) -> Option<(usize, bool)> {
         && bits(&ours.ideal) == bits(&theirs.ideal)
         && ours.state == theirs.state;
     let fronts = ours.fronts.iter().max()? + 1;
-    same.then_some((fronts, ours.lines[0] != raw::NO_LINE))
+    same.then_some((fronts, ours.lines.iter().any(|&line| line != raw::NO_LINE)))
 }
 
 /// Times a step and prints its row; answers whether the two agree.

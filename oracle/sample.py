@@ -32,7 +32,7 @@ RECORDS = {
     "editions": 24,
     "convert": 24,
     "association_second": 26,
-    "kept_second": 11,
+    "kept_second": 16,
     "breeding_second": 6,
     "session_second": 8,
     "long": 0,

@@ -22,7 +22,7 @@ use crate::words::{Reader, bits, digest, of_int, of_real, push_counted_reals, pu
 use crate::{pool_file, session};
 
 /// The mark of a plan without a line.
-pub const NO_LINE: u64 = u64::MAX;
+pub const NO_LINE: u64 = edition::NO_LINE as u64;
 
 /// What put a plan on the kept list: its front was listed whole, it was the
 /// nearest on a line whose niche count was 0, it was drawn on a line whose count
@@ -415,7 +415,7 @@ fn all_minimize(m: usize) -> Vec<Direction> {
 }
 
 /// As `nsga3_select` does it where a front is split: the ideal moves first.
-fn normalize(ideal: &mut [f64], rows: &[Vec<f64>]) -> (Vec<f64>, Vec<Vec<f64>>) {
+pub fn normalize(ideal: &mut [f64], rows: &[Vec<f64>]) -> (Vec<f64>, Vec<Vec<f64>>) {
     nsga3::update_ideal_point(ideal, rows);
     let intercepts = edition::intercepts(rows, ideal);
     let normalized = nsga3::normalize_objectives(rows, ideal, &intercepts);
@@ -514,7 +514,7 @@ impl Call {
     }
 
     /// The pool's rows in minimise-space.
-    fn rows(&self) -> Vec<Vec<f64>> {
+    pub fn rows(&self) -> Vec<Vec<f64>> {
         let directions = plans::directions(&self.marks);
         let row = |plan: &Plan| minimize(&plan.values, &directions);
         self.pool.iter().map(row).collect()
@@ -583,15 +583,15 @@ pub fn select(call: &Call) -> Kept {
         }
 
         let mut before = 0;
-        let mut split = false;
+        let mut split = None;
         for front in &front_list {
             if before + front.len() > size {
-                split = before < size;
+                split = (before < size).then_some(front);
                 break;
             }
             before += front.len();
         }
-        let picks = if split { size - before } else { 0 };
+        let picks = if split.is_some() { size - before } else { 0 };
         assert_eq!(told.counts.len(), picks, "the picks of the same split");
         let rule = |&count: &usize| if count == 0 { NEAREST } else { DRAWN };
         let mut rules = vec![WHOLE_FRONT; before];
@@ -599,15 +599,13 @@ pub fn select(call: &Call) -> Kept {
         rules.resize(list.len(), PADDING);
         let mut ideal = call.ideal.clone();
         let mut lines = vec![NO_LINE; n];
-        if split {
-            let (_, normalized) = normalize(&mut ideal, &call.rows());
+        if let Some(front) = split {
+            let shapers = edition::shapers(population, front);
+            let (_, normalized) = normalize(&mut ideal, &shapers.rows(&call.rows()));
             let table = &state.reference_points;
-            for (at, (line, _)) in nsga3::associate_to_reference_points(&normalized, table)
-                .into_iter()
-                .enumerate()
-            {
-                lines[at] = line as u64;
-            }
+            let associations = nsga3::associate_to_reference_points(&normalized, table);
+            let associations = shapers.at_their_places(associations);
+            lines = associations.into_iter().map(|(line, _)| line as u64).collect();
         }
         assert_eq!(
             bits(&ideal),

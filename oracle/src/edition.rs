@@ -2,6 +2,7 @@
 //! `oracle/build` lists for edition 2 ask here; in edition 1 they are answered
 //! as they stood.
 
+use std::borrow::Cow;
 use std::cell::Cell;
 
 use crate::multi_objective::MultiObjectiveTrial;
@@ -15,6 +16,9 @@ pub enum Edition {
     First,
     Second,
 }
+
+/// The line of a plan that has none.
+pub const NO_LINE: usize = usize::MAX;
 
 thread_local! {
     /// The edition that the Rust is run in.
@@ -84,5 +88,48 @@ pub fn intercepts(rows: &[Vec<f64>], ideal: &[f64]) -> Vec<f64> {
     match RUN_IN.get() {
         Edition::First => old,
         Edition::Second => plane::intercepts(rows, ideal).unwrap_or(old),
+    }
+}
+
+/// The plans that shape the scale where a front is split, by their places in the
+/// pool; none are named where all do.
+pub struct Shapers {
+    plans: usize,
+    places: Option<Vec<usize>>,
+}
+
+/// Asked by the Rust where a front is split: "if every member of the split front
+/// is feasible, this generation's own part of the ideal, the greatest values, the
+/// extremes and the 2^100 check come from feasible plans only"; "otherwise [..]
+/// all come from the whole pool" (M-112).
+pub fn shapers(population: &[&MultiObjectiveTrial], split_front: &[usize]) -> Shapers {
+    let plans = population.len();
+    let feasible = |&plan: &usize| population[plan].constraints.iter().all(|&c| c <= 0.0);
+    let chosen = RUN_IN.get() == Edition::Second && split_front.iter().all(feasible);
+    let places = chosen.then(|| (0..plans).filter(feasible).collect());
+    Shapers { plans, places }
+}
+
+impl Shapers {
+    /// Their rows, of those of the pool.
+    pub fn rows<'a>(&self, rows: &'a [Vec<f64>]) -> Cow<'a, [Vec<f64>]> {
+        match &self.places {
+            None => Cow::Borrowed(rows),
+            Some(places) => places.iter().map(|&plan| rows[plan].clone()).collect(),
+        }
+    }
+
+    /// Their lines and distances, at their places in the pool: "infeasible plans
+    /// get no line". Whoever counted a plan on no line would end the program.
+    pub fn at_their_places(&self, associations: Vec<(usize, f64)>) -> Vec<(usize, f64)> {
+        let Some(places) = &self.places else {
+            return associations;
+        };
+        let mut all = vec![(NO_LINE, f64::NAN); self.plans];
+        assert_eq!(places.len(), associations.len(), "one association each");
+        for (&plan, association) in places.iter().zip(associations) {
+            all[plan] = association;
+        }
+        all
     }
 }

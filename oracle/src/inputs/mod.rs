@@ -4,6 +4,7 @@
 mod breeding;
 mod editions;
 mod files;
+mod hopeless;
 mod kept;
 mod load;
 mod long;

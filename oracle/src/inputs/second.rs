@@ -168,14 +168,17 @@ pub(super) fn kept_cases() -> Vec<Line> {
         good.but(|c| c.short = true),
         crowded.but(|c| c.edition = Edition::First),
     ];
-    let apart = [by_distances(), planes::selections()].concat();
+    let apart = [by_distances(), planes::selections(), hopeless::selections()].concat();
     [calls.to_vec(), apart.iter().map(second).collect()].concat().iter().map(Call::select).collect()
 }
 
-/// Half of them, six by six, from pools made for the plane.
+/// Six by six, from pools of any kind, pools made for the plane, and such in which
+/// infeasible plans have absurd rows.
 pub(super) fn kept_input(mix: &mut Mix, at: u64) -> Line {
-    if at % 12 >= 6 {
-        return second(&planes::selection(mix, objectives(at - 6))).select();
+    match at % 18 {
+        0..6 => {}
+        6..12 => return second(&planes::selection(mix, objectives(at - 6))).select(),
+        _ => return hopeless::selection(mix, objectives(at - 12)).select(),
     }
     let mut call = second(&selection(mix, at, 24));
     // Plans that stand in the pool twice.
@@ -216,14 +219,20 @@ pub(super) fn breeding_cases() -> Vec<Line> {
     ];
     // Those on which the editions part.
     let pressed = pressed().iter().map(second).collect();
-    [calls.to_vec(), pressed].concat().iter().map(Call::step).collect()
+    let hopeless = hopeless::steps(&mut mix, &dimensions[..1]);
+    [calls.to_vec(), pressed, hopeless].concat().iter().map(Call::step).collect()
 }
 
 pub(super) fn breeding_input(mix: &mut Mix, at: u64) -> Line {
     let many = at % 20 == 19;
     let count = if many { MAX_DIMENSIONS } else { mix.within(1, 5) as usize };
     let dimensions = dimensions(mix, count);
-    second(&generated_step(mix, at, if many { 3 } else { 10 }, &dimensions)).step()
+    let mut call = second(&generated_step(mix, at, if many { 3 } else { 10 }, &dimensions));
+    // Of some the infeasible plans have absurd rows.
+    if at % 8 >= 6 {
+        hopeless::burst(mix, &mut call.pool);
+    }
+    call.step()
 }
 
 // ---------------------------------------------------------------------------
@@ -252,6 +261,13 @@ impl Script {
     /// The generator's state.
     fn state(&self) -> u64 {
         self.opened().sampler.state.lock().evo.rng.s
+    }
+
+    /// The whole state.
+    fn report(&self) -> Line {
+        let mut report = Vec::new();
+        self.opened().report(true, &mut report);
+        report
     }
 
     /// The numbers of the plans that wait.
@@ -560,7 +576,34 @@ pub(super) fn session_cases() -> Vec<Line> {
     second.breed(9, records);
     assert_eq!(second.waiting()[..2], [3, 4]);
     lines.push(second.line());
+
+    // Burst hoses: what the infeasible plans' rows are changes neither the plans
+    // that wait nor the state.
+    let [absurd, other] = [1, 2].map(burst_session);
+    assert_eq!(absurd.report(), other.report());
+    lines.push(absurd.line());
     lines
+}
+
+/// A session of size 4 whose second and third generation are bred from a feasible
+/// front that is split, beside infeasible plans with absurd rows.
+fn burst_session(seed: u64) -> Script {
+    let mut mix = Mix(seed);
+    let mut script = four(13);
+    script.come(6..=8);
+    let mut records = beside(5..=8);
+    for at in [1, 3] {
+        records[at].constraints = vec![1.0];
+    }
+    hopeless::burst(&mut mix, &mut records);
+    script.breed(9, records);
+    script.come(10..=12);
+    let mut records = front(9..=12, 0.0);
+    records[0].constraints = vec![-1.0, tiniest()];
+    hopeless::burst(&mut mix, &mut records);
+    script.breed(13, records);
+    assert_eq!(script.opened().bred().split, 2, "both split a front");
+    script
 }
 
 /// A session of size 4 that has bred once, from infeasible plans with the better
@@ -641,6 +684,10 @@ pub(super) fn session_input(mix: &mut Mix, at: u64) -> Line {
                 constraints: constraints(mix, bounds),
                 settings: fit_settings(mix, &dimensions),
             });
+        }
+        // Of some sessions the infeasible plans have absurd rows.
+        if at % 10 >= 8 {
+            hopeless::burst(mix, &mut records);
         }
         mix.shuffle(&mut records);
         for plan in script.waiting() {
