@@ -150,6 +150,57 @@ fn tournaments() {
     assert!(first.plans.iter().all(low) && !second.plans.iter().any(low));
 }
 
+/// Two pools of twelve plans, alike but for the rows of infeasible ones, and a size within the feasible ones, so that no infeasible plan is in
+/// a split front: in edition 2 kept list, rules, fronts, lines, ideal, children and generator are the same.
+#[test]
+fn hopeless_plans_change_nothing() {
+    let mut rng = 9_u64;
+    let mut draw = |n: u64| {
+        rng = rng.wrapping_mul(6364136223846793005).wrapping_add(1442695040888963407);
+        (rng >> 33) % n
+    };
+    let absurd = [2f64.powi(1000), -2f64.powi(1000), 1e40, -7.0, 0.5, 3.0];
+    let dimensions = [Dimension::float(0.0, 1.0).unwrap()];
+    let (mut split, mut parted) = (0, 0);
+    for seed in 0..300 {
+        let m = 1 + seed as usize % 3;
+        let directions = Directions::new(&[Direction::Minimize, Direction::Maximize, Direction::Minimize][..m]).unwrap();
+        let (mut pools, mut feasible) = ([vec![], vec![]], vec![]);
+        for number in 0..12 {
+            let constraint = [-1.0, -0.0, 0.25, 1.25][if number == 0 { 0 } else { draw(4) as usize }];
+            feasible.push(constraint <= 0.0);
+            let row: Vec<f64> = (0..m).map(|_| draw(10) as f64).collect();
+            let settings = [(0, Setting::Float(draw(9) as f64 / 8.0))];
+            for pool in &mut pools {
+                let hose: Vec<f64> = (0..m).map(|_| absurd[draw(6) as usize]).collect();
+                let row = if constraint > 0.0 { &hose } else { &row };
+                pool.push(Plan::new(number, row, &[-2.0, constraint], &settings).unwrap());
+            }
+        }
+        let size = 1 + draw(feasible.iter().filter(|&&f| f).count() as u64) as usize;
+        let answers = |edition| {
+            pools.each_ref().map(|pool| {
+                let (mut rng, mut ideal) = (Rng::with_seed(seed), Ideal::unknown(&directions));
+                let chosen = select(edition, pool, &directions, 3, size, &mut rng, &mut ideal).unwrap();
+                let mut bred_ideal = Ideal::unknown(&directions);
+                let operators = Operators::default();
+                let bred =
+                    generate_offspring(edition, pool, &directions, 3, size, &mut rng, &dimensions, &operators, &mut bred_ideal).unwrap();
+                (chosen, ideal.values().to_vec(), bred, bred_ideal.values().to_vec(), rng.state())
+            })
+        };
+        let [one, other] = answers(Edition::Second);
+        assert_eq!(one, other);
+        // Where a front is split, the feasible plans have a line, and no other.
+        let lines: Vec<bool> = one.0.lines.iter().map(Option::is_some).collect();
+        assert!(lines == feasible || lines == [false; 12]);
+        split += usize::from(lines == feasible);
+        let [one, other] = answers(Edition::First);
+        parted += usize::from(one.0.kept != other.0.kept);
+    }
+    assert!(split > 100 && parted > 10, "{split} split, in edition 1 {parted} parted");
+}
+
 fn session_of(edition: Edition) {
     let bad = Operators { crossover_prob: 2.0, ..Operators::default() };
     assert_eq!(Session::open(edition, &two(), 1, None, None, &bad).unwrap_err(), Refusal::Operators);
