@@ -7,8 +7,8 @@
  * What every call asks of its caller:
  *   - a pointer is aligned and points to as many entries as its length says, and is not null, also where that length is 0;
  *   - what is lent for writing overlaps nothing else that is passed;
- *   - about 2 MB of stack are free. Measured on x86-64: locustdomino_sample 1.54 MB where it breeds and 0.88 elsewhere,
- *     locustdomino_choose 1.27, locustdomino_generate_offspring 0.67, locustdomino_select 0.40. The pages are touched one by one,
+ *   - about 2 MB of stack are free. Measured on x86-64: locustdomino_sample 1.72 MB where it breeds and 0.88 elsewhere,
+ *     locustdomino_choose 1.45, locustdomino_generate_offspring 0.85, locustdomino_select 0.58. The pages are touched one by one,
  *     so that a call with too little left meets the stack's guard page, where there is one.
  * What every call answers: LOCUSTDOMINO_ACCEPTED where no refusal applies, and else the number of the first that does, which is
  * never 0. A refused call writes nothing, and leaves the generator where it was.
@@ -60,7 +60,9 @@ enum {
  *   the scale: edition 1 divides by the greatest value less the ideal, edition 2 by the intercepts of the plane through the extreme
  *     plans, and by edition 1's where that plane does not serve;
  *   distances: edition 2 compares their squares, of which edition 1 takes the roots, so that row order decides between equally near
- *     plans only.
+ *     plans only;
+ *   infeasible plans: in edition 2, where every plan of the split front is feasible, the feasible plans alone make the scale (ideal,
+ *     greatest values, extremes), so that absurd readings of the others stretch nothing, and the others have no line.
  * ANY OTHER NUMBER MEANS EDITION 1. */
 #define LOCUSTDOMINO_FIRST_EDITION 1
 #define LOCUSTDOMINO_SECOND_EDITION 2
@@ -96,7 +98,7 @@ enum {
  * A mark of 0 is no and any other yes. A kind other than 0 and 1 is Categorical. */
 #define LOCUSTDOMINO_DIMENSION_WORDS 6
 
-/* "No line", where a selection splits no front. */
+/* "No line": where a selection splits no front, and in edition 2 of an infeasible plan where the split front is feasible. */
 #define LOCUSTDOMINO_NO_LINE SIZE_MAX
 
 /* Sizes of what is lent with a session: 32 words of its own and those of its dimensions; a word for each setting of the plans of a

@@ -4,8 +4,8 @@
 //!
 //! A session's words are private here. Only the library writes them, so that they are always such as it asks for.
 //!
-//! A call takes stack: measured on x86-64, [`Session::sample`] 1.54 MB where it breeds and 0.88 elsewhere, [`choose`] 1.27,
-//! [`generate_offspring`] 0.67 and [`select`] 0.40. A thread that Rust starts has 2 MB in all, unless it is given more
+//! A call takes stack: measured on x86-64, [`Session::sample`] 1.72 MB where it breeds and 0.88 elsewhere, [`choose`] 1.45,
+//! [`generate_offspring`] 0.85 and [`select`] 0.58. A thread that Rust starts has 2 MB in all, unless it is given more
 //! ([`std::thread::Builder::stack_size`]). Where too little is left, the process ends, as at any overflow of a stack: the library's
 //! code touches the pages that it takes one by one, so that it meets the guard page.
 
@@ -133,7 +133,9 @@ impl std::error::Error for Refusal {}
 /// - the scale: the first divides each objective by its greatest value less the ideal, the second by the intercepts of the plane through
 ///   the extreme plans, and by the first's where that plane does not serve;
 /// - distances: the second compares their squares, where the first compares their roots and lets row order decide between plans whose
-///   roots are equal.
+///   roots are equal;
+/// - infeasible plans: in the second, where every plan of the split front is feasible, the feasible plans alone make the scale (ideal,
+///   greatest values, extremes), so that absurd readings of the others stretch nothing, and the others have no line.
 #[derive(Clone, Copy, Debug, PartialEq, Eq)]
 pub enum Edition {
     First,
@@ -446,7 +448,7 @@ impl fmt::Display for Rule {
 }
 
 /// Places in the pool that are kept and what put each of them there, and of each plan of the pool its front and its line, if a front
-/// was split.
+/// was split; in [`Edition::Second`] an infeasible plan has none where the split front is feasible.
 #[derive(Clone, Debug, Default, PartialEq, Eq)]
 pub struct Selection {
     pub kept: Vec<usize>,

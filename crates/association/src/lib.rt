@@ -11,7 +11,7 @@ ghost use Rattle.model.specs.Plan.{maxObjectives};
 ghost use Rattle.model.specs.Association.{nearestOf, Request, lineCount};
 ghost use Rattle.model.specs.Refusal.{maxLines, maxPool};
 ghost use Rattle.association_laws.specs.Flat.{NormsIn, distanceAt, NearestAll};
-ghost use Rattle.association_laws.specs.Request.{Pool, StartIn, LinesIn, Associates};
+ghost use Rattle.association_laws.specs.Request.{ShapersIn, StartIn, LinesIn, Associates};
 
 // ---- the nearest line
 
@@ -175,7 +175,7 @@ pub fn associate_to_reference_points(
 
 // ---- all of it
 
-// Moves the ideal, normalises the rows, and gives each plan its line and its distance from it.
+// Moves the ideal, normalises the rows of the plans that shape the scale, and gives each of them its line and its distance from it.
 pub fn associate(
     edition: Edition,
     rows: &[f64],
@@ -189,7 +189,7 @@ pub fn associate(
 )
     requires { ⌜ (m ≤ maxObjectives) × (n * m ≤ maxPool * maxObjectives) × (n * m ≤ length (now rows)) × («n_lines» * m ≤ length (now table)) × (m ≤ length (now ideal))
         × (n ≤ length (now lines)) × (n ≤ length (now distances)) × (0 < n) ⌝ }
-    ensures { λ _. ⌜ ((r : Request) → edition ≡ r .edition → Pool r (now (rows .entry)) n m → StartIn r (now (ideal .entry)) m → LinesIn r (now (table .entry)) «n_lines» m
+    ensures { λ _. ⌜ ((r : Request) → edition ≡ r .edition → ShapersIn r (now (rows .entry)) n m → StartIn r (now (ideal .entry)) m → LinesIn r (now (table .entry)) «n_lines» m
         → «n_lines» ≡ lineCount r → Associates r n m (now (ideal .entry)) (now (ideal .exit)) (now (lines .entry)) (now (lines .exit))
         (now (distances .entry)) (now (distances .exit))) ⌝ }
 {

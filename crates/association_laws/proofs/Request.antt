@@ -4,25 +4,23 @@ use mathlib.Core.Path.{_≡_, ap, ap₂, sym, subst, _∙_}
 use mathlib.Core.Bool.{true, cond}
 use mathlib.Core.List.{List, flatten}
 use lib.Ieee.{Float, nan, inf, lt}
-use lib.ListN.{getD}
+use lib.ListN.{length, getD}
 use Rattle.model.specs.declared.Edition.{Edition}
-use Rattle.model.specs.Lists.{In, listBelow, over}
+use Rattle.model.specs.Lists.{bestFrom, listBelow, over}
 use Rattle.model.specs.Real.{_⊖_, _⊘_, above}
 use Rattle.model.specs.Reference.{dasDennis}
-use Rattle.model.specs.Association.{Request, objectives, lineCount, valueOf, idealOf, oldInterceptOf, shaperValue, planeInterceptOf, interceptOf, normalised, coordinate, distanceTo, distance, association, leastFrom, greatest, interceptFrom, nearestOf}
+use Rattle.model.specs.Association.{Request, objectives, lineCount, valueOf, shapers, idealOf, oldInterceptOf, shaperValue, planeInterceptOf, interceptOf, normalised, coordinate, distanceTo, distance, association, interceptFrom, nearestOf}
 use Rattle.model.specs.Edition.{usesPlane}
 use Rattle.model.specs.Hyperplane.{interceptsOf}
 use Rattle.list_laws.specs.Rows.{flatRows}
-use Rattle.list_laws.proofs.Best.{among-same}
-use Rattle.list_laws.proofs.Kept.{keepBelow-below}
+use Rattle.list_laws.proofs.Best.{best-same}
 use Rattle.list_laws.proofs.Built.{over-same, over-below}
 use Rattle.list_laws.proofs.Rows.{rows-at}
 use Rattle.reference_laws.proofs.Rows.{table-at}
 use Rattle.hyperplane_laws.specs.Flat.{listed}
 use Rattle.hyperplane_laws.proofs.Same.{intercepts-same}
-use Rattle.association_laws.specs.Flat.{rowAt, column, shapersOf, leastAt, interceptAt, planeInterceptAt, interceptBy, normalAt, nearestAt, NearestAll}
-use Rattle.association_laws.specs.Request.{Pool, StartIn, IdealIn, InterceptsIn, NormalisedIn, LinesIn, Associates}
-use Rattle.association_laws.proofs.Shapers.{shapers-are, shaper-at, shapers-count}
+use Rattle.association_laws.specs.Flat.{rowAt, column, greatestBelow, leastAt, interceptAt, planeInterceptAt, interceptBy, normalAt, nearestAt, NearestAll}
+use Rattle.association_laws.specs.Request.{shaperAt, ShapersIn, StartIn, IdealIn, InterceptsIn, NormalisedIn, LinesIn, Associates}
 use Rattle.association_laws.proofs.Same.{distance-same, nearest-same}
 
 -- ---- what `das_dennis` leaves: the request's k lines
@@ -32,18 +30,14 @@ unfolding coordinate
 lines-at r some k c table old e l j g i =
     ap (λ t. rowAt t (objectives r) l j) e ∙ table-at (objectives r) (r .divisions) l j old some (subst (λ t. l < t) c g) i
 
-module _ (r : Request) (rows : List Float) (n m : ℕ) (P : Pool r rows n m) where
-  -- the value of one that shapes the scale
-  shaper-value : (j : ℕ) → j < m → (p : ℕ) → In p (shapersOf n) → column rows m j p ≡ valueOf r p j
-  shaper-value j h p k = P .values p j (keepBelow-below (λ q. true) n p k) h
-
+module _ (r : Request) (rows : List Float) (n m : ℕ) (P : ShapersIn r rows n m) where
   -- ---- what `update_ideal_point` leaves, from the request's ideal
   module _ (old : List Float) (start : StartIn r old m) where
     least-is : (j : ℕ) → j < m → leastAt rows n m old j ≡ idealOf r j
     unfolding idealOf
     least-is j h =
-        among-same lt (getD old j nan) (column rows m j) (λ p. valueOf r p j) (shapersOf n) (shaper-value j h)
-        ∙ ap₂ (λ b ps. leastFrom b (λ p. valueOf r p j) ps) (start j h) (shapers-are r n (P .count))
+        best-same lt (getD old j nan) (column rows m j) (λ i. valueOf r (shaperAt r i) j) n (λ i k. P .values i j k h)
+        ∙ ap₂ (λ b k. bestFrom lt b (λ i. valueOf r (shaperAt r i) j) k) (start j h) (P .count)
 
     ideal-at : (ideal : List Float) → ideal ≡ over (listBelow (leastAt rows n m old) m) old → IdealIn r ideal m
     ideal-at ideal e j h = over-below (leastAt rows n m old) m ideal old j nan e h ∙ least-is j h
@@ -54,17 +48,17 @@ module _ (r : Request) (rows : List Float) (n m : ℕ) (P : Pool r rows n m) whe
     unfolding oldInterceptOf
     old-is j h =
         ap₂ (λ g i. interceptFrom (g ⊖ i))
-        (among-same above (inf true) (column rows m j) (λ p. valueOf r p j) (shapersOf n) (shaper-value j h)
-        ∙ ap (greatest (λ p. valueOf r p j)) (shapers-are r n (P .count)))
+        (best-same above (inf true) (column rows m j) (λ i. valueOf r (shaperAt r i) j) n (λ i k. P .values i j k h)
+        ∙ ap (bestFrom above (inf true) (λ i. valueOf r (shaperAt r i) j)) (P .count))
         (z j h)
 
     plane-is : 0 < n → (j : ℕ) → j < m → planeInterceptAt rows n m ideal j ≡ planeInterceptOf r j
     unfolding planeInterceptOf
     plane-is some j h =
         intercepts-same n m (rowAt rows m) (shaperValue r) (listed ideal) (idealOf r)
-        (λ i t u v. P .values i t u v ∙ ap (λ p. valueOf r p t) (sym (shaper-at r i (subst (λ w. i < w) (P .count) u)))) z some
+        (P .values) z some
         (interceptAt rows n m ideal) (oldInterceptOf r) j (old-is j h)
-        ∙ ap₂ (λ (a b : ℕ). interceptsOf a b (shaperValue r) (idealOf r) (oldInterceptOf r) j) (P .count ∙ sym (shapers-count r)) (P .width)
+        ∙ ap₂ (λ (a b : ℕ). interceptsOf a b (shaperValue r) (idealOf r) (oldInterceptOf r) j) (P .count) (P .width)
 
     intercept-is : 0 < n → (j : ℕ) → j < m → interceptBy (r .edition) rows n m ideal j ≡ interceptOf r j
     unfolding interceptOf
@@ -84,15 +78,16 @@ module _ (r : Request) (rows : List Float) (n m : ℕ) (P : Pool r rows n m) whe
   -- ---- what `associate_to_reference_points` leaves, from the normalised rows and the table
   module _ (e : Edition) (same : e ≡ r .edition) (normalized : List Float) (a : NormalisedIn r normalized n m) (table : List Float) (k : ℕ) (b : LinesIn r table k m)
       (c : k ≡ lineCount r) where
-    nearest-is : (p : ℕ) → p < n → nearestAt e normalized m table k p ≡ association r p
+    nearest-is : (i : ℕ) → i < n → nearestAt e normalized m table k i ≡ association r (shaperAt r i)
     unfolding association distanceTo
-    nearest-is p h =
-        nearest-same _ _ k (λ l g. distance-same e m _ (normalised r p) _ (coordinate r l) (λ j i. a p j h i) (λ j i. b l j g i)
+    nearest-is i h =
+        let p = shaperAt r i in
+        nearest-same _ _ k (λ l g. distance-same e m _ (normalised r p) _ (coordinate r l) (λ j u. a i j h u) (λ j u. b l j g u)
         ∙ ap₂ (λ v w. distance v w (normalised r p) (coordinate r l)) same (P .width))
         ∙ ap (nearestOf (distanceTo r p)) c
 
 -- ---- what `associate` leaves: the four steps one after the other
-module _ (r : Request) (e : Edition) (same : e ≡ r .edition) (rows : List Float) (n m : ℕ) (some : 0 < n) (P : Pool r rows n m)
+module _ (r : Request) (e : Edition) (same : e ≡ r .edition) (rows : List Float) (n m : ℕ) (some : 0 < n) (P : ShapersIn r rows n m)
     (table : List Float) (k : ℕ) (T : LinesIn r table k m) (c : k ≡ lineCount r)
     (ideal₀ ideal : List Float) (start : StartIn r ideal₀ m) (e₁ : ideal ≡ over (listBelow (leastAt rows n m ideal₀) m) ideal₀)
     (intercepts₀ intercepts : List Float) (e₂ : intercepts ≡ over (listBelow (interceptBy e rows n m ideal) m) intercepts₀)

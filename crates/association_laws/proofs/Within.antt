@@ -29,8 +29,8 @@ use Rattle.front_laws.proofs.Feasible.{measurable-within}
 use Rattle.hyperplane_laws.proofs.Bound.{intercepts-upto}
 use Rattle.association_laws.specs.Flat.{normalAt}
 use Rattle.association_laws.specs.Measurable.{Measurable}
-use Rattle.association_laws.specs.Request.{Pool, IdealIn, InterceptsIn, InScale}
-use Rattle.association_laws.proofs.Shapers.{shaper-below, all-shape}
+use Rattle.association_laws.specs.Request.{shaperAt, ShapersIn, IdealIn, InterceptsIn, InScale}
+use Rattle.association_laws.proofs.Shapers.{shaper-below, shaperAt-in}
 use Rattle.association_laws.proofs.Extremes.{Known, least-le, greatest-ge}
 use Rattle.association_laws.proofs.Request.{normalised-at}
 
@@ -182,9 +182,9 @@ module _ (r : Request) (M : Measurable r) (p j : ℕ) (h : In p (shapers r)) (k 
   normalised-within = and-both _ _ (T-true (le nought (normalised r p j)) (normalised-upto .from)) (T-true (le (normalised r p j) (greatestScaled (r .edition))) (normalised-upto .to))
 
 -- ---- what `normalize_objectives` leaves in flat rows
-pub rows-in-scale : (r : Request) → Measurable r → (rows : List Float) (n m : ℕ) (P : Pool r rows n m) (ideal : List Float) → IdealIn r ideal m
+pub rows-in-scale : (r : Request) → Measurable r → (rows : List Float) (n m : ℕ) (P : ShapersIn r rows n m) (ideal : List Float) → IdealIn r ideal m
     → (intercepts : List Float) → InterceptsIn r intercepts m → (normalized old : List Float)
     → normalized ≡ over (flatRows (normalAt rows m ideal intercepts) n m) old → InScale (r .edition) normalized n m
 rows-in-scale r M rows n m P ideal z intercepts a normalized old e p j h k =
     ap (λ x. within nought (greatestScaled (r .edition)) x) (normalised-at r rows n m P ideal z intercepts a normalized old e p j h k)
-    ∙ normalised-within r M p j (all-shape r p (subst (λ t. p < t) (P .count) h)) (subst (λ t. j < t) (P .width) k)
+    ∙ normalised-within r M (shaperAt r p) j (shaperAt-in r p (subst (λ t. p < t) (P .count) h)) (subst (λ t. j < t) (P .width) k)

@@ -1,34 +1,37 @@
--- Document 01's association over flat lists: plan p's value at objective j is entry p * m + j of its rows, coordinate j of line l entry l * m + j of its table.
+-- Document 01's association over flat lists, of n plans that all shape the scale: plan p's value at objective j is entry p * m + j of its rows, coordinate j of line l
+-- entry l * m + j of its table.
 use Prim.Native.Nat.{ℕ, _*_, _<_}
 use mathlib.Core.Path.{_≡_}
 use mathlib.Core.Bool.{true, cond}
 use mathlib.Core.List.{List}
-use lib.Ieee.{Float, nan}
+use lib.Ieee.{Float, nan, inf, lt}
 use lib.ListN.{getD}
 use Rattle.model.specs.declared.Edition.{Edition}
-use Rattle.model.specs.Lists.{keepBelow, listBelow, over}
-use Rattle.model.specs.declared.Edition.{Edition}
+use Rattle.model.specs.Lists.{bestFrom, listBelow, over}
 use Rattle.model.specs.Edition.{usesPlane}
-use Rattle.model.specs.Real.{_⊖_, _⊘_}
+use Rattle.model.specs.Real.{_⊖_, _⊘_, above}
 pub use Rattle.front_laws.specs.Flat.{from, rowAt}
-use Rattle.model.specs.Association.{leastFrom, greatest, interceptFrom, dot, distance, Near, nearestOf}
+use Rattle.model.specs.Association.{interceptFrom, dot, distance, Near, nearestOf}
 use Rattle.hyperplane_laws.specs.Flat.{planeInterceptFrom}
 
 -- the values of objective j, plan by plan
 abbrev pub column : List Float → ℕ → ℕ → ℕ → Float
 column rows m j p = rowAt rows m p j
 
--- the places of those of n plans that shape the scale: all of them
-abbrev pub shapersOf : ℕ → List ℕ
-shapersOf n = keepBelow (λ p. true) n
+-- the smaller of b and the least of n plans at objective j, and their greatest
+abbrev pub leastBelow : Float → List Float → ℕ → ℕ → ℕ → Float
+leastBelow b rows n m j = bestFrom lt b (column rows m j) n
+
+abbrev pub greatestBelow : List Float → ℕ → ℕ → ℕ → Float
+greatestBelow rows n m j = bestFrom above (inf true) (column rows m j) n
 
 -- the smaller of an ideal's entry j and the least of n plans
 abbrev pub leastAt : List Float → ℕ → ℕ → List Float → ℕ → Float
-leastAt rows n m ideal j = leastFrom (getD ideal j nan) (column rows m j) (shapersOf n)
+leastAt rows n m ideal j = leastBelow (getD ideal j nan) rows n m j
 
 -- the intercept of objective j: the old one, that of the plane, and the edition's
 abbrev pub interceptAt : List Float → ℕ → ℕ → List Float → ℕ → Float
-interceptAt rows n m ideal j = interceptFrom (greatest (column rows m j) (shapersOf n) ⊖ getD ideal j nan)
+interceptAt rows n m ideal j = interceptFrom (greatestBelow rows n m j ⊖ getD ideal j nan)
 
 abbrev pub planeInterceptAt : List Float → ℕ → ℕ → List Float → ℕ → Float
 planeInterceptAt rows n m ideal j = planeInterceptFrom rows n m ideal (interceptAt rows n m ideal) j

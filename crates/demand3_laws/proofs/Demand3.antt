@@ -30,11 +30,11 @@ use Rattle.demand3_laws.proofs.Sizes.{sizeOf-len, split-room, split-sho
 
 module _ (r : Request) where
   -- no plan of the split front is in a whole one
-  split-apart : (p : ℕ) → inFront (dominance r) (r .count) (wholeFronts r) p ≡ true → In p (before r) → ⊥
+  pub split-apart : (p : ℕ) → inFront (dominance r) (r .count) (wholeFronts r) p ≡ true → In p (before r) → ⊥
   split-apart p e i = true≢false (sym (before-exactly r .passes p i) ∙ inFront-new (dominance r) (r .count) (wholeFronts r) p e)
 
   -- a plan that dominates one of the whole fronts, or of the front after them, is in a whole front
-  better-before : (p q : ℕ) → inFirst (dominance r) (r .count) (suc (wholeFronts r)) p ≡ true → q < r .count → dominance r q p ≡ true → In q (before r)
+  pub better-before : (p q : ℕ) → inFirst (dominance r) (r .count) (suc (wholeFronts r)) p ≡ true → q < r .count → dominance r q p ≡ true → In q (before r)
   better-before p q e h dom = before-exactly r .every q h (dominators-first (dominance r) (r .count) (wholeFronts r) p q e h dom)
 
   -- ---- no front is split
@@ -70,13 +70,13 @@ module _ (r : Request) where
     niched = picks-niched (λ p. association r p .distance) setting (r .size - length (before r)) (r .state) (split-room r split)
 
     -- the picks are those of the paper's procedure by the distances that are kept beside the plans, where none of them is a NaN
-    pub filled-procedure : (d : ℕ → Float) → ((p : ℕ) → p < r .count → association r p .distance ≡ d p) → ((p : ℕ) → p < r .count → isNan (d p) ≡ false)
+    pub filled-procedure : (d : ℕ → Float) → ((p : ℕ) → In p (splitFront r) → association r p .distance ≡ d p) → ((p : ℕ) → In p (splitFront r) → isNan (d p) ≡ false)
         → ByProcedure (before r) (splitFront r) (lineOf r) d (lineCount r) (filled r .value)
     unfolding filled
     filled-procedure d same known =
-        procedure-other d (λ p m. same p (split-exactly r .below p m))
+        procedure-other d same
         (picks-procedure (λ p. association r p .distance) setting
-        (λ p m. let h = split-exactly r .below p m in ap isNan (same p h) ∙ known p h) (r .size - length (before r)) (r .state) (split-room r split))
+        (λ p m. ap isNan (same p m) ∙ known p m) (r .size - length (before r)) (r .state) (split-room r split))
 
     abbrev list : List ℕ
     list = before r ++ filled r .value

@@ -3,6 +3,7 @@ pub mod Fronts
 pub mod Sizes
 pub mod Cut
 pub mod Demand3
+pub mod Shapers
 pub mod Rules
 pub mod Accepted
 pub mod Paper

@@ -32,7 +32,7 @@ computed : Computed
 unfolding add sub mul div lt le eq ofBits ofInt neg Deb.undominatedOfRest Deb.inFirst Lists.anyBelow Lists.countBelow Lists.sumBelow Lists.joinBelow
     Lists.allIn Lists.tally Real.sumTo Numbers.grown Numbers.rootIn Numbers.wholeRoot Numbers.closer Numbers.nearRoot Numbers.rooted Numbers.sqrtOf Row.rowOf
     Row.dominates Row.feasible Row.violation Row.constrainedDominates Row.beats Reference.tuples Reference.dasDennis Reference.binomial
-    Reference.pointCount Lists.bestFrom Lists.keepBelow Association.shapers Association.idealOf Association.oldInterceptOf Association.interceptOf Association.normalised
+    Reference.pointCount Lists.bestFrom Lists.keepBelow Association.feasibleOnly Association.shapes Association.shapers Association.idealOf Association.oldInterceptOf Association.interceptOf Association.normalised
     Association.coordinate Association.squaresOf Association.distance Association.distanceTo Association.association Cases.planWith Cases.requestWith
     Cases.example
 computed = record { wanted = refl; pool = refl; first = refl; second = refl; member = refl; inOrder = refl; other = refl }

@@ -21,7 +21,7 @@ unfolding add sub mul div lt le eq ofBits ofInt neg Deb.undominatedOfRest Deb.in
     Numbers.wholeRoot Numbers.closer Numbers.nearRoot Numbers.rooted Numbers.sqrtOf Row.rowOf Row.dominates Row.feasible
     Row.violation Row.constrainedDominates Row.rowBeats Row.beats Front.lower Front.freed Front.lowerAll Front.freedAll Front.firstRound
     Front.nextRound Front.round Front.frontOf Front.frontList Reference.tuples Reference.dasDennis Reference.binomial Reference.pointCount
-    Association.shapers Association.idealOf Association.oldInterceptOf Association.interceptOf Association.normalised
+    Association.feasibleOnly Association.shapes Association.shapers Association.idealOf Association.oldInterceptOf Association.interceptOf Association.normalised
     Association.coordinate Association.squaresOf Association.distance Association.distanceTo Association.association Kept.drawFrom Kept.nearest Kept.drawMember
     Kept.pickOne Kept.countAtPick Kept.pickRules Kept.filledRules Kept.wholeFronts Kept.before Kept.isSplit Kept.splitFront Kept.filled Kept.selectedSplit
     Kept.selectedWhole Kept.selected Cases.planWith Cases.requestWith Cases.example oneLine onePlan

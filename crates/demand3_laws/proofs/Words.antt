@@ -1,4 +1,4 @@
--- A call on a pool of words that meets no refusal: every normalised value lies within 0 and the edition's bound, and its association and niching are the paper's.
+-- A call on a pool of words that meets no refusal: every normalised value of a plan that shapes the scale lies within 0 and the edition's bound, and its association and niching are the paper's.
 use Prim.Native.Nat.{ℕ, _+_, _*_, _<_}
 use mathlib.Core.Path.{_≡_, sym, subst}
 use mathlib.Core.List.{List}

@@ -1,6 +1,6 @@
 // Where the two editions part (document 02; specs/Edition.antt of `model`). No other function looks at an edition.
 ghost use mathlib.Core.Path.{_≡_};
-ghost use Rattle.model.specs.Edition.{editionNumber, editionOf, mostPlans, waitingOf, ranksByRows, takesRoot, usesPlane};
+ghost use Rattle.model.specs.Edition.{editionNumber, editionOf, mostPlans, waitingOf, ranksByRows, takesRoot, usesPlane, passesOver};
 use model::Edition;
 use model::MAX_FIRST_POOL;
 use model::MAX_POOL;
@@ -67,6 +67,16 @@ pub fn takes_root(edition: Edition) -> bool
 // Whether intercepts are those of the plane through the extremes.
 pub fn uses_plane(edition: Edition) -> bool
     ensures { λ r. ⌜ r ≡ usesPlane edition ⌝ }
+{
+    match edition {
+        Edition::First => false,
+        Edition::Second => true,
+    }
+}
+
+// Whether infeasible plans may be passed over.
+pub fn passes_over(edition: Edition) -> bool
+    ensures { λ r. ⌜ r ≡ passesOver edition ⌝ }
 {
     match edition {
         Edition::First => false,

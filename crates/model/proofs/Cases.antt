@@ -29,7 +29,7 @@ unfolding flatten add sub mul div lt le eq ofBits ofInt neg Deb.undominatedOfRes
     Numbers.roundOf Numbers.powerUp Numbers.halfBy Numbers.halved Numbers.halvings Numbers.R Plan.planOf Row.rowOf Row.dominates Row.feasible
     Row.violation Row.constrainedDominates Row.rowBeats Row.beats Front.lower Front.freed Front.lowerAll Front.freedAll Front.firstRound
     Front.nextRound Front.round Front.frontOf Front.frontList Reference.tuples Reference.dasDennis Reference.binomial Reference.pointCount
-    Reference.autoDivisions Reference.divisionsOf Reference.populationSize Association.shapers Association.idealOf Association.oldInterceptOf Association.planeInterceptOf Association.interceptOf
+    Reference.autoDivisions Reference.divisionsOf Reference.populationSize Association.feasibleOnly Association.shapes Association.shapers Association.idealOf Association.oldInterceptOf Association.planeInterceptOf Association.interceptOf
     Association.normalised Hyperplane.asf Hyperplane.extreme Hyperplane.planeRows Hyperplane.pivotRow Hyperplane.swapped Hyperplane.lessRow Hyperplane.cleared Hyperplane.stepped
     Hyperplane.eliminated Hyperplane.lessKnown Hyperplane.unknown Hyperplane.solved Hyperplane.planeThrough Hyperplane.planeOf Hyperplane.sameBefore Hyperplane.sameExtremes
     Hyperplane.zeroPivot Hyperplane.unboundedRow Hyperplane.unboundedMatrix Hyperplane.unboundedIn Hyperplane.unbounded Hyperplane.lowIntercept Hyperplane.beyondRow

@@ -1,69 +1,33 @@
 -- Document 01, "Association": the ideal, the intercepts, the normalised rows, the distances and the nearest lines of a pool.
 use Prim.Native.Nat.{ℕ}
-use mathlib.Core.Bool.{Bool, true, cond}
+use mathlib.Core.Bool.{Bool, true, cond, _&&_}
 use mathlib.Core.List.{List}
 use lib.Ieee.{Float, nan, inf, binary64, lt, ofBits}
 use lib.ListN.{length, getD}
 use Rattle.model.specs.declared.Edition.{Edition}
-use Rattle.model.specs.Edition.{usesPlane, takesRoot}
-use Rattle.model.specs.Lists.{keepBelow, bestFrom, bestAmong}
+use Rattle.model.specs.Edition.{takesRoot, usesPlane, passesOver}
+use Rattle.model.specs.Lists.{keepBelow, bestFrom, bestAmong, allIn}
 use Rattle.model.specs.Real.{_⊖_, _⊗_, _⊘_, unit, infinity, smallSpan, above, sumTo}
 use Rattle.model.specs.Numbers.{sqrtOf, square}
-use Rattle.model.specs.Plan.{Plan}
-use Rattle.model.specs.Row.{rowOf, beats}
-use Rattle.model.specs.Reference.{pointCount, line}
+use Rattle.model.specs.Reference.{line}
 use Rattle.model.specs.Hyperplane.{interceptsOf}
-
--- what a selection is given
-pub record Request : Type 0 where
-  -- document 02, M-100: "selection and generation step take the edition too"
-  pub edition : Edition
-  -- the directions' marks, one an objective
-  pub marks : List ℕ
-  -- H
-  pub divisions : ℕ
-  -- how many plans are wanted
-  pub size : ℕ
-  -- the pool: how many plans it has, and each of them
-  pub count : ℕ
-  pub plans : ℕ → Plan
-  -- the ideal that it starts from, an entry an objective
-  pub ideal : List Float
-  -- where the generator stands
-  pub state : ℕ
-
--- the same request in an edition
-abbrev pub inEdition : Edition → Request → Request
-inEdition e r = record {
-  edition = e;
-  marks = r .marks;
-  divisions = r .divisions;
-  size = r .size;
-  count = r .count;
-  plans = r .plans;
-  ideal = r .ideal;
-  state = r .state;
-}
-
-abbrev pub objectives : Request → ℕ
-objectives r = length (r .marks)
-
-abbrev pub lineCount : Request → ℕ
-lineCount r = pointCount (objectives r) (r .divisions)
-
--- plan p's value at objective j, in minimise-space
-abbrev pub valueOf : Request → ℕ → ℕ → Float
-valueOf r p j = rowOf (r .marks) (r .plans p) j
-
--- plan p dominates plan q under the constraint rule
-abbrev pub dominance : Request → ℕ → ℕ → Bool
-dominance r = beats (r .marks) (r .plans)
+pub use Rattle.model.specs.Request.{Request, inEdition, objectives, lineCount, valueOf, dominance, feasiblePlan}
+use Rattle.model.specs.Cut.{isSplit, splitFront}
 
 -- ---- the scale
 
--- the places of the plans that shape the scale, in the pool's order: every plan of the pool does
+-- document 02, M-112: "In edition 2, if every member of the split front is feasible, this generation's own part of the ideal, the greatest values, the extremes and
+-- the 2^100 check come from feasible plans only ..; otherwise, and where no front is split, all come from the whole pool."
+unfoldable pub feasibleOnly : Request → Bool
+feasibleOnly r = passesOver (r .edition) && (isSplit r && allIn (feasiblePlan r) (splitFront r))
+
+-- plan p shapes the scale, and has a line
+unfoldable pub shapes : Request → ℕ → Bool
+shapes r p = cond (feasibleOnly r) (feasiblePlan r p) true
+
+-- the places of the plans that do, in the pool's order
 unfoldable pub shapers : Request → List ℕ
-shapers r = keepBelow (λ p. true) (r .count)
+shapers r = keepBelow (shapes r) (r .count)
 
 -- the smaller of b and the least of f at the places ps; b stands where they are equal, and else the first met
 abbrev pub leastFrom : Float → (ℕ → Float) → List ℕ → Float

@@ -45,3 +45,8 @@ usesPlane Second = true
 abbrev pub greatestScaled : Edition → Float
 greatestScaled First = unit
 greatestScaled Second = ofBits binary64 0x4630_0000_0000_0000
+
+-- M-112: "In edition 2, if every member of the split front is feasible, .. come from feasible plans only": whether infeasible plans may be passed over
+abbrev pub passesOver : Edition → Bool
+passesOver First = false
+passesOver Second = true

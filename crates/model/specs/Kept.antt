@@ -1,16 +1,18 @@
 -- Document 01, "Kept list".
 use Prim.Native.Nat.{ℕ, zero, suc, _-_, _^_}
-use mathlib.Core.Bool.{Bool, true, false, not, _&&_}
+use mathlib.Core.Bool.{Bool, true, false, cond, not}
 use mathlib.Core.List.{List, [], _++_, map}
-use lib.Dec.{eqb, leb, ltb}
+use lib.Dec.{eqb, leb}
 use lib.Ieee.{Float, lt}
 use lib.ListN.{length, getD, replicate}
 use Rattle.model.specs.declared.Rule.{Rule}
 use Rattle.model.specs.declared.Rule.the-variants as rule
 use Rattle.model.specs.Lists.{bestIn, listBelow, keepBelow, firstBelow, allIn, has, keep, tally}
 use Rattle.model.specs.Draw.{Drawn, drawn, drawUsize, drawAll}
-use Rattle.model.specs.Front.{front, listing, frontList}
-use Rattle.model.specs.Association.{Request, objectives, lineCount, dominance, idealOf, association, lineOf}
+use Rattle.model.specs.Front.{frontList}
+use Rattle.model.specs.Request.{Request, objectives, lineCount, dominance}
+unfoldable pub use Rattle.model.specs.Cut.{exceedsSize, wholeFronts, before, isSplit, splitFront}
+use Rattle.model.specs.Association.{shapes, idealOf, association, lineOf}
 
 -- ---- one open place
 -- `line` gives each plan its line and `distance` its distance from that line.
@@ -96,24 +98,6 @@ pickRules line distance lines before split n s = listBelow (λ i.
 
 -- ---- the list
 
--- front k, with those before it, exceeds the size
-abbrev pub exceedsSize : Request → ℕ → Bool
-exceedsSize r k = ltb (r .size) (length (listing (dominance r) (r .count) (suc k)))
-
--- "Whole fronts joined while they fit.": how many, and their plans
-unfoldable pub wholeFronts : Request → ℕ
-wholeFronts r = firstBelow (exceedsSize r) (r .count)
-
-unfoldable pub before : Request → List ℕ
-before r = listing (dominance r) (r .count) (wholeFronts r)
-
--- the front after them is split where there is one and they fall short of the size
-unfoldable pub isSplit : Request → Bool
-isSplit r = ltb (wholeFronts r) (r .count) && ltb (length (before r)) (r .size)
-
-unfoldable pub splitFront : Request → List ℕ
-splitFront r = front (dominance r) (r .count) (wholeFronts r)
-
 -- the places that the whole fronts leave open, filled from the split front
 unfoldable pub filled : Request → Drawn (List ℕ)
 filled r =
@@ -136,6 +120,10 @@ padding n k s = drawAll (λ place listed. drawUsize n) k s
 abbrev pub noLine : ℕ
 noLine = 2 ^ 64 - 1
 
+-- where a front is split, the line of plan p. Document 02, M-112: "infeasible plans get no line (the same mark as without a split)"
+abbrev pub lineMark : Request → ℕ → ℕ
+lineMark r p = cond (shapes r p) (lineOf r p) noLine
+
 -- what a selection hands out: the kept list, "a second list beside every kept list handed out, as long" (M-108), the front and the line of each plan, the
 -- ideal and the generator's state
 pub record Selected : Type 0 where
@@ -150,7 +138,7 @@ pub record Selected : Type 0 where
 abbrev pub unselected : Request → Selected
 unselected r = record { kept = []; rules = []; fronts = []; lines = []; ideal = r .ideal; state = r .state }
 
--- where a front is split, its open places are filled, the ideal moves and every plan has a line
+-- where a front is split, its open places are filled, the ideal moves and every plan that shapes the scale has a line
 unfoldable pub selectedSplit : Request → Selected
 selectedSplit r =
     let f = filled r in
@@ -158,7 +146,7 @@ selectedSplit r =
       kept = before r ++ f .value;
       rules = wholeRules r ++ filledRules r;
       fronts = frontList (dominance r) (r .count);
-      lines = listBelow (lineOf r) (r .count);
+      lines = listBelow (lineMark r) (r .count);
       ideal = listBelow (idealOf r) (objectives r);
       state = f .state;
     }

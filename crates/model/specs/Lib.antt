@@ -8,6 +8,8 @@ pub mod Front
 pub mod Reference
 pub mod Edition
 pub mod Hyperplane
+pub mod Request
+pub mod Cut
 pub mod Association
 pub mod Kept
 pub mod Papers

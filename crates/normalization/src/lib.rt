@@ -1,20 +1,21 @@
-// Normalisation (document 01, "Association"; Rust: sampler/nsga3.rs), over flat rows: plan p's value at objective j is entry p * m + j.
+// Normalisation (document 01, "Association"; Rust: sampler/nsga3.rs), over the flat rows of the plans that shape the scale: the value of the p-th of them at objective j is
+// entry p * m + j.
 // The layer's calls are `update_ideal_point`, `find_intercepts` and `normalize_objectives`; the other functions are their parts.
 ghost use mathlib.Core.Path.{_≡_};
 ghost use Prim.Native.Nat.{_+_, _*_, _<_, _≤_};
 ghost use lib.ListN.{length};
 ghost use lib.Seq.{sets};
 ghost use Rattle.model.specs.Lists.{listBelow, over};
-ghost use Rattle.model.specs.Association.{leastFrom, greatest, interceptFrom, Request};
+ghost use Rattle.model.specs.Association.{interceptFrom, Request};
 ghost use Rattle.list_laws.specs.Rows.{flatRows};
-ghost use Rattle.association_laws.specs.Flat.{column, shapersOf, leastAt, interceptAt, normalAt};
+ghost use Rattle.association_laws.specs.Flat.{leastBelow, greatestBelow, leastAt, interceptAt, normalAt};
 ghost use Rattle.association_laws.specs.Measurable.{Measurable};
-ghost use Rattle.association_laws.specs.Request.{Pool, IdealIn, InterceptsIn, InScale};
+ghost use Rattle.association_laws.specs.Request.{ShapersIn, IdealIn, InterceptsIn, InScale};
 
 // The smaller of `start` and the least value of objective j; `start` stands where they are equal.
 fn least_of(rows: &[f64], n: usize, m: usize, j: usize, start: f64) -> f64
     requires { ⌜ (n * m ≤ length (now rows)) × (j < m) ⌝ }
-    ensures { λ r. ⌜ r ≡ leastFrom start (column (now (rows .entry)) m j) (shapersOf n) ⌝ }
+    ensures { λ r. ⌜ r ≡ leastBelow start (now (rows .entry)) n m j ⌝ }
 {
     let mut least = start;
     let mut p = 0;
@@ -28,7 +29,7 @@ fn least_of(rows: &[f64], n: usize, m: usize, j: usize, start: f64) -> f64
     least
 }
 
-// Each objective's ideal becomes the smaller of itself and the pool's least.
+// Each objective's ideal becomes the smaller of itself and the least of the rows.
 pub fn update_ideal_point(rows: &[f64], n: usize, m: usize, ideal: &mut [f64])
     requires { ⌜ (n * m ≤ length (now rows)) × (m ≤ length (now ideal)) ⌝ }
     ensures { λ _. ⌜ now (ideal .exit) ≡ over (listBelow (leastAt (now (rows .entry)) n m (now (ideal .entry))) m) (now (ideal .entry)) ⌝ }
@@ -44,7 +45,7 @@ pub fn update_ideal_point(rows: &[f64], n: usize, m: usize, ideal: &mut [f64])
 // The greatest value of objective j.
 fn greatest_of(rows: &[f64], n: usize, m: usize, j: usize) -> f64
     requires { ⌜ (n * m ≤ length (now rows)) × (j < m) ⌝ }
-    ensures { λ r. ⌜ r ≡ greatest (column (now (rows .entry)) m j) (shapersOf n) ⌝ }
+    ensures { λ r. ⌜ r ≡ greatestBelow (now (rows .entry)) n m j ⌝ }
 {
     let mut best = -1.0 / 0.0;
     let mut p = 0;
@@ -112,7 +113,7 @@ pub fn normalize_objectives(
     requires { ⌜ (n * m ≤ length (now rows)) × (m ≤ length (now ideal)) × (m ≤ length (now intercepts)) × (n * m ≤ length (now normalized)) ⌝ }
     ensures { λ _. ⌜ now (normalized .exit)
         ≡ over (flatRows (normalAt (now (rows .entry)) m (now (ideal .entry)) (now (intercepts .entry))) n m) (now (normalized .entry)) ⌝ }
-    ensures in_scale { λ _. ⌜ ((r : Request) → Measurable r → Pool r (now (rows .entry)) n m → IdealIn r (now (ideal .entry)) m
+    ensures in_scale { λ _. ⌜ ((r : Request) → Measurable r → ShapersIn r (now (rows .entry)) n m → IdealIn r (now (ideal .entry)) m
         → InterceptsIn r (now (intercepts .entry)) m → InScale (r .edition) (now (normalized .exit)) n m) ⌝ }
 {
     let mut p = 0;

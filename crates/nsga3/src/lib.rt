@@ -16,7 +16,7 @@ use model::Rng;
 use model::Selection;
 use refusals::Check;
 
-// The kept list where a front is split, with its rules: the whole fronts, then plans that niching picks from the split one. The ideal moves, and every plan gets a line.
+// The kept list where a front is split, with its rules: the whole fronts, then plans that niching picks from the split one. The ideal moves, and every plan that shapes the scale gets a line.
 fn select_split(
     edition: Edition,
     pool: &[u64],
@@ -42,11 +42,14 @@ fn select_split(
     let m = directions.len();
     let whole = cut.whole;
     let end = cut.end;
+    let mut marks: [bool; MAX_POOL] = [false; MAX_POOL];
+    shapers::mark_shapers(edition, pool, n, order, whole, end, &mut marks);
     let mut table: [f64; MAX_TABLE_VALUES] = [0.0; MAX_TABLE_VALUES];
     let n_lines = das_dennis::das_dennis(m, divisions, &mut table);
     let mut distances: [f64; MAX_POOL] = [0.0; MAX_POOL];
-    association::associate(
+    shaped_association::associate_marked(
         edition,
+        &marks,
         rows,
         n,
         m,

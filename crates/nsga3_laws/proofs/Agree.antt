@@ -1,13 +1,15 @@
--- The picks look at the lines of the pool's plans and the order of the distances of those on one line alone: two lists of them that agree below n give the
--- same picks, with the same marks.
-use Prim.Native.Nat.{ℕ, zero, suc, _<_}
-use mathlib.Core.Path.{_≡_, refl, ap, ap₂, sym, _∙_, fun-ext}
-use mathlib.Core.Bool.{Bool, not}
-use mathlib.Core.List.{List, [], _∷_, _++_, map, List·Memᴰ·head, List·Memᴰ·tail}
+-- What is picked is below n; and the picks look at the lines of the plans of the whole fronts and of the split one, and the order of the distances of those of the
+-- split one on one line alone: where these agree, they give the same picks, with the same marks.
+use Prim.Native.Nat.{ℕ, zero, suc, _≤_, _<_}
+use mathlib.Core.Path.{_≡_, refl, ap, ap₂, sym, subst, _∙_, fun-ext}
+use mathlib.Core.Logic.{⊎-elim}
+use mathlib.Core.Bool.{Bool}
+use mathlib.Core.List.{List, [], _∷_, _++_, map, List·Memᴰ·head, List·Memᴰ·tail, List·Memᴰ·not-nil, List·Memᴰ·append-cases}
+use native.Mathlib.Omega.{arith}
 use borrow.Author.Tests.{eqb-true}
 use lib.Dec.{eqb}
 use lib.Ieee.{Float, lt}
-use lib.ListN.{length, getD, List·getD-eq-default}
+use lib.ListN.{length, getD, length-append, List·getD-eq-default}
 use Rattle.model.specs.Lists.{In, has, keep, keepBelow, bestFrom}
 use Rattle.model.specs.Draw.{Drawn, drawn, drawAll}
 use Rattle.model.specs.Kept.{nicheCount, waiting, openLines, leastLines, drawFrom, nearest, drawMember, pickOne, picks, pickFrom, nearerPlan, markOf, ruleOf, countAtPick, pickRules}
@@ -15,8 +17,10 @@ use Rattle.list_laws.proofs.Below.{by-lt}
 use Rattle.list_laws.proofs.Built.{listBelow-same}
 use Rattle.list_laws.proofs.Best.{best-all, best-agree}
 pub use Rattle.list_laws.specs.Occ.{Below}
-use Rattle.list_laws.proofs.Members.{tally-same, keep-same, in-keep, getD-in, below-append, below-none, below-snoc}
+use Rattle.list_laws.proofs.Members.{tally-same, keep-same, in-keep, in-snoc, getD-in, below-none, below-snoc}
 use Rattle.list_laws.proofs.Draws.{inTurn-same, drawAll-keeps}
+use Rattle.niching_laws.specs.Niching.{Split}
+use Rattle.niching_laws.proofs.Picks.{in-waiting, pickOne-chosen}
 use Rattle.niching_laws.proofs.Rules.{markAt}
 
 -- a list of draws below n is below n
@@ -49,65 +53,89 @@ module _ (n : ℕ) (some : 0 < n) where
     pub picks-below : (k s : ℕ) → Below n (picks line far lines before split k s .value)
     picks-below k s = drawAll-below n (λ place picked. pickOne line far lines before split picked) (λ i. pick-below) k s
 
-  -- ---- and looks at plans below n alone
+-- ---- only those that may be listed are looked at
 
-  module _ (line line′ : ℕ → ℕ) (far far′ : ℕ → Float) (lines-agree : (p : ℕ) → p < n → line p ≡ line′ p)
-      (far-agree : (p q : ℕ) → p < n → q < n → line p ≡ line q → lt (far p) (far q) ≡ lt (far′ p) (far′ q)) where
-    counts-agree : (l : List ℕ) → Below n l → nicheCount line l ≡ nicheCount line′ l
-    counts-agree l h = fun-ext (λ k. tally-same _ _ l (λ q m. ap (λ t. eqb t k) (lines-agree q (h q m))))
+module _ (line line′ : ℕ → ℕ) where
+  counts-agree : (l : List ℕ) → ((q : ℕ) → In q l → line q ≡ line′ q) → nicheCount line l ≡ nicheCount line′ l
+  counts-agree l h = fun-ext (λ k. tally-same _ _ l (λ q m. ap (λ t. eqb t k) (h q m)))
 
-    map-agree : (l : List ℕ) → Below n l → map line l ≡ map line′ l
-    map-agree [] h = refl
-    map-agree (x ∷ l) h = ap₂ (λ a b. a ∷ b) (lines-agree x (h x (List·Memᴰ·head refl))) (map-agree l (λ q m. h q (List·Memᴰ·tail m)))
+  map-agree : (l : List ℕ) → ((q : ℕ) → In q l → line q ≡ line′ q) → map line l ≡ map line′ l
+  map-agree [] h = refl
+  map-agree (x ∷ l) h = ap₂ (λ a b. a ∷ b) (h x (List·Memᴰ·head refl)) (map-agree l (λ q m. h q (List·Memᴰ·tail m)))
 
-    members-agree : (l : List ℕ) → Below n l → _≡_ {A = ℕ → List ℕ} (λ v. keep (λ p. eqb (line p) v) l) (λ v. keep (λ p. eqb (line′ p) v) l)
-    members-agree l h = fun-ext (λ v. keep-same _ _ l (λ q m. ap (λ t. eqb t v) (lines-agree q (h q m))))
+  members-agree : (l : List ℕ) → ((q : ℕ) → In q l → line q ≡ line′ q) → _≡_ {A = ℕ → List ℕ} (λ v. keep (λ p. eqb (line p) v) l) (λ v. keep (λ p. eqb (line′ p) v) l)
+  members-agree l h = fun-ext (λ v. keep-same _ _ l (λ q m. ap (λ t. eqb t v) (h q m)))
 
-    -- every one listed is below n and on line v
-    abbrev On : ℕ → List ℕ → Type 0
-    On v l = (q : ℕ) → In q l → (q < n) × (line q ≡ v)
+module _ (line : ℕ → ℕ) (far far′ : ℕ → Float) (split : List ℕ)
+    (close : (p q : ℕ) → In p split → In q split → line p ≡ line q → lt (far p) (far q) ≡ lt (far′ p) (far′ q)) where
+  -- every one listed is of the split front and on line v
+  abbrev On : ℕ → List ℕ → Type 0
+  On v l = (q : ℕ) → In q l → In q split × (line q ≡ v)
 
-    nearest-agree : (v : ℕ) (l : List ℕ) → On v l → nearest far l ≡ nearest far′ l
-    unfolding nearest bestFrom
-    nearest-agree v [] h = refl
-    nearest-agree v (x ∷ l) h = best-agree (nearerPlan far) (nearerPlan far′) (λ p. (p < n) × (line p ≡ v)) x (λ i. getD (x ∷ l) i 0) (length (x ∷ l))
-        (h x (List·Memᴰ·head refl)) (λ t u. h (getD (x ∷ l) t 0) (getD-in (x ∷ l) t u)) (λ p q u w. far-agree p q (u .0) (w .0) (u .1 ∙ sym (w .1)))
+  nearest-agree : (v : ℕ) (l : List ℕ) → On v l → nearest far l ≡ nearest far′ l
+  unfolding nearest bestFrom
+  nearest-agree v [] h = refl
+  nearest-agree v (x ∷ l) h = best-agree (nearerPlan far) (nearerPlan far′) (λ p. In p split × (line p ≡ v)) x (λ i. getD (x ∷ l) i 0) (length (x ∷ l))
+      (h x (List·Memᴰ·head refl)) (λ t u. h (getD (x ∷ l) t 0) (getD-in (x ∷ l) t u)) (λ p q u w. close p q (u .0) (w .0) (u .1 ∙ sym (w .1)))
 
-    member-agree : (v count : ℕ) (l : List ℕ) (s : ℕ) → On v l → drawMember far count l s ≡ drawMember far′ count l s
-    unfolding drawMember
-    member-agree v zero l s h = ap (λ p. drawn p s) (nearest-agree v l h)
-    member-agree v (suc count) l s h = refl
+  member-agree : (v count : ℕ) (l : List ℕ) (s : ℕ) → On v l → drawMember far count l s ≡ drawMember far′ count l s
+  unfolding drawMember
+  member-agree v zero l s h = ap (λ p. drawn p s) (nearest-agree v l h)
+  member-agree v (suc count) l s h = refl
 
-    module _ (lines : ℕ) (before split : List ℕ) (listed : Below n before) (within : Below n split) where
-      pick-agree : (picked : List ℕ) (s : ℕ) → Below n picked → pickOne line far lines before split picked s ≡ pickOne line′ far′ lines before split picked s
-      unfolding pickOne
-      pick-agree picked s h =
-          let w = waiting split picked in
-          let k = keep-below (λ p. not (has picked p)) split within in
-          ap (λ c. pickFrom far c (openLines line lines w) (λ v. keep (λ p. eqb (line p) v) w) s) (counts-agree (before ++ picked) (below-append n before picked listed h))
-          ∙ ap (λ o. pickFrom far (nicheCount line′ (before ++ picked)) (keepBelow (has o) lines) (λ v. keep (λ p. eqb (line p) v) w) s) (map-agree w k)
-          ∙ ap (λ m. pickFrom far (nicheCount line′ (before ++ picked)) (openLines line′ lines w) m s) (members-agree w k)
-          ∙ member-agree _ _ _ _ (λ q m. let i = in-keep _ w q m in (k q (i .0), lines-agree q (k q (i .0)) ∙ eqb-true _ _ (i .1)))
+module _ {before split : List ℕ} {line : ℕ → ℕ} {lines : ℕ} (S : Split before split line lines) (line′ : ℕ → ℕ) (far far′ : ℕ → Float)
+    (ahead : (p : ℕ) → In p before → line p ≡ line′ p) (agree : (p : ℕ) → In p split → line p ≡ line′ p)
+    (close : (p q : ℕ) → In p split → In q split → line p ≡ line q → lt (far p) (far q) ≡ lt (far′ p) (far′ q)) where
+  -- what is picked is of the split front
+  abbrev Of : ℕ → List ℕ → Type 0
+  Of i picked = (length picked ≡ i) × ((q : ℕ) → In q picked → In q split)
 
-      -- THE LAW
-      pub picks-agree : (k s : ℕ) → picks line far lines before split k s ≡ picks line′ far′ lines before split k s
-      picks-agree k s =
-          inTurn-same (λ l p. l ++ (p ∷ [])) [] (λ place picked. pickOne line far lines before split picked) (λ place picked. pickOne line′ far′ lines before split picked)
-          (λ i. Below n) s k (below-none n) (λ i picked t u h. below-snoc n picked _ h (pick-below line far lines before split within picked t))
-          (λ i picked t u. pick-agree picked t)
+  pick-of : (i : ℕ) (picked : List ℕ) (t : ℕ) → i < length split → Of i picked → Of (suc i) (picked ++ (pickOne line far lines before split picked t .value ∷ []))
+  pick-of i picked t u h =
+      let p = pickOne line far lines before split picked t .value in (
+        length-append picked (p ∷ []) ∙ omega (arith, h .0),
+        λ q m. ⊎-elim (h .1 q) (λ e. subst (λ x. In x split) (sym e) (in-waiting split picked p (pickOne-chosen far S t picked (omega (arith, h .0)) .listed) .member)) (in-snoc picked p q m),
+      )
 
-      -- the count that a pick finds, and so its mark
-      count-agree : (picked : List ℕ) (s : ℕ) → Below n picked → countAtPick line lines before split picked s ≡ countAtPick line′ lines before split picked s
-      unfolding countAtPick
-      count-agree picked s h =
-          let w = waiting split picked in
-          ap (λ c. c (drawFrom (leastLines c (openLines line lines w)) s .value)) (counts-agree (before ++ picked) (below-append n before picked listed h))
-          ∙ ap (λ o. nicheCount line′ (before ++ picked) (drawFrom (leastLines (nicheCount line′ (before ++ picked)) (keepBelow (has o) lines)) s .value))
-          (map-agree w (keep-below (λ p. not (has picked p)) split within))
+  waits-of : (picked : List ℕ) (q : ℕ) → In q (waiting split picked) → In q split
+  waits-of picked q m = in-waiting split picked q m .member
 
-      pub rules-agree : (k s : ℕ) → pickRules line far lines before split k s ≡ pickRules line′ far′ lines before split k s
-      unfolding pickRules
-      rules-agree k s = listBelow-same (markAt line far lines before split s) (markAt line′ far′ lines before split s) k
-          (λ i h. ap (λ c. markOf (ruleOf c))
-          (count-agree (picks line far lines before split i s .value) (picks line far lines before split i s .state) (picks-below line far lines before split within i s)
-          ∙ ap (λ d. countAtPick line′ lines before split (d .value) (d .state)) (picks-agree i s)))
+  so-far : (picked : List ℕ) → ((q : ℕ) → In q picked → In q split) → (q : ℕ) → In q (before ++ picked) → line q ≡ line′ q
+  so-far picked h q m = ⊎-elim (ahead q) (λ k. agree q (h q k)) (List·Memᴰ·append-cases before m)
+
+  pick-agree : (picked : List ℕ) (s : ℕ) → ((q : ℕ) → In q picked → In q split) → pickOne line far lines before split picked s ≡ pickOne line′ far′ lines before split picked s
+  unfolding pickOne
+  pick-agree picked s h =
+      let w = waiting split picked in
+      let k : (q : ℕ) → In q w → line q ≡ line′ q = λ q m. agree q (waits-of picked q m) in
+      ap (λ c. pickFrom far c (openLines line lines w) (λ v. keep (λ p. eqb (line p) v) w) s) (counts-agree line line′ (before ++ picked) (so-far picked h))
+      ∙ ap (λ o. pickFrom far (nicheCount line′ (before ++ picked)) (keepBelow (has o) lines) (λ v. keep (λ p. eqb (line p) v) w) s) (map-agree line line′ w k)
+      ∙ ap (λ m. pickFrom far (nicheCount line′ (before ++ picked)) (openLines line′ lines w) m s) (members-agree line line′ w k)
+      ∙ member-agree line far far′ split close _ _ _ _ (λ q m. let i = in-keep _ w q m in let u = waits-of picked q (i .0) in (u, agree q u ∙ eqb-true _ _ (i .1)))
+
+  -- THE LAW
+  pub picks-agree : (k s : ℕ) → k ≤ length split → picks line far lines before split k s ≡ picks line′ far′ lines before split k s
+  picks-agree k s room =
+      inTurn-same (λ l p. l ++ (p ∷ [])) [] (λ place picked. pickOne line far lines before split picked) (λ place picked. pickOne line′ far′ lines before split picked)
+      Of s k (refl, λ q m. absurd (List·Memᴰ·not-nil m)) (λ i picked t u h. pick-of i picked t (omega arith) h)
+      (λ i picked t u h. pick-agree picked t (h .1))
+
+  -- the count that a pick finds, and so its mark
+  count-agree : (picked : List ℕ) (s : ℕ) → ((q : ℕ) → In q picked → In q split) → countAtPick line lines before split picked s ≡ countAtPick line′ lines before split picked s
+  unfolding countAtPick
+  count-agree picked s h =
+      let w = waiting split picked in
+      ap (λ c. c (drawFrom (leastLines c (openLines line lines w)) s .value)) (counts-agree line line′ (before ++ picked) (so-far picked h))
+      ∙ ap (λ o. nicheCount line′ (before ++ picked) (drawFrom (leastLines (nicheCount line′ (before ++ picked)) (keepBelow (has o) lines)) s .value))
+      (map-agree line line′ w (λ q m. agree q (waits-of picked q m)))
+
+  picks-of : (k s : ℕ) → k ≤ length split → Of k (picks line far lines before split k s .value)
+  picks-of k s room = drawAll-keeps (λ place picked. pickOne line far lines before split picked) Of s k (refl, λ q m. absurd (List·Memᴰ·not-nil m))
+      (λ i picked t u e h. pick-of i picked t (omega arith) h) .1
+
+  pub rules-agree : (k s : ℕ) → k ≤ length split → pickRules line far lines before split k s ≡ pickRules line′ far′ lines before split k s
+  unfolding pickRules
+  rules-agree k s room = listBelow-same (markAt line far lines before split s) (markAt line′ far′ lines before split s) k
+      (λ i h. ap (λ c. markOf (ruleOf c))
+      (count-agree (picks line far lines before split i s .value) (picks line far lines before split i s .state) (picks-of i s (omega arith) .1)
+      ∙ ap (λ d. countAtPick line′ lines before split (d .value) (d .state)) (picks-agree i s (omega arith))))

@@ -1,14 +1,14 @@
 -- THEOREM: in both editions the perpendicular distance of a plan from its line is least: edition 2 chooses by squares among the lines that are nearest by roots.
 use Prim.Native.Nat.{ℕ, _≤_, _<_}
-use mathlib.Core.Path.{sym, subst}
-use mathlib.Core.Bool.{not}
+use mathlib.Core.Path.{_≡_, sym, subst}
+use mathlib.Core.Bool.{true, not}
 use lib.Dec.{T}
 use lib.Ieee.{Float, le, lt}
 use Rattle.model.specs.declared.Edition.{Edition}
 use Rattle.model.specs.declared.Edition.the-variants.{First, Second}
 use Rattle.model.specs.Plan.{maxObjectives}
 use Rattle.model.specs.Papers.DebJain2014.{perpendicular, perpendicularSquare, Associated}
-use Rattle.model.specs.Association.{Request, objectives, lineCount, normalised, coordinate, lineOf}
+use Rattle.model.specs.Association.{Request, objectives, lineCount, shapes, normalised, coordinate, lineOf}
 use Rattle.float_laws.proofs.Order.{nlt→le, le-not-nan}
 use Rattle.float_laws.proofs.Constants.{nought, nought-not-nan}
 use Rattle.real_laws.proofs.Roots.Monotone.{sqrt-mono}
@@ -41,9 +41,9 @@ module _ (r : Request) (accepted : Accepted r) (measured : Measurable r) where
       subst Square (squares-paper r (wide .0) (wide .1) (divided .least) (divided .most) p l k) (squares-square (objectives r) (normalised r p) (coordinate r l))
 
   -- THE THEOREM
-  pub least-by-roots : (p : ℕ) → p < r .count → Associated (perpendicular (objectives r)) (normalised r) (coordinate r) (lineCount r) p (lineOf r p)
-  least-by-roots p h =
-      let a = association-associated r accepted measured p h in
+  pub least-by-roots : (p : ℕ) → p < r .count → shapes r p ≡ true → Associated (perpendicular (objectives r)) (normalised r) (coordinate r) (lineCount r) p (lineOf r p)
+  least-by-roots p h s =
+      let a = association-associated r accepted measured p h s in
       record {
         inside = a .inside;
         least = λ j k. by-roots (r .edition) (objectives r) (normalised r p) (coordinate r (lineOf r p)) (coordinate r j)

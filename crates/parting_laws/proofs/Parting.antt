@@ -1,30 +1,35 @@
--- THEOREM: the two editions of a request whose intercepts are the same in both hand out the same selection, unless two squares that it compares share one root.
-use Prim.Native.Nat.{ℕ, _-_, _<_}
-use mathlib.Core.Path.{_≡_, refl, ap, ap₂, sym, subst, _∙_}
+-- THEOREM: the two editions of a request whose scale is the same in both hand out the same selection, unless two squares that it compares share one root.
+use Prim.Native.Nat.{ℕ, _-_, _≤_, _<_}
+use mathlib.Core.Path.{_≡_, refl, ap, ap₂, sym, subst, _∙_, fun-ext}
 use mathlib.Core.Bool.{Bool, true, false, cond, _&&_}
 use mathlib.Core.List.{List, _++_}
 use mathlib.Core.Logic.{_⊎_, inl, inr}
 use native.Mathlib.Omega.{arith}
-use borrow.Author.Tests.{eqb-true, eq-eqb, ltb-true}
+use borrow.Author.Tests.{eqb-true, eq-eqb}
 use lib.Dec.{eqb}
-use lib.Ieee.{Float, lt}
-use lib.ListN.{length}
+use lib.Ieee.{Float, nan, lt}
+use lib.ListN.{length, getD}
 use Rattle.model.specs.declared.Edition.the-variants.{First, Second}
-use Rattle.model.specs.Lists.{anyBelow, listBelow}
-use Rattle.model.specs.Edition.{usesPlane}
+use Rattle.model.specs.Lists.{In, anyBelow, listBelow}
 use Rattle.model.specs.Real.{_⊖_, _⊘_}
 use Rattle.model.specs.Numbers.{sqrtOf}
 use Rattle.model.specs.Draw.{Drawn}
 use Rattle.model.specs.Front.{frontList}
-use Rattle.model.specs.Association.{Request, inEdition, objectives, lineCount, valueOf, dominance, shapers, idealOf, oldInterceptOf, planeInterceptOf, interceptOf, normalised, coordinate, distance, distanceTo, Near, nearestOf, association, lineOf}
-use Rattle.model.specs.Kept.{before, isSplit, splitFront, filled, filledRules, selectedSplit, selectedWhole, bySplit, selected, wholeFronts, wholeRules, Selected}
+use Rattle.model.specs.Association.{Request, inEdition, objectives, lineCount, valueOf, dominance, shapes, shapers, leastFrom, idealOf, normalised, coordinate, distance, distanceTo, Near, nearestOf, association, lineOf}
+use Rattle.model.specs.Kept.{before, isSplit, splitFront, picks, pickRules, filled, filledRules, noLine, lineMark, selectedSplit, selectedWhole, bySplit, selected, wholeFronts, wholeRules, Selected}
 use Rattle.list_laws.proofs.Bools.{by-bool, and-left, and-right, and-fails}
+use Rattle.list_laws.proofs.Below.{by-lt}
 use Rattle.list_laws.proofs.Built.{listBelow-same}
+use Rattle.list_laws.proofs.Kept.{keepBelow-same}
 use Rattle.list_laws.proofs.Tests.{anyBelow-some, anyBelow-each}
 use Rattle.association_laws.specs.Search.{Square}
 use Rattle.association_laws.proofs.Same.{distance-same, nearest-same}
 use Rattle.association_laws.proofs.Squares.{squares-square}
+use Rattle.niching_laws.specs.Niching.{Split}
 use Rattle.demand3_laws.proofs.Cut.{before-exactly, split-exactly}
+use Rattle.demand3_laws.proofs.Sizes.{split-room}
+use Rattle.demand3_laws.proofs.Demand3.{setting}
+use Rattle.demand3_laws.proofs.Shapers.{first-shape}
 use Rattle.nsga3_laws.proofs.Agree.{picks-agree, rules-agree}
 use Rattle.parting_laws.specs.Parting.{SameScale, sharedRoot, squareTo, firstLine, BetweenLines, OnOneLine}
 use Rattle.parting_laws.proofs.Shared.{Both, both, same-order}
@@ -39,37 +44,35 @@ module _ (r : Request) (scale : SameScale r) where
   -- ---- the distances of the two editions
 
   squares : (p l : ℕ) → Square (squareTo r p l)
-  squares p l = squares-square (objectives r) (normalised r p) (coordinate r l)
+  squares p l = squares-square (objectives r) (normalised one p) (coordinate r l)
 
   -- the nearest of plan p's lines by squares
   abbrev found : ℕ → Near
   found p = nearestOf (squareTo r p) (lineCount r)
 
-  -- the request's own scale is that of both
-  scaled : (b : Bool) (j : ℕ) → j < objectives r → oldInterceptOf r j ≡ cond b (planeInterceptOf r j) (oldInterceptOf r j)
-  unfolding interceptOf oldInterceptOf planeInterceptOf idealOf shapers
-  scaled true j h = scale j h
-  scaled false j h = refl
+  -- the scale of edition 2 is that of edition 1
+  shapers-same : shapers two ≡ shapers one
+  unfolding shapers
+  shapers-same = keepBelow-same (shapes two) (shapes one) (r .count) (λ p h. scale .shape p h ∙ sym (first-shape one refl p))
 
-  first-scale : (p j : ℕ) → j < objectives r → normalised one p j ≡ normalised r p j
-  unfolding normalised interceptOf oldInterceptOf idealOf shapers
-  first-scale p j h = ap (λ i. (valueOf r p j ⊖ idealOf r j) ⊘ i) (scaled (usesPlane (r .edition)) j h)
+  ideal-same : (j : ℕ) → idealOf two j ≡ idealOf one j
+  unfolding idealOf
+  ideal-same j = ap (leastFrom (getD (r .ideal) j nan) (λ p. valueOf r p j)) shapers-same
 
-  second-scale : (p j : ℕ) → j < objectives r → normalised two p j ≡ normalised r p j
-  unfolding normalised interceptOf planeInterceptOf oldInterceptOf idealOf shapers
-  second-scale p j h = ap (λ i. (valueOf r p j ⊖ idealOf r j) ⊘ i) (sym (scaled true j h) ∙ scaled (usesPlane (r .edition)) j h)
+  scaled-same : (p j : ℕ) → j < objectives r → normalised two p j ≡ normalised one p j
+  unfolding normalised
+  scaled-same p j h = ap₂ (λ z i. (valueOf r p j ⊖ z) ⊘ i) (ideal-same j) (sym (scale .intercepts j h))
 
   by-roots : (p : ℕ) → association one p ≡ nearestOf (λ l. sqrtOf (squareTo r p l)) (lineCount r)
   unfolding association
   by-roots p = nearest-same _ _ (lineCount r)
-      (λ l h. unfold distanceTo distance coordinate in
-      distance-same First (objectives r) (normalised one p) (normalised r p) (coordinate r l) (coordinate r l) (first-scale p) (λ j k. refl))
+      (λ l h. unfold distanceTo distance coordinate in refl)
 
   by-squares : (p : ℕ) → association two p ≡ found p
   unfolding association
   by-squares p = nearest-same _ _ (lineCount r)
       (λ l h. unfold distanceTo distance coordinate in
-      distance-same Second (objectives r) (normalised two p) (normalised r p) (coordinate r l) (coordinate r l) (second-scale p) (λ j k. refl))
+      distance-same Second (objectives r) (normalised two p) (normalised one p) (coordinate r l) (coordinate r l) (scaled-same p) (λ j k. refl))
 
   -- ---- what looks at no distance
 
@@ -119,43 +122,72 @@ module _ (r : Request) (scale : SameScale r) where
           (a .found .held) (b .found .held) (a .origin) (b .origin) (λ i j. own-squares p q h k same)
           ∙ ap₂ lt (ap (λ (v : Near). v .distance) (sym (by-squares p))) (ap (λ (v : Near). v .distance) (sym (by-squares q)))
 
-      module _ (some : 0 < r .count) where
+      -- where there is no line, there is nothing to compare
+      none-near : lineCount r ≤ 0 → association one ≡ association two
+      unfolding association
+      none-near h = fun-ext (λ p. nearest-same _ _ (lineCount r) (λ l u. absurd (omega arith)))
+
+      module _ (split : isSplit r ≡ true) where
+        abbrev open-places : ℕ
+        open-places = r .size - length (before r)
+
+        -- those that may be listed are the pool's
+        ahead : (p : ℕ) → In p (before r) → lineOf one p ≡ lineOf two p
+        ahead p m = lines-same p (before-exactly r .below p m)
+
+        agree : (p : ℕ) → In p (splitFront r) → lineOf one p ≡ lineOf two p
+        agree p m = lines-same p (split-exactly r .below p m)
+
+        close : (p q : ℕ) → In p (splitFront r) → In q (splitFront r) → lineOf one p ≡ lineOf one q
+            → lt (association one p .distance) (association one q .distance) ≡ lt (association two p .distance) (association two q .distance)
+        close p q m k = order-same p q (split-exactly r .below p m) (split-exactly r .below q k)
+
+        parts : 0 < lineCount r → Split (before r) (splitFront r) (lineOf one) (lineCount r)
+        unfolding before wholeFronts splitFront
+        parts some = setting one some (first-split ∙ split)
+
+        abbrev picks-by : (ℕ → Near) → Drawn (List ℕ)
+        picks-by a = picks (λ p. a p .line) (λ p. a p .distance) (lineCount r) (before r) (splitFront r) open-places (r .state)
+
+        abbrev rules-by : (ℕ → Near) → List ℕ
+        rules-by a = pickRules (λ p. a p .line) (λ p. a p .distance) (lineCount r) (before r) (splitFront r) open-places (r .state)
+
         filled-same : filled one ≡ filled two
         unfolding filled before wholeFronts splitFront
-        filled-same =
-            picks-agree (r .count) some (lineOf one) (lineOf two) (λ p. association one p .distance) (λ p. association two p .distance) lines-same order-same (lineCount r)
-            (before r) (splitFront r) (before-exactly r .below) (split-exactly r .below) (r .size - length (before r)) (r .state)
+        filled-same = by-lt 0 (lineCount r)
+            (λ some. picks-agree (parts some) (lineOf two) (λ p. association one p .distance) (λ p. association two p .distance) ahead agree close open-places (r .state) (split-room r split))
+            (λ none. ap picks-by (none-near none))
 
         rules-same : filledRules one ≡ filledRules two
         unfolding filledRules before wholeFronts splitFront
-        rules-same =
-            rules-agree (r .count) some (lineOf one) (lineOf two) (λ p. association one p .distance) (λ p. association two p .distance) lines-same order-same (lineCount r)
-            (before r) (splitFront r) (before-exactly r .below) (split-exactly r .below) (r .size - length (before r)) (r .state)
+        rules-same = by-lt 0 (lineCount r)
+            (λ some. rules-agree (parts some) (lineOf two) (λ p. association one p .distance) (λ p. association two p .distance) ahead agree close open-places (r .state) (split-room r split))
+            (λ none. ap rules-by (none-near none))
+
+        mark-same : (p : ℕ) → p < r .count → lineMark one p ≡ lineMark two p
+        mark-same p h = ap₂ (λ b l. cond b l noLine) (first-shape one refl p ∙ sym (scale .shape p h)) (lines-same p h)
 
         split-same : selectedSplit one ≡ selectedSplit two
-        unfolding selectedSplit before wholeFronts idealOf shapers
+        unfolding selectedSplit before wholeFronts
         split-same =
-            ap (λ f. handed f (filledRules one) (listBelow (lineOf one) (r .count))) filled-same
-            ∙ ap₂ (λ m l. handed (filled two) m l) rules-same (listBelow-same (lineOf one) (lineOf two) (r .count) lines-same)
+            ap₂ (λ f m. handed f m (listBelow (lineMark one) (r .count)) (listBelow (idealOf one) (objectives r))) filled-same rules-same
+            ∙ ap₂ (λ l i. handed (filled two) (filledRules two) l i) (listBelow-same (lineMark one) (lineMark two) (r .count) mark-same)
+            (listBelow-same (idealOf one) (idealOf two) (objectives r) (λ j h. sym (ideal-same j)))
           where
-            handed : Drawn (List ℕ) → List ℕ → List ℕ → Selected
-            handed f m l = record {
+            handed : Drawn (List ℕ) → List ℕ → List ℕ → List Float → Selected
+            handed f m l i = record {
               kept = before r ++ f .value;
               rules = wholeRules r ++ m;
               fronts = frontList (dominance r) (r .count);
               lines = l;
-              ideal = listBelow (idealOf r) (objectives r);
+              ideal = i;
               state = f .state;
             }
-
-      split-some : isSplit r ≡ true → 0 < r .count
-      unfolding isSplit
-      split-some e = omega (arith, ltb-true (wholeFronts r) (r .count) (and-left _ _ e))
 
       pub selected-same : selected one ≡ selected two
       unfolding selected
       selected-same = by-bool (isSplit r)
-          (λ e. ap (λ b. bySplit b one) (first-split ∙ e) ∙ split-same (split-some e) ∙ ap (λ b. bySplit b two) (sym (second-split ∙ e)))
+          (λ e. ap (λ b. bySplit b one) (first-split ∙ e) ∙ split-same e ∙ ap (λ b. bySplit b two) (sym (second-split ∙ e)))
           (λ e. ap (λ b. bySplit b one) (first-split ∙ e) ∙ whole-same ∙ ap (λ b. bySplit b two) (sym (second-split ∙ e)))
 
   -- ---- THE THEOREM

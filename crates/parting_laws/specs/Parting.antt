@@ -5,19 +5,21 @@ use mathlib.Core.Bool.{Bool, true, false, _&&_}
 use lib.Ieee.{Float, lt, eq}
 use Rattle.model.specs.declared.Edition.the-variants.{First, Second}
 use Rattle.model.specs.Numbers.{sqrtOf}
-use Rattle.model.specs.Association.{Request, inEdition, objectives, lineCount, interceptOf, normalised, coordinate, squaresOf, lineOf}
+use Rattle.model.specs.Association.{Request, inEdition, objectives, lineCount, shapes, interceptOf, normalised, coordinate, squaresOf, lineOf}
 
--- the intercepts of the two editions are the same, as where the plane does not serve (M-102): only then are the same squares compared
-abbrev pub SameScale : Request → Type 0
-SameScale r = (j : ℕ) → j < objectives r → interceptOf (inEdition First r) j ≡ interceptOf (inEdition Second r) j
+-- every plan shapes the scale in edition 2 too, as where none is infeasible (M-112), and the intercepts of the two editions are the same, as where the plane does
+-- not serve (M-102): only then are the same squares compared
+pub record SameScale (r : Request) : Type 0 where
+  pub shape : (p : ℕ) → p < r .count → shapes (inEdition Second r) p ≡ true
+  pub intercepts : (j : ℕ) → j < objectives r → interceptOf (inEdition First r) j ≡ interceptOf (inEdition Second r) j
 
 -- two squares in order that share one root
 abbrev pub sharedRoot : Float → Float → Bool
 sharedRoot x y = lt x y && eq (sqrtOf x) (sqrtOf y)
 
--- the square of plan p's distance from line l
+-- the square of plan p's distance from line l, on the scale of edition 1
 abbrev pub squareTo : Request → ℕ → ℕ → Float
-squareTo r p l = squaresOf (objectives r) (normalised r p) (coordinate r l)
+squareTo r p l = squaresOf (objectives r) (normalised (inEdition First r) p) (coordinate r l)
 
 -- plan p's line in edition 1
 abbrev pub firstLine : Request → ℕ → ℕ

@@ -6,8 +6,8 @@ use native.Mathlib.Omega.{arith}
 use lib.ListN.{length, getD, take, length-replicate}
 use Rattle.model.specs.Lists.{over}
 use Rattle.model.specs.Front.{frontList}
-use Rattle.model.specs.Association.{Request, lineOf}
-use Rattle.model.specs.Kept.{Selected, selected, selectedSplit, selectedWhole, noLine}
+use Rattle.model.specs.Association.{Request}
+use Rattle.model.specs.Kept.{Selected, selected, selectedSplit, selectedWhole, noLine, lineMark}
 use Rattle.model.specs.PoolFile.{headerText, planText, listingText}
 use Rattle.list_laws.proofs.Built.{listBelow-length, joinBelow-same, over-take, over-at}
 use Rattle.niching_laws.proofs.KeptLength.{kept-length, by-split, fronts-all}
@@ -21,7 +21,7 @@ fronts-count r = ap length (fronts-all r) ∙ listBelow-length _ (r .count)
 
 lines-count : (r : Request) → length (selected r .lines) ≡ r .count
 unfolding selectedSplit selectedWhole
-lines-count r = by-split r (λ s. length (s .lines) ≡ r .count) (listBelow-length (lineOf r) (r .count)) (length-replicate (r .count) noLine)
+lines-count r = by-split r (λ s. length (s .lines) ≡ r .count) (listBelow-length (lineMark r) (r .count)) (length-replicate (r .count) noLine)
 
 -- ---- the listing
 

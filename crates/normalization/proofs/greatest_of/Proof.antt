@@ -1,20 +1,19 @@
 -- the best so far is the greatest of the plans before p
 use Prim.Native.Nat.{_+_, _*_, _-_, _≤_}
-use mathlib.Core.Path.{_≡_, refl, sym, _∙_}
+use mathlib.Core.Path.{_≡_, sym, _∙_}
 use mathlib.Core.Bool.{true}
 use mathlib.Core.Logic.{⊎-elim}
 use native.Mathlib.Omega.{arith}
 use lib.Ieee.{inf, div, ofBits, neg}
-use Rattle.model.specs.Association.{greatest}
-use Rattle.association_laws.specs.Flat.{column, shapersOf}
+use Rattle.association_laws.specs.Flat.{column, greatestBelow}
 use Rattle.list_laws.proofs.Rows.{row-inside}
-use Rattle.list_laws.proofs.Best.{among-none, among-more}
+use Rattle.list_laws.proofs.Best.{best-none, best-more}
 use Rattle.model.specs.Real.{above}
 use Rattle.normalization.proofs.greatest_of.Statement.{statement}
 use Rattle.normalization.proofs.greatest_of.Tie as tie
 
 abbrev Inv-loop : tie.InvT-loop
-Inv-loop rows n m j best₀ p₀ best p = (p ≤ n) × (best ≡ greatest (column rows m j) (shapersOf p))
+Inv-loop rows n m j best₀ p₀ best p = (p ≤ n) × (best ≡ greatestBelow rows p m j)
 
 abbrev μ-loop : tie.MeasureT-loop
 μ-loop rows n m j best₀ p₀ best p = n - p
@@ -25,7 +24,7 @@ inside c = row-inside _ _ _ (c .loop-test .taken)
 
 loop-holds : tie.Need-loop-holds Inv-loop μ-loop
 unfolding div ofBits neg
-loop-holds c = let a = c .args in (omega arith, sym (among-none above (inf true) (column (a .rows .now) (a .m) (a .j)) (λ p. true)))
+loop-holds c = let a = c .args in (omega arith, sym (best-none above (inf true) (column (a .rows .now) (a .m) (a .j))))
 
 mul-v : tie.Need-mul-v Inv-loop μ-loop
 mul-v c = omega (arith, inside c)
@@ -53,8 +52,8 @@ loop-again c =
     let f = column (a .rows .now) (a .m) (a .j) in (
       omega arith,
       ⊎-elim
-          (λ w. w .1 ∙ among-more above (inf true) f (λ p. true) (l .p) refl (l .inv .1) (w .0 .taken))
-          (λ w. w .1 ∙ among-more above (inf true) f (λ p. true) (l .p) refl (l .inv .1) (w .0 .left)) (c .if1 .came),
+          (λ w. w .1 ∙ best-more above (inf true) f (l .p) (l .inv .1) (w .0 .taken))
+          (λ w. w .1 ∙ best-more above (inf true) f (l .p) (l .inv .1) (w .0 .left)) (c .if1 .came),
     )
 
 returns : tie.Need-returns Inv-loop μ-loop

@@ -1,19 +1,17 @@
 -- the least so far is that of the plans before p
 use Prim.Native.Nat.{_+_, _*_, _-_, _≤_}
-use mathlib.Core.Path.{_≡_, refl, sym, _∙_}
-use mathlib.Core.Bool.{true}
+use mathlib.Core.Path.{_≡_, sym, _∙_}
 use mathlib.Core.Logic.{⊎-elim}
 use native.Mathlib.Omega.{arith}
 use lib.Ieee.{lt}
-use Rattle.model.specs.Association.{leastFrom}
-use Rattle.association_laws.specs.Flat.{column, shapersOf}
+use Rattle.association_laws.specs.Flat.{column, leastBelow}
 use Rattle.list_laws.proofs.Rows.{row-inside}
-use Rattle.list_laws.proofs.Best.{among-none, among-more}
+use Rattle.list_laws.proofs.Best.{best-none, best-more}
 use Rattle.normalization.proofs.least_of.Statement.{statement}
 use Rattle.normalization.proofs.least_of.Tie as tie
 
 abbrev Inv-loop : tie.InvT-loop
-Inv-loop rows n m j start least₀ p₀ least p = (p ≤ n) × (least ≡ leastFrom start (column rows m j) (shapersOf p))
+Inv-loop rows n m j start least₀ p₀ least p = (p ≤ n) × (least ≡ leastBelow start rows p m j)
 
 abbrev μ-loop : tie.MeasureT-loop
 μ-loop rows n m j start least₀ p₀ least p = n - p
@@ -23,7 +21,7 @@ inside : (c : tie.In-loop Inv-loop μ-loop) → c .before .loop .p * c .before .
 inside c = row-inside _ _ _ (c .loop-test .taken)
 
 loop-holds : tie.Need-loop-holds Inv-loop μ-loop
-loop-holds c = let a = c .args in (omega arith, sym (among-none lt (a .start) (column (a .rows .now) (a .m) (a .j)) (λ p. true)))
+loop-holds c = let a = c .args in (omega arith, sym (best-none lt (a .start) (column (a .rows .now) (a .m) (a .j))))
 
 mul-v : tie.Need-mul-v Inv-loop μ-loop
 mul-v c = omega (arith, inside c)
@@ -51,8 +49,8 @@ loop-again c =
     let f = column (a .rows .now) (a .m) (a .j) in (
       omega arith,
       ⊎-elim
-          (λ w. w .1 ∙ among-more lt (a .start) f (λ p. true) (l .p) refl (l .inv .1) (w .0 .taken))
-          (λ w. w .1 ∙ among-more lt (a .start) f (λ p. true) (l .p) refl (l .inv .1) (w .0 .left)) (c .if1 .came),
+          (λ w. w .1 ∙ best-more lt (a .start) f (l .p) (l .inv .1) (w .0 .taken))
+          (λ w. w .1 ∙ best-more lt (a .start) f (l .p) (l .inv .1) (w .0 .left)) (c .if1 .came),
     )
 
 returns : tie.Need-returns Inv-loop μ-loop

@@ -6,9 +6,8 @@ use borrow.Author.Needs.{needs}
 use lib.Ieee.{nan}
 use lib.ListN.{length, length-set}
 use Rattle.model.specs.Lists.{listBelow, over}
-use Rattle.model.specs.Association.{leastFrom}
 use Rattle.list_laws.proofs.Built.{over-none, over-set}
-use Rattle.association_laws.specs.Flat.{column, shapersOf, leastAt}
+use Rattle.association_laws.specs.Flat.{leastBelow, leastAt}
 use Rattle.list_laws.proofs.Runs.{over-next}
 use Rattle.normalization.proofs.update_ideal_point.Statement.{statement}
 use Rattle.normalization.proofs.update_ideal_point.Tie as tie
@@ -48,7 +47,7 @@ loop-again : tie.Need-loop-again Inv-loop μ-loop
 loop-again c =
     let l = c .before .before .before .loop in
     let a = c .before .before .before .before .before .before .args in
-    let v = c .least-of .ensures ∙ ap (λ t. leastFrom t (column (a .rows .now) (a .m) (l .j)) (shapersOf (a .n))) (over-next _ _ _ _ nan (l .inv .2)) in
+    let v = c .least-of .ensures ∙ ap (λ t. leastBelow t (a .rows .now) (a .n) (a .m) (l .j)) (over-next _ _ _ _ nan (l .inv .2)) in
     (omega arith, simp length-set (l .inv .1), over-set _ _ _ _ _ (omega arith) (l .inv .2) v)
 
 same-length : tie.Need-same-length Inv-loop μ-loop

@@ -1,0 +1,3 @@
+pub mod Hopeless
+pub mod Calls
+pub mod Cases

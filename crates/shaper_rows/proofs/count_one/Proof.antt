@@ -1,0 +1,17 @@
+-- one more, or not
+use borrow.Author.Needs.{needs}
+use native.Mathlib.Omega.{arith}
+use Rattle.shaper_rows.proofs.count_one.Statement.{statement}
+use Rattle.shaper_rows.proofs.count_one.Tie as tie
+
+add-result : tie.Need-add-result
+add-result c = search needs
+
+returns : tie.Need-returns
+returns c = rw (c .if1 .taken)
+
+returns-2 : tie.Need-returns-2
+returns-2 c = rw (c .if1 .left) (omega arith)
+
+pub count-one-spec : {M : Type 1} → statement M
+count-one-spec = tie.close (tie.spec add-result returns returns-2)
