@@ -160,9 +160,9 @@ impl Proved {
 /// The static library's session, in so many words.
 fn open(opening: &Opening, session_words: usize) -> Result<raw::Session, u64> {
     let directions = direction_bytes(&opening.marks);
-    let [size, divisions] = [opening.size, opening.divisions].map(|n| n.map(|n| n as usize));
+    let [size, divisions, window] = [opening.size, opening.divisions, opening.window].map(|n| n.map(|n| n as usize));
     let (edition, operators) = (opening.edition.number(), opening.operators.reals());
-    raw::Session::open(edition, &directions, opening.seed, size, divisions, operators, session_words)
+    raw::Session::open(edition, &directions, opening.seed, size, divisions, operators, window, session_words)
 }
 
 /// The numbers of the plans that wait.

@@ -9,14 +9,14 @@
 #include <string.h>
 #include <sys/mman.h>
 
-enum { STACK = 16 << 20, FILL = 0xa5, OBJECTIVES = 3, SIZE = 100, DIMS = LOCUSTDOMINO_MAX_DIMENSIONS };
+enum { STACK = 16 << 20, FILL = 0xa5, OBJECTIVES = 3, SIZE = 100, WINDOW = LOCUSTDOMINO_MAX_WINDOW, DIMS = LOCUSTDOMINO_MAX_DIMENSIONS };
 
 static uint8_t directions[OBJECTIVES], rules[SIZE], file[1 << 17], text[20501];
 static double ideal[OBJECTIVES];
 static uint64_t session[LOCUSTDOMINO_SESSION_WORDS], candidates[LOCUSTDOMINO_CANDIDATE_WORDS], plans[LOCUSTDOMINO_MAX_PLANS];
 static uint64_t history[SIZE * LOCUSTDOMINO_PLAN_WORDS], dimensions[DIMS * LOCUSTDOMINO_DIMENSION_WORDS], offspring[SIZE * DIMS];
 static size_t next_dims[LOCUSTDOMINO_MAX_PLANS], kept[SIZE], fronts[SIZE], lines[SIZE], records, size, file_length, length;
-static uint64_t pool_words[2 * SIZE * LOCUSTDOMINO_PLAN_WORDS], plan, state, answer, kind, value;
+static uint64_t pool_words[2 * SIZE * LOCUSTDOMINO_PLAN_WORDS + (WINDOW - 1) * OBJECTIVES], plan, state, answer, kind, value;
 
 static uint64_t word(double x) {
     uint64_t w;
@@ -27,7 +27,7 @@ static uint64_t word(double x) {
 static void *nothing(void *none) { return none; }
 
 static void *open_session(void *none) {
-    answer = locustdomino_open(LOCUSTDOMINO_SECOND_EDITION, directions, OBJECTIVES, 1, 1, SIZE, 0, 0, 1.0, 30.0, 20.0, session,
+    answer = locustdomino_open(LOCUSTDOMINO_SECOND_EDITION, directions, OBJECTIVES, 1, 1, SIZE, 0, 0, 1.0, 30.0, 20.0, 1, WINDOW, session,
         LOCUSTDOMINO_SESSION_WORDS);
     return none;
 }
@@ -35,7 +35,7 @@ static void *open_session(void *none) {
 static void *sample(void *none) {
     answer = locustdomino_sample(session, LOCUSTDOMINO_SESSION_WORDS, dimensions, LOCUSTDOMINO_DIMENSION_WORDS, plan, history,
         records * LOCUSTDOMINO_PLAN_WORDS, candidates, LOCUSTDOMINO_CANDIDATE_WORDS, plans, LOCUSTDOMINO_MAX_PLANS, next_dims,
-        LOCUSTDOMINO_MAX_PLANS, pool_words, 2 * SIZE * LOCUSTDOMINO_PLAN_WORDS, &kind, &value);
+        LOCUSTDOMINO_MAX_PLANS, pool_words, sizeof pool_words / sizeof *pool_words, &kind, &value);
     return none;
 }
 

@@ -46,6 +46,7 @@ enum {
     LOCUSTDOMINO_FULL = 11,          /* a new plan number, and the generation has 2,048 plans */
     LOCUSTDOMINO_BAD_LOAD = 13,      /* a trial load's counts would meet 2, 3, 4, 7 or 8 in locustdomino_choose, or its file would be
                                         over 65,536 bytes */
+    LOCUSTDOMINO_BAD_WINDOW = 14,    /* a window is given and is not 1 to LOCUSTDOMINO_MAX_WINDOW generations: looked at right after 5 */
     LOCUSTDOMINO_BAD_BANDS = 15,     /* no bands, over 16, upper litres not strictly rising, or a price above 1,000,000 */
     LOCUSTDOMINO_BAD_LITRES = 16,    /* a kept list over 1,024 long, a plan in it without litres, or any litres above 1,000,000,000 */
     LOCUSTDOMINO_BAD_SECOND_FORM = 17, /* a pool file of the second edition, which opens with 64, breaks its form */
@@ -101,21 +102,26 @@ enum {
 /* "No line": where a selection splits no front, and in edition 2 of an infeasible plan where the split front is feasible. */
 #define LOCUSTDOMINO_NO_LINE SIZE_MAX
 
-/* Sizes of what is lent with a session: 32 words of its own and those of its dimensions; a word for each setting of the plans of a
+/* Sizes of what is lent with a session: 35 words of its own and those of its dimensions; a word for each setting of the plans of a
  * generation; and the words of the plans bred from, size many in edition 1 and twice as many in edition 2, of which
- * LOCUSTDOMINO_MAX_POOL are always enough. Its words and its four slices are not to be changed by the caller; all five together may
+ * LOCUSTDOMINO_MAX_POOL are always enough. With a window the pool's slice has to hold, behind these, the least values of the window's
+ * generations but one, a word an objective. Its words and its four slices are not to be changed by the caller; all five together may
  * be stored and brought back. */
 #define LOCUSTDOMINO_MAX_DIMENSIONS LOCUSTDOMINO_MAX_SETTINGS
-#define LOCUSTDOMINO_SESSION_WORDS (32 + LOCUSTDOMINO_DIMENSION_WORDS * LOCUSTDOMINO_MAX_DIMENSIONS)
+#define LOCUSTDOMINO_SESSION_WORDS (35 + LOCUSTDOMINO_DIMENSION_WORDS * LOCUSTDOMINO_MAX_DIMENSIONS)
 #define LOCUSTDOMINO_MAX_PLANS 2048
 #define LOCUSTDOMINO_CANDIDATE_WORDS (LOCUSTDOMINO_MAX_PLANS * LOCUSTDOMINO_MAX_DIMENSIONS)
 #define LOCUSTDOMINO_MAX_HISTORY 4096
+#define LOCUSTDOMINO_MAX_WINDOW 64
+#define LOCUSTDOMINO_WINDOW_WORDS(window, objectives) (((window) - 1) * (objectives))
 
-/* What may be read of a session's words: how many plans a generation has, and how many plans wait. The plans that wait stand at the
- * front of the pool's slice, in the kept list's order. In edition 1 none waits; in edition 2 none before the first breeding, and from
- * then on as many as a generation has. */
+/* What may be read of a session's words: how many plans a generation has, how many plans wait, and from the last place on the ideal, the
+ * bits of a double an objective. The plans that wait stand at the front of the pool's slice, in the kept list's order. In edition 1
+ * none waits; in edition 2 none before the first breeding, and from then on as many as a generation has. In the ideal the values of
+ * maximised objectives are negated, and it is plus infinity before the first breeding. */
 #define LOCUSTDOMINO_SESSION_SIZE 10
-#define LOCUSTDOMINO_SESSION_WAITING 22
+#define LOCUSTDOMINO_SESSION_WAITING 24
+#define LOCUSTDOMINO_SESSION_IDEAL 27
 
 /* What put a plan on the kept list: its front was listed whole; it was the nearest on a reference line that had no plan yet; it was
  * drawn among those of a line that had one; or the pool had no plan left, and it was drawn to fill the list. */
@@ -163,7 +169,10 @@ uint64_t locustdomino_generate_offspring(
     size_t *n_kept);
 
 /* Opens a session of an edition: its LOCUSTDOMINO_SESSION_WORDS words go to `session`, and a shorter slice meets 10 where no lower number
- * applies. A size and divisions count where their mark is not 0. Refusals: 2, 3, 4, 5, 10. */
+ * applies. A size, divisions and a window count where their mark is not 0: a window of 0 generations that counts meets 14.
+ * With a window of so many generations the ideal is the least over the pools of the last so many, the present one included, whether
+ * they split a front or not, and what came before is forgotten. Without one it is the least over all pools that split a front.
+ * Refusals: 2, 3, 4, 5, 14, 10. */
 uint64_t locustdomino_open(
     uint64_t edition,
     const uint8_t *directions, size_t objectives,
@@ -171,6 +180,7 @@ uint64_t locustdomino_open(
     uint8_t has_size, size_t size,
     uint8_t has_divisions, size_t divisions,
     double crossover_prob, double crossover_eta, double mutation_eta,
+    uint8_t has_window, size_t window,
     uint64_t *session, size_t session_words);
 
 /* The next setting of plan `plan`. Its kind goes to `kind` and its word to `value`. While the first plan asks, each call adds
@@ -184,7 +194,7 @@ uint64_t locustdomino_open(
  * number opens a new one.
  * `candidates`, `plans`, `next_dims` and `pool` are lent with every call and are the session's: LOCUSTDOMINO_CANDIDATE_WORDS entries
  * at least, LOCUSTDOMINO_MAX_PLANS for each of the next two, and LOCUSTDOMINO_PLAN_WORDS for each plan bred from: size plans in
- * edition 1, twice as many in edition 2. A shorter one meets 10.
+ * edition 1, twice as many in edition 2, and with a window LOCUSTDOMINO_WINDOW_WORDS more. A shorter one meets 10.
  * ASKED of the caller, and not checked: the session's words are as an accepted locustdomino_open or the last locustdomino_sample
  * left them, with the same four slices as that call left them (after opening the four may hold anything). Words or slices that
  * were changed may have any effect. A session slice of fewer than LOCUSTDOMINO_SESSION_WORDS words meets 7 where the history is

@@ -35,14 +35,21 @@ RECORDS = {
     "kept_second": 16,
     "breeding_second": 6,
     "session_second": 8,
+    "session_window": 10,
     "long": 0,
 }
 
-# The record that the replaying programs count a record of edition 2 under.
-COUNTED = {"association_second": "association", "kept_second": "kept", "breeding_second": "breeding", "session_second": "session"}
+# The record that the replaying programs count a record of edition 2, or of sessions with a window, under.
+COUNTED = {
+    "association_second": "association",
+    "kept_second": "kept",
+    "breeding_second": "breeding",
+    "session_second": "session",
+    "session_window": "session",
+}
 
 # The programs that replay, and the records whose stored files each reads, joined.
-FILES = ["choose", "load", "editions", "convert"]
+FILES = ["choose", "load", "editions", "convert", "session_window"]
 REPLAYS = {
     "replay_main": [record for record in RECORDS if record not in FILES + ["long"]],
     "replay_files_main": FILES,

@@ -139,7 +139,7 @@ static void generations(const uint8_t *directions)
         {LOCUSTDOMINO_CATEGORICAL, 3, 0, 0, 0, 0},
     };
     must("open", locustdomino_open(
-        LOCUSTDOMINO_SECOND_EDITION, directions, 3, 7, 1, SIZE, 0, 0, 1.0, 30.0, 20.0, session, LOCUSTDOMINO_SESSION_WORDS));
+        LOCUSTDOMINO_SECOND_EDITION, directions, 3, 7, 1, SIZE, 0, 0, 1.0, 30.0, 20.0, 0, 0, session, LOCUSTDOMINO_SESSION_WORDS));
     /* One plan more than the generations: the first plan finds the dimensions and is in no generation. */
     for (uint64_t number = 0; number < PLANS; number++) {
         uint64_t *plan = plan_at(number);

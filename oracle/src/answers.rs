@@ -249,8 +249,10 @@ pub fn answer(input: &[u64]) -> Result<Vec<u64>, String> {
             }
         }
 
-        session::SESSION => a = session::answer(Edition::First, r)?,
-        session::SESSION_SECOND => a = session::answer(Edition::Second, r)?,
+        session::SESSION => a = session::answer(Edition::First, false, r)?,
+        session::SESSION_SECOND => a = session::answer(Edition::Second, false, r)?,
+        session::SESSION_WINDOW => a = session::answer(Edition::First, true, r)?,
+        session::SESSION_SECOND_WINDOW => a = session::answer(Edition::Second, true, r)?,
 
         95 => {
             let text = pool_file::choose(&r.bytes()?);

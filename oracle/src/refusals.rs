@@ -21,6 +21,12 @@ pub fn lowest(conditions: &[(u64, bool)]) -> Option<u64> {
         .min()
 }
 
+/// The first that holds, in the order given.
+pub fn first(conditions: &[(u64, bool)]) -> Option<u64> {
+    let found = conditions.iter().find(|(_, holds)| *holds);
+    found.map(|(number, _)| *number)
+}
+
 /// 2: objectives not 1 to 8, or a mark neither 0 nor 1.
 pub fn bad_marks(marks: &[u64]) -> bool {
     !(1..=8).contains(&marks.len()) || marks.iter().any(|&mark| mark > 1)

@@ -1,6 +1,6 @@
 //! Sessions: the sampler's own calls, with document 01's refusals in front. In
 //! edition 2 the driver hands the Rust's generation step the joined pool
-//! (document 02, M-100).
+//! (document 02, M-100). With a window it hands it the ideal (M-109).
 
 use crate::answers::push_settings;
 use crate::distribution::Distribution;
@@ -15,9 +15,11 @@ use crate::types::Direction;
 use crate::watch;
 use crate::words::{Reader, push_counted_reals, push_optional, push_reals};
 
-/// The commands of a session, of either edition.
+/// The commands of a session, of either edition, and of one that may have a window.
 pub const SESSION: u64 = 90;
 pub const SESSION_SECOND: u64 = 91;
+pub const SESSION_WINDOW: u64 = 92;
+pub const SESSION_SECOND_WINDOW: u64 = 93;
 
 /// The operators that breed.
 #[derive(Clone, Copy, Debug)]
@@ -59,6 +61,7 @@ pub struct Opening {
     pub divisions: Option<u64>,
     pub operators: Operators,
     pub seed: u64,
+    pub window: Option<u64>,
 }
 
 impl Opening {
@@ -72,11 +75,13 @@ impl Opening {
             divisions,
             operators: Operators::OWN,
             seed,
+            window: None,
         }
     }
 
-    /// What stands behind the command, which says the edition.
-    pub fn read(edition: Edition, r: &mut Reader) -> Result<Self, String> {
+    /// What stands behind the command, which says the edition and whether a
+    /// window may follow the seed.
+    pub fn read(edition: Edition, windowed: bool, r: &mut Reader) -> Result<Self, String> {
         Ok(Opening {
             edition,
             short: r.flag()?,
@@ -85,14 +90,17 @@ impl Opening {
             divisions: r.optional()?,
             operators: Operators::read(r)?,
             seed: r.number()?,
+            window: if windowed { r.optional()? } else { None },
         })
     }
 
     /// The command and the opening.
     pub fn write(&self, line: &mut Vec<u64>) {
-        line.push(match self.edition {
-            Edition::First => SESSION,
-            Edition::Second => SESSION_SECOND,
+        line.push(match (self.edition, self.window) {
+            (Edition::First, None) => SESSION,
+            (Edition::Second, None) => SESSION_SECOND,
+            (Edition::First, Some(_)) => SESSION_WINDOW,
+            (Edition::Second, Some(_)) => SESSION_SECOND_WINDOW,
         });
         line.push(self.short as u64);
         plans::write_marks(line, &self.marks);
@@ -100,6 +108,9 @@ impl Opening {
         push_optional(line, self.divisions);
         push_reals(line, &self.operators.reals());
         line.push(self.seed);
+        if self.window.is_some() {
+            push_optional(line, self.window);
+        }
     }
 
     /// The sampler, made by the Rust's own builder.
@@ -128,7 +139,33 @@ pub struct Session {
     history: Vec<Plan>,
     trials: Vec<MultiObjectiveTrial>,
     waiting: Vec<Plan>,
+    window: Option<usize>,
+    /// The own parts of the generations before the present one, with a window:
+    /// the least value of each objective, the oldest generation first.
+    remembered: Vec<Vec<f64>>,
     bred: Bred,
+}
+
+/// The least of each objective, in minimise-space, of an ideal and the plans of
+/// a pool; of equals the first.
+fn least(mut ideal: Vec<f64>, pool: &[&Plan], directions: &[Direction]) -> Vec<f64> {
+    for plan in pool {
+        for (least, value) in ideal.iter_mut().zip(minimised(&plan.values, directions)) {
+            if value < *least {
+                *least = value;
+            }
+        }
+    }
+    ideal
+}
+
+/// Maximised values are negated.
+fn minimised(values: &[f64], directions: &[Direction]) -> Vec<f64> {
+    let turned = |(value, direction): (&f64, &Direction)| match direction {
+        Direction::Minimize => *value,
+        Direction::Maximize => -value,
+    };
+    values.iter().zip(directions).map(turned).collect()
 }
 
 /// How many generations a session of edition 2 has bred, and in how many of
@@ -156,12 +193,14 @@ pub fn breed(
 impl Session {
     /// Opens a session, or gives the refusal.
     pub fn open(opening: &Opening) -> Result<Self, u64> {
+        // 14 comes right after 5.
         let mut conditions = refusals::opening(opening).to_vec();
         conditions.extend([
             (5, refusals::bad_operators(&opening.operators)),
+            (14, opening.window.is_some_and(|w| !(1..=64).contains(&w))),
             (10, opening.short),
         ]);
-        if let Some(number) = refusals::lowest(&conditions) {
+        if let Some(number) = refusals::first(&conditions) {
             return Err(number);
         }
         Ok(Session {
@@ -171,6 +210,8 @@ impl Session {
             history: Vec::new(),
             trials: Vec::new(),
             waiting: Vec::new(),
+            window: opening.window.map(|window| window as usize),
+            remembered: Vec::new(),
             bred: Bred::default(),
         })
     }
@@ -221,12 +262,16 @@ impl Session {
         if let Some(number) = refused {
             return Err(number);
         }
+        let parts = breeds.then(|| self.windowed()).flatten();
         if breeds && self.edition.keeps_parents() {
             self.breed_joined();
         }
         let value = self
             .sampler
             .sample(distribution, plan, &self.trials, &self.directions);
+        if let Some((own, ideal)) = parts {
+            self.remember(own, ideal);
+        }
         let state = self.sampler.state.lock();
         assert_eq!(
             state.evo.generation,
@@ -261,6 +306,39 @@ impl Session {
         let new = |child: &&Plan| self.waiting.iter().all(|p| p.number != child.number);
         let children = children.into_iter().filter(new);
         Some(self.waiting.iter().chain(children).collect())
+    }
+
+    /// With a window, before a generation is bred: the selection starts from
+    /// the least of what is remembered. The generation's own part, and the ideal
+    /// that there is to be after it, split or not.
+    fn windowed(&mut self) -> Option<(Vec<f64>, Vec<f64>)> {
+        self.window?;
+        let unknown = vec![f64::INFINITY; self.directions.len()];
+        let mut start = unknown.clone();
+        for part in &self.remembered {
+            for (least, value) in start.iter_mut().zip(part) {
+                if value < least {
+                    *least = *value;
+                }
+            }
+        }
+        let mut state = self.sampler.state.lock();
+        let pool = self.bred_from(&state.evo).expect("a call that breeds");
+        let own = least(unknown, &pool, &self.directions);
+        let ideal = least(start.clone(), &pool, &self.directions);
+        state.ideal_point = start;
+        Some((own, ideal))
+    }
+
+    /// A generation is bred: where it split a front, the Rust has moved its
+    /// ideal to the same. The own part is remembered, and the oldest forgotten
+    /// where there would be more than the window has beside the present one.
+    fn remember(&mut self, own: Vec<f64>, ideal: Vec<f64>) {
+        self.sampler.state.lock().ideal_point = ideal;
+        self.remembered.push(own);
+        while self.remembered.len() > self.window.expect("a window") - 1 {
+            self.remembered.remove(0);
+        }
     }
 
     /// Breeds from the joined pool; the plans kept, as they stood in it, wait.
@@ -325,7 +403,8 @@ impl Session {
     }
 
     /// Generator, generation and number of plans; in full, the rest too, which
-    /// in edition 2 ends with the plans that wait.
+    /// in edition 2 ends with the plans that wait, and with a window with what
+    /// is remembered.
     pub fn report(&self, full: bool, a: &mut Vec<u64>) {
         let state = self.sampler.state.lock();
         let evo = &state.evo;
@@ -372,6 +451,10 @@ impl Session {
             a.push(self.waiting.len() as u64);
             a.extend(self.waiting.iter().map(|plan| plan.number));
         }
+        if self.window.is_some() {
+            a.push(self.remembered.len() as u64);
+            self.remembered.iter().for_each(|part| push_reals(a, part));
+        }
     }
 }
 
@@ -416,8 +499,8 @@ impl Call {
 }
 
 /// One line is one session: its opening and its calls.
-pub fn answer(edition: Edition, r: &mut Reader) -> Result<Vec<u64>, String> {
-    let opening = Opening::read(edition, r)?;
+pub fn answer(edition: Edition, windowed: bool, r: &mut Reader) -> Result<Vec<u64>, String> {
+    let opening = Opening::read(edition, windowed, r)?;
     let calls = r.count()?;
     let mut session = Session::open(&opening);
     let mut a = vec![*session.as_ref().err().unwrap_or(&0)];

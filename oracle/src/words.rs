@@ -8,7 +8,7 @@ pub const NAN: u64 = 9221120237041090560;
 pub const LONGEST: usize = 65_664;
 
 /// Commands by name and number; README describes each.
-pub const COMMANDS: [(&str, u64); 48] = [
+pub const COMMANDS: [(&str, u64); 50] = [
     ("words", 10),
     ("f64", 11),
     ("usize", 12),
@@ -49,6 +49,8 @@ pub const COMMANDS: [(&str, u64); 48] = [
     ("step_second", 88),
     ("session", 90),
     ("session_second", 91),
+    ("session_window", 92),
+    ("session_second_window", 93),
     ("choose", 95),
     ("choose_parts", 96),
     ("choose_digest", 97),

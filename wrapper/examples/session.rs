@@ -48,7 +48,7 @@ fn tried(number: u64, named: &[(u64, Setting)], read: bool) -> Result<Plan, Refu
 /// Tries the generations' plans; all that was tried.
 fn generations(directions: &Directions) -> Result<Vec<Plan>, Refusal> {
     let dimensions = [Dimension::float(0.3, 1.2)?, Dimension::int(2, 12)?, Dimension::categorical(3)?];
-    let mut session = Session::open(Edition::Second, directions, 7, Some(SIZE), None, &Operators::default())?;
+    let mut session = Session::open(Edition::Second, directions, 7, Some(SIZE), None, &Operators::default(), None)?;
     let mut history = vec![];
     // One plan more than the generations: the first plan finds the dimensions and is in no generation.
     for number in 0..=(SIZE * GENERATIONS) as u64 {

@@ -40,7 +40,8 @@ const BOUND: i64 = 1 << 53;
 
 // ---- refusals
 
-/// Why a call is turned down: the first reason that applies, in this order. What [`Directions`], [`Dimension`] and [`Plan`] cannot
+/// Why a call is turned down: the first reason that applies, in this order, but that [`Window`](Refusal::Window) comes right after
+/// [`Operators`](Refusal::Operators). What [`Directions`], [`Dimension`] and [`Plan`] cannot
 /// hold is turned down when they are made, before any call.
 #[derive(Clone, Copy, Debug, PartialEq, Eq)]
 #[repr(u8)]
@@ -57,6 +58,7 @@ pub enum Refusal {
     Room = 10,
     Full = 11,
     Load = 13,
+    Window = 14,
     Bands = 15,
     Litres = 16,
     SecondForm = 17,
@@ -71,8 +73,8 @@ impl Refusal {
     fn from_code(code: u64) -> Self {
         use Refusal::*;
         let all = [
-            Form, Directions, Size, Divisions, Operators, Dimension, Count, Plan, Parent, Room, Full, Load, Bands,
-            Litres, SecondForm, NotHeld,
+            Form, Directions, Size, Divisions, Operators, Dimension, Count, Plan, Parent, Room, Full, Load, Window,
+            Bands, Litres, SecondForm, NotHeld,
         ];
         let found = all.into_iter().find(|&refusal| refusal as u64 == code);
         found.expect("the library answers 0 or the number of a refusal")
@@ -108,6 +110,7 @@ impl fmt::Display for Refusal {
             Refusal::Room => "a lent slice is shorter than the call's full answer",
             Refusal::Full => "a new plan number comes while the generation has 2,048 plans and is not bred from",
             Refusal::Load => "a trial load of counts that a pool may not have, or a file of it above 65,536 bytes",
+            Refusal::Window => "a window given is not 1 to 64 generations",
             Refusal::Bands => "no bands, over 16, upper litres not strictly rising, or a price above 1,000,000",
             Refusal::Litres => {
                 "a kept list over 1,024 long, a plan in it without litres, or a plan's litres above 1,000,000,000"
@@ -657,6 +660,8 @@ pub fn price_water(litres: &[u64], bands: &[Band], kept: &[usize]) -> Result<Bil
 pub struct Session(raw::Session);
 
 impl Session {
+    /// With a window of so many generations, 1 to 64, the [`ideal`](Session::ideal) is the least over the pools of the last so many, the
+    /// present one included, and forgets what came before; without one it forgets nothing.
     pub fn open(
         edition: Edition,
         directions: &Directions,
@@ -664,6 +669,7 @@ impl Session {
         size: Option<usize>,
         divisions: Option<usize>,
         operators: &Operators,
+        window: Option<usize>,
     ) -> Result<Self, Refusal> {
         let operators = operators.raw();
         let opened = raw::Session::open(
@@ -673,6 +679,7 @@ impl Session {
             size,
             divisions,
             operators,
+            window,
             raw::SESSION_WORDS,
         );
         opened.map(Session).map_err(Refusal::from_code)
@@ -705,6 +712,13 @@ impl Session {
     /// The present generation's number, from 0.
     pub fn generation(&self) -> u64 {
         self.0.words()[raw::SESSION_GENERATION]
+    }
+
+    /// The ideal after the last breeding, an entry an objective, with the values of maximised objectives negated; plus infinity before
+    /// the first. With a window it is the least of the pools of the last so many generations; without one it is that of all
+    /// generations in which a front was split.
+    pub fn ideal(&self) -> Vec<f64> {
+        self.0.ideal()
     }
 
     /// How many dimensions the first plan has entered so far.

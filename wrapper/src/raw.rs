@@ -46,7 +46,9 @@ pub const SESSION_DIVISIONS: usize = SESSION_DIRECTIONS + MAX_OBJECTIVES;
 pub const SESSION_SIZE: usize = SESSION_DIVISIONS + 1;
 pub const SESSION_OPERATORS: usize = SESSION_SIZE + 1;
 pub const SESSION_EDITION: usize = SESSION_OPERATORS + 3;
-pub const SESSION_ACTIVE: usize = SESSION_EDITION + 1;
+pub const SESSION_HAS_WINDOW: usize = SESSION_EDITION + 1;
+pub const SESSION_WINDOW: usize = SESSION_HAS_WINDOW + 1;
+pub const SESSION_ACTIVE: usize = SESSION_WINDOW + 1;
 pub const SESSION_HAS_FIRST: usize = SESSION_ACTIVE + 1;
 pub const SESSION_FIRST: usize = SESSION_HAS_FIRST + 1;
 pub const SESSION_STATE: usize = SESSION_FIRST + 1;
@@ -54,7 +56,8 @@ pub const SESSION_DIMENSION_COUNT: usize = SESSION_STATE + 1;
 pub const SESSION_CANDIDATE_COUNT: usize = SESSION_DIMENSION_COUNT + 1;
 pub const SESSION_PLAN_COUNT: usize = SESSION_CANDIDATE_COUNT + 1;
 pub const SESSION_WAITING: usize = SESSION_PLAN_COUNT + 1;
-pub const SESSION_GENERATION: usize = SESSION_WAITING + 1;
+pub const SESSION_REMEMBERED: usize = SESSION_WAITING + 1;
+pub const SESSION_GENERATION: usize = SESSION_REMEMBERED + 1;
 pub const SESSION_IDEAL: usize = SESSION_GENERATION + 1;
 pub const SESSION_DIMENSIONS: usize = SESSION_IDEAL + MAX_OBJECTIVES;
 pub const SESSION_WORDS: usize = SESSION_DIMENSIONS + MAX_DIMENSIONS * DIMENSION_WORDS;
@@ -71,7 +74,8 @@ unsafe extern "C" {
         fronts: *mut usize, fronts_length: usize, lines: *mut usize, lines_length: usize, offspring: *mut u64, offspring_words: usize,
         n_kept: *mut usize) -> u64;
     fn locustdomino_open(edition: u64, directions: *const u8, objectives: usize, seed: u64, has_size: u8, size: usize, has_divisions: u8,
-        divisions: usize, crossover_prob: f64, crossover_eta: f64, mutation_eta: f64, session: *mut u64, session_words: usize) -> u64;
+        divisions: usize, crossover_prob: f64, crossover_eta: f64, mutation_eta: f64, has_window: u8, window: usize, session: *mut u64,
+        session_words: usize) -> u64;
     fn locustdomino_sample(session: *mut u64, session_words: usize, dimension: *const u64, dimension_words: usize, plan: u64,
         history: *const u64, history_words: usize, candidates: *mut u64, candidate_words: usize, plans: *mut u64, plans_length: usize,
         next_dims: *mut usize, next_dims_length: usize, pool: *mut u64, pool_length: usize, kind: *mut u64, value: *mut u64) -> u64;
@@ -163,22 +167,23 @@ impl Session {
     /// A session in so many words, or the refusal.
     #[rustfmt::skip]
     pub fn open(
-        edition: u64, directions: &[u8], seed: u64, size: Option<usize>, divisions: Option<usize>, operators: Operators, session_words: usize,
+        edition: u64, directions: &[u8], seed: u64, size: Option<usize>, divisions: Option<usize>, operators: Operators,
+        window: Option<usize>, session_words: usize,
     ) -> Result<Self, u64> {
         let mut words = vec![0; session_words];
         let [crossover_prob, crossover_eta, mutation_eta] = operators;
         let code = unsafe {
             locustdomino_open(
                 edition, directions.as_ptr(), directions.len(), seed, size.is_some().into(), size.unwrap_or(0),
-                divisions.is_some().into(), divisions.unwrap_or(0), crossover_prob, crossover_eta, mutation_eta, words.as_mut_ptr(),
-                words.len())
+                divisions.is_some().into(), divisions.unwrap_or(0), crossover_prob, crossover_eta, mutation_eta,
+                window.is_some().into(), window.unwrap_or(0), words.as_mut_ptr(), words.len())
         };
         match code {
             0 => Ok(Session {
                 candidates: vec![0; CANDIDATE_WORDS],
                 plans: vec![0; MAX_PLANS],
                 next_dims: vec![0; MAX_PLANS],
-                pool: vec![0; pool_words(words[SESSION_EDITION], words[SESSION_SIZE] as usize)],
+                pool: vec![0; pool_words(words[SESSION_EDITION], words[SESSION_SIZE] as usize) + window_words(window, directions.len())],
                 words,
             }),
             refusal => Err(refusal),
@@ -218,6 +223,12 @@ impl Session {
         (&self.plans[..count], &self.next_dims[..count])
     }
 
+    /// The ideal, an entry an objective, in minimise-space.
+    pub fn ideal(&self) -> Vec<f64> {
+        let words = &self.words[SESSION_IDEAL..][..self.words[SESSION_OBJECTIVES] as usize];
+        words.iter().map(|&word| f64::from_bits(word)).collect()
+    }
+
     /// The words of the plans that wait, in the kept list's order.
     pub fn waiting(&self) -> &[[u64; PLAN_WORDS]] {
         let count = self.words[SESSION_WAITING] as usize;
@@ -229,6 +240,11 @@ impl Session {
 pub fn pool_words(edition: u64, size: usize) -> usize {
     let parents = if edition == SECOND_EDITION { size } else { 0 };
     (parents + size) * PLAN_WORDS
+}
+
+/// The words of what a session of a window and so many objectives remembers, behind those.
+pub fn window_words(window: Option<usize>, objectives: usize) -> usize {
+    window.map_or(0, |window| (window - 1) * objectives)
 }
 
 /// The words of a plan; a setting is its parameter number, its kind and its word. What there is no room for is claimed by its
@@ -256,7 +272,7 @@ mod tests {
     const MAX_HISTORY: usize = 4096;
 
     fn open_as(edition: u64, session_words: usize) -> Result<Session, u64> {
-        Session::open(edition, &[0, 0], 1, Some(4), None, [1.0, 30.0, 20.0], session_words)
+        Session::open(edition, &[0, 0], 1, Some(4), None, [1.0, 30.0, 20.0], None, session_words)
     }
 
     fn open(session_words: usize) -> Result<Session, u64> {

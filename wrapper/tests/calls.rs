@@ -203,8 +203,8 @@ fn hopeless_plans_change_nothing() {
 
 fn session_of(edition: Edition) {
     let bad = Operators { crossover_prob: 2.0, ..Operators::default() };
-    assert_eq!(Session::open(edition, &two(), 1, None, None, &bad).unwrap_err(), Refusal::Operators);
-    let mut session = Session::open(edition, &two(), 1, Some(4), None, &Operators::default()).unwrap();
+    assert_eq!(Session::open(edition, &two(), 1, None, None, &bad, None).unwrap_err(), Refusal::Operators);
+    let mut session = Session::open(edition, &two(), 1, Some(4), None, &Operators::default(), None).unwrap();
     assert_eq!(session.edition(), edition);
     assert_eq!((session.size(), session.generation(), session.dimensions()), (4, 0, 0));
     let x = Dimension::float(-1.0, 1.0).unwrap();
@@ -244,7 +244,7 @@ struct Tried {
 impl Tried {
     fn new() -> Self {
         let one = Directions::new(&[Direction::Minimize]).unwrap();
-        let session = Session::open(Edition::Second, &one, 3, Some(4), None, &Operators::default()).unwrap();
+        let session = Session::open(Edition::Second, &one, 3, Some(4), None, &Operators::default(), None).unwrap();
         let mut tried = Tried { session, history: vec![] };
         tried.ask(0).unwrap();
         tried
@@ -329,8 +329,8 @@ fn left_out() {
 /// In edition 1 nobody waits, and a generation is bred from its own plans alone.
 #[test]
 fn editions_part() {
-    let mut first = Session::open(Edition::First, &two(), 1, Some(4), None, &Operators::default()).unwrap();
-    let mut second = Session::open(Edition::Second, &two(), 1, Some(4), None, &Operators::default()).unwrap();
+    let mut first = Session::open(Edition::First, &two(), 1, Some(4), None, &Operators::default(), None).unwrap();
+    let mut second = Session::open(Edition::Second, &two(), 1, Some(4), None, &Operators::default(), None).unwrap();
     let x = Dimension::float(-1.0, 1.0).unwrap();
     let mut history = vec![];
     let mut same = 0;
@@ -343,6 +343,48 @@ fn editions_part() {
     }
     // Up to the second breeding, which plan 9 asks for, the pools are the same.
     assert!((9..20).contains(&same));
+}
+
+/// A window is 1 to 64 generations, and one of none is not no window; 14 comes after 5.
+#[test]
+fn windows() {
+    let open = |operators: &Operators, window| {
+        Session::open(Edition::Second, &two(), 1, Some(4), None, operators, window).map(|session| session.ideal())
+    };
+    let bad = Operators { crossover_prob: 2.0, ..Operators::default() };
+    for window in [Some(0), Some(65), Some(usize::MAX)] {
+        assert_eq!(open(&Operators::default(), window), Err(Refusal::Window));
+        assert_eq!(open(&bad, window), Err(Refusal::Operators));
+    }
+    for window in [None, Some(1), Some(64)] {
+        assert_eq!(open(&Operators::default(), window), Ok(vec![f64::INFINITY; 2]));
+    }
+}
+
+/// The ideal of a session of edition 1 with a window is that of the last generations' plans; without one it stays, as no front is split.
+#[test]
+fn the_ideal_forgets() {
+    let x = Dimension::float(0.0, 1.0).unwrap();
+    let ideals = |window: Option<usize>| {
+        let directions = Directions::new(&[Direction::Minimize, Direction::Maximize]).unwrap();
+        let mut session = Session::open(Edition::First, &directions, 5, Some(4), None, &Operators::default(), window).unwrap();
+        let (mut history, mut ideals) = (vec![], vec![]);
+        for number in 0..22 {
+            let setting = session.sample(&x, number, &history).unwrap();
+            if ideals.len() < session.generation() as usize {
+                ideals.push(session.ideal());
+            }
+            // The plans 1 to 4 are the first generation, and the best of each generation is its first plan.
+            let worse = number as f64;
+            history.push(Plan::new(number, &[worse, -worse], &[], &[(0, setting)]).unwrap());
+        }
+        ideals
+    };
+    let first_of = |generations: [u64; 5]| generations.map(|g| vec![4.0 * g as f64 + 1.0; 2]).to_vec();
+    assert_eq!(ideals(Some(1)), first_of([0, 1, 2, 3, 4]));
+    assert_eq!(ideals(Some(2)), first_of([0, 0, 1, 2, 3]));
+    assert_eq!(ideals(Some(64)), first_of([0; 5]));
+    assert_eq!(ideals(None), vec![vec![f64::INFINITY; 2]; 5]);
 }
 
 #[test]

@@ -26,13 +26,16 @@ pub fn open_words(
     crossover_prob: f64,
     crossover_eta: f64,
     mutation_eta: f64,
+    has_window: u8,
+    window: usize,
     session: &mut [u64],
 ) -> u64
-    ensures { λ r. ⌜ OpensWords edition (now (directions .entry)) seed (optional «has_size» size) (optional «has_divisions» divisions) «crossover_prob» «crossover_eta» «mutation_eta»
+    ensures { λ r. ⌜ OpensWords edition (now (directions .entry)) seed (optional «has_size» size) (optional «has_divisions» divisions) «crossover_prob» «crossover_eta» «mutation_eta» (optional «has_window» window)
         (now (session .entry)) r (now (session .exit)) ⌝ }
 {
     let size = optional(has_size, size);
     let divisions = optional(has_divisions, divisions);
+    let window = optional(has_window, window);
     let edition = editions::edition_of(edition);
     let opened = session_opening::open(
         edition,
@@ -43,6 +46,7 @@ pub fn open_words(
         crossover_prob,
         crossover_eta,
         mutation_eta,
+        window,
     );
     let outcome = opened.outcome;
     match outcome {

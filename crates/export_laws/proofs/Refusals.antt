@@ -39,9 +39,9 @@ pub step-above : (o : Operators) (r : Request) (room : Room) (offspring : ℕ) �
 unfolding stepRefusal allIn
 step-above o r room offspring e = first-above _ refl e
 
-pub open-above : (marks : List ℕ) (size divisions : Option ℕ) (p c m : Float) → openRefusal marks size divisions p c m ≡ some 0 → ⊥
+pub open-above : (marks : List ℕ) (size divisions : Option ℕ) (p c m : Float) (w : Option ℕ) → openRefusal marks size divisions p c m w ≡ some 0 → ⊥
 unfolding openRefusal allIn
-open-above marks size divisions p c m e = first-above _ refl e
+open-above marks size divisions p c m w e = first-above _ refl e
 
 pub sample-above : (st : State) (d : Distribution) (plan : ℕ) (history : List ℕ) → sampleRefusal st d plan history ≡ some 0 → ⊥
 unfolding sampleRefusal allIn

@@ -35,21 +35,22 @@ use Rattle.export_laws.proofs.Refusals.{open-above, sample-above, word-
 
 -- ---- opening
 
-module _ (n : ℕ) (edition : Edition) (marks : List ℕ) (seed : ℕ) (s t u v : OptionUsize) (p c m : Float) (r : Opened) (en : edition ≡ editionOf n) (es : s ≡ t) (eu : u ≡ v)
-    (opens : Opens edition marks seed s u p c m r) (entry : List ℕ) where
-  promise : Opens (editionOf n) marks seed t v p c m r
+module _ (n : ℕ) (edition : Edition) (marks : List ℕ) (seed : ℕ) (s t u v : OptionUsize) (p c m : Float) (w z : OptionUsize) (r : Opened) (en : edition ≡ editionOf n) (es : s ≡ t) (eu : u ≡ v)
+    (ew : w ≡ z) (opens : Opens edition marks seed s u p c m w r) (entry : List ℕ) where
+  promise : Opens (editionOf n) marks seed t v p c m z r
   promise =
-      subst (λ x. Opens (editionOf n) marks seed t x p c m r) eu
-      (subst (λ x. Opens (editionOf n) marks seed x u p c m r) es (subst (λ x. Opens x marks seed s u p c m r) en opens))
+      subst (λ x. Opens (editionOf n) marks seed t v p c m x r) ew
+      (subst (λ x. Opens (editionOf n) marks seed t x p c m w r) eu
+      (subst (λ x. Opens (editionOf n) marks seed x u p c m w r) es (subst (λ x. Opens x marks seed s u p c m w r) en opens)))
 
   abbrev answer : Opened
-  answer = openOf (editionOf n) marks seed t v p c m
+  answer = openOf (editionOf n) marks seed t v p c m z
 
   coded : (o : Opening) → r .outcome ≡ o → openedBy o (r .session) entry ≡ openedBy (answer .outcome) (answer .session) entry
   coded o e = sym (ap (λ x. openedBy x (r .session) entry) e) ∙ ap (λ (x : Opened). openedBy (x .outcome) (x .session) entry) (promise .whole)
 
   abbrev refusal : Option ℕ
-  refusal = openRefusal marks (given t) (given v) p c m
+  refusal = openRefusal marks (given t) (given v) p c m (given z)
 
   abbrev room : Option ℕ
   room = firstOf (check 10 (ltb (length entry) sessionWidth) ∷ [])
@@ -59,13 +60,13 @@ module _ (n : ℕ) (edition : Edition) (marks : List ℕ) (seed : ℕ) (s t u v 
   by-outcome o e = sym (promise .refused) ∙ ap openingRefusedBy e
 
   -- and in words, where the slice too is looked at
-  in-words : (o : Opening) → r .outcome ≡ o → orRefusal (openingRefusedBy o) room ≡ openWordsRefusal marks (given t) (given v) p c m (length entry)
+  in-words : (o : Opening) → r .outcome ≡ o → orRefusal (openingRefusedBy o) room ≡ openWordsRefusal marks (given t) (given v) p c m (given z) (length entry)
   unfolding openWordsRefusal
   in-words o e = sym (ap (λ x. orRefusal x room) (by-outcome o e))
 
-  pub open-refused : (refused k : ℕ) → r .outcome ≡ opening.Refused refused → k ≡ refused → OpensWords n marks seed t v p c m entry k entry
+  pub open-refused : (refused k : ℕ) → r .outcome ≡ opening.Refused refused → k ≡ refused → OpensWords n marks seed t v p c m z entry k entry
   open-refused refused k e h =
-      let never : refused ≡ 0 → ⊥ = λ z. open-above marks (given t) (given v) p c m (by-outcome (opening.Refused refused) e ∙ ap some z) in
+      let never : refused ≡ 0 → ⊥ = λ y. open-above marks (given t) (given v) p c m (given z) (by-outcome (opening.Refused refused) e ∙ ap some y) in
       record {
         whole = ap (λ x. written x entry) h ∙ coded (opening.Refused refused) e;
         refused = ap refusalOf h ∙ told (some refused) (λ z. never (Option·some-injective refused 0 z)) ∙ in-words (opening.Refused refused) e;
@@ -73,7 +74,7 @@ module _ (n : ℕ) (edition : Edition) (marks : List ℕ) (seed : ℕ) (s t u v 
         gives = λ z. absurd (never (sym h ∙ z));
       }
 
-  pub open-short : r .outcome ≡ opening.Ready → length entry < sessionWidth → OpensWords n marks seed t v p c m entry 10 entry
+  pub open-short : r .outcome ≡ opening.Ready → length entry < sessionWidth → OpensWords n marks seed t v p c m z entry 10 entry
   open-short e h =
       record {
         whole = sym (cond-lt (length entry) sessionWidth _ _ h) ∙ coded opening.Ready e;
@@ -83,7 +84,7 @@ module _ (n : ℕ) (edition : Edition) (marks : List ℕ) (seed : ℕ) (s t u v 
       }
 
   pub open-ready : (exit : List ℕ) → r .outcome ≡ opening.Ready → sessionWidth ≤ length entry → exit ≡ over (sessionWords (r .session)) entry → sessionOf exit ≡ r .session
-      → OpensWords n marks seed t v p c m entry 0 exit
+      → OpensWords n marks seed t v p c m z entry 0 exit
   unfolding firstOf
   open-ready exit e h x b =
       record {

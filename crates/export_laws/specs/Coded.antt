@@ -143,17 +143,17 @@ openedBy opening.Ready s ws = putSession s ws
 openedBy (opening.Refused n) s ws = written n ws
 
 -- THE REFUSALS of `locustdomino_open`: the opening's, and else 10 for a slice that is too short
-unfoldable pub openWordsRefusal : List ℕ → Option ℕ → Option ℕ → Float → Float → Float → ℕ → Option ℕ
-openWordsRefusal marks size divisions probability crossoverEta mutationEta room =
-    orRefusal (openRefusal marks size divisions probability crossoverEta mutationEta) (firstOf (check 10 (ltb room sessionWidth) ∷ []))
+unfoldable pub openWordsRefusal : List ℕ → Option ℕ → Option ℕ → Float → Float → Float → Option ℕ → ℕ → Option ℕ
+openWordsRefusal marks size divisions probability crossoverEta mutationEta window room =
+    orRefusal (openRefusal marks size divisions probability crossoverEta mutationEta window) (firstOf (check 10 (ltb room sessionWidth) ∷ []))
 
 -- THE PROMISE of `locustdomino_open`, of the edition that a number stands for: where it answers 0, the words stand for the session that is opened, which has the
 -- session property
-pub record OpensWords (edition : ℕ) (directions : List ℕ) (seed : ℕ) (size divisions : OptionUsize) (probability crossoverEta mutationEta : Float) (entry : List ℕ) (code : ℕ) (exit : List ℕ) : Type 0 where
+pub record OpensWords (edition : ℕ) (directions : List ℕ) (seed : ℕ) (size divisions : OptionUsize) (probability crossoverEta mutationEta : Float) (window : OptionUsize) (entry : List ℕ) (code : ℕ) (exit : List ℕ) : Type 0 where
   pub whole : written code exit
-      ≡ openedBy (openOf (editionOf edition) directions seed size divisions probability crossoverEta mutationEta .outcome) (openOf (editionOf edition) directions seed size divisions probability crossoverEta mutationEta .session) entry
-  pub refused : refusalOf code ≡ openWordsRefusal directions (given size) (given divisions) probability crossoverEta mutationEta (length entry)
-  pub holds : code ≡ 0 → sessionOf exit ≡ openOf (editionOf edition) directions seed size divisions probability crossoverEta mutationEta .session
+      ≡ openedBy (openOf (editionOf edition) directions seed size divisions probability crossoverEta mutationEta window .outcome) (openOf (editionOf edition) directions seed size divisions probability crossoverEta mutationEta window .session) entry
+  pub refused : refusalOf code ≡ openWordsRefusal directions (given size) (given divisions) probability crossoverEta mutationEta (given window) (length entry)
+  pub holds : code ≡ 0 → sessionOf exit ≡ openOf (editionOf edition) directions seed size divisions probability crossoverEta mutationEta window .session
   pub gives : code ≡ 0 → (candidates plans nextDims pool : List ℕ) → SessionOk (state (sessionOf exit) candidates plans nextDims pool)
 
 -- ---- a session call

@@ -108,9 +108,11 @@ pub extern "C" fn locustdomino_open(
     crossover_prob: f64,
     crossover_eta: f64,
     mutation_eta: f64,
+    has_window: u8,
+    window: usize,
     session: &mut [u64],
 ) -> u64
-    ensures { λ r. ⌜ OpensWords edition (now (directions .entry)) seed (optional «has_size» size) (optional «has_divisions» divisions) «crossover_prob» «crossover_eta» «mutation_eta»
+    ensures { λ r. ⌜ OpensWords edition (now (directions .entry)) seed (optional «has_size» size) (optional «has_divisions» divisions) «crossover_prob» «crossover_eta» «mutation_eta» (optional «has_window» window)
         (now (session .entry)) r (now (session .exit)) ⌝ }
 {
     c_open::open_words(

@@ -172,15 +172,16 @@ abbrev pub openBy : Option ℕ → Session → Opened
 openBy none s = record { outcome = opening.Ready; session = s }
 openBy (some n) s = record { outcome = opening.Refused n; session = blank }
 
-unfoldable pub openOf : Edition → List ℕ → ℕ → OptionUsize → OptionUsize → Float → Float → Float → Opened
-openOf edition directions seed size divisions probability crossoverEta mutationEta =
-    openBy (openRefusal directions (given size) (given divisions) probability crossoverEta mutationEta)
-    (opened edition directions seed (given size) (given divisions) probability crossoverEta mutationEta)
+unfoldable pub openOf : Edition → List ℕ → ℕ → OptionUsize → OptionUsize → Float → Float → Float → OptionUsize → Opened
+openOf edition directions seed size divisions probability crossoverEta mutationEta window =
+    openBy (openRefusal directions (given size) (given divisions) probability crossoverEta mutationEta (given window))
+    (opened edition directions seed (given size) (given divisions) probability crossoverEta mutationEta window)
 
 -- THE PROMISE of `open`: what it answers has the session property, refused or not, whatever the slices hold that are lent with it
-pub record Opens (edition : Edition) (directions : List ℕ) (seed : ℕ) (size divisions : OptionUsize) (probability crossoverEta mutationEta : Float) (r : Opened) : Type 0 where
-  pub whole : r ≡ openOf edition directions seed size divisions probability crossoverEta mutationEta
-  pub refused : openingRefusedBy (r .outcome) ≡ openRefusal directions (given size) (given divisions) probability crossoverEta mutationEta
+pub record Opens (edition : Edition) (directions : List ℕ) (seed : ℕ) (size divisions : OptionUsize) (probability crossoverEta mutationEta : Float) (window : OptionUsize)
+    (r : Opened) : Type 0 where
+  pub whole : r ≡ openOf edition directions seed size divisions probability crossoverEta mutationEta window
+  pub refused : openingRefusedBy (r .outcome) ≡ openRefusal directions (given size) (given divisions) probability crossoverEta mutationEta (given window)
   pub gives : (candidates plans nextDims pool : List ℕ) → SessionOk (state (r .session) candidates plans nextDims pool)
 
 -- ---- `sample`

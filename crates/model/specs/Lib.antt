@@ -16,6 +16,7 @@ pub mod Papers
 pub mod Demand3
 pub mod Rules
 pub mod Setting
+pub mod Window
 pub mod Session
 pub mod PoolFile
 pub mod Refusal

@@ -17,6 +17,7 @@ use Rattle.model.specs.Plan.{Plan, Setting, planCount, maxObjectives, ma
 use Rattle.model.specs.Reference.{pointCount, maxDivisions, divisionsOf}
 use Rattle.model.specs.Association.{Request, objectives}
 use Rattle.model.specs.Setting.{kindOfDimension, ofWord, maxDims, validDimension, inBounds, sortByParam, noSetting, Operators}
+use Rattle.model.specs.Window.{maxWindow}
 use Rattle.model.specs.Session.{State, discovers, breeds, longEnough, isNew, maxCome, requestOf, operatorsOf}
 use Rattle.model.specs.PoolFile.{PoolFile, opensSecond, parse, fileRequest, fileText}
 
@@ -85,6 +86,11 @@ wholeEta x = within nought ninetyNine x && eq (ofWhole (pos (toUnsigned 64 x))) 
 
 unfoldable pub badOperators : Float → Float → Float → Bool
 badOperators probability crossoverEta mutationEta = not (within nought unit probability && (wholeEta crossoverEta && wholeEta mutationEta))
+
+-- 14. document 02, M-109: "w is not 1 to 64; right after 5"
+abbrev pub badWindow : Option ℕ → Bool
+badWindow none = false
+badWindow (some w) = not (leb 1 w && leb w maxWindow)
 
 -- 6. what `validDimension` asks, and document 02, M-107: "the 25th dimension now meets refusal 6". The greatest number is a parameter, so that what does not
 -- depend on it can be said (`limit_laws`).
@@ -230,12 +236,13 @@ unfoldable pub stepRefusal : Operators → Request → Room → ℕ → Option �
 stepRefusal o r room offspring = firstOf (stepChecks o r room offspring)
 
 -- `open`
-unfoldable pub openRefusal : List ℕ → Option ℕ → Option ℕ → Float → Float → Float → Option ℕ
-openRefusal marks size divisions probability crossoverEta mutationEta = firstOf (
+unfoldable pub openRefusal : List ℕ → Option ℕ → Option ℕ → Float → Float → Float → Option ℕ → Option ℕ
+openRefusal marks size divisions probability crossoverEta mutationEta window = firstOf (
     check 2 (badDirections marks)
     ∷ check 3 (badSessionSize size)
     ∷ check 4 (badSessionDivisions (length marks) size divisions)
     ∷ check 5 (badOperators probability crossoverEta mutationEta)
+    ∷ check 14 (badWindow window)
     ∷ [])
 
 -- `sample`: "A session call looks at 6 only when it adds a dimension, and at 8 and 9 only when it breeds, for the plans bred from."

@@ -28,14 +28,16 @@ use Rattle.model.specs.Real.{nought, infinity}
 use Rattle.model.specs.Plan.{planAt, planCount, planWords, maxObjectives}
 use Rattle.model.specs.Reference.{divisionsOf, populationSize}
 use Rattle.model.specs.Association.{Request}
-use Rattle.model.specs.Kept.{selected}
+use Rattle.model.specs.Kept.{Selected, selected}
+use Rattle.model.specs.Window.{mostRemembered, ownWords, lastOf, leastRemembered, idealAfter}
 use Rattle.model.specs.Setting.{toWord, maxDims, dimensionsOf, storedAt, sampleRandom, sampleAll, sampleCandidates, Operators, operators, rankOf, bredOf, generation, wordsOf}
 
 -- ---- the state
 
 -- What a session call is given and leaves: the session by value, and what the four lent slices hold. `plans` has the numbers of the generation's plans in the
 -- order in which they came, `nextDims` the dimension that each asks for next, and `candidates` the candidates' settings, candidate after candidate, a word
--- each. Plan i has candidate i. `pool` has at its front the words of the plans that wait (document 02, M-100); past them it is room for those bred from.
+-- each. Plan i has candidate i. `pool` has at its front the words of the plans that wait (document 02, M-100); past them it is room for those bred from, and
+-- behind this room stands what a session with a window remembers (M-109): "kept without going back through old plans".
 pub record State : Type 0 where
   pub session : Session
   pub candidates : List ℕ
@@ -43,16 +45,27 @@ pub record State : Type 0 where
   pub nextDims : List ℕ
   pub pool : List ℕ
 
--- what the lent slices have to have room for: the 2,048 plans that may come in a generation, of `maxDims` settings each, and the most plans that a session of
--- an edition and a size breeds from
+-- what the lent slices have to have room for: the 2,048 plans that may come in a generation, of `maxDims` settings each; the most plans that a session of an
+-- edition and a size breeds from; and the own parts that a window remembers, a word an objective
 abbrev pub maxCome : ℕ
 maxCome = 2048
 
 abbrev pub maxWords : ℕ
 maxWords = maxCome * maxDims
 
-abbrev pub poolRoom : Edition → ℕ → ℕ
-poolRoom edition size = (waitingOf edition size + size) * planWords
+abbrev pub planRoom : Edition → ℕ → ℕ
+planRoom edition size = (waitingOf edition size + size) * planWords
+
+-- an optional size, number of divisions or window, as the definitions take it
+abbrev pub given : OptionUsize → Option ℕ
+given optUsize.None = none
+given (optUsize.Some n) = some n
+
+abbrev pub mostWords : Config → ℕ
+mostWords c = mostRemembered (given (c .window)) * c .«n_obj»
+
+abbrev pub poolRoom : Config → ℕ
+poolRoom c = planRoom (c .edition) (c .«population_size») + mostWords c
 
 -- what the array of dimensions holds where none is entered
 abbrev pub blankDimension : DimensionInfo
@@ -62,7 +75,7 @@ blankDimension = record { distribution = dist.Categorical (record { «n_choices�
 abbrev pub dimensionOf : Session → ℕ → Distribution
 dimensionOf s = dimensionsOf (s .dimensions)
 
--- a session with another generator state, and with another progress
+-- a session with another generator state, with another ideal, and with another progress
 abbrev pub withRng : Session → ℕ → Session
 withRng s g = record {
   config = s .config;
@@ -71,6 +84,17 @@ withRng s g = record {
   rng = record { s = g };
   dimensions = s .dimensions;
   «ideal_point» = s .«ideal_point»;
+  progress = s .progress;
+}
+
+abbrev pub withIdeal : Session → List Float → Session
+withIdeal s ideal = record {
+  config = s .config;
+  phase = s .phase;
+  «discovery_trial_id» = s .«discovery_trial_id»;
+  rng = s .rng;
+  dimensions = s .dimensions;
+  «ideal_point» = ideal;
   progress = s .progress;
 }
 
@@ -85,9 +109,9 @@ withProgress s p = record {
   progress = p;
 }
 
-abbrev pub progress : ℕ → ℕ → ℕ → ℕ → ℕ → Progress
-progress dims candidates plans waiting gen =
-    record { «n_dims» = dims; «n_candidates» = candidates; «n_plans» = plans; «n_waiting» = waiting; generation = gen }
+abbrev pub progress : ℕ → ℕ → ℕ → ℕ → ℕ → ℕ → Progress
+progress dims candidates plans waiting remembered gen =
+    record { «n_dims» = dims; «n_candidates» = candidates; «n_plans» = plans; «n_waiting» = waiting; «n_remembered» = remembered; generation = gen }
 
 abbrev pub state : Session → List ℕ → List ℕ → List ℕ → List ℕ → State
 state s cs ps ns pool = record { session = s; candidates = cs; plans = ps; nextDims = ns; pool = pool }
@@ -101,7 +125,7 @@ start c seed = record {
   rng = record { s = seed };
   dimensions = replicate maxDims blankDimension;
   «ideal_point» = replicate maxObjectives infinity;
-  progress = progress 0 0 0 0 0;
+  progress = progress 0 0 0 0 0 0;
 }
 
 -- a session with a dimension more, entered for a plan, by its generator
@@ -113,37 +137,37 @@ entered s d plan g = record {
   rng = record { s = g };
   dimensions = set (s .dimensions) (s .progress .«n_dims») (record { distribution = d });
   «ideal_point» = s .«ideal_point»;
-  progress = progress (s .progress .«n_dims» + 1) (s .progress .«n_candidates») (s .progress .«n_plans») (s .progress .«n_waiting») (s .progress .generation);
+  progress = progress (s .progress .«n_dims» + 1) (s .progress .«n_candidates») (s .progress .«n_plans») (s .progress .«n_waiting») (s .progress .«n_remembered») (s .progress .generation);
 }
 
--- the session of a new generation, by its generator, its ideal, the number of plans that wait and its own number: it has as many candidates as the size, and no
--- plan has come yet
-abbrev pub renewed : Session → ℕ → List Float → ℕ → ℕ → Session
-renewed s g ideal waiting number = record {
+-- the session of a new generation, by its generator, its ideal, the numbers of plans that wait and of generations that are remembered, and its own number: it has
+-- as many candidates as the size, and no plan has come yet
+abbrev pub renewed : Session → ℕ → List Float → ℕ → ℕ → ℕ → Session
+renewed s g ideal waiting remembered number = record {
   config = s .config;
   phase = Active;
   «discovery_trial_id» = s .«discovery_trial_id»;
   rng = record { s = g };
   dimensions = s .dimensions;
   «ideal_point» = ideal;
-  progress = progress (s .progress .«n_dims») (s .config .«population_size») 0 waiting number;
+  progress = progress (s .progress .«n_dims») (s .config .«population_size») 0 waiting remembered number;
 }
+
+-- how many generations are remembered once one more is bred from
+abbrev pub rememberedAfter : Session → ℕ
+rememberedAfter s = min (s .progress .«n_remembered» + 1) (mostRemembered (given (s .config .window)))
 
 -- the session after breeding: the kept plans wait where the edition has it so, and the generation's number wraps at 2^64
 abbrev pub bredSession : Session → ℕ → List Float → Session
-bredSession s g ideal = renewed s g ideal (waitingOf (s .config .edition) (s .config .«population_size»)) ((s .progress .generation + 1) % 2 ^ 64)
+bredSession s g ideal =
+    renewed s g ideal (waitingOf (s .config .edition) (s .config .«population_size»)) (rememberedAfter s) ((s .progress .generation + 1) % 2 ^ 64)
 
 -- ---- opening
 
--- an optional size or number of divisions, as the definitions take it
-abbrev pub given : OptionUsize → Option ℕ
-given optUsize.None = none
-given (optUsize.Some n) = some n
-
 -- The session that an accepted opening answers. "Directions are given at opening (added), with the seed." Document 02, M-100: "A session is opened as edition 1
--- (today's) or edition 2".
-unfoldable pub opened : Edition → List ℕ → ℕ → Option ℕ → Option ℕ → Float → Float → Float → Session
-opened edition marks seed size divisions probability crossoverEta mutationEta = start (record {
+-- (today's) or edition 2". M-109: "A session may be opened with a window of w generations."
+unfoldable pub opened : Edition → List ℕ → ℕ → Option ℕ → Option ℕ → Float → Float → Float → OptionUsize → Session
+opened edition marks seed size divisions probability crossoverEta mutationEta window = start (record {
   edition = edition;
   «n_obj» = length marks;
   directions = over marks (replicate maxObjectives 0);
@@ -152,6 +176,7 @@ opened edition marks seed size divisions probability crossoverEta mutationEta = 
   «crossover_prob» = probability;
   «crossover_eta» = crossoverEta;
   «mutation_eta» = mutationEta;
+  window = window;
 }) seed
 
 -- the session beside a refusal: nothing of what was given is in it. It is the smallest that could be opened, so that it has the session property too.
@@ -165,6 +190,7 @@ blank = start (record {
   «crossover_prob» = nought;
   «crossover_eta» = nought;
   «mutation_eta» = nought;
+  window = optUsize.None;
 }) 0
 
 -- ---- an accepted call
@@ -186,7 +212,7 @@ unfoldable pub activate : State → State
 activate st =
     let s = st .session in
     let cs = sampleCandidates (dimensionOf s) (s .progress .«n_dims») (s .config .«population_size») (s .rng .s) in
-    let active = renewed s (cs .state) (s .«ideal_point») (s .progress .«n_waiting») (s .progress .generation) in
+    let active = renewed s (cs .state) (s .«ideal_point») (s .progress .«n_waiting») (s .progress .«n_remembered») (s .progress .generation) in
     state active (over (wordsOf (cs .value)) (st .candidates)) (st .plans) (st .nextDims) (st .pool)
 
 -- a candidate more, drawn, where every candidate has its plan: its words are stored behind those of the others
@@ -196,7 +222,7 @@ overflow st =
     let n = s .progress .«n_dims» in
     let k = s .progress .«n_candidates» in
     let c = sampleAll (dimensionOf s) n (s .rng .s) in
-    let more = progress n (k + 1) (s .progress .«n_plans») (s .progress .«n_waiting») (s .progress .generation) in
+    let more = progress n (k + 1) (s .progress .«n_plans») (s .progress .«n_waiting») (s .progress .«n_remembered») (s .progress .generation) in
     state (withProgress (withRng s (c .state)) more) (sets (st .candidates) (k * n) (map toWord (c .value))) (st .plans) (st .nextDims) (st .pool)
 
 -- the plan is entered as the generation's next, at its first dimension
@@ -204,7 +230,7 @@ unfoldable pub enter : State → ℕ → State
 enter st plan =
     let s = st .session in
     let i = s .progress .«n_plans» in
-    let more = progress (s .progress .«n_dims») (s .progress .«n_candidates») (i + 1) (s .progress .«n_waiting») (s .progress .generation) in
+    let more = progress (s .progress .«n_dims») (s .progress .«n_candidates») (i + 1) (s .progress .«n_waiting») (s .progress .«n_remembered») (s .progress .generation) in
     state (withProgress s more) (st .candidates) (set (st .plans) i plan) (set (st .nextDims) i 0) (st .pool)
 
 -- a new plan takes the next candidate
@@ -278,6 +304,29 @@ bredFrom st history =
     take (waitingCount st * planWords) (st .pool)
     ++ childrenOf (numbersOf (st .pool) (waitingCount st)) history (st .plans) (st .session .config .«population_size»)
 
+-- ---- the window
+
+-- where what is remembered begins, and its words
+abbrev pub memoryAt : Config → ℕ
+memoryAt c = planRoom (c .edition) (c .«population_size»)
+
+abbrev pub memoryIn : Session → List ℕ → List ℕ
+memoryIn s pool = listBelow (λ i. getD pool (memoryAt (s .config) + i) 0) (s .progress .«n_remembered» * s .config .«n_obj»)
+
+-- the ideal that a selection starts from, at the front of the session's: the least over the generations remembered, infinity where there is none. Without a
+-- window it is the session's.
+abbrev pub startBy : Option ℕ → Session → List ℕ → List Float
+startBy none s pool = s .«ideal_point»
+startBy (some w) s pool =
+    over (listBelow (leastRemembered pool (memoryAt (s .config)) (s .config .«n_obj») (s .progress .«n_remembered»)) (s .config .«n_obj»)) (s .«ideal_point»)
+
+unfoldable pub startIdeal : Session → List ℕ → List Float
+startIdeal s pool = startBy (given (s .config .window)) s pool
+
+-- what is remembered once a pool is bred from: the present generation's own part behind those before it, and no more than the window has
+unfoldable pub memoryAfter : Session → List ℕ → Request → List ℕ
+memoryAfter s pool r = lastOf (mostWords (s .config)) (memoryIn s pool ++ ownWords r)
+
 -- the selection that a session's breeding makes, and its operators
 abbrev pub requestOf : State → List ℕ → Request
 requestOf st history = record {
@@ -287,7 +336,7 @@ requestOf st history = record {
   size = st .session .config .«population_size»;
   count = planCount (bredFrom st history);
   plans = planAt (bredFrom st history);
-  ideal = take (st .session .config .«n_obj») (st .session .«ideal_point»);
+  ideal = take (st .session .config .«n_obj») (startIdeal (st .session) (st .pool));
   state = st .session .rng .s;
 }
 
@@ -300,18 +349,23 @@ operatorsOf s =
 abbrev pub keptWords : List ℕ → List ℕ → ℕ → List ℕ
 keptWords bred kept n = joinBelow (λ i. blockOf bred (getD kept i 0)) n
 
--- what the pool's slice holds once it is bred from: the plans bred from, and over them those that wait
+-- what the pool's slice holds once it is bred from: the plans bred from, over them those that wait, and behind them what is remembered
 abbrev pub poolAfter : State → List ℕ → List ℕ → List ℕ
 poolAfter st history kept =
     let bred = bredFrom st history in
-    over (keptWords bred kept (waitingOf (st .session .config .edition) (st .session .config .«population_size»))) (over bred (st .pool))
+    let waits = keptWords bred kept (waitingOf (st .session .config .edition) (st .session .config .«population_size»)) in
+    sets (over waits (over bred (st .pool))) (memoryAt (st .session .config)) (memoryAfter (st .session) (st .pool) (requestOf st history))
+
+-- the ideal that a session has afterwards
+abbrev pub idealLeft : State → List ℕ → Selected → List Float
+idealLeft st history sel = over (idealAfter (given (st .session .config .window)) (requestOf st history) sel) (st .session .«ideal_point»)
 
 -- "a new generation is bred": its candidates take the place of the old ones
 unfoldable pub breed : State → List ℕ → State
 breed st history =
     let s = st .session in
     let g = generation (operatorsOf s) (requestOf st history) in
-    state (bredSession s (g .state) (over (g .selection .ideal) (s .«ideal_point»))) (over (wordsOf (g .offspring)) (st .candidates)) (st .plans) (st .nextDims)
+    state (bredSession s (g .state) (idealLeft st history (g .selection))) (over (wordsOf (g .offspring)) (st .candidates)) (st .plans) (st .nextDims)
     (poolAfter st history (g .selection .kept))
 
 -- the same, said of a kept list: the state bred from the plans at its places, by the generator and the ideal that the selection leaves
@@ -320,7 +374,7 @@ bredBy st history kept =
     let s = st .session in
     let r = requestOf st history in
     let off = bredOf (operatorsOf s) (r .plans) (rankOf r kept) kept (r .size) (selected r .state) in
-    state (bredSession s (off .state) (over (selected r .ideal) (s .«ideal_point»))) (over (wordsOf (off .value)) (st .candidates)) (st .plans) (st .nextDims)
+    state (bredSession s (off .state) (idealLeft st history (selected r))) (over (wordsOf (off .value)) (st .candidates)) (st .plans) (st .nextDims)
     (poolAfter st history kept)
 
 -- ---- which of these a call does
@@ -347,7 +401,7 @@ discovers st plan = addsFor (st .session .phase) (st .session .«discovery_trial
 -- the lent slices have room for what they must hold: by their lengths, and by what they hold
 abbrev pub roomFor : Config → ℕ → ℕ → ℕ → ℕ → Bool
 roomFor c candidates plans nextDims pool =
-    leb maxWords candidates && (leb maxCome plans && (leb maxCome nextDims && leb (poolRoom (c .edition) (c .«population_size»)) pool))
+    leb maxWords candidates && (leb maxCome plans && (leb maxCome nextDims && leb (poolRoom c) pool))
 
 unfoldable pub longEnough : State → Bool
 longEnough st = roomFor (st .session .config) (length (st .candidates)) (length (st .plans)) (length (st .nextDims)) (length (st .pool))

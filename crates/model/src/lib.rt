@@ -47,6 +47,11 @@ pub const SIZE_WORDS: usize = MAX_SIZE * PLAN_WORDS;
 
 pub const CANDIDATE_WORDS: usize = MAX_SIZE * MAX_DIMS;
 
+// The longest window of a session's ideal, in generations, and the words of the own parts of so many generations (document 02, M-109).
+pub const MAX_WINDOW: usize = 64;
+
+pub const WINDOW_WORDS: usize = MAX_WINDOW * MAX_OBJECTIVES;
+
 // The values of a pool's rows, and of a table of lines.
 pub const MAX_ROW_VALUES: usize = MAX_POOL * MAX_OBJECTIVES;
 
@@ -82,7 +87,7 @@ pub enum ParamValue {
     Categorical(usize),
 }
 
-// What may be left out: a step, a size, a number of divisions, a plan number.
+// What may be left out: a step, a size, a number of divisions, a window, a plan number.
 pub enum OptionF64 {
     None,
     Some(f64),
@@ -161,14 +166,17 @@ pub struct Config {
     pub crossover_prob: f64,
     pub crossover_eta: f64,
     pub mutation_eta: f64,
+    pub window: OptionUsize,
 }
 
-// How far a session is: its dimensions, the candidates and the plans of the present generation, how many plans wait, and the generation's number.
+// How far a session is: its dimensions, the candidates and the plans of the present generation, how many plans wait, how many past generations are
+// remembered, and the generation's number.
 pub struct Progress {
     pub n_dims: usize,
     pub n_candidates: usize,
     pub n_plans: usize,
     pub n_waiting: usize,
+    pub n_remembered: usize,
     pub generation: u64,
 }
 

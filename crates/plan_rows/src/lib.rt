@@ -14,7 +14,7 @@ ghost use Rattle.model.specs.Row.{rowOf};
 ghost use Rattle.plan_rows.specs.Filled.{RowAt, RowsFilled, ConstraintsAt, ConstraintsOf};
 
 // Plan p's value at objective j, in minimise-space: a maximised value is negated.
-fn row_value(pool: &[u64], directions: &[u8], p: usize, j: usize) -> f64
+pub fn row_value(pool: &[u64], directions: &[u8], p: usize, j: usize) -> f64
     requires { ⌜ (p < planCount (now pool)) × (j < length (now directions)) × (j < maxObjectives) × (j < planAt (now pool) p .rowLength) ⌝ }
     ensures { λ r. ⌜ r ≡ rowOf (now (directions .entry)) (planAt (now (pool .entry)) p) j ⌝ }
 {

@@ -7,12 +7,15 @@ use model::MAX_COME;
 use model::MAX_DIMS;
 use model::MAX_OBJECTIVES;
 use model::MAX_SIZE;
+use model::MAX_WINDOW;
 use model::MAX_WORDS;
 use model::Opened;
 use model::Opening;
 use model::OptionU64;
+use model::OptionUsize;
 use model::PLAN_WORDS;
 use model::Phase;
+use model::Progress;
 use model::Sampled;
 use model::Sampling;
 use model::Session;
@@ -93,7 +96,20 @@ fn room_of(config: Config) -> usize {
     if MAX_SIZE < size {
         return POOL_WORDS + 1;
     }
-    (editions::waiting_of(edition, size) + size) * PLAN_WORDS
+    (editions::waiting_of(edition, size) + size) * PLAN_WORDS + window_words(config)
+}
+
+// The words that a session's window remembers at most.
+fn window_words(config: Config) -> usize
+    ensures { λ r. ⌜ r ≤ 504 ⌝ }
+{
+    let window = config.window;
+    let most = session_window::most_remembered(window);
+    let m = config.n_obj;
+    if MAX_WINDOW <= most || MAX_OBJECTIVES < m {
+        return 0;
+    }
+    most * m
 }
 
 // One word fewer, and not more than there are here.
@@ -277,6 +293,23 @@ fn put_waiting(out: &mut Words, at: usize, pool: &Pool, n: usize) -> usize {
     place
 }
 
+// How many generations are remembered, and their words.
+fn put_remembered(out: &mut Words, at: usize, pool: &Pool, config: Config, n: usize) -> usize {
+    let m = config.n_obj;
+    let mut place = replay::put(out, at, n as u64);
+    if MAX_SIZE < config.population_size || MAX_WINDOW < n || MAX_OBJECTIVES < m {
+        return place;
+    }
+    let from = session_window::memory_at(config);
+    let end = from + n * m;
+    let mut i = from;
+    while i < end {
+        place = replay::put(out, place, words::word_at(pool, i));
+        i += 1;
+    }
+    place
+}
+
 // What discovery has found: whether it is over, the first plan, and the dimensions.
 fn put_found(out: &mut Words, at: usize, active: bool, session: Session, n: usize) -> usize {
     let first = session.discovery_trial_id;
@@ -286,7 +319,23 @@ fn put_found(out: &mut Words, at: usize, active: bool, session: Session, n: usiz
     put_dimensions(out, place, dims, n)
 }
 
-// The rest of the state. In discovery the Rust has settled neither the size nor the ideal. In edition 2 the plans that wait follow.
+// The plans that wait, in edition 2, and what is remembered, with a window.
+fn put_kept(out: &mut Words, at: usize, config: Config, progress: Progress, pool: &Pool) -> usize {
+    let edition = config.edition;
+    let window = config.window;
+    let place = if editions::edition_number(edition) == 2 {
+        put_waiting(out, at, pool, progress.n_waiting)
+    } else {
+        at
+    };
+    match window {
+        OptionUsize::None => place,
+        OptionUsize::Some(_) => put_remembered(out, place, pool, config, progress.n_remembered),
+    }
+}
+
+// The rest of the state. In discovery the Rust has settled neither the size nor the ideal. In edition 2 the plans that wait follow, and with a window what is
+// remembered.
 fn put_full(
     out: &mut Words,
     at: usize,
@@ -311,11 +360,7 @@ fn put_full(
     let c = put_plans(out, b, plans, next_dims, n);
     let d = put_candidates(out, c, candidates, progress.n_candidates, dims, n_dims);
     let e = put_ideal(out, d, ideal, m);
-    let edition = config.edition;
-    if editions::edition_number(edition) == 2 {
-        return put_waiting(out, e, pool, progress.n_waiting);
-    }
-    e
+    put_kept(out, e, config, progress, pool)
 }
 
 // The answer of a call: its outcome, then generator, generation and number of plans; with `full` the rest too.
@@ -569,17 +614,30 @@ struct Given {
     probability: f64,
     crossover_eta: f64,
     mutation_eta: f64,
+    window: OptionUsize,
     seed: u64,
 }
 
-fn given_at(input: &Words, at: usize, edition: u64) -> Given
+// A line has a window or none by its command; it stands behind the seed.
+fn window_at(input: &Words, at: usize, windowed: bool) -> OptionUsize
     requires { ⌜ at ≤ 8193 ⌝ }
 {
+    if windowed {
+        return replay_values::option_at(input, at);
+    }
+    OptionUsize::None
+}
+
+fn given_at(input: &Words, at: usize, edition: u64, windowed: bool) -> Given
+    requires { ⌜ at ≤ 4096 ⌝ }
+{
+    let window = window_at(input, at + 4, windowed);
     Given {
         edition,
         probability: replay_values::real_at(input, at),
         crossover_eta: replay_values::real_at(input, at + 1),
         mutation_eta: replay_values::real_at(input, at + 2),
+        window,
         seed: replay::word(input, at + 3),
     }
 }
@@ -591,6 +649,7 @@ fn opened(input: &Words, at: usize, marks: &[u8], m: usize, given: Given) -> Ope
 {
     let size = replay_values::option_at(input, at);
     let divisions = replay_values::option_at(input, at + 2);
+    let window = given.window;
     session_calls::opened(
         given.edition,
         &marks[..m],
@@ -600,6 +659,7 @@ fn opened(input: &Words, at: usize, marks: &[u8], m: usize, given: Given) -> Ope
         given.probability,
         given.crossover_eta,
         given.mutation_eta,
+        window,
     )
 }
 
@@ -619,9 +679,9 @@ fn passed_over(input: &Words, config: Config) -> bool {
     POOL_WORDS < room_of(config)
 }
 
-// An opening and what follows it.
+// An opening and the calls that follow it at a place.
 fn follow(input: &Words, n: usize, at: usize, opened: Opened, out: &mut Words) -> usize
-    requires { ⌜ at ≤ 19 ⌝ }
+    requires { ⌜ at ≤ 29 ⌝ }
     requires { ⌜ usableBy (opened .outcome) (opened .session) ⌝ }
 {
     let outcome = opened.outcome;
@@ -632,8 +692,8 @@ fn follow(input: &Words, n: usize, at: usize, opened: Opened, out: &mut Words) -
             if passed_over(input, session.config) {
                 return 0;
             }
-            let count = replay::word(input, at + 8);
-            calls(input, n, at + 9, count, session, out)
+            let count = replay::word(input, at);
+            calls(input, n, at + 1, count, session, out)
         }
     }
 }
@@ -641,12 +701,20 @@ fn follow(input: &Words, n: usize, at: usize, opened: Opened, out: &mut Words) -
 // The edition of a session's line.
 fn edition_of(command: u64) -> u64 {
     match command {
-        91 => 2,
+        91 | 93 => 2,
         _ => 1,
     }
 }
 
-// 90 and 91
+// Whether it has a window.
+fn windowed(command: u64) -> bool {
+    match command {
+        92..=93 => true,
+        _ => false,
+    }
+}
+
+// 90 to 93
 fn session(input: &Words, n: usize, out: &mut Words) -> usize {
     let m = replay::word(input, 2) as usize;
     if 16 < m {
@@ -654,9 +722,12 @@ fn session(input: &Words, n: usize, out: &mut Words) -> usize {
     }
     let mut marks = [0u8; 16];
     replay_values::read_marks(input, 3, m, &mut marks);
-    let edition = edition_of(replay::word(input, 0));
-    let opened = opened_by(input, m + 3, &marks, m, given_at(input, m + 7, edition));
-    follow(input, n, m + 3, opened, out)
+    let command = replay::word(input, 0);
+    let windowed = windowed(command);
+    let given = given_at(input, m + 7, edition_of(command), windowed);
+    let opened = opened_by(input, m + 3, &marks, m, given);
+    let behind = if windowed { m + 13 } else { m + 11 };
+    follow(input, n, behind, opened, out)
 }
 
 // Divisions, lines and size of a session that is opened, or the refusal.
@@ -691,6 +762,7 @@ fn population(input: &Words, n: usize, out: &mut Words) -> usize {
         probability: 1.0,
         crossover_eta: 30.0,
         mutation_eta: 20.0,
+        window: OptionUsize::None,
         seed: 0,
     };
     put_opening(opened_by(input, m + 2, &marks, m, given), m, out)

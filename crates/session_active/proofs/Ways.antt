@@ -132,20 +132,20 @@ module _ (st : State) where
 
   -- ---- a new generation: it can be drawn from, and no plan of it has come
 
-  renewed-ready : (u : Session) (g : ℕ) (ideal : List Float) (waits number : ℕ) → badDimensions (dimensionOf (st .session)) (st .session .progress .«n_dims») ≡ false
-      → 1 ≤ st .session .progress .«n_dims» → u ≡ renewed (st .session) g ideal waits number → Ready u × (u .progress .«n_plans» ≡ 0)
-  renewed-ready u g ideal waits number dims h e =
+  renewed-ready : (u : Session) (g : ℕ) (ideal : List Float) (waits memory number : ℕ) → badDimensions (dimensionOf (st .session)) (st .session .progress .«n_dims») ≡ false
+      → 1 ≤ st .session .progress .«n_dims» → u ≡ renewed (st .session) g ideal waits memory number → Ready u × (u .progress .«n_plans» ≡ 0)
+  renewed-ready u g ideal waits memory number dims h e =
       (subst Ready (sym e) (record { dims = dims; some = h }), ap (λ (x : Session). x .progress .«n_plans») e)
 
   pub ready-first : (u : Session) (after : List ℕ) → SessionOk st → 1 ≤ st .session .progress .«n_dims» → state u after (st .plans) (st .nextDims) (st .pool) ≡ activate st
       → Ready u × (u .progress .«n_plans» ≡ 0)
   unfolding activate
-  ready-first u after ok h e = renewed-ready u _ _ _ _ (ok .dimensions) h (ap (λ (x : State). x .session) e)
+  ready-first u after ok h e = renewed-ready u _ _ _ _ _ (ok .dimensions) h (ap (λ (x : State). x .session) e)
 
   pub ready-bred : (history : List ℕ) (u : Session) (after pool : List ℕ) → Ready (st .session) → state u after (st .plans) (st .nextDims) pool ≡ breed st history
       → Ready u × (u .progress .«n_plans» ≡ 0)
   unfolding breed
-  ready-bred history u after pool r e = renewed-ready u _ _ _ _ (r .dims) (r .some) (ap (λ (x : State). x .session) e)
+  ready-bred history u after pool r e = renewed-ready u _ _ _ _ _ (r .dims) (r .some) (ap (λ (x : State). x .session) e)
 
 -- what breeding's answer tells: its refusal, and the state after it
 pub breed-tells : (st : State) (history : List ℕ) (o p q : Option ℕ) (x : State) → bredExit q x ≡ breedBy o st history → q ≡ p → (o ≡ p) × (x ≡ bredTo p st history)

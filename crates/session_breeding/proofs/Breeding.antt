@@ -5,43 +5,45 @@ use mathlib.Core.Bool.{Bool, true, false}
 use mathlib.Core.List.{List, [], _++_}
 use mathlib.Core.Option.{Option, none, some}
 use mathlib.Core.Logic.{⊎-elim}
-use native.Mathlib.Nat.{le-refl, le-trans, mul-le-mul-right}
+use native.Mathlib.Nat.{le-refl, le-trans, le-add-right, mul-le-mul-right}
 use native.Mathlib.Omega.{arith}
-use lib.Ieee.{Float}
-use lib.ListN.{length, getD, take, drop, replicate, length-replicate, length-append, length-take, take-append-drop}
+use lib.Ieee.{Float, nan}
+use lib.ListN.{length, getD, take, drop, replicate, length-replicate, length-append, take-append-drop}
 use lib.Seq.{sets, take-at, length-take-le}
 use Rattle.list_laws.proofs.Built.{joinBelow-same, over-take, over-at, over-front, over-run, over-length}
-use Rattle.list_laws.proofs.Checks.{applies-at, then-last, good-ideal-length}
+use Rattle.list_laws.proofs.Checks.{applies-at, then-last, good-length, pool-plan}
 use Rattle.list_laws.proofs.Members.{getD-in}
 use Rattle.model.specs.declared.Edition.{Edition}
 use Rattle.model.specs.declared.Selection.{Selection}
 use Rattle.model.specs.declared.Session.{Session}
 use Rattle.model.specs.Edition.{waitingOf}
-use Rattle.model.specs.Lists.{over}
-use Rattle.model.specs.Plan.{planCount, planWords}
+use Rattle.model.specs.Lists.{listBelow, over}
+use Rattle.model.specs.Real.{bits}
+use Rattle.model.specs.Plan.{planAt, planCount, planWords, maxObjectives}
 use Rattle.model.specs.Reference.{orElse}
-use Rattle.model.specs.Association.{Request}
-use Rattle.model.specs.Kept.{Selected}
+use Rattle.model.specs.Association.{Request, objectives}
+use Rattle.model.specs.Kept.{Selected, selected}
+use Rattle.model.specs.Window.{maxWindow, ownWords, lastOf, idealAfter}
 use Rattle.model.specs.Demand3.{Demand3}
-use Rattle.model.specs.Setting.{Operators, Generation, generation}
-use Rattle.model.specs.Session.{State, state, longEnough, numbersOf, childrenOf, keptWords, blockOf, bredFrom, bredSession, breed, operatorsOf, poolRoom, waitingCount, maxWords}
-use Rattle.model.specs.Refusal.{Room, check, stepRefusal, badPool, goodIdeal, maxSize, maxPool}
+use Rattle.model.specs.Setting.{Operators, Generation, generation, wordsOf}
+use Rattle.model.specs.Session.{State, state, given, longEnough, numbersOf, childrenOf, keptWords, blockOf, bredFrom, bredSession, breed, requestOf, idealLeft, operatorsOf, mostWords, poolRoom, memoryAt, memoryIn, memoryAfter, startIdeal, waitingCount, maxWords}
+use Rattle.model.specs.Refusal.{Room, check, stepRefusal, maxSize, maxPool}
 use Rattle.model.specs.Calls.{Lent, StepExit, roomOf, stepAccepted}
 use Rattle.model.specs.Property.{SessionOk}
 use Rattle.refusals.specs.declared.Check.{Check}
 use Rattle.refusals.specs.Checked.{checked}
+use Rattle.demand3_laws.specs.Facts.{Accepted}
+use Rattle.demand3_laws.proofs.Passed.{some-objectives}
 use Rattle.demand3_laws.proofs.Accepted.{demand3}
-use Rattle.demand3_laws.proofs.Calls.{planAt-row, step-accepted, generation-selects}
+use Rattle.demand3_laws.proofs.Calls.{planAt-row, step-accepted, generation-selects, request-objectives}
 use Rattle.session_pool_laws.proofs.Kept.{kept-length}
 use Rattle.session_pool_laws.proofs.Children.{comers-few, children-length}
-use Rattle.session_laws.specs.Refused.{requestFrom, wordRefusal, breedRefusal, shortRefusal}
+use Rattle.session_laws.specs.Refused.{slid, requestFrom, wordRefusal, breedRefusal, shortRefusal}
 use Rattle.session_laws.proofs.Steps.{short-ok}
-use Rattle.session_laws.proofs.Request.{waits-by, waits-most, waits-size, front-length, bred-enough, bred-few, step-refusal}
-use Rattle.session_breeding.specs.Breeding.{Stepped, stepped, takenOf, lentWith, stepOn, Keeping, Poised, Gatherable, bredOn, BredExit, bredExit, breedBy, breedOf}
-
--- an ideal that is good has its m entries
-pub ideal-room : (m : ℕ) (ideal : List Float) → goodIdeal m (take m ideal) ≡ true → m ≤ length ideal
-ideal-room m ideal e = omega (arith, good-ideal-length m (take m ideal) e, length-take m ideal)
+use Rattle.session_laws.proofs.Request.{waits-by, waits-most, waits-size, front-length, bred-enough, bred-few, words-objectives, most-within, step-refusal}
+use Rattle.session_laws.proofs.Window.{window-few, slid-sound}
+use Rattle.session_breeding.proofs.Lines.{ideal-is, memory-is, memory-same, left-same}
+use Rattle.session_breeding.specs.Breeding.{Stepped, stepped, takenOf, lentWith, stepOn, Told, idealBy, ownBy, Keeping, Poised, Gatherable, bredOn, BredExit, bredExit, breedBy, breedOf}
 
 -- the step by equal operators
 module _ (o p : Operators) (r : Request) (e : o ≡ p) where
@@ -79,9 +81,15 @@ module _ (s : Session) (words : List ℕ) (room pool candidates : ℕ) (p : Pois
   abbrev blank : List ℕ
   blank = replicate maxSize 0
 
-  pub step-good : stepRefusal (operatorsOf s) (requestFrom s words) (roomOf (lentWith blank)) candidates ≡ none
+  abbrev unlined : List ℕ
+  unlined = replicate maxPool 0
+
+  abbrev request : Request
+  request = requestFrom s words
+
+  pub step-good : stepRefusal (operatorsOf s) request (roomOf (lentWith blank unlined)) candidates ≡ none
   step-good =
-      step-refusal s words (p .ok .config) (p .ok .dimensions) (p .enough) (p .most) (roomOf (lentWith blank)) candidates
+      step-refusal s words (p .ok .config) (p .ok .dimensions) (p .enough) (p .most) (roomOf (lentWith blank unlined)) candidates
       (omega (arith, length-replicate {A = ℕ} maxSize 0)) (omega (arith, length-replicate {A = ℕ} maxSize 0)) (omega (arith, length-replicate {A = ℕ} maxPool 0))
       (omega (arith, length-replicate {A = ℕ} maxPool 0)) (p .candidates)
       ∙ p .accepted
@@ -89,11 +97,15 @@ module _ (s : Session) (words : List ℕ) (room pool candidates : ℕ) (p : Pois
   abbrev bred : Generation
   bred = generation (operatorsOf s) (requestFrom s words)
 
+  accepted : Accepted request
+  accepted = step-accepted request (planAt-row words) (operatorsOf s) (roomOf (lentWith blank unlined)) candidates step-good
+
+  selects : bred .selection ≡ selected request
+  selects = generation-selects (operatorsOf s) request (omega (arith, p .enough, p .ok .config .atLeast4))
+
   -- its kept list meets demand 3
-  listed : Demand3 (requestFrom s words) (bred .selection .kept)
-  listed =
-      subst (λ (x : Selected). Demand3 (requestFrom s words) (x .kept)) (sym (generation-selects (operatorsOf s) (requestFrom s words) (omega (arith, p .enough, p .ok .config .atLeast4))))
-      (demand3 (requestFrom s words) (step-accepted (requestFrom s words) (planAt-row words) (operatorsOf s) (roomOf (lentWith blank)) candidates step-good) (p .enough))
+  listed : Demand3 request (bred .selection .kept)
+  listed = subst (λ (x : Selected). Demand3 request (x .kept)) (sym selects) (demand3 request accepted (p .enough))
 
   waits-listed : waits ≤ length (bred .selection .kept)
   waits-listed = omega (arith, listed .exactly, waiting-few (s .config .edition) size)
@@ -106,26 +118,61 @@ module _ (s : Session) (words : List ℕ) (room pool candidates : ℕ) (p : Pois
         (sym (ap (λ (l : List ℕ). getD l i 0) e ∙ over-at (bred .selection .kept) blank i 0 (omega (arith, waits-listed))))
         (listed .inPool (getD (bred .selection .kept) i 0) (getD-in (bred .selection .kept) i (omega (arith, waits-listed))));
     room = le-trans (mul-le-mul-right planWords (le-trans (waiting-few (s .config .edition) size) (p .ok .config .atMost))) (p .room);
-    pool = p .pool;
+    pool = le-trans (mul-le-mul-right planWords (le-add-right waits size)) (le-trans (le-add-right _ _) (p .pool));
+  }
+
+  same : objectives request ≡ s .config .«n_obj»
+  same = words-objectives s words (p .ok .config) (p .ok .dimensions)
+
+  few-objectives : objectives request ≤ maxObjectives
+  few-objectives = some-objectives (request .marks) (accepted .directions) .1
+
+  pub few-remembered : s .progress .«n_remembered» < maxWindow
+  few-remembered = omega (arith, p .remembered, window-few (given (s .config .window)) (p .ok .config .window))
+
+  -- the lines tell what is left of the ideal
+  pub told : (forLines : ℕ) → forLines ≡ maxPool → Told s words forLines
+  told forLines e = record {
+    sound = p .ok;
+    lines = omega (arith, e, p .most, most-within (s .config .edition));
+    rows = λ q h. omega (arith, good-length (objectives request) (planAt words q) (pool-plan request (accepted .pool) q h), same);
   }
 
   -- the answer's parts, and the session that is made of them
-  module _ (cs pl : List ℕ) (r : Selection) (ideal : List Float) (kept cs' : List ℕ) (e : stepped r ideal kept cs' ≡ stepOn s words (take (s .config .«n_obj») (s .«ideal_point»)) blank cs) where
+  module _ (cs pl : List ℕ) (r : Selection) (ideal : List Float) (kept lines cs' : List ℕ)
+      (e : stepped r ideal kept lines cs' ≡ stepOn s words (take (s .config .«n_obj») (s .«ideal_point»)) blank unlined cs) where
     pub kept-is : kept ≡ over (bred .selection .kept) blank
     unfolding stepAccepted
     kept-is = ap (λ (x : Stepped). x .kept) e
 
-    pub bred-is : (u : Session) (ip : List Float) (pl' : List ℕ) → length ideal ≡ s .config .«n_obj» → ip ≡ ideal ++ drop (s .config .«n_obj») (s .«ideal_point»)
-        → pl' ≡ over (keptWords words kept waits) pl → u ≡ bredSession s (r .rng .s) ip → state u cs' [] [] pl' ≡ bredOn s words cs pl
+    lines-are : lines ≡ over (bred .selection .lines) unlined
     unfolding stepAccepted
-    bred-is u ip pl' h i k l =
-        let m = s .config .«n_obj» in
-        let front : pl' ≡ over (keptWords words (bred .selection .kept) waits) pl =
+    lines-are = ap (λ (x : Stepped). x .lines) e
+
+    ideal-are : ideal ≡ bred .selection .ideal
+    unfolding stepAccepted
+    ideal-are = ap (λ (x : Stepped). x .ideal) e
+
+    -- chosen is the ideal that the selection hands out, own and left what `left_of` makes of it, pl₁ the pool with those that wait and pl' that with what is remembered
+    pub bred-is : (u : Session) (chosen own left : List Float) (pl₁ pl' : List ℕ) → length ideal ≡ s .config .«n_obj» → chosen ≡ ideal ++ drop (s .config .«n_obj») (s .«ideal_point»)
+        → left ≡ idealBy (given (s .config .window)) s chosen words lines → own ≡ ownBy (given (s .config .window)) s chosen words lines → pl₁ ≡ over (keptWords words kept waits) pl
+        → pl' ≡ sets pl₁ (memoryAt (s .config)) (lastOf (mostWords (s .config)) (memoryIn s pl₁ ++ listBelow (λ j. bits (getD own j nan)) (s .config .«n_obj»)))
+        → u ≡ bredSession s (r .rng .s) left → state u cs' [] [] pl' ≡ bredOn s words cs pl
+    unfolding stepAccepted memoryAfter
+    bred-is u chosen own left pl₁ pl' h i a b k f l =
+        let o = given (s .config .window) in
+        let front : pl₁ ≡ over (keptWords words (bred .selection .kept) waits) pl =
         k ∙ ap (λ (x : List ℕ). over x pl) (ap (λ (x : List ℕ). keptWords words x waits) kept-is ∙ kept-same words (bred .selection .kept) blank waits waits-listed) in
+        let memory : memoryIn s pl₁ ≡ memoryIn s pl =
+        ap (memoryIn s) front ∙ memory-same s (keptWords words (bred .selection .kept) waits) pl (omega (arith, kept-length words (bred .selection .kept) waits)) in
+        let words-left =
+        ap₂ (λ (x : List ℕ) (y : List Float). lastOf (mostWords (s .config)) (x ++ listBelow (λ j. bits (getD y j nan)) (s .config .«n_obj»))) memory b
+        ∙ memory-is s words accepted same lines unlined (bred .selection) selects lines-are o chosen (memoryIn s pl) few-objectives in
         ap₂ (λ (x : Session) (y : List ℕ). state x cs' [] [] y)
-        (l ∙ ap (λ (x : List Float). bredSession s (r .rng .s) x) (i ∙ ap (λ (x : ℕ). ideal ++ drop x (s .«ideal_point»)) (sym h))) front
-        ∙ ap (λ (x : Stepped). state (bredSession s (x .answer .rng .s) (over (x .ideal) (s .«ideal_point»))) (x .offspring) [] []
-        (over (keptWords words (bred .selection .kept) waits) pl)) e
+        (l ∙ ap (bredSession s (r .rng .s)) (a ∙ ideal-is s words accepted same lines unlined (bred .selection) selects lines-are o ideal chosen h ideal-are i))
+        (f ∙ ap₂ (λ (x y : List ℕ). sets x (memoryAt (s .config)) y) front words-left)
+        ∙ ap (λ (x : Stepped). state (bredSession s (x .answer .rng .s) (over (idealAfter o request (bred .selection)) (s .«ideal_point»))) (x .offspring) [] []
+        (sets (over (keptWords words (bred .selection .kept) waits) pl) (memoryAt (s .config)) (lastOf (mostWords (s .config)) (memoryIn s pl ++ ownWords request)))) e
 
 -- ---- the plans bred from, gathered
 
@@ -185,15 +232,23 @@ module _ (s : Session) (history ps pool : List ℕ) (g : Gatherable s history ps
     abbrev joined : List ℕ
     joined = front ++ take n room'
 
+    -- the session with the ideal that its selection starts from
+    abbrev started : Session
+    started = slid s pool
+
     joined-is : joined ≡ bredFrom bare history
     unfolding bredFrom
     joined-is = ap (λ (x : List ℕ). front ++ x) gathered
 
     -- ---- its refusal
 
-    module _ (c : Check) (e : checked c ≡ wordRefusal s joined) where
+    -- as code has it, of the session that it makes
+    pub started-by : (c : Check) (u : Session) → u ≡ started → checked c ≡ wordRefusal u joined → checked c ≡ wordRefusal started joined
+    started-by c u e f = f ∙ ap (λ (x : Session). wordRefusal x joined) e
+
+    module _ (c : Check) (e : checked c ≡ wordRefusal started joined) where
       check-is : checked c ≡ breedRefusal bare history
-      check-is = e ∙ ap (wordRefusal s) joined-is
+      check-is = e ∙ ap (wordRefusal started) joined-is
 
       -- 10 comes after 8 and 9
       pub short-is : (k : Check) → c ≡ k → shortRefusal bare history ≡ some (orElse (checked k) 10)
@@ -205,9 +260,13 @@ module _ (s : Session) (history ps pool : List ℕ) (g : Gatherable s history ps
 
     -- ---- the pool, with the children put behind those that wait
 
-    module _ (fits : poolRoom (s .config .edition) wanted ≤ length pool) where
+    module _ (fits : poolRoom (s .config) ≤ length pool) where
+      -- the plans bred from are within their room
+      joined-fits : many * planWords + n ≤ memoryAt (s .config)
+      joined-fits = omega (arith, waits-most bare bare-ok, children-few, count)
+
       pub behind-fits : many * planWords + n ≤ length pool
-      behind-fits = omega (arith, waits-most bare bare-ok, children-few)
+      behind-fits = le-trans joined-fits (le-trans (le-add-right _ _) fits)
 
       pub behind-room : many * planWords + length (take n room') ≤ length pool
       behind-room = omega (arith, behind-fits, ap length gathered)
@@ -229,27 +288,44 @@ module _ (s : Session) (history ps pool : List ℕ) (g : Gatherable s history ps
         front-fits = omega (arith, behind-fits, pool-same)
 
         -- no refusal applies: the generation may be bred
-        pub poised : (c : Check) (forRoom candidates : ℕ) → checked c ≡ wordRefusal s joined → checked c ≡ none → maxSize * planWords ≤ forRoom → maxWords ≤ candidates
-            → Poised s (take (many * planWords + n) pool') forRoom (length pool') candidates
+        pub poised : (c : Check) (forRoom candidates : ℕ) → checked c ≡ wordRefusal started joined → checked c ≡ none → maxSize * planWords ≤ forRoom → maxWords ≤ candidates
+            → Poised started (take (many * planWords + n) pool') forRoom (length pool') candidates
         poised c forRoom candidates e f room-fits words-fit =
-            subst (λ (x : List ℕ). Poised s x forRoom (length pool') candidates) (sym pool-front)
+            subst (λ (x : List ℕ). Poised started x forRoom (length pool') candidates) (sym pool-front)
             (record {
-              ok = g .ok;
-              accepted = sym (e ∙ ap (wordRefusal s) joined-is) ∙ f;
+              ok = slid-sound s pool [] [] [] [] (g .ok);
+              remembered = g .ok .remembered;
+              accepted = sym (e ∙ ap (wordRefusal started) joined-is) ∙ f;
               enough = bred-enough bare bare-ok history (g .waits);
               most = bred-few bare bare-ok history (g .waits);
               room = room-fits;
-              pool = omega (arith, pool-same, fits);
+              pool = subst (λ (k : ℕ). poolRoom (s .config) ≤ k) (sym pool-same) fits;
               candidates = words-fit;
             })
 
         -- what is bred on it is the definition's
-        pub breed-is : (cs ns cs' pool'' : List ℕ) (u : Session) → state u cs' [] [] pool'' ≡ bredOn s (take (many * planWords + n) pool') cs pool'
+        memory-left : memoryAfter started pool' (requestOf bare history) ≡ memoryAfter s pool (requestOf bare history)
+        unfolding memoryAfter
+        memory-left =
+            ap (λ (x : List ℕ). lastOf (mostWords (s .config)) (x ++ ownWords (requestOf bare history)))
+            (ap (memoryIn s) pool-is ∙ memory-same s joined pool (omega (arith, joined-fits, joined-length)))
+
+        ideal-left : (sel : Selected) → over (idealAfter (given (s .config .window)) (requestOf bare history) sel) (startIdeal s pool) ≡ idealLeft bare history sel
+        unfolding startIdeal
+        ideal-left sel = left-same (given (s .config .window)) s pool (requestOf bare history) sel (request-objectives bare history bare-ok)
+
+        pub breed-is : (cs ns cs' pool'' : List ℕ) (u : Session) → state u cs' [] [] pool'' ≡ bredOn started (take (many * planWords + n) pool') cs pool'
             → state u cs' ps ns pool'' ≡ breed (state s cs ps ns pool) history
         unfolding breed bredFrom
         breed-is cs ns cs' pool'' u e =
+            let bred = generation (operatorsOf s) (requestOf bare history) in
+            let kept = keptWords (bredFrom bare history) (bred .selection .kept) (waitingOf (s .config .edition) wanted) in
             ap (λ (x : State). state (x .session) (x .candidates) ps ns (x .pool))
-            (e ∙ ap₂ (λ (x y : List ℕ). bredOn s x cs y) pool-front (pool-is ∙ ap (λ (x : List ℕ). over x pool) joined-is))
+            (e ∙ ap (λ (x : List ℕ). bredOn started x cs pool') pool-front)
+            ∙ ap (λ (x : List Float). state (bredSession s (bred .state) x) (over (wordsOf (bred .offspring)) cs) ps ns
+            (sets (over kept pool') (memoryAt (s .config)) (memoryAfter started pool' (requestOf bare history)))) (ideal-left (bred .selection))
+            ∙ ap₂ (λ (x y : List ℕ). state (bredSession s (bred .state) (idealLeft bare history (bred .selection))) (over (wordsOf (bred .offspring)) cs) ps ns
+            (sets (over kept x) (memoryAt (s .config)) y)) (pool-is ∙ ap (λ (x : List ℕ). over x pool) joined-is) memory-left
 
 -- ---- by its refusal
 

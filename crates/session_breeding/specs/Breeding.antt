@@ -4,21 +4,25 @@ use mathlib.Core.Path.{_≡_}
 use mathlib.Core.Bool.{true}
 use mathlib.Core.List.{List, []}
 use mathlib.Core.Option.{Option, none, some}
-use lib.Ieee.{Float}
+use lib.Ieee.{Float, nan}
 use lib.ListN.{length, getD, take, replicate}
+use lib.Seq.{sets}
 use Rattle.model.specs.declared.Edition.{Edition}
 use Rattle.model.specs.declared.Selection.{Selection}
 use Rattle.model.specs.declared.Session.{Session}
 use Rattle.model.specs.Edition.{mostPlans, waitingOf}
-use Rattle.model.specs.Lists.{allBelow, over}
-use Rattle.model.specs.Plan.{planCount, planWords}
+use Rattle.model.specs.Lists.{allBelow, listBelow, over}
+use Rattle.model.specs.Real.{infinity}
+use Rattle.model.specs.Plan.{planAt, planCount, planWords, maxObjectives}
+use Rattle.model.specs.Window.{mostRemembered, idealAfter}
 use Rattle.model.specs.Association.{Request}
 use Rattle.model.specs.Setting.{generation, wordsOf}
-use Rattle.model.specs.Session.{State, state, operatorsOf, standsIn, keptWords, bredSession, breed, maxWords}
+use Rattle.model.specs.Session.{State, state, given, poolRoom, memoryAt, memoryAfter, operatorsOf, standsIn, keptWords, bredSession, breed, maxWords}
 use Rattle.model.specs.Refusal.{maxSize, maxPool}
 use Rattle.model.specs.Calls.{Lent, StepExit, lent, wordRequest, stepAccepted}
 use Rattle.model.specs.Property.{SessionOk}
-use Rattle.session_laws.specs.Refused.{requestFrom, wordRefusal, breedRefusal}
+use Rattle.session_window.specs.Sources.{leastIn}
+use Rattle.session_laws.specs.Refused.{Sound, requestFrom, wordRefusal, breedRefusal}
 
 -- ---- the generation step of a session
 
@@ -27,24 +31,48 @@ pub record Stepped : Type 0 where
   pub answer : Selection
   pub ideal : List Float
   pub kept : List ℕ
+  pub lines : List ℕ
   pub offspring : List ℕ
 
-abbrev pub stepped : Selection → List Float → List ℕ → List ℕ → Stepped
-stepped r ideal kept offspring = record { answer = r; ideal = ideal; kept = kept; offspring = offspring }
+abbrev pub stepped : Selection → List Float → List ℕ → List ℕ → List ℕ → Stepped
+stepped r ideal kept lines offspring = record { answer = r; ideal = ideal; kept = kept; lines = lines; offspring = offspring }
 
 abbrev pub takenOf : StepExit → Stepped
-takenOf e = stepped (e .answer) (e .ideal) (e .slices .kept) (e .offspring)
+takenOf e = stepped (e .answer) (e .ideal) (e .slices .kept) (e .slices .lines) (e .offspring)
 
 -- the lists that are lent for the selection
-abbrev pub lentWith : List ℕ → Lent
-lentWith kept = lent kept (replicate maxSize 0) (replicate maxPool 0) (replicate maxPool 0)
+abbrev pub lentWith : List ℕ → List ℕ → Lent
+lentWith kept lines = lent kept (replicate maxSize 0) (replicate maxPool 0) lines
 
 abbrev pub stepRequest : Session → List ℕ → List Float → Request
 stepRequest s words ideal =
     wordRequest (s .config .edition) words (take (s .config .«n_obj») (s .config .directions)) (s .config .divisions) (s .config .«population_size») (s .rng) ideal
 
-abbrev pub stepOn : Session → List ℕ → List Float → List ℕ → List ℕ → Stepped
-stepOn s words ideal kept offspring = takenOf (stepAccepted (operatorsOf s) (stepRequest s words ideal) (lentWith kept) offspring)
+abbrev pub stepOn : Session → List ℕ → List Float → List ℕ → List ℕ → List ℕ → Stepped
+stepOn s words ideal kept lines offspring = takenOf (stepAccepted (operatorsOf s) (stepRequest s words ideal) (lentWith kept lines) offspring)
+
+-- ---- what a generation leaves of the ideal, by its lines (document 02, M-109)
+
+-- a pool of plans that have as many values as there are objectives, a session with as many, and a line for each plan
+pub record Told (s : Session) (words : List ℕ) (forLines : ℕ) : Type 0 where
+  pub sound : Sound s
+  pub lines : planCount words ≤ forLines
+  pub rows : (p : ℕ) → p < planCount words → s .config .«n_obj» ≤ planAt words p .rowLength
+
+abbrev pub marksOf : Session → List ℕ
+marksOf s = take (s .config .«n_obj») (s .config .directions)
+
+-- each entry of an ideal, and the plans' least
+abbrev pub leastOn : Session → List ℕ → List ℕ → List Float → List Float
+leastOn s words lines ideal = over (listBelow (λ j. leastIn (marksOf s) words lines (getD ideal j nan) j) (length (marksOf s))) ideal
+
+abbrev pub idealBy : Option ℕ → Session → List Float → List ℕ → List ℕ → List Float
+idealBy none s chosen words lines = chosen
+idealBy (some w) s chosen words lines = leastOn s words lines (s .«ideal_point»)
+
+abbrev pub ownBy : Option ℕ → Session → List Float → List ℕ → List ℕ → List Float
+ownBy none s chosen words lines = chosen
+ownBy (some w) s chosen words lines = leastOn s words lines (replicate maxObjectives infinity)
 
 -- ---- the plans that wait
 
@@ -59,20 +87,22 @@ pub record Keeping (edition : Edition) (size : ℕ) (kept words : List ℕ) (for
 
 -- no refusal applies to them, they are as many as a session breeds from, and there is room
 pub record Poised (s : Session) (words : List ℕ) (forRoom forPool forCandidates : ℕ) : Type 0 where
-  pub ok : SessionOk (state s [] [] [] [])
+  pub ok : Sound s
+  pub remembered : s .progress .«n_remembered» ≤ mostRemembered (given (s .config .window))
   pub accepted : wordRefusal s words ≡ none
   pub enough : s .config .«population_size» ≤ planCount words
   pub most : planCount words ≤ mostPlans (s .config .edition)
   pub room : maxSize * planWords ≤ forRoom
-  pub pool : waitingOf (s .config .edition) (s .config .«population_size») * planWords ≤ forPool
+  pub pool : poolRoom (s .config) ≤ forPool
   pub candidates : maxWords ≤ forCandidates
 
 -- the state that it leaves
 abbrev pub bredOn : Session → List ℕ → List ℕ → List ℕ → State
 bredOn s words candidates pool =
-    let g = generation (operatorsOf s) (requestFrom s words) in
-    state (bredSession s (g .state) (over (g .selection .ideal) (s .«ideal_point»))) (over (wordsOf (g .offspring)) candidates) [] []
-    (over (keptWords words (g .selection .kept) (waitingOf (s .config .edition) (s .config .«population_size»))) pool)
+    let r = requestFrom s words in
+    let g = generation (operatorsOf s) r in
+    state (bredSession s (g .state) (over (idealAfter (given (s .config .window)) r (g .selection)) (s .«ideal_point»))) (over (wordsOf (g .offspring)) candidates) [] []
+    (sets (over (keptWords words (g .selection .kept) (waitingOf (s .config .edition) (s .config .«population_size»))) pool) (memoryAt (s .config)) (memoryAfter s pool r))
 
 -- ---- breeding
 

@@ -61,6 +61,7 @@ pub fn opened(
     probability: f64,
     crossover_eta: f64,
     mutation_eta: f64,
+    window: OptionUsize,
 ) -> Opened
     ensures { λ r. ⌜ usableBy (r .outcome) (r .session) ⌝ }
 {
@@ -76,6 +77,8 @@ pub fn opened(
         probability,
         crossover_eta,
         mutation_eta,
+        given(window),
+        number_of(window),
         &mut words,
     );
     let session = session_words::session_of_words(&words);

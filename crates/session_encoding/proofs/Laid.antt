@@ -16,7 +16,7 @@ use native.Mathlib.Omega.{arith}
 use Rattle.list_laws.proofs.Rows.{joinBelow-length}
 use Rattle.list_laws.proofs.Built.{over-front, over-run}
 use lib.Seq.{sets}
-use Rattle.session_words.specs.Coding.{phaseWord, hasFirst, firstWord, dimensionWidth, dimensionWords, headWidth, sessionWidth, eight, configWords, stateWords, idealWords, sessionWords}
+use Rattle.session_words.specs.Coding.{phaseWord, hasFirst, firstWord, hasWindow, windowWord, dimensionWidth, dimensionWords, headWidth, sessionWidth, eight, configWords, stateWords, idealWords, sessionWords}
 use Rattle.session_words.specs.Place as place
 
 pub dimension-length : (x : Distribution) → length (dimensionWords x) ≡ dimensionWidth
@@ -28,15 +28,15 @@ pub six-laid : (kind : ℕ) {low high log has step low′ high′ log′ has′ 
     → (kind ∷ low ∷ high ∷ log ∷ has ∷ step ∷ []) ≡ (kind ∷ low′ ∷ high′ ∷ log′ ∷ has′ ∷ step′ ∷ [])
 six-laid kind p q r t u = rw (p, q, r, t, u)
 
-pub config-laid : (x : Config) {a b c d e f g h p q r v : ℕ} → (a ∷ b ∷ c ∷ d ∷ e ∷ f ∷ g ∷ h ∷ []) ≡ eight (λ i. getD (x .directions) i 0) → p ≡ bits (x .«crossover_prob»)
-    → q ≡ bits (x .«crossover_eta») → r ≡ bits (x .«mutation_eta») → v ≡ editionNumber (x .edition)
-    → (x .«n_obj» ∷ a ∷ b ∷ c ∷ d ∷ e ∷ f ∷ g ∷ h ∷ x .divisions ∷ x .«population_size» ∷ p ∷ q ∷ r ∷ v ∷ []) ≡ configWords x
+pub config-laid : (x : Config) {a b c d e f g h p q r v i w : ℕ} → (a ∷ b ∷ c ∷ d ∷ e ∷ f ∷ g ∷ h ∷ []) ≡ eight (λ i. getD (x .directions) i 0) → p ≡ bits (x .«crossover_prob»)
+    → q ≡ bits (x .«crossover_eta») → r ≡ bits (x .«mutation_eta») → v ≡ editionNumber (x .edition) → i ≡ hasWindow (x .window) → w ≡ windowWord (x .window)
+    → (x .«n_obj» ∷ a ∷ b ∷ c ∷ d ∷ e ∷ f ∷ g ∷ h ∷ x .divisions ∷ x .«population_size» ∷ p ∷ q ∷ r ∷ v ∷ i ∷ w ∷ []) ≡ configWords x
 unfolding configWords
-config-laid x {p = p} {q = q} {r = r} {v = v} m hp hq hr hv =
-    ap (λ l. x .«n_obj» ∷ l ++ (x .divisions ∷ x .«population_size» ∷ p ∷ q ∷ r ∷ v ∷ [])) m ∙ rw (hp, hq, hr, hv)
+config-laid x {p = p} {q = q} {r = r} {v = v} {i = i} {w = w} m hp hq hr hv hi hw =
+    ap (λ l. x .«n_obj» ∷ l ++ (x .divisions ∷ x .«population_size» ∷ p ∷ q ∷ r ∷ v ∷ i ∷ w ∷ [])) m ∙ rw (hp, hq, hr, hv, hi, hw)
 
 pub state-laid : (s : Session) (p has plan : ℕ) → p ≡ phaseWord (s .phase) → has ≡ hasFirst (s .«discovery_trial_id») → plan ≡ firstWord (s .«discovery_trial_id»)
-    → (p ∷ has ∷ plan ∷ s .rng .s ∷ s .progress .«n_dims» ∷ s .progress .«n_candidates» ∷ s .progress .«n_plans» ∷ s .progress .«n_waiting» ∷ s .progress .generation ∷ []) ≡ stateWords s
+    → (p ∷ has ∷ plan ∷ s .rng .s ∷ s .progress .«n_dims» ∷ s .progress .«n_candidates» ∷ s .progress .«n_plans» ∷ s .progress .«n_waiting» ∷ s .progress .«n_remembered» ∷ s .progress .generation ∷ []) ≡ stateWords s
 unfolding stateWords
 state-laid s p has plan a b c = rw (a, b, c)
 

@@ -24,6 +24,8 @@ use Rattle.model.specs.declared.OptionI64.{OptionI64}
 use Rattle.model.specs.declared.OptionI64.the-variants as optI64
 use Rattle.model.specs.declared.OptionU64.{OptionU64}
 use Rattle.model.specs.declared.OptionU64.the-variants as optU64
+use Rattle.model.specs.declared.OptionUsize.{OptionUsize}
+use Rattle.model.specs.declared.OptionUsize.the-variants as optUsize
 use Rattle.model.specs.declared.Phase.{Phase}
 use Rattle.model.specs.declared.Phase.the-variants.{Discovery, Active}
 use Rattle.model.specs.declared.Session.{Session}
@@ -33,7 +35,7 @@ use Rattle.model.specs.Session.{dimensionOf}
 use Rattle.model.specs.Plan.{maxObjectives}
 use Rattle.model.specs.Setting.{maxDims, noDimension}
 use Rattle.settings.proofs.InBounds.{Held, HeldStepF64}
-use Rattle.session_words.specs.Coding.{marked, hasStepF64, stepWordF64, hasStepI64, stepWordI64, dimensionWidth, dimensionWords, stepF64, stepI64, dimensionAt, infoAt, dimensionsAt, headWidth, phaseWord, phaseOf, hasFirst, firstWord, firstOf, configWords, stateWords, idealWords, sessionWords, marksAt, idealAt, configAt, sessionOf}
+use Rattle.session_words.specs.Coding.{marked, hasStepF64, stepWordF64, hasStepI64, stepWordI64, dimensionWidth, dimensionWords, stepF64, stepI64, dimensionAt, infoAt, dimensionsAt, headWidth, phaseWord, phaseOf, hasFirst, firstWord, firstOf, hasWindow, windowWord, windowOf, configWords, stateWords, idealWords, sessionWords, marksAt, idealAt, configAt, sessionOf}
 use Rattle.session_words.proofs.Parts.{float-is, int-is, dimension-same, config-same, session-same}
 use Rattle.session_encoding.proofs.Laid.{dimension-length}
 use Rattle.list_laws.proofs.Rows.{joinBelow-front}
@@ -98,6 +100,10 @@ first-back : (o : OptionU64) → firstOf (hasFirst o) (firstWord o) ≡ o
 first-back optU64.None = refl
 first-back (optU64.Some n) = refl
 
+window-back : (o : OptionUsize) → windowOf (hasWindow o) (windowWord o) ≡ o
+window-back optUsize.None = refl
+window-back (optUsize.Some w) = refl
+
 -- ---- a session
 
 module _ (s : Session) (old : List ℕ) (ok : Stored s) where
@@ -149,8 +155,9 @@ module _ (s : Session) (old : List ℕ) (ok : Stored s) where
   config-back : configAt words ≡ s .config
   unfolding sessionWords configWords
   config-back =
-      config-same (s .config) _ _ (marksAt words) _ _ _ _ _ (edition-back (s .config .edition)) refl marks-back refl refl (ofBits-toBits binary64 (s .config .«crossover_prob») (ok .config .probability))
+      config-same (s .config) _ _ (marksAt words) _ _ _ _ _ _ (edition-back (s .config .edition)) refl marks-back refl refl (ofBits-toBits binary64 (s .config .«crossover_prob») (ok .config .probability))
       (ofBits-toBits binary64 (s .config .«crossover_eta») (ok .config .crossoverEta)) (ofBits-toBits binary64 (s .config .«mutation_eta») (ok .config .mutationEta))
+      (window-back (s .config .window))
 
   pub session-back : sessionOf words ≡ s
   unfolding sessionOf sessionWords configWords stateWords idealWords

@@ -6,7 +6,7 @@ ghost use Rattle.model.specs.declared.Distribution.the-variants as dist;
 ghost use Rattle.model.specs.Lists.{joinBelow, over};
 ghost use Rattle.model.specs.Setting.{maxDims, dimensionsOf, kindOf, toWord, ofWord};
 ghost use lib.Seq.{sets};
-ghost use Rattle.session_words.specs.Coding.{hasStepF64, stepWordF64, hasStepI64, stepWordI64, dimensionWidth, dimensionWords, phaseWord, hasFirst, firstWord, configWords, stateWords, idealWords, sessionWidth, sessionWords, sessionOf};
+ghost use Rattle.session_words.specs.Coding.{hasStepF64, stepWordF64, hasStepI64, stepWordI64, dimensionWidth, dimensionWords, phaseWord, hasFirst, firstWord, hasWindow, windowWord, configWords, stateWords, idealWords, sessionWidth, sessionWords, sessionOf};
 use model::Config;
 use model::DimensionInfo;
 use model::Distribution;
@@ -17,6 +17,7 @@ use model::MAX_OBJECTIVES;
 use model::OptionF64;
 use model::OptionI64;
 use model::OptionU64;
+use model::OptionUsize;
 use model::ParamValue;
 use model::Phase;
 use model::Session;
@@ -135,6 +136,24 @@ fn first_word(first: OptionU64) -> u64
     }
 }
 
+fn has_window(window: OptionUsize) -> u64
+    ensures { λ r. ⌜ r ≡ hasWindow window ⌝ }
+{
+    match window {
+        OptionUsize::None => 0,
+        OptionUsize::Some(_) => 1,
+    }
+}
+
+fn window_word(window: OptionUsize) -> u64
+    ensures { λ r. ⌜ r ≡ windowWord window ⌝ }
+{
+    match window {
+        OptionUsize::None => 0,
+        OptionUsize::Some(w) => w as u64,
+    }
+}
+
 fn ideal_words(ideal: [f64; MAX_OBJECTIVES]) -> [u64; MAX_OBJECTIVES]
     ensures { λ r. ⌜ r ≡ idealWords ideal ⌝ }
 {
@@ -166,10 +185,31 @@ fn config_words(config: Config) -> [u64; CONFIG_WORDS]
     let r = real::word_of_real(config.mutation_eta);
     let edition = config.edition;
     let v = editions::edition_number(edition);
+    let window = config.window;
+    let has = has_window(window);
+    let w = window_word(window);
     let n = config.n_obj as u64;
     let divisions = config.divisions as u64;
     let size = config.population_size as u64;
-    [n, a, b, c, d, e, f, g, h, divisions, size, p, q, r, v]
+    [
+        n,
+        a,
+        b,
+        c,
+        d,
+        e,
+        f,
+        g,
+        h,
+        divisions,
+        size,
+        p,
+        q,
+        r,
+        v,
+        has,
+        w,
+    ]
 }
 
 fn state_words(session: Session) -> [u64; STATE_WORDS]
@@ -186,7 +226,8 @@ fn state_words(session: Session) -> [u64; STATE_WORDS]
     let c = progress.n_candidates as u64;
     let n = progress.n_plans as u64;
     let w = progress.n_waiting as u64;
-    [p, has, plan, rng.s, d, c, n, w, progress.generation]
+    let r = progress.n_remembered as u64;
+    [p, has, plan, rng.s, d, c, n, w, r, progress.generation]
 }
 
 // The words of as many dimensions as a session holds, from a place on.

@@ -1,5 +1,6 @@
 pub mod Lists
 pub mod Opened
+pub mod Window
 pub mod Request
 pub mod Steps
 pub mod Breed

@@ -21,10 +21,11 @@ use Rattle.model.specs.Plan.{maxObjectives}
 use Rattle.model.specs.Reference.{binomial, pointCount, autoDivisions, divisionsOf, populationSize}
 use Rattle.model.specs.declared.Edition.{Edition}
 use Rattle.model.specs.declared.OptionUsize.{OptionUsize}
+use Rattle.model.specs.declared.OptionUsize.the-variants as optUsize
 use Rattle.model.specs.declared.Session.{Session}
 use Rattle.model.specs.Session.{state, given, opened, blank}
 use Rattle.model.specs.Calls.{openBy, openOf, Opens, openingRefusedBy}
-use Rattle.model.specs.Refusal.{firstOf, wholeEta, openRefusal, badDirections, badSessionSize, badSessionDivisions, badGivenDivisions, badDivisions, badOperators, measurable, goodIdeal, maxSize, maxLines, goodEntry, badDimensions}
+use Rattle.model.specs.Refusal.{firstOf, wholeEta, openRefusal, badDirections, badSessionSize, badSessionDivisions, badGivenDivisions, badDivisions, badOperators, badWindow, measurable, goodIdeal, maxSize, maxLines, goodEntry, badDimensions}
 use Rattle.model.specs.Property.{ConfigOk, SessionOk}
 use Rattle.model.specs.declared.Opening.{Opening}
 use Rattle.session_laws.proofs.Lists.{lent-empty}
@@ -32,11 +33,11 @@ use Rattle.reference_laws.proofs.Divisions.{session-bad}
 
 -- ---- the ideal that a session starts from: plus infinity everywhere
 
-infinity-good : goodEntry infinity ≡ true
+pub infinity-good : goodEntry infinity ≡ true
 unfolding measurable eq le ofBits
 infinity-good = refl
 
-infinite-ideal : (m : ℕ) → m ≤ maxObjectives → goodIdeal m (take m (replicate maxObjectives infinity)) ≡ true
+pub infinite-ideal : (m : ℕ) → m ≤ maxObjectives → goodIdeal m (take m (replicate maxObjectives infinity)) ≡ true
 unfolding goodIdeal
 infinite-ideal m h =
     ap (goodIdeal m) (take-replicate m maxObjectives infinity h)
@@ -54,7 +55,7 @@ size-within m (some size) divisions e f = let h = ltb-false maxSize size e in (o
 -- ---- opening
 
 module _ (edition : Edition) (marks : List ℕ) (seed : ℕ) (size divisions : Option ℕ) (probability crossoverEta mutationEta : Float)
-    (accepted : openRefusal marks size divisions probability crossoverEta mutationEta ≡ none) where
+    (window : OptionUsize) (accepted : openRefusal marks size divisions probability crossoverEta mutationEta (given window) ≡ none) where
   pub directions-good : badDirections marks ≡ false
   unfolding openRefusal
   directions-good = applies-at _ 0 accepted
@@ -71,11 +72,15 @@ module _ (edition : Edition) (marks : List ℕ) (seed : ℕ) (size divisions : O
   unfolding openRefusal
   operators-good = applies-at _ 3 accepted
 
+  window-good : badWindow (given window) ≡ false
+  unfolding openRefusal
+  window-good = applies-at _ 4 accepted
+
   few-lines : ltb maxLines (pointCount (length marks) (divisionsOf (length marks) size divisions)) ≡ false
   unfolding badSessionDivisions
   few-lines = or-right (badGivenDivisions divisions) _ divisions-good
 
-  config-good : ConfigOk (opened edition marks seed size divisions probability crossoverEta mutationEta .config)
+  config-good : ConfigOk (opened edition marks seed size divisions probability crossoverEta mutationEta window .config)
   unfolding opened
   config-good =
       record {
@@ -85,20 +90,22 @@ module _ (edition : Edition) (marks : List ℕ) (seed : ℕ) (size divisions : O
         atLeast4 = size-within (length marks) size divisions size-good few-lines .0;
         atMost = size-within (length marks) size divisions size-good few-lines .1;
         operators = operators-good;
+        window = window-good;
       }
 
   -- THE THEOREM: the field `gives` of `Opens`, whatever slices are lent
   pub opened-ok : (candidates plans nextDims pool : List ℕ)
-      → SessionOk (state (opened edition marks seed size divisions probability crossoverEta mutationEta) candidates plans nextDims pool)
+      → SessionOk (state (opened edition marks seed size divisions probability crossoverEta mutationEta window) candidates plans nextDims pool)
   unfolding opened badDimensions allBelow
   opened-ok candidates plans nextDims pool =
       record {
         config = config-good;
         dimensions = refl;
-        phase = record { first = refl; noCandidates = refl; noPlans = refl; noWaiting = refl };
+        phase = record { first = refl; noCandidates = refl; noPlans = refl; noWaiting = refl; noneRemembered = refl };
         waiting = inl refl;
+        remembered = omega arith;
         ideal = infinite-ideal (length marks) (some-objectives marks directions-good .1);
-        lent = λ e. lent-empty _ refl refl refl;
+        lent = λ e. lent-empty _ refl refl refl refl;
       }
 
 -- ---- a refused opening
@@ -112,6 +119,7 @@ blank-config = record {
   atLeast4 = omega arith;
   atMost = omega arith;
   operators = refl;
+  window = refl;
 }
 
 -- its session has the property too
@@ -120,10 +128,11 @@ unfolding badDimensions allBelow
 blank-ok candidates plans nextDims pool = record {
   config = blank-config;
   dimensions = refl;
-  phase = record { first = refl; noCandidates = refl; noPlans = refl; noWaiting = refl };
+  phase = record { first = refl; noCandidates = refl; noPlans = refl; noWaiting = refl; noneRemembered = refl };
   waiting = inl refl;
+  remembered = omega arith;
   ideal = infinite-ideal 1 (omega arith);
-  lent = λ e. lent-empty _ refl refl refl;
+  lent = λ e. lent-empty _ refl refl refl refl;
 }
 
 -- ---- an answer tells the refusal, or that there is none
@@ -133,15 +142,16 @@ opening-tells none s t e = ap openingRefusedBy e
 opening-tells (some n) s t e = ap openingRefusedBy e
 
 -- the whole promise of `open`, of its definition
-pub opens : (edition : Edition) (directions : List ℕ) (seed : ℕ) (size divisions : OptionUsize) (probability crossoverEta mutationEta : Float)
-    → Opens edition directions seed size divisions probability crossoverEta mutationEta (openOf edition directions seed size divisions probability crossoverEta mutationEta)
+pub opens : (edition : Edition) (directions : List ℕ) (seed : ℕ) (size divisions : OptionUsize) (probability crossoverEta mutationEta : Float) (window : OptionUsize)
+    → Opens edition directions seed size divisions probability crossoverEta mutationEta window
+    (openOf edition directions seed size divisions probability crossoverEta mutationEta window)
 unfolding openOf
-opens edition directions seed size divisions probability crossoverEta mutationEta =
+opens edition directions seed size divisions probability crossoverEta mutationEta window =
     record {
       whole = refl;
-      refused = sym (opening-tells (openRefusal directions (given size) (given divisions) probability crossoverEta mutationEta) _ _ refl);
-      gives = λ candidates plans nextDims pool. by-option (openRefusal directions (given size) (given divisions) probability crossoverEta mutationEta)
-          (λ e. rw e (opened-ok edition directions seed (given size) (given divisions) probability crossoverEta mutationEta e candidates plans nextDims pool))
+      refused = sym (opening-tells (openRefusal directions (given size) (given divisions) probability crossoverEta mutationEta (given window)) _ _ refl);
+      gives = λ candidates plans nextDims pool. by-option (openRefusal directions (given size) (given divisions) probability crossoverEta mutationEta (given window))
+          (λ e. rw e (opened-ok edition directions seed (given size) (given divisions) probability crossoverEta mutationEta window e candidates plans nextDims pool))
           (λ n e. rw e (blank-ok candidates plans nextDims pool));
     }
 
@@ -151,10 +161,10 @@ opens edition directions seed size divisions probability crossoverEta mutationEt
 abbrev twenty : Float
 twenty = ofBits binary64 0x4034_0000_0000_0000
 
-defaults-accepted : openRefusal (0 ∷ 0 ∷ []) none none unit twenty twenty ≡ none
+defaults-accepted : openRefusal (0 ∷ 0 ∷ []) none none unit twenty twenty none ≡ none
 unfolding openRefusal firstOf badDirections badSessionDivisions badOperators wholeEta divisionsOf autoDivisions pointCount binomial firstBelow allIn
     eq le lt ofBits ofInt toUnsigned
 defaults-accepted = refl
 
-pub some-session : (edition : Edition) → SessionOk (state (opened edition (0 ∷ 0 ∷ []) 0 none none unit twenty twenty) [] [] [] [])
-some-session edition = opened-ok edition (0 ∷ 0 ∷ []) 0 none none unit twenty twenty defaults-accepted [] [] [] []
+pub some-session : (edition : Edition) → SessionOk (state (opened edition (0 ∷ 0 ∷ []) 0 none none unit twenty twenty optUsize.None) [] [] [] [])
+some-session edition = opened-ok edition (0 ∷ 0 ∷ []) 0 none none unit twenty twenty optUsize.None defaults-accepted [] [] [] []

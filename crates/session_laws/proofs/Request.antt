@@ -5,7 +5,7 @@ use mathlib.Core.Bool.{Bool, true, false, not, _&&_}
 use mathlib.Core.List.{List, [], _∷_, _++_}
 use mathlib.Core.Logic.{_⊎_, inl, inr, ⊎-elim}
 use mathlib.Core.Option.{Option, none, some}
-use native.Mathlib.Nat.{le-trans, mul-le-mul}
+use native.Mathlib.Nat.{le-trans, le-add-right, mul-le-mul}
 use native.Mathlib.Omega.{arith}
 use lib.Dec.{eqb, leb}
 use lib.ListN.{length, take}
@@ -26,7 +26,7 @@ use Rattle.model.specs.Edition.{mostPlans, waitingOf}
 use Rattle.model.specs.Lists.{allBelow, Distinct}
 use Rattle.model.specs.Plan.{planWords, planCount}
 use Rattle.model.specs.Setting.{validDimension, maxDims}
-use Rattle.model.specs.Session.{State, state, isActive, discovers, longEnough, bredFrom, breeds, requestOf, operatorsOf, isNew, maxCome, maxWords, evaluated, standsIn, plansOf, numbersOf, childrenOf, waitingCount, poolRoom, dimensionOf}
+use Rattle.model.specs.Session.{State, state, isActive, discovers, longEnough, bredFrom, breeds, requestOf, operatorsOf, isNew, maxCome, maxWords, evaluated, standsIn, plansOf, numbersOf, childrenOf, waitingCount, planRoom, poolRoom, dimensionOf}
 use Rattle.model.specs.Refusal.{Check, check, firstOf, Room, noRoom, noStepRoom, badSize, badDivisions, badDimensions, badCount, badPool, badParents, stepRefusal, sampleRefusal, maxSize, maxPool, badHistory, badNext}
 use Rattle.model.specs.Property.{ConfigOk, SessionOk}
 use Rattle.settings.proofs.Valid.{few}
@@ -120,8 +120,8 @@ module _ (st : State) (ok : SessionOk st) where
   waits-size = omega (arith, waits-most, waits-few (st .session .config .edition) wanted)
 
   -- so a pool as long as refusal 10 asks holds them
-  pub waits-held : poolRoom (st .session .config .edition) wanted ≤ length (st .pool) → waitingCount st * planWords ≤ length (st .pool)
-  waits-held h = omega (arith, waits-most)
+  pub waits-held : poolRoom (st .session .config) ≤ length (st .pool) → waitingCount st * planWords ≤ length (st .pool)
+  waits-held h = let plans : planRoom (st .session .config .edition) wanted ≤ length (st .pool) = le-trans (le-add-right _ _) h in omega (arith, waits-most)
 
   -- a call that breeds does so from at least as many plans as the size, and from no more than the edition takes
   module _ (history : List ℕ) (waits : waitingCount st * planWords ≤ length (st .pool)) where
@@ -241,7 +241,7 @@ module _ (st : State) (d : Distribution) (plan : ℕ) (history : List ℕ) where
 
 -- ---- refusals of the generation step that a session makes, from as many plans as it may have
 
-most-within : (e : Edition) → mostPlans e ≤ maxPool
+pub most-within : (e : Edition) → mostPlans e ≤ maxPool
 most-within First = omega arith
 most-within Second = omega arith
 

@@ -90,7 +90,7 @@ module _ (st : State) (d : Distribution) (plan : ℕ) (history : List ℕ) (ok :
         let pool = and-fails (breeds st history) _ (sample-passed st d plan history e .pool) h in
         let parents = and-fails (breeds st history) _ (sample-passed st d plan history e .parents) h in
         record {
-          ok = breed-ok st history ok (breeding st history h) pool parents (ok .lent (long-enough st lengths)) some held;
+          ok = breed-ok st history ok (breeding st history h) pool parents (ok .lent (long-enough st lengths)) (lengths .pool) some held;
           active = refl;
           long = renewed-long st _ (wordsOf _) _ refl (pool-after-long st history (generation (operatorsOf (st .session)) (requestOf st history) .selection .kept)) lengths;
           room = λ new. omega arith;

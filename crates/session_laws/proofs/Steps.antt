@@ -23,7 +23,8 @@ use Rattle.model.specs.declared.OptionU64.{OptionU64}
 use Rattle.model.specs.declared.OptionU64.the-variants as optU64
 use Rattle.model.specs.Lists.{has, placeIn, Distinct, over}
 use Rattle.model.specs.Setting.{validDimension, sampleRandom, sampleAll, toWord, wordsOf, noDimension, maxDims, WordsWithin, sampleCandidates}
-use Rattle.model.specs.Session.{State, state, dimensionOf, longEnough, maxCome, maxWords, discover, activate, overflow, enter, enlist, answer, plansOf, isNew, sampleFromCandidate, discoversFor, withRng, Answered, entered, renewed, poolRoom, waitingCount}
+use Rattle.model.specs.Session.{State, state, dimensionOf, longEnough, maxCome, maxWords, discover, activate, overflow, enter, enlist, answer, plansOf, isNew, sampleFromCandidate, discoversFor, withRng, Answered, entered, renewed, poolRoom, waitingCount, given}
+use Rattle.model.specs.Window.{mostRemembered}
 use Rattle.model.specs.Refusal.{goodIdeal, badDimensions}
 use Rattle.model.specs.Property.{KnownBy, ConfigOk, ActiveOk, PhaseOk, WaitingOk, LentOk, SessionOk}
 use lib.Ieee.{Float}
@@ -36,7 +37,7 @@ use Rattle.candidate_laws.proofs.Words.{words-within, words-put}
 use Rattle.list_laws.proofs.Built.{over-long}
 use Rattle.list_laws.proofs.Below.{by-lt}
 use Rattle.list_laws.proofs.Stores.{set-cases, set-each}
-use Rattle.session_laws.proofs.Lists.{waiting-none, lent-none, lent-empty}
+use Rattle.session_laws.proofs.Lists.{waiting-none, MemoryGood, memory-none, lent-none, lent-empty}
 
 -- ---- the lengths of the lent slices
 
@@ -44,7 +45,7 @@ pub record Long (st : State) : Type 0 where
   pub words : maxWords ≤ length (st .candidates)
   pub plans : maxCome ≤ length (st .plans)
   pub next : maxCome ≤ length (st .nextDims)
-  pub pool : poolRoom (st .session .config .edition) (st .session .config .«population_size») ≤ length (st .pool)
+  pub pool : poolRoom (st .session .config) ≤ length (st .pool)
 
 pub long : (st : State) → longEnough st ≡ true → Long st
 unfolding longEnough
@@ -70,7 +71,7 @@ put-long st u cs pool e h k l = record {
   words = le-trans (l .words) h;
   plans = l .plans;
   next = l .next;
-  pool = subst (λ (c : Config). poolRoom (c .edition) (c .«population_size») ≤ length pool) (sym e) (le-trans (l .pool) k);
+  pool = subst (λ (c : Config). poolRoom c ≤ length pool) (sym e) (le-trans (l .pool) k);
 }
 
 -- slices that are too short say nothing
@@ -81,6 +82,7 @@ short-ok s cs ps ns pool cs' ps' ns' pool' ok short = record {
   dimensions = ok .dimensions;
   phase = ok .phase;
   waiting = ok .waiting;
+  remembered = ok .remembered;
   ideal = ok .ideal;
   lent = λ long. absurd (true≢false (sym long ∙ short));
 }
@@ -108,10 +110,11 @@ module _ (st : State) (d : Distribution) (plan : ℕ) (ok : SessionOk st) (disco
       record {
         config = ok .config;
         dimensions = dimensions-more;
-        phase = record { first = omega arith; noCandidates = at .noCandidates; noPlans = at .noPlans; noWaiting = at .noWaiting };
+        phase = record { first = omega arith; noCandidates = at .noCandidates; noPlans = at .noPlans; noWaiting = at .noWaiting; noneRemembered = at .noneRemembered };
         waiting = ok .waiting;
+        remembered = ok .remembered;
         ideal = ok .ideal;
-        lent = λ e. lent-empty _ (at .noPlans) (at .noCandidates) (at .noWaiting);
+        lent = λ e. lent-empty _ (at .noPlans) (at .noCandidates) (at .noWaiting) (at .noneRemembered);
       }
 
 -- ---- the end of discovery
@@ -125,20 +128,23 @@ pub some-dimension : (st : State) (plan : ℕ) → SessionOk st → st .session 
     → 1 ≤ st .session .progress .«n_dims»
 some-dimension st plan ok e f = known (st .session .«discovery_trial_id») plan (st .session .progress .«n_dims») f (phase-ok st Discovery ok e .first)
 
--- a new generation, whose ideal is good and whose candidates lie within their bounds, and for which the plans wait that its pool has at its front
-pub renewed-ok : (st : State) (g : ℕ) (ideal : List Float) (waits number : ℕ) (words pool : List ℕ) → SessionOk st → 1 ≤ st .session .progress .«n_dims»
+-- a new generation, whose ideal is good and whose candidates lie within their bounds, for which the plans wait that its pool has at its front, and which
+-- remembers what its pool has behind the plans' room
+pub renewed-ok : (st : State) (g : ℕ) (ideal : List Float) (waits memory number : ℕ) (words pool : List ℕ) → SessionOk st → 1 ≤ st .session .progress .«n_dims»
     → goodIdeal (st .session .config .«n_obj») (take (st .session .config .«n_obj») ideal) ≡ true
     → WordsWithin (dimensionOf (st .session)) (st .session .progress .«n_dims») (st .session .config .«population_size») (over words (st .candidates))
     → (waits ≡ 0) ⊎ (waits ≡ waitingOf (st .session .config .edition) (st .session .config .«population_size»))
-    → WaitingOk (state (renewed (st .session) g ideal waits number) (over words (st .candidates)) (st .plans) (st .nextDims) pool)
-    → SessionOk (state (renewed (st .session) g ideal waits number) (over words (st .candidates)) (st .plans) (st .nextDims) pool)
-renewed-ok st g ideal waits number words pool ok some good settings many waiting = record {
+    → WaitingOk (state (renewed (st .session) g ideal waits memory number) (over words (st .candidates)) (st .plans) (st .nextDims) pool)
+    → memory ≤ mostRemembered (given (st .session .config .window)) → MemoryGood (renewed (st .session) g ideal waits memory number) pool
+    → SessionOk (state (renewed (st .session) g ideal waits memory number) (over words (st .candidates)) (st .plans) (st .nextDims) pool)
+renewed-ok st g ideal waits memory number words pool ok some good settings many waiting few remembered = record {
   config = ok .config;
   dimensions = ok .dimensions;
   phase = record { someDimension = some; candidates = omega arith; room = omega arith };
   waiting = many;
+  remembered = few;
   ideal = good;
-  lent = λ e. lent-none _ refl settings waiting;
+  lent = λ e. lent-none _ refl settings waiting remembered;
 }
 
 module _ (st : State) (ok : SessionOk st) (discovery : st .session .phase ≡ Discovery) (some : 1 ≤ st .session .progress .«n_dims»)
@@ -147,11 +153,12 @@ module _ (st : State) (ok : SessionOk st) (discovery : st .session .phase ≡ Di
   unfolding activate
   activate-ok =
       let cs = sampleCandidates (dimensionOf (st .session)) (st .session .progress .«n_dims») (st .session .config .«population_size») (st .session .rng .s) in
-      renewed-ok st (cs .state) (st .session .«ideal_point») (st .session .progress .«n_waiting») (st .session .progress .generation) (wordsOf (cs .value)) (st .pool) ok some (ok .ideal)
+      renewed-ok st (cs .state) (st .session .«ideal_point») (st .session .progress .«n_waiting») (st .session .progress .«n_remembered») (st .session .progress .generation) (wordsOf (cs .value)) (st .pool) ok some (ok .ideal)
       (words-within (dimensionOf (st .session)) (st .session .progress .«n_dims») (st .session .config .«population_size») (cs .value)
       (sampleCandidates-sound (dimensionOf (st .session)) (st .session .progress .«n_dims») held (ok .dimensions) (st .session .config .«population_size») (st .session .rng .s))
       (drop (length (wordsOf (cs .value))) (st .candidates)))
-      (ok .waiting) (waiting-none _ (phase-ok st Discovery ok discovery .noWaiting))
+      (ok .waiting) (waiting-none _ (phase-ok st Discovery ok discovery .noWaiting)) (ok .remembered)
+      (memory-none (st .session) (st .pool) (phase-ok st Discovery ok discovery .noneRemembered))
 
 pub renewed-long : (st : State) (u : Session) (words pool : List ℕ) → u .config ≡ st .session .config → length (st .pool) ≤ length pool → Long st
     → Long (state u (over words (st .candidates)) (st .plans) (st .nextDims) pool)
@@ -168,6 +175,7 @@ pub record Waiting (st : State) : Type 0 where
   pub candidates : st .session .progress .«n_candidates» ≡ max (st .session .config .«population_size») (st .session .progress .«n_plans» + 1)
   pub room : st .session .progress .«n_plans» < maxCome
   pub waits : (waitingCount st ≡ 0) ⊎ (waitingCount st ≡ waitingOf (st .session .config .edition) (st .session .config .«population_size»))
+  pub remembered : st .session .progress .«n_remembered» ≤ mostRemembered (given (st .session .config .window))
   pub ideal : goodIdeal (st .session .config .«n_obj») (take (st .session .config .«n_obj») (st .session .«ideal_point»)) ≡ true
   pub lent : LentOk st
   pub long : Long st
@@ -191,6 +199,7 @@ module _ (st : State) (ok : SessionOk st) (active : st .session .phase ≡ Activ
         candidates = omega (arith, at .candidates);
         room = room;
         waits = ok .waiting;
+        remembered = ok .remembered;
         ideal = ok .ideal;
         lent = ok .lent (long-enough st lengths);
         long = lengths;
@@ -211,6 +220,7 @@ module _ (st : State) (ok : SessionOk st) (active : st .session .phase ≡ Activ
         candidates = omega (arith, at .candidates);
         room = room;
         waits = ok .waiting;
+        remembered = ok .remembered;
         ideal = ok .ideal;
         lent = record {
           different = lent .different;
@@ -219,6 +229,7 @@ module _ (st : State) (ok : SessionOk st) (active : st .session .phase ≡ Activ
               (sampleAll-sound (dimensionOf (st .session)) (st .session .progress .«n_dims») held (ok .dimensions) (st .session .rng .s))
               (lent .settings) fits;
           waiting = record { different = lent .waiting .different; measured = lent .waiting .measured; breedable = lent .waiting .breedable };
+          remembered = lent .remembered;
         };
         long = overflow-long st lengths;
       }
@@ -240,6 +251,7 @@ enter-ok st plan ready new =
       phase = subst (λ (p : Phase). PhaseOk p (enter st plan .session)) (sym (ready .active))
           (record { someDimension = ready .someDimension; candidates = ready .candidates; room = omega (arith, ready .room) });
       waiting = ready .waits;
+      remembered = ready .remembered;
       ideal = ready .ideal;
       lent = λ e. record {
         different = entered-different (st .plans) (st .session .progress .«n_plans») plan (omega (arith, ready .room, ready .long .plans)) (not-true _ new)
@@ -248,6 +260,7 @@ enter-ok st plan ready new =
             (omega (arith, ready .room, ready .long .next)) (omega arith) (ready .lent .next);
         settings = ready .lent .settings;
         waiting = record { different = ready .lent .waiting .different; measured = ready .lent .waiting .measured; breedable = ready .lent .waiting .breedable };
+        remembered = ready .lent .remembered;
       };
     }
 
@@ -306,12 +319,14 @@ module _ (st : State) (i : ℕ) (ok : SessionOk st) (active : st .session .phase
         dimensions = ok .dimensions;
         phase = ok .phase;
         waiting = ok .waiting;
+        remembered = ok .remembered;
         ideal = ok .ideal;
         lent = λ _. record {
           different = at-lent .different;
           next = λ k l. moved-next (st .nextDims) k i (getD (st .nextDims) i 0) (st .session .progress .«n_dims») (ltb-true _ _ e) (at-lent .next k l);
           settings = at-lent .settings;
           waiting = record { different = at-lent .waiting .different; measured = at-lent .waiting .measured; breedable = at-lent .waiting .breedable };
+          remembered = at-lent .remembered;
         };
       })
       (λ e. record {
@@ -321,12 +336,14 @@ module _ (st : State) (i : ℕ) (ok : SessionOk st) (active : st .session .phase
             (sym active)
             (record { someDimension = at-active .someDimension; candidates = at-active .candidates; room = at-active .room });
         waiting = ok .waiting;
+        remembered = ok .remembered;
         ideal = ok .ideal;
         lent = λ _. record {
           different = at-lent .different;
           next = at-lent .next;
           settings = at-lent .settings;
           waiting = record { different = at-lent .waiting .different; measured = at-lent .waiting .measured; breedable = at-lent .waiting .breedable };
+          remembered = at-lent .remembered;
         };
       })
 
@@ -341,20 +358,23 @@ module _ (st : State) (plan : ℕ) (ok : SessionOk st) (active : st .session .ph
       (enlist-long st plan lengths))
       (λ old. answer-ok st (placeIn (plansOf st) plan) ok active lengths)
 
--- it leaves those that wait as they are
+-- it leaves those that wait, the ideal and what is remembered as they are
 pub record Untouched (st x : State) : Type 0 where
+  pub config : x .session .config ≡ st .session .config
   pub waits : waitingCount x ≡ waitingCount st
+  pub remembered : x .session .progress .«n_remembered» ≡ st .session .progress .«n_remembered»
+  pub ideal : x .session .«ideal_point» ≡ st .session .«ideal_point»
   pub pool : x .pool ≡ st .pool
 
 answer-leaves : (st : State) (i : ℕ) → Untouched st (answer st i .after)
 unfolding answer
 answer-leaves st i =
-    by-cond (λ (x : Answered). Untouched st (x .after)) (ltb (getD (st .nextDims) i 0) (st .session .progress .«n_dims»)) _ _ (λ e. record { waits = refl; pool = refl })
-    (λ e. record { waits = refl; pool = refl })
+    by-cond (λ (x : Answered). Untouched st (x .after)) (ltb (getD (st .nextDims) i 0) (st .session .progress .«n_dims»)) _ _ (λ e. record { config = refl; waits = refl; remembered = refl; ideal = refl; pool = refl })
+    (λ e. record { config = refl; waits = refl; remembered = refl; ideal = refl; pool = refl })
 
 enlist-leaves : (st : State) (plan : ℕ) → Untouched st (enlist st plan)
 unfolding enter overflow
-enlist-leaves st plan = enlist-by (λ (x : State). Untouched st x) st plan (λ h. record { waits = refl; pool = refl }) (λ h. record { waits = refl; pool = refl })
+enlist-leaves st plan = enlist-by (λ (x : State). Untouched st x) st plan (λ h. record { config = refl; waits = refl; remembered = refl; ideal = refl; pool = refl }) (λ h. record { config = refl; waits = refl; remembered = refl; ideal = refl; pool = refl })
 
 pub sampled-leaves : (st : State) (plan : ℕ) → Untouched st (sampleFromCandidate st plan .after)
 unfolding sampleFromCandidate
@@ -362,5 +382,5 @@ sampled-leaves st plan =
     by-cond (λ (x : Answered). Untouched st (x .after)) (isNew st plan) _ _
     (λ new. let a = answer-leaves (enlist st plan) (st .session .progress .«n_plans») in
     let b = enlist-leaves st plan in
-    record { waits = a .waits ∙ b .waits; pool = a .pool ∙ b .pool })
+    record { config = a .config ∙ b .config; waits = a .waits ∙ b .waits; remembered = a .remembered ∙ b .remembered; ideal = a .ideal ∙ b .ideal; pool = a .pool ∙ b .pool })
     (λ old. answer-leaves st (placeIn (plansOf st) plan))

@@ -1,16 +1,28 @@
 -- The refusals that are left of a session call which breeds.
-use Prim.Native.Nat.{ℕ}
-use mathlib.Core.Bool.{true}
+use Prim.Native.Nat.{ℕ, _≤_}
+use mathlib.Core.Path.{_≡_}
+use mathlib.Core.Bool.{true, false}
 use mathlib.Core.List.{List, [], _∷_}
 use mathlib.Core.Option.{Option}
-use lib.ListN.{take}
+use lib.ListN.{length, take}
 use Rattle.model.specs.declared.Session.{Session}
 use Rattle.model.specs.Association.{Request}
-use Rattle.model.specs.Session.{State, requestOf, operatorsOf}
-use Rattle.model.specs.Refusal.{Check, check, firstOf, badPool, badParents}
+use Rattle.model.specs.Session.{State, dimensionOf, withIdeal, startIdeal, requestOf, operatorsOf}
+use Rattle.model.specs.Refusal.{Check, check, firstOf, badDimensions, badPool, badParents}
+use Rattle.model.specs.Property.{ConfigOk}
 use Rattle.model.specs.Calls.{wordRequest}
 
--- a session's selection from the plans that words hold; from those that it breeds from it is `requestOf`
+-- a session with the ideal that its selection starts from (document 02, M-109)
+abbrev pub slid : Session → List ℕ → Session
+slid s pool = withIdeal s (startIdeal s pool)
+
+-- what breeding looks at of such a session: what it was opened with, its dimensions, and an ideal of as many entries as there are objectives
+pub record Sound (s : Session) : Type 0 where
+  pub config : ConfigOk (s .config)
+  pub dimensions : badDimensions (dimensionOf s) (s .progress .«n_dims») ≡ false
+  pub ideal : s .config .«n_obj» ≤ length (s .«ideal_point»)
+
+-- a session's selection from the plans that words hold; of such a session, and from those that it breeds from, it is `requestOf`
 abbrev pub requestFrom : Session → List ℕ → Request
 requestFrom s words =
     wordRequest (s .config .edition) words (take (s .config .«n_obj») (s .config .directions)) (s .config .divisions) (s .config .«population_size») (s .rng)

@@ -315,7 +315,18 @@ fn sessions(edition: u64, from: usize, to: usize)
     let directions = [0u8; 2];
     let size = OptionUsize::Some(4);
     let divisions = OptionUsize::Some(3);
-    let opened = session_calls::opened(edition, &directions, 5, size, divisions, 1.0, 30.0, 20.0);
+    let window = OptionUsize::None;
+    let opened = session_calls::opened(
+        edition,
+        &directions,
+        5,
+        size,
+        divisions,
+        1.0,
+        30.0,
+        20.0,
+        window,
+    );
     let outcome = opened.outcome;
     let session = opened.session;
     match outcome {

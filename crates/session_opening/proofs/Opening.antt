@@ -1,9 +1,11 @@
 -- The refusals of an opening, one after the other.
-use Prim.Native.Nat.{ℕ}
+use Prim.Native.Nat.{ℕ, _≤_, _<_}
 use mathlib.Core.Path.{_≡_, sym, ap, ap₂, _∙_, subst}
-use mathlib.Core.Bool.{true, false}
+use mathlib.Core.Bool.{Bool, true, false, not, _&&_}
 use mathlib.Core.List.{List, []}
-use mathlib.Core.Option.{Option}
+use mathlib.Core.Option.{Option, some}
+use borrow.Author.Tests.{le-leb, lt-leb, le-ltb, lt-ltb}
+use lib.Dec.{leb, ltb}
 use lib.Ieee.{Float}
 use lib.ListN.{length, replicate}
 use Rattle.model.specs.declared.Edition.{Edition}
@@ -17,14 +19,16 @@ use Rattle.model.specs.Plan.{maxObjectives}
 use Rattle.model.specs.Reference.{divisionsOf, populationSize}
 use Rattle.model.specs.Session.{blank, given, opened, start}
 use Rattle.model.specs.Calls.{openBy, openOf, Opens, openingRefusedBy}
+use Rattle.list_laws.proofs.Below.{by-lt}
 use Rattle.list_laws.proofs.Checks.{passed-over, applies-first}
+use Rattle.model.specs.Window.{maxWindow}
 use Rattle.session_laws.proofs.Opened.{opening-tells, opens}
-use Rattle.model.specs.Refusal.{firstOf, openRefusal, badDirections, badSessionSize, badSessionDivisions, badOperators}
+use Rattle.model.specs.Refusal.{firstOf, openRefusal, badDirections, badSessionSize, badSessionDivisions, badOperators, badWindow}
 use Rattle.session_opening.specs.Opening.{openingBy}
 
-module _ (marks : List ℕ) (size divisions : Option ℕ) (probability crossoverEta mutationEta : Float) where
+module _ (marks : List ℕ) (size divisions : Option ℕ) (probability crossoverEta mutationEta : Float) (window : Option ℕ) where
   abbrev answer : Opening
-  answer = openingBy (openRefusal marks size divisions probability crossoverEta mutationEta)
+  answer = openingBy (openRefusal marks size divisions probability crossoverEta mutationEta window)
 
   pub refused-2 : badDirections marks ≡ true → opening.Refused 2 ≡ answer
   unfolding openRefusal
@@ -45,25 +49,40 @@ module _ (marks : List ℕ) (size divisions : Option ℕ) (probability crossover
         unfolding openRefusal
         refused-5 d = ap openingBy (sym (passed-over _ _ a ∙ passed-over _ _ b ∙ passed-over _ _ c ∙ applies-first _ _ d))
 
-        none-applies : badOperators probability crossoverEta mutationEta ≡ false → openRefusal marks size divisions probability crossoverEta mutationEta ≡ firstOf []
-        unfolding openRefusal
-        none-applies d = passed-over _ _ a ∙ passed-over _ _ b ∙ passed-over _ _ c ∙ passed-over _ _ d
+        module _ (d : badOperators probability crossoverEta mutationEta ≡ false) where
+          pub refused-14 : badWindow window ≡ true → opening.Refused 14 ≡ answer
+          unfolding openRefusal
+          refused-14 e = ap openingBy (sym (passed-over _ _ a ∙ passed-over _ _ b ∙ passed-over _ _ c ∙ passed-over _ _ d ∙ applies-first _ _ e))
 
-        pub ready : badOperators probability crossoverEta mutationEta ≡ false → opening.Ready ≡ answer
-        unfolding firstOf
-        ready d = ap openingBy (sym (none-applies d))
+          none-applies : badWindow window ≡ false → openRefusal marks size divisions probability crossoverEta mutationEta window ≡ firstOf []
+          unfolding openRefusal
+          none-applies e = passed-over _ _ a ∙ passed-over _ _ b ∙ passed-over _ _ c ∙ passed-over _ _ d ∙ passed-over _ _ e
+
+          pub ready : badWindow window ≡ false → opening.Ready ≡ answer
+          unfolding firstOf
+          ready e = ap openingBy (sym (none-applies e))
+
+-- ---- a window that is given
+
+pub window-low : (w : ℕ) → w < 1 → true ≡ badWindow (some w)
+window-low w h = sym (ap (λ (b : Bool). not (b && leb w maxWindow)) (lt-leb 1 w h))
+
+pub window-high : (w : ℕ) → 1 ≤ w → ltb maxWindow w ≡ badWindow (some w)
+window-high w h = by-lt maxWindow w
+    (λ l. lt-ltb maxWindow w l ∙ sym (ap₂ (λ (a b : Bool). not (a && b)) (le-leb 1 w h) (lt-leb w maxWindow l)))
+    (λ l. le-ltb maxWindow w l ∙ sym (ap₂ (λ (a b : Bool). not (a && b)) (le-leb 1 w h) (le-leb w maxWindow l)))
 
 -- ---- the promise, by the answer
 
-module _ (edition : Edition) (marks : List ℕ) (seed : ℕ) (size divisions : OptionUsize) (probability crossoverEta mutationEta : Float) where
+module _ (edition : Edition) (marks : List ℕ) (seed : ℕ) (size divisions : OptionUsize) (probability crossoverEta mutationEta : Float) (window : OptionUsize) where
   abbrev refusal : Option ℕ
-  refusal = openRefusal marks (given size) (given divisions) probability crossoverEta mutationEta
+  refusal = openRefusal marks (given size) (given divisions) probability crossoverEta mutationEta (given window)
 
   abbrev good : Session
-  good = opened edition marks seed (given size) (given divisions) probability crossoverEta mutationEta
+  good = opened edition marks seed (given size) (given divisions) probability crossoverEta mutationEta window
 
   abbrev Promise : Opened → Type 0
-  Promise = Opens edition marks seed size divisions probability crossoverEta mutationEta
+  Promise = Opens edition marks seed size divisions probability crossoverEta mutationEta window
 
   -- the outcome t is found to be u, and the session v is the one that goes with it: the answer is the definition's, which has the rest of the promise
   pub by-answer : (t u : Opening) (s v : Session) → t ≡ openingBy refusal → t ≡ u → s ≡ v → record { outcome = u; session = v } ≡ openBy (openingRefusedBy u) good
@@ -72,13 +91,13 @@ module _ (edition : Edition) (marks : List ℕ) (seed : ℕ) (size divisions : O
   by-answer t u s v e f g h =
       subst Promise
       (sym (ap₂ (λ (x : Opening) (y : Session). record { outcome = x; session = y }) f g ∙ h ∙ ap (λ (x : Option ℕ). openBy x good) (sym (opening-tells refusal blank u (sym e ∙ f)))))
-      (opens edition marks seed size divisions probability crossoverEta mutationEta)
+      (opens edition marks seed size divisions probability crossoverEta mutationEta window)
 
 -- ---- the session that is opened, from its parts
 
-pub opened-is : (edition : Edition) (marks : List ℕ) (seed : ℕ) (size divisions : Option ℕ) (probability crossoverEta mutationEta : Float) (m : List ℕ) (h n : ℕ)
+pub opened-is : (edition : Edition) (marks : List ℕ) (seed : ℕ) (size divisions : Option ℕ) (probability crossoverEta mutationEta : Float) (window : OptionUsize) (m : List ℕ) (h n : ℕ)
     → m ≡ over marks (replicate maxObjectives 0) → h ≡ divisionsOf (length marks) size divisions → n ≡ populationSize (length marks) size divisions
-    → start (record { edition = edition; «n_obj» = length marks; directions = m; divisions = h; «population_size» = n; «crossover_prob» = probability; «crossover_eta» = crossoverEta; «mutation_eta» = mutationEta }) seed
-    ≡ opened edition marks seed size divisions probability crossoverEta mutationEta
+    → start (record { edition = edition; «n_obj» = length marks; directions = m; divisions = h; «population_size» = n; «crossover_prob» = probability; «crossover_eta» = crossoverEta; «mutation_eta» = mutationEta; window = window }) seed
+    ≡ opened edition marks seed size divisions probability crossoverEta mutationEta window
 unfolding opened
-opened-is edition marks seed size divisions probability crossoverEta mutationEta m h n e f g = rw (e, f, g)
+opened-is edition marks seed size divisions probability crossoverEta mutationEta window m h n e f g = rw (e, f, g)

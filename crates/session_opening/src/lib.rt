@@ -1,11 +1,12 @@
 // The public call `open` (document 01, "Session"; Rust: sampler/nsga3.rs). The other functions are internal.
 ghost use mathlib.Core.Path.{_≡_};
 ghost use mathlib.Core.Bool.{false};
+ghost use mathlib.Core.Option.{some};
 ghost use Prim.Native.Nat.{_≤_};
 ghost use lib.ListN.{length, replicate};
 ghost use Rattle.model.specs.Lists.{over};
 ghost use Rattle.model.specs.Plan.{maxObjectives};
-ghost use Rattle.model.specs.Refusal.{badDirections, badSessionSize, badSessionDivisions, openRefusal};
+ghost use Rattle.model.specs.Refusal.{badDirections, badSessionSize, badSessionDivisions, badWindow, openRefusal};
 ghost use Rattle.model.specs.Session.{given, opened, blank, start};
 ghost use Rattle.model.specs.Calls.{Opens};
 ghost use Rattle.session_opening.specs.Opening.{openingBy};
@@ -13,6 +14,7 @@ use model::Config;
 use model::Edition;
 use model::MAX_OBJECTIVES;
 use model::MAX_SIZE;
+use model::MAX_WINDOW;
 use model::Opened;
 use model::Opening;
 use model::OptionU64;
@@ -36,6 +38,7 @@ fn start(config: Config, rng: Rng) -> Session
         n_candidates: 0,
         n_plans: 0,
         n_waiting: 0,
+        n_remembered: 0,
         generation: 0,
     };
     Session {
@@ -63,6 +66,7 @@ fn blank() -> Session
         crossover_prob: 0.0,
         crossover_eta: 0.0,
         mutation_eta: 0.0,
+        window: OptionUsize::None,
     };
     let rng = Rng { s: 0 };
     start(config, rng)
@@ -92,9 +96,10 @@ fn opened(
     probability: f64,
     crossover_eta: f64,
     mutation_eta: f64,
+    window: OptionUsize,
 ) -> Session
     requires { ⌜ (badDirections (now directions) ≡ false) × (badSessionDivisions (length (now directions)) (given size) (given divisions) ≡ false) ⌝ }
-    ensures { λ r. ⌜ r ≡ opened edition (now (directions .entry)) seed (given size) (given divisions) probability «crossover_eta» «mutation_eta» ⌝ }
+    ensures { λ r. ⌜ r ≡ opened edition (now (directions .entry)) seed (given size) (given divisions) probability «crossover_eta» «mutation_eta» window ⌝ }
 {
     let n_obj = directions.len();
     let marks = marks_of(directions);
@@ -109,6 +114,7 @@ fn opened(
         crossover_prob: probability,
         crossover_eta,
         mutation_eta,
+        window,
     };
     let rng = Rng { s: seed };
     start(config, rng)
@@ -124,6 +130,25 @@ fn bad_session_size(size: OptionUsize) -> bool
     }
 }
 
+// Refusal 14 (document 02, M-109): a window is given, and is not 1 to 64 generations.
+fn bad_window(window: OptionUsize) -> bool
+    ensures { λ r. ⌜ r ≡ badWindow (given window) ⌝ }
+{
+    match window {
+        OptionUsize::Some(w) => outside_window(w),
+        OptionUsize::None => false,
+    }
+}
+
+fn outside_window(w: usize) -> bool
+    ensures { λ r. ⌜ r ≡ badWindow (some w) ⌝ }
+{
+    if w < 1 {
+        return true;
+    }
+    MAX_WINDOW < w
+}
+
 // The first refusal of an opening that applies.
 fn open_refusal(
     directions: &[u8],
@@ -132,9 +157,11 @@ fn open_refusal(
     probability: f64,
     crossover_eta: f64,
     mutation_eta: f64,
+    window: OptionUsize,
 ) -> Opening
-    ensures { λ r. ⌜ r ≡ openingBy (openRefusal (now (directions .entry)) (given size) (given divisions) probability «crossover_eta» «mutation_eta») ⌝ }
+    ensures { λ r. ⌜ r ≡ openingBy (openRefusal (now (directions .entry)) (given size) (given divisions) probability «crossover_eta» «mutation_eta» (given window)) ⌝ }
 {
+    let bad_window = bad_window(window);
     let bad_size = bad_session_size(size);
     let bad_operators = operator_checks::bad_operators(probability, crossover_eta, mutation_eta);
     if plans::bad_directions(directions) {
@@ -149,11 +176,14 @@ fn open_refusal(
     if bad_operators {
         return Opening::Refused(5);
     }
+    if bad_window {
+        return Opening::Refused(14);
+    }
     Opening::Ready
 }
 
-// A session of an edition for directions (0 minimise, 1 maximise) and a seed, with a size, divisions and operators; or the number of what is wrong with them, beside a
-// session that has the session property too.
+// A session of an edition for directions (0 minimise, 1 maximise) and a seed, with a size, divisions, operators and a window; or the number of what is wrong with
+// them, beside a session that has the session property too.
 pub fn open(
     edition: Edition,
     directions: &[u8],
@@ -163,8 +193,9 @@ pub fn open(
     probability: f64,
     crossover_eta: f64,
     mutation_eta: f64,
+    window: OptionUsize,
 ) -> Opened
-    ensures { λ r. ⌜ Opens edition (now (directions .entry)) seed size divisions probability «crossover_eta» «mutation_eta» r ⌝ }
+    ensures { λ r. ⌜ Opens edition (now (directions .entry)) seed size divisions probability «crossover_eta» «mutation_eta» window r ⌝ }
 {
     let outcome = open_refusal(
         directions,
@@ -173,6 +204,7 @@ pub fn open(
         probability,
         crossover_eta,
         mutation_eta,
+        window,
     );
     let Opening::Ready = outcome else {
         let session = blank();
@@ -187,6 +219,7 @@ pub fn open(
         probability,
         crossover_eta,
         mutation_eta,
+        window,
     );
     Opened { outcome, session }
 }

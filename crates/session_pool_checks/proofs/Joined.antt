@@ -5,18 +5,17 @@ use mathlib.Core.Bool.{Bool, true, false, not, _&&_, false≢true, true≢false}
 use mathlib.Core.List.{List, [], _∷_, _++_}
 use mathlib.Core.Option.{none, some}
 use native.Mathlib.Omega.{arith}
-use lib.ListN.{length, take, length-take}
-use Rattle.list_laws.proofs.Checks.{good-ideal-length, passed-over, applies-first}
+use lib.ListN.{length, take}
+use Rattle.list_laws.proofs.Checks.{passed-over, applies-first}
 use Rattle.model.specs.declared.Session.{Session}
 use Rattle.model.specs.Lists.{allBelow}
 use Rattle.model.specs.Plan.{Plan, planAt, planCount, planWords, maxObjectives}
 use Rattle.model.specs.Association.{objectives}
-use Rattle.model.specs.Session.{state, operatorsOf, dimensionOf}
+use Rattle.model.specs.Session.{operatorsOf, dimensionOf}
 use Rattle.model.specs.Refusal.{check, firstOf, goodPlan, goodPlans, goodIdeal, breedable, badPool, badParents}
-use Rattle.model.specs.Property.{SessionOk}
-use Rattle.demand3_laws.proofs.Passed.{some-objectives}
 use Rattle.session_pool_laws.proofs.Blocks.{joined-count, joined-test}
-use Rattle.session_laws.specs.Refused.{requestFrom, wordRefusal}
+use Rattle.session_laws.specs.Refused.{Sound, requestFrom, wordRefusal}
+use Rattle.session_laws.proofs.Window.{objectives-few}
 use Rattle.session_laws.proofs.Request.{words-objectives}
 
 -- ---- by what the first says, and then the second
@@ -45,16 +44,12 @@ then-fails true b e = refl
 
 -- ---- a session's
 
-module _ (s : Session) (ok : SessionOk (state s [] [] [] [])) where
+module _ (s : Session) (ok : Sound s) where
   abbrev m : ℕ
   m = s .config .«n_obj»
 
   pub few-objectives : m ≤ maxObjectives
-  few-objectives = omega (arith, words-objectives s [] (ok .config) (ok .dimensions), some-objectives _ (ok .config .directions) .1)
-
-  -- an ideal that is good has its m entries
-  pub ideal-room : m ≤ length (s .«ideal_point»)
-  ideal-room = omega (arith, good-ideal-length m (take m (s .«ideal_point»)) (ok .ideal), length-take m (s .«ideal_point»))
+  few-objectives = objectives-few (s .config) (ok .config)
 
   module _ (a b : List ℕ) (whole : planCount a * planWords ≡ length a) where
     abbrev good : List ℕ → Bool

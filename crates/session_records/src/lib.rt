@@ -7,8 +7,9 @@ ghost use lib.Dec.{leb};
 ghost use lib.ListN.{length, getD, take};
 ghost use lib.Seq.{sets};
 ghost use Rattle.model.specs.Lists.{allBelow, has, over, placeIn};
-ghost use Rattle.model.specs.Plan.{planCount, planWords};
-ghost use Rattle.model.specs.Session.{recordOf, allStand, standsIn, blockOf, numbersOf, childrenOf, keptWords, addsFor, roomFor, maxCome};
+ghost use Rattle.model.specs.Plan.{planCount, planWords, maxObjectives};
+ghost use Rattle.model.specs.Window.{mostRemembered, maxWindow};
+ghost use Rattle.model.specs.Session.{recordOf, allStand, standsIn, blockOf, numbersOf, childrenOf, keptWords, addsFor, roomFor, maxCome, given};
 ghost use Rattle.model.specs.Refusal.{badNext, badHistory, maxSize};
 ghost use Rattle.session_records.specs.Gathered.{childFor, Put, Gathered};
 use model::Config;
@@ -188,7 +189,7 @@ pub fn long_enough(
     next_dims: usize,
     pool: usize,
 ) -> bool
-    requires { ⌜ config .«population_size» ≤ maxSize ⌝ }
+    requires { ⌜ (config .«population_size» ≤ maxSize) × (config .«n_obj» ≤ maxObjectives) × (mostRemembered (given (config .window)) ≤ maxWindow) ⌝ }
     ensures { λ r. ⌜ r ≡ roomFor config candidates plans «next_dims» pool ⌝ }
 {
     if candidates < MAX_WORDS {
@@ -200,9 +201,10 @@ pub fn long_enough(
     if next_dims < MAX_COME {
         return false;
     }
-    let edition = config.edition;
-    let size = config.population_size;
-    (editions::waiting_of(edition, size) + size) * PLAN_WORDS <= pool
+    let window = config.window;
+    let at = session_window::memory_at(config);
+    let most = session_window::most_remembered(window);
+    at + most * config.n_obj <= pool
 }
 
 // Refusal 6 for the dimension that a session of n dimensions would add.

@@ -35,11 +35,11 @@ module _ (s : Session) where
   abbrev first-ones : Drawn (List (List ParamValue))
   first-ones = sampleCandidates (dimensionOf s) (s .progress .«n_dims») (s .config .«population_size») (s .rng .s)
 
-  pub activate-is : (u : Session) (g : ℕ) (cs ps ns pool after : List ℕ) → u ≡ renewed s g (s .«ideal_point») (s .progress .«n_waiting») (s .progress .generation)
+  pub activate-is : (u : Session) (g : ℕ) (cs ps ns pool after : List ℕ) → u ≡ renewed s g (s .«ideal_point») (s .progress .«n_waiting») (s .progress .«n_remembered») (s .progress .generation)
       → after ≡ over (wordsOf (first-ones .value)) cs → g ≡ first-ones .state → state u after ps ns pool ≡ activate (state s cs ps ns pool)
   unfolding activate
   activate-is u g cs ps ns pool after k e f =
-      ap₂ (λ (x : Session) (y : List ℕ). state x y ps ns pool) (k ∙ ap (λ (x : ℕ). renewed s x (s .«ideal_point») (s .progress .«n_waiting») (s .progress .generation)) f) e
+      ap₂ (λ (x : Session) (y : List ℕ). state x y ps ns pool) (k ∙ ap (λ (x : ℕ). renewed s x (s .«ideal_point») (s .progress .«n_waiting») (s .progress .«n_remembered») (s .progress .generation)) f) e
 
 -- ---- a plan's calls past discovery
 
@@ -50,17 +50,17 @@ fits-more {k} {n} {len} h i l = row-within k maxCome n len h (omega arith)
 pub overflow-is : (s : Session) (c : List ParamValue) (g : ℕ) (cs ps ns pool after : List ℕ) (t u : Session)
     → drawn c g ≡ sampleAll (dimensionOf s) (s .progress .«n_dims») (s .rng .s)
     → after ≡ sets cs (s .progress .«n_candidates» * s .progress .«n_dims») (map toWord c)
-    → t ≡ withRng s g → u ≡ withProgress t (progress (s .progress .«n_dims») (s .progress .«n_candidates» + 1) (s .progress .«n_plans») (s .progress .«n_waiting») (s .progress .generation))
+    → t ≡ withRng s g → u ≡ withProgress t (progress (s .progress .«n_dims») (s .progress .«n_candidates» + 1) (s .progress .«n_plans») (s .progress .«n_waiting») (s .progress .«n_remembered») (s .progress .generation))
     → state u after ps ns pool ≡ overflow (state s cs ps ns pool)
 unfolding overflow
 overflow-is s c g cs ps ns pool after t u e f h k =
-    let more = progress (s .progress .«n_dims») (s .progress .«n_candidates» + 1) (s .progress .«n_plans») (s .progress .«n_waiting») (s .progress .generation) in
+    let more = progress (s .progress .«n_dims») (s .progress .«n_candidates» + 1) (s .progress .«n_plans») (s .progress .«n_waiting») (s .progress .«n_remembered») (s .progress .generation) in
     let at = s .progress .«n_candidates» * s .progress .«n_dims» in
     ap₂ (λ (x : Session) (y : List ℕ). state x y ps ns pool) (k ∙ ap (λ (x : Session). withProgress x more) h) f
     ∙ ap (λ (x : Drawn (List ParamValue)). state (withProgress (withRng s (x .state)) more) (sets cs at (map toWord (x .value))) ps ns pool) e
 
 pub enter-is : (s : Session) (plan : ℕ) (cs ps ns pool : List ℕ) (u : Session)
-    → u ≡ withProgress s (progress (s .progress .«n_dims») (s .progress .«n_candidates») (s .progress .«n_plans» + 1) (s .progress .«n_waiting») (s .progress .generation))
+    → u ≡ withProgress s (progress (s .progress .«n_dims») (s .progress .«n_candidates») (s .progress .«n_plans» + 1) (s .progress .«n_waiting») (s .progress .«n_remembered») (s .progress .generation))
     → state u cs (set ps (s .progress .«n_plans») plan) (set ns (s .progress .«n_plans») 0) pool ≡ enter (state s cs ps ns pool) plan
 unfolding enter
 enter-is s plan cs ps ns pool u e = ap (λ (x : Session). state x cs (set ps (s .progress .«n_plans») plan) (set ns (s .progress .«n_plans») 0) pool) e

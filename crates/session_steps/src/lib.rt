@@ -44,6 +44,7 @@ pub fn discover(session: Session, distribution: Distribution, plan: u64) -> Samp
         n_candidates: before.n_candidates,
         n_plans: before.n_plans,
         n_waiting: before.n_waiting,
+        n_remembered: before.n_remembered,
         generation: before.generation,
     };
     let session = Session {
@@ -59,15 +60,17 @@ pub fn discover(session: Session, distribution: Distribution, plan: u64) -> Samp
     Sampled { outcome, session }
 }
 
-// The session of a new generation, for which so many plans wait: its candidates are as many as the size, and no plan has come.
+// The session of a new generation, for which so many plans wait and so many generations are remembered: its candidates are as many as the size, and no plan has
+// come.
 pub fn renewed(
     session: Session,
     rng: Rng,
     ideal_point: [f64; 8],
     n_waiting: usize,
+    n_remembered: usize,
     generation: u64,
 ) -> Session
-    ensures { λ r. ⌜ r ≡ renewed session (rng .s) «ideal_point» «n_waiting» generation ⌝ }
+    ensures { λ r. ⌜ r ≡ renewed session (rng .s) «ideal_point» «n_waiting» «n_remembered» generation ⌝ }
 {
     let config = session.config;
     let before = session.progress;
@@ -76,6 +79,7 @@ pub fn renewed(
         n_candidates: config.population_size,
         n_plans: 0,
         n_waiting,
+        n_remembered,
         generation,
     };
     let phase = Phase::Active;
@@ -111,6 +115,7 @@ pub fn activate(session: Session, candidates: &mut [u64]) -> Session
         rng,
         ideal_point,
         before.n_waiting,
+        before.n_remembered,
         before.generation,
     )
 }
@@ -152,6 +157,7 @@ fn overflow(session: Session, candidates: &mut [u64]) -> Session
         n_candidates: k + 1,
         n_plans: before.n_plans,
         n_waiting: before.n_waiting,
+        n_remembered: before.n_remembered,
         generation: before.generation,
     };
     with_progress(with_rng(session, rng), progress)
@@ -172,6 +178,7 @@ fn enter(session: Session, plan: u64, plans: &mut [u64], next_dims: &mut [usize]
         n_candidates: before.n_candidates,
         n_plans: i + 1,
         n_waiting: before.n_waiting,
+        n_remembered: before.n_remembered,
         generation: before.generation,
     };
     with_progress(session, progress)

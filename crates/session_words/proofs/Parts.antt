@@ -10,6 +10,7 @@ use Rattle.model.specs.declared.Distribution.the-variants as dist
 use Rattle.model.specs.declared.OptionF64.{OptionF64}
 use Rattle.model.specs.declared.OptionI64.{OptionI64}
 use Rattle.model.specs.declared.OptionU64.{OptionU64}
+use Rattle.model.specs.declared.OptionUsize.{OptionUsize}
 use Rattle.model.specs.declared.DimensionInfo.{DimensionInfo}
 use Rattle.model.specs.declared.Phase.{Phase}
 use Rattle.model.specs.declared.Config.{Config}
@@ -38,14 +39,14 @@ pub eight-same : {A : Type 0} (k : ℕ → A) {a b c d e f g h : A} → a ≡ k 
     → (a ∷ b ∷ c ∷ d ∷ e ∷ f ∷ g ∷ h ∷ []) ≡ eight k
 eight-same k p q r s t u v w = rw (p, q, r, s, t, u, v, w)
 
-pub config-same : (x : Config) (v : Edition) (n : ℕ) (m : List ℕ) (d k : ℕ) (p e u : Float) → v ≡ x .edition → n ≡ x .«n_obj» → m ≡ x .directions → d ≡ x .divisions → k ≡ x .«population_size»
-    → p ≡ x .«crossover_prob» → e ≡ x .«crossover_eta» → u ≡ x .«mutation_eta»
-    → record { edition = v; «n_obj» = n; directions = m; divisions = d; «population_size» = k; «crossover_prob» = p; «crossover_eta» = e; «mutation_eta» = u } ≡ x
-config-same x v n m d k p e u l a b c f g h i = rw (l, a, b, c, f, g, h, i)
+pub config-same : (x : Config) (v : Edition) (n : ℕ) (m : List ℕ) (d k : ℕ) (p e u : Float) (w : OptionUsize) → v ≡ x .edition → n ≡ x .«n_obj» → m ≡ x .directions → d ≡ x .divisions → k ≡ x .«population_size»
+    → p ≡ x .«crossover_prob» → e ≡ x .«crossover_eta» → u ≡ x .«mutation_eta» → w ≡ x .window
+    → record { edition = v; «n_obj» = n; directions = m; divisions = d; «population_size» = k; «crossover_prob» = p; «crossover_eta» = e; «mutation_eta» = u; window = w } ≡ x
+config-same x v n m d k p e u w l a b c f g h i j = rw (l, a, b, c, f, g, h, i, j)
 
-pub progress-same : (x : Progress) (d c n w g : ℕ) → d ≡ x .«n_dims» → c ≡ x .«n_candidates» → n ≡ x .«n_plans» → w ≡ x .«n_waiting» → g ≡ x .generation
-    → progress d c n w g ≡ x
-progress-same x d c n w g p q r s t = rw (p, q, r, s, t)
+pub progress-same : (x : Progress) (d c n w h g : ℕ) → d ≡ x .«n_dims» → c ≡ x .«n_candidates» → n ≡ x .«n_plans» → w ≡ x .«n_waiting» → h ≡ x .«n_remembered» → g ≡ x .generation
+    → progress d c n w h g ≡ x
+progress-same x d c n w h g p q r s t u = rw (p, q, r, s, t, u)
 
 pub session-same : (x : Session) (c : Config) (p : Phase) (o : OptionU64) (r : ℕ) (ds : List DimensionInfo) (z : List Float) (g : Progress) → c ≡ x .config → p ≡ x .phase
     → o ≡ x .«discovery_trial_id» → r ≡ x .rng .s → ds ≡ x .dimensions → z ≡ x .«ideal_point» → g ≡ x .progress

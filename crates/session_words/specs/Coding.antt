@@ -13,6 +13,8 @@ use Rattle.model.specs.declared.OptionI64.{OptionI64}
 use Rattle.model.specs.declared.OptionI64.the-variants as optI64
 use Rattle.model.specs.declared.OptionU64.{OptionU64}
 use Rattle.model.specs.declared.OptionU64.the-variants as optU64
+use Rattle.model.specs.declared.OptionUsize.{OptionUsize}
+use Rattle.model.specs.declared.OptionUsize.the-variants as optUsize
 use Rattle.model.specs.declared.Phase.{Phase}
 use Rattle.model.specs.declared.Phase.the-variants.{Discovery, Active}
 use Rattle.model.specs.declared.Config.{Config}
@@ -119,6 +121,18 @@ abbrev pub firstOf : ℕ → ℕ → OptionU64
 firstOf zero w = optU64.None
 firstOf (suc n) w = optU64.Some w
 
+abbrev pub hasWindow : OptionUsize → ℕ
+hasWindow optUsize.None = 0
+hasWindow (optUsize.Some w) = 1
+
+abbrev pub windowWord : OptionUsize → ℕ
+windowWord optUsize.None = 0
+windowWord (optUsize.Some w) = w
+
+abbrev pub windowOf : ℕ → ℕ → OptionUsize
+windowOf zero w = optUsize.None
+windowOf (suc n) w = optUsize.Some w
+
 -- eight places of an array
 abbrev pub eight : {A : Type 0} → (ℕ → A) → List A
 eight f = f 0 ∷ f 1 ∷ f 2 ∷ f 3 ∷ f 4 ∷ f 5 ∷ f 6 ∷ f 7 ∷ []
@@ -128,14 +142,14 @@ unfoldable pub configWords : Config → List ℕ
 configWords c =
     c .«n_obj» ∷ eight (λ i. getD (c .directions) i 0)
     ++ (c .divisions ∷ c .«population_size» ∷ bits (c .«crossover_prob») ∷ bits (c .«crossover_eta») ∷ bits (c .«mutation_eta») ∷ editionNumber (c .edition)
-    ∷ [])
+    ∷ hasWindow (c .window) ∷ windowWord (c .window) ∷ [])
 
 -- how far it is, from `place.phase` on: phase (0 discovery, else active), first plan, generator, counts and generation
 unfoldable pub stateWords : Session → List ℕ
 stateWords s =
     let p = s .progress in
     phaseWord (s .phase) ∷ hasFirst (s .«discovery_trial_id») ∷ firstWord (s .«discovery_trial_id») ∷ s .rng .s
-    ∷ p .«n_dims» ∷ p .«n_candidates» ∷ p .«n_plans» ∷ p .«n_waiting» ∷ p .generation ∷ []
+    ∷ p .«n_dims» ∷ p .«n_candidates» ∷ p .«n_plans» ∷ p .«n_waiting» ∷ p .«n_remembered» ∷ p .generation ∷ []
 
 -- from `place.ideal` on
 unfoldable pub idealWords : List Float → List ℕ
@@ -163,10 +177,13 @@ configAt ws = record {
   «crossover_prob» = real (getD ws place.crossoverProb 0);
   «crossover_eta» = real (getD ws place.crossoverEta 0);
   «mutation_eta» = real (getD ws place.mutationEta 0);
+  window = windowOf (getD ws place.hasWindow 0) (getD ws place.window 0);
 }
 
 abbrev pub progressAt : List ℕ → Progress
-progressAt ws = progress (getD ws place.dims 0) (getD ws place.candidates 0) (getD ws place.plans 0) (getD ws place.waiting 0) (getD ws place.generation 0)
+progressAt ws =
+    progress (getD ws place.dims 0) (getD ws place.candidates 0) (getD ws place.plans 0) (getD ws place.waiting 0) (getD ws place.remembered 0)
+    (getD ws place.generation 0)
 
 unfoldable pub sessionOf : List ℕ → Session
 sessionOf ws = record {

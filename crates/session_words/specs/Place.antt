@@ -27,8 +27,15 @@ mutationEta = crossoverEta + 1
 abbrev pub edition : ℕ
 edition = mutationEta + 1
 
+-- whether there is a window, and its generations
+abbrev pub hasWindow : ℕ
+hasWindow = edition + 1
+
+abbrev pub window : ℕ
+window = hasWindow + 1
+
 abbrev pub phase : ℕ
-phase = edition + 1
+phase = window + 1
 
 -- whether there is a first plan, and its number
 abbrev pub hasFirst : ℕ
@@ -40,7 +47,7 @@ first = hasFirst + 1
 abbrev pub rng : ℕ
 rng = first + 1
 
--- the counts of dimensions, candidates, plans and waiting plans, and the generation
+-- the counts of dimensions, candidates, plans, waiting plans and generations remembered, and the generation
 abbrev pub dims : ℕ
 dims = rng + 1
 
@@ -53,8 +60,11 @@ plans = candidates + 1
 abbrev pub waiting : ℕ
 waiting = plans + 1
 
+abbrev pub remembered : ℕ
+remembered = waiting + 1
+
 abbrev pub generation : ℕ
-generation = waiting + 1
+generation = remembered + 1
 
 abbrev pub ideal : ℕ
 ideal = generation + 1

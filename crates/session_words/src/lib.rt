@@ -5,7 +5,7 @@ ghost use Prim.Native.Nat.{_%_, _≤_};
 ghost use lib.Ieee.{binary64, ofBits};
 ghost use lib.ListN.{getD};
 ghost use Rattle.model.specs.Lists.{one};
-ghost use Rattle.session_words.specs.Coding.{marked, stepF64, stepI64, distributionOf, dimensionAt, dimensionsAt, headWidth, sessionWidth, phaseOf, firstOf, marksAt, idealAt, configAt, progressAt, sessionOf};
+ghost use Rattle.session_words.specs.Coding.{marked, stepF64, stepI64, distributionOf, dimensionAt, dimensionsAt, headWidth, sessionWidth, phaseOf, firstOf, windowOf, marksAt, idealAt, configAt, progressAt, sessionOf};
 use model::CategoricalDistribution;
 use model::Config;
 use model::DimensionInfo;
@@ -17,6 +17,7 @@ use model::MAX_OBJECTIVES;
 use model::OptionF64;
 use model::OptionI64;
 use model::OptionU64;
+use model::OptionUsize;
 use model::Phase;
 use model::Progress;
 use model::Rng;
@@ -40,7 +41,12 @@ pub const MUTATION_ETA_AT: usize = CROSSOVER_ETA_AT + 1;
 
 pub const EDITION_AT: usize = MUTATION_ETA_AT + 1;
 
-pub const PHASE_AT: usize = EDITION_AT + 1;
+// whether there is a window, and its generations
+pub const HAS_WINDOW_AT: usize = EDITION_AT + 1;
+
+pub const WINDOW_AT: usize = HAS_WINDOW_AT + 1;
+
+pub const PHASE_AT: usize = WINDOW_AT + 1;
 
 // whether there is a first plan, and its number
 pub const HAS_FIRST_AT: usize = PHASE_AT + 1;
@@ -49,7 +55,7 @@ pub const FIRST_AT: usize = HAS_FIRST_AT + 1;
 
 pub const RNG_AT: usize = FIRST_AT + 1;
 
-// the counts of dimensions, candidates, plans and waiting plans, and the generation
+// the counts of dimensions, candidates, plans, waiting plans and generations remembered, and the generation
 pub const DIMS_AT: usize = RNG_AT + 1;
 
 pub const CANDIDATES_AT: usize = DIMS_AT + 1;
@@ -58,7 +64,9 @@ pub const PLANS_AT: usize = CANDIDATES_AT + 1;
 
 pub const WAITING_AT: usize = PLANS_AT + 1;
 
-pub const GENERATION_AT: usize = WAITING_AT + 1;
+pub const REMEMBERED_AT: usize = WAITING_AT + 1;
+
+pub const GENERATION_AT: usize = REMEMBERED_AT + 1;
 
 pub const IDEAL_AT: usize = GENERATION_AT + 1;
 
@@ -210,6 +218,15 @@ fn first_of(has: u64, w: u64) -> OptionU64
     OptionU64::Some(w)
 }
 
+fn window_of(has: u64, w: usize) -> OptionUsize
+    ensures { λ r. ⌜ r ≡ windowOf has w ⌝ }
+{
+    if has == 0 {
+        return OptionUsize::None;
+    }
+    OptionUsize::Some(w)
+}
+
 fn marks_at(words: &[u64]) -> [u8; MAX_OBJECTIVES]
     ensures { λ r. ⌜ r ≡ marksAt (now (words .entry)) ⌝ }
 {
@@ -245,6 +262,9 @@ fn config_at(words: &[u64]) -> Config
     let crossover_eta = real_at(words, CROSSOVER_ETA_AT);
     let mutation_eta = real_at(words, MUTATION_ETA_AT);
     let edition = editions::edition_of(word_at(words, EDITION_AT));
+    let has = word_at(words, HAS_WINDOW_AT);
+    let w = word_at(words, WINDOW_AT) as usize;
+    let window = window_of(has, w);
     Config {
         edition,
         n_obj,
@@ -254,6 +274,7 @@ fn config_at(words: &[u64]) -> Config
         crossover_prob,
         crossover_eta,
         mutation_eta,
+        window,
     }
 }
 
@@ -264,12 +285,14 @@ fn progress_at(words: &[u64]) -> Progress
     let n_candidates = word_at(words, CANDIDATES_AT) as usize;
     let n_plans = word_at(words, PLANS_AT) as usize;
     let n_waiting = word_at(words, WAITING_AT) as usize;
+    let n_remembered = word_at(words, REMEMBERED_AT) as usize;
     let generation = word_at(words, GENERATION_AT);
     Progress {
         n_dims,
         n_candidates,
         n_plans,
         n_waiting,
+        n_remembered,
         generation,
     }
 }

@@ -14,6 +14,7 @@ mod rows;
 mod second;
 mod sessions;
 mod water;
+mod windows;
 
 use crate::answers::{self, Call, SELECT, SELECT_SECOND, STEP, STEP_SECOND};
 use crate::answers::{ASSOCIATE, ASSOCIATE_SECOND, DISTANCE, DISTANCE_SECOND, NORMALIZE, NORMALIZE_SECOND};
@@ -32,7 +33,7 @@ type Cases = fn() -> Vec<Line>;
 type Input = fn(&mut Mix, u64) -> Line;
 
 /// Each record: its named cases, and how an input is generated.
-const RECORDS: [(&str, Cases, Input); 18] = [
+const RECORDS: [(&str, Cases, Input); 19] = [
     ("draw", numbers::draw_cases, numbers::draw_input),
     ("numbers", numbers::number_cases, numbers::number_input),
     ("dominance", rows::dominance_cases, rows::dominance_input),
@@ -78,6 +79,11 @@ const RECORDS: [(&str, Cases, Input); 18] = [
         "association_second",
         second::association_cases,
         second::association_input,
+    ),
+    (
+        "session_window",
+        windows::session_cases,
+        windows::session_input,
     ),
 ];
 

@@ -10,6 +10,9 @@ optional-requires c κs = tt
 optional-requires-2 : tie.Need-optional-requires-2
 optional-requires-2 c κs = tt
 
+optional-requires-3 : tie.Need-optional-requires-3
+optional-requires-3 c κs = tt
+
 edition-of-requires : tie.Need-edition-of-requires
 edition-of-requires c κs = tt
 
@@ -28,7 +31,8 @@ enum-told c = search needs
 returns : tie.Need-returns
 returns c =
     let o = c .before .before .before in
-    open-short _ _ _ _ _ _ _ _ _ _ _ (o .«open» .result) (o .before .edition-of .ensures) (o .before .before .before .optional .ensures) (o .before .before .optional2 .ensures) (o .«open» .ensures) _
+    open-short _ _ _ _ _ _ _ _ _ _ _ _ _ (o .«open» .result) (o .before .edition-of .ensures) (o .before .before .before .before .optional .ensures) (o .before .before .before .optional2 .ensures)
+    (o .before .before .optional3 .ensures) (o .«open» .ensures) _
     (c .before .enum-told .given .1) (c .if1 .taken)
 
 words-of-session-requires : tie.Need-words-of-session-requires
@@ -37,7 +41,8 @@ words-of-session-requires c κs = search needs
 returns-2 : tie.Need-returns-2
 returns-2 c =
     let o = c .before .before .before .before in
-    open-refused _ _ _ _ _ _ _ _ _ _ _ (o .«open» .result) (o .before .edition-of .ensures) (o .before .before .before .optional .ensures) (o .before .before .optional2 .ensures) (o .«open» .ensures) _
+    open-refused _ _ _ _ _ _ _ _ _ _ _ _ _ (o .«open» .result) (o .before .edition-of .ensures) (o .before .before .before .before .optional .ensures) (o .before .before .before .optional2 .ensures)
+    (o .before .before .optional3 .ensures) (o .«open» .ensures) _
     _ _ (c .before .before .outcome .given .1) (c .wide .ensures)
 
 same-length : tie.Need-same-length
@@ -48,7 +53,8 @@ returns-3 c =
     let e = c .before .before .before .before .before in
     let o = e .before .before .before in
     let w = c .before .before .words-of-session in
-    open-ready _ _ _ _ _ _ _ _ _ _ _ (o .«open» .result) (o .before .edition-of .ensures) (o .before .before .before .optional .ensures) (o .before .before .optional2 .ensures) (o .«open» .ensures) _
+    open-ready _ _ _ _ _ _ _ _ _ _ _ _ _ (o .«open» .result) (o .before .edition-of .ensures) (o .before .before .before .before .optional .ensures) (o .before .before .before .optional2 .ensures)
+    (o .before .before .optional3 .ensures) (o .«open» .ensures) _
     _ (e .before .enum-told .given .1) (e .if1 .left) (w .ensures .0) (w .ensures .1)
 
 pub open-words-spec : {M : Type 1} → statement M
@@ -57,6 +63,7 @@ open-words-spec =
     (tie.spec
     optional-requires
     optional-requires-2
+    optional-requires-3
     edition-of-requires
     open-requires
     enum-known-outcome

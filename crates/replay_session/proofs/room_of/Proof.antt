@@ -31,9 +31,15 @@ add-result-2 c = omega (arith, waiting c)
 mul-result : tie.Need-mul-result
 mul-result c = omega (arith, waiting c)
 
+window-words-requires : tie.Need-window-words-requires
+window-words-requires c κs = tt
+
+add-result-3 : tie.Need-add-result-3
+add-result-3 c = omega (arith, waiting (c .before), c .window-words .ensures)
+
 returns-2 : tie.Need-returns-2
 returns-2 c = tt
 
 pub room-of-spec : {M : Type 1} → statement M
 room-of-spec =
-    tie.close (tie.spec add-result returns waiting-of-requires add-result-2 mul-result returns-2)
+    tie.close (tie.spec add-result returns waiting-of-requires add-result-2 mul-result window-words-requires add-result-3 returns-2)

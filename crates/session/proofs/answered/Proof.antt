@@ -1,11 +1,13 @@
 -- each way is as the definition has it
 use mathlib.Core.Path.{_≡_, refl, sym, ap, _∙_}
 use mathlib.Core.Bool.{false, not}
+use native.Mathlib.Nat.{le-of-lt}
 use Rattle.list_laws.proofs.Bools.{and-not, and-fails}
 use Rattle.model.specs.declared.Phase.{Phase}
 use Rattle.model.specs.Session.{State, state, pastDiscovery}
 use Rattle.model.specs.Refusal.{badHistory}
 use Rattle.session_laws.proofs.Request.{refused-7}
+use Rattle.session_laws.proofs.Window.{window-few, objectives-few}
 use Rattle.session_active.specs.Exits.{Called}
 use Rattle.session_active.proofs.Ways.{leaves-refused, adds-by, long-by, without-slices, discovery-plans}
 use borrow.Author.Needs.{needs}
@@ -63,7 +65,9 @@ entry-2 c = entry (other c .before)
 -- ---- the needs
 
 long-enough-requires : tie.Need-long-enough-requires
-long-enough-requires c κs = c .before .before .before .before .before .before .pre .config .atMost
+long-enough-requires c κs =
+    let g = c .before .before .before .before .before .before .pre .config in
+    (g .atMost, objectives-few _ g, le-of-lt (window-few _ (g .window)))
 
 discovers-requires : tie.Need-discovers-requires
 discovers-requires c κs = tt

@@ -1,82 +1,105 @@
--- the step, the plans that wait, and the session after it
-use mathlib.Core.Path.{refl, sym, _∙_}
-use Prim.Native.Nat.{ℕ}
+-- the step, what it leaves of the ideal, the plans that wait, what is remembered, and the session after it
+use Prim.Native.Nat.{ℕ, _≤_}
+use mathlib.Core.Path.{refl, sym, subst, _∙_}
+use native.Mathlib.Nat.{le-of-lt}
+use native.Mathlib.Omega.{arith}
 use lib.ListN.{length-replicate}
 use lib.Seq.{length-take-le}
-use Rattle.model.specs.Refusal.{maxSize}
-use Rattle.session_breeding.proofs.Breeding.{ideal-room, step-good, kept-is, keeping, bred-is}
+use Rattle.model.specs.Refusal.{maxPool}
+use Rattle.model.specs.Session.{poolRoom}
+use Rattle.session_laws.proofs.Window.{objectives-few}
+use Rattle.session_breeding.proofs.Breeding.{step-good, kept-is, keeping, few-remembered, told, bred-is}
+use borrow.Author.Needs.{needs}
 use Rattle.session_breeding.proofs.bred_on.Statement.{statement}
 use Rattle.session_breeding.proofs.bred_on.Tie as tie
 
--- ---- the places, each from the next: the call starts, the step is called, the kept plans are let wait, and the session is made
-
-abbrev start : tie.After-ideal-point → tie.Start
-start c = c .before .before .before .before .before
-
-abbrev given : tie.After-step-arg2 → tie.After-ideal-point
-given c = c .before .before .before .before
-
-abbrev stepped : tie.After-let-wait-arg2 → tie.After-step
-stepped c = c .before .before .before .before .before .before .before .before
-
-abbrev waiting : tie.After-bred-session → tie.After-let-wait
-waiting c = c .before .before .before .before .before
-
--- ---- the same from further on
-
-abbrev entry : tie.After-step → tie.Start
-entry c = start (given (c .before))
-
--- ---- the needs
-
 slice-reshare-prefix-step : tie.Need-slice-reshare-prefix-step
-slice-reshare-prefix-step c = start c .pre .1
+slice-reshare-prefix-step c = search needs
 
 slice-aggregate-step : tie.Need-slice-aggregate-step
-slice-aggregate-step c = sym (length-take-le _ _ (start (c .before) .pre .1))
+slice-aggregate-step c =
+    sym (length-take-le _ _ (c .before .before .before .before .before .before .pre .1))
 
 array-borrow-prefix-ideal-point : tie.Need-array-borrow-prefix-ideal-point
-array-borrow-prefix-ideal-point c = ideal-room _ _ (start (c .before) .pre .0 .ok .ideal)
+array-borrow-prefix-ideal-point c = search needs
 
 slice-aggregate-step-2 : tie.Need-slice-aggregate-step-2
-slice-aggregate-step-2 c = sym (length-take-le _ _ (ideal-room _ _ (start (c .before .before) .pre .0 .ok .ideal)))
+slice-aggregate-step-2 c =
+    sym (length-take-le _ _ (c .before .before .before .before .before .before .before .pre .0 .ok .ideal))
 
 slice-aggregate-step-3 : tie.Need-slice-aggregate-step-3
-slice-aggregate-step-3 c = refl
+slice-aggregate-step-3 c = search needs
+
+slice-aggregate-step-4 : tie.Need-slice-aggregate-step-4
+slice-aggregate-step-4 c = search needs
 
 step-requires : tie.Need-step-requires
 step-requires c κs =
-    let s = start (given c) in
+    let s = c .before .before .before .before .before .before .before .before .before .before in
     (s .pre .0 .ok .config .objectives, step-good _ _ _ _ _ (s .pre .0))
 
+slice-reshare-prefix-left-of : tie.Need-slice-reshare-prefix-left-of
+slice-reshare-prefix-left-of c = search needs
+
+slice-aggregate-left-of : tie.Need-slice-aggregate-left-of
+slice-aggregate-left-of c =
+    sym (length-take-le _ _ (c .before .before .before .before .before .before .before .before .before .before .before .before .before .before .before .before .before .before .pre .1))
+
+slice-aggregate-left-of-2 : tie.Need-slice-aggregate-left-of-2
+slice-aggregate-left-of-2 c = search needs
+
+left-of-requires : tie.Need-left-of-requires
+left-of-requires c κs =
+    told _ _ _ _ _ (c .before .before .before .before .before .before .before .before .before .before .before .before .before .before .before .before .before .before .before .pre .0) _ (c .before .before .before .before .before .before .before .before .step .kept .1 .1 .1 .1 .0 ∙ length-replicate {A = ℕ} maxPool 0)
+
 slice-aggregate-let-wait : tie.Need-slice-aggregate-let-wait
-slice-aggregate-let-wait c = sym (c .before .before .before .before .before .before .step .kept .1 .1 .1 .0 ∙ length-replicate {A = ℕ} maxSize 0)
+slice-aggregate-let-wait c = search needs
 
 let-wait-requires : tie.Need-let-wait-requires
 let-wait-requires c κs =
-    let t = stepped c in
-    let s = entry t in
-    (keeping _ _ _ _ _ (s .pre .0) _ (kept-is _ _ _ _ _ (s .pre .0) _ (s .args .pool .now) _ _ _ _ (t .step .ensures)), s .pre .1)
+    let s = c .before .before .before .before .before .before .before .before .before .before .before .before .before .before .before .before .before .before .before .before .before .before .before .before .before in
+    let t = c .before .before .before .before .before .before .before .before .before .before .before .before .before .before in
+    (keeping _ _ _ _ _ (s .pre .0) _ (kept-is _ _ _ _ _ (s .pre .0) _ (s .args .pool .now) _ _ _ _ _ (t .step .ensures)), s .pre .1)
+
+slice-aggregate-remember : tie.Need-slice-aggregate-remember
+slice-aggregate-remember c = search needs
+
+remember-requires : tie.Need-remember-requires
+remember-requires c κs =
+    let s = c .before .before .before .before .before .before .before .before .before .before .before .before .before .before .before .before .before .before .before .before .before .before .before .before .before .before .before .before .before .before .before .before .before in
+    let p = s .pre .0 in
+    let pool = c .before .before .before .before .before .before .before .let-wait .kept .1 .1 .1 .1 .1 .0 in (
+      p .ok .config .atMost,
+      objectives-few _ (p .ok .config),
+      omega (arith, slice-aggregate-remember (c .before), objectives-few _ (p .ok .config)),
+      few-remembered _ _ _ _ _ p,
+      p .remembered,
+      subst (λ (k : ℕ). poolRoom (s .args .session .config) ≤ k) (sym pool) (p .pool),
+    )
 
 bred-session-requires : tie.Need-bred-session-requires
-bred-session-requires c κs = tt
+bred-session-requires c κs =
+    le-of-lt (few-remembered _ _ _ _ _ (c .before .before .before .before .before .before .before .before .before .before .before .before .before .before .before .before .before .before .before .before .before .before .before .before .before .before .before .before .before .before .before .before .before .before .before .before .pre .0))
 
 same-length : tie.Need-same-length
-same-length c = waiting c .let-wait .kept .1 .1 .1 .1 .0
+same-length c = search needs
 
 same-length-2 : tie.Need-same-length-2
-same-length-2 c = waiting c .let-wait .kept .1 .1 .1 .1 .1 .0
+same-length-2 c = search needs
 
 same-length-3 : tie.Need-same-length-3
-same-length-3 c = stepped (waiting c .before) .step .kept .1 .1 .1 .1 .0
+same-length-3 c =
+    c .before .before .before .before .before .before .before .before .before .before .before .before .before .before .before .before .before .before .before .before .before .before .before .before .before .before .step .kept .1 .1 .1 .1 .1 .0
 
 returns : tie.Need-returns
 returns c =
-    let w = waiting c in
-    let t = stepped (w .before) in
-    let s = entry t in
+    let s = c .before .before .before .before .before .before .before .before .before .before .before .before .before .before .before .before .before .before .before .before .before .before .before .before .before .before .before .before .before .before .before .before .before .before .before .before .before in
+    let p = s .pre .0 in
     let a = s .args in
-    bred-is (a .session) _ _ _ _ (s .pre .0) (a .candidates .now) (a .pool .now) _ _ _ _ (t .step .ensures) _ _ _ (t .step .kept .1 .1 .0 ∙ length-take-le _ _ (ideal-room _ _ (s .pre .0 .ok .ideal))) refl (w .let-wait .ensures) (c .bred-session .ensures)
+    let t = c .before .before .before .before .before .before .before .before .before .before .before .before .before .before .before .before .before .before .before .before .before .before .before .before .before .before in
+    let l = c .before .before .before .before .before .before .before .before .before .before .before .before .before .before .before .before .before .left-of .ensures in
+    bred-is (a .session) _ _ _ _ p (a .candidates .now) (a .pool .now) _ _ _ _ _ (t .step .ensures) _ _ _ _ _ _ (t .step .kept .1 .1 .0 ∙ length-take-le _ _ (p .ok .ideal)) refl (l .0) (l .1)
+    (c .before .before .before .before .before .before .before .before .before .before .before .let-wait .ensures) (c .before .before .before .remember .ensures) (c .bred-session .ensures)
 
 pub bred-on-spec : {M : Type 1} → statement M
 bred-on-spec =
@@ -87,9 +110,16 @@ bred-on-spec =
     array-borrow-prefix-ideal-point
     slice-aggregate-step-2
     slice-aggregate-step-3
+    slice-aggregate-step-4
     step-requires
+    slice-reshare-prefix-left-of
+    slice-aggregate-left-of
+    slice-aggregate-left-of-2
+    left-of-requires
     slice-aggregate-let-wait
     let-wait-requires
+    slice-aggregate-remember
+    remember-requires
     bred-session-requires
     same-length
     same-length-2

@@ -5,27 +5,14 @@ use Rattle.session_breeding.proofs.Breeding.{refusal-by, taken-by}
 use Rattle.session_breeding.proofs.step.Statement.{statement}
 use Rattle.session_breeding.proofs.step.Tie as tie
 
--- ---- the places, each from the next: the call starts, its parts are read, and the generation step is called
-
-abbrev start : tie.After-operators-of → tie.Start
-start c = c .before .before .before .before .before .before .before .before
-
-abbrev given : tie.After-step-arg3 → tie.After-operators-of
-given c = c .before .before .before .before .before .before .before
-
-abbrev called : tie.After-slice-known6 → tie.After-step
-called c = c .before .before .before .before .before .before .before .before .before
-
--- ---- the needs
-
 operators-of-requires : tie.Need-operators-of-requires
 operators-of-requires c κs = tt
 
 array-share-prefix-directions : tie.Need-array-share-prefix-directions
-array-share-prefix-directions c = start c .pre .0
+array-share-prefix-directions c = c .before .before .before .before .before .before .before .before .before .pre .0
 
 slice-aggregate-step : tie.Need-slice-aggregate-step
-slice-aggregate-step c = sym (length-take-le _ _ (start (c .before) .pre .0))
+slice-aggregate-step c = sym (length-take-le _ _ (c .before .before .before .before .before .before .before .before .before .before .pre .0))
 
 slice-aggregate-step-2 : tie.Need-slice-aggregate-step-2
 slice-aggregate-step-2 c = refl
@@ -33,23 +20,23 @@ slice-aggregate-step-2 c = refl
 slice-aggregate-step-3 : tie.Need-slice-aggregate-step-3
 slice-aggregate-step-3 c = refl
 
-slice-aggregate-step-4 : tie.Need-slice-aggregate-step-4
-slice-aggregate-step-4 c = refl
-
 step-requires : tie.Need-step-requires
-step-requires c κs = refusal-by _ _ _ (given c .operators-of .ensures) _ _ (start (given c) .pre .1)
+step-requires c κs = refusal-by _ _ _ (c .before .before .before .before .before .before .before .operators-of .ensures) _ _ (c .before .before .before .before .before .before .before .before .before .before .before .before .before .before .before .before .pre .1)
 
 same-length : tie.Need-same-length
-same-length c = called c .step .kept .1 .1 .1 .1 .1 .1 .1 .0
+same-length c = c .before .before .before .before .before .before .before .before .before .before .step .kept .1 .1 .1 .1 .1 .1 .1 .0
 
 same-length-2 : tie.Need-same-length-2
-same-length-2 c = called c .step .kept .1 .1 .1 .1 .1 .1 .1 .1 .0
+same-length-2 c = c .before .before .before .before .before .before .before .before .before .before .step .kept .1 .1 .1 .1 .1 .1 .1 .1 .0
 
 same-length-3 : tie.Need-same-length-3
-same-length-3 c = called c .step .kept .1 .1 .1 .1 .1 .1 .1 .1 .1 .1 .1 .1 .0
+same-length-3 c = c .before .before .before .before .before .before .before .before .before .before .step .kept .1 .1 .1 .1 .1 .1 .1 .1 .1 .1 .1 .0
+
+same-length-4 : tie.Need-same-length-4
+same-length-4 c = c .before .before .before .before .before .before .before .before .before .before .step .kept .1 .1 .1 .1 .1 .1 .1 .1 .1 .1 .1 .1 .0
 
 returns : tie.Need-returns
-returns c = taken-by _ _ _ (given (called c .before) .operators-of .ensures) _ _ _ (called c .step .ensures)
+returns c = taken-by _ _ _ (c .before .before .before .before .before .before .before .before .before .before .before .before .before .before .before .before .before .before .operators-of .ensures) _ _ _ (c .before .before .before .before .before .before .before .before .before .before .step .ensures)
 
 pub step-spec : {M : Type 1} → statement M
 step-spec =
@@ -60,9 +47,9 @@ step-spec =
     slice-aggregate-step
     slice-aggregate-step-2
     slice-aggregate-step-3
-    slice-aggregate-step-4
     step-requires
     same-length
     same-length-2
     same-length-3
+    same-length-4
     returns)

@@ -16,6 +16,12 @@ given-requires-2 c κs = tt
 number-of-requires-2 : tie.Need-number-of-requires-2
 number-of-requires-2 c κs = tt
 
+given-requires-3 : tie.Need-given-requires-3
+given-requires-3 c κs = tt
+
+number-of-requires-3 : tie.Need-number-of-requires-3
+number-of-requires-3 c κs = tt
+
 slice-aggregate-locustdomino-open : tie.Need-slice-aggregate-locustdomino-open
 slice-aggregate-locustdomino-open c = search needs
 
@@ -47,6 +53,8 @@ opened-spec =
     number-of-requires
     given-requires-2
     number-of-requires-2
+    given-requires-3
+    number-of-requires-3
     slice-aggregate-locustdomino-open
     locustdomino-open-requires
     slice-aggregate-session-of-words

@@ -66,9 +66,17 @@ word-of-real-requires-3 c κs = tt
 edition-number-requires : tie.Need-edition-number-requires
 edition-number-requires c κs = tt
 
+has-window-requires : tie.Need-has-window-requires
+has-window-requires c κs = tt
+
+window-word-requires : tie.Need-window-word-requires
+window-word-requires c κs = tt
+
 returns : tie.Need-returns
 returns c =
-    let mutation = c .before in
+    let has = c .before in
+    let edition = has .before in
+    let mutation = edition .before in
     let crossover = mutation .before in
     let probability = crossover .before in
     let d8 = probability .before in
@@ -83,7 +91,8 @@ returns c =
     config-laid x
     (eight-same (λ i. getD (x .directions) i 0) (d1 .wide .ensures) (d2 .wide2 .ensures) (d3 .wide3 .ensures) (d4 .wide4 .ensures) (d5 .wide5 .ensures) (d6 .wide6 .ensures)
     (d7 .wide7 .ensures) (d8 .wide8 .ensures))
-    (probability .word-of-real .ensures) (crossover .word-of-real2 .ensures) (mutation .word-of-real3 .ensures) (c .edition-number .ensures)
+    (probability .word-of-real .ensures) (crossover .word-of-real2 .ensures) (mutation .word-of-real3 .ensures) (edition .edition-number .ensures)
+    (has .has-window .ensures) (c .window-word .ensures)
 
 pub config-words-spec : {M : Type 1} → statement M
 config-words-spec =
@@ -109,4 +118,6 @@ config-words-spec =
     word-of-real-requires-2
     word-of-real-requires-3
     edition-number-requires
+    has-window-requires
+    window-word-requires
     returns)

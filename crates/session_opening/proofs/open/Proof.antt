@@ -24,18 +24,19 @@ blank-requires c κs = tt
 returns : tie.Need-returns
 returns c =
     let told = c .before .enum-told2 .given in
-    by-answer _ _ _ _ _ _ _ _ _ (opening.Refused (told .0 .0)) _ blank (c .before .before .before .open-refusal .ensures) (told .1) (c .blank .ensures) refl
+    by-answer _ _ _ _ _ _ _ _ _ _ (opening.Refused (told .0 .0)) _ blank (c .before .before .before .open-refusal .ensures) (told .1) (c .blank .ensures) refl
 
 opened-requires : tie.Need-opened-requires
 opened-requires c κs =
-    let r = opening-tells _ _ opening.Ready (sym (c .before .before .open-refusal .ensures) ∙ c .enum-told .given .1) in
-    (directions-good First _ 0 _ _ _ _ _ r, divisions-good First _ 0 _ _ _ _ _ r)
+    let w = c .before .before .before .before .args .window in
+    let r = opening-tells _ blank opening.Ready (sym (c .before .before .open-refusal .ensures) ∙ c .enum-told .given .1) in
+    (directions-good First _ 0 _ _ _ _ _ w r, divisions-good First _ 0 _ _ _ _ _ w r)
 
 returns-2 : tie.Need-returns-2
 returns-2 c =
     let r = c .before .before .before in
     let a = r .before .before .args in
-    by-answer (a .edition) (a .directions .now) (a .seed) (a .size) (a .divisions) (a .probability) (a .crossover-eta) (a .mutation-eta) _ opening.Ready _ _
+    by-answer (a .edition) (a .directions .now) (a .seed) (a .size) (a .divisions) (a .probability) (a .crossover-eta) (a .mutation-eta) (a .window) _ opening.Ready _ _
     (r .open-refusal .ensures) (c .before .enum-told .given .1) (c .opened .ensures) refl
 
 pub open-spec : {M : Type 1} → statement M

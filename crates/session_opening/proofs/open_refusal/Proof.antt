@@ -3,16 +3,19 @@ use mathlib.Core.Path.{_≡_, sym, _∙_}
 use mathlib.Core.Bool.{false}
 use lib.ListN.{length}
 use Rattle.model.specs.Session.{given}
-use Rattle.model.specs.Refusal.{badDirections, badSessionSize, badSessionDivisions, badOperators}
+use Rattle.model.specs.Refusal.{badDirections, badSessionSize, badSessionDivisions, badOperators, badWindow}
 use Rattle.demand3_laws.proofs.Passed.{some-objectives}
-use Rattle.session_opening.proofs.Opening.{refused-2, refused-3, refused-4, refused-5, ready}
+use Rattle.session_opening.proofs.Opening.{refused-2, refused-3, refused-4, refused-5, refused-14, ready}
 use Rattle.session_opening.proofs.open_refusal.Statement.{statement}
 use Rattle.session_opening.proofs.open_refusal.Tie as tie
 
--- ---- the places, each from the next: where the call starts, the two tests that are read first, and where each test has passed
+-- ---- the places, each from the next: where the call starts, the three tests that are read first, and where each test has passed
 
-abbrev start : tie.After-bad-session-size → tie.Start
+abbrev start : tie.After-bad-window → tie.Start
 start c = c .before .before
+
+abbrev window-read : tie.After-bad-session-size → tie.After-bad-window
+window-read c = c .before
 
 abbrev size-read : tie.After-bad-operators → tie.After-bad-session-size
 size-read c = c .before
@@ -29,10 +32,16 @@ passed-2 c = c .before .before
 -- ---- the same from further on
 
 abbrev start-1 : tie.Else1 → tie.Start
-start-1 c = start (size-read (operators-read c))
+start-1 c = start (window-read (size-read (operators-read c)))
 
 abbrev first-3 : tie.Else3 → tie.Else1
 first-3 c = passed-1 (passed-2 c)
+
+abbrev passed-3 : tie.Else4 → tie.Else3
+passed-3 c = c .before
+
+abbrev first-4 : tie.Else4 → tie.Else1
+first-4 c = first-3 (passed-3 c)
 
 -- ---- what the tests say
 
@@ -51,7 +60,16 @@ good-divisions c = sym (c .before .bad-session-divisions .ensures) ∙ c .if3 .l
 operators : (c : tie.Else1) → let a = start-1 c .args in operators-read c .bad-operators .result ≡ badOperators (a .probability) (a .crossover-eta) (a .mutation-eta)
 operators c = operators-read c .bad-operators .ensures
 
+good-operators : (c : tie.Else4) → let a = start-1 (first-4 c) .args in badOperators (a .probability) (a .crossover-eta) (a .mutation-eta) ≡ false
+good-operators c = sym (operators (first-4 c)) ∙ c .if4 .left
+
+window : (c : tie.Else1) → window-read (size-read (operators-read c)) .bad-window .result ≡ badWindow (given (start-1 c .args .window))
+window c = window-read (size-read (operators-read c)) .bad-window .ensures
+
 -- ---- the needs
+
+bad-window-requires : tie.Need-bad-window-requires
+bad-window-requires c κs = tt
 
 bad-session-size-requires : tie.Need-bad-session-size-requires
 bad-session-size-requires c κs = tt
@@ -63,10 +81,10 @@ bad-directions-requires : tie.Need-bad-directions-requires
 bad-directions-requires c κs = tt
 
 returns : tie.Need-returns
-returns c = refused-2 _ _ _ _ _ _ (sym (c .before .bad-directions .ensures) ∙ c .if1 .taken)
+returns c = refused-2 _ _ _ _ _ _ _ (sym (c .before .bad-directions .ensures) ∙ c .if1 .taken)
 
 returns-2 : tie.Need-returns-2
-returns-2 c = refused-3 _ _ _ _ _ _ (good-directions (c .before)) (sym (size (c .before)) ∙ c .if2 .taken)
+returns-2 c = refused-3 _ _ _ _ _ _ _ (good-directions (c .before)) (sym (size (c .before)) ∙ c .if2 .taken)
 
 bad-session-divisions-requires : tie.Need-bad-session-divisions-requires
 bad-session-divisions-requires c κs = some-objectives _ (good-directions (passed-1 c))
@@ -74,22 +92,30 @@ bad-session-divisions-requires c κs = some-objectives _ (good-directions (passe
 returns-3 : tie.Need-returns-3
 returns-3 c =
     let sized = c .before .before in
-    refused-4 _ _ _ _ _ _ (good-directions (passed-1 sized)) (good-size sized) (sym (c .before .bad-session-divisions .ensures) ∙ c .if3 .taken)
+    refused-4 _ _ _ _ _ _ _ (good-directions (passed-1 sized)) (good-size sized) (sym (c .before .bad-session-divisions .ensures) ∙ c .if3 .taken)
 
 returns-4 : tie.Need-returns-4
 returns-4 c =
     let divided = c .before in
-    refused-5 _ _ _ _ _ _ (good-directions (first-3 divided)) (good-size (passed-2 divided)) (good-divisions divided) (sym (operators (first-3 divided)) ∙ c .if4 .taken)
+    refused-5 _ _ _ _ _ _ _ (good-directions (first-3 divided)) (good-size (passed-2 divided)) (good-divisions divided) (sym (operators (first-3 divided)) ∙ c .if4 .taken)
 
 returns-5 : tie.Need-returns-5
 returns-5 c =
-    let divided = c .before in
-    ready _ _ _ _ _ _ (good-directions (first-3 divided)) (good-size (passed-2 divided)) (good-divisions divided) (sym (operators (first-3 divided)) ∙ c .if4 .left)
+    let bred = c .before in
+    let divided = passed-3 bred in
+    refused-14 _ _ _ _ _ _ _ (good-directions (first-3 divided)) (good-size (passed-2 divided)) (good-divisions divided) (good-operators bred) (sym (window (first-4 bred)) ∙ c .if5 .taken)
+
+returns-6 : tie.Need-returns-6
+returns-6 c =
+    let bred = c .before in
+    let divided = passed-3 bred in
+    ready _ _ _ _ _ _ _ (good-directions (first-3 divided)) (good-size (passed-2 divided)) (good-divisions divided) (good-operators bred) (sym (window (first-4 bred)) ∙ c .if5 .left)
 
 pub open-refusal-spec : {M : Type 1} → statement M
 open-refusal-spec =
     tie.close
     (tie.spec
+    bad-window-requires
     bad-session-size-requires
     bad-operators-requires
     bad-directions-requires
@@ -98,4 +124,5 @@ open-refusal-spec =
     bad-session-divisions-requires
     returns-3
     returns-4
-    returns-5)
+    returns-5
+    returns-6)

@@ -21,7 +21,7 @@ returns : tie.Need-returns
 returns c =
     let p = c .before in
     let d = p .before in
-    c .start .ensures ∙ opened-is _ _ _ _ _ _ _ _ _ _ _ (d .before .marks-of .ensures) (d .divisions-of .ensures) (p .population-size .ensures)
+    c .start .ensures ∙ opened-is _ _ _ _ _ _ _ _ _ _ _ _ (d .before .marks-of .ensures) (d .divisions-of .ensures) (p .population-size .ensures)
 
 pub opened-spec : {M : Type 1} → statement M
 opened-spec =

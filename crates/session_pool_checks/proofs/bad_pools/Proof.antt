@@ -1,7 +1,7 @@
 -- the first slice's plans, and then the second's, with the ideal beside each
 use mathlib.Core.Path.{sym}
 use lib.Seq.{length-take-le}
-use Rattle.session_pool_checks.proofs.Joined.{few-objectives, ideal-room, pools-first, pools-second}
+use Rattle.session_pool_checks.proofs.Joined.{few-objectives, pools-first, pools-second}
 use Rattle.session_pool_checks.proofs.bad_pools.Statement.{statement}
 use Rattle.session_pool_checks.proofs.bad_pools.Tie as tie
 
@@ -12,10 +12,10 @@ abbrev looked : tie.After-bad-pool → tie.After-ideal-point
 looked c = c .before .before
 
 array-share-prefix-ideal-point : tie.Need-array-share-prefix-ideal-point
-array-share-prefix-ideal-point c = ideal-room _ (start c .pre .0)
+array-share-prefix-ideal-point c = start c .pre .0 .ideal
 
 slice-aggregate-bad-pool : tie.Need-slice-aggregate-bad-pool
-slice-aggregate-bad-pool c = sym (length-take-le _ _ (ideal-room _ (start (c .before) .pre .0)))
+slice-aggregate-bad-pool c = sym (length-take-le _ _ (start (c .before) .pre .0 .ideal))
 
 bad-pool-requires : tie.Need-bad-pool-requires
 bad-pool-requires c κs = few-objectives _ (start (c .before) .pre .0)
@@ -27,10 +27,10 @@ returns c =
     pools-first (a .session) (s .pre .0) (a .waiting .now) (a .children .now) (s .pre .1) _ (c .before .bad-pool .ensures) (c .if1 .taken)
 
 array-share-prefix-ideal-point-2 : tie.Need-array-share-prefix-ideal-point-2
-array-share-prefix-ideal-point-2 c = ideal-room _ (start (looked (c .before)) .pre .0)
+array-share-prefix-ideal-point-2 c = start (looked (c .before)) .pre .0 .ideal
 
 slice-aggregate-bad-pool-2 : tie.Need-slice-aggregate-bad-pool-2
-slice-aggregate-bad-pool-2 c = sym (length-take-le _ _ (ideal-room _ (start (looked (c .before .before)) .pre .0)))
+slice-aggregate-bad-pool-2 c = sym (length-take-le _ _ (start (looked (c .before .before)) .pre .0 .ideal))
 
 bad-pool-requires-2 : tie.Need-bad-pool-requires-2
 bad-pool-requires-2 c κs = few-objectives _ (start (looked (c .before .before)) .pre .0)

@@ -1,7 +1,7 @@
 -- Field by field.
-use mathlib.Core.Path.{ap, _∙_}
+use mathlib.Core.Path.{ap, ap₂, _∙_}
 use Rattle.model.specs.Edition.{editionOf}
-use Rattle.session_words.specs.Coding.{configAt}
+use Rattle.session_words.specs.Coding.{windowOf, configAt}
 use Rattle.session_words.proofs.Parts.{config-same}
 use Rattle.session_words.proofs.config_at.Statement.{statement}
 use Rattle.session_words.proofs.config_at.Tie as tie
@@ -33,9 +33,21 @@ word-at-requires-4 c κs = tt
 edition-of-requires : tie.Need-edition-of-requires
 edition-of-requires c κs = tt
 
+word-at-requires-5 : tie.Need-word-at-requires-5
+word-at-requires-5 c κs = tt
+
+word-at-requires-6 : tie.Need-word-at-requires-6
+word-at-requires-6 c κs = tt
+
+window-of-requires : tie.Need-window-of-requires
+window-of-requires c κs = tt
+
 returns : tie.Need-returns
 returns c =
-    let number = c .before in
+    let generations = c .before in
+    let has = generations .before in
+    let edition = has .before in
+    let number = edition .before in
     let mutation = number .before in
     let crossover = mutation .before in
     let probability = crossover .before in
@@ -44,8 +56,9 @@ returns c =
     let directions = divisions .before in
     let objectives = directions .before in
     let start = objectives .before .before in
-    config-same (configAt (start .args .words .now)) _ _ _ _ _ _ _ _ (c .edition-of .ensures ∙ ap editionOf (number .word-at4 .ensures)) (objectives .word-at .ensures) (directions .marks-at .ensures) (divisions .word-at2 .ensures)
+    config-same (configAt (start .args .words .now)) _ _ _ _ _ _ _ _ _ (edition .edition-of .ensures ∙ ap editionOf (number .word-at4 .ensures)) (objectives .word-at .ensures) (directions .marks-at .ensures) (divisions .word-at2 .ensures)
     (size .word-at3 .ensures) (probability .real-at .ensures) (crossover .real-at2 .ensures) (mutation .real-at3 .ensures)
+    (c .window-of .ensures ∙ ap₂ windowOf (has .word-at5 .ensures) (generations .word-at6 .ensures))
 
 pub config-at-spec : {M : Type 1} → statement M
 config-at-spec =
@@ -60,4 +73,7 @@ config-at-spec =
     real-at-requires-3
     word-at-requires-4
     edition-of-requires
+    word-at-requires-5
+    word-at-requires-6
+    window-of-requires
     returns)
