@@ -238,7 +238,7 @@ pub record Stands (w : ℕ) (pools : List Request) (st : State) : Type 0 where
 -- an opening that is ready answers the session that is opened
 ready : (o : Option ℕ) (s : Session) (r : Opened) → r ≡ openBy o s → r .outcome ≡ opening.Ready → r .session ≡ s
 ready none s r e f = ap (λ (x : Opened). x .session) e
-ready (some n) s r e f = absurd (Option·some-ne-none n (sym (ap openingRefusedBy (sym (ap (λ (x : Opened). x .outcome) e) ∙ f))))
+ready (some n) s r e f = absurd (Option·some-ne-none n (ap openingRefusedBy (sym (ap (λ (x : Opened). x .outcome) e) ∙ f)))
 
 pub stands : {w : ℕ} {pools : List Request} {st : State} → Run w pools st → Stands w pools st
 unfolding openOf

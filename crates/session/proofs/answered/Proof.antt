@@ -4,7 +4,7 @@ use mathlib.Core.Bool.{false, not}
 use native.Mathlib.Nat.{le-of-lt}
 use Rattle.list_laws.proofs.Bools.{and-not, and-fails}
 use Rattle.model.specs.declared.Phase.{Phase}
-use Rattle.model.specs.Session.{State, state, pastDiscovery}
+use Rattle.model.specs.Session.{State, state, given, pastDiscovery}
 use Rattle.model.specs.Refusal.{badHistory}
 use Rattle.session_laws.proofs.Request.{refused-7}
 use Rattle.session_laws.proofs.Window.{window-few, objectives-few}
@@ -66,8 +66,10 @@ entry-2 c = entry (other c .before)
 
 long-enough-requires : tie.Need-long-enough-requires
 long-enough-requires c κs =
-    let g = c .before .before .before .before .before .before .pre .config in
-    (g .atMost, objectives-few _ g, le-of-lt (window-few _ (g .window)))
+    let s = c .before .before .before .before .before .before in
+    let config = s .args .session .config in
+    let g = s .pre .config in
+    (g .atMost, objectives-few config g, le-of-lt (window-few (given (config .window)) (g .window)))
 
 discovers-requires : tie.Need-discovers-requires
 discovers-requires c κs = tt
