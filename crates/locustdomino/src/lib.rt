@@ -126,6 +126,8 @@ pub extern "C" fn locustdomino_open(
         crossover_prob,
         crossover_eta,
         mutation_eta,
+        has_window,
+        window,
         session,
     )
 }
