@@ -13,7 +13,7 @@ use Rattle.model.specs.declared.ParamValue.{ParamValue}
 use Rattle.model.specs.declared.Rule.the-variants as rule
 use Rattle.model.specs.Edition.{ranksByRows, usesPlane, passesOver}
 use Rattle.model.specs.Lists.{In, listBelow, allIn}
-use Rattle.model.specs.Real.{_⊖_, _⊘_, above}
+use Rattle.model.specs.Real.{bits, infinity, _⊖_, _⊘_, above}
 use Rattle.model.specs.Draw.{Drawn}
 use Rattle.model.specs.Plan.{Plan}
 use Rattle.model.specs.Row.{minimised, rowOf, dominates, feasible, violation, byFeasibility, constrainedDominates, rowBeats, beats}
@@ -22,6 +22,7 @@ use Rattle.model.specs.Hyperplane.{interceptsOf}
 use Rattle.model.specs.Association.{Request, objectives, lineCount, valueOf, dominance, feasiblePlan, feasibleOnly, shapes, shapers, leastFrom, greatest, idealOf, interceptFrom, oldInterceptOf, shaperValue, planeInterceptOf, interceptOf, normalised, coordinate, distanceTo, association, lineOf}
 use Rattle.model.specs.Kept.{exceedsSize, wholeFronts, before, isSplit, splitFront, picks, pickRules, filled, filledRules, noLine, lineMark, markOf, Selected, selectedSplit, bySplit, selected}
 use Rattle.model.specs.Setting.{extract, sortByParam, parentIn, parentsOf, rankOf, offspringOf, bredOf, Operators, Generation, generationOf, generation}
+use Rattle.model.specs.Window.{ownPart, ownWords}
 use Rattle.list_laws.proofs.Bools.{by-bool, and-both}
 use Rattle.list_laws.proofs.Best.{among-same}
 use Rattle.list_laws.proofs.Built.{listBelow-same}
@@ -168,6 +169,20 @@ module _ (r : Request) (plans : ℕ → Plan) (passes : passesOver (r .edition) 
       ap (leastFrom (getD (r .ideal) j nan) (λ p. valueOf s p j)) shapers-same
       ∙ among-same lt (getD (r .ideal) j nan) (λ p. valueOf s p j) (λ p. valueOf r p j) (shapers r) (shaper-value j)
 
+  -- this generation's own part, which a window remembers (M-109)
+  own-same : (j : ℕ) → ownPart s j ≡ ownPart r j
+  unfolding ownPart
+  own-same j =
+      ap (leastFrom infinity (λ p. valueOf s p j)) shapers-same
+      ∙ among-same lt infinity (λ p. valueOf s p j) (λ p. valueOf r p j) (shapers r) (shaper-value j)
+
+  words-same : ownWords r ≡ ownWords s
+  unfolding ownWords
+  words-same = listBelow-same _ _ (objectives r) (λ j h. ap bits (sym (own-same j)))
+
+  ideals-same : listBelow (idealOf r) (objectives r) ≡ listBelow (idealOf s) (objectives s)
+  ideals-same = listBelow-same (idealOf r) (idealOf s) (objectives r) (λ j h. sym (ideal-same j))
+
   old-same : (j : ℕ) → oldInterceptOf s j ≡ oldInterceptOf r j
   unfolding oldInterceptOf
   old-same j = ap₂ (λ g i. interceptFrom (g ⊖ i))
@@ -259,7 +274,7 @@ module _ (r : Request) (plans : ℕ → Plan) (passes : passesOver (r .edition) 
       ∙ ap₂ (λ m k. handed (before s) (filled s) m k lr ir) rules-same (sym (fronts.frontList-same (dominance s) (dominance r) (r .count) dominance-same))
       ∙ ap₂ (λ l i. handed (before s) (filled s) (filledRules s) (frontList (dominance s) (r .count)) l i)
       (listBelow-same (lineMark r) (lineMark s) (r .count) (λ p h. sym (mark-same p h)))
-      (listBelow-same (idealOf r) (idealOf s) (objectives r) (λ j h. sym (ideal-same j)))
+      ideals-same
 
   plans-same : selected r ≡ selected s
   unfolding selected
@@ -321,6 +336,17 @@ module _ (r s : Request) (h : HopelessRows r s) where
   hopeless accepted =
       plans-same r (s .plans) (ap passesOver (h .edition)) (h .constraints) (h .rows) (h .split) (h .feasible) (accepted-lines r accepted)
       ∙ ap selected is-with
+
+  -- THEOREM: and both pools have the same own part and the same ideal with it
+  pub hopeless-own : Accepted r → ownWords r ≡ ownWords s
+  hopeless-own accepted =
+      words-same r (s .plans) (ap passesOver (h .edition)) (h .constraints) (h .rows) (h .split) (h .feasible) (accepted-lines r accepted)
+      ∙ ap ownWords is-with
+
+  pub hopeless-ideal : Accepted r → listBelow (idealOf r) (objectives r) ≡ listBelow (idealOf s) (objectives s)
+  hopeless-ideal accepted =
+      ideals-same r (s .plans) (ap passesOver (h .edition)) (h .constraints) (h .rows) (h .split) (h .feasible) (accepted-lines r accepted)
+      ∙ ap (λ (t : Request). listBelow (idealOf t) (objectives t)) is-with
 
   -- THEOREM: so does a generation step whose pools have the same settings breed the same
   pub hopeless-generation : Accepted r → ((p : ℕ) → p < r .count → s .plans p .settings ≡ r .plans p .settings) → (o : Operators) → generation o r ≡ generation o s

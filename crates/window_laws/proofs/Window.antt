@@ -74,6 +74,18 @@ module _ (w : ℕ) (pools : List Request) (st x : State) (k : Kept w pools st) (
 
 -- ---- a call that breeds
 
+-- what is remembered afterwards stands where it is looked for
+pub memory-bred : (st : State) (history : List ℕ) → SessionOk st → Long st → memoryIn (breed st history .session) (breed st history .pool) ≡ memoryAfter (st .session) (st .pool) (requestOf st history)
+unfolding breed
+memory-bred st history ok long =
+    let s = st .session in
+    let r = requestOf st history in
+    let same = request-objectives st history ok in
+    let bred = bredFrom st history in
+    let words = keptWords bred (generation (operatorsOf s) r .selection .kept) (waitingOf (s .config .edition) (s .config .«population_size»)) in
+    memory-stands s (st .pool) r same (over words (over bred (st .pool)))
+    (omega (arith, long .pool, after-fits s (st .pool) r same, over-long bred (st .pool), over-long words (over bred (st .pool))))
+
 module _ (w : ℕ) (pools : List Request) (st : State) (history : List ℕ) (k : Kept w pools st) (ok : SessionOk st) (long : Long st) (pool : badPool (requestOf st history) ≡ false) where
   abbrev s : Session
   s = st .session
@@ -153,17 +165,12 @@ module _ (w : ℕ) (pools : List Request) (st : State) (history : List ℕ) (k :
   pub kept-bred : Kept w (pools ++ (r ∷ [])) (breed st history)
   unfolding breed
   kept-bred =
-      let g = generation (operatorsOf s) r in
-      let bred = bredFrom st history in
-      let words = keptWords bred (g .selection .kept) (waitingOf (s .config .edition) (s .config .«population_size»)) in
       record {
         window = k .window;
         fine = fine-snoc m pools r (k .fine) fine-now;
         count = count-left;
-        memory = memory-stands s (st .pool) r same (over words (over bred (st .pool)))
-            (omega (arith, long .pool, after-fits s (st .pool) r same, over-long bred (st .pool), over-long words (over bred (st .pool))))
-            ∙ memory-left;
-        ideal = ideal-left (g .selection);
+        memory = memory-bred st history ok long ∙ memory-left;
+        ideal = ideal-left (generation (operatorsOf s) r .selection);
       }
 
 -- ---- a call
