@@ -2,7 +2,7 @@
 -- definition's, and so is what is remembered.
 use Prim.Native.Nat.{ℕ, _+_, _-_, _*_, _≤_, _<_}
 use mathlib.Core.Path.{_≡_, refl, sym, ap, _∙_}
-use mathlib.Core.Bool.{Bool, true, false, not, _||_, or-true}
+use mathlib.Core.Bool.{Bool, true, false, true≢false, cond, not, _||_}
 use mathlib.Core.List.{List, [], _++_}
 use mathlib.Core.Option.{Option, none, some}
 use native.Mathlib.Nat.{zero-mul}
@@ -15,23 +15,26 @@ use Rattle.list_laws.proofs.Bools.{by-bool, or-right}
 use Rattle.list_laws.proofs.Built.{listBelow-length, listBelow-at, listBelow-same, over-at, over-below, over-drop}
 use Rattle.list_laws.proofs.Checks.{good-ideal-length}
 use Rattle.list_laws.proofs.Kept.{keepBelow-same}
+use Rattle.list_laws.proofs.Members.{getD-in}
 use Rattle.list_laws.proofs.Runs.{over-past}
-use Rattle.list_laws.proofs.Tests.{anyBelow-nowhere}
+use Rattle.list_laws.proofs.Tests.{anyBelow-at, anyBelow-nowhere}
 use Rattle.model.specs.declared.OptionUsize.{OptionUsize}
 use Rattle.model.specs.declared.OptionUsize.the-variants as optUsize
 use Rattle.model.specs.declared.Session.{Session}
 use Rattle.model.specs.Lists.{anyBelow, listBelow, over}
 use Rattle.model.specs.Real.{bits, infinity}
 use Rattle.model.specs.Plan.{planAt, planCount, maxObjectives}
-use Rattle.model.specs.Association.{Request, objectives, lineCount, lineOf, valueOf, shapers, leastFrom, idealOf}
-use Rattle.model.specs.Kept.{Selected, isSplit, bySplit, selected, selectedSplit, selectedWhole, noLine}
+use Rattle.model.specs.Association.{Request, objectives, lineCount, lineOf, valueOf, feasibleOnly, shapes, shapers, leastFrom, idealOf}
+use Rattle.model.specs.Kept.{Selected, isSplit, bySplit, selected, selectedSplit, selectedWhole, noLine, lineMark}
 use Rattle.model.specs.Refusal.{maxSize, maxLines, badDivisions, outsideDivisions}
 use Rattle.model.specs.Property.{SessionOk}
 use Rattle.model.specs.Window.{maxWindow, leastRemembered, mostRemembered, ownPart, ownWords, lastOf, idealAfter}
 use Rattle.model.specs.Session.{state, given, memoryAt, memoryIn, startBy}
 use Rattle.niching_laws.proofs.Association.{lineOf-inside}
 use Rattle.demand3_laws.specs.Facts.{Accepted}
+use Rattle.association_laws.proofs.Shapers.{in-shapers}
 use Rattle.demand3_laws.proofs.Accepted.{accepted-lines}
+use Rattle.demand3_laws.proofs.Shapers.{only-split, all-shape, some-shape}
 use Rattle.session_window.specs.Sources.{hasLine, counted, sourcesOf, leastIn}
 use Rattle.session_laws.specs.Refused.{requestFrom}
 use Rattle.session_laws.proofs.Window.{window-few, objectives-few}
@@ -49,27 +52,46 @@ module _ (r : Request) (accepted : Accepted r) where
     abbrev lines : List ℕ
     lines = over (selected r .lines) rest
 
-    -- every plan counts: where a front is split each has a line, and else none has
-    all-count : (p : ℕ) → p < r .count → counted (not (anyBelow (hasLine lines) (r .count))) lines p ≡ true
-    unfolding selected selectedSplit selectedWhole
-    all-count p h = by-bool (isSplit r)
-        (λ e. let at : getD lines p 0 ≡ lineOf r p =
+    -- where a front is split a plan has a line exactly if it shapes the scale
+    has-line : isSplit r ≡ true → (p : ℕ) → p < r .count → hasLine lines p ≡ shapes r p
+    unfolding selected selectedSplit
+    has-line e p h =
+        let at : getD lines p 0 ≡ lineMark r p =
         ap (λ (b : Bool). getD (over (bySplit b r .lines) rest) p 0) e
-        ∙ over-at (listBelow (lineOf r) (r .count)) rest p 0 (omega (arith, h, listBelow-length (lineOf r) (r .count)))
-        ∙ listBelow-at (lineOf r) (r .count) 0 p h in
-        ap (λ (b : Bool). not (anyBelow (hasLine lines) (r .count)) || b)
-        (ap not (ne-eqb (getD lines p 0) noLine (λ n. omega (arith, at, n, lineOf-inside r p (accepted-lines r accepted), few-lines))))
-        ∙ or-true (not (anyBelow (hasLine lines) (r .count))))
-        (λ e. let none-has : anyBelow (hasLine lines) (r .count) ≡ false =
-        anyBelow-nowhere (hasLine lines) (r .count) (λ k g. ap not (eq-eqb (getD lines k 0) noLine
-        (ap (λ (b : Bool). getD (over (bySplit b r .lines) rest) k 0) e
-        ∙ over-at (replicate (r .count) noLine) rest k 0 (omega (arith, g, length-replicate (r .count) noLine)) ∙ getD-replicate (r .count) k noLine 0 g))) in
-        ap (λ (b : Bool). not b || hasLine lines p) none-has)
+        ∙ over-at (listBelow (lineMark r) (r .count)) rest p 0 (omega (arith, h, listBelow-length (lineMark r) (r .count)))
+        ∙ listBelow-at (lineMark r) (r .count) 0 p h in
+        by-bool (shapes r p)
+        (λ g. let there : getD lines p 0 ≡ lineOf r p = at ∙ ap (λ (b : Bool). cond b (lineOf r p) noLine) g in
+        ap not (ne-eqb (getD lines p 0) noLine (λ n. omega (arith, there, n, lineOf-inside r p (accepted-lines r accepted), few-lines))) ∙ sym g)
+        (λ g. ap not (eq-eqb (getD lines p 0) noLine (at ∙ ap (λ (b : Bool). cond b (lineOf r p) noLine) g)) ∙ sym g)
 
-    -- THE LAW: they are those that shape the scale
+    -- and some plan does
+    some-line : isSplit r ≡ true → 0 < r .count → anyBelow (hasLine lines) (r .count) ≡ true
+    some-line e h =
+        let p = getD (shapers r) 0 0 in
+        let k = in-shapers r p (getD-in (shapers r) 0 (some-shape r h)) in
+        anyBelow-at (hasLine lines) (r .count) p (k .0) (has-line e p (k .0) ∙ k .1)
+
+    -- else none has, and every plan shapes it
+    no-line : isSplit r ≡ false → anyBelow (hasLine lines) (r .count) ≡ false
+    unfolding selected selectedWhole
+    no-line e = anyBelow-nowhere (hasLine lines) (r .count) (λ k g. ap not (eq-eqb (getD lines k 0) noLine
+        (ap (λ (b : Bool). getD (over (bySplit b r .lines) rest) k 0) e
+        ∙ over-at (replicate (r .count) noLine) rest k 0 (omega (arith, g, length-replicate (r .count) noLine)) ∙ getD-replicate (r .count) k noLine 0 g)))
+
+    unsplit-shape : isSplit r ≡ false → (p : ℕ) → shapes r p ≡ true
+    unsplit-shape e p = by-bool (feasibleOnly r) (λ f. absurd (true≢false (sym (only-split r f) ∙ e))) (λ f. all-shape r f p)
+
+    -- so those that count are those that shape the scale
+    counts-shape : (p : ℕ) → p < r .count → counted (not (anyBelow (hasLine lines) (r .count))) lines p ≡ shapes r p
+    counts-shape p h = by-bool (isSplit r)
+        (λ e. ap (λ (b : Bool). not b || hasLine lines p) (some-line e (omega (arith, h))) ∙ has-line e p h)
+        (λ e. ap (λ (b : Bool). not b || hasLine lines p) (no-line e) ∙ sym (unsplit-shape e p))
+
+    -- THE LAW
     pub sources-are : sourcesOf lines (r .count) ≡ shapers r
     unfolding shapers
-    sources-are = keepBelow-same _ _ (r .count) all-count
+    sources-are = keepBelow-same _ _ (r .count) counts-shape
 
 -- ---- the least over them
 
