@@ -38,7 +38,8 @@ fn run() -> Result<bool, Refusal> {
     let mut session = Session::open(Edition::Second, &directions, 3, Some(SIZE), None, &Operators::default(), Some(WINDOW))?;
     let (mut history, mut parts, mut generation) = (Vec::<Plan>::new(), Vec::new(), 0);
     let mut held = true;
-    for number in 0..=SIZE as u64 * GENERATIONS {
+    // Plan 0 is of no generation, and the first call of a generation breeds it.
+    for number in 0..=SIZE as u64 * GENERATIONS + 1 {
         // Who waits now is bred from with the generation's plans, if this call breeds.
         let bred: Vec<u64> = session.waiting().iter().chain(session.plans()).copied().collect();
         let setting = session.sample(&dimension, number, &history)?;
