@@ -1,5 +1,5 @@
 //! Asks the static library what the oracle is asked (oracle/README.md) and compares every number of the answers: selections (70, of edition 2 71),
-//! generation steps (87 and 88) and sessions (90 and 91), of the named and the large cases and then of generated inputs. Exit code 1 where anything
+//! generation steps (87 and 88) and sessions (90 and 91, with a window 92 and 93), of the named and the large cases and then of generated inputs. Exit code 1 where anything
 //! differs.
 //!
 //! usage: compare SELECTIONS SESSIONS SEED
@@ -12,7 +12,7 @@ include!("common.rs");
 mod inputs;
 
 use answers::{SELECT, SELECT_SECOND, STEP, STEP_SECOND};
-use session::{SESSION, SESSION_SECOND};
+use session::{SESSION, SESSION_SECOND, SESSION_SECOND_WINDOW, SESSION_WINDOW};
 use words::{Reader, push_reals};
 
 /// The static library's answer, or none where the command is another.
@@ -22,8 +22,8 @@ fn answer(input: &[u64]) -> Result<Option<Vec<u64>>, String> {
     Ok(match command {
         SELECT | SELECT_SECOND => Some(select(&Call::read(command, &mut reader)?)),
         STEP | STEP_SECOND => Some(step(&Call::read(command, &mut reader)?)),
-        SESSION => Some(session(Edition::First, &mut reader)?),
-        SESSION_SECOND => Some(session(Edition::Second, &mut reader)?),
+        SESSION | SESSION_WINDOW => Some(session(Edition::First, command == SESSION_WINDOW, &mut reader)?),
+        SESSION_SECOND | SESSION_SECOND_WINDOW => Some(session(Edition::Second, command == SESSION_SECOND_WINDOW, &mut reader)?),
         _ => None,
     })
 }
@@ -99,8 +99,8 @@ fn called(session: &mut raw::Session, history: &mut Vec<u64>, call: &session::Ca
     last
 }
 
-fn session(edition: Edition, reader: &mut Reader) -> Result<Vec<u64>, String> {
-    let opening = Opening::read(edition, reader)?;
+fn session(edition: Edition, windowed: bool, reader: &mut Reader) -> Result<Vec<u64>, String> {
+    let opening = Opening::read(edition, windowed, reader)?;
     let mut session = match open(&opening, raw::SESSION_WORDS - usize::from(opening.short)) {
         Ok(session) => session,
         Err(code) => return Ok(vec![code]),
@@ -120,6 +120,10 @@ fn session(edition: Edition, reader: &mut Reader) -> Result<Vec<u64>, String> {
                 let waiting = waiting(&session);
                 out.push(waiting.len() as u64);
                 out.extend(waiting);
+            }
+            if opening.window.is_some() {
+                out.push(session.words()[raw::SESSION_REMEMBERED]);
+                out.extend(session.remembered());
             }
         }
     }
@@ -181,7 +185,7 @@ fn side_by_side(name: &str, lines: impl IntoIterator<Item = Vec<u64>>) -> Result
     for line in lines {
         let mut reader = Reader::new(&line);
         reader.number()?;
-        let opening = Opening::read(Edition::Second, &mut reader)?;
+        let opening = Opening::read(Edition::Second, false, &mut reader)?;
         let theirs = session::Session::open(&opening);
         let ours = open(&opening, raw::SESSION_WORDS - usize::from(opening.short));
         asked += 1;
@@ -240,6 +244,7 @@ fn main() -> Result<(), String> {
         compare("named selections, edition 2", inputs::cases("kept_second")?)?,
         compare("named steps, edition 2", inputs::cases("breeding_second")?)?,
         compare("named sessions, edition 2", inputs::cases("session_second")?)?,
+        compare("named sessions with a window", inputs::cases("session_window")?)?,
         compare("large, of both editions", inputs::cases("large")?)?,
         compare("generated selections", inputs::generated(seed, selections, "kept")?)?,
         compare("generated steps", inputs::generated(seed, sessions, "breeding")?)?,
@@ -248,6 +253,7 @@ fn main() -> Result<(), String> {
         compare("generated steps, edition 2", inputs::generated(seed, sessions, "breeding_second")?)?,
         compare("generated sessions, edition 2", inputs::generated(seed, sessions, "session_second")?)?,
         side_by_side("the same, call by call", inputs::generated(seed, sessions, "session_second")?)?,
+        compare("generated sessions with a window", inputs::generated(seed, sessions, "session_window")?)?,
         compare("pools of 1,025 to 2,048 plans", wide(seed, sessions / 20))?,
     ];
     let [asked, wrong] = rows.iter().fold([0, 0], |[a, w], row| [a + row[0], w + row[1]]);

@@ -111,6 +111,10 @@ pub fn shapers(population: &[&MultiObjectiveTrial], split_front: &[usize]) -> Sh
 }
 
 impl Shapers {
+    pub fn places(&self) -> Vec<usize> {
+        self.places.clone().unwrap_or_else(|| (0..self.plans).collect())
+    }
+
     /// Their rows, of those of the pool.
     pub fn rows<'a>(&self, rows: &'a [Vec<f64>]) -> Cow<'a, [Vec<f64>]> {
         match &self.places {

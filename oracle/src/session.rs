@@ -4,9 +4,10 @@
 
 use crate::answers::push_settings;
 use crate::distribution::Distribution;
-use crate::edition::Edition;
+use crate::edition::{self, Edition};
 use crate::multi_objective::{MultiObjectiveSampler, MultiObjectiveTrial};
 use crate::param::ParamValue;
+use crate::pareto;
 use crate::plans::{self, Plan};
 use crate::refusals;
 use crate::sampler::genetic::{self, EvolutionaryState, Phase};
@@ -324,10 +325,33 @@ impl Session {
         }
         let mut state = self.sampler.state.lock();
         let pool = self.bred_from(&state.evo).expect("a call that breeds");
-        let own = least(unknown, &pool, &self.directions);
-        let ideal = least(start.clone(), &pool, &self.directions);
+        let sources = self.sources(&pool, state.evo.population_size);
+        let own = least(unknown, &sources, &self.directions);
+        let ideal = least(start.clone(), &sources, &self.directions);
         state.ideal_point = start;
         Some((own, ideal))
+    }
+
+    /// The plans that a pool's own part comes from: those that shape the scale
+    /// where a front is split, and all where none is (M-112).
+    fn sources<'a>(&self, pool: &[&'a Plan], size: usize) -> Vec<&'a Plan> {
+        let rows: Vec<Vec<f64>> = pool.iter().map(|p| p.values.clone()).collect();
+        let constraints: Vec<Vec<f64>> = pool.iter().map(|p| p.constraints.clone()).collect();
+        let fronts = pareto::fast_non_dominated_sort_constrained(&rows, &self.directions, &constraints);
+        let mut before = 0;
+        for front in &fronts {
+            if before + front.len() > size {
+                if before == size {
+                    break;
+                }
+                let trials: Vec<MultiObjectiveTrial> = pool.iter().map(|plan| plan.trial()).collect();
+                let trials: Vec<&MultiObjectiveTrial> = trials.iter().collect();
+                let shapers = self.edition.run(|| edition::shapers(&trials, front));
+                return shapers.places().iter().map(|&place| pool[place]).collect();
+            }
+            before += front.len();
+        }
+        pool.to_vec()
     }
 
     /// A generation is bred: where it split a front, the Rust has moved its

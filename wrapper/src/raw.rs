@@ -234,6 +234,12 @@ impl Session {
         let count = self.words[SESSION_WAITING] as usize;
         &self.pool.as_chunks().0[..count]
     }
+
+    /// With a window, the least values of the generations remembered, the oldest first, an entry an objective.
+    pub fn remembered(&self) -> &[u64] {
+        let at = pool_words(self.words[SESSION_EDITION], self.words[SESSION_SIZE] as usize);
+        &self.pool[at..][..(self.words[SESSION_REMEMBERED] * self.words[SESSION_OBJECTIVES]) as usize]
+    }
 }
 
 /// The words of the most plans that a session of an edition and a size breeds from.
