@@ -99,17 +99,25 @@ fn room_of(config: Config) -> usize {
     (editions::waiting_of(edition, size) + size) * PLAN_WORDS + window_words(config)
 }
 
-// The words that a session's window remembers at most.
-fn window_words(config: Config) -> usize
-    ensures { λ r. ⌜ r ≤ 504 ⌝ }
+// The words of n generations of m objectives; none where no session remembers so many.
+fn words_of(n: usize, m: usize) -> usize
+    ensures { λ r. ⌜ r ≤ 512 ⌝ }
 {
-    let window = config.window;
-    let most = session_window::most_remembered(window);
-    let m = config.n_obj;
-    if MAX_WINDOW <= most || MAX_OBJECTIVES < m {
+    if MAX_WINDOW < n {
         return 0;
     }
-    most * m
+    if MAX_OBJECTIVES < m {
+        return 0;
+    }
+    n * m
+}
+
+// The words that a session's window remembers at most.
+fn window_words(config: Config) -> usize
+    ensures { λ r. ⌜ r ≤ 512 ⌝ }
+{
+    let window = config.window;
+    words_of(session_window::most_remembered(window), config.n_obj)
 }
 
 // One word fewer, and not more than there are here.
@@ -293,21 +301,31 @@ fn put_waiting(out: &mut Words, at: usize, pool: &Pool, n: usize) -> usize {
     place
 }
 
-// How many generations are remembered, and their words.
-fn put_remembered(out: &mut Words, at: usize, pool: &Pool, config: Config, n: usize) -> usize {
-    let m = config.n_obj;
-    let mut place = replay::put(out, at, n as u64);
-    if MAX_SIZE < config.population_size || MAX_WINDOW < n || MAX_OBJECTIVES < m {
-        return place;
-    }
-    let from = session_window::memory_at(config);
-    let end = from + n * m;
-    let mut i = from;
-    while i < end {
-        place = replay::put(out, place, words::word_at(pool, i));
+// So many words of the pool, from a place on.
+fn put_run(out: &mut Words, at: usize, pool: &Pool, from: usize, count: usize) -> usize
+    requires { ⌜ (from ≤ 102400) × (count ≤ 512) ⌝ }
+{
+    let mut place = at;
+    let mut i: usize = 0;
+    while i < count {
+        place = replay::put(out, place, words::word_at(pool, from + i));
         i += 1;
     }
     place
+}
+
+// How many generations are remembered, and their words.
+fn put_remembered(out: &mut Words, at: usize, pool: &Pool, config: Config, n: usize) -> usize {
+    let place = replay::put(out, at, n as u64);
+    let size = config.population_size;
+    if MAX_SIZE < size {
+        return place;
+    }
+    let from = session_window::memory_at(config);
+    if POOL_WORDS < from {
+        return place;
+    }
+    put_run(out, place, pool, from, words_of(n, config.n_obj))
 }
 
 // What discovery has found: whether it is over, the first plan, and the dimensions.
@@ -714,6 +732,17 @@ fn windowed(command: u64) -> bool {
     }
 }
 
+// Where the calls of a session of m objectives stand.
+fn calls_at(m: usize, windowed: bool) -> usize
+    requires { ⌜ m ≤ 16 ⌝ }
+    ensures { λ r. ⌜ r ≤ 29 ⌝ }
+{
+    if windowed {
+        return m + 13;
+    }
+    m + 11
+}
+
 // 90 to 93
 fn session(input: &Words, n: usize, out: &mut Words) -> usize {
     let m = replay::word(input, 2) as usize;
@@ -726,8 +755,7 @@ fn session(input: &Words, n: usize, out: &mut Words) -> usize {
     let windowed = windowed(command);
     let given = given_at(input, m + 7, edition_of(command), windowed);
     let opened = opened_by(input, m + 3, &marks, m, given);
-    let behind = if windowed { m + 13 } else { m + 11 };
-    follow(input, n, behind, opened, out)
+    follow(input, n, calls_at(m, windowed), opened, out)
 }
 
 // Divisions, lines and size of a session that is opened, or the refusal.

@@ -21,9 +21,6 @@ passed-over-requires c κs = tt
 returns : tie.Need-returns
 returns c = tt
 
-add-word : tie.Need-add-word
-add-word c = search needs
-
 word-requires : tie.Need-word-requires
 word-requires c κs = tt
 
@@ -49,7 +46,6 @@ follow-spec =
     enum-told
     passed-over-requires
     returns
-    add-word
     word-requires
     add-calls
     calls-requires
