@@ -44,6 +44,8 @@ enum {
     LOCUSTDOMINO_BAD_PARENT = 9,     /* a plan to be bred from has settings that do not fit its dimensions */
     LOCUSTDOMINO_NO_ROOM = 10,       /* a lent slice is shorter than the call's full answer */
     LOCUSTDOMINO_FULL = 11,          /* a new plan number, and the generation has 2,048 plans */
+    LOCUSTDOMINO_BAD_STEP = 12,      /* a Float's step is not finite, not above 0, or (high - low) / step is above 2^53; looked at right
+                                        after 6 */
     LOCUSTDOMINO_BAD_LOAD = 13,      /* a trial load's counts would meet 2, 3, 4, 7 or 8 in locustdomino_choose, or its file would be
                                         over 65,536 bytes */
     LOCUSTDOMINO_BAD_WINDOW = 14,    /* a window is given and is not 1 to LOCUSTDOMINO_MAX_WINDOW generations: looked at right after 5 */
@@ -95,8 +97,11 @@ enum {
 #define LOCUSTDOMINO_INT 1
 #define LOCUSTDOMINO_CATEGORICAL 2
 
-/* A dimension is six words: kind, low (a Categorical: its number of choices), high, log scale, whether there is a step, step.
- * A mark of 0 is no and any other yes. A kind other than 0 and 1 is Categorical. */
+/* A dimension is six words: kind, low (a Categorical: its number of choices), high, log scale, whether there is a step, step (a
+ * Float's as its bits, an Int's as a setting's). A mark of 0 is no and any other yes. A kind other than 0 and 1 is Categorical.
+ * A Float with a step is drawn as low + k * step, k from 0 to the floor of (high - low) / step, held within low..high: a valve of 0 to 2
+ * turns in eighths has the step 0.125. A bred child's is moved to its nearest such value in edition 2; edition 1 leaves it where
+ * crossover and mutation put it. A plan's setting may lie off the step. */
 #define LOCUSTDOMINO_DIMENSION_WORDS 6
 
 /* "No line": where a selection splits no front, and in edition 2 of an infeasible plan where the split front is feasible. */
@@ -151,7 +156,7 @@ uint64_t locustdomino_select(
 /* A generation step: selects, breeds from what is kept and writes the settings of `size` new plans to `offspring`, plan after
  * plan, a word a setting, of the kind of its dimension. `dimensions` has six words a dimension; words after the last whole one are
  * not looked at. `n_kept` gets the length of the kept list: the size; or 0 for a pool of one plan, whose step selects nothing,
- * leaves the ideal alone and writes neither kept, rules, fronts nor lines. Refusals: 2 to 10. */
+ * leaves the ideal alone and writes neither kept, rules, fronts nor lines. Refusals: 2 to 10, and 12 right after 6. */
 uint64_t locustdomino_generate_offspring(
     uint64_t edition,
     const uint64_t *pool, size_t pool_words,
@@ -199,7 +204,7 @@ uint64_t locustdomino_open(
  * left them, with the same four slices as that call left them (after opening the four may hold anything). Words or slices that
  * were changed may have any effect. A session slice of fewer than LOCUSTDOMINO_SESSION_WORDS words meets 7 where the history is
  * above 4,096, and else 10: nothing else can be told without the session.
- * Refusals: 6 to 11. */
+ * Refusals: 6 to 12, 12 right after 6. */
 uint64_t locustdomino_sample(
     uint64_t *session, size_t session_words,
     const uint64_t *dimension, size_t dimension_words,

@@ -36,23 +36,29 @@ RECORDS = {
     "breeding_second": 6,
     "session_second": 8,
     "session_window": 10,
+    "breeding_steps": 24,
+    "session_steps": 4,
     "long": 0,
 }
 
-# The record that the replaying programs count a record of edition 2, or of sessions with a window, under.
+# The record that the replaying programs count a record of edition 2, of sessions with a window or of Float steps under.
 COUNTED = {
     "association_second": "association",
     "kept_second": "kept",
     "breeding_second": "breeding",
     "session_second": "session",
     "session_window": "session",
+    "breeding_steps": "breeding",
+    "session_steps": "session",
 }
 
 # The programs that replay, and the records whose stored files each reads, joined.
 FILES = ["choose", "load", "editions", "convert", "session_window"]
+# Those of Float steps, for which the first program has no room.
+STEPS = ["breeding_steps", "session_steps"]
 REPLAYS = {
-    "replay_main": [record for record in RECORDS if record not in FILES + ["long"]],
-    "replay_files_main": FILES,
+    "replay_main": [record for record in RECORDS if record not in FILES + STEPS + ["long"]],
+    "replay_files_main": FILES + STEPS,
     "replay_long_main": ["long"],
 }
 

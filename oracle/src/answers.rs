@@ -378,8 +378,8 @@ fn fit_divisions(r: &mut Reader) -> Result<(usize, usize), String> {
 
 fn fit_dimension(r: &mut Reader) -> Result<Distribution, String> {
     let dimension = plans::read_dimension(r)?;
-    if refusals::bad_dimension(&dimension) {
-        return Err("a dimension that is turned down with 6".to_string());
+    if refusals::bad_dimension(&dimension) || refusals::bad_step(&dimension) {
+        return Err("a dimension that is turned down with 6 or 12".to_string());
     }
     Ok(dimension)
 }
@@ -509,6 +509,7 @@ impl Call {
             conditions.extend([
                 (5, refusals::bad_operators(&self.operators)),
                 (6, dimensions.len() > refusals::MAX_DIMENSIONS || bad_dimension),
+                (12, self.dimensions.iter().any(refusals::bad_step)),
                 (9, self.pool.iter().any(bad_parent)),
             ]);
         }

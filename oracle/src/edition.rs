@@ -5,9 +5,12 @@
 use std::borrow::Cow;
 use std::cell::Cell;
 
+use crate::distribution::{Distribution, FloatDistribution};
 use crate::multi_objective::MultiObjectiveTrial;
+use crate::param::ParamValue;
 use crate::pareto;
 use crate::plane;
+use crate::sampler::genetic::{Candidate, DimensionInfo};
 use crate::sampler::nsga3;
 use crate::types::Direction;
 
@@ -136,4 +139,32 @@ impl Shapers {
         }
         all
     }
+}
+
+/// The offspring of the Rust's generation step: "In edition 2 every Float of a
+/// dimension with a step in a bred child is moved once, after mutation", while
+/// edition 1 "leaves it off the step, like the Rust" (M-103).
+pub fn on_steps(mut offspring: Vec<Candidate>, dimensions: &[DimensionInfo]) -> Vec<Candidate> {
+    if RUN_IN.get() == Edition::Second {
+        for child in &mut offspring {
+            for (setting, info) in child.params.iter_mut().zip(dimensions) {
+                if let (ParamValue::Float(v), Distribution::Float(d)) = (setting, &info.distribution)
+                {
+                    *v = on_step(d, *v);
+                }
+            }
+        }
+    }
+    offspring
+}
+
+/// "k = round((v - low) / step), held within the range of k", 0 to
+/// floor((high - low) / step), and its value, "here also clamped".
+fn on_step(d: &FloatDistribution, v: f64) -> f64 {
+    let Some(step) = d.step else {
+        return v;
+    };
+    let last = ((d.high - d.low) / step).floor() as i64;
+    let k = (((v - d.low) / step).round() as i64).clamp(0, last);
+    (d.low + k as f64 * step).clamp(d.low, d.high)
 }

@@ -111,7 +111,8 @@ pub fn write_setting(line: &mut Vec<u64>, value: &ParamValue) {
 
 /// Kind 0 Float: low, high. 1 Int: low, high, step (0 for none). 2
 /// Categorical: choices. 3 and 4 are Float and Int with all their fields
-/// (log mark, step mark, step), for what refusal 6 turns down.
+/// (log mark, step mark, step), for a Float with a step and for what refusals 6
+/// and 12 turn down.
 pub fn read_dimension(reader: &mut Reader) -> Result<Distribution, String> {
     Ok(match reader.number()? {
         0 => float(reader.real()?, reader.real()?),
@@ -183,6 +184,16 @@ pub fn float(low: f64, high: f64) -> Distribution {
         high,
         log_scale: false,
         step: None,
+    })
+}
+
+/// A Float dimension with a step (M-103).
+pub fn stepped(low: f64, high: f64, step: f64) -> Distribution {
+    Distribution::Float(FloatDistribution {
+        low,
+        high,
+        log_scale: false,
+        step: Some(step),
     })
 }
 

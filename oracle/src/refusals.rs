@@ -1,5 +1,5 @@
-//! Document 01's refusals, one question each. A call asks all of them over
-//! its whole input and answers the lowest number that applies.
+//! The refusals of documents 01 and 02, one question each. A call asks all of
+//! them over its whole input and answers the first number that applies.
 
 use crate::distribution::Distribution;
 use crate::plans::Plan;
@@ -12,13 +12,21 @@ use crate::words::{to_int, to_real, two};
 pub const MAX_SETTINGS: usize = 24;
 pub const MAX_DIMENSIONS: usize = MAX_SETTINGS;
 
-/// The lowest number whose condition holds.
+/// Where a number stands in the order: 12 is looked at right after 6 (M-103).
+fn place(number: u64) -> u64 {
+    match number {
+        12 => 2 * 6 + 1,
+        _ => 2 * number,
+    }
+}
+
+/// The first number in the order whose condition holds.
 pub fn lowest(conditions: &[(u64, bool)]) -> Option<u64> {
     conditions
         .iter()
         .filter(|(_, holds)| *holds)
         .map(|(number, _)| *number)
-        .min()
+        .min_by_key(|&number| place(number))
 }
 
 /// The first that holds, in the order given.
@@ -100,7 +108,7 @@ pub fn bad_dimension(dimension: &Distribution) -> bool {
     match dimension {
         Distribution::Float(d) => {
             let good = d.low.abs() <= two(53) && d.high.abs() <= two(53) && d.low <= d.high;
-            !good || d.log_scale || d.step.is_some()
+            !good || d.log_scale
         }
         Distribution::Int(d) => {
             let reach = 1_i64 << 53;
@@ -110,6 +118,17 @@ pub fn bad_dimension(dimension: &Distribution) -> bool {
                 || d.step.is_some_and(|step| step < 1)
         }
         Distribution::Categorical(d) => !(1..=65536).contains(&d.n_choices),
+    }
+}
+
+/// 12, for one dimension: "the step is not finite, not above 0, or
+/// (high - low) / step exceeds 2^53" (M-103).
+pub fn bad_step(dimension: &Distribution) -> bool {
+    match dimension {
+        Distribution::Float(d) => d.step.is_some_and(|step| {
+            !step.is_finite() || !(step > 0.0) || (d.high - d.low) / step > two(53)
+        }),
+        _ => false,
     }
 }
 

@@ -408,6 +408,7 @@ impl Session {
                 adds && (refusals::bad_dimension(distribution)
                     || evo.dimensions.len() >= refusals::MAX_DIMENSIONS),
             ),
+            (12, adds && refusals::bad_step(distribution)),
             (7, self.history.len() > 4096),
             (8, bad_parent(&|p| refusals::bad_row(p, m))),
             (

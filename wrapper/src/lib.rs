@@ -41,7 +41,7 @@ const BOUND: i64 = 1 << 53;
 // ---- refusals
 
 /// Why a call is turned down: the first reason that applies, in this order, but that [`Window`](Refusal::Window) comes right after
-/// [`Operators`](Refusal::Operators). What [`Directions`], [`Dimension`] and [`Plan`] cannot
+/// [`Operators`](Refusal::Operators) and [`Step`](Refusal::Step) right after [`Dimension`](Refusal::Dimension). What [`Directions`], [`Dimension`] and [`Plan`] cannot
 /// hold is turned down when they are made, before any call.
 #[derive(Clone, Copy, Debug, PartialEq, Eq)]
 #[repr(u8)]
@@ -57,6 +57,8 @@ pub enum Refusal {
     Parent = 9,
     Room = 10,
     Full = 11,
+    /// Looked at right after [`Refusal::Dimension`].
+    Step = 12,
     Load = 13,
     Window = 14,
     Bands = 15,
@@ -73,7 +75,7 @@ impl Refusal {
     fn from_code(code: u64) -> Self {
         use Refusal::*;
         let all = [
-            Form, Directions, Size, Divisions, Operators, Dimension, Count, Plan, Parent, Room, Full, Load, Window,
+            Form, Directions, Size, Divisions, Operators, Dimension, Count, Plan, Parent, Room, Full, Step, Load, Window,
             Bands, Litres, SecondForm, NotHeld,
         ];
         let found = all.into_iter().find(|&refusal| refusal as u64 == code);
@@ -109,6 +111,7 @@ impl fmt::Display for Refusal {
             }
             Refusal::Room => "a lent slice is shorter than the call's full answer",
             Refusal::Full => "a new plan number comes while the generation has 2,048 plans and is not bred from",
+            Refusal::Step => "a Float's step is not finite, not above 0, or (high - low) / step exceeds 2^53",
             Refusal::Load => "a trial load of counts that a pool may not have, or a file of it above 65,536 bytes",
             Refusal::Window => "a window given is not 1 to 64 generations",
             Refusal::Bands => "no bands, over 16, upper litres not strictly rising, or a price above 1,000,000",
@@ -243,6 +246,18 @@ impl Dimension {
             return Err(Refusal::Dimension);
         }
         Ok(Dimension([raw::FLOAT, low.to_bits(), high.to_bits(), 0, 0, 0]))
+    }
+
+    /// Of these, low + k * step for k from 0 to the floor of (high - low) / step, held within low..high: what is drawn, and in
+    /// edition 2 what a bred child's setting is moved to. The step is finite and above 0, and (high - low) / step at most 2^53.
+    pub fn float_step(low: f64, high: f64, step: f64) -> Result<Self, Refusal> {
+        let mut d = Dimension::float(low, high)?;
+        if !(step > 0.0 && step.is_finite() && (high - low) / step <= BOUND as f64) {
+            return Err(Refusal::Step);
+        }
+        d.0[4] = 1;
+        d.0[5] = step.to_bits();
+        Ok(d)
     }
 
     /// Whole numbers from low to high, both included and within 2^53 in magnitude.

@@ -412,12 +412,36 @@ fn larger_pools() {
     assert_eq!(bred(Edition::Second).unwrap().plans.len(), 7);
 }
 
+/// Bred valves in eighths of a turn: on the step in edition 2, and not in edition 1.
+#[test]
+fn valves_in_eighths() {
+    let directions = Directions::new(&[Direction::Minimize, Direction::Minimize]).unwrap();
+    let valve = [Dimension::float_step(0.0, 2.0, 0.125).unwrap()];
+    let plan = |n: u64, at: f64| Plan::new(n, &[n as f64, 9.0 - n as f64], &[], &[(0, Setting::Float(at))]).unwrap();
+    let pool: Vec<Plan> = (0..6).map(|n| plan(n, 0.3 * n as f64)).collect();
+    let off_the_step = |edition: Edition| {
+        let mut ideal = Ideal::unknown(&directions);
+        let operators = Operators::default();
+        let bred =
+            generate_offspring(edition, &pool, &directions, 3, 6, &mut Rng::with_seed(5), &valve, &operators, &mut ideal);
+        let off = |plan: &&Vec<Setting>| !matches!(plan[..], [Setting::Float(x)] if x * 8.0 == (x * 8.0).round());
+        bred.unwrap().plans.iter().filter(off).count()
+    };
+    assert_ne!(off_the_step(Edition::First), 0);
+    assert_eq!(off_the_step(Edition::Second), 0);
+}
+
 #[test]
 fn limits() {
     assert_eq!(Directions::new(&[]), Err(Refusal::Directions));
     assert_eq!(Dimension::float(1.0, 0.0), Err(Refusal::Dimension));
     assert_eq!(Dimension::float(f64::NAN, 0.0), Err(Refusal::Dimension));
     assert_eq!(Dimension::stepped(0, 4, 0), Err(Refusal::Dimension));
+    assert_eq!(Dimension::float_step(1.0, 0.0, 0.0), Err(Refusal::Dimension));
+    for step in [0.0, -0.125, f64::NAN, f64::INFINITY, f64::MIN_POSITIVE] {
+        assert_eq!(Dimension::float_step(0.0, 1.0, step), Err(Refusal::Step));
+    }
+    assert!(Dimension::float_step(0.0, 1.0, 1.0 / (1_u64 << 53) as f64).is_ok());
     assert_eq!(Dimension::categorical(0), Err(Refusal::Dimension));
     assert_eq!(Plan::new(0, &[0.0; 9], &[], &[]), Err(Refusal::Plan));
     assert_eq!(Refusal::Full.number(), 11);

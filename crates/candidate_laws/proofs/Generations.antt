@@ -11,9 +11,10 @@ use Rattle.list_laws.proofs.Bools.{by-bool}
 use Rattle.list_laws.proofs.Tests.{allBelow-each}
 use Rattle.list_laws.proofs.Places.{places-none}
 use Rattle.model.specs.Lists.{allBelow, over}
+use Rattle.model.specs.Edition.{movesToStep}
 use Rattle.model.specs.Association.{Request}
 use Rattle.model.specs.Kept.{selected}
-use Rattle.model.specs.Setting.{parentsOf, Operators, offspringOf, rankOf, bredOf, generationOf, generationOfOne, generation, wordsOf, WordsWithin}
+use Rattle.model.specs.Setting.{parentsOf, Operators, offspringOf, rankOf, bredOf, bornOf, generationOf, generationOfOne, generation, wordsOf, WordsWithin}
 use Rattle.model.specs.Refusal.{badDimensions, breedable, badParents}
 use Rattle.candidate_laws.specs.Bounds.{AllWithin}
 use Rattle.candidate_laws.proofs.Sound.{AllHeld, AllSound, all-within}
@@ -21,6 +22,7 @@ use Rattle.candidate_laws.proofs.Sampled.{sampleCandidates-sound}
 use Rattle.candidate_laws.proofs.Extracted.{parentsOf-sound}
 use Rattle.candidate_laws.proofs.Bred.{offspringOf-sound}
 use Rattle.candidate_laws.proofs.Words.{words-within}
+use Rattle.candidate_laws.proofs.Moved.{moved-sound}
 use Rattle.candidate_laws.proofs.KeptPlans.{kept-length, kept-below}
 
 -- where refusal 9 does not apply, every plan of the pool may be bred from
@@ -47,8 +49,8 @@ module _ (o : Operators) (r : Request) (h : AllHeld (o .dims) (o .dimCount)) (b 
       offspringOf-sound o h b _ (rankOf r (selected r .kept)) (length (selected r .kept)) (omega arith) (kept-sound some (selected r .state)) (suc size) _
 
   generationOf-sound : 0 < r .count → AllSound (o .dims) (o .dimCount) (r .size) (generationOf o r .offspring)
-  unfolding generationOf
-  generationOf-sound some = bred (r .size) refl some
+  unfolding generationOf bornOf
+  generationOf-sound some = moved-sound (o .dims) (o .dimCount) h b (movesToStep (r .edition)) (r .size) _ (bred (r .size) refl some)
 
   generationOfOne-sound : AllSound (o .dims) (o .dimCount) (r .size) (generationOfOne o r .offspring)
   unfolding generationOfOne

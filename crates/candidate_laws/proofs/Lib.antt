@@ -3,6 +3,7 @@ pub mod Sampled
 pub mod Words
 pub mod Extracted
 pub mod Bred
+pub mod Moved
 pub mod KeptPlans
 pub mod Pressure
 pub mod Generations

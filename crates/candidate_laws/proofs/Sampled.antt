@@ -3,28 +3,25 @@ use Prim.Native.Nat.{ℕ}
 use mathlib.Core.Path.{_≡_}
 use mathlib.Core.Bool.{true, false}
 use mathlib.Core.List.{[]}
-use lib.Ieee.{binary64}
-use lib.Ieee.Fits.{add-fits}
 use Rattle.model.specs.declared.Distribution.{Distribution}
 use Rattle.model.specs.declared.Distribution.the-variants as dist
-use Rattle.model.specs.Draw.{f64Range}
 use Rattle.list_laws.proofs.Draws.{places-drawn}
 use Rattle.model.specs.Setting.{noValue, validDimension, sampleRandom, sampleAll, sampleCandidates}
 use Rattle.model.specs.Refusal.{badDimensions}
 use Rattle.settings.proofs.Valid.{each}
-use Rattle.settings.proofs.InBounds.{Held, sampled-in-bounds}
+use Rattle.settings.proofs.InBounds.{Held, float-fits, sampled-in-bounds}
 use Rattle.variation_laws.proofs.Children.{HeldValue, Fit}
 use Rattle.candidate_laws.specs.Bounds.{Within}
 use Rattle.candidate_laws.proofs.Sound.{AllHeld, Sound, sound-within, AllSound}
 
 -- a drawn setting fits its dimension; a drawn double is a double
 pub sampled-fit : (d : Distribution) (s : ℕ) → Held d → validDimension d ≡ true → Fit d (sampleRandom d s .value)
-sampled-fit d s h v = (sampled-in-bounds d s h v, held d)
+sampled-fit d s h v = (sampled-in-bounds d s h v, held d h)
   where
-    held : (d : Distribution) → HeldValue (sampleRandom d s .value)
-    held (dist.Float d) = unfold sampleRandom f64Range in add-fits binary64 _ _
-    held (dist.Int d) = unfold sampleRandom in tt
-    held (dist.Categorical d) = unfold sampleRandom in tt
+    held : (d : Distribution) → Held d → HeldValue (sampleRandom d s .value)
+    held (dist.Float d) h = unfold sampleRandom in float-fits (d .low) (d .high) (d .step) s (h .0) (h .1)
+    held (dist.Int d) h = unfold sampleRandom in tt
+    held (dist.Categorical d) h = unfold sampleRandom in tt
 
 module _ (dims : ℕ → Distribution) (n : ℕ) (h : AllHeld dims n) (b : badDimensions dims n ≡ false) where
   -- a candidate

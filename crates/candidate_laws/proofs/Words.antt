@@ -50,11 +50,11 @@ module _ (dims : ℕ → Distribution) (n count : ℕ) (cs : List (List ParamVal
       let g : i < length cs = omega (arith, length-map cs (map toWord)) in
       ap length (map-at (map toWord) cs i [] [] g) ∙ length-map (getD cs i []) toWord ∙ a .each i (omega arith) .whole
 
-  words-length : length (wordsOf cs) ≡ count * n
+  pub words-length : length (wordsOf cs) ≡ count * n
   unfolding wordsOf
   words-length = flatten-length n (map (map toWord) cs) row-long ∙ ap (λ (k : ℕ). k * n) (length-map cs (map toWord) ∙ a .whole)
 
-  words-at : (i d : ℕ) → i < count → d < n → getD (wordsOf cs) (i * n + d) 0 ≡ toWord (settingOf (getD cs i []) d)
+  pub words-at : (i d : ℕ) → i < count → d < n → getD (wordsOf cs) (i * n + d) 0 ≡ toWord (settingOf (getD cs i []) d)
   unfolding wordsOf
   words-at i d h k =
       let e = a .whole in
@@ -71,7 +71,7 @@ module _ (dims : ℕ → Distribution) (n count : ℕ) (cs : List (List ParamVal
         List·getD-append (wordsOf cs) rest 0 (i * n + d) (omega arith) ∙ words-at i d h k
 
     -- read back
-    read-back : (i d : ℕ) → i < count → d < n → storedAt dims n (wordsOf cs ++ rest) i d ≡ settingOf (getD cs i []) d
+    pub read-back : (i d : ℕ) → i < count → d < n → storedAt dims n (wordsOf cs ++ rest) i d ≡ settingOf (getD cs i []) d
     read-back i d h k =
         ap (ofWord (kindOfDimension (dims d))) (words-front i d h k)
         ∙ word-back (dims d) (settingOf (getD cs i []) d) (a .each i h .each d k)

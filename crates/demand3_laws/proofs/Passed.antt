@@ -15,7 +15,7 @@ use Rattle.model.specs.Plan.{maxObjectives}
 use Rattle.model.specs.Association.{Request, objectives}
 use Rattle.model.specs.Setting.{Operators}
 use Rattle.model.specs.Session.{State, discovers, breeds, isNew, longEnough, requestOf, operatorsOf, maxCome}
-use Rattle.model.specs.Refusal.{Room, maxSize, maxPool, badDirections, badSize, badDivisions, badOperators, badDimensions, badCount, badPool, badParents, noRoom, noStepRoom, badNext, badHistory, selectRefusal, stepRefusal, sampleRefusal}
+use Rattle.model.specs.Refusal.{Room, maxSize, maxPool, badDirections, badSize, badDivisions, badOperators, badBounds, badSteps, badCount, badPool, badParents, noRoom, noStepRoom, badNext, badNextStep, badHistory, selectRefusal, stepRefusal, sampleRefusal}
 use Rattle.list_laws.proofs.Bools.{or-left, or-right, and-left, and-right}
 use Rattle.list_laws.proofs.Checks.{applies-at}
 use Rattle.list_laws.proofs.Limits.{edition-in-pool}
@@ -86,7 +86,8 @@ pub record Passed (o : Operators) (r : Request) (room : Room) (offspring : ℕ) 
   pub size : badSize (r .size) ≡ false
   pub divisions : badDivisions (objectives r) (r .divisions) ≡ false
   pub operators : badOperators (o .probability) (o .crossoverEta) (o .mutationEta) ≡ false
-  pub dimensions : badDimensions (o .dims) (o .dimCount) ≡ false
+  pub bounds : badBounds (o .dims) (o .dimCount) ≡ false
+  pub steps : badSteps (o .dims) (o .dimCount) ≡ false
   pub count : badCount (r .edition) (r .count) ≡ false
   pub pool : badPool r ≡ false
   pub parents : badParents o r ≡ false
@@ -99,17 +100,19 @@ passed o r room offspring e = record {
   size = applies-at _ 1 e;
   divisions = applies-at _ 2 e;
   operators = applies-at _ 3 e;
-  dimensions = applies-at _ 4 e;
-  count = applies-at _ 5 e;
-  pool = applies-at _ 6 e;
-  parents = applies-at _ 7 e;
-  slices = applies-at _ 8 e;
+  bounds = applies-at _ 4 e;
+  steps = applies-at _ 5 e;
+  count = applies-at _ 6 e;
+  pool = applies-at _ 7 e;
+  parents = applies-at _ 8 e;
+  slices = applies-at _ 9 e;
 }
 
 -- ---- a session call
 
 pub record SamplePassed (st : State) (d : Distribution) (plan : ℕ) (history : List ℕ) : Type 0 where
   pub dimension : (discovers st plan && badNext (st .session .progress .«n_dims») d) ≡ false
+  pub step : (discovers st plan && badNextStep d) ≡ false
   pub records : badHistory history ≡ false
   pub pool : (breeds st history && badPool (requestOf st history)) ≡ false
   pub parents : (breeds st history && badParents (operatorsOf (st .session)) (requestOf st history)) ≡ false
@@ -120,9 +123,10 @@ pub sample-passed : (st : State) (d : Distribution) (plan : ℕ) (history : List
 unfolding sampleRefusal
 sample-passed st d plan history e = record {
   dimension = applies-at _ 0 e;
-  records = applies-at _ 1 e;
-  pool = applies-at _ 2 e;
-  parents = applies-at _ 3 e;
-  slices = not-false _ (applies-at _ 4 e);
-  come = applies-at _ 5 e;
+  step = applies-at _ 1 e;
+  records = applies-at _ 2 e;
+  pool = applies-at _ 3 e;
+  parents = applies-at _ 4 e;
+  slices = not-false _ (applies-at _ 5 e);
+  come = applies-at _ 6 e;
 }

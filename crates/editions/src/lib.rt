@@ -1,6 +1,6 @@
 // Where the two editions part (document 02; specs/Edition.antt of `model`). No other function looks at an edition.
 ghost use mathlib.Core.Path.{_≡_};
-ghost use Rattle.model.specs.Edition.{editionNumber, editionOf, mostPlans, waitingOf, ranksByRows, takesRoot, usesPlane, passesOver};
+ghost use Rattle.model.specs.Edition.{editionNumber, editionOf, mostPlans, waitingOf, ranksByRows, takesRoot, usesPlane, passesOver, movesToStep};
 use model::Edition;
 use model::MAX_FIRST_POOL;
 use model::MAX_POOL;
@@ -77,6 +77,16 @@ pub fn uses_plane(edition: Edition) -> bool
 // Whether infeasible plans may be passed over.
 pub fn passes_over(edition: Edition) -> bool
     ensures { λ r. ⌜ r ≡ passesOver edition ⌝ }
+{
+    match edition {
+        Edition::First => false,
+        Edition::Second => true,
+    }
+}
+
+// Whether bred Floats of a dimension with a step are moved to a step.
+pub fn moves_to_step(edition: Edition) -> bool
+    ensures { λ r. ⌜ r ≡ movesToStep edition ⌝ }
 {
     match edition {
         Edition::First => false,

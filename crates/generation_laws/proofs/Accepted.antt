@@ -8,10 +8,15 @@ use lib.Dec.{leb, ltb}
 use Rattle.list_laws.proofs.Bools.{or-left, or-right}
 use Rattle.model.specs.Association.{Request}
 use Rattle.model.specs.Setting.{Operators}
-use Rattle.model.specs.Refusal.{Room, firstOf, noRoom, noStepRoom, selectRefusal, tooShort}
+use Rattle.model.specs.Refusal.{Room, firstOf, badDimensions, noRoom, noStepRoom, selectRefusal, tooShort}
+use Rattle.settings.proofs.Valid.{good-dimensions}
 use Rattle.demand3_laws.proofs.Passed.{Passed, room-each}
 
 module _ {o : Operators} {r : Request} {room : Room} {offspring : ℕ} (p : Passed o r room offspring) where
+  -- neither 6 nor 12 applies to its dimensions
+  pub dimensions-pass : badDimensions (o .dims) (o .dimCount) ≡ false
+  dimensions-pass = good-dimensions (o .dims) (o .dimCount) (p .bounds) (p .steps)
+
   pub offspring-room : r .size * o .dimCount ≤ offspring
   unfolding noStepRoom
   offspring-room = ltb-false offspring (r .size * o .dimCount) (or-right (leb 2 (r .count) && tooShort room (r .size) (r .count)) (ltb offspring (r .size * o .dimCount)) (p .slices))

@@ -14,7 +14,7 @@ use Rattle.model.specs.declared.Edition.{Edition}
 use Rattle.model.specs.declared.ParamValue.{ParamValue}
 use Rattle.model.specs.declared.Outcome.the-variants as outcome
 use Rattle.model.specs.declared.Rng.{Rng}
-use Rattle.model.specs.Edition.{ranksByRows}
+use Rattle.model.specs.Edition.{ranksByRows, movesToStep}
 use Rattle.model.specs.Lists.{over}
 use Rattle.model.specs.Draw.{Drawn, drawn}
 use Rattle.model.specs.Plan.{planAt, planCount}
@@ -22,7 +22,7 @@ use Rattle.model.specs.Row.{rowBeats}
 use Rattle.model.specs.Front.{frontOf, frontList}
 use Rattle.model.specs.Association.{Request, dominance}
 use Rattle.model.specs.Kept.{isSplit, selectedSplit, selectedWhole, bySplit, selected}
-use Rattle.model.specs.Setting.{Operators, wordsOf, WordsWithin, sampleCandidates, parentIn, parentsOf, bredOf, rankIn, rankBeats, rankOf, generationOf, generationOfOne, byPool, generation}
+use Rattle.model.specs.Setting.{Operators, wordsOf, WordsWithin, sampleCandidates, parentIn, parentsOf, bredOf, bornOf, movedBy, rankIn, rankBeats, rankOf, generationOf, generationOfOne, byPool, generation}
 use Rattle.model.specs.Refusal.{badDimensions, stepRefusal}
 use Rattle.model.specs.Calls.{wordRequest, Lent, roomOf, SelectExit, answered, selectAccepted, selectBy, selectOf, Selects, StepExit, stepExit, stepAccepted, stepBy, stepOf, Steps, generationExit, laid}
 use Rattle.demand3_laws.proofs.Passed.{passed, size-limits}
@@ -31,7 +31,7 @@ use Rattle.candidate_laws.proofs.Sound.{AllHeld}
 use Rattle.candidate_laws.proofs.KeptPlans.{kept-length, kept-below}
 use Rattle.candidate_laws.proofs.Generations.{generation-words}
 use Rattle.generation_laws.specs.Bred.{rankAt, bredOfWords}
-use Rattle.generation_laws.proofs.Accepted.{selects}
+use Rattle.generation_laws.proofs.Accepted.{dimensions-pass, selects}
 use Rattle.generation_laws.proofs.Breeding.{offspring-same}
 
 -- an exit that keeps n plans
@@ -109,8 +109,8 @@ module _ (edition : Edition) (o : Operators) (pool directions : List ℕ) (divis
             let front = frontOf (rankBeats r) (planCount pool) in
             over-below front (planCount pool) fronts fronts₀ (getD (x .slices .kept) i 0) 0 (sorted ∙ ap (λ l. over l fronts₀) (ranked-by (ranksByRows edition))) (kept-in-pool i h) ∙ ap front (place-is i h)
 
-        bred-generation : bredOfWords o pool fronts (x .slices .kept) size (x .answer .rng .s) ≡ drawn (generationOf o r .offspring) (generationOf o r .state)
-        unfolding bredOfWords generationOf rankOf
+        bred-generation : bredOfWords o pool fronts (x .slices .kept) size (x .answer .rng .s) ≡ bredOf o (planAt pool) (rankOf r (selected r .kept)) (selected r .kept) size (selected r .state)
+        unfolding bredOfWords rankOf
         bred-generation =
             let taken : take size (x .slices .kept) ≡ selected r .kept = ap (take size) kept-is ∙ over-take (selected r .kept) (at .kept) size (kept-length r) in
             let ps = parentsOf (o .dims) (o .dimCount) (planAt pool) (selected r .kept) (selected r .state) in
@@ -119,13 +119,22 @@ module _ (edition : Edition) (o : Operators) (pool directions : List ℕ) (divis
             ap₂ (λ k s. bredOf o (planAt pool) (rankAt fronts (x .slices .kept)) k size s) taken state-is
             ∙ offspring-same o (ps .value) (rankAt fronts (x .slices .kept)) ranks (omega arith) (λ i h. rank-is i (omega arith)) size (ps .state)
 
-        pub bred-exit : (out : List ℕ) (h : Rng) → out ≡ over (wordsOf (bredOfWords o pool fronts (x .slices .kept) size (x .answer .rng .s) .value)) old
+        -- as the edition has them: as bred, or moved to a step
+        abbrev born : Drawn (List (List ParamValue)) → Drawn (List (List ParamValue))
+        born d = drawn (movedBy (movesToStep edition) (o .dims) (o .dimCount) (d .value)) (d .state)
+
+        born-generation : born (bredOfWords o pool fronts (x .slices .kept) size (x .answer .rng .s)) ≡ drawn (generationOf o r .offspring) (generationOf o r .state)
+        unfolding generationOf bornOf
+        born-generation = ap born bred-generation
+
+        pub bred-exit : (out : List ℕ) (h : Rng)
+            → out ≡ over (wordsOf (movedBy (movesToStep edition) (o .dims) (o .dimCount) (bredOfWords o pool fronts (x .slices .kept) size (x .answer .rng .s) .value))) old
             → h .s ≡ bredOfWords o pool fronts (x .slices .kept) size (x .answer .rng .s) .state
             → stepExit (record { outcome = outcome.Kept size; rng = h }) (x .ideal) (x .slices) out ≡ stepAccepted o r at old
         unfolding selectAccepted stepAccepted generationOf
         bred-exit out h f q =
             ap₂ (λ s w. kept-exit size s (x .ideal) (x .slices) w)
-            (q ∙ ap (λ (d : Drawn (List (List ParamValue))). d .state) bred-generation) (f ∙ ap (λ (d : Drawn (List (List ParamValue))). over (wordsOf (d .value)) old) bred-generation)
+            (q ∙ ap (λ (d : Drawn (List (List ParamValue))). d .state) born-generation) (f ∙ ap (λ (d : Drawn (List (List ParamValue))). over (wordsOf (d .value)) old) born-generation)
             ∙ ap (λ (y : SelectExit). kept-exit size (generationOf o r .state) (y .ideal) (y .slices) (over (wordsOf (generationOf o r .offspring)) old)) e
             ∙ ap (λ n. kept-exit n (generationOf o r .state) (selected r .ideal) (laid (selected r) at)
             (over (wordsOf (generationOf o r .offspring)) old)) (sym (kept-length r))
@@ -139,7 +148,7 @@ module _ (edition : Edition) (o : Operators) (pool directions : List ℕ) (divis
     bounds e =
         let ok = passed o r (roomOf at) (length old) e in
         subst (λ n. WordsWithin (o .dims) (o .dimCount) size (stepBy n o r at old .offspring)) (sym e)
-        (generation-words o r (held (ok .dimensions)) (ok .dimensions) (ok .parents) old)
+        (generation-words o r (held (dimensions-pass ok)) (dimensions-pass ok) (ok .parents) old)
 
     promise : (x : StepExit) → x ≡ stepOf o r at old → Steps o r at old x
     promise x e = subst (Steps o r at old) (sym e) (steps r (planAt-row pool) o at old bounds)

@@ -21,6 +21,7 @@ use Rattle.settings.specs.Candidate.{parentAt, parentsIn}
 use Rattle.candidate_laws.proofs.Sound.{AllHeld, AllSound}
 use Rattle.candidate_laws.proofs.Words.{parents-back}
 use Rattle.candidate_laws.proofs.Extracted.{parentsOf-sound}
+use Rattle.candidate_laws.proofs.Bred.{offspringOf-sound}
 use Rattle.generation_laws.specs.Bred.{rankAt, bredOfWords}
 
 -- ---- ranks that agree for each parent
@@ -62,6 +63,11 @@ module _ (o : Operators) (held : AllHeld (o .dims) (o .dimCount)) (good : badDim
       (parentsOf-sound (o .dims) (o .dimCount) held good (planAt pool) (take size kept) s
       (λ i h. let l : i < size = omega arith in subst (λ p. breedable (o .dims) (o .dimCount) (planAt pool p) ≡ true) (sym (getD-take size kept i 0 l))
       (allBelow-each (λ p. breedable (o .dims) (o .dimCount) (planAt pool p)) (planCount pool) able (getD kept i 0) (inPool i l))))
+
+  -- and so is what is bred from them
+  pub bred-sound : 0 < size → AllSound (o .dims) (o .dimCount) size (bredOfWords o pool fronts kept size s .value)
+  unfolding bredOfWords
+  bred-sound some = offspringOf-sound o held good (parents .value) (rankAt fronts kept) size some parents-sound size (parents .state)
 
   read-back : (old : List ℕ) → parentsIn (o .dims) (o .dimCount) (over (wordsOf (parents .value)) old) size ≡ parents .value
   unfolding parentsIn parentAt

@@ -54,7 +54,17 @@ fn select_and_breed(
         lines,
     );
     ranks::rank_fronts(edition, pool, directions, fronts, ranks);
-    let rng = breeding::breed(pool, ranks, kept, size, operators, selection.rng, offspring);
+    let after = selection.rng;
+    let rng = breeding::breed_in(
+        edition,
+        pool,
+        ranks,
+        kept,
+        size,
+        operators,
+        after,
+        offspring,
+    );
     Selection {
         outcome: Outcome::Kept(size),
         rng,

@@ -13,27 +13,27 @@ use Rattle.model.specs.Lists.{allBelow, listBelow}
 use Rattle.model.specs.Real.{real}
 use Rattle.model.specs.Plan.{Plan, settingIn, planUpTo, planOf, maxObjectives, maxConstraints, maxSettings}
 use Rattle.model.specs.Association.{Request}
-use Rattle.model.specs.Setting.{maxDims, validDimension, sortByParam, Operators}
+use Rattle.model.specs.Setting.{maxDims, validBounds, sortByParam, Operators}
 use Rattle.model.specs.Session.{State, discovers}
-use Rattle.model.specs.Refusal.{Room, check, firstOf, badDimensions, badDimensionsPast, badNext, badNextPast, namedOnce, fitsAt, breedable, breedablePast, badParents, someFails, stepChecksBy, stepRefusal, sampleRefusal}
+use Rattle.model.specs.Refusal.{Room, check, firstOf, badBounds, badBoundsPast, badNext, badNextPast, namedOnce, fitsAt, breedable, breedablePast, badParents, someFails, stepChecksBy, stepRefusal, sampleRefusal}
 use Rattle.list_laws.proofs.Tests.{allBelow-no, allBelow-same}
 use Rattle.list_laws.proofs.Built.{listBelow-same}
 use Rattle.limit_laws.specs.Limit.{TwentyFour, LimitsAgree, stepRefusalPast}
 
 -- ---- 24 and 25
 
-dimensions-over : (dims : ℕ → Distribution) (n : ℕ) → 24 < n → badDimensions dims n ≡ true
-unfolding badDimensions
+dimensions-over : (dims : ℕ → Distribution) (n : ℕ) → 24 < n → badBounds dims n ≡ true
+unfolding badBounds
 dimensions-over dims n h = rw (lt-ltb maxDims n (omega arith))
 
-dimensions-within : (dims : ℕ → Distribution) (n : ℕ) → n ≤ 24 → badDimensions dims n ≡ not (allBelow (λ d. validDimension (dims d)) n)
-unfolding badDimensions
+dimensions-within : (dims : ℕ → Distribution) (n : ℕ) → n ≤ 24 → badBounds dims n ≡ not (allBelow (λ d. validBounds (dims d)) n)
+unfolding badBounds
 dimensions-within dims n h = rw (le-ltb maxDims n (omega arith))
 
 next-over : (n : ℕ) (d : Distribution) → 24 ≤ n → badNext n d ≡ true
 next-over n d h = rw (le-leb maxDims n (omega arith))
 
-next-within : (n : ℕ) (d : Distribution) → n < 24 → badNext n d ≡ not (validDimension d)
+next-within : (n : ℕ) (d : Distribution) → n < 24 → badNext n d ≡ not (validBounds d)
 next-within n d h = rw (lt-leb maxDims n (omega arith))
 
 session-over : (st : State) (d : Distribution) (plan : ℕ) (history : List ℕ) → discovers st plan ≡ true → 24 ≤ st .session .progress .«n_dims»
@@ -60,7 +60,7 @@ unfolding planOf
 words-by-24 word = refl
 
 step-by-24 : (o : Operators) (r : Request) (room : Room) (offspring : ℕ) → stepRefusal o r room offspring ≡ stepRefusalPast 24 o r room offspring
-unfolding stepRefusal badDimensions badParents breedable
+unfolding stepRefusal badBounds badParents breedable
 step-by-24 o r room offspring = refl
 
 pub twenty-four : TwentyFour
@@ -80,11 +80,11 @@ twenty-four = record {
 -- ---- two numbers
 
 module _ (a b : ℕ) where
-  dimensions-agree : (dims : ℕ → Distribution) (n : ℕ) → n ≤ a → n ≤ b → badDimensionsPast a dims n ≡ badDimensionsPast b dims n
-  dimensions-agree dims n h k = ap (λ (x : Bool). x || not (allBelow (λ d. validDimension (dims d)) n)) (le-ltb a n h ∙ sym (le-ltb b n k))
+  dimensions-agree : (dims : ℕ → Distribution) (n : ℕ) → n ≤ a → n ≤ b → badBoundsPast a dims n ≡ badBoundsPast b dims n
+  dimensions-agree dims n h k = ap (λ (x : Bool). x || not (allBelow (λ d. validBounds (dims d)) n)) (le-ltb a n h ∙ sym (le-ltb b n k))
 
   next-agree : (n : ℕ) (d : Distribution) → n < a → n < b → badNextPast a n d ≡ badNextPast b n d
-  next-agree n d h k = ap (λ (x : Bool). x || not (validDimension d)) (lt-leb a n h ∙ sym (lt-leb b n k))
+  next-agree n d h k = ap (λ (x : Bool). x || not (validBounds d)) (lt-leb a n h ∙ sym (lt-leb b n k))
 
   parent-agrees : (dims : ℕ → Distribution) (n : ℕ) (p : Plan) → p .settingCount ≤ a → p .settingCount ≤ b
       → breedablePast a dims n p ≡ breedablePast b dims n p

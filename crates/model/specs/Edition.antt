@@ -50,3 +50,8 @@ greatestScaled Second = ofBits binary64 0x4630_0000_0000_0000
 abbrev pub passesOver : Edition → Bool
 passesOver First = false
 passesOver Second = true
+
+-- M-103: "In edition 2 every Float of a dimension with a step in a bred child is moved .. edition 1 leaves it off the step": whether bred Floats are moved to a step
+abbrev pub movesToStep : Edition → Bool
+movesToStep First = false
+movesToStep Second = true

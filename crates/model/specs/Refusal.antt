@@ -16,7 +16,7 @@ use Rattle.model.specs.Real.{nought, unit, infinity, ofWhole, within}
 use Rattle.model.specs.Plan.{Plan, Setting, planCount, maxObjectives, maxConstraints, maxSettings}
 use Rattle.model.specs.Reference.{pointCount, maxDivisions, divisionsOf}
 use Rattle.model.specs.Association.{Request, objectives}
-use Rattle.model.specs.Setting.{kindOfDimension, ofWord, maxDims, validDimension, inBounds, sortByParam, noSetting, Operators}
+use Rattle.model.specs.Setting.{kindOfDimension, ofWord, maxDims, validBounds, validStep, validDimension, inBounds, sortByParam, noSetting, Operators}
 use Rattle.model.specs.Window.{maxWindow}
 use Rattle.model.specs.Session.{State, discovers, breeds, longEnough, isNew, maxCome, requestOf, operatorsOf}
 use Rattle.model.specs.PoolFile.{PoolFile, opensSecond, parse, fileRequest, fileText}
@@ -92,20 +92,31 @@ abbrev pub badWindow : Option ℕ → Bool
 badWindow none = false
 badWindow (some w) = not (leb 1 w && leb w maxWindow)
 
--- 6. what `validDimension` asks, and document 02, M-107: "the 25th dimension now meets refusal 6". The greatest number is a parameter, so that what does not
+-- 6. what `validBounds` asks, and document 02, M-107: "the 25th dimension now meets refusal 6". The greatest number is a parameter, so that what does not
 -- depend on it can be said (`limit_laws`).
-abbrev pub badDimensionsPast : ℕ → (ℕ → Distribution) → ℕ → Bool
-badDimensionsPast limit dims n = ltb limit n || not (allBelow (λ d. validDimension (dims d)) n)
+abbrev pub badBoundsPast : ℕ → (ℕ → Distribution) → ℕ → Bool
+badBoundsPast limit dims n = ltb limit n || not (allBelow (λ d. validBounds (dims d)) n)
 
-unfoldable pub badDimensions : (ℕ → Distribution) → ℕ → Bool
-badDimensions dims n = badDimensionsPast maxDims dims n
+unfoldable pub badBounds : (ℕ → Distribution) → ℕ → Bool
+badBounds dims n = badBoundsPast maxDims dims n
 
--- one dimension more, behind n, would be past the limit or is not as `validDimension` asks
+-- one dimension more, behind n, would be past the limit or is not as `validBounds` asks
 abbrev pub badNextPast : ℕ → ℕ → Distribution → Bool
-badNextPast limit n d = leb limit n || not (validDimension d)
+badNextPast limit n d = leb limit n || not (validBounds d)
 
 abbrev pub badNext : ℕ → Distribution → Bool
 badNext n d = badNextPast maxDims n d
+
+-- 12. document 02, M-103: what `validStep` asks, of n dimensions and of one more
+unfoldable pub badSteps : (ℕ → Distribution) → ℕ → Bool
+badSteps dims n = not (allBelow (λ d. validStep (dims d)) n)
+
+abbrev pub badNextStep : Distribution → Bool
+badNextStep d = not (validStep d)
+
+-- what neither 6 nor 12 lets pass: no call of the product goes on with such dimensions
+unfoldable pub badDimensions : (ℕ → Distribution) → ℕ → Bool
+badDimensions dims n = ltb maxDims n || not (allBelow (λ d. validDimension (dims d)) n)
 
 -- 7. "A pool is empty or above 1,024 plans, or a history is above 4,096." Document 02, M-100: "Edition 2's pools may reach 2,048, amending refusal 7."
 abbrev pub badCount : Edition → ℕ → Bool
@@ -215,7 +226,7 @@ stepTooShort room offspring size n dims = (leb 2 n && tooShort room size n) || l
 unfoldable pub noStepRoom : Operators → Request → Room → ℕ → Bool
 noStepRoom o r room offspring = stepTooShort room offspring (r .size) (r .count) (o .dimCount)
 
--- what a step looks at, with its tests of 6 and 9
+-- what a step looks at, with its tests of 6 and 9; document 02, M-103: 12 is looked at "right after 6, wherever that is looked at"
 abbrev pub stepChecksBy : Bool → Bool → Operators → Request → Room → ℕ → List Check
 stepChecksBy six nine o r room offspring =
     check 2 (badDirections (r .marks))
@@ -223,6 +234,7 @@ stepChecksBy six nine o r room offspring =
     ∷ check 4 (badDivisions (objectives r) (r .divisions))
     ∷ check 5 (badOperators (o .probability) (o .crossoverEta) (o .mutationEta))
     ∷ check 6 six
+    ∷ check 12 (badSteps (o .dims) (o .dimCount))
     ∷ check 7 (badCount (r .edition) (r .count))
     ∷ check 8 (badPool r)
     ∷ check 9 nine
@@ -230,7 +242,7 @@ stepChecksBy six nine o r room offspring =
     ∷ []
 
 abbrev pub stepChecks : Operators → Request → Room → ℕ → List Check
-stepChecks o r room offspring = stepChecksBy (badDimensions (o .dims) (o .dimCount)) (badParents o r) o r room offspring
+stepChecks o r room offspring = stepChecksBy (badBounds (o .dims) (o .dimCount)) (badParents o r) o r room offspring
 
 unfoldable pub stepRefusal : Operators → Request → Room → ℕ → Option ℕ
 stepRefusal o r room offspring = firstOf (stepChecks o r room offspring)
@@ -245,13 +257,14 @@ openRefusal marks size divisions probability crossoverEta mutationEta window = f
     ∷ check 14 (badWindow window)
     ∷ [])
 
--- `sample`: "A session call looks at 6 only when it adds a dimension, and at 8 and 9 only when it breeds, for the plans bred from."
+-- `sample`: "A session call looks at 6 only when it adds a dimension, and at 8 and 9 only when it breeds, for the plans bred from." So with 12.
 -- 11. "A new plan number comes while the generation has 2,048 and this call doesn't breed"; a call in discovery finds no plan in its generation
 unfoldable pub sampleRefusal : State → Distribution → ℕ → List ℕ → Option ℕ
 sampleRefusal st d plan history =
     let bred = breeds st history in
     firstOf (
     check 6 (discovers st plan && badNext (st .session .progress .«n_dims») d)
+    ∷ check 12 (discovers st plan && badNextStep d)
     ∷ check 7 (badHistory history)
     ∷ check 8 (bred && badPool (requestOf st history))
     ∷ check 9 (bred && badParents (operatorsOf (st .session)) (requestOf st history))

@@ -30,7 +30,7 @@ use Rattle.model.specs.Reference.{divisionsOf, populationSize}
 use Rattle.model.specs.Association.{Request}
 use Rattle.model.specs.Kept.{Selected, selected}
 use Rattle.model.specs.Window.{mostRemembered, ownWords, lastOf, leastRemembered, idealAfter}
-use Rattle.model.specs.Setting.{toWord, maxDims, dimensionsOf, storedAt, sampleRandom, sampleAll, sampleCandidates, Operators, operators, rankOf, bredOf, generation, wordsOf}
+use Rattle.model.specs.Setting.{toWord, maxDims, dimensionsOf, storedAt, sampleRandom, sampleAll, sampleCandidates, Operators, operators, bornOf, generation, wordsOf}
 
 -- ---- the state
 
@@ -373,7 +373,7 @@ unfoldable pub bredBy : State → List ℕ → List ℕ → State
 bredBy st history kept =
     let s = st .session in
     let r = requestOf st history in
-    let off = bredOf (operatorsOf s) (r .plans) (rankOf r kept) kept (r .size) (selected r .state) in
+    let off = bornOf (operatorsOf s) r kept (selected r .state) in
     state (bredSession s (off .state) (idealLeft st history (selected r))) (over (wordsOf (off .value)) (st .candidates)) (st .plans) (st .nextDims)
     (poolAfter st history kept)
 

@@ -20,13 +20,14 @@ use Rattle.model.specs.declared.OptionF64.{OptionF64}
 use Rattle.model.specs.declared.OptionF64.the-variants as optF64
 use Rattle.model.specs.declared.OptionI64.{OptionI64}
 use Rattle.model.specs.declared.OptionI64.the-variants as optI64
-use Rattle.model.specs.Real.{_⊕_, _⊖_, _⊗_, _⊘_, real, bits, nought, half, unit, two, ofWhole, absolute, within, clamp}
+use Rattle.model.specs.Lists.{listBelow}
+use Rattle.model.specs.Real.{_⊕_, _⊖_, _⊗_, _⊘_, real, bits, nought, half, unit, two, infinity, ofWhole, absolute, within, clamp}
 use Rattle.model.specs.Draw.{Drawn, drawn, drawUsize, drawI64, f64Range, inTurn, drawAll}
 use Rattle.model.specs.Numbers.{roundOf, midpoint, P, R}
 use Rattle.model.specs.Plan.{Plan, Setting, maxSettings}
 use Rattle.model.specs.Row.{rowBeats}
 use Rattle.model.specs.Front.{frontOf}
-use Rattle.model.specs.Edition.{ranksByRows}
+use Rattle.model.specs.Edition.{ranksByRows, movesToStep}
 use Rattle.model.specs.Association.{Request, dominance}
 use Rattle.model.specs.Kept.{Selected, selected, unselected}
 
@@ -77,10 +78,6 @@ maxWhole = pos (2 ^ 53)
 abbrev pub minWhole : ℤ
 minWhole = negsuc 9007199254740991
 
-abbrev pub noStep : OptionF64 → Bool
-noStep optF64.None = true
-noStep (optF64.Some x) = false
-
 abbrev pub stepAbove0 : OptionI64 → Bool
 stepAbove0 optI64.None = true
 stepAbove0 (optI64.Some n) = leZ (pos 1) n
@@ -96,14 +93,32 @@ noDimension = record { distribution = dist.Float (record { low = nan; high = nan
 abbrev pub dimensionsOf : List DimensionInfo → ℕ → Distribution
 dimensionsOf infos d = getD infos d noDimension .distribution
 
--- What refusal 6 asks of a dimension: low not above high, bounds finite and within 2^53 in magnitude, no log scale, no Float step, an Int step from 1 on,
--- 1 to 65,536 choices.
-unfoldable pub validDimension : Distribution → Bool
-validDimension (dist.Float d) =
-    le (d .low) (d .high) && (within minBound maxBound (d .low) && (within minBound maxBound (d .high) && (not (d .«log_scale») && noStep (d .step))))
-validDimension (dist.Int d) =
+-- What refusal 6 asks of a dimension: low not above high, bounds finite and within 2^53 in magnitude, no log scale, an Int step from 1 on, 1 to 65,536 choices.
+-- Document 02, M-103: "6 no longer covers a Float step".
+unfoldable pub validBounds : Distribution → Bool
+validBounds (dist.Float d) = le (d .low) (d .high) && (within minBound maxBound (d .low) && (within minBound maxBound (d .high) && not (d .«log_scale»)))
+validBounds (dist.Int d) =
     leZ (d .low) (d .high) && (leZ minWhole (d .low) && (leZ (d .high) maxWhole && (not (d .«log_scale») && stepAbove0 (d .step))))
-validDimension (dist.Categorical d) = leb 1 (d .«n_choices») && leb (d .«n_choices») 65536
+validBounds (dist.Categorical d) = leb 1 (d .«n_choices») && leb (d .«n_choices») 65536
+
+-- how many steps a Float's bounds are apart: (high - low) / step, each operation rounded
+abbrev pub stepsOf : Float → Float → Float → Float
+stepsOf low high step = (high ⊖ low) ⊘ step
+
+-- What refusal 12 asks of a dimension. Document 02, M-103: "the step is not finite, not above 0, or (high - low) / step exceeds 2^53". The quotient of bounds that
+-- refusal 6 lets pass by a finite step above 0 is no NaN.
+unfoldable pub validFloatStep : Float → Float → OptionF64 → Bool
+validFloatStep low high optF64.None = true
+validFloatStep low high (optF64.Some step) = lt nought step && (lt step infinity && le (stepsOf low high step) maxBound)
+
+unfoldable pub validStep : Distribution → Bool
+validStep (dist.Float d) = validFloatStep (d .low) (d .high) (d .step)
+validStep (dist.Int d) = true
+validStep (dist.Categorical d) = true
+
+-- a dimension that both let pass
+unfoldable pub validDimension : Distribution → Bool
+validDimension d = validBounds d && validStep d
 
 -- a setting is of its dimension's kind and within its bounds
 unfoldable pub inBounds : Distribution → ParamValue → Bool
@@ -124,9 +139,23 @@ unfoldable pub sampleInt : ℤ → ℤ → OptionI64 → ℕ → Drawn ℤ
 sampleInt low high optI64.None s = drawI64 low high s
 sampleInt low high (optI64.Some n) s = let k = drawI64 (pos 0) (quotZ (high -ℤ low) n) s in drawn (low +ℤ k .value *ℤ n) (k .state)
 
+-- Document 02, M-103: "k from 0 to floor((high - low) / step)": the greatest k. A cast drops the fraction, which leaves the floor of what is not below 0.
+abbrev pub lastStep : Float → Float → Float → ℤ
+lastStep low high step = toSigned 63 (stepsOf low high step)
+
+-- "value low + k × step, here also clamped"
+abbrev pub onStep : Float → Float → Float → ℤ → Float
+onStep low high step k = clamp low high (low ⊕ (ofWhole k ⊗ step))
+
+-- a Float without a step is drawn from low..high; with one, k is drawn from 0..=lastStep
+unfoldable pub sampleFloat : Float → Float → OptionF64 → ℕ → Drawn Float
+sampleFloat low high optF64.None s = f64Range low high s
+sampleFloat low high (optF64.Some step) s =
+    let k = drawI64 (pos 0) (lastStep low high step) s in drawn (onStep low high step (k .value)) (k .state)
+
 -- `sample_random`
 unfoldable pub sampleRandom : Distribution → ℕ → Drawn ParamValue
-sampleRandom (dist.Float d) s = let x = f64Range (d .low) (d .high) s in drawn (value.Float (x .value)) (x .state)
+sampleRandom (dist.Float d) s = let x = sampleFloat (d .low) (d .high) (d .step) s in drawn (value.Float (x .value)) (x .state)
 sampleRandom (dist.Int d) s = let n = sampleInt (d .low) (d .high) (d .step) s in drawn (value.Int (n .value)) (n .state)
 sampleRandom (dist.Categorical d) s = let c = drawUsize (d .«n_choices») s in drawn (value.Categorical (c .value)) (c .state)
 
@@ -344,6 +373,32 @@ mutateFirst dims n j c k s = drawAll (λ d settings. mutateMaybe (unit ⊘ ofWho
 abbrev pub mutate : (ℕ → Distribution) → ℕ → List ParamValue → ℕ → ℕ → Drawn (List ParamValue)
 mutate dims n c k s = mutateFirst dims n n c k s
 
+-- ---- Floats moved to a step (document 02, M-103)
+
+-- "k = round((v - low) / step), held within the range of k above"
+abbrev pub nearestStep : Float → Float → Float → Float → ℤ
+nearestStep low high step v = toInt (pos 0) (lastStep low high step) ((v ⊖ low) ⊘ step)
+
+unfoldable pub moveFloat : Float → Float → OptionF64 → Float → Float
+moveFloat low high optF64.None v = v
+moveFloat low high (optF64.Some step) v = onStep low high step (nearestStep low high step v)
+
+-- a setting: "every Float of a dimension with a step"
+unfoldable pub moveSetting : Distribution → ParamValue → ParamValue
+moveSetting (dist.Float d) (value.Float v) = value.Float (moveFloat (d .low) (d .high) (d .step) v)
+moveSetting (dist.Float d) (value.Int n) = value.Int n
+moveSetting (dist.Float d) (value.Categorical c) = value.Categorical c
+moveSetting (dist.Int d) v = v
+moveSetting (dist.Categorical d) v = v
+
+-- a child of n dimensions, and children, where they are moved
+unfoldable pub moveChild : (ℕ → Distribution) → ℕ → List ParamValue → List ParamValue
+moveChild dims n c = listBelow (λ d. moveSetting (dims d) (settingOf c d)) n
+
+abbrev pub movedBy : Bool → (ℕ → Distribution) → ℕ → List (List ParamValue) → List (List ParamValue)
+movedBy true dims n born = map (moveChild dims n) born
+movedBy false dims n born = born
+
 -- ---- the generation step
 
 -- what breeding is given beside the pool
@@ -412,15 +467,22 @@ rankBeats r = cond (ranksByRows (r .edition)) (rowBeats (r .marks) (r .plans)) (
 unfoldable pub rankOf : Request → List ℕ → ℕ → ℕ
 rankOf r kept i = rankIn (rankBeats r) (r .count) kept i
 
--- the parents of a kept list, by their ranks, and their offspring
+-- the parents of a kept list, by their ranks, and their offspring, as crossed and mutated
 abbrev pub bredOf : Operators → (ℕ → Plan) → (ℕ → ℕ) → List ℕ → ℕ → ℕ → Drawn (List (List ParamValue))
 bredOf o plans ranks kept size s =
     let parents = parentsOf (o .dims) (o .dimCount) plans kept s in offspringOf o (parents .value) ranks size (parents .state)
 
+-- the offspring of a kept list of a request. M-103: "In edition 2 every Float of a dimension with a step in a bred child is moved once, after mutation .. edition 1
+-- leaves it off the step, like the Rust."
+unfoldable pub bornOf : Operators → Request → List ℕ → ℕ → Drawn (List (List ParamValue))
+bornOf o r kept s =
+    let off = bredOf o (r .plans) (rankOf r kept) kept (r .size) s in
+    drawn (movedBy (movesToStep (r .edition)) (o .dims) (o .dimCount) (off .value)) (off .state)
+
 unfoldable pub generationOf : Operators → Request → Generation
 generationOf o r =
     let sel = selected r in
-    let off = bredOf o (r .plans) (rankOf r (sel .kept)) (sel .kept) (r .size) (sel .state) in
+    let off = bornOf o r (sel .kept) (sel .state) in
     record { selection = sel; offspring = off .value; state = off .state }
 
 -- "A pool of one plan breeds nothing: every setting of the size new candidates is drawn." It selects nothing either.

@@ -1,8 +1,10 @@
-// Refusals 5 and 6: what operators and dimensions are asked (document 01, "Setting and dimension"; Rust: distribution.rs).
+// Refusals 5, 6 and 12: what operators and dimensions are asked (document 01, "Setting and dimension"; document 02, M-103; Rust: distribution.rs).
 ghost use mathlib.Core.Path.{_≡_};
-ghost use Rattle.model.specs.Setting.{stepAbove0, validDimension, dimensionsOf};
-ghost use Rattle.model.specs.Refusal.{wholeEta, badOperators, badDimensions};
+ghost use Prim.Native.Nat.{_≤_};
+ghost use Rattle.model.specs.Setting.{stepAbove0, validBounds, validFloatStep, validStep, validDimension, dimensionsOf, maxDims};
+ghost use Rattle.model.specs.Refusal.{wholeEta, badOperators, badBounds, badSteps, badDimensions};
 ghost use Rattle.model.specs.declared.Distribution.the-variants as dist;
+ghost use Rattle.model.specs.declared.OptionF64.the-variants as optF64;
 use model::CategoricalDistribution;
 use model::DimensionInfo;
 use model::Distribution;
@@ -43,21 +45,17 @@ pub fn bad_operators(probability: f64, crossover_eta: f64, mutation_eta: f64) ->
 // ---- refusal 6
 
 fn valid_float(d: FloatDistribution) -> bool
-    ensures { λ r. ⌜ r ≡ validDimension (dist.Float d) ⌝ }
+    ensures { λ r. ⌜ r ≡ validBounds (dist.Float d) ⌝ }
 {
     let low = d.low;
     let high = d.high;
-    let step = d.step;
     if low <= high {
         if real::real_within(-9007199254740992.0, 9007199254740992.0, low) {
             if real::real_within(-9007199254740992.0, 9007199254740992.0, high) {
                 if d.log_scale {
                     return false;
                 }
-                return match step {
-                    OptionF64::None => true,
-                    OptionF64::Some(_) => false,
-                };
+                return true;
             }
         }
     }
@@ -74,7 +72,7 @@ fn step_above_zero(step: OptionI64) -> bool
 }
 
 fn valid_int(d: IntDistribution) -> bool
-    ensures { λ r. ⌜ r ≡ validDimension (dist.Int d) ⌝ }
+    ensures { λ r. ⌜ r ≡ validBounds (dist.Int d) ⌝ }
 {
     let low = d.low;
     let high = d.high;
@@ -93,7 +91,7 @@ fn valid_int(d: IntDistribution) -> bool
 }
 
 fn valid_categorical(d: CategoricalDistribution) -> bool
-    ensures { λ r. ⌜ r ≡ validDimension (dist.Categorical d) ⌝ }
+    ensures { λ r. ⌜ r ≡ validBounds (dist.Categorical d) ⌝ }
 {
     let n = d.n_choices;
     if 1 <= n {
@@ -102,10 +100,9 @@ fn valid_categorical(d: CategoricalDistribution) -> bool
     false
 }
 
-// A dimension's bounds are in order, finite and within 2^53 in magnitude, it has no log scale, no Float step, no Int step below 1, and from 1
-// to 65,536 choices.
-pub fn valid_dimension(d: Distribution) -> bool
-    ensures { λ r. ⌜ r ≡ validDimension d ⌝ }
+// A dimension's bounds are in order, finite and within 2^53 in magnitude, it has no log scale, no Int step below 1, and from 1 to 65,536 choices.
+pub fn valid_bounds(d: Distribution) -> bool
+    ensures { λ r. ⌜ r ≡ validBounds d ⌝ }
 {
     match d {
         Distribution::Float(f) => valid_float(f),
@@ -115,8 +112,8 @@ pub fn valid_dimension(d: Distribution) -> bool
 }
 
 // One of the first n dimensions is not such, or there are more than MAX_DIMS.
-pub fn bad_dimensions(dims: [DimensionInfo; MAX_DIMS], n: usize) -> bool
-    ensures { λ r. ⌜ r ≡ badDimensions (dimensionsOf dims) n ⌝ }
+pub fn bad_bounds(dims: [DimensionInfo; MAX_DIMS], n: usize) -> bool
+    ensures { λ r. ⌜ r ≡ badBounds (dimensionsOf dims) n ⌝ }
 {
     if n > MAX_DIMS {
         return true;
@@ -125,11 +122,87 @@ pub fn bad_dimensions(dims: [DimensionInfo; MAX_DIMS], n: usize) -> bool
     while i < n {
         let info = dims[i];
         let d = info.distribution;
-        if valid_dimension(d) {
+        if valid_bounds(d) {
             i += 1;
         } else {
             return true;
         }
     }
     false
+}
+
+// ---- refusal 12
+
+// A Float's step is finite and above 0, and there are at most 2^53 of them.
+fn valid_by(low: f64, high: f64, by: f64) -> bool
+    ensures { λ r. ⌜ r ≡ validFloatStep low high (optF64.Some by) ⌝ }
+{
+    if 0.0 < by {
+        if by < 1.0 / 0.0 {
+            return (high - low) / by <= 9007199254740992.0;
+        }
+    }
+    false
+}
+
+fn valid_float_step(low: f64, high: f64, step: OptionF64) -> bool
+    ensures { λ r. ⌜ r ≡ validFloatStep low high step ⌝ }
+{
+    match step {
+        OptionF64::None => true,
+        OptionF64::Some(by) => valid_by(low, high, by),
+    }
+}
+
+// A dimension's Float step is such, or it has none.
+pub fn valid_step(d: Distribution) -> bool
+    ensures { λ r. ⌜ r ≡ validStep d ⌝ }
+{
+    match d {
+        Distribution::Float(f) => {
+            let step = f.step;
+            valid_float_step(f.low, f.high, step)
+        }
+        Distribution::Int(_) => true,
+        Distribution::Categorical(_) => true,
+    }
+}
+
+// One of the first n dimensions is not such.
+pub fn bad_steps(dims: [DimensionInfo; MAX_DIMS], n: usize) -> bool
+    requires { ⌜ n ≤ maxDims ⌝ }
+    ensures { λ r. ⌜ r ≡ badSteps (dimensionsOf dims) n ⌝ }
+{
+    let mut i = 0;
+    while i < n {
+        let info = dims[i];
+        let d = info.distribution;
+        if valid_step(d) {
+            i += 1;
+        } else {
+            return true;
+        }
+    }
+    false
+}
+
+// ---- both
+
+pub fn valid_dimension(d: Distribution) -> bool
+    ensures { λ r. ⌜ r ≡ validDimension d ⌝ }
+{
+    if valid_bounds(d) {
+        return valid_step(d);
+    }
+    false
+}
+
+// 6 or 12 applies to n dimensions.
+pub fn bad_dimensions(dims: [DimensionInfo; MAX_DIMS], n: usize) -> bool
+    ensures { λ r. ⌜ r ≡ badDimensions (dimensionsOf dims) n ⌝ }
+{
+    if bad_bounds(dims, n) {
+        return true;
+    }
+    bad_steps(dims, n)
 }

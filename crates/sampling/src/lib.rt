@@ -4,30 +4,59 @@ ghost use mathlib.Core.Bool.{true, false};
 ghost use lib.IntN.{pos};
 ghost use lib.Signed.{_≤ℤ_};
 ghost use Rattle.model.specs.Draw.{drawn};
-ghost use Rattle.model.specs.Setting.{stepAbove0, validDimension, sampleInt, sampleRandom, sampleAll, dimensionsOf};
+ghost use Rattle.model.specs.Setting.{stepAbove0, validDimension, lastStep, sampleFloat, sampleInt, sampleRandom, sampleAll, dimensionsOf};
 ghost use Rattle.model.specs.Refusal.{badDimensions};
 ghost use Rattle.model.specs.declared.Distribution.the-variants as dist;
+ghost use Rattle.model.specs.declared.OptionF64.the-variants as optF64;
 ghost use Rattle.model.specs.declared.OptionI64.the-variants as optI64;
 ghost use Rattle.rng_util.specs.Span.{Spanned};
 ghost use Rattle.settings.specs.Candidate.{settingsOf};
+ghost use Rattle.sampling.specs.Steps.{StepSpanned};
 use model::CategoricalDistribution;
 use model::DimensionInfo;
 use model::Distribution;
 use model::FloatDistribution;
 use model::IntDistribution;
 use model::MAX_DIMS;
+use model::OptionF64;
 use model::OptionI64;
 use model::ParamValue;
 use model::Rng;
+use rng_util::DrawnF64;
 use rng_util::DrawnI64;
 use settings::DrawnCandidate;
 use settings::DrawnValue;
 use settings::Slot;
 
+// low + k × step, held within low..high, k drawn from 0..=floor((high - low) / step).
+fn sample_on_step(low: f64, high: f64, step: f64, rng: Rng) -> DrawnF64
+    requires { ⌜ Spanned (pos 0) (lastStep low high step) ⌝ }
+    ensures { λ r. ⌜ drawn (r .value) (r .rng .s) ≡ sampleFloat low high (optF64.Some step) (rng .s) ⌝ }
+{
+    let last = stepping::last_step(low, high, step);
+    let k = rng_util::draw_i64(rng, 0, last);
+    let value = stepping::on_step(low, high, step, k.value);
+    let rng = k.rng;
+    DrawnF64 { value, rng }
+}
+
+// A real of low..high, on the step where there is one.
+fn sample_real(low: f64, high: f64, step: OptionF64, rng: Rng) -> DrawnF64
+    requires { ⌜ StepSpanned low high step ⌝ }
+    ensures { λ r. ⌜ drawn (r .value) (r .rng .s) ≡ sampleFloat low high step (rng .s) ⌝ }
+{
+    match step {
+        OptionF64::None => rng_util::f64_range(rng, low, high),
+        OptionF64::Some(by) => sample_on_step(low, high, by, rng),
+    }
+}
+
 fn sample_float(d: FloatDistribution, rng: Rng) -> DrawnValue
+    requires { ⌜ StepSpanned (d .low) (d .high) (d .step) ⌝ }
     ensures { λ r. ⌜ drawn (r .value) (r .rng .s) ≡ sampleRandom (dist.Float d) (rng .s) ⌝ }
 {
-    let x = rng_util::f64_range(rng, d.low, d.high);
+    let step = d.step;
+    let x = sample_real(d.low, d.high, step, rng);
     let value = ParamValue::Float(x.value);
     let rng = x.rng;
     DrawnValue { value, rng }

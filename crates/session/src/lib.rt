@@ -36,6 +36,9 @@ fn sample_discovering(
     if session_records::bad_dimension(n, distribution) {
         return session_active::refused(session, 6);
     }
+    if session_records::bad_step(distribution) {
+        return session_active::refused(session, 12);
+    }
     if session_records::bad_history(history) {
         return session_active::refused(session, 7);
     }

@@ -69,7 +69,7 @@ module _ (st : State) (d : Distribution) (plan : ℕ) (history : List ℕ) where
 
   pub short-bred : (n : ℕ) → breeds st history ≡ true → longEnough st ≡ false → badHistory history ≡ false
       → shortRefusal (state (st .session) [] (st .plans) [] (st .pool)) history ≡ some n → refusal ≡ some n
-  short-bred n b l few e = short-refusal st d plan history (active-good st plan _ (breeds-active st history b)) few b l ∙ bred-checks-same st [] [] history (check 10 true ∷ []) ∙ e
+  short-bred n b l few e = short-refusal st d plan history (active-good st d plan (breeds-active st history b)) few b l ∙ bred-checks-same st [] [] history (check 10 true ∷ []) ∙ e
 
 -- ---- tests of the state, as code makes them
 

@@ -27,9 +27,9 @@ use Rattle.model.specs.Lists.{allBelow, Distinct}
 use Rattle.model.specs.Plan.{planWords, planCount}
 use Rattle.model.specs.Setting.{validDimension, maxDims}
 use Rattle.model.specs.Session.{State, state, isActive, discovers, longEnough, bredFrom, breeds, requestOf, operatorsOf, isNew, maxCome, maxWords, evaluated, standsIn, plansOf, numbersOf, childrenOf, waitingCount, planRoom, poolRoom, dimensionOf}
-use Rattle.model.specs.Refusal.{Check, check, firstOf, Room, noRoom, noStepRoom, badSize, badDivisions, badDimensions, badCount, badPool, badParents, stepRefusal, sampleRefusal, maxSize, maxPool, badHistory, badNext}
+use Rattle.model.specs.Refusal.{Check, check, firstOf, Room, noRoom, noStepRoom, badSize, badDivisions, badDimensions, badCount, badPool, badParents, stepRefusal, sampleRefusal, maxSize, maxPool, badHistory, badNext, badNextStep}
 use Rattle.model.specs.Property.{ConfigOk, SessionOk}
-use Rattle.settings.proofs.Valid.{few}
+use Rattle.settings.proofs.Valid.{few, valid-both, bounds-good, steps-good}
 use Rattle.session_laws.specs.Refused.{requestFrom, wordRefusal, bredChecks, breedRefusal, shortRefusal}
 
 -- ---- what a call that breeds tells: the pool holds the plans that wait, and the first plans of the generation have come, and stand in history
@@ -160,15 +160,19 @@ pub active-discovers : (st : State) (plan : ℕ) → isActive (st .session) ≡ 
 unfolding discovers
 active-discovers st plan e = rw e
 
--- so 6 does not apply to it
-pub active-good : (st : State) (plan : ℕ) (bad : Bool) → isActive (st .session) ≡ true → (discovers st plan && bad) ≡ false
-active-good st plan bad e = and-not _ bad (active-discovers st plan e)
+-- neither 6 nor 12 applies to a call, of the dimension that it passes
+abbrev pub Fit : State → Distribution → ℕ → Type 0
+Fit st d plan = ((discovers st plan && badNext (st .session .progress .«n_dims») d) ≡ false) × ((discovers st plan && badNextStep d) ≡ false)
 
--- ---- a session's six checks
+-- so it is with one past discovery
+pub active-good : (st : State) (d : Distribution) (plan : ℕ) → isActive (st .session) ≡ true → Fit st d plan
+active-good st d plan e = (and-not _ _ (active-discovers st plan e), and-not _ _ (active-discovers st plan e))
 
--- a dimension that 6 does not apply to
-pub fit-dimension : (n : ℕ) (d : Distribution) → badNext n d ≡ false → (n < maxDims) × (validDimension d ≡ true)
-fit-dimension n d e = (leb-false maxDims n (or-left _ _ e), not-false _ (or-right (leb maxDims n) _ e))
+-- ---- a session's seven checks
+
+-- a dimension that neither 6 nor 12 applies to
+pub fit-dimension : (n : ℕ) (d : Distribution) → badNext n d ≡ false → badNextStep d ≡ false → (n < maxDims) × (validDimension d ≡ true)
+fit-dimension n d e f = (leb-false maxDims n (or-left _ _ e), valid-both d (not-false _ (or-right (leb maxDims n) _ e)) (not-false _ f))
 
 -- fewer plans than there may be have come, where one more is asked for and 11 does not apply
 pub room-left : (n : ℕ) (b : Bool) → (leb maxCome n && b) ≡ false → b ≡ true → n < maxCome
@@ -194,16 +198,20 @@ module _ (st : State) (d : Distribution) (plan : ℕ) (history : List ℕ) where
   unfolding sampleRefusal
   refused-6 a e = applies-first _ _ (and-both _ _ a e)
 
-  module _ (good : (discovers st plan && bad) ≡ false) where
+  pub refused-12 : (discovers st plan && bad) ≡ false → discovers st plan ≡ true → badNextStep d ≡ true → refusal ≡ some 12
+  unfolding sampleRefusal
+  refused-12 good a e = passed-over _ _ good ∙ applies-first _ _ (and-both _ _ a e)
+
+  module _ (good : Fit st d plan) where
     pub refused-7 : badHistory history ≡ true → refusal ≡ some 7
     unfolding sampleRefusal
-    refused-7 h = passed-over _ _ good ∙ applies-first _ _ h
+    refused-7 h = passed-over _ _ (good .0) ∙ passed-over _ _ (good .1) ∙ applies-first _ _ h
 
     module _ (few : badHistory history ≡ false) where
       past-7 : refusal ≡ firstOf (check 8 (breeds st history && badPool (requestOf st history))
           ∷ check 9 (breeds st history && badParents (operatorsOf (st .session)) (requestOf st history)) ∷ last)
       unfolding sampleRefusal
-      past-7 = passed-over _ _ good ∙ passed-over _ _ few
+      past-7 = passed-over _ _ (good .0) ∙ passed-over _ _ (good .1) ∙ passed-over _ _ few
 
       -- a call that breeds is refused by 8 or 9, and after them by 10 where a slice is too short
       module _ (b : breeds st history ≡ true) where
@@ -290,5 +298,5 @@ module _ (s : Session) (words : List ℕ) (config : ConfigOk (s .config)) (dims 
       unfolding stepRefusal
       step-refusal =
           passed-over _ _ (config .directions) ∙ passed-over _ _ request-size ∙ passed-over _ _ words-divisions
-          ∙ passed-over _ _ (config .operators) ∙ passed-over _ _ dims ∙ passed-over _ _ request-count
+          ∙ passed-over _ _ (config .operators) ∙ passed-over _ _ (bounds-good _ _ dims) ∙ passed-over _ _ (steps-good _ _ dims) ∙ passed-over _ _ request-count
           ∙ after-two _ _ _ _ (passed-over _ _ request-room)

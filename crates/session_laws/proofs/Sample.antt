@@ -108,7 +108,9 @@ module _ (st : State) (d : Distribution) (plan : ℕ) (history : List ℕ) (ok :
 
     -- a dimension that is added passed refusal 6
     added : discovers st plan ≡ true → (st .session .progress .«n_dims» < maxDims) × (validDimension d ≡ true)
-    added h = fit-dimension _ _ (and-fails (discovers st plan) _ (sample-passed st d plan history e .dimension) h)
+    added h =
+        let p = sample-passed st d plan history e in
+        fit-dimension _ _ (and-fails (discovers st plan) _ (p .dimension) h) (and-fails (discovers st plan) _ (p .step) h)
 
     adds : discovers st plan ≡ true → SessionOk (discover st d plan .after)
     unfolding discovers

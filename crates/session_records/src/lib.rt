@@ -10,7 +10,7 @@ ghost use Rattle.model.specs.Lists.{allBelow, has, over, placeIn};
 ghost use Rattle.model.specs.Plan.{planCount, planWords, maxObjectives};
 ghost use Rattle.model.specs.Window.{mostRemembered, maxWindow};
 ghost use Rattle.model.specs.Session.{recordOf, allStand, standsIn, blockOf, numbersOf, childrenOf, keptWords, addsFor, roomFor, maxCome, given};
-ghost use Rattle.model.specs.Refusal.{badNext, badHistory, maxSize};
+ghost use Rattle.model.specs.Refusal.{badNext, badNextStep, badHistory, maxSize};
 ghost use Rattle.session_records.specs.Gathered.{childFor, Put, Gathered};
 use model::Config;
 use model::Distribution;
@@ -214,7 +214,17 @@ pub fn bad_dimension(n: usize, distribution: Distribution) -> bool
     if MAX_DIMS <= n {
         return true;
     }
-    if operator_checks::valid_dimension(distribution) {
+    if operator_checks::valid_bounds(distribution) {
+        return false;
+    }
+    true
+}
+
+// Refusal 12 for it.
+pub fn bad_step(distribution: Distribution) -> bool
+    ensures { λ r. ⌜ r ≡ badNextStep distribution ⌝ }
+{
+    if operator_checks::valid_step(distribution) {
         return false;
     }
     true

@@ -72,8 +72,11 @@ pub fn refusal(
     }
     let dims = operators.dimensions;
     let n_dims = operators.n_dims;
-    if operator_checks::bad_dimensions(dims, n_dims) {
+    if operator_checks::bad_bounds(dims, n_dims) {
         return Check::Refused(6);
+    }
+    if operator_checks::bad_steps(dims, n_dims) {
+        return Check::Refused(12);
     }
     let n = plans::plan_count(pool);
     if plans::bad_count(edition, n) {

@@ -106,7 +106,7 @@ clampInt-within low high n h = by-bool (ltZ n low)
     (λ f. rw (e, f) (between low high high h (≤ℤ-refl high)))
     (λ f. rw (e, f) (between low high n (ltZ-no (false-T (ltZ n low) e)) (ltZ-no (false-T (ltZ high n) f)))))
 
-toInt-within : (low high : ℤ) (x : Float) → low ≤ℤ high → (leZ low (toInt low high x) && leZ (toInt low high x) high) ≡ true
+pub toInt-within : (low high : ℤ) (x : Float) → low ≤ℤ high → (leZ low (toInt low high x) && leZ (toInt low high x) high) ≡ true
 toInt-within low high x h = clampInt-within low high (toSigned 63 (roundOf x)) h
 
 crossInt-fit : (d : IntDistribution) (p q : ℤ) (k s : ℕ) → IntBounds d → Fit (dist.Int d) (value.Int p) → Fit (dist.Int d) (value.Int q) → BothFit (dist.Int d) (crossInt d p q k s)

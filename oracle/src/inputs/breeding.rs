@@ -318,7 +318,8 @@ pub(super) fn bad_dimensions() -> Vec<Distribution> {
         float(0.0, over),
         float(-over, 0.0),
         full(1.0, 2.0, true, None),
-        full(0.0, 1.0, false, Some(0.125)),
+        // Log scale, whatever the step.
+        full(1.0, 2.0, true, Some(0.125)),
         int(1, 0, None),
         int(0, FAR + 1, None),
         int(-FAR - 1, 0, None),

@@ -13,6 +13,7 @@ mod planes;
 mod rows;
 mod second;
 mod sessions;
+mod steps;
 mod water;
 mod windows;
 
@@ -22,7 +23,7 @@ use crate::distribution::{Distribution, FloatDistribution, IntDistribution};
 use crate::edition::Edition;
 use crate::mix::Mix;
 use crate::param::ParamValue;
-use crate::plans::{self, Plan, choices, float, int, write_dimensions, write_marks};
+use crate::plans::{self, Plan, choices, float, int, stepped, write_dimensions, write_marks};
 use crate::pool_file;
 use crate::refusals::{self, MAX_DIMENSIONS, MAX_SETTINGS};
 use crate::session::{self, Opening, Operators, Session};
@@ -33,7 +34,7 @@ type Cases = fn() -> Vec<Line>;
 type Input = fn(&mut Mix, u64) -> Line;
 
 /// Each record: its named cases, and how an input is generated.
-const RECORDS: [(&str, Cases, Input); 19] = [
+const RECORDS: [(&str, Cases, Input); 21] = [
     ("draw", numbers::draw_cases, numbers::draw_input),
     ("numbers", numbers::number_cases, numbers::number_input),
     ("dominance", rows::dominance_cases, rows::dominance_input),
@@ -84,6 +85,16 @@ const RECORDS: [(&str, Cases, Input); 19] = [
         "session_window",
         windows::session_cases,
         windows::session_input,
+    ),
+    (
+        "breeding_steps",
+        steps::breeding_cases,
+        steps::breeding_input,
+    ),
+    (
+        "session_steps",
+        steps::session_cases,
+        steps::session_input,
     ),
 ];
 

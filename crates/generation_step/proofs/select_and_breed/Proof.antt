@@ -12,7 +12,7 @@ use Rattle.list_laws.proofs.Checks.{pool-plans}
 use Rattle.demand3_laws.proofs.Passed.{Passed, passed, some-objectives, size-limits, count-in-pool}
 use Rattle.candidate_laws.proofs.Generations.{plans-breedable}
 use Rattle.generation_laws.specs.Bred.{bredOfWords}
-use Rattle.generation_laws.proofs.Accepted.{offspring-room, kept-room, fronts-room}
+use Rattle.generation_laws.proofs.Accepted.{dimensions-pass, offspring-room, kept-room, fronts-room}
 use Rattle.generation_laws.proofs.Answer.{select-exit, kept-in-pool, bred-exit}
 use Rattle.generation_step.proofs.select_and_breed.Statement.{statement}
 use Rattle.generation_step.proofs.select_and_breed.Tie as tie
@@ -46,10 +46,10 @@ start c = c .before .before .before .before .before .before .before .before .bef
 abbrev selected : tie.After-rank-fronts → tie.After-nsga3-select
 selected c = c .before .before .before .before .before .before .before .before .before .before .before .before .before
 
-abbrev sorted : tie.After-breed-arg3 → tie.After-rank-fronts
-sorted c = c .before .before .before .before .before
+abbrev sorted : tie.After-breed-in-arg3 → tie.After-rank-fronts
+sorted c = c .before .before .before .before .before .before
 
-abbrev bred : tie.After-slice-known14 → tie.After-breed
+abbrev bred : tie.After-slice-known14 → tie.After-breed-in
 bred c = c .before .before
 
 -- ---- the needs
@@ -64,8 +64,8 @@ rank-fronts-requires c κs =
     let handed : length (n .nsga3-select .last .1 .1 .1 .1 .1 .1 .1 .1 .1 .0) ≡ length (s .args .fronts .now) = n .nsga3-select .kept .1 .1 .1 .1 .1 .1 .1 .1 .1 .0 in
     (good-pool s, omega (arith, handed, fronts-room (given s) (s .pre .0 .0)), s .pre .0 .1)
 
-breed-requires : tie.Need-breed-requires
-breed-requires c κs =
+breed-in-requires : tie.Need-breed-in-requires
+breed-in-requires c κs =
     let n = selected (sorted c) in
     let s = start n in
     let a = s .args in
@@ -75,7 +75,7 @@ breed-requires c κs =
     -- the selection's fronts have room for the pool too, so that a program which breeds by them fails for its offspring alone
     let others : length (n .nsga3-select .last .1 .1 .1 .1 .1 .1 .1 .1 .1 .0) ≡ length (a .fronts .now) = n .nsga3-select .kept .1 .1 .1 .1 .1 .1 .1 .1 .1 .0 in
     let kept : length (n .nsga3-select .last .1 .1 .1 .1 .1 .1 .1 .0) ≡ length (a .kept .now) = n .nsga3-select .kept .1 .1 .1 .1 .1 .1 .1 .0 in (
-      (omega (arith, rows, s .pre .0 .1, others, fronts-room ok (s .pre .0 .0)), plans-breedable (ops s) (request s) (ok .parents), ok .dimensions, ok .operators),
+      (omega (arith, rows, s .pre .0 .1, others, fronts-room ok (s .pre .0 .0)), plans-breedable (ops s) (request s) (ok .parents), dimensions-pass ok, ok .operators),
       (
         size-limits _ (ok .size) .0,
         size-limits _ (ok .size) .1,
@@ -112,7 +112,7 @@ returns c =
     let n = selected w in
     let s = start n in
     let a = s .args in
-    let b = bred c .breed in
+    let b = bred c .breed-in in
     -- the ranks that it draws by are the edition's fronts
     let drawn : b .result .s ≡ bredOfWords (ops s) (a .pool .now) (w .rank-fronts .last .1 .1 .1 .1 .0) (n .nsga3-select .last .1 .1 .1 .1 .1 .1 .1 .0) (a .size) (n .nsga3-select .result .rng .s) .state = b .ensures .1 in
     let e = select-exit (a .edition) (ops s) (a .pool .now) (a .directions .now) (a .divisions) (a .size) (a .rng) (a .ideal .now) (at s) (a .offspring .now) (s .pre .1) (s .pre .0 .0) _ (n .nsga3-select .ensures) in
@@ -125,7 +125,7 @@ select-and-breed-spec =
     (tie.spec
     nsga3-select-requires
     rank-fronts-requires
-    breed-requires
+    breed-in-requires
     same-length
     same-length-2
     same-length-3

@@ -7,7 +7,7 @@ use Rattle.model.specs.Association.{Request}
 use Rattle.model.specs.Setting.{Operators, operatorsIn}
 use Rattle.model.specs.Calls.{wordRequest, Lent, lent, roomOf}
 use Rattle.demand3_laws.proofs.Passed.{Passed, passed, count-in-pool}
-use Rattle.generation_laws.proofs.Accepted.{offspring-room}
+use Rattle.generation_laws.proofs.Accepted.{dimensions-pass, offspring-room}
 use Rattle.generation_laws.proofs.Answer.{one-exit}
 use Rattle.generation_step.proofs.step.Statement.{statement}
 use Rattle.generation_step.proofs.step.Tie as tie
@@ -55,7 +55,7 @@ plan-count-requires c κs = tt
 sample-candidates-requires : tie.Need-sample-candidates-requires
 sample-candidates-requires c κs =
     let s = start (one c .before) in
-    (given s .dimensions, offspring-room (given s))
+    (dimensions-pass (given s), offspring-room (given s))
 
 same-length : tie.Need-same-length
 same-length c = search needs

@@ -1,46 +1,22 @@
--- By cases on the distribution.
-use mathlib.Core.Path.{sym, ap, _∙_}
+-- One test, then the other.
+use mathlib.Core.Path.{sym, _∙_}
 use Rattle.model.specs.Setting.{validDimension}
 use Rattle.operator_checks.proofs.valid_dimension.Statement.{statement}
 use Rattle.operator_checks.proofs.valid_dimension.Tie as tie
 
-enum-known-d : tie.Need-enum-known-d
-enum-known-d c = c .match .keys1
+valid-bounds-requires : tie.Need-valid-bounds-requires
+valid-bounds-requires c κs = tt
 
-valid-float-requires : tie.Need-valid-float-requires
-valid-float-requires c κs = tt
-
-enum-known-d-2 : tie.Need-enum-known-d-2
-enum-known-d-2 c = c .match .keys2
-
-valid-int-requires : tie.Need-valid-int-requires
-valid-int-requires c κs = tt
-
-enum-known-d-3 : tie.Need-enum-known-d-3
-enum-known-d-3 c = c .match .keys3
-
-valid-categorical-requires : tie.Need-valid-categorical-requires
-valid-categorical-requires c κs = tt
+valid-step-requires : tie.Need-valid-step-requires
+valid-step-requires c κs = tt
 
 returns : tie.Need-returns
-returns c = c .valid-float .ensures ∙ sym (ap validDimension (c .before .before .d .given .1))
+unfolding validDimension
+returns c = rw (sym (c .before .before .valid-bounds .ensures) ∙ c .before .if1 .taken) (c .valid-step .ensures)
 
 returns-2 : tie.Need-returns-2
-returns-2 c = c .valid-int .ensures ∙ sym (ap validDimension (c .before .before .d2 .given .1))
-
-returns-3 : tie.Need-returns-3
-returns-3 c = c .valid-categorical .ensures ∙ sym (ap validDimension (c .before .before .d3 .given .1))
+unfolding validDimension
+returns-2 c = rw (sym (c .before .valid-bounds .ensures) ∙ c .if1 .left)
 
 pub valid-dimension-spec : {M : Type 1} → statement M
-valid-dimension-spec =
-    tie.close
-    (tie.spec
-    enum-known-d
-    valid-float-requires
-    enum-known-d-2
-    valid-int-requires
-    enum-known-d-3
-    valid-categorical-requires
-    returns
-    returns-2
-    returns-3)
+valid-dimension-spec = tie.close (tie.spec valid-bounds-requires valid-step-requires returns returns-2)

@@ -6,7 +6,7 @@ use lib.Signed.{leZ}
 use mir.Syntax.{w64}
 use mir.Val.{SFits}
 use Rattle.model.specs.declared.Distribution.the-variants as dist
-use Rattle.model.specs.Setting.{validDimension, minWhole, maxWhole, stepAbove0}
+use Rattle.model.specs.Setting.{validBounds, minWhole, maxWhole, stepAbove0}
 use Rattle.settings.proofs.Signed.{held, told}
 use Rattle.operator_checks.proofs.valid_int.Statement.{statement}
 use Rattle.operator_checks.proofs.valid_int.Tie as tie
@@ -25,8 +25,8 @@ low-in : (c : tie.Then2) → leZ minWhole (c .before .before .before .before .ar
 low-in c = sym (ap (leZ minWhole) (held (low-fits (c .before .before)))) ∙ c .if2 .taken
 
 -- where both bounds are in order and within the limits, scale and step decide
-rest : (c : tie.Then3) → validDimension (dist.Int (c .before .before .before .before .before .args .d)) ≡ (not (c .before .before .before .before .before .args .d .«log_scale») && stepAbove0 (c .before .before .before .before .before .args .d .step))
-unfolding validDimension
+rest : (c : tie.Then3) → validBounds (dist.Int (c .before .before .before .before .before .args .d)) ≡ (not (c .before .before .before .before .before .args .d .«log_scale») && stepAbove0 (c .before .before .before .before .before .args .d .step))
+unfolding validBounds
 rest c =
     rw (ordered (c .before .before), low-in (c .before), sym (ap (λ (z : ℤ). leZ z maxWhole) (held (high-fits (c .before .before .before)))) ∙ c .if3 .taken)
 
@@ -40,16 +40,16 @@ returns-2 : tie.Need-returns-2
 returns-2 c = let b = c .before in rw (rest (b .before), b .if4 .left) (c .step-above-zero .ensures)
 
 returns-3 : tie.Need-returns-3
-unfolding validDimension
+unfolding validBounds
 returns-3 c =
     rw (ordered (c .before .before), low-in (c .before), sym (ap (λ (z : ℤ). leZ z maxWhole) (held (high-fits (c .before .before .before)))) ∙ c .if3 .left)
 
 returns-4 : tie.Need-returns-4
-unfolding validDimension
+unfolding validBounds
 returns-4 c = rw (ordered (c .before), sym (ap (leZ minWhole) (held (low-fits (c .before .before)))) ∙ c .if2 .left)
 
 returns-5 : tie.Need-returns-5
-unfolding validDimension
+unfolding validBounds
 returns-5 c = rw (told leZ (low-fits (c .before)) (high-fits (c .before)) (c .if1 .left))
 
 pub valid-int-spec : {M : Type 1} → statement M

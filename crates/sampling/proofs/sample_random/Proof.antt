@@ -2,6 +2,8 @@
 use mathlib.Core.Path.{sym, ap, _∙_}
 use Rattle.model.specs.declared.Distribution.{Distribution}
 use Rattle.model.specs.Setting.{validDimension, sampleRandom}
+use Rattle.typed_laws.proofs.Held.{dimension-held}
+use Rattle.sampling.proofs.Spans.{step-spanned}
 use Rattle.sampling.proofs.sample_random.Statement.{statement}
 use Rattle.sampling.proofs.sample_random.Tie as tie
 
@@ -9,7 +11,9 @@ enum-known-d : tie.Need-enum-known-d
 enum-known-d c = c .match .keys1
 
 sample-float-requires : tie.Need-sample-float-requires
-sample-float-requires c κs = tt
+sample-float-requires c κs =
+    let s = c .before .before .before in
+    step-spanned (s .args .d) (c .before .d .given .0 .0) (c .before .d .given .1) (dimension-held (s .args .d) _ (s .good .0)) (s .pre)
 
 enum-known-d-2 : tie.Need-enum-known-d-2
 enum-known-d-2 c = c .match .keys2

@@ -94,7 +94,7 @@ returns-2 c d =
     let i = ap pastDiscovery (s .pre .1) in
     let b = breeds-by st (a .history .now) _ false i (holds s) (e .before .evaluated .ensures) (e .if1 .left) in
     leaves-refused st d (a .plan) (a .history .now) 11 (a .session) (a .candidates .now) (a .pool .now) _ (c .refused .ensures) refl
-    (refused-11 st d (a .plan) (a .history .now) (active-good st (a .plan) _ i) (s .pre .0 .few) b (s .pre .0 .room) (sym (full .full .ensures) ∙ c .before .if2 .taken))
+    (refused-11 st d (a .plan) (a .history .now) (active-good st d (a .plan) i) (s .pre .0 .few) b (s .pre .0 .room) (sym (full .full .ensures) ∙ c .before .if2 .taken))
 
 sample-from-candidate-requires : tie.Need-sample-from-candidate-requires
 sample-from-candidate-requires c κs =
@@ -130,7 +130,7 @@ returns-3 c d =
     let i = ap pastDiscovery (s .pre .1) in
     let b = breeds-by st (a .history .now) _ false i (holds s) (e .before .evaluated .ensures) (e .if1 .left) in
     leaves-accepted st d (a .plan) (a .history .now) _ _ (taken c .sample-from-candidate .ensures (a .pool .now))
-    (not-refused st d (a .plan) (a .history .now) (active-good st (a .plan) _ i) (s .pre .0 .few) b (s .pre .0 .room)
+    (not-refused st d (a .plan) (a .history .now) (active-good st d (a .plan) i) (s .pre .0 .few) b (s .pre .0 .room)
     (room-left (a .session .progress .«n_plans») _ (sym (f .before .full .ensures) ∙ f .if2 .left)))
     (active-accepted st d (a .plan) (a .history .now) (active-discovers st (a .plan) i) i b)
 

@@ -102,7 +102,7 @@ returns c d =
     let o = told c .outcome .given in
     let k = breed-tells st (a .history .now) (breedRefusal st (a .history .now)) (some (o .0 .0)) _ _ (b .ensures (a .next-dims .now)) (ap refusedBy (o .1)) in
     leaves-refused st d (a .plan) (a .history .now) (o .0 .0) _ _ _ _ (c .refused .ensures) (k .1)
-    (breed-refusal st d (a .plan) (a .history .now) (active-good st (a .plan) _ i) (s .pre .0 .few) (s .pre .1) (s .pre .0 .room) ∙ k .0)
+    (breed-refusal st d (a .plan) (a .history .now) (active-good st d (a .plan) i) (s .pre .0 .few) (s .pre .1) (s .pre .0 .room) ∙ k .0)
 
 same-length-4 : tie.Need-same-length-4
 same-length-4 c = taken c .sample-from-candidate .kept .1 .1 .0 ∙ bred-good (good-last c) .breed .kept .1 .1 .1 .1 .1 .0
@@ -126,7 +126,7 @@ returns-2 c d =
     let k = breed-tells st (a .history .now) (breedRefusal st (a .history .now)) none _ _ (b .ensures (a .next-dims .now)) (ap refusedBy (o .1)) in
     let i = breeds-active st (a .history .now) (s .pre .1) in
     leaves-taken st d (a .plan) (a .history .now) _ _ _ (taken c .sample-from-candidate .ensures _) (k .1)
-    (breed-refusal st d (a .plan) (a .history .now) (active-good st (a .plan) _ i) (s .pre .0 .few) (s .pre .1) (s .pre .0 .room) ∙ k .0)
+    (breed-refusal st d (a .plan) (a .history .now) (active-good st d (a .plan) i) (s .pre .0 .few) (s .pre .1) (s .pre .0 .room) ∙ k .0)
     (bred-accepted st d (a .plan) (a .history .now) (active-discovers st (a .plan) i) i (s .pre .1))
 
 pub sample-bred-spec : {M : Type 1} → statement M

@@ -6,8 +6,8 @@ use lib.ListN.{drop}
 use Rattle.model.specs.Calls.{wordRequest}
 use Rattle.model.specs.Association.{Request}
 use Rattle.model.specs.Setting.{Operators, operatorsIn}
-use Rattle.model.specs.Refusal.{Room, firstOf, badDirections, badSize, badDimensions, badCount, badPool, badParents, stepTooShort, noStepRoom, stepChecks, stepRefusal}
-use Rattle.settings.proofs.Valid.{few}
+use Rattle.model.specs.Refusal.{Room, firstOf, badDirections, badSize, badBounds, badCount, badPool, badParents, stepTooShort, noStepRoom, stepChecks, stepRefusal}
+use Rattle.settings.proofs.Valid.{few-bounds}
 use Rattle.demand3_laws.proofs.Passed.{some-objectives, size-limits}
 use Rattle.list_laws.proofs.Checks.{passed-over, applies-first}
 use Rattle.step_refusal.proofs.refusal.Statement.{statement}
@@ -43,18 +43,21 @@ passed-3 c = c .before .before
 abbrev passed-4 : tie.Else5 → tie.Else4
 passed-4 c = c .before .before .before
 
--- the plans of the pool are counted before the sixth test
+abbrev passed-5 : tie.Else6 → tie.Else5
+passed-5 c = c .before .before
+
+-- the plans of the pool are counted before the seventh test
 abbrev counts : tie.After-bad-count → tie.After-plan-count
 counts c = c .before
 
-abbrev passed-5 : tie.After-bad-count → tie.Else5
-passed-5 c = counts c .before
-
-abbrev passed-6 : tie.Else7 → tie.Else6
-passed-6 c = c .before .before
+abbrev passed-6 : tie.After-bad-count → tie.Else6
+passed-6 c = counts c .before
 
 abbrev passed-7 : tie.Else8 → tie.Else7
 passed-7 c = c .before .before
+
+abbrev passed-8 : tie.Else9 → tie.Else8
+passed-8 c = c .before .before
 
 -- ---- the same from further on
 
@@ -69,21 +72,24 @@ abbrev first-5 : tie.Else5 → tie.Else1
 first-5 c = first-4 (passed-4 c)
 
 abbrev first-6 : tie.Else6 → tie.Else1
-first-6 c = first-5 (passed-5 (c .before))
+first-6 c = first-5 (passed-5 c)
 
 abbrev first-7 : tie.Else7 → tie.Else1
-first-7 c = first-6 (passed-6 c)
+first-7 c = first-6 (passed-6 (c .before))
 
 abbrev first-8 : tie.Else8 → tie.Else1
 first-8 c = first-7 (passed-7 c)
+
+abbrev first-9 : tie.Else9 → tie.Else1
+first-9 c = first-8 (passed-8 c)
 
 -- where the size's has
 abbrev second-5 : tie.Else5 → tie.Else2
 second-5 c = passed-2 (passed-3 (passed-4 c))
 
--- where the dimensions' has
-abbrev fifth-7 : tie.Else7 → tie.Else5
-fifth-7 c = passed-5 (passed-6 c .before)
+-- where that of the dimensions' bounds has
+abbrev fifth-8 : tie.Else8 → tie.Else5
+fifth-8 c = passed-5 (passed-6 (passed-7 c .before))
 
 -- ---- what the tests say
 
@@ -93,19 +99,19 @@ good-directions c = sym (c .before .bad-directions .ensures) ∙ c .if1 .left
 good-size : (c : tie.Else2) → badSize (start (passed-1 c) .args .size) ≡ false
 good-size c = sym (c .before .bad-size .ensures) ∙ c .if2 .left
 
-good-dimensions : (c : tie.Else5) → let o = ops (start (first-5 c)) in badDimensions (o .dims) (o .dimCount) ≡ false
-good-dimensions c = sym (c .before .bad-dimensions .ensures) ∙ c .if5 .left
+good-bounds : (c : tie.Else5) → let o = ops (start (first-5 c)) in badBounds (o .dims) (o .dimCount) ≡ false
+good-bounds c = sym (c .before .bad-bounds .ensures) ∙ c .if5 .left
 
 -- the pool's count
-counted : (c : tie.After-bad-count) → let r = request (start (first-5 (passed-5 c))) in c .bad-count .result ≡ badCount (r .edition) (r .count)
-counted c = c .bad-count .ensures ∙ ap (badCount (request (start (first-5 (passed-5 c))) .edition)) (counts c .plan-count .ensures)
+counted : (c : tie.After-bad-count) → let r = request (start (first-6 (passed-6 c))) in c .bad-count .result ≡ badCount (r .edition) (r .count)
+counted c = c .bad-count .ensures ∙ ap (badCount (request (start (first-6 (passed-6 c))) .edition)) (counts c .plan-count .ensures)
 
-slices : (c : tie.After-no-step-room) → let s = start (first-8 (c .before)) in c .no-step-room .result ≡ noStepRoom (ops s) (request s) (room s) (s .args .offspring)
+slices : (c : tie.After-no-step-room) → let s = start (first-9 (c .before)) in c .no-step-room .result ≡ noStepRoom (ops s) (request s) (room s) (s .args .offspring)
 unfolding noStepRoom
 slices c =
-    let s = start (first-8 (c .before)) in
+    let s = start (first-9 (c .before)) in
     c .no-step-room .ensures
-    ∙ ap (λ n. stepTooShort (room s) (s .args .offspring) (s .args .size) n (ops s .dimCount)) (counts (passed-6 (passed-7 (c .before)) .before) .plan-count .ensures)
+    ∙ ap (λ n. stepTooShort (room s) (s .args .offspring) (s .args .size) n (ops s .dimCount)) (counts (passed-7 (passed-8 (c .before)) .before) .plan-count .ensures)
 
 past-1 : (c : tie.Else1) → Past (start c) 1
 unfolding stepRefusal
@@ -121,21 +127,24 @@ past-4 : (c : tie.Else4) → Past (start (first-4 c)) 4
 past-4 c = past-3 (passed-3 c) ∙ passed-over _ _ (sym (c .before .bad-operators .ensures) ∙ c .if4 .left)
 
 past-5 : (c : tie.Else5) → Past (start (first-5 c)) 5
-past-5 c = past-4 (passed-4 c) ∙ passed-over _ _ (good-dimensions c)
+past-5 c = past-4 (passed-4 c) ∙ passed-over _ _ (good-bounds c)
 
 past-6 : (c : tie.Else6) → Past (start (first-6 c)) 6
-past-6 c = past-5 (passed-5 (c .before)) ∙ passed-over _ _ (sym (counted (c .before)) ∙ c .if6 .left)
+past-6 c = past-5 (passed-5 c) ∙ passed-over _ _ (sym (c .before .bad-steps .ensures) ∙ c .if6 .left)
 
 past-7 : (c : tie.Else7) → Past (start (first-7 c)) 7
-unfolding badPool
-past-7 c = past-6 (passed-6 c) ∙ passed-over _ _ (sym (c .before .bad-pool .ensures) ∙ c .if7 .left)
+past-7 c = past-6 (passed-6 (c .before)) ∙ passed-over _ _ (sym (counted (c .before)) ∙ c .if7 .left)
 
 past-8 : (c : tie.Else8) → Past (start (first-8 c)) 8
-unfolding badParents
-past-8 c = past-7 (passed-7 c) ∙ passed-over _ _ (sym (c .before .bad-parents .ensures) ∙ c .if8 .left)
+unfolding badPool
+past-8 c = past-7 (passed-7 c) ∙ passed-over _ _ (sym (c .before .bad-pool .ensures) ∙ c .if8 .left)
 
-past-9 : (c : tie.Else9) → Past (start (first-8 (c .before .before))) 9
-past-9 c = past-8 (c .before .before) ∙ passed-over _ _ (sym (slices (c .before)) ∙ c .if9 .left)
+past-9 : (c : tie.Else9) → Past (start (first-9 c)) 9
+unfolding badParents
+past-9 c = past-8 (passed-8 c) ∙ passed-over _ _ (sym (c .before .bad-parents .ensures) ∙ c .if9 .left)
+
+past-10 : (c : tie.Else10) → Past (start (first-9 (c .before .before))) 10
+past-10 c = past-9 (c .before .before) ∙ passed-over _ _ (sym (slices (c .before)) ∙ c .if10 .left)
 
 -- ---- the needs
 
@@ -164,11 +173,17 @@ bad-operators-requires c κs = tt
 returns-4 : tie.Need-returns-4
 returns-4 c = sym (past-3 (c .before .before) ∙ applies-first _ _ (sym (c .before .bad-operators .ensures) ∙ c .if4 .taken))
 
-bad-dimensions-requires : tie.Need-bad-dimensions-requires
-bad-dimensions-requires c κs = tt
+bad-bounds-requires : tie.Need-bad-bounds-requires
+bad-bounds-requires c κs = tt
 
 returns-5 : tie.Need-returns-5
-returns-5 c = sym (past-4 (c .before .before .before) ∙ applies-first _ _ (sym (c .before .bad-dimensions .ensures) ∙ c .if5 .taken))
+returns-5 c = sym (past-4 (c .before .before .before) ∙ applies-first _ _ (sym (c .before .bad-bounds .ensures) ∙ c .if5 .taken))
+
+bad-steps-requires : tie.Need-bad-steps-requires
+bad-steps-requires c κs = few-bounds _ _ (good-bounds c)
+
+returns-6 : tie.Need-returns-6
+returns-6 c = sym (past-5 (c .before .before) ∙ applies-first _ _ (sym (c .before .bad-steps .ensures) ∙ c .if6 .taken))
 
 plan-count-requires : tie.Need-plan-count-requires
 plan-count-requires c κs = tt
@@ -176,34 +191,34 @@ plan-count-requires c κs = tt
 bad-count-requires : tie.Need-bad-count-requires
 bad-count-requires c κs = tt
 
-returns-6 : tie.Need-returns-6
-returns-6 c = sym (past-5 (passed-5 (c .before)) ∙ applies-first _ _ (sym (counted (c .before)) ∙ c .if6 .taken))
+returns-7 : tie.Need-returns-7
+returns-7 c = sym (past-6 (passed-6 (c .before)) ∙ applies-first _ _ (sym (counted (c .before)) ∙ c .if7 .taken))
 
 bad-pool-requires : tie.Need-bad-pool-requires
-bad-pool-requires c κs = some-objectives _ (good-directions (first-6 c)) .1
-
-returns-7 : tie.Need-returns-7
-unfolding badPool
-returns-7 c = sym (past-6 (c .before .before) ∙ applies-first _ _ (sym (c .before .bad-pool .ensures) ∙ c .if7 .taken))
-
-bad-parents-requires : tie.Need-bad-parents-requires
-bad-parents-requires c κs = few _ _ (good-dimensions (fifth-7 c))
+bad-pool-requires c κs = some-objectives _ (good-directions (first-7 c)) .1
 
 returns-8 : tie.Need-returns-8
+unfolding badPool
+returns-8 c = sym (past-7 (c .before .before) ∙ applies-first _ _ (sym (c .before .bad-pool .ensures) ∙ c .if8 .taken))
+
+bad-parents-requires : tie.Need-bad-parents-requires
+bad-parents-requires c κs = few-bounds _ _ (good-bounds (fifth-8 c))
+
+returns-9 : tie.Need-returns-9
 unfolding badParents
-returns-8 c = sym (past-7 (c .before .before) ∙ applies-first _ _ (sym (c .before .bad-parents .ensures) ∙ c .if8 .taken))
+returns-9 c = sym (past-8 (c .before .before) ∙ applies-first _ _ (sym (c .before .bad-parents .ensures) ∙ c .if9 .taken))
 
 no-step-room-requires : tie.Need-no-step-room-requires
 no-step-room-requires c κs =
-    let d = fifth-7 (passed-7 c) in
-    (size-limits _ (good-size (second-5 d)) .1, few _ _ (good-dimensions d))
-
-returns-9 : tie.Need-returns-9
-returns-9 c = sym (past-8 (c .before .before) ∙ applies-first _ _ (sym (slices (c .before)) ∙ c .if9 .taken))
+    let d = fifth-8 (passed-8 c) in
+    (size-limits _ (good-size (second-5 d)) .1, few-bounds _ _ (good-bounds d))
 
 returns-10 : tie.Need-returns-10
+returns-10 c = sym (past-9 (c .before .before) ∙ applies-first _ _ (sym (slices (c .before)) ∙ c .if10 .taken))
+
+returns-11 : tie.Need-returns-11
 unfolding firstOf
-returns-10 c = sym (past-9 c)
+returns-11 c = sym (past-10 c)
 
 pub refusal-spec : {M : Type 1} → statement M
 refusal-spec =
@@ -217,15 +232,17 @@ refusal-spec =
     returns-3
     bad-operators-requires
     returns-4
-    bad-dimensions-requires
+    bad-bounds-requires
     returns-5
+    bad-steps-requires
+    returns-6
     plan-count-requires
     bad-count-requires
-    returns-6
-    bad-pool-requires
     returns-7
-    bad-parents-requires
+    bad-pool-requires
     returns-8
-    no-step-room-requires
+    bad-parents-requires
     returns-9
-    returns-10)
+    no-step-room-requires
+    returns-10
+    returns-11)
