@@ -102,8 +102,9 @@ returns-2 c =
     let s = entry (e .before) in
     let a = s .args in
     let st = before s in
+    let o = adds-by st (a .plan) false (sym (e .before .discovers .ensures) ∙ e .if1 .left) in
     leaves-refused st (a .distribution) (a .plan) (a .history .now) 7 (a .session) (a .candidates .now) (a .pool .now) _ (c .refused .ensures) refl
-    (refused-7 st (a .distribution) (a .plan) (a .history .now) (and-not _ _ (adds-by st (a .plan) false (sym (e .before .discovers .ensures) ∙ e .if1 .left))) (sym (asked .bad-history .ensures) ∙ c .before .if2 .taken))
+    (refused-7 st (a .distribution) (a .plan) (a .history .now) (and-not _ _ o, and-not _ _ o) (sym (asked .bad-history .ensures) ∙ c .before .if2 .taken))
 
 -- 7 does not apply
 few : (c : tie.Else2) → badHistory (entry-2 c .args .history .now) ≡ false

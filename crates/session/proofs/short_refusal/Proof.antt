@@ -41,7 +41,7 @@ enum-told-2 c = search needs
 returns : tie.Need-returns
 returns c cs ns d plan other short =
     let s = start (c .before .before) in
-    refused-10 (given s cs ns) d plan (s .args .history .now) (and-not _ _ other) (s .pre .1)
+    refused-10 (given s cs ns) d plan (s .args .history .now) (and-not _ _ other, and-not _ _ other) (s .pre .1)
     (first-unbred (given s cs ns) (s .args .history .now) (ap pastDiscovery (c .enum-told2 .given .1))) short
 
 mul-if1 : tie.Need-mul-if1
@@ -52,7 +52,7 @@ mul-if1 c =
 returns-2 : tie.Need-returns-2
 returns-2 c cs ns d plan other short =
     let s = entry (c .before) in
-    refused-10 (given s cs ns) d plan (s .args .history .now) (and-not _ _ other) (s .pre .1) (breeds-not (given s cs ns) (s .args .history .now) (c .if1 .taken)) short
+    refused-10 (given s cs ns) d plan (s .args .history .now) (and-not _ _ other, and-not _ _ other) (s .pre .1) (breeds-not (given s cs ns) (s .args .history .now) (c .if1 .taken)) short
 
 evaluated-requires : tie.Need-evaluated-requires
 evaluated-requires c κs = tt
@@ -77,7 +77,7 @@ returns-4 : tie.Need-returns-4
 returns-4 c cs ns d plan other short =
     let e = c .before in
     let s = entry-last e in
-    refused-10 (given s cs ns) d plan (s .args .history .now) (and-not _ _ other) (s .pre .1)
+    refused-10 (given s cs ns) d plan (s .args .history .now) (and-not _ _ other, and-not _ _ other) (s .pre .1)
     (breeds-by (given s cs ns) (s .args .history .now) _ false (ap pastDiscovery (active e .before .enum-told .given .1)) (active e .if1 .left) (e .evaluated .ensures) (c .if2 .left)) short
 
 pub short-refusal-spec : {M : Type 1} → statement M

@@ -71,7 +71,7 @@ returns c d =
     let i = ap pastDiscovery (s .pre .1) in
     let full : a .session .progress .«n_plans» < maxCome = omega (arith, phase-ok st Discovery (s .pre .0 .ok) (s .pre .1) .noPlans) in
     leaves-taken st d (a .plan) (a .history .now) _ _ _ (taken c .sample-from-candidate .ensures (a .pool .now)) (e .ensures (a .plans .now) (a .next-dims .now) (a .pool .now))
-    (not-refused st d (a .plan) (a .history .now) (and-not _ _ o) (s .pre .0 .few) (first-unbred st (a .history .now) i) (s .pre .0 .room) (λ new. full))
+    (not-refused st d (a .plan) (a .history .now) (and-not _ _ o, and-not _ _ o) (s .pre .0 .few) (first-unbred st (a .history .now) i) (s .pre .0 .room) (λ new. full))
     (first-accepted st d (a .plan) (a .history .now) o i)
 
 pub sample-first-spec : {M : Type 1} → statement M
