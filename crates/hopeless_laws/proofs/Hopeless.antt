@@ -11,17 +11,17 @@ use lib.ListN.{length, getD, replicate}
 use Rattle.model.specs.declared.Edition.{Edition}
 use Rattle.model.specs.declared.ParamValue.{ParamValue}
 use Rattle.model.specs.declared.Rule.the-variants as rule
-use Rattle.model.specs.Edition.{ranksByRows, usesPlane, passesOver}
+use Rattle.model.specs.Edition.{ranksByRows, usesPlane, passesOver, movesToStep}
 use Rattle.model.specs.Lists.{In, listBelow, allIn}
 use Rattle.model.specs.Real.{bits, infinity, _⊖_, _⊘_, above}
-use Rattle.model.specs.Draw.{Drawn}
+use Rattle.model.specs.Draw.{Drawn, drawn}
 use Rattle.model.specs.Plan.{Plan}
 use Rattle.model.specs.Row.{minimised, rowOf, dominates, feasible, violation, byFeasibility, constrainedDominates, rowBeats, beats}
 use Rattle.model.specs.Front.{front, listing, frontOf, frontList}
 use Rattle.model.specs.Hyperplane.{interceptsOf}
 use Rattle.model.specs.Association.{Request, objectives, lineCount, valueOf, dominance, feasiblePlan, feasibleOnly, shapes, shapers, leastFrom, greatest, idealOf, interceptFrom, oldInterceptOf, shaperValue, planeInterceptOf, interceptOf, normalised, coordinate, distanceTo, association, lineOf}
 use Rattle.model.specs.Kept.{exceedsSize, wholeFronts, before, isSplit, splitFront, picks, pickRules, filled, filledRules, noLine, lineMark, markOf, Selected, selectedSplit, bySplit, selected}
-use Rattle.model.specs.Setting.{extract, sortByParam, parentIn, parentsOf, rankOf, offspringOf, bredOf, Operators, Generation, generationOf, generation}
+use Rattle.model.specs.Setting.{extract, sortByParam, parentIn, parentsOf, rankOf, offspringOf, bredOf, movedBy, bornOf, Operators, Generation, generationOf, generation}
 use Rattle.model.specs.Window.{ownPart, ownWords}
 use Rattle.list_laws.proofs.Bools.{by-bool, and-both}
 use Rattle.list_laws.proofs.Best.{among-same}
@@ -308,6 +308,10 @@ module _ (r : Request) (plans : ℕ → Plan) (passes : passesOver (r .edition) 
         ∙ ap (λ k. bredOf o plans k (selected r .kept) (r .size) (selected r .state)) (ranks-same (selected r .kept))
         ∙ ap (λ x. bredOf o plans (rankOf s (x .kept)) (x .kept) (r .size) (x .state)) plans-same
 
+    born-same : bornOf o r (selected r .kept) (selected r .state) ≡ bornOf o s (selected s .kept) (selected s .state)
+    unfolding bornOf
+    born-same = ap (λ (d : Drawn (List (List ParamValue))). drawn (movedBy (movesToStep (r .edition)) (o .dims) (o .dimCount) (d .value)) (d .state)) bred-same
+
     abbrev born : Selected → Drawn (List (List ParamValue)) → Generation
     born x d = record { selection = x; offspring = d .value; state = d .state }
 
@@ -316,7 +320,7 @@ module _ (r : Request) (plans : ℕ → Plan) (passes : passesOver (r .edition) 
 
     generation-same : generation o r ≡ generation o s
     unfolding generationOf
-    generation-same = generation-many o r two-plans ∙ ap₂ born plans-same bred-same ∙ sym (generation-many o s two-plans)
+    generation-same = generation-many o r two-plans ∙ ap₂ born plans-same born-same ∙ sym (generation-many o s two-plans)
 
 -- ---- two requests
 
