@@ -38,7 +38,7 @@ static void run(uint64_t edition)
     const uint64_t valve[LOCUSTDOMINO_DIMENSION_WORDS] = {LOCUSTDOMINO_FLOAT, bits(0.0), bits(2.0), 0, 1, bits(0.125)};
     int counts[GENERATIONS][2] = {{0}};
 
-    must("open", locustdomino_open(edition, directions, 2, 7, 1, SIZE, 0, 0, 1.0, 30.0, 20.0, session, LOCUSTDOMINO_SESSION_WORDS));
+    must("open", locustdomino_open(edition, directions, 2, 7, 1, SIZE, 0, 0, 1.0, 30.0, 20.0, 0, 0, session, LOCUSTDOMINO_SESSION_WORDS));
     /* The first plan finds the dimensions and is in no generation. */
     for (size_t number = 0; number < PLANS; number++) {
         uint64_t *plan = history + number * LOCUSTDOMINO_PLAN_WORDS;

@@ -11,7 +11,7 @@ const GENERATIONS: usize = 3;
 fn run(edition: Edition) -> Result<(), Refusal> {
     let directions = Directions::new(&[Direction::Minimize, Direction::Minimize])?;
     let valve = Dimension::float_step(0.0, 2.0, 0.125)?;
-    let mut session = Session::open(edition, &directions, 7, Some(SIZE), None, &Operators::default())?;
+    let mut session = Session::open(edition, &directions, 7, Some(SIZE), None, &Operators::default(), None)?;
     let mut history = vec![];
     let mut counts = [[0; 2]; GENERATIONS];
     // The first plan finds the dimensions and is in no generation.

@@ -13,6 +13,7 @@ use model::MAX_ROW_VALUES;
 use model::MAX_SETTINGS;
 use model::MAX_SIZE;
 use model::MAX_TABLE_VALUES;
+use model::OptionF64;
 use model::OptionI64;
 use model::OptionUsize;
 use model::PLAN_WORDS;
@@ -323,11 +324,26 @@ pub fn read_dimensions(input: &Words, at: usize, n: usize) -> ReadDimensions
     ReadDimensions { dims, next }
 }
 
+// With all its fields, where there is a step.
+fn put_stepped(out: &mut Words, at: usize, low: f64, high: f64, step: f64) -> usize
+    ensures { λ r. ⌜ r ≤ 8193 ⌝ }
+{
+    let first = put_two(out, at, 3, real::word_of_real(low));
+    let second = put_two(out, first, real::word_of_real(high), 0);
+    put_two(out, second, 1, real::word_of_real(step))
+}
+
 fn put_float(out: &mut Words, at: usize, d: FloatDistribution) -> usize
     ensures { λ r. ⌜ r ≤ 8193 ⌝ }
 {
-    let low = put_two(out, at, 0, real::word_of_real(d.low));
-    put_real(out, low, d.high)
+    let step = d.step;
+    match step {
+        OptionF64::Some(x) => put_stepped(out, at, d.low, d.high, x),
+        OptionF64::None => {
+            let low = put_two(out, at, 0, real::word_of_real(d.low));
+            put_real(out, low, d.high)
+        }
+    }
 }
 
 fn put_int(out: &mut Words, at: usize, d: IntDistribution) -> usize
@@ -342,7 +358,7 @@ fn put_int(out: &mut Words, at: usize, d: IntDistribution) -> usize
     put_two(out, low, real::word_of_int(d.high), last)
 }
 
-// A dimension in its short form.
+// A dimension in its shortest form.
 pub fn put_dimension(out: &mut Words, at: usize, d: Distribution) -> usize
     ensures { λ r. ⌜ r ≤ 8193 ⌝ }
 {
