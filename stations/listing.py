@@ -1,7 +1,7 @@
 """The table for a person: the kept plans in order, and the dropped ones on request."""
 
 from problem import plain
-from sheet import number_text
+from sheet import value_texts
 
 WAY = ("less is better", "more is better")
 
@@ -27,11 +27,12 @@ def plan_lines(rows, pool, names, with_place):
     heads = [["place"] if with_place else [], [""] if with_place else []]
     heads[0] += ["plan", *map(plain, names.objectives), "front", "line", "index"] + (["breaks"] if breaking else [])
     heads[1] += ["", *(WAY[mark] for mark in pool.marks), "", "", ""] + ([""] if breaking else [])
+    values = value_texts(pool)
     lines = []
     for row in rows:
         plan = pool.plans[row.index]
         line = [str(row.place)] if with_place else []
-        line += [plain(names.labels[row.index]), *map(number_text, plan.values), str(row.front), "-" if row.line is None else str(row.line), str(row.index)]
+        line += [plain(names.labels[row.index]), *values[row.index], str(row.front), "-" if row.line is None else str(row.line), str(row.index)]
         lines.append(line + ([plain(", ".join(broken(plan, names)))] if breaking else []))
     right = ([True] if with_place else []) + [False] + [True] * (len(pool.marks) + 3) + ([False] if breaking else [])
     return aligned(heads, lines, right)

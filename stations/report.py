@@ -6,7 +6,7 @@ from lines import line_count, shares
 from listing import WAY, broken
 from names import keyed, parameters, setting_text
 from picture import BREAKS, DROPPED, KEPT, KEPT_BREAKS, Mark, escaped, picture
-from sheet import number_text
+from sheet import number_text, value_texts
 
 STYLE = """
 :root { --ink: #1c2430; --soft: #5a6675; --rule: #cfd6de; --kept: #0a4f7a; --dropped: #b3541e; --breaks: #6d6d6d; }
@@ -124,13 +124,14 @@ def plan_table(rows, pool, names, with_place):
     heads += [(f"{escaped(heading)}<small>{WAY[mark]}</small>", False) for heading, mark in zip(names.objectives, pool.marks)]
     heads += [(f"{escaped(heading)}<small>setting</small>", False) for heading in names.settings]
     heads += [("front", False), ("line", False), ("index", False)] + ([("breaks", True)] if breaking else [])
+    values = value_texts(pool)
     lines = []
     for row in rows:
         plan = pool.plans[row.index]
         own = keyed(plan)
         line = ([(str(row.place), False)] if with_place else []) + [(escaped(names.labels[row.index]), True)]
         line += [(str(plan.number), False)] if names.number else []
-        line += [(number_text(x), False) for x in plan.values]
+        line += [(text, False) for text in values[row.index]]
         line += [(escaped(setting_text(key[1], own[key], names.choices[at], number_text)) if key in own else "", False) for at, key in enumerate(keys)]
         line += [(str(row.front), False), ("-" if row.line is None else str(row.line), False), (str(row.index), False)]
         lines.append(line + ([(escaped(", ".join(broken(plan, names))), True)] if breaking else []))
@@ -201,8 +202,8 @@ def line_section(pool, names, facts):
     body = table_of(heads, rows).replace("<td class=text><svg", '<td class="bar"><svg')
     others = facts.lines - len(lines)
     rest = f" The other {counted(others, 'line')} {'has' if others == 1 else 'have'} none of either." if others else ""
-    return (f"<p>Each plan belongs to the nearest of {counted(facts.lines, 'reference line')}. A line says how what is given away is shared among the objectives: a plan on a line "
-            f"with 0 for an objective has about the best value of it. {key('whole')} kept with a whole front, {key('split')} kept from the split front, {key('waits')} "
+    return (f"<p>Each plan belongs to the nearest of {counted(facts.lines, 'reference line')}. A line says how what is given away is shared among the objectives: a plan near a "
+            f"line with 0 for an objective gives away little of it. {key('whole')} kept with a whole front, {key('split')} kept from the split front, {key('waits')} "
             f"dropped from the split front, still waiting.{rest}</p>{body}")
 
 
@@ -235,7 +236,7 @@ def claims(pool, names, facts):
 
 NOT_CLAIMED = ("It does not claim that the measurements are right, or that a dropped plan is a bad one: a dropped plan of the split front may be as good as one "
                "that was kept, and gave way so that the kept ones differ more.")
-PROVED = ("That the program <code>choose</code> prints only tables that hold to these claims is proved, for every pool file of at least the size wanted that it accepts: "
+PROVED = ("That the table which the program <code>choose</code> works out holds to these claims is proved, for every pool file that it accepts with at least as many plans as are wanted: "
           "theorem <code>demand3</code> in <code>crates/demand3_laws/proofs/Accepted.antt</code>, of the record <code>Demand3</code> in "
           "<code>crates/model/specs/Demand3.antt</code>, which the call's promise <code>Chooses</code> carries. What a reader still has to believe, the checker and the compiler "
           "first, stands in <code>README.md</code> under \"What is assumed\". Not proved is what stands around the program: how the spreadsheet was read, this page, and the "

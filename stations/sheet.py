@@ -169,6 +169,21 @@ def number_text(x):
     return short[:-2] if short.endswith(".0") else short
 
 
+def column_texts(values):
+    """The same for a column that a person reads: with as many decimals throughout, where no number needs an exponent."""
+    texts = list(map(number_text, values))
+    if not all(NUMBER.fullmatch(text) and "e" not in text for text in texts):
+        return texts
+    decimals = max((len(text.partition(".")[2]) for text in texts), default=0)
+    return [text + "." * (decimals > 0 and "." not in text) + "0" * (decimals - len(text.partition(".")[2])) for text in texts]
+
+
+def value_texts(pool):
+    """The values of each plan of a pool as a person reads them."""
+    columns = [column_texts([plan.values[at] for plan in pool.plans]) for at in range(len(pool.marks))]
+    return [[column[plan] for column in columns] for plan in range(len(pool.plans))]
+
+
 def write_sheet(headings, rows):
     """A CSV's text."""
     out = io.StringIO()

@@ -14,24 +14,24 @@ import tempfile
 CHROMIUM = next(filter(None, map(shutil.which, ("chromium", "chromium-browser", "google-chrome"))), None)
 WIDTH = 1040
 
-# Put into a copy of the page, to say what the browser made of it: texts of a picture that overlap or leave it, what is wider than the page, marks and rows counted.
+# Put into a copy of the page, to say what the browser made of it: texts of a picture that overlap, leave it or lie on a kept plan's mark, what is wider than the page,
+# marks and rows counted.
 MEASURE = """
 <script>
+// by more than a little: a line's box is higher than its letters
+const meet = (a, b, across, down) => Math.min(a.right, b.right) - Math.max(a.left, b.left) > across && Math.min(a.bottom, b.bottom) - Math.max(a.top, b.top) > down;
 const boxes = [...document.querySelectorAll('figure svg text')].map(t => [t.textContent, t.getBoundingClientRect(), t.closest('svg').getBoundingClientRect()]);
-const found = { overlaps: [], outside: [], wide: document.documentElement.scrollWidth > document.documentElement.clientWidth };
+const circles = [...document.querySelectorAll('figure svg circle')].map(c => c.getBoundingClientRect());
+const found = { overlaps: [], outside: [], covered: [], wide: document.documentElement.scrollWidth > document.documentElement.clientWidth };
 for (let a = 0; a < boxes.length; a++) {
   const [text, box, whole] = boxes[a];
   if (box.left < whole.left - 1 || box.right > whole.right + 1 || box.top < whole.top - 1 || box.bottom > whole.bottom + 1) found.outside.push(text);
-  for (let b = 0; b < a; b++) {
-    const [other, its] = boxes[b];
-    const across = Math.min(box.right, its.right) - Math.max(box.left, its.left), down = Math.min(box.bottom, its.bottom) - Math.max(box.top, its.top);
-    if (across > 1 && down > 4) found.overlaps.push(text + ' / ' + other);
-  }
+  for (let b = 0; b < a; b++) if (meet(box, boxes[b][1], 1, 4)) found.overlaps.push(text + ' / ' + boxes[b][0]);
+  if (circles.some(circle => meet(box, circle, 2, 4))) found.covered.push(text);
 }
 found.height = document.documentElement.scrollHeight;
 found.kept = document.querySelectorAll('figure circle.kept').length;
 found.rows = document.querySelectorAll('tbody tr').length;
-found.requests = performance.getEntriesByType('resource').map(e => e.name);
 document.title = 'MEASURED' + JSON.stringify(found) + 'END';
 </script>
 """
@@ -78,7 +78,7 @@ def keep(path):
         for arguments in (["table", TRIALS, *COLUMNS, "--title", "Block 12, drip trials", "--to", stem], ["report", stem + ".pool", stem + ".table"]):
             if PLANS.main(arguments) != 0:
                 sys.exit(1)
-        picture(stem + ".html", path, 1480)
+        picture(stem + ".html", path, 1510)
 
 
 if __name__ == "__main__":

@@ -146,13 +146,23 @@ class Contents(Page):
 class InABrowser(Page):
     def fine(self, width=browser.WIDTH):
         found = browser.measured(self.path("a.html"), width)
-        self.assertEqual((found["overlaps"], found["outside"], found["wide"], found["requests"]), ([], [], False, []))
+        self.assertEqual((found["overlaps"], found["outside"], found["wide"]), ([], [], False))
         return found
+
+    def test_the_measure_finds_faults(self):
+        page = self.sample()
+        circle = re.search(r'<circle class="kept" cx="([0-9.]+)" cy="([0-9.]+)"', page)
+        for added, kind in (('<text x="560" y="200">one</text><text x="565" y="203">two</text>', "overlaps"), ('<text x="930" y="200">too far right</text>', "outside"),
+                            (f'<text x="{circle[1]}" y="{circle[2]}">on a mark</text>', "covered")):
+            self.put("b.html", page.replace("</svg><figcaption>", added + "</svg><figcaption>"))
+            self.assertEqual(len(browser.measured(self.path("b.html"))[kind]), 1, kind)
+        self.put("b.html", page.replace("</h1>", '</h1><div style="width:5000px">wide</div>'))
+        self.assertTrue(browser.measured(self.path("b.html"))["wide"])
 
     def test_the_sample(self):
         self.sample()
         found = self.fine()
-        self.assertEqual(found["kept"], 3 * 16 + 1)
+        self.assertEqual((found["kept"], found["covered"]), (3 * 16 + 1, []))
         self.fine(width=600)
         browser.picture(self.path("a.html"), self.path("a.png"), found["height"])
         width, height = struct.unpack(">II", read(self.path("a.png"))[16:24])
