@@ -111,6 +111,9 @@ class AsSpreadsheetsWrite(Case):
     def test_lines_that_end_as_on_windows(self):
         self.same("plan,water,yield\r\nN1,1.5,2\r\nN2,3,4\r\n")
 
+    def test_lines_that_end_as_on_old_macintoshes(self):
+        self.same("plan,water,yield\rN1,1.5,2\rN2,3,4\r")
+
     def test_no_newline_at_the_end(self):
         self.same("plan,water,yield\nN1,1.5,2\nN2,3,4")
 

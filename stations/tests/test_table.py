@@ -4,7 +4,6 @@ import os
 
 from common import COLUMNS, STATIONS, TRIALS, Case, choose, read
 
-import chooser
 import lines
 
 
@@ -13,16 +12,16 @@ class Tables(Case):
         out = self.done("table", TRIALS, *COLUMNS, "--to", "a")
         pool, printed = read(self.path("a.pool")), read(self.path("a.table"))
         self.assertEqual(choose(pool), printed)
-        table = chooser.read_table(printed.decode(), "a.table")
+        rows = [line.split() for line in printed.decode().splitlines()[1:]]
+        kept = sorted((row for row in rows if row[3] != "0"), key=lambda row: int(row[3]))
         shown = [line.split() for line in out.splitlines() if line.strip()[:1].isdigit()]
         self.assertEqual(len(shown), 16)
         sheet = [line.split(",") for line in read(TRIALS).decode().splitlines()[1:]]
-        for cells, row in zip(shown, table.in_order()):
-            trial = sheet[row.index]
-            values = [float(x) for x in trial[6:9]]
-            self.assertEqual((cells[0], cells[1]), (str(row.place), trial[1]))
-            self.assertEqual([float(x) for x in cells[2:5]], values)
-            self.assertEqual(cells[5:], [str(row.front), str(row.line), str(row.index)])
+        for cells, (index, front, line, place) in zip(shown, kept):
+            trial = sheet[int(index)]
+            self.assertEqual((cells[0], cells[1]), (place, trial[1]))
+            self.assertEqual([float(x) for x in cells[2:5]], [float(x) for x in trial[6:9]])
+            self.assertEqual(cells[5:], [front, line, index])
         for heading in ("water (l/tree)", "cost (EUR/ha)", "yield (kg/tree)", "less is better", "more is better", "front", "line", "place"):
             self.assertIn(heading, out)
 
@@ -45,6 +44,14 @@ class Tables(Case):
         self.assertEqual((status, complaint), (0, ""))
         self.assertIn("Of 48 plans 16 are kept", out)
         self.assertFalse(os.path.exists(os.path.join(STATIONS, "__pycache__")))
+
+    def test_labels_of_any_script_in_any_locale(self):
+        self.put("a.csv", "p,x\n\N{GREEK SMALL LETTER ALPHA}\N{CYRILLIC SMALL LETTER ZHE},1\n")
+        os.environ["PYTHONIOENCODING"] = "ascii"
+        self.addCleanup(os.environ.pop, "PYTHONIOENCODING")
+        status, out, complaint = self.program(STATIONS, "table", "a.csv", "--label", "p", "--minimise", "x", "--keep", "1")
+        self.assertEqual((status, complaint), (0, ""))
+        self.assertIn("\N{GREEK SMALL LETTER ALPHA}\N{CYRILLIC SMALL LETTER ZHE}", out)
 
     def test_a_pool_smaller_than_the_size(self):
         self.put("a.csv", "x,y\n1,2\n2,1\n3,3\n")
