@@ -7,9 +7,10 @@ from dataclasses import dataclass
 WIDTH = 940
 FONT = 13
 LETTER = 0.56 * FONT  # what a letter takes, about
+MOST_NUMBERED = 60  # of more kept plans none is numbered: there is no room for it
 KEPT, DROPPED, BREAKS, KEPT_BREAKS = "kept", "dropped", "breaks", "kept-breaks"
 MEANING = {
-    KEPT: "kept; the number is its place",
+    KEPT: "kept",
     DROPPED: "dropped",
     BREAKS: "dropped; breaks a constraint",
     KEPT_BREAKS: "kept, though it breaks a constraint",
@@ -111,8 +112,10 @@ def around(x, y, width, height):
 
 def place_labels(points, frame):
     """A box for the number of each kept plan, clear of marks and other numbers and within the frame; none where there is no room."""
-    taken = [(x - 6.5, y - 6.5, x + 6.5, y + 6.5) for _, x, y in points]
     boxes = []
+    if sum(mark.place > 0 for mark, _, _ in points) > MOST_NUMBERED:
+        return boxes
+    taken = [(x - 6.5, y - 6.5, x + 6.5, y + 6.5) for _, x, y in points]
     for mark, x, y in points:
         if not mark.place:
             continue
@@ -256,7 +259,7 @@ def parallel(marks, axes, about):
         for line, text in enumerate(lines):
             out.append(words(x, top - 12 - 15 * (len(lines) - 1 - line), text, f'text-anchor="middle" class="{"better" if line == len(lines) - 1 else "heading"}"'))
     kept = sorted((at(len(axes) - 1, mark.values[-1])[1], mark.place) for mark in marks if mark.place)
-    if len(kept) * 13 <= height:
+    if len(kept) * 13 <= height:  # fewer than 30
         for y, (wanted, place) in zip(spread([y for y, _ in kept], top, bottom, 13), kept):
             out.append(f'<path class="lead" d="M{right + 7:.1f} {wanted:.1f}L{right + 24:.1f} {y:.1f}"/>' + words(right + 28, y + 4, str(place), 'class="place"'))
     rows = len({mark.kind for mark in marks})

@@ -161,9 +161,11 @@ def marks_of(pool, names, table):
 
 def figure(pool, names, table):
     drawn = picture(marks_of(pool, names, table), names.objectives, pool.marks)
-    caption = "Each plan by its measured values. A number beside a kept plan is its place in the list below; where plans crowd, some go without."
+    caption = "Each plan by its measured values."
     if len(pool.marks) > 3:
         caption = "Each plan is a line across the objectives, the better end of each on top. Kept: solid, with dots; dropped: dashed; dropped and breaking a constraint: dotted."
+    if 'class="place"' in drawn:
+        caption += " A number at a kept plan is its place in the list below" + ("." if len(pool.marks) > 3 else "; where plans crowd, some go without.")
     return f"<figure>{drawn}<figcaption>{caption}</figcaption></figure>"
 
 
