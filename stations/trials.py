@@ -129,8 +129,9 @@ def pool_of(sheet, parts, keep, divisions, seed, title):
     if divisions is None:
         divisions = usual_divisions(len(objectives), keep)
     pool = Pool(divisions, keep, seed, [mark for _, _, mark in objectives], plans)
-    look_at(pool)
+    # too long a file first, as choose looks at it
     data = write_pool(pool)
+    look_at(pool)
     names = Names(
         pool=digest(data),
         title=title,
