@@ -104,6 +104,15 @@ def gathered(problems, reading):
         return None
 
 
+def plans_of(numbers, values, limits, settings, set_to):
+    """A plan for each row, from its columns."""
+    plans = []
+    for at, number in enumerate(numbers):
+        named = [(parameter, kind, set_to[parameter][0][at]) for parameter, (_, _, kind) in enumerate(settings)]
+        plans.append(Plan(number, [column[at] for column in values], [column[at] for column in limits], named))
+    return plans
+
+
 def pool_of(sheet, parts, keep, divisions, seed, title):
     """The pool of a sheet, its file's bytes and its names."""
     look_for_two_parts(parts)
@@ -122,13 +131,9 @@ def pool_of(sheet, parts, keep, divisions, seed, title):
     if wrong:
         raise Problem(*dict.fromkeys(wrong))
 
-    plans = []
-    for at in range(len(sheet.rows)):
-        named = [(parameter, kind, set_to[parameter][0][at]) for parameter, (_, _, kind) in enumerate(settings)]
-        plans.append(Plan(numbers[at], [column[at] for column in values], [column[at] for column in limits], named))
     if divisions is None:
         divisions = usual_divisions(len(objectives), keep)
-    pool = Pool(divisions, keep, seed, [mark for _, _, mark in objectives], plans)
+    pool = Pool(divisions, keep, seed, [mark for _, _, mark in objectives], plans_of(numbers, values, limits, settings, set_to))
     # too long a file first, as choose looks at it
     data = write_pool(pool)
     look_at(pool)
