@@ -288,7 +288,7 @@ fn longer(seeds: u64) -> Result<(), Refusal> {
 }
 
 fn main() {
-    let mut seeds = [20, 10, 5];
+    let mut seeds = [20, 5, 3];
     for (to, from) in seeds.iter_mut().zip(std::env::args().skip(1)) {
         *to = from.parse().ok().filter(|&n| n > 0).expect("a number of seeds");
     }
