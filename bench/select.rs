@@ -2,7 +2,9 @@
 //! what both hand out. Exit code 1 where anything differs.
 //!
 //! `select proved N M` and `select rust N M` make one selection of N plans with
-//! M objectives in many fronts by one side, for bench/profile.
+//! M objectives in many fronts by one side, for bench/profile. `select pools`
+//! writes every pool with the proved time of its selection in edition 2, for
+//! bench/deap.
 
 #![allow(dead_code)]
 
@@ -117,6 +119,37 @@ fn both(n: usize, m: usize, rows: Rows, mix: &mut Mix) -> usize {
     wrong + usize::from(compared(&call, rows, first).is_none())
 }
 
+/// A pool for another program: a line of its counts, how its rows lie, divisions, size and the ns of a selection; then its rows as the bits of doubles, and the plans kept with whole fronts.
+fn written(call: &Call, rows: Rows) {
+    let mut ours = Proved::of(call);
+    black_box(ours.select());
+    let rules = ours.rules(ours.kept.len());
+    let whole: Vec<String> = ours.kept.iter().zip(&rules).filter(|&(_, &rule)| rule == 0).map(|(place, _)| place.to_string()).collect();
+    let least = (0..ROUNDS).map(|_| {
+        let mut ours = Proved::of(call);
+        ns(|| proved_select(&mut ours))
+    });
+    let least = least.fold(f64::INFINITY, f64::min);
+    println!("{}\t{}\t{}\t{}\t{}\t{least}", call.pool.len(), call.marks.len(), rows.name(), call.divisions, call.size);
+    for plan in &call.pool {
+        let row: Vec<String> = bits(&plan.values).iter().map(|word| format!("{word:x}")).collect();
+        println!("{}", row.join(" "));
+    }
+    println!("{}", whole.join(" "));
+}
+
+/// The pools that are timed, each handed on with its number of plans and objectives.
+fn for_each_pool(mut then: impl FnMut(usize, usize, Rows, &mut Mix)) {
+    let mut mix = Mix(1);
+    for n in [128, 512, 1024, 2048] {
+        for m in [3, 8] {
+            for rows in [Rows::Planes, Rows::Plane, Rows::Uniform] {
+                then(n, m, rows, &mut mix);
+            }
+        }
+    }
+}
+
 /// One selection by one side.
 fn one(side: &str, n: usize, m: usize) {
     let call = selection(n, m, Rows::Planes, &mut Mix(1));
@@ -133,16 +166,16 @@ fn main() {
         let number = |text: &String| text.parse().expect("N and M are numbers");
         return one(side, number(n), number(m));
     }
-    let mut mix = Mix(1);
+    if arguments == ["pools"] {
+        return for_each_pool(|n, m, rows, mix| {
+            let mut call = selection(n, m, rows, mix);
+            call.edition = Edition::Second;
+            written(&call, rows);
+        });
+    }
     let mut wrong = 0;
     timing::head(&["N", "m", "rows", "edition", "fronts", "lines", "proved", "Rust", "ratio", "of edition 1", "the Rust's table"]);
-    for n in [128, 512, 1024, 2048] {
-        for m in [3, 8] {
-            for rows in [Rows::Planes, Rows::Plane, Rows::Uniform] {
-                wrong += both(n, m, rows, &mut mix);
-            }
-        }
-    }
+    for_each_pool(|n, m, rows, mix| wrong += both(n, m, rows, mix));
     println!("\n{wrong} of 42 selections answered differently");
     if wrong > 0 {
         std::process::exit(1);
