@@ -4,23 +4,23 @@ ghost use mathlib.Core.Path.{_≡_};
 ghost use mathlib.Core.Bool.{not};
 ghost use Prim.Native.Nat.{_+_, _≤_, _<_};
 ghost use lib.ListN.{length, drop};
-ghost use Rattle.model.specs.Lists.{allBelow, listBelow};
+ghost use Rattle.model.specs.Lists.{allBelow};
 ghost use Rattle.model.specs.Plan.{planAt, planCount, planWords, maxSettings};
 ghost use Rattle.model.specs.Refusal.{othersDiffer, namedOnce, fitsDimension, breedable, fitsAt};
 ghost use Rattle.model.specs.Setting.{maxDims, dimensionsOf};
-ghost use Rattle.extraction.specs.Entries.{settingAt, asSetting, entriesOf};
-use extraction::Entry;
+ghost use Rattle.setting_order.specs.Entries.{settingAt, settingsAt, asSetting};
 use model::DimensionInfo;
 use model::Distribution;
 use model::MAX_DIMS;
 use model::MAX_SETTINGS;
 use model::PLAN_WORDS;
 use model::SETTING_COUNT;
+use setting_order::Entry;
 
 // A setting after setting j has its parameter number.
 fn repeated(pool: &[u64], at: usize, j: usize, count: usize) -> bool
     requires { ⌜ (at + planWords ≤ length (now pool)) × (j < count) × (count ≤ maxSettings) ⌝ }
-    ensures { λ r. ⌜ r ≡ not (othersDiffer (settingAt (now (pool .entry)) at j) (drop (j + 1) (listBelow (settingAt (now (pool .entry)) at) count))) ⌝ }
+    ensures { λ r. ⌜ r ≡ not (othersDiffer (settingAt (now (pool .entry)) at j) (drop (j + 1) (settingsAt (now (pool .entry)) at count))) ⌝ }
 {
     let x = pool[at + (28 + 3 * j)];
     let mut t = j + 1;
@@ -36,7 +36,7 @@ fn repeated(pool: &[u64], at: usize, j: usize, count: usize) -> bool
 // No parameter number stands twice.
 fn named_once(pool: &[u64], at: usize, count: usize) -> bool
     requires { ⌜ (at + planWords ≤ length (now pool)) × (count ≤ maxSettings) ⌝ }
-    ensures { λ r. ⌜ r ≡ namedOnce (listBelow (settingAt (now (pool .entry)) at) count) ⌝ }
+    ensures { λ r. ⌜ r ≡ namedOnce (settingsAt (now (pool .entry)) at count) ⌝ }
 {
     let mut j = count;
     while 0 < j {
@@ -59,38 +59,33 @@ fn fits_dimension(d: Distribution, x: Entry) -> bool
     false
 }
 
-// Dimension i has no setting, or one that fits.
-fn fits_at(
-    sorted: [Entry; MAX_SETTINGS],
-    count: usize,
-    dims: [DimensionInfo; MAX_DIMS],
-    i: usize,
-) -> bool
-    requires { ⌜ (count ≤ maxSettings) × (i < maxDims) ⌝ }
-    ensures { λ r. ⌜ r ≡ fitsAt (dimensionsOf dims) (entriesOf sorted count) i ⌝ }
+// Dimension i has no setting, or one that fits, in a plan at `at` whose settings stand in order.
+fn fits_at(d: Distribution, words: &[u64], at: usize, count: usize, i: usize) -> bool
+    requires { ⌜ (at + planWords ≤ length (now words)) × (count ≤ maxSettings) ⌝ }
+    ensures { λ r. ⌜ r ≡ fitsAt (λ _. d) (settingsAt (now (words .entry)) at count) i ⌝ }
 {
     if count <= i {
         return true;
     }
-    let x = sorted[i];
-    let info = dims[i];
-    let d = info.distribution;
-    fits_dimension(d, x)
+    fits_dimension(d, setting_order::read_entry(words, at, i))
 }
 
 // Each of the n dimensions has no setting, or one that fits.
 fn all_fit(
-    sorted: [Entry; MAX_SETTINGS],
+    words: &[u64],
+    at: usize,
     count: usize,
     dims: [DimensionInfo; MAX_DIMS],
     n: usize,
 ) -> bool
-    requires { ⌜ (count ≤ maxSettings) × (n ≤ maxDims) ⌝ }
-    ensures { λ r. ⌜ r ≡ allBelow (fitsAt (dimensionsOf dims) (entriesOf sorted count)) n ⌝ }
+    requires { ⌜ (at + planWords ≤ length (now words)) × (count ≤ maxSettings) × (n ≤ maxDims) ⌝ }
+    ensures { λ r. ⌜ r ≡ allBelow (fitsAt (dimensionsOf dims) (settingsAt (now (words .entry)) at count)) n ⌝ }
 {
     let mut i = 0;
     while i < n {
-        if fits_at(sorted, count, dims, i) {
+        let info = dims[i];
+        let d = info.distribution;
+        if fits_at(d, words, at, count, i) {
             i += 1;
         } else {
             return false;
@@ -100,6 +95,7 @@ fn all_fit(
 }
 
 // Plan i can be bred from: at most MAX_SETTINGS settings, no parameter number twice, each setting of its dimension's kind and within its bounds.
+// Where the numbers rise none stands twice, and the settings are looked at where they stand.
 fn breedable(pool: &[u64], i: usize, dims: [DimensionInfo; MAX_DIMS], n: usize) -> bool
     requires { ⌜ (i < planCount (now pool)) × (n ≤ maxDims) ⌝ }
     ensures { λ r. ⌜ r ≡ breedable (dimensionsOf dims) n (planAt (now (pool .entry)) i) ⌝ }
@@ -109,9 +105,13 @@ fn breedable(pool: &[u64], i: usize, dims: [DimensionInfo; MAX_DIMS], n: usize) 
     if count > MAX_SETTINGS {
         return false;
     }
+    if setting_order::rising(pool, at, count) {
+        return all_fit(pool, at, count, dims, n);
+    }
     if named_once(pool, at, count) {
-        let sorted = extraction::sort_by_param(pool, at, count);
-        return all_fit(sorted, count, dims, n);
+        let mut sorted: [u64; PLAN_WORDS] = [0; PLAN_WORDS];
+        setting_order::sort_by_param(pool, at, count, &mut sorted);
+        return all_fit(&sorted, 0, count, dims, n);
     }
     false
 }
