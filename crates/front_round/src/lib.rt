@@ -1,12 +1,31 @@
-// One round of the sort: the members of a front take its number and lower the counts of the plans that they dominate; those that reach zero are the next front.
+// The first front, and one round of the sort: the members of a front take its number and lower the counts of the plans that they dominate; those that reach zero are the next front.
 ghost use mathlib.Core.Path.{_≡_};
 ghost use Prim.Native.Nat.{_<_, _≤_};
+ghost use lib.Dec.{eqb};
 ghost use lib.ListN.{length, getD};
+ghost use Rattle.list_laws.specs.Put.{Picked};
 ghost use Rattle.front_laws.specs.Flat.{flatBeats, Pool};
 ghost use Rattle.front_laws.specs.Post.{Freed, Releasable, Released, Ready, Passed};
 
+// Front 0: the plans whose count is zero, in rising index.
+pub fn first_front(n: usize, counts: &[usize], order: &mut [usize]) -> usize
+    requires { ⌜ (n ≤ length (now counts)) × (n ≤ length (now order)) ⌝ }
+    ensures { λ r. ⌜ Picked (λ q. eqb (getD (now (counts .entry)) q 0) 0) (now (order .entry)) 0 n (now (order .exit)) r ⌝ }
+{
+    let mut len = 0;
+    let mut q = 0;
+    while q < n {
+        if counts[q] == 0 {
+            order[len] = q;
+            len += 1;
+        }
+        q += 1;
+    }
+    len
+}
+
 // Lowers q's count, and lists q at `len` if that brings it to zero.
-fn lower(counts: &mut [usize], order: &mut [usize], q: usize, len: usize) -> usize
+pub fn lower(counts: &mut [usize], order: &mut [usize], q: usize, len: usize) -> usize
     requires { ⌜ (q < length (now counts)) × (1 ≤ getD (now counts) q 0) × (getD (now counts) q 0 ≡ 1 → len < length (now order)) ⌝ }
     ensures { λ r. ⌜ Freed q len (now (counts .entry)) (now (counts .exit)) (now (order .entry)) (now (order .exit)) r ⌝ }
 {

@@ -2,12 +2,10 @@
 use model::MAX_POOL;
 ghost use mathlib.Core.Path.{_≡_};
 ghost use Prim.Native.Nat.{_*_, _≤_};
-ghost use lib.Dec.{eqb};
-ghost use lib.ListN.{length, getD};
+ghost use lib.ListN.{length};
 ghost use Rattle.model.specs.Lists.{listBelow, over};
 ghost use Rattle.model.specs.Refusal.{maxPool};
 ghost use Rattle.model.specs.Row.{minimised};
-ghost use Rattle.list_laws.specs.Put.{Picked};
 ghost use Rattle.front_laws.specs.Flat.{flatDominates, flatBeats, Pool, KnownRows};
 ghost use Rattle.front_laws.specs.Post.{Sorted};
 
@@ -24,24 +22,8 @@ pub fn to_minimize_space(values: &[f64], directions: &[u8], row: &mut [f64])
     }
 }
 
-// Front 0: the plans whose count is zero, in rising index.
-fn first_front(n: usize, counts: &[usize], order: &mut [usize]) -> usize
-    requires { ⌜ (n ≤ length (now counts)) × (n ≤ length (now order)) ⌝ }
-    ensures { λ r. ⌜ Picked (λ q. eqb (getD (now (counts .entry)) q 0) 0) (now (order .entry)) 0 n (now (order .exit)) r ⌝ }
-{
-    let mut len = 0;
-    let mut q = 0;
-    while q < n {
-        if counts[q] == 0 {
-            order[len] = q;
-            len += 1;
-        }
-        q += 1;
-    }
-    len
-}
-
-// Lists the n plans front by front in `order`, with each plan's front in `rank` and each front's end in `ends`; how many fronts there are.
+// Lists the n plans front by front in `order`, with each plan's front in `rank` and each front's end in `ends`; how many fronts there are. By sets,
+// or by pairs where an infeasible plan's violation is a NaN or minus infinity, which has no place in an order above the feasible plans.
 pub fn fast_non_dominated_sort_constrained(
     rows: &[f64],
     m: usize,
@@ -57,31 +39,10 @@ pub fn fast_non_dominated_sort_constrained(
     ensures { λ r. ⌜ Sorted (flatBeats (now (rows .entry)) m (now (feasible .entry)) (now (violations .entry))) n
         (now (order .entry)) (now (order .exit)) (now (rank .entry)) (now (rank .exit)) (now (ends .entry)) (now (ends .exit)) r ⌝ }
 {
-    let mut counts: [usize; MAX_POOL] = [0; MAX_POOL];
-    dominator_counts::count_all(rows, m, feasible, violations, n, &mut counts);
-    let mut start = 0;
-    let mut end = first_front(n, &counts, order);
-    let mut k = 0;
-    while start < end {
-        ends[k] = end;
-        let len = front_round::pass_front(
-            rows,
-            m,
-            feasible,
-            violations,
-            n,
-            k,
-            start,
-            end,
-            &mut counts,
-            order,
-            rank,
-        );
-        start = end;
-        end = len;
-        k += 1;
+    if rule_columns::any_unplaced(feasible, violations, n) {
+        return pairwise_sort::sort_pairwise(rows, m, feasible, violations, n, order, rank, ends);
     }
-    k
+    sized_sort::sort(rows, m, feasible, violations, n, order, rank, ends)
 }
 
 // The same by rows only: every plan counts as feasible.

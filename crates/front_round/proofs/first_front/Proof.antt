@@ -8,8 +8,8 @@ use lib.Dec.{eqb}
 use lib.ListN.{length, getD, length-set}
 use Rattle.list_laws.specs.Put.{Picked}
 use Rattle.list_laws.proofs.Stores.{picked-none, picked-yes, picked-no}
-use Rattle.pareto.proofs.first_front.Statement.{statement}
-use Rattle.pareto.proofs.first_front.Tie as tie
+use Rattle.front_round.proofs.first_front.Statement.{statement}
+use Rattle.front_round.proofs.first_front.Tie as tie
 
 abbrev Inv-loop : tie.InvT-loop
 Inv-loop n counts order₀ len₀ q₀ order len q =
