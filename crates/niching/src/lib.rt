@@ -39,35 +39,37 @@ fn count_waiting(front: &[usize], lines: &[usize], waits: &mut [usize])
     count_lines(front, lines, waits);
 }
 
-// Fills one open place: the plan picked, with the arrays moved on. Its line's number in `waits` is lowered by one, however it was chosen (M-104). The count by
-// which it was chosen is handed out, and not the one after it: by that the place gets its rule (M-108).
+// Fills one open place: the plan picked, with the arrays moved on. Its line's number in `waits` is lowered by one, however it was chosen (M-104), and it is taken out
+// of that line's members, which start at the line's place in `firsts`. The count by which it was chosen is handed out, and not the one after it: by that the place
+// gets its rule (M-108).
 fn pick(
     rng: Rng,
-    front: &[usize],
-    lines: &[usize],
     distances: &[f64],
     n: usize,
+    firsts: &[usize],
     counts: &mut [usize],
     waits: &mut [usize],
-    taken: &mut [bool],
+    laid: &mut [usize],
 ) -> Picked
-    requires { ⌜ Ready (now front) (now lines) (now distances) n (now counts) (now waits) (now taken) ⌝ }
-    ensures { λ r. ⌜ Took (now (front .entry)) (now (lines .entry)) (now (distances .entry)) n (rng .s) (now (counts .entry)) (now (counts .exit))
-        (now (waits .entry)) (now (waits .exit)) (now (taken .entry)) (now (taken .exit)) (r .value) (r .count) (r .rng .s) ⌝ }
+    requires { ⌜ Ready (now distances) n (now firsts) (now counts) (now waits) (now laid) ⌝ }
+    ensures { λ r. ⌜ Took (now (distances .entry)) n (rng .s) (now (firsts .entry)) (now (counts .entry)) (now (counts .exit))
+        (now (waits .entry)) (now (waits .exit)) (now (laid .entry)) (now (laid .exit)) (r .value) (r .count) (r .rng .s) ⌝ }
 {
     let d = niching_lines::choose_line(rng, counts, waits, n);
     let l = d.value;
     let rng = d.rng;
     let count = counts[l];
     let waiting = waits[l];
-    let m = niching_members::choose_member(rng, front, lines, distances, taken, l, count, waiting);
-    let place = m.value;
+    let first = firsts[l];
+    let end = first + waiting;
+    let m = niching_members::choose_member(rng, &laid[first..end], distances, count);
+    let place = first + m.value;
     let rng = m.rng;
+    let value = laid[place];
+    take_out::take_out(laid, place, end);
     let raised = count + 1;
     counts[l] = raised;
     waits[l] = waiting - 1;
-    taken[place] = true;
-    let value = front[place];
     Picked { value, count, rng }
 }
 
@@ -94,19 +96,21 @@ pub fn niching_select(
     count_lines(before, lines, &mut counts);
     let mut waits: [usize; MAX_LINES] = [0; MAX_LINES];
     count_waiting(front, lines, &mut waits);
-    let mut taken: [bool; MAX_POOL] = [false; MAX_POOL];
+    let mut firsts: [usize; MAX_LINES] = [0; MAX_LINES];
+    niching_layout::line_starts(&waits, n_lines, &mut firsts);
+    let mut laid: [usize; MAX_POOL] = [0; MAX_POOL];
+    niching_layout::lay_out(front, lines, &firsts, &mut laid);
     let mut rng = rng;
     let mut at = 0;
     while at < open {
         let d = pick(
             rng,
-            front,
-            lines,
             distances,
             n_lines,
+            &firsts,
             &mut counts,
             &mut waits,
-            &mut taken,
+            &mut laid,
         );
         picked[at] = d.value;
         let rule = rule_marks::rule_of(d.count);

@@ -2,6 +2,7 @@ pub mod Places
 pub mod Least
 pub mod Counting
 pub mod Numbering
+pub mod Laying
 pub mod Choosing
 pub mod Nearest
 pub mod Picking

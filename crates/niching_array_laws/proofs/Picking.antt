@@ -1,58 +1,61 @@
 -- One open place: a line and a member that the arrays give.
-use Prim.Native.Nat.{ℕ, _<_}
-use mathlib.Core.Path.{_≡_, refl, ap, ap₂, _∙_}
-use mathlib.Core.Bool.{Bool, true, false, not, _&&_}
+use Prim.Native.Nat.{ℕ, _+_, _-_, _<_}
+use mathlib.Core.Path.{_≡_, ap, sym, subst, _∙_}
 use mathlib.Core.List.{List}
 use native.Mathlib.Omega.{arith}
-use borrow.Author.Tests.{eq-eqb, eqb-true, lt-ltb, ltb-true}
-use lib.Dec.{eqb}
+use borrow.Author.Tests.{ltb-true}
 use lib.Ieee.{Float}
 use lib.ListN.{length, getD}
 use Rattle.model.specs.Lists.{keepBelow}
 use Rattle.model.specs.Draw.{Drawn, drawn}
 use Rattle.model.specs.Kept.{leastLines, drawFrom, drawMember}
-use Rattle.list_laws.proofs.Bools.{and-right, and-not-left}
-use Rattle.list_laws.proofs.Counts.{countBelow-at}
-use Rattle.list_laws.proofs.Kept.{keepBelow-length}
-use Rattle.niching_array_laws.specs.Niche.{lineIn, distanceIn, memberAt, countOf, hasWaiting, waitsOn, members, Open, MemberOf, Awaits, Ready, pickAt, countAt}
-use Rattle.niching_array_laws.proofs.Numbering.{stands-awaits}
-
-module _ {front lines : List ℕ} {distances : List Float} {n : ℕ} {counts waits : List ℕ} {taken : List Bool}
-    (h : Ready front lines distances n counts waits taken) where
-  -- a line's number is that of its places that wait
-  pub ready-awaits : Awaits front lines taken waits
-  ready-awaits = stands-awaits (h .stands)
-
-  -- the line of a member that waits is open
-  pub ready-open : (l : ℕ) × Open waits n l
-  ready-open =
-      let i = h .some .0 in
-      let l = lineIn lines (memberAt front i) in
-      let f = waitsOn front lines taken l in
-      let e : f i ≡ true = ap₂ (λ a b. not a && b) (h .some .2) (eq-eqb l l refl) in
-      let w : 0 < countOf waits l = omega (arith, ready-awaits l, keepBelow-length f (length front), countBelow-at f (length front) i (h .some .1) e) in
-      (l, record { below = h .onLines i (h .some .1) .1; passes = lt-ltb 0 (countOf waits l) w })
+use Rattle.list_laws.proofs.Members.{place-of}
+use Rattle.take_out.specs.Out.{part}
+use Rattle.take_out.proofs.Moved.{part-length, part-at}
+use Rattle.niching_array_laws.specs.Niche.{distanceIn, countOf, hasWaiting, membersOf, Open, Measured, Ready, pickAt, countAt}
+use Rattle.niching_array_laws.proofs.Numbering.{picked-member}
 
 -- some member waits on an open line
 pub open-some : (waits : List ℕ) (n l : ℕ) → Open waits n l → 0 < countOf waits l
 open-some waits n l o = ltb-true 0 (countOf waits l) (o .passes)
 
--- a member that waits is not taken, and is on the line
-module _ (front lines : List ℕ) (taken : List Bool) (l i : ℕ) (h : MemberOf front lines taken l i) where
-  pub member-waited : getD taken i false ≡ false
-  member-waited = and-not-left (getD taken i false) (eqb (lineIn lines (memberAt front i)) l) (h .passes)
+-- the members of a line below n, as they are cut out of the array
+module _ {distances : List Float} {n : ℕ} {firsts counts waits laid : List ℕ} (h : Ready distances n firsts counts waits laid) (l : ℕ) (inside : l < n) where
+  abbrev cut : List ℕ
+  cut = part laid (countOf firsts l) (countOf firsts l + countOf waits l - countOf firsts l)
 
-  pub member-line : lineIn lines (memberAt front i) ≡ l
-  member-line = eqb-true (lineIn lines (memberAt front i)) l (and-right (not (getD taken i false)) (eqb (lineIn lines (memberAt front i)) l) (h .passes))
+  cut-is : cut ≡ membersOf firsts waits laid l
+  cut-is = let e : countOf firsts l + countOf waits l - countOf firsts l ≡ countOf waits l = omega arith in ap (part laid (countOf firsts l)) e
+
+  -- as many as the line's number
+  pub cut-length : length cut ≡ countOf waits l
+  cut-length = ap length cut-is ∙ part-length laid (countOf firsts l) (countOf waits l) (h .stands .placed .inside l inside)
+
+  -- the one at place k stands so far behind the line's start
+  cut-at : (k : ℕ) → k < countOf waits l → getD cut k 0 ≡ getD laid (countOf firsts l + k) 0
+  cut-at k u = ap (λ t. getD t k 0) cut-is ∙ part-at laid (countOf firsts l) (countOf waits l) k u
+
+  -- each has a distance
+  pub cut-measured : Measured cut distances
+  cut-measured k u =
+      let v : k < countOf waits l = omega (arith, cut-length) in
+      let i = place-of (picked-member (h .stands) l k inside v) in
+      subst (λ p. p < length distances) (i .2 ∙ sym (cut-at k v)) (h .measured (i .0) (i .1))
+
+  -- one chosen of them is a member chosen
+  pub cut-chosen : (count k s t : ℕ) → k < length cut → drawn (getD cut k 0) t ≡ drawMember (distanceIn distances) count cut s
+      → drawn (getD laid (countOf firsts l + k) 0) t ≡ drawMember (distanceIn distances) count (membersOf firsts waits laid l) s
+  cut-chosen count k s t u e =
+      ap (λ p. drawn p t) (sym (cut-at k (omega (arith, cut-length)))) ∙ e ∙ ap (λ m. drawMember (distanceIn distances) count m s) cut-is
 
 -- a drawn line and a member chosen of it are the pick
-pub picked-at : (front lines : List ℕ) (distances : List Float) (n : ℕ) (counts waits : List ℕ) (taken : List Bool) (s l u r t : ℕ)
+pub picked-at : (distances : List Float) (n : ℕ) (firsts counts waits laid : List ℕ) (s l u r t : ℕ)
     → drawn l u ≡ drawFrom (leastLines (countOf counts) (keepBelow (hasWaiting waits) n)) s
-    → drawn r t ≡ drawMember (distanceIn distances) (countOf counts l) (members front lines taken l) u
-    → drawn r t ≡ pickAt front lines distances n counts waits taken s
+    → drawn r t ≡ drawMember (distanceIn distances) (countOf counts l) (membersOf firsts waits laid l) u
+    → drawn r t ≡ pickAt distances n firsts counts waits laid s
 unfolding pickAt
-picked-at front lines distances n counts waits taken s l u r t e m =
-    m ∙ ap (λ (d : Drawn ℕ). drawMember (distanceIn distances) (countOf counts (d .value)) (members front lines taken (d .value)) (d .state)) e
+picked-at distances n firsts counts waits laid s l u r t e m =
+    m ∙ ap (λ (d : Drawn ℕ). drawMember (distanceIn distances) (countOf counts (d .value)) (membersOf firsts waits laid (d .value)) (d .state)) e
 
 -- and the count of that line is the one that the pick found
 pub found-at : (n : ℕ) (counts waits : List ℕ) (s l u : ℕ) → drawn l u ≡ drawFrom (leastLines (countOf counts) (keepBelow (hasWaiting waits) n)) s

@@ -24,14 +24,6 @@ use Rattle.niching_array_laws.specs.Niche.{Kth}
 pub replicate-at : {A : Type 0} (x : A) (n i : ℕ) → getD (replicate n x) i x ≡ x
 replicate-at x n i = by-lt i n (λ u. getD-replicate n i x x u) (λ u. List·getD-eq-default (replicate n x) x (omega (arith, length-replicate n x)))
 
--- ---- what is kept
-
--- those of a list that pass stand at the places whose entry passes
-pub keep-places : (f : ℕ → Bool) (l : List ℕ) → keep f l ≡ map (λ i. getD l i 0) (keepBelow (λ i. f (getD l i 0)) (length l))
-keep-places f l =
-    ap (keep f) (sym (listBelow-places 0 l) ∙ sym (map-below (λ i. getD l i 0) (λ i. i) (length l))) ∙ keep-map f (λ i. getD l i 0) (listBelow (λ i. i) (length l))
-    ∙ ap (map (λ i. getD l i 0)) (sym (keepBelow-keep (λ i. f (getD l i 0)) (length l)))
-
 -- ---- the k-th
 
 kth-at : (f : ℕ → Bool) (n r : ℕ) → r < n → f r ≡ true → getD (keepBelow f n) (countBelow f r) 0 ≡ r
@@ -69,35 +61,3 @@ module _ {f : ℕ → Bool} {k left i : ℕ} (h : Seeks f k left i) where
   -- it ends before place n
   pub seeks-ends : (n : ℕ) → k < countBelow f n → n ≤ i → ⊥
   seeks-ends n u v = omega (arith, h .passed, countBelow-up f n i v)
-
--- the first that passes is the only one up to it
-pub first-only : (f : ℕ → Bool) (n r : ℕ) → Kth f n 0 r → keepBelow f (r + 1) ≡ r ∷ []
-first-only f n r h = keepBelow-more f r (h .one .passes) ∙ ap (λ t. t ++ (r ∷ [])) (empty-of (keepBelow f r) (keepBelow-length f r ∙ h .rank))
-
--- ---- the nearest
-
-module _ (d : ℕ → Float) where
-  -- one more at the end
-  pub nearest-snoc : (l : List ℕ) (p : ℕ) → 0 < length l → nearest d (l ++ (p ∷ [])) ≡ cond (lt (d p) (d (nearest d l))) p (nearest d l)
-  unfolding nearest
-  nearest-snoc l p h =
-      let more = l ++ (p ∷ []) in
-      let at : (i : ℕ) → i < length l → getD l i 0 ≡ getD more i 0 = λ i u. sym (List·getD-append l (p ∷ []) 0 i u) in
-      let last : getD more (length l) 0 ≡ p = getD-at l p [] 0 (length l) refl in
-      sym (ap (λ t. cond (lt (d t) (d (nearest d l))) t (nearest d l)) (sym last)
-      ∙ best-more (nearerPlan d) (getD more 0 0) (λ i. getD more i 0) (length l)
-      (ap (λ b. bestFrom (nearerPlan d) b (λ i. getD l i 0) (length l)) (at 0 h) ∙ best-same (nearerPlan d) (getD more 0 0) _ _ (length l) at) refl
-      ∙ ap (bestFrom (nearerPlan d) (getD more 0 0) (λ i. getD more i 0)) (sym (length-append l (p ∷ []))))
-
-  pub nearest-one : (p : ℕ) → nearest d (p ∷ []) ≡ p
-  unfolding nearest
-  nearest-one p = best-all (nearerPlan d) (λ q. q ≡ p) p (λ i. getD (p ∷ []) i 0) 1 refl (λ t u. let e : t ≡ 0 = omega arith in ap (λ i. getD (p ∷ []) i 0) e)
-
--- the nearest plan stands at the nearest place
-pub nearest-map : (d : ℕ → Float) (h : ℕ → ℕ) (l : List ℕ) → 0 < length l → nearest d (map h l) ≡ h (nearest (λ i. d (h i)) l)
-unfolding nearest
-nearest-map d h l u =
-    let at : (i : ℕ) → i < length l → getD (map h l) i 0 ≡ h (getD l i 0) = λ i v. map-at h l i 0 0 v in
-    ap (bestFrom (nearerPlan d) (getD (map h l) 0 0) (λ i. getD (map h l) i 0)) (length-map l h)
-    ∙ ap (λ b. bestFrom (nearerPlan d) b (λ i. getD (map h l) i 0) (length l)) (at 0 u)
-    ∙ best-same (nearerPlan d) (h (getD l 0 0)) _ _ (length l) at ∙ best-map (nearerPlan d) h (getD l 0 0) (λ i. getD l i 0) (length l)

@@ -1,21 +1,23 @@
 -- The loop over the open places: the first j are filled as `picks` fills them.
-use Prim.Native.Nat.{ℕ, _+_, _-_, _<_}
-use mathlib.Core.Path.{_≡_, refl, ap, sym, _∙_}
-use mathlib.Core.Bool.{Bool, false}
+use Prim.Native.Nat.{ℕ, _+_, _-_, _≤_, _<_}
+use mathlib.Core.Path.{_≡_, refl, ap, sym, subst, _∙_}
 use mathlib.Core.List.{List, []}
 use native.Mathlib.Omega.{arith}
 use lib.Ieee.{Float}
 use lib.ListN.{length, set, take, drop, replicate, length-drop, length-set}
 use lib.Seq.{getD-take, getD-drop, length-take-le}
-use Rattle.model.specs.Lists.{listBelow, over}
+use Rattle.model.specs.Lists.{sumBelow, listBelow, over}
 use Rattle.model.specs.Refusal.{maxPool, maxLines}
 use Rattle.model.specs.Draw.{Drawn, drawn, inTurn}
 use Rattle.model.specs.Kept.{nicheCount, pickOne, picks, markOf, ruleOf, countAtPick, pickRules}
 use Rattle.list_laws.proofs.Built.{over-none, over-set}
 use Rattle.list_laws.proofs.Draws.{drawAll-length}
 use Rattle.list_laws.proofs.Written.{WrittenNumbers, written-none, written-next, written-more}
-use Rattle.niching_array_laws.specs.Niche.{lineIn, distanceIn, memberAt, countOf, Zeros, OnLines, Numbered, Ready, Took, Splits, picksOf, marksOf, NichingSelects}
+use Rattle.take_out.specs.Out.{part}
+use Rattle.niching_array_laws.specs.Niche.{lineIn, distanceIn, memberAt, countOf, ofLine, Zeros, OnLines, Numbered, Placed, Started, Layable, Stands, Ready, Took, Splits, picksOf, marksOf, NichingSelects}
 use Rattle.niching_array_laws.proofs.Places.{replicate-at}
+use Rattle.niching_array_laws.proofs.Numbering.{stands-first}
+use Rattle.niching_array_laws.proofs.Laying.{waits-sum, placed-first, placed-plans}
 use Rattle.niching_array_laws.proofs.Filling.{Given, Holds, holds-first, holds-pick, holds-found, holds-ready, holds-more}
 
 -- how the loop picks
@@ -29,35 +31,35 @@ markIn lines distances n before front s i =
     markOf (ruleOf (countAtPick (lineIn lines) n before front (so-far .value) (so-far .state)))
 
 -- the state of the loop
-pub record Selecting (before front lines : List ℕ) (distances : List Float) (n s : ℕ) (old oldRules : List ℕ) (j : ℕ) (counts waits : List ℕ) (taken : List Bool)
+pub record Selecting (before front lines : List ℕ) (distances : List Float) (n : ℕ) (firsts : List ℕ) (s : ℕ) (old oldRules : List ℕ) (j : ℕ) (counts waits laid : List ℕ)
     (out rules : List ℕ) (t : ℕ) : Type 0 where
-  pub holds : Holds before front lines (picks (lineIn lines) (distanceIn distances) n before front j s .value) counts waits taken
+  pub holds : Holds before front lines (picks (lineIn lines) (distanceIn distances) n before front j s .value) n firsts counts waits laid
   pub picked : WrittenNumbers (pickIn lines distances n before front) s old j out t
   pub marked : rules ≡ over (listBelow (markIn lines distances n before front s) j) oldRules
   pub same : length rules ≡ length oldRules
 
-pub selecting-first : (before front lines : List ℕ) (distances : List Float) (n s : ℕ) (old oldRules counts waits : List ℕ)
-    → ((l : ℕ) → countOf counts l ≡ nicheCount (lineIn lines) before l) → Numbered front lines [] waits
-    → length counts ≡ maxLines → length waits ≡ maxLines
-    → Selecting before front lines distances n s old oldRules 0 counts waits (replicate maxPool false) old oldRules s
+pub selecting-first : (before front lines : List ℕ) (distances : List Float) (n : ℕ) (firsts : List ℕ) (s : ℕ) (old oldRules counts waits laid : List ℕ)
+    → ((l : ℕ) → countOf counts l ≡ nicheCount (lineIn lines) before l) → Stands front lines [] n firsts waits laid
+    → length counts ≡ maxLines → length waits ≡ maxLines → length laid ≡ maxPool
+    → Selecting before front lines distances n firsts s old oldRules 0 counts waits laid old oldRules s
 unfolding inTurn
-selecting-first before front lines distances n s old oldRules counts waits a b c d = record {
-  holds = holds-first before front lines counts waits a b c d;
+selecting-first before front lines distances n firsts s old oldRules counts waits laid a b c d e = record {
+  holds = holds-first before front lines n firsts counts waits laid a b c d e;
   picked = written-none (pickIn lines distances n before front) s old;
   marked = sym (over-none (markIn lines distances n before front s) oldRules);
   same = refl;
 }
 
-module _ {before front lines : List ℕ} {distances : List Float} {n s : ℕ} {old oldRules : List ℕ} {j : ℕ} {counts waits : List ℕ} {taken : List Bool}
-    {out rules : List ℕ} {t : ℕ} (h : Selecting before front lines distances n s old oldRules j counts waits taken out rules t)
+module _ {before front lines : List ℕ} {distances : List Float} {n : ℕ} {firsts : List ℕ} {s : ℕ} {old oldRules : List ℕ} {j : ℕ} {counts waits laid : List ℕ}
+    {out rules : List ℕ} {t : ℕ} (h : Selecting before front lines distances n firsts s old oldRules j counts waits laid out rules t)
     (g : Given before front lines distances n) where
-  pub selecting-ready : j < length front → Ready front lines distances n counts waits taken
-  selecting-ready u = holds-ready (h .holds) distances n g (omega (arith, drawAll-length (pickIn lines distances n before front) j s))
+  pub selecting-ready : n ≤ length firsts → j < length front → Ready distances n firsts counts waits laid
+  selecting-ready r u = holds-ready (h .holds) distances g r (omega (arith, drawAll-length (pickIn lines distances n before front) j s))
 
-  pub selecting-more : {counts′ waits′ : List ℕ} {taken′ : List Bool} {r count mark u : ℕ} → j < length old → j < length oldRules
-      → Took front lines distances n t counts counts′ waits waits′ taken taken′ r count u → mark ≡ markOf (ruleOf count)
-      → Selecting before front lines distances n s old oldRules (j + 1) counts′ waits′ taken′ (set out j r) (set rules j mark) u
-  selecting-more {counts′} {waits′} {taken′} {r} {count} {mark} {u} v w k e = record {
+  pub selecting-more : {counts′ waits′ laid′ : List ℕ} {r count mark u : ℕ} → j < length old → j < length oldRules
+      → Took distances n t firsts counts counts′ waits waits′ laid laid′ r count u → mark ≡ markOf (ruleOf count)
+      → Selecting before front lines distances n firsts s old oldRules (j + 1) counts′ waits′ laid′ (set out j r) (set rules j mark) u
+  selecting-more {counts′} {waits′} {laid′} {r} {count} {mark} {u} v w k e = record {
     holds = rw (← written-next (pickIn lines distances n before front) s old j out t (h .picked) r u chosen) (holds-more (h .holds) g k);
     picked = written-more (pickIn lines distances n before front) s old j out t (h .picked) v r u chosen;
     marked = over-set (markIn lines distances n before front s) rules oldRules j mark w (h .marked) (e ∙ ap (λ c. markOf (ruleOf c)) found);
@@ -65,11 +67,11 @@ module _ {before front lines : List ℕ} {distances : List Float} {n s : ℕ} {o
   }
     where
       chosen : drawn r u ≡ pickOne (lineIn lines) (distanceIn distances) n before front (picks (lineIn lines) (distanceIn distances) n before front j s .value) t
-      chosen = k .chosen ∙ holds-pick (h .holds) distances n t
+      chosen = k .chosen ∙ holds-pick (h .holds) distances t
 
       found : count ≡ countAtPick (lineIn lines) n before front (picks (lineIn lines) (distanceIn distances) n before front j s .value)
           (picks (lineIn lines) (distanceIn distances) n before front j s .state)
-      found = k .found ∙ holds-found (h .holds) n t ∙ ap (countAtPick (lineIn lines) n before front (picks (lineIn lines) (distanceIn distances) n before front j s .value)) (h .picked .state)
+      found = k .found ∙ holds-found (h .holds) t ∙ ap (countAtPick (lineIn lines) n before front (picks (lineIn lines) (distanceIn distances) n before front j s .value)) (h .picked .state)
 
 -- ---- what the caller knows of the order
 
@@ -114,17 +116,41 @@ module _ {order : List ℕ} {start end : ℕ} {lines : List ℕ} {distances : Li
     few = omega (arith, front-length, before-length, h .ahead, h .few);
   }
 
+  -- ---- before the first pick: the members find room, line by line
+
+  module _ {waits : List ℕ} (number : Numbered (take (end - start) (drop start order)) lines [] waits) where
+    pub starts-room : sumBelow (countOf waits) n ≤ maxPool
+    starts-room = omega (arith, waits-sum n front-lines number, front-length, h .few)
+
+    module _ {firsts : List ℕ} (s : Started n waits firsts) where
+      placed : Placed n firsts (countOf waits) maxPool
+      placed = placed-first n front-lines number s maxPool (omega (arith, front-length, h .few))
+
+      pub layable : length firsts ≡ maxLines → Layable (take (end - start) (drop start order)) lines firsts maxPool
+      layable e = record {
+        count = n;
+        onLines = front-lines;
+        narrow = h .narrow;
+        started = omega (arith, h .narrow);
+        placed = placed-plans number placed;
+      }
+
+      pub stands-start : {laid : List ℕ} → length laid ≡ maxPool
+          → ((l : ℕ) → part laid (countOf firsts l) (nicheCount (lineIn lines) (take (end - start) (drop start order)) l) ≡ ofLine lines (take (end - start) (drop start order)) l)
+          → Stands (take (end - start) (drop start order)) lines [] n firsts waits laid
+      stands-start e g = stands-first number (subst (Placed n firsts (countOf waits)) (sym e) placed) g
+
   -- there are as many members as open places
   pub enough-members : (j : ℕ) → j < places → j < length (take (end - start) (drop start order))
   enough-members j u = omega (arith, front-length, h .enough)
 
 -- with all places filled the promise is kept
-pub selecting-done : {order : List ℕ} {start end : ℕ} {lines : List ℕ} {distances : List Float} {n s : ℕ} {old oldRules : List ℕ} {j : ℕ} {counts waits : List ℕ}
-    {taken : List Bool} {out rules : List ℕ} {t : ℕ} (places : ℕ) → j ≡ places
-    → Selecting (take start order) (take (end - start) (drop start order)) lines distances n s old oldRules j counts waits taken out rules t
+pub selecting-done : {order : List ℕ} {start end : ℕ} {lines : List ℕ} {distances : List Float} {n : ℕ} {firsts : List ℕ} {s : ℕ} {old oldRules : List ℕ} {j : ℕ}
+    {counts waits laid : List ℕ} {out rules : List ℕ} {t : ℕ} (places : ℕ) → j ≡ places
+    → Selecting (take start order) (take (end - start) (drop start order)) lines distances n firsts s old oldRules j counts waits laid out rules t
     → NichingSelects order start end lines distances n places s old out oldRules rules t
 unfolding pickRules
-selecting-done {order} {start} {end} {lines} {distances} {n} {s} {old} {oldRules} places e h = record {
+selecting-done {order} {start} {end} {lines} {distances} {n} {firsts} {s} {old} {oldRules} places e h = record {
   written = h .picked .written ∙ ap (λ m. over (picksOf order start end lines distances n m s .value) old) e;
   ruled = h .marked ∙ ap (λ m. over (marksOf order start end lines distances n m s) oldRules) e;
   state = h .picked .state ∙ ap (λ m. picksOf order start end lines distances n m s .state) e;

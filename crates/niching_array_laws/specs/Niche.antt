@@ -1,16 +1,17 @@
--- What the arrays of the niching loop hold: each line's niche count, each line's number of waiting members (M-104), and for each place of the split front whether
--- its member is taken. Past a list's end a number reads as 0, a double as NaN.
+-- What the arrays of the niching loop hold: each line's niche count, each line's number of waiting members (M-104), and these members line by line, each line's from
+-- its own start on, in listed order. Past a list's end a number reads as 0, a double as NaN.
 use Prim.Native.Nat.{ℕ, _+_, _-_, _≤_, _<_}
 use mathlib.Core.Path.{_≡_}
-use mathlib.Core.Bool.{Bool, true, false, cond, not, _&&_}
-use mathlib.Core.List.{List, [], _∷_, _++_, map}
+use mathlib.Core.Bool.{Bool, true, cond, _&&_}
+use mathlib.Core.List.{List, [], _∷_, _++_}
 use lib.Dec.{eqb, ltb}
 use lib.Ieee.{Float, nan, lt}
 use lib.ListN.{length, getD, set, take, drop}
-use Rattle.model.specs.Lists.{keepBelow, countBelow, bestFrom, has, Distinct, over}
+use Rattle.model.specs.Lists.{keepBelow, countBelow, sumBelow, bestFrom, keep, Distinct, over}
 use Rattle.model.specs.Draw.{Drawn, drawn}
-use Rattle.model.specs.Kept.{waitingNumber, leastLines, drawFrom, picks, pickFrom, pickRules}
+use Rattle.model.specs.Kept.{nicheCount, waiting, waitingNumber, leastLines, drawFrom, picks, pickFrom, pickRules}
 use Rattle.model.specs.Refusal.{maxPool, maxLines}
+use Rattle.take_out.specs.Out.{part}
 
 -- the line of a plan, and its distance from that line
 abbrev pub lineIn : List ℕ → ℕ → ℕ
@@ -19,9 +20,9 @@ lineIn lines p = getD lines p 0
 abbrev pub distanceIn : List Float → ℕ → Float
 distanceIn distances p = getD distances p nan
 
--- the plan at a place of the split front
+-- the plan at a place of a list
 abbrev pub memberAt : List ℕ → ℕ → ℕ
-memberAt front i = getD front i 0
+memberAt plans i = getD plans i 0
 
 -- ---- lines
 
@@ -44,28 +45,23 @@ openCount top counts waits l = cond (hasWaiting waits l) (countOf counts l) top
 abbrev pub leastBelow : ℕ → List ℕ → List ℕ → ℕ → ℕ
 leastBelow top counts waits n = bestFrom ltb top (openCount top counts waits) n
 
--- ---- places
+-- ---- members
 
--- the member at place i waits on line l
-abbrev pub waitsOn : List ℕ → List ℕ → List Bool → ℕ → ℕ → Bool
-waitsOn front lines taken l i = not (getD taken i false) && eqb (lineIn lines (memberAt front i)) l
+-- the plans of a list that are on line l, in listed order
+abbrev pub ofLine : List ℕ → List ℕ → ℕ → List ℕ
+ofLine lines plans l = keep (λ p. eqb (lineIn lines p) l) plans
 
--- the places of the front whose members wait on line l, rising
-abbrev pub places : List ℕ → List ℕ → List Bool → ℕ → List ℕ
-places front lines taken l = keepBelow (waitsOn front lines taken l) (length front)
-
--- the plans at these places, in listed order
-abbrev pub members : List ℕ → List ℕ → List Bool → ℕ → List ℕ
-members front lines taken l = map (memberAt front) (places front lines taken l)
+-- the members of line l as the array has them: from the line's start on, as many as its number
+abbrev pub membersOf : List ℕ → List ℕ → List ℕ → ℕ → List ℕ
+membersOf firsts waits laid l = part laid (countOf firsts l) (countOf waits l)
 
 -- the distance of the plan at a place
 abbrev pub placeDistance : List ℕ → List Float → ℕ → Float
-placeDistance front distances i = distanceIn distances (memberAt front i)
+placeDistance plans distances i = distanceIn distances (memberAt plans i)
 
--- the nearer of two places, if the member at the second waits on line l; the first on a tie
-abbrev pub nearerOf : List ℕ → List ℕ → List Float → List Bool → ℕ → ℕ → ℕ → ℕ
-nearerOf front lines distances taken l best i =
-    cond (waitsOn front lines taken l i && lt (placeDistance front distances i) (placeDistance front distances best)) i best
+-- the nearer of the plans at two places; the first on a tie
+abbrev pub nearerOf : List ℕ → List Float → ℕ → ℕ → ℕ
+nearerOf plans distances best i = cond (lt (placeDistance plans distances i) (placeDistance plans distances best)) i best
 
 -- r is one of the numbers below n that pass
 pub record Passes (f : ℕ → Bool) (n r : ℕ) : Type 0 where
@@ -91,15 +87,6 @@ Zeros counts = (l : ℕ) → getD counts l 0 ≡ 0
 abbrev pub Open : List ℕ → ℕ → ℕ → Type 0
 Open waits n l = Passes (hasWaiting waits) n l
 
--- every listed plan has a line, and every place a mark
-pub record Listed (front lines : List ℕ) (taken : List Bool) : Type 0 where
-  pub plans : (i : ℕ) → i < length front → memberAt front i < length lines
-  pub marks : length front ≤ length taken
-
--- the place i is one of those whose members wait on line l
-abbrev pub MemberOf : List ℕ → List ℕ → List Bool → ℕ → ℕ → Type 0
-MemberOf front lines taken l i = Passes (waitsOn front lines taken l) (length front) i
-
 -- every listed plan has a distance
 abbrev pub Measured : List ℕ → List Float → Type 0
 Measured plans distances = (i : ℕ) → i < length plans → memberAt plans i < length distances
@@ -109,58 +96,71 @@ Measured plans distances = (i : ℕ) → i < length plans → memberAt plans i <
 pub record Numbered (front lines picked waits : List ℕ) : Type 0 where
   pub at : (l : ℕ) → countOf waits l ≡ waitingNumber (lineIn lines) front picked l
 
--- and the marks of the places tell these plans
-pub record Marked (front picked : List ℕ) (taken : List Bool) : Type 0 where
-  pub at : (i : ℕ) → i < length front → getD taken i false ≡ has picked (memberAt front i)
+-- the lines' parts of an array, each from its line's start on and as long as its number, lie in it one behind the other; no line past the last has one
+pub record Placed (n : ℕ) (firsts : List ℕ) (number : ℕ → ℕ) (room : ℕ) : Type 0 where
+  pub inside : (l : ℕ) → l < n → countOf firsts l + number l ≤ room
+  pub apart : (l k : ℕ) → l < k → k < n → countOf firsts l + number l ≤ countOf firsts k
+  pub none : (l : ℕ) → n ≤ l → number l ≡ 0
 
--- both, as they stand before a pick
-pub record Stands (front lines picked waits : List ℕ) (taken : List Bool) : Type 0 where
+-- each line's part has those of its plans that are not yet listed, in listed order
+pub record Laid (front lines picked firsts waits laid : List ℕ) : Type 0 where
+  pub at : (l : ℕ) → membersOf firsts waits laid l ≡ ofLine lines (waiting front picked) l
+
+-- all of this, as it stands before a pick
+pub record Stands (front lines picked : List ℕ) (n : ℕ) (firsts waits laid : List ℕ) : Type 0 where
   pub numbered : Numbered front lines picked waits
-  pub marked : Marked front picked taken
+  pub placed : Placed n firsts (countOf waits) (length laid)
+  pub members : Laid front lines picked firsts waits laid
 
--- each line's number, by the places that wait
-abbrev pub Awaits : List ℕ → List ℕ → List Bool → List ℕ → Type 0
-Awaits front lines taken waits = (l : ℕ) → countOf waits l ≡ length (places front lines taken l)
+-- each line starts where those before it end
+pub record Started (n : ℕ) (waits firsts : List ℕ) : Type 0 where
+  pub at : (l : ℕ) → l < n → countOf firsts l ≡ sumBelow (countOf waits) l
+
+-- a list of plans can be laid out line by line
+pub record Layable (plans lines firsts : List ℕ) (room : ℕ) : Type 0 where
+  pub count : ℕ
+  pub onLines : OnLines plans lines count
+  pub narrow : count ≤ maxLines
+  pub started : count ≤ length firsts
+  pub placed : Placed count firsts (nicheCount (lineIn lines) plans) room
 
 -- the arrays agree, and a member waits
-pub record Ready (front lines : List ℕ) (distances : List Float) (n : ℕ) (counts waits : List ℕ) (taken : List Bool) : Type 0 where
-  pub listed : Listed front lines taken
-  pub onLines : OnLines front lines n
-  pub measured : Measured front distances
+pub record Ready (distances : List Float) (n : ℕ) (firsts counts waits laid : List ℕ) : Type 0 where
+  pub started : n ≤ length firsts
   pub counted : n ≤ length counts
   pub awaited : n ≤ length waits
   pub few : (l : ℕ) → countOf counts l < maxPool
-  pub different : Distinct front
-  -- those picked so far, of which numbers and marks speak
+  pub some : (l : ℕ) × Open waits n l
+  -- the split front, its plans' lines and those picked so far, of which numbers and members speak
+  pub front : List ℕ
+  pub lines : List ℕ
   pub picked : List ℕ
-  pub stands : Stands front lines picked waits taken
-  pub some : (i : ℕ) × (i < length front) × (getD taken i false ≡ false)
+  pub measured : Measured front distances
+  pub stands : Stands front lines picked n firsts waits laid
 
 -- one open place, by what the arrays hold
-unfoldable pub pickAt : List ℕ → List ℕ → List Float → ℕ → List ℕ → List ℕ → List Bool → ℕ → Drawn ℕ
-pickAt front lines distances n counts waits taken s =
-    pickFrom (distanceIn distances) (countOf counts) (keepBelow (hasWaiting waits) n) (members front lines taken) s
+unfoldable pub pickAt : List Float → ℕ → List ℕ → List ℕ → List ℕ → List ℕ → ℕ → Drawn ℕ
+pickAt distances n firsts counts waits laid s =
+    pickFrom (distanceIn distances) (countOf counts) (keepBelow (hasWaiting waits) n) (membersOf firsts waits laid) s
 
 -- and the niche count of the line that it draws, before it is raised
 unfoldable pub countAt : ℕ → List ℕ → List ℕ → ℕ → ℕ
 countAt n counts waits s = countOf counts (drawFrom (leastLines (countOf counts) (keepBelow (hasWaiting waits) n)) s .value)
 
--- that place filled: the plan r of a place that waited is taken, its line's niche count, which was `count`, is one higher and its number of waiting members, which
--- was above 0, one lower; no other line's is touched. Whichever were picked before, the numbers are those before the next pick, with r among the picked.
-pub record Took (front lines : List ℕ) (distances : List Float) (n s : ℕ) (counts₀ counts waits₀ waits : List ℕ) (taken₀ taken : List Bool) (r count t : ℕ) : Type 0 where
-  pub place : ℕ
+-- that place filled: the niche count of the taken plan's line, which was `count`, is one higher and its number of waiting members, which was above 0, one lower; no
+-- other line's is touched. Whatever the split front is and whichever of it were picked before, the plan r is on that line, and the numbers and members are those before
+-- the next pick, with r among the picked.
+pub record Took (distances : List Float) (n s : ℕ) (firsts counts₀ counts waits₀ waits laid₀ laid : List ℕ) (r count t : ℕ) : Type 0 where
   pub line : ℕ
-  pub inside : place < length front
-  pub waited : getD taken₀ place false ≡ false
-  pub plan : r ≡ memberAt front place
-  pub onLine : lineIn lines r ≡ line
   pub lineInside : line < n
   pub counted : counts ≡ set counts₀ line (countOf counts₀ line + 1)
   pub above : 0 < countOf waits₀ line
   pub lowered : waits ≡ set waits₀ line (countOf waits₀ line - 1)
-  pub marked : taken ≡ set taken₀ place true
-  pub stands : (picked : List ℕ) → Stands front lines picked waits₀ taken₀ → Stands front lines (picked ++ (r ∷ [])) waits taken
-  pub chosen : drawn r t ≡ pickAt front lines distances n counts₀ waits₀ taken₀ s
+  pub same : length laid ≡ length laid₀
+  pub onLine : (front lines picked : List ℕ) → Stands front lines picked n firsts waits₀ laid₀ → lineIn lines r ≡ line
+  pub stands : (front lines picked : List ℕ) → Distinct front → Stands front lines picked n firsts waits₀ laid₀
+      → Stands front lines (picked ++ (r ∷ [])) n firsts waits laid
+  pub chosen : drawn r t ≡ pickAt distances n firsts counts₀ waits₀ laid₀ s
   pub found : count ≡ countAt n counts₀ waits₀ s
 
 -- the first `start` plans of the order are kept, those from there to `end` are the split front, of which `vacant` are to be picked

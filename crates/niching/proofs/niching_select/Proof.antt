@@ -1,22 +1,23 @@
 -- the first `at` open places are filled, and the arrays hold what that leaves
 use Prim.Native.Nat.{_-_, _≤_}
 use mathlib.Core.Path.{_≡_, refl, ap, sym, _∙_}
-use lib.ListN.{take}
+use lib.ListN.{take, drop}
 use Rattle.model.specs.Kept.{markOf}
-use Rattle.niching_array_laws.proofs.Selecting.{Selecting, selecting-first, selecting-ready, selecting-more, before-lines, front-counts, given, enough-members, no-counts, before-length, selecting-done}
+use Rattle.niching_array_laws.proofs.Selecting.{Selecting, selecting-first, selecting-ready, selecting-more, before-lines, front-counts, given, starts-room, layable, stands-start, enough-members, no-counts, before-length, selecting-done}
 use native.Mathlib.Omega.{arith}
 use Rattle.niching.proofs.niching_select.Statement.{statement}
 use Rattle.niching.proofs.niching_select.Tie as tie
 
 abbrev Inv-loop : tie.InvT-loop
-Inv-loop order start end lines distances n-lines «open» picked₀ rules₀ front counts₀ waits₀ taken₀ rng₀ at₀ picked rules counts waits taken rng at =
+Inv-loop order start end lines distances n-lines «open» picked₀ rules₀ counts₀ waits₀ firsts laid₀ rng₀ at₀ picked rules counts waits laid rng at =
     (at ≤ «open»)
-    × Selecting (take start order) front lines distances n-lines (rng₀ .s) picked₀ rules₀ at counts waits taken picked rules (rng .s)
+    × Selecting (take start order) (take (end - start) (drop start order)) lines distances n-lines firsts (rng₀ .s) picked₀ rules₀ at counts waits laid picked rules (rng .s)
 
 abbrev μ-loop : tie.MeasureT-loop
-μ-loop order start end lines distances n-lines «open» picked₀ rules₀ front counts₀ waits₀ taken₀ rng₀ at₀ picked rules counts waits taken rng at = «open» - at
+μ-loop order start end lines distances n-lines «open» picked₀ rules₀ counts₀ waits₀ firsts laid₀ rng₀ at₀ picked rules counts waits laid rng at = «open» - at
 
--- ---- the places, each from the next: the call starts, the front is cut out, the niche counts and the numbers are counted, a turn of the loop, a place filled, its rule
+-- ---- the places, each from the next: the call starts, the front is cut out, niche counts and numbers are counted, the lines' starts found, the members laid out, a
+-- turn of the loop, a place filled, its rule
 
 abbrev start : tie.After-before2 Inv-loop μ-loop → tie.Start Inv-loop μ-loop
 start c = c .before .before .before .before .before .before
@@ -27,16 +28,25 @@ cut c = c .before .before
 abbrev counted : tie.After-waits Inv-loop μ-loop → tie.After-count-lines Inv-loop μ-loop
 counted c = c .before .before
 
-abbrev numbered : tie.At-loop Inv-loop μ-loop → tie.After-count-waiting Inv-loop μ-loop
-numbered c = c .before .before
+abbrev numbered : tie.After-firsts Inv-loop μ-loop → tie.After-count-waiting Inv-loop μ-loop
+numbered c = c .before .before .before
+
+abbrev started : tie.After-laid Inv-loop μ-loop → tie.After-line-starts Inv-loop μ-loop
+started c = c .before .before .before
+
+abbrev laid-out : tie.At-loop Inv-loop μ-loop → tie.After-lay-out Inv-loop μ-loop
+laid-out c = c .before .before
+
+abbrev known : tie.After-count-waiting Inv-loop μ-loop → tie.Start Inv-loop μ-loop
+known c = start (cut (counted (c .before) .before))
 
 abbrev entry : tie.At-loop Inv-loop μ-loop → tie.Start Inv-loop μ-loop
-entry c = start (cut (counted (numbered c .before) .before))
+entry c = known (numbered (started (laid-out c .before) .before))
 
-abbrev turn : tie.After-taken Inv-loop μ-loop → tie.In-loop Inv-loop μ-loop
-turn c = c .before .before .before
+abbrev turn : tie.After-laid3 Inv-loop μ-loop → tie.In-loop Inv-loop μ-loop
+turn c = c .before .before .before .before
 
-abbrev filled : tie.After-taken2 Inv-loop μ-loop → tie.After-pick Inv-loop μ-loop
+abbrev filled : tie.After-laid4 Inv-loop μ-loop → tie.After-pick Inv-loop μ-loop
 filled c = c .before .before .before
 
 abbrev ruled : tie.After-rng Inv-loop μ-loop → tie.After-rule-of Inv-loop μ-loop
@@ -71,33 +81,70 @@ slice-aggregate-count-waiting c = refl
 count-waiting-requires : tie.Need-count-waiting-requires Inv-loop μ-loop
 count-waiting-requires c κs = (front-counts (start (cut (counted c .before)) .pre), no-counts)
 
+slice-aggregate-line-starts : tie.Need-slice-aggregate-line-starts Inv-loop μ-loop
+slice-aggregate-line-starts c = sym (c .before .before .count-waiting .kept .1 .1 .0)
+
+slice-aggregate-line-starts-2 : tie.Need-slice-aggregate-line-starts-2 Inv-loop μ-loop
+slice-aggregate-line-starts-2 c = refl
+
+line-starts-requires : tie.Need-line-starts-requires Inv-loop μ-loop
+line-starts-requires c κs =
+    let w = numbered c in
+    let h = known w .pre in
+    (omega (arith, h .narrow, w .count-waiting .kept .1 .1 .0), h .narrow, starts-room h (w .count-waiting .ensures))
+
+slice-aggregate-lay-out : tie.Need-slice-aggregate-lay-out Inv-loop μ-loop
+slice-aggregate-lay-out c = sym (c .before .before .line-starts .kept .1 .1 .0)
+
+slice-aggregate-lay-out-2 : tie.Need-slice-aggregate-lay-out-2 Inv-loop μ-loop
+slice-aggregate-lay-out-2 c = refl
+
+lay-out-requires : tie.Need-lay-out-requires Inv-loop μ-loop
+lay-out-requires c κs =
+    let s = started c in
+    let w = numbered (s .before) in
+    layable (known w .pre) (w .count-waiting .ensures) (s .line-starts .ensures) (s .line-starts .kept .1 .1 .0)
+
 loop-holds : tie.Need-loop-holds Inv-loop μ-loop
 loop-holds c =
-    let b = counted (c .before .before) .count-lines in
-    let f = c .before .count-waiting in
-    (omega arith, selecting-first _ _ _ _ _ _ _ _ _ _ (b .ensures) (f .ensures) (b .kept .1 .1 .0) (f .kept .1 .1 .0))
+    let s = started (c .before .before) in
+    let w = numbered (s .before) in
+    let b = counted (w .before) .count-lines in
+    let f = c .before .lay-out in (
+      omega arith,
+      selecting-first _ _ _ _ _ _ _ _ _ _ _ _ (b .ensures)
+          (stands-start (known w .pre) (w .count-waiting .ensures) (s .line-starts .ensures) (f .kept .1 .1 .1 .0) (f .ensures))
+          (b .kept .1 .1 .0) (w .count-waiting .kept .1 .1 .0) (f .kept .1 .1 .1 .0),
+    )
 
 slice-aggregate-pick : tie.Need-slice-aggregate-pick Inv-loop μ-loop
-slice-aggregate-pick c = sym (c .before .before .loop .inv .1 .holds .sizes .0)
+slice-aggregate-pick c = sym (started (laid-out (c .before .before) .before) .line-starts .kept .1 .1 .0)
 
 slice-aggregate-pick-2 : tie.Need-slice-aggregate-pick-2 Inv-loop μ-loop
-slice-aggregate-pick-2 c = sym (c .before .before .before .loop .inv .1 .holds .sizes .1)
+slice-aggregate-pick-2 c = sym (c .before .before .before .loop .inv .1 .holds .sizes .0)
 
 slice-aggregate-pick-3 : tie.Need-slice-aggregate-pick-3 Inv-loop μ-loop
-slice-aggregate-pick-3 c = sym (turn c .before .loop .inv .1 .holds .sizes .2)
+slice-aggregate-pick-3 c = sym (c .before .before .before .before .loop .inv .1 .holds .sizes .1)
+
+slice-aggregate-pick-4 : tie.Need-slice-aggregate-pick-4 Inv-loop μ-loop
+slice-aggregate-pick-4 c = sym (turn c .before .loop .inv .1 .holds .sizes .2)
 
 -- the numbers are those before this pick: `holds .stands`, of the plans picked so far
 pick-requires : tie.Need-pick-requires Inv-loop μ-loop
 pick-requires c κs =
     let l = turn c .before .loop in
     let h = entry (turn c .before) .pre in
-    selecting-ready (l .inv .1) (given h) (enough-members h (l .at) (turn c .loop-test .taken))
+    selecting-ready (l .inv .1) (given h) (omega (arith, h .narrow, started (laid-out (turn c .before) .before) .line-starts .kept .1 .1 .0)) (enough-members h (l .at) (turn c .loop-test .taken))
 
 mul-picked : tie.Need-mul-picked Inv-loop μ-loop
-mul-picked c = omega arith
+mul-picked c =
+    let t = turn (filled c .before) in
+    omega (arith, t .loop-test .taken, entry (t .before) .pre .room, entry (t .before) .good)
 
 slice-write-picked : tie.Need-slice-write-picked Inv-loop μ-loop
-slice-write-picked c = omega (arith, turn (filled c .before) .before .loop .inv .1 .picked .same)
+slice-write-picked c =
+    let t = turn (filled c .before) in
+    omega (arith, t .before .loop .inv .1 .picked .same, t .loop-test .taken, entry (t .before) .pre .room)
 
 rule-of-requires : tie.Need-rule-of-requires Inv-loop μ-loop
 rule-of-requires c κs = tt
@@ -154,10 +201,17 @@ niching-select-spec =
     count-lines-requires
     slice-aggregate-count-waiting
     count-waiting-requires
+    slice-aggregate-line-starts
+    slice-aggregate-line-starts-2
+    line-starts-requires
+    slice-aggregate-lay-out
+    slice-aggregate-lay-out-2
+    lay-out-requires
     loop-holds
     slice-aggregate-pick
     slice-aggregate-pick-2
     slice-aggregate-pick-3
+    slice-aggregate-pick-4
     pick-requires
     mul-picked
     slice-write-picked

@@ -1,30 +1,54 @@
--- a line is drawn, a member of it chosen, and the three arrays are moved on
+-- a line is drawn, a member of it chosen and taken out, and the line's count and number are moved on
+use Prim.Native.Nat.{_+_, _≤_, _<_}
 use mathlib.Core.Path.{refl}
-use lib.ListN.{length-set}
-use Rattle.niching_array_laws.proofs.Picking.{ready-awaits, ready-open, open-some, member-waited, member-line, picked-at, found-at}
-use Rattle.niching_array_laws.proofs.Numbering.{stands-more}
+use lib.ListN.{length, length-set}
+use Rattle.niching_array_laws.specs.Niche.{countOf}
+use Rattle.niching_array_laws.proofs.Picking.{open-some, cut-length, cut-measured, cut-chosen, picked-at, found-at}
+use Rattle.niching_array_laws.proofs.Numbering.{picked-line, stands-more}
 use native.Mathlib.Omega.{arith}
+use borrow.Author.Needs.{needs}
 use Rattle.niching.proofs.pick.Statement.{statement}
 use Rattle.niching.proofs.pick.Tie as tie
 
--- ---- the places: the call starts, a line is drawn; and both, seen from where the arrays are written
+-- ---- the places: the call starts, a line is drawn
 
 abbrev start : tie.After-choose-line-arg2 → tie.Start
-start c = c .before .before .before .before .before .before .before .before
+start c = c .before .before .before .before .before .before .before
 
-abbrev drawn-line : tie.After-choose-member-arg → tie.After-choose-line
+abbrev drawn-line : tie.After-shared-slice-known3 → tie.After-choose-line
 drawn-line c = c .before .before .before .before
 
-abbrev line : tie.After-rng2 → tie.After-choose-line
-line c = drawn-line (c .before .before)
+-- the drawn line's members stand in the array
+within : (c : tie.After-choose-line) → countOf (start (c .before) .args .firsts .now) (c .choose-line .result .value)
+    + countOf (start (c .before) .args .waits .now) (c .choose-line .result .value) ≤ length (start (c .before) .args .laid .now)
+within c = start (c .before) .pre .stands .placed .inside (c .choose-line .result .value) (c .choose-line .ensures .0 .below)
 
-abbrev entry : tie.After-rng2 → tie.Start
-entry c = start (line c .before)
+-- and there are some
+some-member : (c : tie.After-choose-line) → 0 < countOf (start (c .before) .args .waits .now) (c .choose-line .result .value)
+some-member c = open-some (start (c .before) .args .waits .now) (start (c .before) .args .n) (c .choose-line .result .value) (c .choose-line .ensures .0)
+
+-- a member is chosen: that place, seen from later ones, and the line drawn before it
+abbrev member : tie.After-rng2 → tie.After-choose-member
+member c = c .before .before
+
+abbrev line : tie.After-choose-member → tie.After-choose-line
+line c = drawn-line (c .before .before .before)
+
+abbrev chosen : tie.After-slice-known7 → tie.After-choose-member
+chosen c = member (c .before .before .before .before .before)
+
+abbrev entry : tie.After-slice-known7 → tie.Start
+entry c = start (line (chosen c) .before)
+
+place-within : (c : tie.After-choose-member) → c .choose-member .result .value < countOf (start (line c .before) .args .waits .now) (line c .choose-line .result .value)
+place-within c =
+    let l = line c .choose-line in
+    omega (arith, c .choose-member .ensures .0, cut-length (start (line c .before) .pre) (l .result .value) (l .ensures .0 .below))
 
 -- ---- the needs
 
 choose-line-requires : tie.Need-choose-line-requires
-choose-line-requires c κs = let h = start c .pre in (h .counted, h .awaited, h .few, ready-open h)
+choose-line-requires c κs = let h = start c .pre in (h .counted, h .awaited, h .few, h .some)
 
 mul-count : tie.Need-mul-count
 mul-count c = omega arith
@@ -38,39 +62,63 @@ mul-waiting c = omega arith
 slice-read-waiting : tie.Need-slice-read-waiting
 slice-read-waiting c = omega arith
 
+mul-first : tie.Need-mul-first
+mul-first c = omega arith
+
+shared-slice-read-first : tie.Need-shared-slice-read-first
+shared-slice-read-first c = omega arith
+
+add-end : tie.Need-add-end
+add-end c = omega (arith, within (drawn-line c))
+
+mul-choose-member : tie.Need-mul-choose-member
+mul-choose-member c = omega (arith, within (drawn-line c))
+
+sub-choose-member : tie.Need-sub-choose-member
+sub-choose-member c = search needs
+
+part-choose-member-start : tie.Need-part-choose-member-start
+part-choose-member-start c = search needs
+
+part-choose-member-end : tie.Need-part-choose-member-end
+part-choose-member-end c = omega (arith, within (drawn-line (c .before)))
+
 choose-member-requires : tie.Need-choose-member-requires
 choose-member-requires c κs =
-    let s = start (drawn-line c .before) in
-    let h = s .pre in
-    let l = drawn-line c .choose-line in
-    (h .listed, h .measured, ready-awaits h (l .result .value), open-some (s .args .waits .now) (s .args .n) (l .result .value) (l .ensures .0))
+    let l = drawn-line (c .before .before) in
+    let a = start (l .before) in
+    let k = l .choose-line in
+    (cut-measured (a .pre) (k .result .value) (k .ensures .0 .below), omega (arith, cut-length (a .pre) (k .result .value) (k .ensures .0 .below), some-member l))
 
-add-raised : tie.Need-add-raised
-add-raised c = omega (arith, entry c .pre .few (line c .choose-line .result .value))
-
-mul-counts : tie.Need-mul-counts
-mul-counts c = omega (arith, line c .choose-line .ensures .0 .below, entry c .pre .counted, entry c .good)
-
-slice-write-counts : tie.Need-slice-write-counts
-slice-write-counts c = omega arith
-
-sub-waits : tie.Need-sub-waits
-sub-waits c = let l = line c .choose-line in omega (arith, open-some (entry c .args .waits .now) (entry c .args .n) (l .result .value) (l .ensures .0))
-
-mul-waits : tie.Need-mul-waits
-mul-waits c = omega (arith, line c .choose-line .ensures .0 .below, entry c .pre .counted, entry c .good)
-
-slice-write-waits : tie.Need-slice-write-waits
-slice-write-waits c = omega arith
-
-slice-write-taken : tie.Need-slice-write-taken
-slice-write-taken c = omega arith
+add-place : tie.Need-add-place
+add-place c = omega (arith, place-within (c .before), within (line (c .before)), start (line (c .before) .before) .good)
 
 mul-value : tie.Need-mul-value
-mul-value c = omega arith
+mul-value c = omega (arith, place-within (member c), within (line (member c)), start (line (member c) .before) .good)
 
-shared-slice-read-value : tie.Need-shared-slice-read-value
-shared-slice-read-value c = omega arith
+slice-read-value : tie.Need-slice-read-value
+slice-read-value c = omega (arith, place-within (member (c .before)), within (line (member (c .before))))
+
+take-out-requires : tie.Need-take-out-requires
+take-out-requires c κs = omega (arith, place-within (member (c .before .before)), within (line (member (c .before .before))))
+
+add-raised : tie.Need-add-raised
+add-raised c = omega (arith, entry c .pre .few (line (chosen c) .choose-line .result .value))
+
+mul-counts : tie.Need-mul-counts
+mul-counts c = omega (arith, line (chosen c) .choose-line .ensures .0 .below, entry c .pre .counted, entry c .good)
+
+slice-write-counts : tie.Need-slice-write-counts
+slice-write-counts c = omega (arith, line (chosen c) .choose-line .ensures .0 .below, entry c .pre .counted)
+
+sub-waits : tie.Need-sub-waits
+sub-waits c = omega (arith, some-member (line (chosen c)))
+
+mul-waits : tie.Need-mul-waits
+mul-waits c = omega (arith, line (chosen c) .choose-line .ensures .0 .below, entry c .pre .awaited, entry c .good)
+
+slice-write-waits : tie.Need-slice-write-waits
+slice-write-waits c = omega (arith, line (chosen c) .choose-line .ensures .0 .below, entry c .pre .awaited)
 
 same-length : tie.Need-same-length
 same-length c = simp length-set
@@ -79,32 +127,27 @@ same-length-2 : tie.Need-same-length-2
 same-length-2 c = simp length-set
 
 same-length-3 : tie.Need-same-length-3
-same-length-3 c = simp length-set
+same-length-3 c = c .before .before .take-out .ensures .same
 
 returns : tie.Need-returns
 returns c =
-    let a = entry (c .before) .args in
-    let l = line (c .before) .choose-line in
-    let m = c .before .before .choose-member in
-    let h = entry (c .before) .pre in
-    let waited = member-waited (a .front .now) (a .lines .now) (a .taken .now) (l .result .value) (m .result .value) (m .ensures .0) in
-    let onLine = member-line (a .front .now) (a .lines .now) (a .taken .now) (l .result .value) (m .result .value) (m .ensures .0) in
+    let a = entry c .args in
+    let h = entry c .pre in
+    let l = line (chosen c) .choose-line in
+    let m = chosen c .choose-member in
+    let out = c .before .before .take-out in
+    let k = place-within (chosen c) in
     record {
-      place = m .result .value;
       line = l .result .value;
-      inside = m .ensures .0 .below;
-      waited = waited;
-      plan = refl;
-      onLine = onLine;
       lineInside = l .ensures .0 .below;
       counted = refl;
-      above = open-some (a .waits .now) (a .n) (l .result .value) (l .ensures .0);
+      above = some-member (line (chosen c));
       lowered = refl;
-      marked = refl;
-      stands = λ picked s. stands-more s (h .different) (m .ensures .0 .below) waited onLine
-          (omega (arith, l .ensures .0 .below, h .awaited)) (omega (arith, m .ensures .0 .below, h .listed .marks));
-      chosen = picked-at (a .front .now) (a .lines .now) (a .distances .now) (a .n) (a .counts .now) (a .waits .now) (a .taken .now) (a .rng .s)
-          (l .result .value) (l .result .rng .s) _ _ (l .ensures .1) (m .ensures .1);
+      same = out .ensures .same;
+      onLine = λ front lines picked s. picked-line s (l .result .value) (m .result .value) (l .ensures .0 .below) k;
+      stands = λ front lines picked d s. stands-more s (l .result .value) (m .result .value) (l .ensures .0 .below) k d (out .ensures) (h .awaited);
+      chosen = picked-at (a .distances .now) (a .n) (a .firsts .now) (a .counts .now) (a .waits .now) (a .laid .now) (a .rng .s) (l .result .value) (l .result .rng .s) _ _
+          (l .ensures .1) (cut-chosen h (l .result .value) (l .ensures .0 .below) _ (m .result .value) _ _ (m .ensures .0) (m .ensures .1));
       found = found-at (a .n) (a .counts .now) (a .waits .now) (a .rng .s) (l .result .value) (l .result .rng .s) (l .ensures .1);
     }
 
@@ -117,16 +160,24 @@ pick-spec =
     slice-read-count
     mul-waiting
     slice-read-waiting
+    mul-first
+    shared-slice-read-first
+    add-end
+    mul-choose-member
+    sub-choose-member
+    part-choose-member-start
+    part-choose-member-end
     choose-member-requires
+    add-place
+    mul-value
+    slice-read-value
+    take-out-requires
     add-raised
     mul-counts
     slice-write-counts
     sub-waits
     mul-waits
     slice-write-waits
-    slice-write-taken
-    mul-value
-    shared-slice-read-value
     same-length
     same-length-2
     same-length-3
