@@ -9,11 +9,13 @@ ghost use Rattle.niching_array_laws.specs.Niche.{lineIn, countOf, OnLines, Zero
 use model::MAX_LINES;
 use model::MAX_POOL;
 use model::Rng;
+use niching_lines::Least;
 
-// A picked plan, with the niche count that its line had before the pick.
+// A picked plan, with the niche count that its line had before the pick and what is left of the list of the least lines.
 struct Picked {
     value: usize,
     count: usize,
+    least: Least,
     rng: Rng,
 }
 
@@ -50,13 +52,17 @@ fn pick(
     counts: &mut [usize],
     waits: &mut [usize],
     laid: &mut [usize],
+    least: Least,
+    list: &mut [usize],
 ) -> Picked
-    requires { ⌜ Ready (now distances) n (now firsts) (now counts) (now waits) (now laid) ⌝ }
+    requires { ⌜ Ready (now distances) n (now firsts) (now counts) (now waits) (now laid) (least .count) (now list) (least .many) ⌝ }
     ensures { λ r. ⌜ Took (now (distances .entry)) n (rng .s) (now (firsts .entry)) (now (counts .entry)) (now (counts .exit))
-        (now (waits .entry)) (now (waits .exit)) (now (laid .entry)) (now (laid .exit)) (r .value) (r .count) (r .rng .s) ⌝ }
+        (now (waits .entry)) (now (waits .exit)) (now (laid .entry)) (now (laid .exit)) (now (list .entry)) (now (list .exit))
+        (r .value) (r .count) (r .least .count) (r .least .many) (r .rng .s) ⌝ }
 {
-    let d = niching_lines::choose_line(rng, counts, waits, n);
-    let l = d.value;
+    let d = niching_lines::choose_line(rng, counts, waits, n, least, list);
+    let l = d.line;
+    let least = d.least;
     let rng = d.rng;
     let count = counts[l];
     let waiting = waits[l];
@@ -70,7 +76,12 @@ fn pick(
     let raised = count + 1;
     counts[l] = raised;
     waits[l] = waiting - 1;
-    Picked { value, count, rng }
+    Picked {
+        value,
+        count,
+        least,
+        rng,
+    }
 }
 
 // Picks `open` plans of the split front, which stands in the order from `start` to `end`, each with its mark; the plans before it are kept already.
@@ -100,6 +111,8 @@ pub fn niching_select(
     niching_layout::line_starts(&waits, n_lines, &mut firsts);
     let mut laid: [usize; MAX_POOL] = [0; MAX_POOL];
     niching_layout::lay_out(front, lines, &firsts, &mut laid);
+    let mut list: [usize; MAX_LINES] = [0; MAX_LINES];
+    let mut least = Least { count: 0, many: 0 };
     let mut rng = rng;
     let mut at = 0;
     while at < open {
@@ -111,10 +124,13 @@ pub fn niching_select(
             &mut counts,
             &mut waits,
             &mut laid,
+            least,
+            &mut list,
         );
         picked[at] = d.value;
         let rule = rule_marks::rule_of(d.count);
         rules[at] = rule_marks::mark(rule);
+        least = d.least;
         rng = d.rng;
         at += 1;
     }

@@ -11,7 +11,7 @@ use Rattle.model.specs.Kept.{nicheCount, waiting, openLines, leastLines, drawFr
 use Rattle.model.specs.Refusal.{maxPool, maxLines}
 use Rattle.list_laws.proofs.Members.{tally-le, in-has, place-of}
 use Rattle.niching_laws.proofs.Picks.{some-waits, waiting-in}
-use Rattle.niching_array_laws.specs.Niche.{lineIn, distanceIn, countOf, membersOf, OnLines, Measured, Open, Stands, Ready, pickAt, countAt, Took}
+use Rattle.niching_array_laws.specs.Niche.{lineIn, distanceIn, countOf, membersOf, OnLines, Measured, Open, Leasts, Stands, Ready, pickAt, countAt, Took}
 use Rattle.niching_array_laws.proofs.Counting.{counts-more}
 use Rattle.niching_array_laws.proofs.Numbering.{stands-open}
 
@@ -74,14 +74,18 @@ module _ {before front lines picked : List ℕ} {n : ℕ} {firsts counts waits l
         },
       )
 
-  pub holds-ready : (distances : List Float) → Given before front lines distances n → n ≤ length firsts → length picked < length front
-      → Ready distances n firsts counts waits laid
-  holds-ready distances g r u = record {
+  pub holds-ready : (distances : List Float) {least many : ℕ} {list : List ℕ} → Given before front lines distances n → n ≤ length firsts → length list ≡ maxLines
+      → (0 < many → Leasts counts waits n least list many) → length picked < length front → Ready distances n firsts counts waits laid least list many
+  holds-ready distances g r e k u = record {
     started = r;
-    counted = omega (arith, g .narrow, h .sizes .0);
-    awaited = omega (arith, g .narrow, h .sizes .1);
-    few = λ l. omega (arith, holds-few l, g .few);
-    some = holds-some (g .onLines) (g .different) u;
+    choosable = record {
+      counted = omega (arith, g .narrow, h .sizes .0);
+      awaited = omega (arith, g .narrow, h .sizes .1);
+      room = omega (arith, g .narrow);
+      few = λ l. omega (arith, holds-few l, g .few);
+      some = holds-some (g .onLines) (g .different) u;
+      leasts = k;
+    };
     front = front;
     lines = lines;
     picked = picked;
@@ -91,8 +95,8 @@ module _ {before front lines picked : List ℕ} {n : ℕ} {firsts counts waits l
 
   -- ---- and after it
 
-  module _ {distances : List Float} {s r count t : ℕ} {counts′ waits′ laid′ : List ℕ} (g : Given before front lines distances n)
-      (k : Took distances n s firsts counts counts′ waits waits′ laid laid′ r count t) where
+  module _ {distances : List Float} {s r count least many t : ℕ} {counts′ waits′ laid′ list list′ : List ℕ} (g : Given before front lines distances n)
+      (k : Took distances n s firsts counts counts′ waits waits′ laid laid′ list list′ r count least many t) where
     on-line : lineIn lines r ≡ k .line
     on-line = k .onLine front lines picked (h .stands)
 

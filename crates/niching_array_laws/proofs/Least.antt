@@ -5,14 +5,13 @@ use mathlib.Core.Bool.{true}
 use mathlib.Core.List.{List}
 use mathlib.Core.Logic.{_⊎_, inl, inr, ⊎-elim}
 use native.Mathlib.Omega.{arith}
-use borrow.Author.Tests.{ltb-false, eq-eqb, eqb-true, eqb-false}
+use borrow.Author.Tests.{ltb-false, eqb-true, eqb-false}
 use lib.Dec.{eqb, leb, ltb}
 use lib.ListN.{getD}
-use Rattle.model.specs.Lists.{countBelow, keepBelow, allIn, In}
+use Rattle.model.specs.Lists.{keepBelow, allIn, In}
 use Rattle.model.specs.Kept.{leastLines}
 use Rattle.list_laws.proofs.Bools.{by-bool, by-cond, no-pass}
 use Rattle.list_laws.proofs.Best.{best-all, best-least, ltb-self, ltb-down}
-use Rattle.list_laws.proofs.Counts.{countBelow-at}
 use Rattle.list_laws.proofs.Kept.{keepBelow-same, keepBelow-in, in-keepBelow, keep-keepBelow}
 use Rattle.niching_laws.proofs.Choice.{all-least, least-all}
 use Rattle.niching_array_laws.specs.Niche.{Open, countOf, hasWaiting, isLeast, openCount, leastBelow}
@@ -74,10 +73,3 @@ module _ (counts waits : List ℕ) (n m : ℕ) (h : IsLeastOf counts waits n m) 
   leastLines-is = keep-keepBelow _ (hasWaiting waits) n ∙ keepBelow-same _ _ n (λ l u. by-bool (hasWaiting waits l)
       (λ e. rw e (least-test l u e))
       (λ e. rw e))
-
-  -- some line has it
-  pub least-some : 0 < countBelow (isLeast counts waits m) n
-  least-some =
-      let k = h .line in
-      let e : isLeast counts waits m k ≡ true = rw (h .isOpen .passes) (eq-eqb (getD counts k 0) m (h .met)) in
-      countBelow-at (isLeast counts waits m) n k (h .isOpen .below) e

@@ -1,5 +1,5 @@
-pub mod Places
 pub mod Least
+pub mod Leasts
 pub mod Counting
 pub mod Numbering
 pub mod Laying

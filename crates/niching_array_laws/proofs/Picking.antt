@@ -20,7 +20,7 @@ pub open-some : (waits : List ℕ) (n l : ℕ) → Open waits n l → 0 < countO
 open-some waits n l o = ltb-true 0 (countOf waits l) (o .passes)
 
 -- the members of a line below n, as they are cut out of the array
-module _ {distances : List Float} {n : ℕ} {firsts counts waits laid : List ℕ} (h : Ready distances n firsts counts waits laid) (l : ℕ) (inside : l < n) where
+module _ {distances : List Float} {n least many : ℕ} {firsts counts waits laid list : List ℕ} (h : Ready distances n firsts counts waits laid least list many) (l : ℕ) (inside : l < n) where
   abbrev cut : List ℕ
   cut = part laid (countOf firsts l) (countOf firsts l + countOf waits l - countOf firsts l)
 

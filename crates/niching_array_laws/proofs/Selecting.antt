@@ -4,18 +4,18 @@ use mathlib.Core.Path.{_≡_, refl, ap, sym, subst, _∙_}
 use mathlib.Core.List.{List, []}
 use native.Mathlib.Omega.{arith}
 use lib.Ieee.{Float}
-use lib.ListN.{length, set, take, drop, replicate, length-drop, length-set}
+use lib.ListN.{length, getD, set, take, drop, replicate, length-drop, length-set, length-replicate, getD-replicate, List·getD-eq-default}
 use lib.Seq.{getD-take, getD-drop, length-take-le}
 use Rattle.model.specs.Lists.{sumBelow, listBelow, over}
 use Rattle.model.specs.Refusal.{maxPool, maxLines}
 use Rattle.model.specs.Draw.{Drawn, drawn, inTurn}
 use Rattle.model.specs.Kept.{nicheCount, pickOne, picks, markOf, ruleOf, countAtPick, pickRules}
+use Rattle.list_laws.proofs.Below.{by-lt}
 use Rattle.list_laws.proofs.Built.{over-none, over-set}
 use Rattle.list_laws.proofs.Draws.{drawAll-length}
 use Rattle.list_laws.proofs.Written.{WrittenNumbers, written-none, written-next, written-more}
 use Rattle.take_out.specs.Out.{part}
-use Rattle.niching_array_laws.specs.Niche.{lineIn, distanceIn, memberAt, countOf, ofLine, Zeros, OnLines, Numbered, Placed, Started, Layable, Stands, Ready, Took, Splits, picksOf, marksOf, NichingSelects}
-use Rattle.niching_array_laws.proofs.Places.{replicate-at}
+use Rattle.niching_array_laws.specs.Niche.{lineIn, distanceIn, memberAt, countOf, ofLine, Zeros, OnLines, Leasts, Numbered, Placed, Started, Layable, Stands, Ready, Took, Splits, picksOf, marksOf, NichingSelects}
 use Rattle.niching_array_laws.proofs.Numbering.{stands-first}
 use Rattle.niching_array_laws.proofs.Laying.{waits-sum, placed-first, placed-plans}
 use Rattle.niching_array_laws.proofs.Filling.{Given, Holds, holds-first, holds-pick, holds-found, holds-ready, holds-more}
@@ -32,35 +32,43 @@ markIn lines distances n before front s i =
 
 -- the state of the loop
 pub record Selecting (before front lines : List ℕ) (distances : List Float) (n : ℕ) (firsts : List ℕ) (s : ℕ) (old oldRules : List ℕ) (j : ℕ) (counts waits laid : List ℕ)
-    (out rules : List ℕ) (t : ℕ) : Type 0 where
+    (least : ℕ) (list : List ℕ) (many : ℕ) (out rules : List ℕ) (t : ℕ) : Type 0 where
   pub holds : Holds before front lines (picks (lineIn lines) (distanceIn distances) n before front j s .value) n firsts counts waits laid
+  -- the list of the least lines, where any is left in it
+  pub leasts : 0 < many → Leasts counts waits n least list many
+  pub room : length list ≡ maxLines
   pub picked : WrittenNumbers (pickIn lines distances n before front) s old j out t
   pub marked : rules ≡ over (listBelow (markIn lines distances n before front s) j) oldRules
   pub same : length rules ≡ length oldRules
 
-pub selecting-first : (before front lines : List ℕ) (distances : List Float) (n : ℕ) (firsts : List ℕ) (s : ℕ) (old oldRules counts waits laid : List ℕ)
+pub selecting-first : (before front lines : List ℕ) (distances : List Float) (n : ℕ) (firsts : List ℕ) (s : ℕ) (old oldRules counts waits laid list : List ℕ)
     → ((l : ℕ) → countOf counts l ≡ nicheCount (lineIn lines) before l) → Stands front lines [] n firsts waits laid
-    → length counts ≡ maxLines → length waits ≡ maxLines → length laid ≡ maxPool
-    → Selecting before front lines distances n firsts s old oldRules 0 counts waits laid old oldRules s
+    → length counts ≡ maxLines → length waits ≡ maxLines → length laid ≡ maxPool → length list ≡ maxLines
+    → Selecting before front lines distances n firsts s old oldRules 0 counts waits laid 0 list 0 old oldRules s
 unfolding inTurn
-selecting-first before front lines distances n firsts s old oldRules counts waits laid a b c d e = record {
+selecting-first before front lines distances n firsts s old oldRules counts waits laid list a b c d e f = record {
   holds = holds-first before front lines n firsts counts waits laid a b c d e;
+  leasts = λ u. absurd (omega arith);
+  room = f;
   picked = written-none (pickIn lines distances n before front) s old;
   marked = sym (over-none (markIn lines distances n before front s) oldRules);
   same = refl;
 }
 
 module _ {before front lines : List ℕ} {distances : List Float} {n : ℕ} {firsts : List ℕ} {s : ℕ} {old oldRules : List ℕ} {j : ℕ} {counts waits laid : List ℕ}
-    {out rules : List ℕ} {t : ℕ} (h : Selecting before front lines distances n firsts s old oldRules j counts waits laid out rules t)
+    {least : ℕ} {list : List ℕ} {many : ℕ} {out rules : List ℕ} {t : ℕ}
+    (h : Selecting before front lines distances n firsts s old oldRules j counts waits laid least list many out rules t)
     (g : Given before front lines distances n) where
-  pub selecting-ready : n ≤ length firsts → j < length front → Ready distances n firsts counts waits laid
-  selecting-ready r u = holds-ready (h .holds) distances g r (omega (arith, drawAll-length (pickIn lines distances n before front) j s))
+  pub selecting-ready : n ≤ length firsts → j < length front → Ready distances n firsts counts waits laid least list many
+  selecting-ready r u = holds-ready (h .holds) distances g r (h .room) (h .leasts) (omega (arith, drawAll-length (pickIn lines distances n before front) j s))
 
-  pub selecting-more : {counts′ waits′ laid′ : List ℕ} {r count mark u : ℕ} → j < length old → j < length oldRules
-      → Took distances n t firsts counts counts′ waits waits′ laid laid′ r count u → mark ≡ markOf (ruleOf count)
-      → Selecting before front lines distances n firsts s old oldRules (j + 1) counts′ waits′ laid′ (set out j r) (set rules j mark) u
-  selecting-more {counts′} {waits′} {laid′} {r} {count} {mark} {u} v w k e = record {
+  pub selecting-more : {counts′ waits′ laid′ list′ : List ℕ} {r count least′ many′ mark u : ℕ} → j < length old → j < length oldRules
+      → Took distances n t firsts counts counts′ waits waits′ laid laid′ list list′ r count least′ many′ u → mark ≡ markOf (ruleOf count)
+      → Selecting before front lines distances n firsts s old oldRules (j + 1) counts′ waits′ laid′ least′ list′ many′ (set out j r) (set rules j mark) u
+  selecting-more {counts′} {waits′} {laid′} {list′} {r} {count} {least′} {many′} {mark} {u} v w k e = record {
     holds = rw (← written-next (pickIn lines distances n before front) s old j out t (h .picked) r u chosen) (holds-more (h .holds) g k);
+    leasts = λ z. k .leasts;
+    room = k .sameList ∙ h .room;
     picked = written-more (pickIn lines distances n before front) s old j out t (h .picked) v r u chosen;
     marked = over-set (markIn lines distances n before front s) rules oldRules j mark w (h .marked) (e ∙ ap (λ c. markOf (ruleOf c)) found);
     same = length-set rules j mark ∙ h .same;
@@ -146,8 +154,8 @@ module _ {order : List ℕ} {start end : ℕ} {lines : List ℕ} {distances : Li
 
 -- with all places filled the promise is kept
 pub selecting-done : {order : List ℕ} {start end : ℕ} {lines : List ℕ} {distances : List Float} {n : ℕ} {firsts : List ℕ} {s : ℕ} {old oldRules : List ℕ} {j : ℕ}
-    {counts waits laid : List ℕ} {out rules : List ℕ} {t : ℕ} (places : ℕ) → j ≡ places
-    → Selecting (take start order) (take (end - start) (drop start order)) lines distances n firsts s old oldRules j counts waits laid out rules t
+    {counts waits laid : List ℕ} {least : ℕ} {list : List ℕ} {many : ℕ} {out rules : List ℕ} {t : ℕ} (places : ℕ) → j ≡ places
+    → Selecting (take start order) (take (end - start) (drop start order)) lines distances n firsts s old oldRules j counts waits laid least list many out rules t
     → NichingSelects order start end lines distances n places s old out oldRules rules t
 unfolding pickRules
 selecting-done {order} {start} {end} {lines} {distances} {n} {firsts} {s} {old} {oldRules} places e h = record {
@@ -156,6 +164,10 @@ selecting-done {order} {start} {end} {lines} {distances} {n} {firsts} {s} {old} 
   state = h .picked .state ∙ ap (λ m. picksOf order start end lines distances n m s .state) e;
 }
 
+-- one value again and again: every entry is that value, and so is what a place past the end reads as
+replicate-at : (x n i : ℕ) → getD (replicate n x) i x ≡ x
+replicate-at x n i = by-lt i n (λ u. getD-replicate n i x x u) (λ u. List·getD-eq-default (replicate n x) x (omega (arith, length-replicate n x)))
+
 -- an array of zeros
 pub no-counts : Zeros (replicate maxLines 0)
-no-counts l = replicate-at {A = ℕ} 0 maxLines l
+no-counts l = replicate-at 0 maxLines l

@@ -1,5 +1,5 @@
--- What the arrays of the niching loop hold: each line's niche count, each line's number of waiting members (M-104), and these members line by line, each line's from
--- its own start on, in listed order. Past a list's end a number reads as 0, a double as NaN.
+-- What the arrays of the niching loop hold: each line's niche count, each line's number of waiting members (M-104), these members line by line, each line's from
+-- its own start on, in listed order, and the lines with the least niche count. Past a list's end a number reads as 0, a double as NaN.
 use Prim.Native.Nat.{ℕ, _+_, _-_, _≤_, _<_}
 use mathlib.Core.Path.{_≡_}
 use mathlib.Core.Bool.{Bool, true, cond, _&&_}
@@ -7,7 +7,7 @@ use mathlib.Core.List.{List, [], _∷_, _++_}
 use lib.Dec.{eqb, ltb}
 use lib.Ieee.{Float, nan, lt}
 use lib.ListN.{length, getD, set, take, drop}
-use Rattle.model.specs.Lists.{keepBelow, countBelow, sumBelow, bestFrom, keep, Distinct, over}
+use Rattle.model.specs.Lists.{keepBelow, sumBelow, bestFrom, keep, Distinct, over}
 use Rattle.model.specs.Draw.{Drawn, drawn}
 use Rattle.model.specs.Kept.{nicheCount, waiting, waitingNumber, leastLines, drawFrom, picks, pickFrom, pickRules}
 use Rattle.model.specs.Refusal.{maxPool, maxLines}
@@ -68,11 +68,6 @@ pub record Passes (f : ℕ → Bool) (n r : ℕ) : Type 0 where
   pub below : r < n
   pub passes : f r ≡ true
 
--- and the k-th of them, counted from 0
-pub record Kth (f : ℕ → Bool) (n k r : ℕ) : Type 0 where
-  pub one : Passes f n r
-  pub rank : countBelow f r ≡ k
-
 -- ---- what is asked and promised
 
 -- every listed plan has a line, which is below n
@@ -86,6 +81,27 @@ Zeros counts = (l : ℕ) → getD counts l 0 ≡ 0
 -- line l is below n and has waiting members
 abbrev pub Open : List ℕ → ℕ → ℕ → Type 0
 Open waits n l = Passes (hasWaiting waits) n l
+
+-- the first `many` entries of a list are the lines of the least niche count, `least`, of those below n with waiting members, rising
+pub record Leasts (counts waits : List ℕ) (n least : ℕ) (list : List ℕ) (many : ℕ) : Type 0 where
+  pub bound : (k : ℕ) → Open waits n k → least ≤ countOf counts k
+  pub fits : many ≤ length list
+  pub entries : take many list ≡ keepBelow (isLeast counts waits least) n
+
+-- a line can be drawn: some have waiting members, and the list, where any is in it, is that of the least ones
+pub record Choosable (counts waits : List ℕ) (n least : ℕ) (list : List ℕ) (many : ℕ) : Type 0 where
+  pub counted : n ≤ length counts
+  pub awaited : n ≤ length waits
+  pub room : n ≤ length list
+  pub few : (l : ℕ) → countOf counts l < maxPool
+  pub some : (l : ℕ) × Open waits n l
+  pub leasts : 0 < many → Leasts counts waits n least list many
+
+-- it is drawn as document 01 draws it, and taken out: once its count is raised and its number lowered, the list is that of the least ones again
+pub record Chose (counts waits : List ℕ) (n s : ℕ) (list : List ℕ) (line least many t : ℕ) : Type 0 where
+  pub isOpen : Open waits n line
+  pub chosen : drawn line t ≡ drawFrom (leastLines (countOf counts) (keepBelow (hasWaiting waits) n)) s
+  pub leasts : Leasts (set counts line (countOf counts line + 1)) (set waits line (countOf waits line - 1)) n least list many
 
 -- every listed plan has a distance
 abbrev pub Measured : List ℕ → List Float → Type 0
@@ -125,12 +141,9 @@ pub record Layable (plans lines firsts : List ℕ) (room : ℕ) : Type 0 where
   pub placed : Placed count firsts (nicheCount (lineIn lines) plans) room
 
 -- the arrays agree, and a member waits
-pub record Ready (distances : List Float) (n : ℕ) (firsts counts waits laid : List ℕ) : Type 0 where
+pub record Ready (distances : List Float) (n : ℕ) (firsts counts waits laid : List ℕ) (least : ℕ) (list : List ℕ) (many : ℕ) : Type 0 where
   pub started : n ≤ length firsts
-  pub counted : n ≤ length counts
-  pub awaited : n ≤ length waits
-  pub few : (l : ℕ) → countOf counts l < maxPool
-  pub some : (l : ℕ) × Open waits n l
+  pub choosable : Choosable counts waits n least list many
   -- the split front, its plans' lines and those picked so far, of which numbers and members speak
   pub front : List ℕ
   pub lines : List ℕ
@@ -149,14 +162,16 @@ countAt n counts waits s = countOf counts (drawFrom (leastLines (countOf counts)
 
 -- that place filled: the niche count of the taken plan's line, which was `count`, is one higher and its number of waiting members, which was above 0, one lower; no
 -- other line's is touched. Whatever the split front is and whichever of it were picked before, the plan r is on that line, and the numbers and members are those before
--- the next pick, with r among the picked.
-pub record Took (distances : List Float) (n s : ℕ) (firsts counts₀ counts waits₀ waits laid₀ laid : List ℕ) (r count t : ℕ) : Type 0 where
+-- the next pick, with r among the picked; and the list is that of the least lines.
+pub record Took (distances : List Float) (n s : ℕ) (firsts counts₀ counts waits₀ waits laid₀ laid list₀ list : List ℕ) (r count least many t : ℕ) : Type 0 where
   pub line : ℕ
   pub lineInside : line < n
   pub counted : counts ≡ set counts₀ line (countOf counts₀ line + 1)
   pub above : 0 < countOf waits₀ line
   pub lowered : waits ≡ set waits₀ line (countOf waits₀ line - 1)
   pub same : length laid ≡ length laid₀
+  pub sameList : length list ≡ length list₀
+  pub leasts : Leasts counts waits n least list many
   pub onLine : (front lines picked : List ℕ) → Stands front lines picked n firsts waits₀ laid₀ → lineIn lines r ≡ line
   pub stands : (front lines picked : List ℕ) → Distinct front → Stands front lines picked n firsts waits₀ laid₀
       → Stands front lines (picked ++ (r ∷ [])) n firsts waits laid

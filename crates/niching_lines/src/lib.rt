@@ -1,16 +1,27 @@
 // The line of an open place: one drawn among those with the least niche count of the lines with waiting members (document 01, "Kept list"). Which these are is read
-// off the lines' numbers, `waits` (document 02, M-104). `choose_line` is called by `niching`; the other functions are its parts.
+// off the lines' numbers, `waits` (document 02, M-104). A drawn line's count rises, so it leaves their list, and no other line changes: the lines are scanned anew
+// only when the list is empty. `choose_line` is called by `niching`; the other functions are its parts.
 ghost use mathlib.Core.Path.{_≡_};
-ghost use Prim.Native.Nat.{ℕ, _<_, _≤_};
+ghost use Prim.Native.Nat.{_<_, _≤_};
 ghost use lib.ListN.{length};
-ghost use Rattle.model.specs.Lists.{countBelow, keepBelow};
-ghost use Rattle.model.specs.Draw.{drawn};
-ghost use Rattle.model.specs.Kept.{leastLines, drawFrom};
 ghost use Rattle.model.specs.Refusal.{maxPool};
-ghost use Rattle.niching_array_laws.specs.Niche.{countOf, hasWaiting, isLeast, openCount, leastBelow, Kth, Open};
+ghost use Rattle.list_laws.specs.Put.{Picked};
+ghost use Rattle.niching_array_laws.specs.Niche.{hasWaiting, isLeast, openCount, leastBelow, Leasts, Choosable, Chose};
 use model::MAX_POOL;
 use model::Rng;
-use rng_util::DrawnUsize;
+
+// Of a list of lines: their niche count, and how many they are.
+pub struct Least {
+    pub count: usize,
+    pub many: usize,
+}
+
+// A drawn line, with what is left of the list.
+pub struct ChosenLine {
+    pub line: usize,
+    pub least: Least,
+    pub rng: Rng,
+}
 
 // Line l has waiting members: its number is above 0.
 fn has_waiting(waits: &[usize], l: usize) -> bool
@@ -59,54 +70,63 @@ fn is_least(counts: &[usize], waits: &[usize], least: usize, l: usize) -> bool
     false
 }
 
-// How many lines have the niche count `least` and waiting members.
-fn count_least(counts: &[usize], waits: &[usize], least: usize, n: usize) -> usize
-    requires { ⌜ (n ≤ length (now counts)) × (n ≤ length (now waits)) ⌝ }
-    ensures { λ r. ⌜ r ≡ countBelow (isLeast (now (counts .entry)) (now (waits .entry)) least) n ⌝ }
+// Lists the lines with the niche count `least` and waiting members, rising, and counts them.
+fn least_lines(
+    counts: &[usize],
+    waits: &[usize],
+    least: usize,
+    n: usize,
+    list: &mut [usize],
+) -> usize
+    requires { ⌜ (n ≤ length (now counts)) × (n ≤ length (now waits)) × (n ≤ length (now list)) ⌝ }
+    ensures { λ r. ⌜ Picked (isLeast (now (counts .entry)) (now (waits .entry)) least) (now (list .entry)) 0 n (now (list .exit)) r ⌝ }
 {
-    let mut count: usize = 0;
+    let mut many: usize = 0;
     let mut l = 0;
     while l < n {
         if is_least(counts, waits, least, l) {
-            count += 1;
+            list[many] = l;
+            many += 1;
         }
         l += 1;
     }
-    count
+    many
 }
 
-// The k-th of these lines in rising order, counted from 0.
-fn nth_least(counts: &[usize], waits: &[usize], least: usize, n: usize, k: usize) -> usize
-    requires { ⌜ (n ≤ length (now counts)) × (n ≤ length (now waits))
-        × (k < countBelow (isLeast (now counts) (now waits) least) n) ⌝ }
-    ensures { λ r. ⌜ Kth (isLeast (now (counts .entry)) (now (waits .entry)) least) n k r ⌝ }
+// The list as it is, where any line is in it; otherwise made anew.
+fn renew(counts: &[usize], waits: &[usize], n: usize, least: Least, list: &mut [usize]) -> Least
+    requires { ⌜ Choosable (now counts) (now waits) n (least .count) (now list) (least .many) ⌝ }
+    ensures { λ r. ⌜ Leasts (now (counts .entry)) (now (waits .entry)) n (r .count) (now (list .exit)) (r .many) × (0 < r .many) ⌝ }
 {
-    let mut left = k;
-    let mut l = 0;
-    while l < n {
-        if is_least(counts, waits, least, l) {
-            if left == 0 {
-                return l;
-            }
-            left -= 1;
-        }
-        l += 1;
+    if 0 < least.many {
+        return least;
     }
-    l
+    let count = least_count(counts, waits, n);
+    let many = least_lines(counts, waits, count, n, list);
+    Least { count, many }
 }
 
-// One line, drawn among those with the least niche count of the lines whose number is above 0.
-pub fn choose_line(rng: Rng, counts: &[usize], waits: &[usize], n: usize) -> DrawnUsize
-    requires { ⌜ (n ≤ length (now counts)) × (n ≤ length (now waits)) × ((l : ℕ) → countOf (now counts) l < maxPool)
-        × ((l : ℕ) × Open (now waits) n l) ⌝ }
-    ensures { λ r. ⌜ Open (now (waits .entry)) n (r .value)
-        × (drawn (r .value) (r .rng .s) ≡ drawFrom (leastLines (countOf (now (counts .entry))) (keepBelow (hasWaiting (now (waits .entry))) n)) (rng .s)) ⌝ }
+// One line, drawn among those with the least niche count of the lines whose number is above 0, and taken out of their list. The caller raises its count and lowers its number.
+pub fn choose_line(
+    rng: Rng,
+    counts: &[usize],
+    waits: &[usize],
+    n: usize,
+    least: Least,
+    list: &mut [usize],
+) -> ChosenLine
+    requires { ⌜ Choosable (now counts) (now waits) n (least .count) (now list) (least .many) ⌝ }
+    ensures { λ r. ⌜ Chose (now (counts .entry)) (now (waits .entry)) n (rng .s) (now (list .exit)) (r .line) (r .least .count) (r .least .many) (r .rng .s) ⌝ }
 {
-    let least = least_count(counts, waits, n);
-    let many = count_least(counts, waits, least, n);
+    let lines = renew(counts, waits, n, least, list);
+    let count = lines.count;
+    let many = lines.many;
     let d = rng_util::draw_usize(rng, many);
     let k = d.value;
     let rng = d.rng;
-    let value = nth_least(counts, waits, least, n, k);
-    DrawnUsize { value, rng }
+    let line = list[k];
+    take_out::take_out(list, k, many);
+    let left = many - 1;
+    let least = Least { count, many: left };
+    ChosenLine { line, least, rng }
 }

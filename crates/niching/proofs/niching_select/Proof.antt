@@ -9,12 +9,12 @@ use Rattle.niching.proofs.niching_select.Statement.{statement}
 use Rattle.niching.proofs.niching_select.Tie as tie
 
 abbrev Inv-loop : tie.InvT-loop
-Inv-loop order start end lines distances n-lines «open» picked₀ rules₀ counts₀ waits₀ firsts laid₀ rng₀ at₀ picked rules counts waits laid rng at =
+Inv-loop order start end lines distances n-lines «open» picked₀ rules₀ counts₀ waits₀ firsts laid₀ list₀ least₀ rng₀ at₀ picked rules counts waits laid list least rng at =
     (at ≤ «open»)
-    × Selecting (take start order) (take (end - start) (drop start order)) lines distances n-lines firsts (rng₀ .s) picked₀ rules₀ at counts waits laid picked rules (rng .s)
+    × Selecting (take start order) (take (end - start) (drop start order)) lines distances n-lines firsts (rng₀ .s) picked₀ rules₀ at counts waits laid (least .count) list (least .many) picked rules (rng .s)
 
 abbrev μ-loop : tie.MeasureT-loop
-μ-loop order start end lines distances n-lines «open» picked₀ rules₀ counts₀ waits₀ firsts laid₀ rng₀ at₀ picked rules counts waits laid rng at = «open» - at
+μ-loop order start end lines distances n-lines «open» picked₀ rules₀ counts₀ waits₀ firsts laid₀ list₀ least₀ rng₀ at₀ picked rules counts waits laid list least rng at = «open» - at
 
 -- ---- the places, each from the next: the call starts, the front is cut out, niche counts and numbers are counted, the lines' starts found, the members laid out, a
 -- turn of the loop, a place filled, its rule
@@ -43,14 +43,14 @@ known c = start (cut (counted (c .before) .before))
 abbrev entry : tie.At-loop Inv-loop μ-loop → tie.Start Inv-loop μ-loop
 entry c = known (numbered (started (laid-out c .before) .before))
 
-abbrev turn : tie.After-laid3 Inv-loop μ-loop → tie.In-loop Inv-loop μ-loop
-turn c = c .before .before .before .before
+abbrev turn : tie.After-list Inv-loop μ-loop → tie.In-loop Inv-loop μ-loop
+turn c = c .before .before .before .before .before
 
-abbrev filled : tie.After-laid4 Inv-loop μ-loop → tie.After-pick Inv-loop μ-loop
-filled c = c .before .before .before
+abbrev filled : tie.After-list2 Inv-loop μ-loop → tie.After-pick Inv-loop μ-loop
+filled c = c .before .before .before .before
 
 abbrev ruled : tie.After-rng Inv-loop μ-loop → tie.After-rule-of Inv-loop μ-loop
-ruled c = c .before .before
+ruled c = c .before .before .before
 
 -- ---- the needs
 
@@ -112,9 +112,9 @@ loop-holds c =
     let b = counted (w .before) .count-lines in
     let f = c .before .lay-out in (
       omega arith,
-      selecting-first _ _ _ _ _ _ _ _ _ _ _ _ (b .ensures)
+      selecting-first _ _ _ _ _ _ _ _ _ _ _ _ _ (b .ensures)
           (stands-start (known w .pre) (w .count-waiting .ensures) (s .line-starts .ensures) (f .kept .1 .1 .1 .0) (f .ensures))
-          (b .kept .1 .1 .0) (w .count-waiting .kept .1 .1 .0) (f .kept .1 .1 .1 .0),
+          (b .kept .1 .1 .0) (w .count-waiting .kept .1 .1 .0) (f .kept .1 .1 .1 .0) refl,
     )
 
 slice-aggregate-pick : tie.Need-slice-aggregate-pick Inv-loop μ-loop
@@ -127,7 +127,10 @@ slice-aggregate-pick-3 : tie.Need-slice-aggregate-pick-3 Inv-loop μ-loop
 slice-aggregate-pick-3 c = sym (c .before .before .before .before .loop .inv .1 .holds .sizes .1)
 
 slice-aggregate-pick-4 : tie.Need-slice-aggregate-pick-4 Inv-loop μ-loop
-slice-aggregate-pick-4 c = sym (turn c .before .loop .inv .1 .holds .sizes .2)
+slice-aggregate-pick-4 c = sym (c .before .before .before .before .before .loop .inv .1 .holds .sizes .2)
+
+slice-aggregate-pick-5 : tie.Need-slice-aggregate-pick-5 Inv-loop μ-loop
+slice-aggregate-pick-5 c = sym (turn c .before .loop .inv .1 .room)
 
 -- the numbers are those before this pick: `holds .stands`, of the plans picked so far
 pick-requires : tie.Need-pick-requires Inv-loop μ-loop
@@ -171,7 +174,7 @@ loop-again c =
     let rule = ruled c .rule-of in (
       omega (arith, t .loop-test .taken),
       selecting-more (t .before .loop .inv .1) (given h) (omega (arith, t .loop-test .taken, h .room)) (omega (arith, t .loop-test .taken, h .roomForRules))
-          (f .pick .ensures) (c .before .mark .ensures ∙ ap markOf (rule .ensures)),
+          (f .pick .ensures) (c .before .before .mark .ensures ∙ ap markOf (rule .ensures)),
     )
 
 same-length : tie.Need-same-length Inv-loop μ-loop
@@ -212,6 +215,7 @@ niching-select-spec =
     slice-aggregate-pick-2
     slice-aggregate-pick-3
     slice-aggregate-pick-4
+    slice-aggregate-pick-5
     pick-requires
     mul-picked
     slice-write-picked

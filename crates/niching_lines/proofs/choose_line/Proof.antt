@@ -1,45 +1,55 @@
--- the k-th of the lines that have the least count
-use Rattle.niching_array_laws.proofs.Least.{IsLeastOf, leastBelow-is, least-some}
+-- the k-th line of the list, k drawn, and the list without it
+use Prim.Native.Nat.{_<_}
+use mathlib.Core.Path.{_∙_}
 use Rattle.rng_util.proofs.Draws.{drawn-below}
-use Rattle.niching_array_laws.proofs.Choosing.{chosen-open, chosen-line}
-use borrow.Author.Needs.{needs}
+use Rattle.niching_array_laws.proofs.Leasts.{leasts-chose}
+use native.Mathlib.Omega.{arith}
 use Rattle.niching_lines.proofs.choose_line.Statement.{statement}
 use Rattle.niching_lines.proofs.choose_line.Tie as tie
 
-least-count-requires : tie.Need-least-count-requires
-least-count-requires c κs = search needs
-
-count-least-requires : tie.Need-count-least-requires
-count-least-requires c κs = search needs
-
--- the count found is the least
-least : (c : tie.After-least-count)
-    → IsLeastOf (c .before .before .before .args .counts .now) (c .before .before .before .args .waits .now) (c .before .before .before .args .n) (c .least-count .result)
-least c =
-    let a = c .before .before .before in
-    rw (c .least-count .ensures) (leastBelow-is _ _ _ _ (a .pre .3 .0) (a .pre .3 .1) (a .pre .2))
+renew-requires : tie.Need-renew-requires
+renew-requires c κs = c .before .before .before .before .pre
 
 draw-usize-requires : tie.Need-draw-usize-requires
-draw-usize-requires c κs = rw (c .count-least .ensures) (least-some _ _ _ _ (least (c .before)))
+draw-usize-requires c κs = c .before .before .renew .ensures .1
 
-nth-least-requires : tie.Need-nth-least-requires
-nth-least-requires c κs =
-    let a = c .before .before .before .before .before .before in
-    let n = c .before .before .count-least in
-    (a .pre .0, a .pre .1, rw (n .ensures) at (drawn-below _ _ _ _ (rw (n .ensures) (least-some _ _ _ _ (least (c .before .before .before)))) (c .before .draw-usize .ensures)))
+-- the place drawn is in the list
+below : (c : tie.After-draw-usize) → c .draw-usize .result .value < c .before .before .before .renew .result .many
+below c = drawn-below _ _ _ _ (c .before .before .before .renew .ensures .1) (c .draw-usize .ensures)
+
+mul-line : tie.Need-mul-line
+mul-line c =
+    let r = c .before .before .before .before in
+    omega (arith, below (c .before), r .renew .ensures .0 .fits, r .renew .kept .1 .1 .1 .1 .0, r .before .before .before .before .before .good)
+
+slice-read-line : tie.Need-slice-read-line
+slice-read-line c = omega (arith, below (c .before .before), c .before .before .before .before .before .renew .ensures .0 .fits)
+
+take-out-requires : tie.Need-take-out-requires
+take-out-requires c κs = (below (c .before .before .before), c .before .before .before .before .before .before .renew .ensures .0 .fits)
+
+sub-left : tie.Need-sub-left
+sub-left c = c .before .before .before .before .before .before .before .before .before .renew .ensures .1
+
+same-length : tie.Need-same-length
+same-length c = c .before .before .take-out .ensures .same ∙ c .before .before .before .before .before .before .before .before .before .renew .kept .1 .1 .1 .1 .0
 
 returns : tie.Need-returns
 returns c =
-    let o = least (c .before .before .before .before) in
-    let h = c .nth-least .ensures in
-    (chosen-open _ _ _ _ _ _ o h, chosen-line _ _ _ _ _ _ o h _ _ _ (c .before .before .before .count-least .ensures) (c .before .before .draw-usize .ensures))
+    let d = c .before .before .before .before .before .before in
+    let r = d .before .before .before in
+    let a = r .before .before .before .before .before in
+    leasts-chose (r .renew .ensures .0) (d .draw-usize .result .value) (below d) (a .pre .counted) (a .pre .awaited) (c .before .before .take-out .ensures) _ _ (d .draw-usize .ensures)
 
 pub choose-line-spec : {M : Type 1} → statement M
 choose-line-spec =
     tie.close
     (tie.spec
-    least-count-requires
-    count-least-requires
+    renew-requires
     draw-usize-requires
-    nth-least-requires
+    mul-line
+    slice-read-line
+    take-out-requires
+    sub-left
+    same-length
     returns)
