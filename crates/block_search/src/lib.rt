@@ -2,16 +2,16 @@
 use columns::BLOCK;
 use model::Edition;
 ghost use mathlib.Core.Path.{_≡_};
-ghost use mathlib.Core.Bool.{cond, _&&_};
+ghost use mathlib.Core.Bool.{false, cond, _&&_};
 ghost use Prim.Native.Nat.{ℕ, _+_, _*_, _≤_};
-ghost use lib.Ieee.{Float};
+ghost use lib.Ieee.{Float, lt};
 ghost use lib.ListN.{length};
 ghost use Rattle.model.specs.Lists.{anyBelow};
 ghost use Rattle.model.specs.Edition.{takesRoot};
-ghost use Rattle.model.specs.Association.{measureOf};
-ghost use Rattle.association_laws.specs.Flat.{NormsIn, normAt};
+ghost use Rattle.model.specs.Association.{dot, smallNorm, measureOf};
+ghost use Rattle.association_laws.specs.Flat.{from, NormsIn, normAt};
 ghost use Rattle.association_laws.specs.Search.{Square, Found};
-ghost use Rattle.columns.specs.Block.{maxBlock};
+ghost use Rattle.columns.specs.Block.{maxBlock, Empty, LineSquares};
 ghost use Rattle.block_search.specs.Turn.{closeTo, closeAt, blockDistance, FoundAll, NextAll, KeptLess};
 
 // A line, and the square of the distance from it.
@@ -155,6 +155,27 @@ fn keep(
     keep_less(line, squares, len, lines, best);
 }
 
+// The square of each plan's distance from a line that is not too short, whose r·r is `norm`. Eight objectives take fewer passes.
+fn block_squares(
+    x: &[f64],
+    m: usize,
+    len: usize,
+    table: &[f64],
+    line_at: usize,
+    norm: f64,
+    squares: &mut [f64],
+)
+    requires { ⌜ (m * len ≤ length (now x)) × («line_at» + m ≤ length (now table)) × (len ≤ maxBlock) × (len ≤ length (now squares)) × Empty len (now squares)
+        × (norm ≡ dot m (from (now table) «line_at») (from (now table) «line_at»)) × (lt norm smallNorm ≡ false) ⌝ }
+    ensures { λ _. ⌜ LineSquares (now (x .entry)) m len (from (now (table .entry)) «line_at») (now (squares .exit)) ⌝ }
+{
+    if m == 8 {
+        eight_columns::eight_squares(x, len, table, line_at, norm, squares);
+        return;
+    }
+    columns::line_squares(x, m, len, table, line_at, norm, squares);
+}
+
 // The next line, for each plan of a block. One that is too short is infinitely far.
 fn next_line(
     edition: Edition,
@@ -175,7 +196,7 @@ fn next_line(
         return;
     }
     let mut squares = [-0.0; BLOCK];
-    columns::line_squares(x, m, len, table, line * m, norm, &mut squares);
+    block_squares(x, m, len, table, line * m, norm, &mut squares);
     keep(edition, line, &squares, len, lines, best);
 }
 

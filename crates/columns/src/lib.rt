@@ -112,7 +112,7 @@ fn four_products(x: &[f64], j: usize, len: usize, table: &[f64], line_at: usize,
 }
 
 // The squares of objectives j to j + 3 more.
-fn four_squares(
+pub fn four_squares(
     x: &[f64],
     j: usize,
     len: usize,

@@ -18,15 +18,15 @@ returns c =
     let a = e .args in
     turn-short (a .edition) (a .x .now) (a .m) (a .len) (a .table .now) (a .line) (a .norm) _ _ (e .pre .3) (c .if1 .taken) (e .pre .6)
 
-mul-line-squares : tie.Need-mul-line-squares
-mul-line-squares c = search needs
+mul-block-squares : tie.Need-mul-block-squares
+mul-block-squares c = search needs
 
-slice-aggregate-line-squares : tie.Need-slice-aggregate-line-squares
-slice-aggregate-line-squares c = refl
+slice-aggregate-block-squares : tie.Need-slice-aggregate-block-squares
+slice-aggregate-block-squares c = refl
 
-line-squares-requires : tie.Need-line-squares-requires
+block-squares-requires : tie.Need-block-squares-requires
 unfolding ofBits neg
-line-squares-requires c κs = (omega arith, omega arith, omega arith, omega arith, record { at = λ b h. getD-replicate maxBlock b minusNought nan (omega arith) }, c .before .before .before .before .before .before .pre .3, c .before .if1 .left)
+block-squares-requires c κs = (omega arith, omega arith, omega arith, omega arith, record { at = λ b h. getD-replicate maxBlock b minusNought nan (omega arith) }, c .before .before .before .before .before .before .pre .3, c .before .if1 .left)
 
 slice-aggregate-keep : tie.Need-slice-aggregate-keep
 slice-aggregate-keep c = search needs
@@ -45,16 +45,16 @@ returns-2 c =
     let e = c .before .before .before .before .before .before .before .before .before .before .before .before .before .before .before .before in
     let a = e .args in
     c .before .before .before .before .keep .ensures (blockDistance (a .edition) (a .x .now) (a .m) (a .len) (a .table .now)) (e .pre .6)
-    (turn-squares (a .edition) (a .x .now) (a .m) (a .len) (a .table .now) (a .line) _ (c .before .before .before .before .before .before .before .before .before .line-squares .ensures))
+    (turn-squares (a .edition) (a .x .now) (a .m) (a .len) (a .table .now) (a .line) _ (c .before .before .before .before .before .before .before .before .before .block-squares .ensures))
 
 pub next-line-spec : {M : Type 1} → statement M
 next-line-spec =
     tie.close
     (tie.spec
     returns
-    mul-line-squares
-    slice-aggregate-line-squares
-    line-squares-requires
+    mul-block-squares
+    slice-aggregate-block-squares
+    block-squares-requires
     slice-aggregate-keep
     keep-requires
     same-length
