@@ -50,12 +50,13 @@ fn sample_discovering(
 
 // ---- a call that is lent a slice too short
 
-// The number of a call that adds no dimension.
-fn short_refusal(session: Session, history: &[u64], plans: &[u64], pool: &[u64]) -> u8
+// The number of a call that adds no dimension. It leaves the pool as it is.
+fn short_refusal(session: Session, history: &[u64], plans: &[u64], pool: &mut [u64]) -> u8
     requires { ⌜ SessionOk (state session [] [] [] []) × (badHistory (now history) ≡ false) ⌝ }
     ensures { λ r. ⌜ ((cs ns : List ℕ) (d : Distribution) (plan : ℕ) → discovers (state session cs (now (plans .entry)) ns (now (pool .entry))) plan ≡ false
         → longEnough (state session cs (now (plans .entry)) ns (now (pool .entry))) ≡ false
-        → sampleRefusal (state session cs (now (plans .entry)) ns (now (pool .entry))) d plan (now (history .entry)) ≡ some r) ⌝ }
+        → sampleRefusal (state session cs (now (plans .entry)) ns (now (pool .entry))) d plan (now (history .entry)) ≡ some r)
+        × (now (pool .exit) ≡ now (pool .entry)) ⌝ }
 {
     let config = session.config;
     let size = config.population_size;

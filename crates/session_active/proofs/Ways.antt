@@ -22,7 +22,8 @@ use Rattle.session_laws.proofs.Request.{breeding, bred-checks-same, breeds-acti
 use Rattle.session_laws.proofs.Steps.{short-ok, phase-ok}
 use Rattle.session_laws.proofs.Sample.{discovery-phase}
 use Rattle.session_steps.specs.Exits.{exit, Ready}
-use Rattle.session_breeding.specs.Breeding.{Gatherable, BredExit, bredExit, bredTo, breedBy}
+use Rattle.session_joining.specs.Joined.{Gatherable}
+use Rattle.session_breeding.specs.Breeding.{BredExit, bredExit, bredTo, breedBy}
 use Rattle.session_active.specs.Exits.{refusedWith}
 
 module _ (st : State) (d : Distribution) (plan : ℕ) (history : List ℕ) where

@@ -7,7 +7,6 @@ ghost use Rattle.model.specs.declared.Phase.the-variants as phase;
 ghost use Rattle.session_steps.specs.Exits.{exit};
 ghost use Rattle.session_active.specs.Exits.{refusedWith, Called, Answers};
 use model::Outcome;
-use model::SIZE_WORDS;
 use model::Sampled;
 use model::Sampling;
 use model::Session;
@@ -35,8 +34,7 @@ fn sample_bred(
     ensures { λ r. ⌜ Answers (exit r (now (candidates .exit)) (now (plans .exit)) (now («next_dims» .exit)) (now (pool .exit)))
         (state session (now (candidates .entry)) (now (plans .entry)) (now («next_dims» .entry)) (now (pool .entry))) plan (now (history .entry)) ⌝ }
 {
-    let mut room = [0u64; SIZE_WORDS];
-    let bred = session_breeding::breed(session, history, plans, &mut room, pool, candidates);
+    let bred = session_breeding::breed(session, history, plans, pool, candidates);
     let outcome = bred.outcome;
     let session = bred.session;
     match outcome {

@@ -1,17 +1,16 @@
 -- Breeding from its parts: what the step answers is what the session becomes, and the pool's words are the plans bred from.
-use Prim.Native.Nat.{ℕ, _+_, _*_, _≤_, _<_}
+use Prim.Native.Nat.{ℕ, _≤_, _<_}
 use mathlib.Core.Path.{_≡_, refl, sym, ap, ap₂, subst, _∙_}
-use mathlib.Core.Bool.{Bool, true, false}
 use mathlib.Core.List.{List, [], _++_}
 use mathlib.Core.Option.{Option, none, some}
 use mathlib.Core.Logic.{⊎-elim}
-use native.Mathlib.Nat.{le-refl, le-trans, le-add-right, mul-le-mul-right}
+use native.Mathlib.Nat.{le-trans, le-add-right, mul-le-mul-right}
 use native.Mathlib.Omega.{arith}
 use lib.Ieee.{Float, nan}
-use lib.ListN.{length, getD, take, drop, replicate, length-replicate, length-append, take-append-drop}
-use lib.Seq.{sets, take-at, length-take-le}
-use Rattle.list_laws.proofs.Built.{joinBelow-same, over-take, over-at, over-front, over-run, over-length}
-use Rattle.list_laws.proofs.Checks.{applies-at, then-last, good-length, pool-plan}
+use lib.ListN.{length, getD, take, drop, replicate, length-replicate, length-append}
+use lib.Seq.{sets}
+use Rattle.list_laws.proofs.Built.{joinBelow-same, over-take, over-at, over-length}
+use Rattle.list_laws.proofs.Checks.{then-last, good-length, pool-plan}
 use Rattle.list_laws.proofs.Members.{getD-in}
 use Rattle.model.specs.declared.Edition.{Edition}
 use Rattle.model.specs.declared.Selection.{Selection}
@@ -26,24 +25,24 @@ use Rattle.model.specs.Kept.{Selected, selected}
 use Rattle.model.specs.Window.{maxWindow, ownWords, lastOf, idealAfter}
 use Rattle.model.specs.Demand3.{Demand3}
 use Rattle.model.specs.Setting.{Operators, Generation, generation, wordsOf}
-use Rattle.model.specs.Session.{State, state, given, longEnough, numbersOf, childrenOf, keptWords, blockOf, bredFrom, bredSession, breed, requestOf, idealLeft, operatorsOf, mostWords, poolRoom, memoryAt, memoryIn, memoryAfter, startIdeal, waitingCount, maxWords}
-use Rattle.model.specs.Refusal.{Room, check, stepRefusal, maxSize, maxPool}
+use Rattle.model.specs.Session.{State, state, given, keptWords, blockOf, bredFrom, bredSession, breed, requestOf, idealLeft, operatorsOf, mostWords, poolRoom, memoryAt, memoryIn, memoryAfter, startIdeal, maxWords}
+use Rattle.model.specs.Refusal.{Room, stepRefusal, maxSize, maxPool}
 use Rattle.model.specs.Calls.{Lent, StepExit, roomOf, stepAccepted}
 use Rattle.model.specs.Property.{SessionOk}
-use Rattle.refusals.specs.declared.Check.{Check}
-use Rattle.refusals.specs.Checked.{checked}
 use Rattle.demand3_laws.specs.Facts.{Accepted}
 use Rattle.demand3_laws.proofs.Passed.{some-objectives}
 use Rattle.demand3_laws.proofs.Accepted.{demand3}
 use Rattle.demand3_laws.proofs.Calls.{planAt-row, step-accepted, generation-selects, request-objectives}
 use Rattle.session_pool_laws.proofs.Kept.{kept-length}
-use Rattle.session_pool_laws.proofs.Children.{comers-few, children-length}
-use Rattle.session_laws.specs.Refused.{slid, requestFrom, wordRefusal, breedRefusal, shortRefusal}
-use Rattle.session_laws.proofs.Steps.{short-ok}
-use Rattle.session_laws.proofs.Request.{waits-by, waits-most, waits-size, front-length, bred-enough, bred-few, words-objectives, most-within, step-refusal}
+use Rattle.session_laws.specs.Refused.{slid, requestFrom, breedRefusal, shortRefusal}
+use Rattle.session_laws.proofs.Request.{waits-by, bred-enough, bred-few, words-objectives, most-within, step-refusal}
 use Rattle.session_laws.proofs.Window.{window-few, slid-sound}
+use Rattle.session_waiting.specs.Moved.{Keeping}
+use Rattle.session_renewal.specs.Ideal.{Told, idealBy, ownBy}
+use Rattle.session_joining.specs.Joined.{Gatherable}
+use Rattle.session_joining.proofs.Joining.{bare-ok, bred-fits}
 use Rattle.session_breeding.proofs.Lines.{ideal-is, memory-is, memory-same, left-same}
-use Rattle.session_breeding.specs.Breeding.{Stepped, stepped, takenOf, lentWith, stepOn, Told, idealBy, ownBy, Keeping, Poised, Gatherable, bredOn, BredExit, bredExit, breedBy, breedOf}
+use Rattle.session_breeding.specs.Breeding.{Stepped, stepped, takenOf, lentWith, stepOn, Poised, bredOn, bredExit, breedBy, breedOf}
 
 -- the step by equal operators
 module _ (o p : Operators) (r : Request) (e : o ≡ p) where
@@ -53,14 +52,7 @@ module _ (o p : Operators) (r : Request) (e : o ≡ p) where
   pub taken-by : (x : StepExit) (at : Lent) (words : List ℕ) → x ≡ stepAccepted o r at words → takenOf x ≡ takenOf (stepAccepted p r at words)
   taken-by x at words f = ap takenOf f ∙ ap (λ y. takenOf (stepAccepted y r at words)) e
 
--- ---- the kept plans' words, taken up in between
-
-pub waits-front : (words kept room after pool : List ℕ) (n m : ℕ) → n ≡ m → after ≡ over (keptWords words kept n) room → m * planWords ≤ length pool
-    → sets pool 0 (take (n * planWords) after) ≡ over (keptWords words kept m) pool
-waits-front words kept room after pool n m e f fits =
-    let front : take (n * planWords) after ≡ keptWords words kept m =
-    ap (take (n * planWords)) f ∙ over-take (keptWords words kept n) room (n * planWords) (kept-length words kept n) ∙ ap (keptWords words kept) e in
-    ap (sets pool 0) front ∙ over-front (keptWords words kept m) pool (omega (arith, kept-length words kept m))
+-- ---- the kept plans
 
 -- a list that begins with a kept list names the same plans
 kept-same : (words kept rest : List ℕ) (n : ℕ) → n ≤ length kept → keptWords words (over kept rest) n ≡ keptWords words kept n
@@ -71,7 +63,7 @@ waiting-few e size = ⊎-elim (λ h. omega arith) (λ h. omega arith) (waits-by 
 
 -- ---- breeding from the plans that words hold
 
-module _ (s : Session) (words : List ℕ) (room pool candidates : ℕ) (p : Poised s words room pool candidates) where
+module _ (s : Session) (words : List ℕ) (pool candidates : ℕ) (p : Poised s words pool candidates) where
   abbrev size : ℕ
   size = s .config .«population_size»
 
@@ -111,13 +103,13 @@ module _ (s : Session) (words : List ℕ) (room pool candidates : ℕ) (p : Pois
   waits-listed = omega (arith, listed .exactly, waiting-few (s .config .edition) size)
 
   -- so its plans may wait
-  pub keeping : (kept : List ℕ) → kept ≡ over (bred .selection .kept) blank → Keeping (s .config .edition) size kept words room pool
+  pub keeping : (kept : List ℕ) → kept ≡ over (bred .selection .kept) blank → Keeping (s .config .edition) size kept words pool
   keeping kept e = record {
+    most = le-trans (waiting-few (s .config .edition) size) (p .ok .config .atMost);
     listed = omega (arith, ap length e, length-append (bred .selection .kept) (drop (length (bred .selection .kept)) blank), waits-listed);
     within = λ i h. subst (λ (k : ℕ). k < planCount words)
         (sym (ap (λ (l : List ℕ). getD l i 0) e ∙ over-at (bred .selection .kept) blank i 0 (omega (arith, waits-listed))))
         (listed .inPool (getD (bred .selection .kept) i 0) (getD-in (bred .selection .kept) i (omega (arith, waits-listed))));
-    room = le-trans (mul-le-mul-right planWords (le-trans (waiting-few (s .config .edition) size) (p .ok .config .atMost))) (p .room);
     pool = le-trans (mul-le-mul-right planWords (le-add-right waits size)) (le-trans (le-add-right _ _) (p .pool));
   }
 
@@ -174,23 +166,9 @@ module _ (s : Session) (words : List ℕ) (room pool candidates : ℕ) (p : Pois
         ∙ ap (λ (x : Stepped). state (bredSession s (x .answer .rng .s) (over (idealAfter o request (bred .selection)) (s .«ideal_point»))) (x .offspring) [] []
         (sets (over (keptWords words (bred .selection .kept) waits) pl) (memoryAt (s .config)) (lastOf (mostWords (s .config)) (memoryIn s pl ++ ownWords request)))) e
 
--- ---- the plans bred from, gathered
-
--- room for as many plans as there may be children
-pub blank-room : maxSize * planWords ≤ length (replicate {A = ℕ} (maxSize * planWords) 0)
-blank-room = subst (λ (k : ℕ). maxSize * planWords ≤ k) (sym (length-replicate {A = ℕ} (maxSize * planWords) 0)) (le-refl (maxSize * planWords))
-
--- words put behind the first `at` of a slice stand over its front
-put-behind : (pool b : List ℕ) (at : ℕ) → at + length b ≤ length pool → sets pool at b ≡ over (take at pool ++ b) pool
-put-behind pool b at h =
-    let n = length-take-le at pool (omega arith) in
-    let whole : over (take at pool) pool ≡ pool = ap (λ (k : ℕ). take at pool ++ drop k pool) n ∙ take-append-drop at pool in
-    ap (λ (l : List ℕ). sets l at b) (sym whole) ∙ over-run (take at pool) b pool at n h
+-- ---- the plans bred from, at the pool's front
 
 module _ (s : Session) (history ps pool : List ℕ) (g : Gatherable s history ps pool) where
-  abbrev many : ℕ
-  many = s .progress .«n_waiting»
-
   abbrev wanted : ℕ
   wanted = s .config .«population_size»
 
@@ -198,134 +176,75 @@ module _ (s : Session) (history ps pool : List ℕ) (g : Gatherable s history ps
   abbrev bare : State
   bare = state s [] ps [] pool
 
-  too-short : longEnough bare ≡ false
-  unfolding longEnough
-  too-short = refl
+  abbrev joined : List ℕ
+  joined = bredFrom bare history
 
-  bare-ok : SessionOk bare
-  bare-ok = short-ok s [] [] [] [] [] ps [] pool (g .ok) too-short
+  sound : SessionOk bare
+  sound = bare-ok s history ps pool g
 
-  abbrev children : List ℕ
-  children = childrenOf (numbersOf pool many) history ps wanted
+  -- the session with the ideal that its selection starts from
+  abbrev started : Session
+  started = slid s pool
 
-  abbrev front : List ℕ
-  front = take (many * planWords) pool
+  -- their refusal, whatever else is lent
+  pub refused-is : (o : Option ℕ) (cs ns : List ℕ) → breedRefusal bare history ≡ o → breedRefusal (state s cs ps ns pool) history ≡ o
+  unfolding bredFrom
+  refused-is o cs ns e = e
 
-  pub few-waiting : many ≤ maxSize
-  few-waiting = omega (arith, waits-size bare bare-ok, g .ok .config .atMost)
+  -- 10 comes after 8 and 9
+  pub short-is : (o : Option ℕ) → breedRefusal bare history ≡ o → shortRefusal bare history ≡ some (orElse o 10)
+  short-is o e = then-last _ _ _ refl ∙ ap (λ (x : Option ℕ). some (orElse x 10)) e
 
-  -- the plans that wait are whole
-  pub front-whole : planCount front * planWords ≡ length front
-  front-whole = omega (arith, front-length bare history (g .waits))
+  module _ (fits : poolRoom (s .config) ≤ length pool) (pool' : List ℕ) (end : ℕ) (count : end ≡ length joined) (put : pool' ≡ over joined pool) where
+    pool-front : take end pool' ≡ joined
+    pool-front = ap (take end) put ∙ over-take joined pool end (sym count)
 
-  pub children-few : length children ≤ wanted * planWords
-  children-few = omega (arith, children-length (numbersOf pool many) history ps wanted, comers-few (numbersOf pool many) ps wanted)
+    joined-room : length joined ≤ length pool
+    joined-room = le-trans (bred-fits s history ps pool g) (le-trans (le-add-right _ _) fits)
 
-  -- and so many words fit into a slice that holds the children at most
-  pub gathered-room : (room' : List ℕ) (n k : ℕ) → maxSize * planWords ≤ k → length room' ≡ k → n ≡ length children → n ≤ length room'
-  gathered-room room' n k h same e = omega (arith, children-few, mul-le-mul-right planWords (g .ok .config .atMost))
+    pool-same : length pool' ≡ length pool
+    pool-same = ap length put ∙ over-length joined pool joined-room
 
-  module _ (room room' : List ℕ) (n : ℕ) (laid : room' ≡ over children room) (count : n ≡ length children) where
-    pub gathered : take n room' ≡ children
-    gathered = ap (take n) laid ∙ over-take children room n (sym count)
+    pub front-fits : end ≤ length pool'
+    front-fits = omega (arith, joined-room, pool-same, count)
 
-    abbrev joined : List ℕ
-    joined = front ++ take n room'
+    -- no refusal applies: the generation may be bred
+    pub poised : (candidates : ℕ) → breedRefusal bare history ≡ none → maxWords ≤ candidates → Poised started (take end pool') (length pool') candidates
+    poised candidates good words-fit =
+        subst (λ (x : List ℕ). Poised started x (length pool') candidates) (sym pool-front)
+        (record {
+          ok = slid-sound s pool [] [] [] [] (g .ok);
+          remembered = g .ok .remembered;
+          accepted = good;
+          enough = bred-enough bare sound history (g .waits);
+          most = bred-few bare sound history (g .waits);
+          pool = subst (λ (k : ℕ). poolRoom (s .config) ≤ k) (sym pool-same) fits;
+          candidates = words-fit;
+        })
 
-    -- the session with the ideal that its selection starts from
-    abbrev started : Session
-    started = slid s pool
+    -- what is bred on it is the definition's
+    memory-left : memoryAfter started pool' (requestOf bare history) ≡ memoryAfter s pool (requestOf bare history)
+    unfolding memoryAfter
+    memory-left =
+        ap (λ (x : List ℕ). lastOf (mostWords (s .config)) (x ++ ownWords (requestOf bare history)))
+        (ap (memoryIn s) put ∙ memory-same s joined pool (bred-fits s history ps pool g))
 
-    joined-is : joined ≡ bredFrom bare history
-    unfolding bredFrom
-    joined-is = ap (λ (x : List ℕ). front ++ x) gathered
+    ideal-left : (sel : Selected) → over (idealAfter (given (s .config .window)) (requestOf bare history) sel) (startIdeal s pool) ≡ idealLeft bare history sel
+    unfolding startIdeal
+    ideal-left sel = left-same (given (s .config .window)) s pool (requestOf bare history) sel (request-objectives bare history sound)
 
-    -- ---- its refusal
-
-    -- as code has it, of the session that it makes
-    pub started-by : (c : Check) (u : Session) → u ≡ started → checked c ≡ wordRefusal u joined → checked c ≡ wordRefusal started joined
-    started-by c u e f = f ∙ ap (λ (x : Session). wordRefusal x joined) e
-
-    module _ (c : Check) (e : checked c ≡ wordRefusal started joined) where
-      check-is : checked c ≡ breedRefusal bare history
-      check-is = e ∙ ap (wordRefusal started) joined-is
-
-      -- 10 comes after 8 and 9
-      pub short-is : (k : Check) → c ≡ k → shortRefusal bare history ≡ some (orElse (checked k) 10)
-      short-is k f = then-last _ _ _ refl ∙ ap (λ (o : Option ℕ). some (orElse o 10)) (sym check-is ∙ ap (λ (x : Check). checked x) f)
-
-      pub refused-is : (k : Check) (o : Option ℕ) (cs ns : List ℕ) → c ≡ k → checked k ≡ o → breedRefusal (state s cs ps ns pool) history ≡ o
-      unfolding bredFrom
-      refused-is k o cs ns f h = sym check-is ∙ ap (λ (x : Check). checked x) f ∙ h
-
-    -- ---- the pool, with the children put behind those that wait
-
-    module _ (fits : poolRoom (s .config) ≤ length pool) where
-      -- the plans bred from are within their room
-      joined-fits : many * planWords + n ≤ memoryAt (s .config)
-      joined-fits = omega (arith, waits-most bare bare-ok, children-few, count)
-
-      pub behind-fits : many * planWords + n ≤ length pool
-      behind-fits = le-trans joined-fits (le-trans (le-add-right _ _) fits)
-
-      pub behind-room : many * planWords + length (take n room') ≤ length pool
-      behind-room = omega (arith, behind-fits, ap length gathered)
-
-      joined-length : length joined ≡ many * planWords + n
-      joined-length = omega (arith, length-append front (take n room'), front-length bare history (g .waits), ap length gathered)
-
-      module _ (pool' : List ℕ) (put : pool' ≡ sets pool (many * planWords) (take n room')) where
-        pool-is : pool' ≡ over joined pool
-        pool-is = put ∙ put-behind pool (take n room') (many * planWords) behind-room
-
-        pool-front : take (many * planWords + n) pool' ≡ bredFrom bare history
-        pool-front = ap (take (many * planWords + n)) pool-is ∙ over-take joined pool (many * planWords + n) joined-length ∙ joined-is
-
-        pool-same : length pool' ≡ length pool
-        pool-same = ap length pool-is ∙ over-length joined pool (omega (arith, behind-fits, joined-length))
-
-        pub front-fits : many * planWords + n ≤ length pool'
-        front-fits = omega (arith, behind-fits, pool-same)
-
-        -- no refusal applies: the generation may be bred
-        pub poised : (c : Check) (forRoom candidates : ℕ) → checked c ≡ wordRefusal started joined → checked c ≡ none → maxSize * planWords ≤ forRoom → maxWords ≤ candidates
-            → Poised started (take (many * planWords + n) pool') forRoom (length pool') candidates
-        poised c forRoom candidates e f room-fits words-fit =
-            subst (λ (x : List ℕ). Poised started x forRoom (length pool') candidates) (sym pool-front)
-            (record {
-              ok = slid-sound s pool [] [] [] [] (g .ok);
-              remembered = g .ok .remembered;
-              accepted = sym (e ∙ ap (wordRefusal started) joined-is) ∙ f;
-              enough = bred-enough bare bare-ok history (g .waits);
-              most = bred-few bare bare-ok history (g .waits);
-              room = room-fits;
-              pool = subst (λ (k : ℕ). poolRoom (s .config) ≤ k) (sym pool-same) fits;
-              candidates = words-fit;
-            })
-
-        -- what is bred on it is the definition's
-        memory-left : memoryAfter started pool' (requestOf bare history) ≡ memoryAfter s pool (requestOf bare history)
-        unfolding memoryAfter
-        memory-left =
-            ap (λ (x : List ℕ). lastOf (mostWords (s .config)) (x ++ ownWords (requestOf bare history)))
-            (ap (memoryIn s) pool-is ∙ memory-same s joined pool (omega (arith, joined-fits, joined-length)))
-
-        ideal-left : (sel : Selected) → over (idealAfter (given (s .config .window)) (requestOf bare history) sel) (startIdeal s pool) ≡ idealLeft bare history sel
-        unfolding startIdeal
-        ideal-left sel = left-same (given (s .config .window)) s pool (requestOf bare history) sel (request-objectives bare history bare-ok)
-
-        pub breed-is : (cs ns cs' pool'' : List ℕ) (u : Session) → state u cs' [] [] pool'' ≡ bredOn started (take (many * planWords + n) pool') cs pool'
-            → state u cs' ps ns pool'' ≡ breed (state s cs ps ns pool) history
-        unfolding breed bredFrom
-        breed-is cs ns cs' pool'' u e =
-            let bred = generation (operatorsOf s) (requestOf bare history) in
-            let kept = keptWords (bredFrom bare history) (bred .selection .kept) (waitingOf (s .config .edition) wanted) in
-            ap (λ (x : State). state (x .session) (x .candidates) ps ns (x .pool))
-            (e ∙ ap (λ (x : List ℕ). bredOn started x cs pool') pool-front)
-            ∙ ap (λ (x : List Float). state (bredSession s (bred .state) x) (over (wordsOf (bred .offspring)) cs) ps ns
-            (sets (over kept pool') (memoryAt (s .config)) (memoryAfter started pool' (requestOf bare history)))) (ideal-left (bred .selection))
-            ∙ ap₂ (λ (x y : List ℕ). state (bredSession s (bred .state) (idealLeft bare history (bred .selection))) (over (wordsOf (bred .offspring)) cs) ps ns
-            (sets (over kept x) (memoryAt (s .config)) y)) (pool-is ∙ ap (λ (x : List ℕ). over x pool) joined-is) memory-left
+    pub breed-is : (cs ns cs' pool'' : List ℕ) (u : Session) → state u cs' [] [] pool'' ≡ bredOn started (take end pool') cs pool'
+        → state u cs' ps ns pool'' ≡ breed (state s cs ps ns pool) history
+    unfolding breed bredFrom
+    breed-is cs ns cs' pool'' u e =
+        let bred = generation (operatorsOf s) (requestOf bare history) in
+        let kept = keptWords joined (bred .selection .kept) (waitingOf (s .config .edition) wanted) in
+        ap (λ (x : State). state (x .session) (x .candidates) ps ns (x .pool))
+        (e ∙ ap (λ (x : List ℕ). bredOn started x cs pool') pool-front)
+        ∙ ap (λ (x : List Float). state (bredSession s (bred .state) x) (over (wordsOf (bred .offspring)) cs) ps ns
+        (sets (over kept pool') (memoryAt (s .config)) (memoryAfter started pool' (requestOf bare history)))) (ideal-left (bred .selection))
+        ∙ ap₂ (λ (x y : List ℕ). state (bredSession s (bred .state) (idealLeft bare history (bred .selection))) (over (wordsOf (bred .offspring)) cs) ps ns
+        (sets (over kept x) (memoryAt (s .config)) y)) put memory-left
 
 -- ---- by its refusal
 

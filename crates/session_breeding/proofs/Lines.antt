@@ -9,27 +9,23 @@ use native.Mathlib.Nat.{zero-mul}
 use native.Mathlib.Omega.{arith}
 use borrow.Author.Tests.{eq-eqb, ne-eqb, ltb-false}
 use lib.Ieee.{Float, nan}
-use lib.ListN.{length, getD, take, drop, replicate, length-take, length-replicate, getD-replicate}
-use lib.Seq.{length-take-le, getD-take, drop-length}
+use lib.ListN.{length, getD, drop, replicate, length-replicate, getD-replicate}
+use lib.Seq.{getD-take, drop-length}
 use Rattle.list_laws.proofs.Bools.{by-bool, or-right}
 use Rattle.list_laws.proofs.Built.{listBelow-length, listBelow-at, listBelow-same, over-at, over-below, over-drop}
-use Rattle.list_laws.proofs.Checks.{good-ideal-length}
 use Rattle.list_laws.proofs.Kept.{keepBelow-same}
 use Rattle.list_laws.proofs.Members.{getD-in}
 use Rattle.list_laws.proofs.Runs.{over-past}
 use Rattle.list_laws.proofs.Tests.{anyBelow-at, anyBelow-nowhere}
-use Rattle.model.specs.declared.OptionUsize.{OptionUsize}
-use Rattle.model.specs.declared.OptionUsize.the-variants as optUsize
 use Rattle.model.specs.declared.Session.{Session}
 use Rattle.model.specs.Lists.{anyBelow, listBelow, over}
 use Rattle.model.specs.Real.{bits, infinity}
-use Rattle.model.specs.Plan.{planAt, planCount, maxObjectives}
+use Rattle.model.specs.Plan.{planCount, maxObjectives}
 use Rattle.model.specs.Association.{Request, objectives, lineCount, lineOf, valueOf, feasibleOnly, shapes, shapers, leastFrom, idealOf}
 use Rattle.model.specs.Kept.{Selected, isSplit, bySplit, selected, selectedSplit, selectedWhole, noLine, lineMark}
-use Rattle.model.specs.Refusal.{maxSize, maxLines, badDivisions, outsideDivisions}
-use Rattle.model.specs.Property.{SessionOk}
-use Rattle.model.specs.Window.{maxWindow, leastRemembered, mostRemembered, ownPart, ownWords, lastOf, idealAfter}
-use Rattle.model.specs.Session.{state, given, memoryAt, memoryIn, startBy}
+use Rattle.model.specs.Refusal.{maxLines, badDivisions, outsideDivisions}
+use Rattle.model.specs.Window.{leastRemembered, mostRemembered, ownPart, ownWords, lastOf, idealAfter}
+use Rattle.model.specs.Session.{memoryAt, memoryIn, startBy}
 use Rattle.niching_laws.proofs.Association.{lineOf-inside}
 use Rattle.demand3_laws.specs.Facts.{Accepted}
 use Rattle.association_laws.proofs.Shapers.{in-shapers}
@@ -37,8 +33,7 @@ use Rattle.demand3_laws.proofs.Accepted.{accepted-lines}
 use Rattle.demand3_laws.proofs.Shapers.{only-split, all-shape, some-shape}
 use Rattle.session_window.specs.Sources.{hasLine, counted, sourcesOf, leastIn}
 use Rattle.session_laws.specs.Refused.{requestFrom}
-use Rattle.session_laws.proofs.Window.{window-few, objectives-few}
-use Rattle.session_breeding.specs.Breeding.{Told, marksOf, leastOn, idealBy, ownBy}
+use Rattle.session_renewal.specs.Ideal.{marksOf, leastOn, idealBy, ownBy}
 
 -- ---- the plans that lines tell
 
@@ -157,44 +152,3 @@ left-same (some w) s pool r sel e =
     ap (λ (x : List Float). listBelow (idealOf r) (objectives r) ++ x)
     (over-drop start (s .«ideal_point») (length (listBelow (idealOf r) (objectives r)))
     (listBelow-length (leastRemembered pool (memoryAt (s .config)) (s .config .«n_obj») (s .progress .«n_remembered»)) (s .config .«n_obj») ∙ sym e ∙ sym (listBelow-length (idealOf r) (objectives r))))
-
--- ---- what a generation leaves of the ideal, by its window
-
-pub put-ready : (s : Session) (words : List ℕ) (n : ℕ) → Told s words n → (ideal : List Float) → s .config .«n_obj» ≤ length ideal
-    → (planCount words ≤ n) × (length (marksOf s) ≤ maxObjectives) × (length (marksOf s) ≤ length ideal) × ((p : ℕ) → p < planCount words → length (marksOf s) ≤ planAt words p .rowLength)
-put-ready s words n t ideal h =
-    let e = length-take-le (s .config .«n_obj») (s .config .directions) (t .sound .config .objectives) in (
-      t .lines,
-      omega (arith, e, objectives-few (s .config) (t .sound .config)),
-      omega (arith, e, h),
-      λ p l. omega (arith, e, t .rows p l),
-    )
-
-module _ (s : Session) (words lines : List ℕ) (chosen : List Float) where
-  abbrev ideal-of : OptionUsize → List Float
-  ideal-of o = idealBy (given o) s chosen words lines
-
-  abbrev own-of : OptionUsize → List Float
-  own-of o = ownBy (given o) s chosen words lines
-
-  pub left-with : (w : ℕ) (ideal own : List Float) → s .config .window ≡ optUsize.Some w → ideal ≡ leastOn s words lines (s .«ideal_point»)
-      → own ≡ leastOn s words lines (replicate maxObjectives infinity) → (ideal ≡ ideal-of (s .config .window)) × (own ≡ own-of (s .config .window))
-  left-with w ideal own e f g = (f ∙ sym (ap ideal-of e), g ∙ sym (ap own-of e))
-
-pub left-without : (s : Session) (chosen : List Float) (words lines : List ℕ) → s .config .window ≡ optUsize.None
-    → (chosen ≡ idealBy (given (s .config .window)) s chosen words lines) × (chosen ≡ ownBy (given (s .config .window)) s chosen words lines)
-left-without s chosen words lines e = (
-  sym (ap (λ (o : OptionUsize). idealBy (given o) s chosen words lines) e),
-  sym (ap (λ (o : OptionUsize). ownBy (given o) s chosen words lines) e),
-)
-
--- ---- a session that may be started from
-
-pub slid-ready : (s : Session) → SessionOk (state s [] [] [] [])
-    → (s .config .«population_size» ≤ maxSize) × (s .config .«n_obj» ≤ maxObjectives) × (s .progress .«n_remembered» ≤ maxWindow) × (s .config .«n_obj» ≤ length (s .«ideal_point»))
-slid-ready s ok = (
-  ok .config .atMost,
-  objectives-few (s .config) (ok .config),
-  omega (arith, ok .remembered, window-few (given (s .config .window)) (ok .config .window)),
-  omega (arith, good-ideal-length (s .config .«n_obj») (take (s .config .«n_obj») (s .«ideal_point»)) (ok .ideal), length-take (s .config .«n_obj») (s .«ideal_point»)),
-)

@@ -1,27 +1,22 @@
 -- What breeding asks and answers, in the words of the calls' definitions.
-use Prim.Native.Nat.{ℕ, _*_, _≤_, _<_}
+use Prim.Native.Nat.{ℕ, _≤_}
 use mathlib.Core.Path.{_≡_}
-use mathlib.Core.Bool.{true}
 use mathlib.Core.List.{List, []}
 use mathlib.Core.Option.{Option, none, some}
-use lib.Ieee.{Float, nan}
-use lib.ListN.{length, getD, take, replicate}
+use lib.Ieee.{Float}
+use lib.ListN.{take, replicate}
 use lib.Seq.{sets}
-use Rattle.model.specs.declared.Edition.{Edition}
 use Rattle.model.specs.declared.Selection.{Selection}
 use Rattle.model.specs.declared.Session.{Session}
 use Rattle.model.specs.Edition.{mostPlans, waitingOf}
-use Rattle.model.specs.Lists.{allBelow, listBelow, over}
-use Rattle.model.specs.Real.{infinity}
-use Rattle.model.specs.Plan.{planAt, planCount, planWords, maxObjectives}
+use Rattle.model.specs.Lists.{over}
+use Rattle.model.specs.Plan.{planCount}
 use Rattle.model.specs.Window.{mostRemembered, idealAfter}
 use Rattle.model.specs.Association.{Request}
 use Rattle.model.specs.Setting.{generation, wordsOf}
-use Rattle.model.specs.Session.{State, state, given, poolRoom, memoryAt, memoryAfter, operatorsOf, standsIn, keptWords, bredSession, breed, maxWords}
+use Rattle.model.specs.Session.{State, state, given, poolRoom, memoryAt, memoryAfter, operatorsOf, keptWords, bredSession, breed, maxWords}
 use Rattle.model.specs.Refusal.{maxSize, maxPool}
 use Rattle.model.specs.Calls.{Lent, StepExit, lent, wordRequest, stepAccepted}
-use Rattle.model.specs.Property.{SessionOk}
-use Rattle.session_window.specs.Sources.{leastIn}
 use Rattle.session_laws.specs.Refused.{Sound, requestFrom, wordRefusal, breedRefusal}
 
 -- ---- the generation step of a session
@@ -51,48 +46,15 @@ stepRequest s words ideal =
 abbrev pub stepOn : Session → List ℕ → List Float → List ℕ → List ℕ → List ℕ → Stepped
 stepOn s words ideal kept lines offspring = takenOf (stepAccepted (operatorsOf s) (stepRequest s words ideal) (lentWith kept lines) offspring)
 
--- ---- what a generation leaves of the ideal, by its lines (document 02, M-109)
-
--- a pool of plans that have as many values as there are objectives, a session with as many, and a line for each plan
-pub record Told (s : Session) (words : List ℕ) (forLines : ℕ) : Type 0 where
-  pub sound : Sound s
-  pub lines : planCount words ≤ forLines
-  pub rows : (p : ℕ) → p < planCount words → s .config .«n_obj» ≤ planAt words p .rowLength
-
-abbrev pub marksOf : Session → List ℕ
-marksOf s = take (s .config .«n_obj») (s .config .directions)
-
--- each entry of an ideal, and the plans' least
-abbrev pub leastOn : Session → List ℕ → List ℕ → List Float → List Float
-leastOn s words lines ideal = over (listBelow (λ j. leastIn (marksOf s) words lines (getD ideal j nan) j) (length (marksOf s))) ideal
-
-abbrev pub idealBy : Option ℕ → Session → List Float → List ℕ → List ℕ → List Float
-idealBy none s chosen words lines = chosen
-idealBy (some w) s chosen words lines = leastOn s words lines (s .«ideal_point»)
-
-abbrev pub ownBy : Option ℕ → Session → List Float → List ℕ → List ℕ → List Float
-ownBy none s chosen words lines = chosen
-ownBy (some w) s chosen words lines = leastOn s words lines (replicate maxObjectives infinity)
-
--- ---- the plans that wait
-
--- a kept list whose plans are to wait, of the plans that words hold, and room for them
-pub record Keeping (edition : Edition) (size : ℕ) (kept words : List ℕ) (forRoom forPool : ℕ) : Type 0 where
-  pub listed : waitingOf edition size ≤ length kept
-  pub within : (i : ℕ) → i < waitingOf edition size → getD kept i 0 < planCount words
-  pub room : waitingOf edition size * planWords ≤ forRoom
-  pub pool : waitingOf edition size * planWords ≤ forPool
-
 -- ---- breeding from the plans that words hold
 
 -- no refusal applies to them, they are as many as a session breeds from, and there is room
-pub record Poised (s : Session) (words : List ℕ) (forRoom forPool forCandidates : ℕ) : Type 0 where
+pub record Poised (s : Session) (words : List ℕ) (forPool forCandidates : ℕ) : Type 0 where
   pub ok : Sound s
   pub remembered : s .progress .«n_remembered» ≤ mostRemembered (given (s .config .window))
   pub accepted : wordRefusal s words ≡ none
   pub enough : s .config .«population_size» ≤ planCount words
   pub most : planCount words ≤ mostPlans (s .config .edition)
-  pub room : maxSize * planWords ≤ forRoom
   pub pool : poolRoom (s .config) ≤ forPool
   pub candidates : maxWords ≤ forCandidates
 
@@ -105,13 +67,6 @@ bredOn s words candidates pool =
     (sets (over (keptWords words (g .selection .kept) (waitingOf (s .config .edition) (s .config .«population_size»))) pool) (memoryAt (s .config)) (memoryAfter s pool r))
 
 -- ---- breeding
-
--- the pool holds the plans that wait, and the first plans of the generation stand in history
-pub record Gatherable (s : Session) (history plans pool : List ℕ) : Type 0 where
-  pub ok : SessionOk (state s [] [] [] [])
-  pub waits : s .progress .«n_waiting» * planWords ≤ length pool
-  pub held : s .config .«population_size» ≤ length plans
-  pub stand : allBelow (standsIn history plans) (s .config .«population_size») ≡ true
 
 pub record BredExit : Type 0 where
   pub refusal : Option ℕ

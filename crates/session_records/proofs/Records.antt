@@ -11,13 +11,12 @@ use lib.Dec.{eqb, leb, ltb}
 use lib.ListN.{length, getD, take, drop, length-drop}
 use lib.Seq.{length-take-le, sets, getD-drop}
 use Rattle.list_laws.proofs.Bools.{by-bool}
-use Rattle.list_laws.proofs.Built.{listBelow-length, listBelow-take, joinBelow-more, over-run}
+use Rattle.list_laws.proofs.Built.{listBelow-take, joinBelow-more, over-run}
 use Rattle.session_pool_laws.proofs.Children.{comers-few, child-few, children-length}
 use Rattle.list_laws.proofs.First.{lastBelow-nowhere, lastBelow-at, lastBelow-same}
-use Rattle.model.specs.Lists.{anyBelow, lastBelow, listBelow, joinBelow, has, over, placeIn}
+use Rattle.model.specs.Lists.{anyBelow, lastBelow, listBelow, has, over, placeIn}
 use Rattle.model.specs.Plan.{planOf, planAt, planCount, planWords}
 use Rattle.model.specs.Session.{recordOf, blockOf, numbersOf, childOf, childrenOf}
-use Rattle.list_laws.proofs.Rows.{joinBelow-run}
 use Rattle.list_laws.proofs.Members.{has-nil, has-cons, has-append, has-place}
 use Rattle.list_laws.proofs.Tests.{anyBelow-same}
 
@@ -93,10 +92,3 @@ children-more waiting history plans old to i at room e f =
     let b = childOf waiting history plans i in
     ap₂ (λ (x : List ℕ) (k : ℕ). sets x k b) e f ∙ over-run a b old (length a) refl (omega (arith, child-few waiting history plans i))
     ∙ ap (λ l. over l old) (sym (joinBelow-more (childOf waiting history plans) i))
-
--- one block more behind i of them
-pub blocks-more : (f : ℕ → ℕ) (history old pool : List ℕ) (i : ℕ) → i * planWords + planWords ≤ length old → pool ≡ over (joinBelow (λ i. blockOf history (f i)) i) old
-    → sets pool (i * planWords) (blockOf history (f i)) ≡ over (joinBelow (λ i. blockOf history (f i)) (i + 1)) old
-blocks-more f history old pool i room g =
-    ap (λ b. sets b (i * planWords) (blockOf history (f i))) g
-    ∙ joinBelow-run (λ i. blockOf history (f i)) planWords i (λ t u. listBelow-length _ planWords) old (omega (arith, listBelow-length (λ j. getD history (f i * planWords + j) 0) planWords))

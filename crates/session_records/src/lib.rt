@@ -2,14 +2,14 @@
 // sampler/nsga3.rs). All functions are internal.
 ghost use mathlib.Core.Path.{_≡_};
 ghost use mathlib.Core.Bool.{true, not, _&&_};
-ghost use Prim.Native.Nat.{ℕ, _+_, _-_, _*_, _≤_, _<_};
+ghost use Prim.Native.Nat.{_+_, _-_, _*_, _≤_, _<_};
 ghost use lib.Dec.{leb};
-ghost use lib.ListN.{length, getD, take};
+ghost use lib.ListN.{length, take};
 ghost use lib.Seq.{sets};
-ghost use Rattle.model.specs.Lists.{allBelow, has, over, placeIn};
+ghost use Rattle.model.specs.Lists.{allBelow, has, placeIn};
 ghost use Rattle.model.specs.Plan.{planCount, planWords, maxObjectives};
 ghost use Rattle.model.specs.Window.{mostRemembered, maxWindow};
-ghost use Rattle.model.specs.Session.{recordOf, allStand, standsIn, blockOf, numbersOf, childrenOf, keptWords, addsFor, roomFor, maxCome, given};
+ghost use Rattle.model.specs.Session.{recordOf, allStand, standsIn, blockOf, numbersOf, childrenOf, addsFor, roomFor, maxCome, given};
 ghost use Rattle.model.specs.Refusal.{badNext, badNextStep, badHistory, maxSize};
 ghost use Rattle.session_records.specs.Gathered.{childFor, Put, Gathered};
 use model::Config;
@@ -137,18 +137,6 @@ pub fn gather(
         i += 1;
     }
     at
-}
-
-// The words of the plans that a kept list's first n places name, in its order, at the front of a slice.
-pub fn keep_plans(bred: &[u64], kept: &[usize], n: usize, to: &mut [u64])
-    requires { ⌜ (n ≤ length (now kept)) × (n * planWords ≤ length (now to)) × ((i : ℕ) → i < n → getD (now kept) i 0 < planCount (now bred)) ⌝ }
-    ensures { λ _. ⌜ now (to .exit) ≡ over (keptWords (now (bred .entry)) (now (kept .entry)) n) (now (to .entry)) ⌝ }
-{
-    let mut i = 0;
-    while i < n {
-        put_plan(bred, kept[i], i * PLAN_WORDS, to);
-        i += 1;
-    }
 }
 
 // The place of a number among a generation's first n plans, or n where it is new.

@@ -1,5 +1,7 @@
 -- each way is as the definition has it
+use Prim.Native.Nat.{ℕ}
 use mathlib.Core.Path.{_≡_, refl, sym, ap, _∙_}
+use mathlib.Core.List.{List}
 use mathlib.Core.Bool.{false, not}
 use native.Mathlib.Nat.{le-of-lt}
 use Rattle.list_laws.proofs.Bools.{and-not, and-fails}
@@ -175,17 +177,19 @@ same-length-9 : tie.Need-same-length-9
 same-length-9 c = refl
 
 same-length-10 : tie.Need-same-length-10
-same-length-10 c = refl
+same-length-10 c = c .before .before .before .short-refusal .kept .1 .1 .1 .0
 
 returns-5 : tie.Need-returns-5
 returns-5 c =
-    let t = short (c .before .before) in
+    let t = short (c .before .before .before .before) in
     let e = other (t .before) in
     let s = entry (e .before) in
     let a = s .args in
     let st = before s in
-    leaves-refused st (a .distribution) (a .plan) (a .history .now) _ (a .session) (a .candidates .now) (a .pool .now) _ (c .refused2 .ensures) refl
-    (c .before .short-refusal .ensures (a .candidates .now) (a .next-dims .now) (a .distribution) (a .plan)
+    let r = c .before .before .before .short-refusal .ensures in
+    leaves-refused st (a .distribution) (a .plan) (a .history .now) _ (a .session) (a .candidates .now) _ _ (c .refused2 .ensures)
+    (ap (λ (x : List ℕ). state (a .session) (a .candidates .now) (a .plans .now) (a .next-dims .now) x) (r .1))
+    (r .0 (a .candidates .now) (a .next-dims .now) (a .distribution) (a .plan)
     (adds-by st (a .plan) false (sym (e .before .discovers .ensures) ∙ e .if1 .left))
     (long-by st _ (measured (e .before) .long-enough .ensures) ∙ t .if3 .left))
 

@@ -4,7 +4,6 @@ use lib.ListN.{length}
 use mathlib.Core.Option.{none, some}
 use Rattle.model.specs.Session.{State, state}
 use Rattle.model.specs.Calls.{refusedBy}
-use Rattle.session_breeding.proofs.Breeding.{blank-room}
 use Rattle.session_laws.proofs.Request.{breeds-active, active-discovers, active-good, breed-refusal}
 use Rattle.session_laws.proofs.Steps.{long}
 use Rattle.session_laws.proofs.Sample.{active-phase}
@@ -23,10 +22,10 @@ before s = state (s .args .session) (s .args .candidates .now) (s .args .plans .
 
 -- the call starts, and breeds
 abbrev start : tie.After-breed-arg3 → tie.Start
-start c = c .before .before .before .before .before .before .before .before .before
+start c = c .before .before .before .before .before .before .before .before
 
 abbrev bred : tie.After-session → tie.After-breed
-bred c = c .before .before .before .before .before .before
+bred c = c .before .before .before .before .before
 
 -- refused
 abbrev told : tie.After-refused → tie.After-outcome
@@ -50,16 +49,13 @@ good-last c = good (taken c .before)
 
 -- ---- the needs
 
-slice-aggregate-breed : tie.Need-slice-aggregate-breed
-slice-aggregate-breed c = refl
-
 breed-requires : tie.Need-breed-requires
 breed-requires c κs =
     let s = start c in
     let a = s .args in
     let st = before s in
     let l = long st (s .pre .0 .room) in
-    (gatherable st (a .history .now) (without-slices st (s .pre .0 .ok)) (s .pre .1), l .pool, blank-room, l .words)
+    (gatherable st (a .history .now) (without-slices st (s .pre .0 .ok)) (s .pre .1), l .pool, l .words)
 
 enum-known-outcome : tie.Need-enum-known-outcome
 enum-known-outcome c = search needs
@@ -80,17 +76,17 @@ sample-from-candidate-requires c κs =
     let k = breed-tells st (a .history .now) (breedRefusal st (a .history .now)) none _ _ (b .ensures (a .next-dims .now)) (ap refusedBy (good c .enum-told .given .1)) in
     let r = ready-bred st (a .history .now) _ _ _
     (ready-active st (s .pre .0 .ok) (active-phase _ (breeds-active st (a .history .now) (s .pre .1)))) (k .1) in
-    let same : length (b .last .1 .1 .1 .1 .1 .0) ≡ length (a .candidates .now) = b .kept .1 .1 .1 .1 .1 .0 in
+    let same : length (b .last .1 .1 .1 .1 .0) ≡ length (a .candidates .now) = b .kept .1 .1 .1 .1 .0 in
     (r .0, omega (arith, r .1), omega (arith, l .words), l .plans, l .next, λ new. omega (arith, r .1))
 
 same-length : tie.Need-same-length
-same-length c = bred-told (told c) .breed .kept .1 .1 .1 .1 .1 .0
+same-length c = bred-told (told c) .breed .kept .1 .1 .1 .1 .0
 
 same-length-2 : tie.Need-same-length-2
 same-length-2 c = refl
 
 same-length-3 : tie.Need-same-length-3
-same-length-3 c = bred-told (told c) .breed .kept .1 .1 .1 .1 .0
+same-length-3 c = bred-told (told c) .breed .kept .1 .1 .1 .0
 
 returns : tie.Need-returns
 returns c d =
@@ -105,7 +101,7 @@ returns c d =
     (breed-refusal st d (a .plan) (a .history .now) (active-good st d (a .plan) i) (s .pre .0 .few) (s .pre .1) (s .pre .0 .room) ∙ k .0)
 
 same-length-4 : tie.Need-same-length-4
-same-length-4 c = taken c .sample-from-candidate .kept .1 .1 .0 ∙ bred-good (good-last c) .breed .kept .1 .1 .1 .1 .1 .0
+same-length-4 c = taken c .sample-from-candidate .kept .1 .1 .0 ∙ bred-good (good-last c) .breed .kept .1 .1 .1 .1 .0
 
 same-length-5 : tie.Need-same-length-5
 same-length-5 c = taken c .sample-from-candidate .kept .1 .1 .1 .0
@@ -114,7 +110,7 @@ same-length-6 : tie.Need-same-length-6
 same-length-6 c = taken c .sample-from-candidate .kept .1 .1 .1 .1 .0
 
 same-length-7 : tie.Need-same-length-7
-same-length-7 c = bred-good (good-last c) .breed .kept .1 .1 .1 .1 .0
+same-length-7 c = bred-good (good-last c) .breed .kept .1 .1 .1 .0
 
 returns-2 : tie.Need-returns-2
 returns-2 c d =
@@ -133,7 +129,6 @@ pub sample-bred-spec : {M : Type 1} → statement M
 sample-bred-spec =
     tie.close
     (tie.spec
-    slice-aggregate-breed
     breed-requires
     enum-known-outcome
     refused-requires

@@ -64,7 +64,7 @@ put-bits-requires : tie.Need-put-bits-requires
 put-bits-requires c κs =
     let s = c .before .before .before .before .before .before .before .before .before in
     let few = row-inside (s .args .n) maxWindow (s .args .config .«n_obj») (s .pre .3) in
-    (s .pre .2, omega (arith, few, s .pre .1, c .before .before .put .kept .1 .1 .0))
+    (omega (arith, s .pre .2), omega (arith, few, s .pre .1, c .before .before .put .kept .1 .1 .0))
 
 add-end : tie.Need-add-end
 add-end c =

@@ -4,8 +4,8 @@ use mathlib.Core.Path.{ap, ap₂, _∙_}
 use Rattle.model.specs.Edition.{waitingOf}
 use Rattle.model.specs.Session.{renewed}
 use borrow.Author.Needs.{needs}
-use Rattle.session_breeding.proofs.bred_session.Statement.{statement}
-use Rattle.session_breeding.proofs.bred_session.Tie as tie
+use Rattle.session_renewal.proofs.bred_session.Statement.{statement}
+use Rattle.session_renewal.proofs.bred_session.Tie as tie
 
 waiting-of-requires : tie.Need-waiting-of-requires
 waiting-of-requires c κs = tt

@@ -6,10 +6,10 @@ use lib.Seq.{length-take-le}
 use Rattle.model.specs.Plan.{maxObjectives}
 use Rattle.model.specs.Real.{infinity}
 use Rattle.session_laws.proofs.Window.{objectives-few}
-use Rattle.session_breeding.proofs.Lines.{put-ready, left-without, left-with}
+use Rattle.session_renewal.proofs.Ideal.{put-ready, left-without, left-with}
 use borrow.Author.Needs.{needs}
-use Rattle.session_breeding.proofs.left_of.Statement.{statement}
-use Rattle.session_breeding.proofs.left_of.Tie as tie
+use Rattle.session_renewal.proofs.left_of.Statement.{statement}
+use Rattle.session_renewal.proofs.left_of.Tie as tie
 
 enum-told : tie.Need-enum-told
 enum-told c = search needs
