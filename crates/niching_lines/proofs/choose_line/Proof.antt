@@ -26,7 +26,8 @@ slice-read-line : tie.Need-slice-read-line
 slice-read-line c = omega (arith, below (c .before .before), c .before .before .before .before .before .renew .ensures .0 .fits)
 
 take-out-requires : tie.Need-take-out-requires
-take-out-requires c κs = (below (c .before .before .before), c .before .before .before .before .before .before .renew .ensures .0 .fits)
+take-out-requires c κs =
+    (omega (arith, below (c .before .before .before)), c .before .before .before .before .before .before .renew .ensures .0 .fits)
 
 sub-left : tie.Need-sub-left
 sub-left c = c .before .before .before .before .before .before .before .before .before .renew .ensures .1

@@ -1,5 +1,6 @@
 -- the two ways out
-use mathlib.Core.Path.{refl}
+use mathlib.Core.Path.{ap, sym}
+use mathlib.Core.Bool.{cond}
 use borrow.Author.Needs.{needs}
 use native.Mathlib.Omega.{arith}
 use Rattle.niching_members.proofs.nearer.Statement.{statement}
@@ -30,10 +31,10 @@ shared-slice-read-if1-2 : tie.Need-shared-slice-read-if1-2
 shared-slice-read-if1-2 c = let a = c .before .before .before .before in a .pre .0 (a .args .best) (a .pre .1)
 
 returns : tie.Need-returns
-returns c = simp (c .if1 .taken)
+returns c = let a = c .before .before .before .before .before .args in ap (λ b. cond b (a .other) (a .best)) (sym (c .if1 .taken))
 
 returns-2 : tie.Need-returns-2
-returns-2 c = simp (c .if1 .left)
+returns-2 c = let a = c .before .before .before .before .before .args in ap (λ b. cond b (a .other) (a .best)) (sym (c .if1 .left))
 
 pub nearer-spec : {M : Type 1} → statement M
 nearer-spec =
