@@ -45,7 +45,7 @@ pub fn fast_non_dominated_sort_constrained(
     sized_sort::sort(rows, m, feasible, violations, n, order, rank, ends)
 }
 
-// The same by rows only: every plan counts as feasible.
+// The same by rows only: every plan counts as feasible. A pool of more than 1,024 plans goes to the sort that has room for it, which is thereby called from two places.
 pub fn fast_non_dominated_sort(
     rows: &[f64],
     m: usize,
@@ -61,5 +61,8 @@ pub fn fast_non_dominated_sort(
 {
     let feasible = [true; MAX_POOL];
     let violations = [0.0; MAX_POOL];
+    if n > 1024 {
+        return sized_sort::sort_large(rows, m, &feasible, &violations, n, order, rank, ends);
+    }
     fast_non_dominated_sort_constrained(rows, m, &feasible, &violations, n, order, rank, ends)
 }

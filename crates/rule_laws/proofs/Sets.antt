@@ -140,10 +140,12 @@ module _ (rows : List Float) (m : ℕ) (flags : List Bool) (sums : List Float) (
 -- ---- the lists
 
 -- lists of the same lengths have the same room
-pub room-same : (n w : ℕ) (low high : List ℕ) (column keys : List Float) (places low′ high′ : List ℕ) (column′ keys′ : List Float) (places′ : List ℕ)
-    → Room n w low high column keys places → length low′ ≡ length low → length high′ ≡ length high → length column′ ≡ length column → length keys′ ≡ length keys
-    → length places′ ≡ length places → Room n w low′ high′ column′ keys′ places′
-room-same n w low high column keys places low′ high′ column′ keys′ places′ r a b c d e = record {
+pub room-same : (n w : ℕ) (low high : List ℕ) (column keys : List Float) (places : List ℕ) (keys2 : List Float) (places2 : List ℕ)
+    (low′ high′ : List ℕ) (column′ keys′ : List Float) (places′ : List ℕ) (keys2′ : List Float) (places2′ : List ℕ)
+    → Room n w low high column keys places keys2 places2 → length low′ ≡ length low → length high′ ≡ length high → length column′ ≡ length column
+    → length keys′ ≡ length keys → length places′ ≡ length places → length keys2′ ≡ length keys2 → length places2′ ≡ length places2
+    → Room n w low′ high′ column′ keys′ places′ keys2′ places2′
+room-same n w low high column keys places keys2 places2 low′ high′ column′ keys′ places′ keys2′ places2′ r a b c d e f g = record {
   few = r .few;
   words = r .words;
   wide = r .wide;
@@ -152,4 +154,6 @@ room-same n w low high column keys places low′ high′ column′ keys′ place
   columns = omega (arith, r .columns);
   listed = omega (arith, r .listed);
   placed = omega (arith, r .placed);
+  listed2 = omega (arith, r .listed2);
+  placed2 = omega (arith, r .placed2);
 }

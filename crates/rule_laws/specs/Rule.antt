@@ -43,7 +43,7 @@ pub record Beaten (d : ℕ → ℕ → Bool) (n w : ℕ) (sets : List ℕ) : Typ
   pub rest : (p q : ℕ) → p < n → n ≤ q → q < w * 64 → member sets p q ≡ false
 
 -- a pool of n plans has its w words a plan in both tables, and a place in each list that is worked with
-pub record Room (n w : ℕ) (low high : List ℕ) (column keys : List Float) (places : List ℕ) : Type 0 where
+pub record Room (n w : ℕ) (low high : List ℕ) (column keys : List Float) (places : List ℕ) (keys2 : List Float) (places2 : List ℕ) : Type 0 where
   pub few : n ≤ maxPool
   pub words : w ≤ setWords
   pub wide : n ≤ w * 64
@@ -52,3 +52,5 @@ pub record Room (n w : ℕ) (low high : List ℕ) (column keys : List Float) (pl
   pub columns : n ≤ length column
   pub listed : n ≤ length keys
   pub placed : n ≤ length places
+  pub listed2 : n ≤ length keys2
+  pub placed2 : n ≤ length places2

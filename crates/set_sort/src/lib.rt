@@ -1,5 +1,4 @@
 // The non-dominated sort by sets: each plan's count of dominators and the set of those whom it dominates, and the fronts peeled by them.
-use model::MAX_POOL;
 ghost use Prim.Native.Nat.{_*_, _≤_};
 ghost use lib.ListN.{length};
 ghost use Rattle.model.specs.Refusal.{maxPool};
@@ -8,7 +7,7 @@ ghost use Rattle.front_laws.specs.Post.{Sorted};
 ghost use Rattle.bit_sets.specs.Digits.{setWords};
 ghost use Rattle.rule_columns.specs.Post.{Placed};
 
-// The promise of `pareto`, with two tables of sets to work with.
+// The promise of `pareto`, with two tables of sets and six lists to work with.
 pub fn sort_by_sets(
     rows: &[f64],
     m: usize,
@@ -20,14 +19,36 @@ pub fn sort_by_sets(
     ends: &mut [usize],
     low: &mut [u64],
     sets: &mut [u64],
+    column: &mut [f64],
+    keys: &mut [f64],
+    places: &mut [usize],
+    keys2: &mut [f64],
+    places2: &mut [usize],
+    counts: &mut [usize],
 ) -> usize
     requires { ⌜ Pool (now rows) m (now feasible) (now violations) n × KnownRows (now rows) m n × Placed (now feasible) (now violations) n × (n ≤ maxPool)
-        × (n ≤ length (now order)) × (n ≤ length (now rank)) × (n ≤ length (now ends)) × (n * setWords ≤ length (now low)) × (n * setWords ≤ length (now sets)) ⌝ }
+        × (n ≤ length (now order)) × (n ≤ length (now rank)) × (n ≤ length (now ends)) × (n * setWords ≤ length (now low)) × (n * setWords ≤ length (now sets))
+        × (n ≤ length (now column)) × (n ≤ length (now keys)) × (n ≤ length (now places)) × (n ≤ length (now keys2)) × (n ≤ length (now places2))
+        × (n ≤ length (now counts)) ⌝ }
     ensures { λ r. ⌜ Sorted (flatBeats (now (rows .entry)) m (now (feasible .entry)) (now (violations .entry))) n
         (now (order .entry)) (now (order .exit)) (now (rank .entry)) (now (rank .exit)) (now (ends .entry)) (now (ends .exit)) r ⌝ }
 {
-    let mut counts: [usize; MAX_POOL] = [0; MAX_POOL];
     let w = (n + 63) / 64;
-    rule_sets::count_rule(rows, m, feasible, violations, n, w, low, sets, &mut counts);
-    set_fronts::peel(sets, w, n, &mut counts, order, rank, ends)
+    rule_sets::count_rule(
+        rows,
+        m,
+        feasible,
+        violations,
+        n,
+        w,
+        low,
+        sets,
+        column,
+        keys,
+        places,
+        keys2,
+        places2,
+        counts,
+    );
+    set_fronts::peel(sets, w, n, counts, order, rank, ends)
 }

@@ -1,4 +1,5 @@
-// The sort by sets, with tables of a size that fits the pool: a small pool does not pay for clearing large ones.
+// The sort by sets, with tables and lists of a size that fits the pool: a small pool does not pay for clearing large ones.
+use model::MAX_POOL;
 ghost use Prim.Native.Nat.{_≤_};
 ghost use lib.ListN.{length};
 ghost use Rattle.model.specs.Refusal.{maxPool};
@@ -24,6 +25,12 @@ fn sort_small(
 {
     let mut low: [u64; 8192] = [0; 8192];
     let mut sets: [u64; 8192] = [0; 8192];
+    let mut column: [f64; 256] = [0.0; 256];
+    let mut keys: [f64; 256] = [0.0; 256];
+    let mut places: [usize; 256] = [0; 256];
+    let mut keys2: [f64; 256] = [0.0; 256];
+    let mut places2: [usize; 256] = [0; 256];
+    let mut counts: [usize; 256] = [0; 256];
     set_sort::sort_by_sets(
         rows,
         m,
@@ -35,6 +42,12 @@ fn sort_small(
         ends,
         &mut low,
         &mut sets,
+        &mut column,
+        &mut keys,
+        &mut places,
+        &mut keys2,
+        &mut places2,
+        &mut counts,
     )
 }
 
@@ -56,6 +69,12 @@ fn sort_middle(
 {
     let mut low: [u64; 32768] = [0; 32768];
     let mut sets: [u64; 32768] = [0; 32768];
+    let mut column: [f64; 1024] = [0.0; 1024];
+    let mut keys: [f64; 1024] = [0.0; 1024];
+    let mut places: [usize; 1024] = [0; 1024];
+    let mut keys2: [f64; 1024] = [0.0; 1024];
+    let mut places2: [usize; 1024] = [0; 1024];
+    let mut counts: [usize; 1024] = [0; 1024];
     set_sort::sort_by_sets(
         rows,
         m,
@@ -67,11 +86,18 @@ fn sort_middle(
         ends,
         &mut low,
         &mut sets,
+        &mut column,
+        &mut keys,
+        &mut places,
+        &mut keys2,
+        &mut places2,
+        &mut counts,
     )
 }
 
-// Any pool.
-fn sort_large(
+// Any pool. It has two callers, `sort` and `pareto`, so that the compiler makes no other function's frame of its room: a smaller pool's sort then needs no stack for tables
+// of 1 MB.
+pub fn sort_large(
     rows: &[f64],
     m: usize,
     feasible: &[bool],
@@ -88,6 +114,12 @@ fn sort_large(
 {
     let mut low: [u64; 65536] = [0; 65536];
     let mut sets: [u64; 65536] = [0; 65536];
+    let mut column: [f64; MAX_POOL] = [0.0; MAX_POOL];
+    let mut keys: [f64; MAX_POOL] = [0.0; MAX_POOL];
+    let mut places: [usize; MAX_POOL] = [0; MAX_POOL];
+    let mut keys2: [f64; MAX_POOL] = [0.0; MAX_POOL];
+    let mut places2: [usize; MAX_POOL] = [0; MAX_POOL];
+    let mut counts: [usize; MAX_POOL] = [0; MAX_POOL];
     set_sort::sort_by_sets(
         rows,
         m,
@@ -99,6 +131,12 @@ fn sort_large(
         ends,
         &mut low,
         &mut sets,
+        &mut column,
+        &mut keys,
+        &mut places,
+        &mut keys2,
+        &mut places2,
+        &mut counts,
     )
 }
 

@@ -8,7 +8,7 @@ use Rattle.rule_start.proofs.begin.Tie as tie
 
 -- the function's entry and the calls, seen from later places
 abbrev entry : tie.After-fill → tie.Start
-entry c = c .before .before .before .before .before .before .before .before .before
+entry c = c .before .before .before .before .before .before .before .before .before .before .before
 
 abbrev filled : tie.After-fill2 → tie.After-fill
 filled c = c .before .before .before .before
@@ -18,7 +18,7 @@ asked c = c .before .before .before
 
 fill-requires : tie.Need-fill-requires
 fill-requires c κs =
-    let r = c .before .before .before .before .before .before .before .before .pre .0 in
+    let r = c .before .before .before .before .before .before .before .before .before .before .pre .0 in
     (r .words, r .wide, r .lows)
 
 fill-requires-2 : tie.Need-fill-requires-2
@@ -31,7 +31,7 @@ any-infeasible-requires c κs = entry (filled (c .before .before)) .pre .1
 
 by-keys-requires : tie.Need-by-keys-requires
 by-keys-requires c κs =
-    let t = asked (c .before .before .before .before .before .before) in
+    let t = asked (c .before .before .before .before .before .before .before .before) in
     let f = filled t in
     let a = entry f in
     let r = a .pre .0 in (
@@ -44,6 +44,8 @@ by-keys-requires c κs =
         columns = r .columns;
         listed = r .listed;
         placed = r .placed;
+        listed2 = r .listed2;
+        placed2 = r .placed2;
       },
       a .pre .1,
       a .pre .2,
@@ -67,14 +69,20 @@ same-length-4 c = search needs
 same-length-5 : tie.Need-same-length-5
 same-length-5 c = search needs
 
-returns : tie.Need-returns
-returns c = c .before .before .before .before .before .before .before .before .before .before .by-keys .ensures
-
 same-length-6 : tie.Need-same-length-6
 same-length-6 c = search needs
 
 same-length-7 : tie.Need-same-length-7
 same-length-7 c = search needs
+
+returns : tie.Need-returns
+returns c = c .before .before .before .before .before .before .before .before .before .before .before .before .before .before .by-keys .ensures
+
+same-length-8 : tie.Need-same-length-8
+same-length-8 c = search needs
+
+same-length-9 : tie.Need-same-length-9
+same-length-9 c = search needs
 
 returns-2 : tie.Need-returns-2
 returns-2 c =
@@ -97,7 +105,9 @@ begin-spec =
     same-length-3
     same-length-4
     same-length-5
-    returns
     same-length-6
     same-length-7
+    returns
+    same-length-8
+    same-length-9
     returns-2)

@@ -10,14 +10,14 @@ use Rattle.rule_start.proofs.by_keys.Tie as tie
 
 -- the function's entry and the calls, seen from later places
 abbrev entry : tie.After-take-keys → tie.Start
-entry c = c .before .before .before .before .before .before .before .before .before
+entry c = c .before .before .before .before .before .before .before .before .before .before .before
 
-abbrev taken : tie.After-walk-arg5 → tie.After-take-keys
-taken c = c .before .before .before .before .before .before .before .before
+abbrev taken : tie.After-walk-arg7 → tie.After-take-keys
+taken c = c .before .before .before .before .before .before .before .before .before .before
 
 take-keys-requires : tie.Need-take-keys-requires
 take-keys-requires c κs =
-    let a = c .before .before .before .before .before .before .before .before in
+    let a = c .before .before .before .before .before .before .before .before .before .before in
     (a .pre .1, a .pre .2, a .pre .0 .columns)
 
 slice-aggregate-walk : tie.Need-slice-aggregate-walk
@@ -28,7 +28,6 @@ walk-requires c κs =
     let k = taken c in
     let a = entry k in
     let r = a .pre .0 in (
-      r .few,
       r .words,
       r .wide,
       omega (arith, r .columns, k .take-keys .kept .1 .1 .1 .0),
@@ -37,6 +36,8 @@ walk-requires c κs =
       r .highs,
       r .listed,
       r .placed,
+      r .listed2,
+      r .placed2,
       keys-known _ _ _ maxPool (r .few) (k .take-keys .last .1 .1 .1 .0) (k .take-keys .ensures) (a .pre .3),
     )
 
@@ -55,9 +56,15 @@ same-length-4 c = search needs
 same-length-5 : tie.Need-same-length-5
 same-length-5 c = search needs
 
+same-length-6 : tie.Need-same-length-6
+same-length-6 c = search needs
+
+same-length-7 : tie.Need-same-length-7
+same-length-7 c = search needs
+
 returns : tie.Need-returns
 returns c =
-    let x = c .before .before .before .before .before .before .before .before in
+    let x = c .before .before .before .before .before .before .before .before .before .before .before .before in
     let k = taken (x .before) in
     let a = entry k in
     begun-walked _ _ _ maxPool (a .pre .0 .few) (k .take-keys .last .1 .1 .1 .0) (k .take-keys .ensures) _ _ _ _ _ (a .pre .0 .wide) (a .pre .4) (a .pre .5) (x .walk .ensures)
@@ -74,4 +81,6 @@ by-keys-spec =
     same-length-3
     same-length-4
     same-length-5
+    same-length-6
+    same-length-7
     returns)
