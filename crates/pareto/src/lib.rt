@@ -39,13 +39,16 @@ pub fn fast_non_dominated_sort_constrained(
     ensures { λ r. ⌜ Sorted (flatBeats (now (rows .entry)) m (now (feasible .entry)) (now (violations .entry))) n
         (now (order .entry)) (now (order .exit)) (now (rank .entry)) (now (rank .exit)) (now (ends .entry)) (now (ends .exit)) r ⌝ }
 {
+    if n > 1024 {
+        return sized_sort::sort_large(rows, m, feasible, violations, n, order, rank, ends);
+    }
     if rule_columns::any_unplaced(feasible, violations, n) {
         return pairwise_sort::sort_pairwise(rows, m, feasible, violations, n, order, rank, ends);
     }
     sized_sort::sort(rows, m, feasible, violations, n, order, rank, ends)
 }
 
-// The same by rows only: every plan counts as feasible. A pool of more than 1,024 plans goes to the sort that has room for it, which is thereby called from two places.
+// The same by rows only: every plan counts as feasible. A large pool's sort is called here too, so that it has two callers and a frame of its own.
 pub fn fast_non_dominated_sort(
     rows: &[f64],
     m: usize,

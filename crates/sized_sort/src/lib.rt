@@ -95,8 +95,8 @@ fn sort_middle(
     )
 }
 
-// Any pool. It has two callers, `sort` and `pareto`, so that the compiler makes no other function's frame of its room: a smaller pool's sort then needs no stack for tables
-// of 1 MB.
+// Any pool, whatever its violations: by pairs where one has no place in an order. It has two callers, both in `pareto`, and does too much to be copied into them, so that the
+// compiler makes no other function's frame of its room: a smaller pool's sort needs no stack for tables of 1 MB.
 pub fn sort_large(
     rows: &[f64],
     m: usize,
@@ -107,11 +107,14 @@ pub fn sort_large(
     rank: &mut [usize],
     ends: &mut [usize],
 ) -> usize
-    requires { ⌜ Pool (now rows) m (now feasible) (now violations) n × KnownRows (now rows) m n × Placed (now feasible) (now violations) n × (n ≤ maxPool)
+    requires { ⌜ Pool (now rows) m (now feasible) (now violations) n × KnownRows (now rows) m n × (n ≤ maxPool)
         × (n ≤ length (now order)) × (n ≤ length (now rank)) × (n ≤ length (now ends)) ⌝ }
     ensures { λ r. ⌜ Sorted (flatBeats (now (rows .entry)) m (now (feasible .entry)) (now (violations .entry))) n
         (now (order .entry)) (now (order .exit)) (now (rank .entry)) (now (rank .exit)) (now (ends .entry)) (now (ends .exit)) r ⌝ }
 {
+    if rule_columns::any_unplaced(feasible, violations, n) {
+        return pairwise_sort::sort_pairwise(rows, m, feasible, violations, n, order, rank, ends);
+    }
     let mut low: [u64; 65536] = [0; 65536];
     let mut sets: [u64; 65536] = [0; 65536];
     let mut column: [f64; MAX_POOL] = [0.0; MAX_POOL];
@@ -140,7 +143,7 @@ pub fn sort_large(
     )
 }
 
-// The promise of `pareto`, of a pool whose violations have a place in an order.
+// The promise of `pareto`, of at most 1,024 plans whose violations have a place in an order.
 pub fn sort(
     rows: &[f64],
     m: usize,
@@ -151,7 +154,7 @@ pub fn sort(
     rank: &mut [usize],
     ends: &mut [usize],
 ) -> usize
-    requires { ⌜ Pool (now rows) m (now feasible) (now violations) n × KnownRows (now rows) m n × Placed (now feasible) (now violations) n × (n ≤ maxPool)
+    requires { ⌜ Pool (now rows) m (now feasible) (now violations) n × KnownRows (now rows) m n × Placed (now feasible) (now violations) n × (n ≤ 1024)
         × (n ≤ length (now order)) × (n ≤ length (now rank)) × (n ≤ length (now ends)) ⌝ }
     ensures { λ r. ⌜ Sorted (flatBeats (now (rows .entry)) m (now (feasible .entry)) (now (violations .entry))) n
         (now (order .entry)) (now (order .exit)) (now (rank .entry)) (now (rank .exit)) (now (ends .entry)) (now (ends .exit)) r ⌝ }
@@ -159,8 +162,5 @@ pub fn sort(
     if n <= 256 {
         return sort_small(rows, m, feasible, violations, n, order, rank, ends);
     }
-    if n <= 1024 {
-        return sort_middle(rows, m, feasible, violations, n, order, rank, ends);
-    }
-    sort_large(rows, m, feasible, violations, n, order, rank, ends)
+    sort_middle(rows, m, feasible, violations, n, order, rank, ends)
 }

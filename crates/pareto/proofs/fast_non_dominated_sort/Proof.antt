@@ -1,26 +1,19 @@
 -- where every plan counts as feasible the constraint rule compares rows
 use Prim.Native.Nat.{ℕ, _≤_, _<_}
-use mathlib.Core.Path.{_≡_, sym, _∙_}
-use mathlib.Core.Bool.{true, false, true≢false}
-use mathlib.Core.List.{List}
+use mathlib.Core.Path.{_≡_}
+use mathlib.Core.Bool.{true, false}
 use native.Mathlib.Omega.{arith}
 use borrow.Author.Needs.{needs}
-use lib.Ieee.{Float}
 use lib.ListN.{getD, replicate, getD-replicate, length-replicate}
 use Rattle.model.specs.Refusal.{maxPool}
 use Rattle.front_laws.proofs.Flat.{flatBeats-rows}
 use Rattle.front_laws.proofs.Sorting.{sorted-same}
-use Rattle.rule_columns.specs.Post.{Placed}
 use Rattle.pareto.proofs.fast_non_dominated_sort.Statement.{statement}
 use Rattle.pareto.proofs.fast_non_dominated_sort.Tie as tie
 
--- each of n plans is feasible, and so none is unplaced
-
+-- each of n plans is feasible
 all-fit : (n : ℕ) → n ≤ maxPool → (p : ℕ) → p < n → getD (replicate maxPool true) p false ≡ true
 all-fit n few p l = getD-replicate maxPool p true false (omega arith)
-
-all-placed : (sums : List Float) (n : ℕ) → n ≤ maxPool → Placed (replicate maxPool true) sums n
-all-placed sums n few = record { above = λ p l f. absurd (true≢false (sym (all-fit n few p l) ∙ f)) }
 
 -- ---- the needs
 
@@ -35,7 +28,6 @@ sort-large-requires c κs =
     let a = c .before .before .before .before .before .before .before .before .before .before in (
       record { table = a .pre .0; flags = omega (arith, a .pre .2, length-replicate maxPool true); sums = search needs },
       a .pre .1,
-      all-placed _ _ (a .pre .2),
       a .pre .2,
       a .pre .3,
       a .pre .4,
