@@ -48,7 +48,7 @@ pub fn fast_non_dominated_sort_constrained(
     sized_sort::sort(rows, m, feasible, violations, n, order, rank, ends)
 }
 
-// The same by rows only: every plan counts as feasible. A large pool's sort is called here too, so that it has two callers and a frame of its own.
+// The same by rows only: every plan counts as feasible, and so has a place. Both sorts by sets are called here too, so that each has two callers and its room in a frame of its own.
 pub fn fast_non_dominated_sort(
     rows: &[f64],
     m: usize,
@@ -67,5 +67,5 @@ pub fn fast_non_dominated_sort(
     if n > 1024 {
         return sized_sort::sort_large(rows, m, &feasible, &violations, n, order, rank, ends);
     }
-    fast_non_dominated_sort_constrained(rows, m, &feasible, &violations, n, order, rank, ends)
+    sized_sort::sort(rows, m, &feasible, &violations, n, order, rank, ends)
 }

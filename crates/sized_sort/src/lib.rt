@@ -143,7 +143,7 @@ pub fn sort_large(
     )
 }
 
-// The promise of `pareto`, of at most 1,024 plans whose violations have a place in an order.
+// The promise of `pareto`, of at most 1,024 plans whose violations have a place in an order. It too has two callers in `pareto`.
 pub fn sort(
     rows: &[f64],
     m: usize,

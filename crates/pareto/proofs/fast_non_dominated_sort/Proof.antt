@@ -1,19 +1,26 @@
 -- where every plan counts as feasible the constraint rule compares rows
 use Prim.Native.Nat.{ℕ, _≤_, _<_}
-use mathlib.Core.Path.{_≡_}
-use mathlib.Core.Bool.{true, false}
+use mathlib.Core.Path.{_≡_, sym, _∙_}
+use mathlib.Core.Bool.{true, false, true≢false}
+use mathlib.Core.List.{List}
 use native.Mathlib.Omega.{arith}
 use borrow.Author.Needs.{needs}
+use lib.Ieee.{Float}
 use lib.ListN.{getD, replicate, getD-replicate, length-replicate}
 use Rattle.model.specs.Refusal.{maxPool}
 use Rattle.front_laws.proofs.Flat.{flatBeats-rows}
 use Rattle.front_laws.proofs.Sorting.{sorted-same}
+use Rattle.rule_columns.specs.Post.{Placed}
 use Rattle.pareto.proofs.fast_non_dominated_sort.Statement.{statement}
 use Rattle.pareto.proofs.fast_non_dominated_sort.Tie as tie
 
 -- each of n plans is feasible
 all-fit : (n : ℕ) → n ≤ maxPool → (p : ℕ) → p < n → getD (replicate maxPool true) p false ≡ true
 all-fit n few p l = getD-replicate maxPool p true false (omega arith)
+
+-- so none is unplaced
+all-placed : (sums : List Float) (n : ℕ) → n ≤ maxPool → Placed (replicate maxPool true) sums n
+all-placed sums n few = record { above = λ p l f. absurd (true≢false (sym (all-fit n few p l) ∙ f)) }
 
 -- ---- the needs
 
@@ -51,14 +58,24 @@ returns c =
     (flatBeats-rows (a .args .rows .now) (a .args .m) (replicate maxPool true) _ (a .args .n) (all-fit (a .args .n) (a .pre .2)))
     (d .sort-large .ensures)
 
-slice-aggregate-fast-non-dominated-sort-constrained : tie.Need-slice-aggregate-fast-non-dominated-sort-constrained
-slice-aggregate-fast-non-dominated-sort-constrained c = search needs
+slice-aggregate-sort : tie.Need-slice-aggregate-sort
+slice-aggregate-sort c = search needs
 
-slice-aggregate-fast-non-dominated-sort-constrained-2 : tie.Need-slice-aggregate-fast-non-dominated-sort-constrained-2
-slice-aggregate-fast-non-dominated-sort-constrained-2 c = search needs
+slice-aggregate-sort-2 : tie.Need-slice-aggregate-sort-2
+slice-aggregate-sort-2 c = search needs
 
-fast-non-dominated-sort-constrained-requires : tie.Need-fast-non-dominated-sort-constrained-requires
-fast-non-dominated-sort-constrained-requires c κs = search needs
+sort-requires : tie.Need-sort-requires
+sort-requires c κs =
+    let i = c .before .before .before .before .before in
+    let a = i .before .before .before .before .before in (
+      record { table = a .pre .0; flags = omega (arith, a .pre .2, length-replicate maxPool true); sums = search needs },
+      a .pre .1,
+      all-placed _ _ (a .pre .2),
+      omega (arith, i .if1 .left),
+      a .pre .3,
+      a .pre .4,
+      a .pre .5,
+    )
 
 same-length-4 : tie.Need-same-length-4
 same-length-4 c = search needs
@@ -75,7 +92,7 @@ returns-2 c =
     let a = d .before .before .before .before .before .before .before .before .before .before .before in
     sorted-same _ _ _ _ _ _ _ _ _ _
     (flatBeats-rows (a .args .rows .now) (a .args .m) (replicate maxPool true) _ (a .args .n) (all-fit (a .args .n) (a .pre .2)))
-    (d .fast-non-dominated-sort-constrained .ensures)
+    (d .sort .ensures)
 
 pub fast-non-dominated-sort-spec : {M : Type 1} → statement M
 fast-non-dominated-sort-spec =
@@ -88,9 +105,9 @@ fast-non-dominated-sort-spec =
     same-length-2
     same-length-3
     returns
-    slice-aggregate-fast-non-dominated-sort-constrained
-    slice-aggregate-fast-non-dominated-sort-constrained-2
-    fast-non-dominated-sort-constrained-requires
+    slice-aggregate-sort
+    slice-aggregate-sort-2
+    sort-requires
     same-length-4
     same-length-5
     same-length-6
