@@ -1,7 +1,7 @@
 /* Locustdomino: which plans of a pool to keep (NSGA-III), the next plans to try, sessions that ask for settings one by one, and
  * what the water of the plans kept costs, and trial loads.
  *
- * Link with the archive that `rt staticlib locustdomino` writes. Each call is proved to do what its definition says
+ * Link with the archive that `wrapper/staticlib` writes. Each call is proved to do what its definition says
  * (crates/model/specs/Calls.antt, Water.antt, Load.antt and Convert.antt). A slice is a pointer and a number of entries. size_t must have 64 bits.
  *
  * What every call asks of its caller:

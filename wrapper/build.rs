@@ -1,4 +1,4 @@
-//! Says where the static library is: in the folder that LOCUSTDOMINO_LIB names, else where `rt staticlib locustdomino` puts it.
+//! Says where the static library is: in the folder that LOCUSTDOMINO_LIB names, else where `wrapper/staticlib` puts it.
 
 fn main() {
     let here = std::env::var("CARGO_MANIFEST_DIR").unwrap();

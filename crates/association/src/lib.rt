@@ -1,5 +1,8 @@
 // Association (document 01, "Association"; Rust: sampler/nsga3.rs), over flat rows: plan p's value at objective j is entry p * m + j.
 // The layer's calls are `associate_to_reference_points` and `associate`; the other functions are their parts.
+
+#![tactic(auto)]
+
 ghost use Rattle.std.specs.Prelude.{◌≡◌, ◌+◌, ◌*◌, ◌<◌, ◌≤◌, min, length};
 ghost use Rattle.model.specs.Plan.{max_objectives};
 ghost use Rattle.model.specs.Association.{nearest_of, Request, line_count};
@@ -12,7 +15,7 @@ use model::{Edition, MAX_LINES, MAX_OBJECTIVES, MAX_ROW_VALUES};
 // ---- the nearest line
 
 // A line, and the distance from it.
-#[derive(Drop)]
+#[derive(Clone, Copy)]
 struct Nearest {
     line: usize,
     distance: f64,

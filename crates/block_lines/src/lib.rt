@@ -1,4 +1,7 @@
 // The nearest lines of all plans (document 01, "Association"), a block of plans at a time.
+
+#![tactic(auto)]
+
 ghost use Rattle.std.specs.Prelude.{◌≡◌, ◌+◌, ◌*◌, ◌≤◌, min, length};
 ghost use Rattle.model.specs.Plan.{max_objectives};
 ghost use Rattle.association_laws.specs.Flat.{NormsIn, NearestAll};

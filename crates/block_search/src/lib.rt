@@ -1,4 +1,7 @@
 // The search for the nearest lines of a block of plans (document 01, "Association"): line by line, for all plans of the block at a time.
+
+#![tactic(auto)]
+
 ghost use Rattle.std.specs.Prelude.{◌≡◌, cond, ◌&&◌, ℕ, ◌+◌, ◌*◌, ◌≤◌, Float, length};
 ghost use Rattle.model.specs.Lists.{any_below};
 ghost use Rattle.model.specs.Edition.{takes_root};
@@ -12,7 +15,7 @@ use columns::BLOCK;
 use model::Edition;
 
 // A line, and the square of the distance from it.
-#[derive(Drop)]
+#[derive(Clone, Copy)]
 pub struct Best {
     pub line: usize,
     pub squares: f64,

@@ -1,4 +1,7 @@
 // The offspring of a kept list (Rust: nsga3_generate_offspring of sampler/nsga3.rs; document 01, "Setting and dimension").
+
+#![tactic(auto)]
+
 ghost use Rattle.std.specs.Prelude.{◌≡◌, true, false, ℕ, ◌*◌, ◌≤◌, ◌<◌, length, get_or};
 ghost use Rattle.model.specs.Lists.{all_below, list_below, over};
 ghost use Rattle.model.specs.Plan.{plan_at, plan_count};

@@ -1,4 +1,7 @@
 // The answer of a call that writes a text or a file, in numbers alone.
+
+#![tactic(auto)]
+
 ghost use Rattle.std.specs.Prelude.{◌≡◌};
 ghost use Rattle.export_laws.specs.Coded.{chosen_code, chosen_length};
 

@@ -1,4 +1,7 @@
 // The calls on a pool by their C names, as a program in another language makes them, behind the signatures of the Rattle calls.
+
+#![tactic(auto)]
+
 ghost use Rattle.std.specs.Prelude.{◌+◌, ◌*◌, ◌≤◌};
 ghost use Rattle.model.specs.Setting.{max_dims};
 ghost use Rattle.session_words.specs.Coding.{dimension_width};

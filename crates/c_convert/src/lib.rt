@@ -1,4 +1,7 @@
 // `convert`, in numbers and lists alone: what its C name does.
+
+#![tactic(auto)]
+
 ghost use Rattle.pool_laws.specs.Choice.{exit};
 ghost use Rattle.c_convert.specs.Coded.{ConvertsInto, ConvertsWords};
 

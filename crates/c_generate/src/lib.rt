@@ -1,4 +1,7 @@
 // `nsga3_generate_offspring`, in numbers and lists alone: what its C name does.
+
+#![tactic(auto)]
+
 ghost use Rattle.std.specs.Prelude.{◌≡◌};
 ghost use Rattle.model.specs.Edition.{edition_of};
 ghost use Rattle.model.specs.Calls.{word_request, lent};

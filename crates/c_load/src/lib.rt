@@ -1,4 +1,7 @@
 // `write_load`, in numbers and lists alone: what its C name does.
+
+#![tactic(auto)]
+
 ghost use Rattle.c_load.specs.Coded.{LoadsWords};
 
 // The pool file of a trial load goes to the front of `out`, and its length to `length`.

@@ -1,4 +1,7 @@
 // `open`, in numbers and lists alone: what its C name does.
+
+#![tactic(auto)]
+
 ghost use Rattle.std.specs.Prelude.{◌≡◌};
 ghost use Rattle.export_laws.specs.Coded.{optional, OpensWords};
 

@@ -1,4 +1,7 @@
 // `sample`, in numbers and lists alone: what its C name does.
+
+#![tactic(auto)]
+
 ghost use Rattle.std.specs.Prelude.{◌≡◌, cond, ◌≤◌, length};
 ghost use Rattle.model.specs.Refusal.{bad_history};
 ghost use Rattle.model.specs.Session.{state};

@@ -1,4 +1,7 @@
 // `nsga3_select` and `choose`, in numbers and lists alone: what their C names do.
+
+#![tactic(auto)]
+
 ghost use Rattle.std.specs.Prelude.{◌≡◌};
 ghost use Rattle.model.specs.Edition.{edition_of};
 ghost use Rattle.model.specs.Calls.{word_request, lent};

@@ -1,4 +1,7 @@
 // `price_water`, in numbers and lists alone: what its C name does.
+
+#![tactic(auto)]
+
 ghost use Rattle.std.specs.Prelude.{◌≡◌};
 ghost use Rattle.model.specs.Water.{bands_of, priced_total};
 ghost use Rattle.c_water.specs.Coded.{priced_code, priced_as, PricesWords};

@@ -1,5 +1,8 @@
 // Whole candidates crossed, mutated and read (document 01, "Setting and dimension"; Rust: sampler/genetic.rs). An operator's exponent k is its
 // eta + 1.
+
+#![tactic(auto)]
+
 ghost use Rattle.std.specs.Prelude.{◌≡◌, ◌+◌, ◌*◌, ◌≤◌, false, length};
 ghost use Rattle.model.specs.Draw.{drawn};
 ghost use Rattle.model.specs.Setting.{max_dims, children, cross_all, mutate, dimensions_of};
@@ -10,7 +13,7 @@ use model::{DimensionInfo, MAX_DIMS, Rng};
 use settings::{DrawnCandidate, Slot};
 
 // Two children, of which the first n places count, and the generator moved on.
-#[derive(Drop)]
+#[derive(Clone, Copy)]
 pub struct DrawnChildren {
     pub first: [Slot; MAX_DIMS],
     pub second: [Slot; MAX_DIMS],

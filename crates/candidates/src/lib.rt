@@ -1,4 +1,7 @@
 // Candidates as they lie in a lent slice: candidate after candidate, a word a setting.
+
+#![tactic(auto)]
+
 ghost use Rattle.std.specs.Prelude.{◌≡◌, false, map, ◌+◌, ◌*◌, ◌≤◌, length};
 ghost use Rattle.model.specs.Lists.{over};
 ghost use Rattle.model.specs.Setting.{to_word, max_dims, sample_candidates, words_of, dimensions_of};

@@ -1,4 +1,7 @@
 // Reads a pool file from standard input and prints the listing of its selection, or `refused N` (document 01, "Pool file").
+
+#![tactic(auto)]
+
 fn main() {
     choose_program::run();
 }

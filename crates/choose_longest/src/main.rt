@@ -1,4 +1,7 @@
 // `choose` on a file of 65,536 bytes, the most that one may have (examples/make).
+
+#![tactic(auto)]
+
 fn main() {
     choose_program::run();
 }

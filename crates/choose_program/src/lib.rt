@@ -1,4 +1,7 @@
 // What the program `choose` does, for each program that does it on a stored file.
+
+#![tactic(auto)]
+
 use libc::{STDERR_FILENO, STDOUT_FILENO};
 use model::MAX_TEXT;
 use standard_input::FILE_ROOM;

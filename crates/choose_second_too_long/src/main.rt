@@ -1,4 +1,7 @@
 // `choose` on the same file and one byte more: refusal 17.
+
+#![tactic(auto)]
+
 fn main() {
     choose_program::run();
 }

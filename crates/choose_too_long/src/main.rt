@@ -1,4 +1,7 @@
 // `choose` on a good file of 65,536 bytes and one byte more (examples/make): refusal 1.
+
+#![tactic(auto)]
+
 fn main() {
     choose_program::run();
 }

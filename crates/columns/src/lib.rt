@@ -1,5 +1,8 @@
 // A block of plans laid column by column, so that every loop goes plan by plan over neighbouring entries: column j starts at j * len, where the block has len plans.
 // Each plan's sums still go from left to right over the objectives, from -0.0.
+
+#![tactic(auto)]
+
 ghost use Rattle.std.specs.Prelude.{◌≡◌, false, ◌+◌, ◌*◌, ◌<◌, ◌≤◌, length};
 ghost use Rattle.std.specs.Float.Ieee.{lt};
 ghost use Rattle.std.proofs.lemmas.List.Edits.{sets};

@@ -1,4 +1,7 @@
 // `convert` (document 02, M-111): a pool file of either edition turned into the other.
+
+#![tactic(auto)]
+
 ghost use Rattle.std.specs.Prelude.{◌≡◌, length};
 ghost use Rattle.model.specs.PoolFile.{max_file};
 ghost use Rattle.model.specs.Refusal.{form_refusal};

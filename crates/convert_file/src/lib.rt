@@ -1,4 +1,7 @@
 // A pool file turned into the other edition (document 02, M-111), its text written to the front of a slice that has room for the longest file.
+
+#![tactic(auto)]
+
 ghost use Rattle.std.specs.Prelude.{◌≡◌, length};
 ghost use Rattle.model.specs.PoolFile.{number, rows, file_by, max_file, parse_by, second_file};
 ghost use Rattle.model.specs.Convert.{forwards_text, forwards_refusal, backwards_text, backwards_refusal};
@@ -15,14 +18,14 @@ use pool_plans::End;
 const SECOND: u64 = 64;
 
 // The numbers of objectives and of plans, and the place after what stands before the plans.
-#[derive(Drop)]
+#[derive(Clone, Copy)]
 pub enum Head {
     Good(u64, u64, usize),
     Broken,
 }
 
 // The text's length; or a form that is broken; or a file that the other edition cannot hold, or whose text is too long.
-#[derive(Drop)]
+#[derive(Clone, Copy)]
 pub enum Turned {
     Text(usize),
     Broken,

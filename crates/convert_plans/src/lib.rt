@@ -1,4 +1,7 @@
 // Plans turned from one edition of the pool file to the other (document 02, M-111).
+
+#![tactic(auto)]
+
 ghost use Rattle.std.specs.Prelude.{◌≡◌, ◌&&◌, eqb};
 ghost use Rattle.model.specs.PoolFile.{many, rows, numbered};
 ghost use Rattle.model.specs.Convert.{plain_from};
@@ -53,7 +56,7 @@ pub fn number_plans(
 // ---- backwards
 
 // The place after what was read, and whether the first edition can hold it; or bytes that break the form or end early.
-#[derive(Drop)]
+#[derive(Clone, Copy)]
 pub enum Plain {
     At(usize, bool),
     Broken,

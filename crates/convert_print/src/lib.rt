@@ -1,4 +1,7 @@
 // What the program `convert` prints for the file that it reads (document 02, M-111).
+
+#![tactic(auto)]
+
 ghost use Rattle.convert_print.specs.Printing.{Prints};
 
 use model::{Chosen, MAX_FILE};

@@ -1,5 +1,8 @@
 // The converter's reader and writer in one (document 02, M-111): numbers and a plan's rows, read from a pool file and written again, each number in its one form.
 // `to` is the place in `out` after what was written; past the slice's end it stays there, and nothing more is written.
+
+#![tactic(auto)]
+
 ghost use Rattle.model.specs.PoolFile.{number, many, rows, row_numbers};
 ghost use Rattle.convert_rows.specs.Copied.{NumberCopied, CopiedIs};
 

@@ -1,4 +1,7 @@
 // The reference lines of Das and Dennis (document 01, "Reference table"): the table itself.
+
+#![tactic(auto)]
+
 ghost use Rattle.std.specs.Prelude.{◌≡◌, ◌+◌, ◌*◌, ◌<◌, ◌≤◌, length, take};
 ghost use mathlib.Core.List.{flatten};
 ghost use Rattle.model.specs.Lists.{over};

@@ -1,4 +1,7 @@
 // Runs the published point counts and document 01's cases on the reference table.
+
+#![tactic(auto)]
+
 ghost use Rattle.std.specs.Prelude.{◌≤◌};
 
 use libc::STDOUT_FILENO;

@@ -1,6 +1,9 @@
 // Distances of points from lines (document 01, "Association"; Rust: perpendicular_distance of sampler/nsga3.rs), over flat lists: a point or a line is the
 // m entries from a place on. `perpendicular_distance` is the Rust's, in edition 2 without its root (document 02, M-105); `association` takes it apart, with each line's
 // r·r worked out once.
+
+#![tactic(auto)]
+
 ghost use Rattle.std.specs.Prelude.{◌≡◌, ◌+◌, ◌*◌, ◌≤◌, length};
 ghost use Rattle.model.specs.Lists.{list_below, over};
 ghost use Rattle.model.specs.Association.{dot, off_squares, squares_of, measure_of, distance};

@@ -1,4 +1,7 @@
 // How many reference lines there are and how many divisions to take (document 01, "Reference table"), and refusal 4.
+
+#![tactic(auto)]
+
 ghost use Rattle.std.specs.Prelude.{◌≡◌, false, ◌≤◌};
 ghost use Rattle.model.specs.Reference.{binomial, point_count, auto_divisions, or_else, divisions_of, population_size_of};
 ghost use Rattle.model.specs.Refusal.{bad_divisions, bad_session_divisions};

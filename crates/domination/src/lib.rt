@@ -1,4 +1,7 @@
 // Domination of one plan over another (Rust: pareto.rs), over flat rows in minimise-space: row p has m entries and starts at p * m.
+
+#![tactic(auto)]
+
 ghost use Rattle.std.specs.Prelude.{◌≡◌, ◌+◌, ◌*◌, ◌≤◌, length};
 ghost use Rattle.model.specs.Lists.{one};
 ghost use Rattle.model.specs.Row.{direction_of, to_minimize, feasible, violation};

@@ -1,11 +1,14 @@
 // How many plans dominate each plan of a pool: each pair is compared once, both ways.
+
+#![tactic(auto)]
+
 ghost use Rattle.std.specs.Prelude.{◌+◌, ◌*◌, ◌≤◌, not, ◌&&◌, length};
 ghost use Rattle.front_laws.specs.Flat.{flat_dominates, flat_beats, Pool, Within};
 ghost use Rattle.front_laws.specs.Post.{Countable, Raised, Counted};
 ghost use Rattle.dominator_counts.specs.Compared.{Decides};
 
 // Which of two plans dominates the other.
-#[derive(Drop)]
+#[derive(Clone, Copy)]
 enum Winner {
     First,
     Second,

@@ -1,4 +1,7 @@
 // Where the two editions part (document 02; specs/Edition.antt of `model`). No other function looks at an edition.
+
+#![tactic(auto)]
+
 ghost use Rattle.std.specs.Prelude.{◌≡◌};
 ghost use Rattle.model.specs.Edition.{edition_number, edition_of, most_plans, waiting_of, ranks_by_rows, takes_root, uses_plane, passes_over, moves_to_step};
 

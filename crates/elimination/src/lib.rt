@@ -1,5 +1,8 @@
 // Document 02, M-102: elimination with partial pivoting by row swaps. A matrix has eight rows of nine places: entry (i, j) is place i * 9 + j, and row i's
 // right side place i * 9 + m.
+
+#![tactic(auto)]
+
 ghost use Rattle.std.specs.Prelude.{◌≡◌, ◌+◌, ◌-◌, ◌<◌, ◌≤◌, length};
 ghost use Rattle.model.specs.Hyperplane.{magnitude, pivot_row, swapped, less_row, cleared, stepped, eliminated};
 

@@ -1,5 +1,8 @@
 // Document 02, M-102: the extreme plan of each objective, and the matrix of their rows less the ideal. Over flat rows: plan p's value at objective j is entry
 // p * m + j. A matrix has eight rows of nine places: entry (i, j) is place i * 9 + j, and row i's right side place i * 9 + m.
+
+#![tactic(auto)]
+
 ghost use Rattle.std.specs.Prelude.{◌≡◌, ℕ, ◌+◌, ◌*◌, ◌<◌, ◌≤◌, length, get_or};
 ghost use Rattle.model.specs.Lists.{list_below, over};
 ghost use Rattle.model.specs.Hyperplane.{weight, asf, put_row, plane_rows};

@@ -1,1 +1,3 @@
 // Laws of the pool file's form: what is written is read. No code.
+
+#![tactic(auto)]

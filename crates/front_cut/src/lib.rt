@@ -1,9 +1,12 @@
 // Where the fronts of a sorted pool part: those that fit whole into the size, and the one that is split.
+
+#![tactic(auto)]
+
 ghost use Rattle.std.specs.Prelude.{◌≡◌, ◌≤◌, length};
 ghost use Rattle.front_cut.specs.Fitting.{fitting, start_of, cut_of};
 
 // Where the fronts part: how many plans the whole fronts that fit have, where the front that is split ends (else the same), and whether one is.
-#[derive(Drop)]
+#[derive(Clone, Copy)]
 pub struct Cut {
     pub whole: usize,
     pub end: usize,

@@ -1,1 +1,3 @@
 // Laws of the fronts alone: no code.
+
+#![tactic(auto)]

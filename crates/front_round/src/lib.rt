@@ -1,4 +1,7 @@
 // One round of the sort: the members of a front take its number and lower the counts of the plans that they dominate; those that reach zero are the next front.
+
+#![tactic(auto)]
+
 ghost use Rattle.std.specs.Prelude.{◌≡◌, ◌<◌, ◌≤◌, length, get_or};
 ghost use Rattle.front_laws.specs.Flat.{flat_beats, Pool};
 ghost use Rattle.front_laws.specs.Post.{Freed, Releasable, Released, Ready, Passed};

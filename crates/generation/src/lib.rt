@@ -1,4 +1,7 @@
 // The generation step (Rust: nsga3_generate_offspring of sampler/nsga3.rs; document 01, "Setting and dimension").
+
+#![tactic(auto)]
+
 ghost use Rattle.model.specs.Calls.{word_request, lent, step_exit, Steps};
 ghost use Rattle.model.specs.Setting.{operators_in};
 

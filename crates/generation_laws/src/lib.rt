@@ -1,1 +1,3 @@
 // Laws of the generation step: its refusals, its limits, what is bred, and its promise.
+
+#![tactic(auto)]

@@ -1,4 +1,7 @@
 // A generation step that meets no refusal (Rust: nsga3_generate_offspring of sampler/nsga3.rs; document 01, "Setting and dimension").
+
+#![tactic(auto)]
+
 ghost use Rattle.std.specs.Prelude.{◌≡◌, ◌≤◌, length};
 ghost use Rattle.std.proofs.Math.Option.{none};
 ghost use Rattle.model.specs.Plan.{plan_count};

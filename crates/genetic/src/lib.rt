@@ -1,5 +1,8 @@
 // Crossover, the tournament and a brood of two (document 01, "Setting and dimension"; Rust: sampler/genetic.rs, the end of
 // sampler/nsga3.rs). An operator's exponent k is its eta + 1.
+
+#![tactic(auto)]
+
 ghost use Rattle.std.specs.Prelude.{◌≡◌, false, ◌*◌, ◌≤◌, ◌<◌, length, get_or};
 ghost use Rattle.model.specs.Draw.{drawn};
 ghost use Rattle.model.specs.Setting.{max_dims, children, crossover, tournament, brood, operators_in, dimensions_of};

@@ -1,5 +1,8 @@
 // Document 02, M-102: the intercepts of edition 2, from the plane through the extreme plans, or edition 1's where it does not serve. Over flat rows: plan p's value
 // at objective j is entry p * m + j.
+
+#![tactic(auto)]
+
 ghost use Rattle.std.specs.Prelude.{◌≡◌, ◌*◌, ◌<◌, ◌≤◌, length};
 ghost use Rattle.model.specs.Lists.{list_below, over};
 ghost use Rattle.hyperplane_laws.specs.Flat.{Worked};

@@ -1,4 +1,7 @@
 // The generator k words on (document 02, M-106): its step is a map s → a·s + c modulo 2^64, which is composed with itself and not stepped.
+
+#![tactic(auto)]
+
 ghost use Rattle.std.specs.Prelude.{◌≡◌, ◌%◌};
 ghost use Rattle.model.specs.Load.{ahead};
 ghost use Rattle.jump_laws.specs.Steps.{applied, moved_by};

@@ -1,1 +1,3 @@
 // Laws of the greatest number of settings and dimensions: no code.
+
+#![tactic(auto)]

@@ -1,4 +1,7 @@
 // Reads seven numbers from standard input and writes the pool file that they ask for, or `refused N` (document 02, M-106).
+
+#![tactic(auto)]
+
 fn main() {
     load_program::run();
 }

@@ -1,4 +1,7 @@
 // The counts of a trial load that refusal 13 turns down (document 02, M-106): those that refusal 2, 3, 4, 7 or 8 would in `choose`.
+
+#![tactic(auto)]
+
 ghost use Rattle.std.specs.Prelude.{◌≡◌};
 ghost use Rattle.model.specs.Load.{bad_counts};
 ghost use Rattle.load_numbers.specs.Asking.{load_from};

@@ -1,4 +1,7 @@
 // The plans of a trial load (document 02, M-106): each number is written as soon as it is drawn.
+
+#![tactic(auto)]
+
 ghost use Rattle.std.specs.Prelude.{◌≡◌, map};
 ghost use Rattle.model.specs.Real.{bits};
 ghost use Rattle.model.specs.Draw.{drawn};
@@ -10,7 +13,7 @@ use pool_form::put_word;
 use rng_util::{DrawnF64, draw_f64};
 
 // The place after what was written, and the generator after what was drawn.
-#[derive(Drop)]
+#[derive(Clone, Copy)]
 pub struct Stand {
     pub at: usize,
     pub rng: Rng,

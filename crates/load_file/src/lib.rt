@@ -1,4 +1,7 @@
 // `write_load` (document 02, M-106): from seven numbers to a pool file that anyone can rebuild.
+
+#![tactic(auto)]
+
 ghost use Rattle.std.specs.Prelude.{◌≡◌, length};
 ghost use Rattle.model.specs.PoolFile.{max_file};
 ghost use Rattle.model.specs.Load.{Loads};

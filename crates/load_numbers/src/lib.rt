@@ -1,4 +1,7 @@
 // The seven numbers that a trial load is asked for by (document 02, M-106).
+
+#![tactic(auto)]
+
 ghost use Rattle.std.specs.Prelude.{◌≡◌};
 ghost use Rattle.model.specs.Load.{parse_load};
 ghost use Rattle.load_numbers.specs.Asking.{asked};
@@ -6,7 +9,7 @@ ghost use Rattle.load_numbers.specs.Asking.{asked};
 use pool_plans::{End, read_words};
 
 // m, H, size, plan count, constraint count, seed, and how many words further on the generator starts.
-#[derive(Drop)]
+#[derive(Clone, Copy)]
 pub struct Load {
     pub objectives: u64,
     pub divisions: u64,
@@ -18,7 +21,7 @@ pub struct Load {
 }
 
 // A load in good form, or not.
-#[derive(Drop)]
+#[derive(Clone, Copy)]
 pub enum Asking {
     Good(Load),
     Broken,

@@ -1,4 +1,7 @@
 // What the program `load` prints for the seven numbers that it reads (document 02, M-106).
+
+#![tactic(auto)]
+
 ghost use Rattle.load_print.specs.Printing.{Prints};
 
 use model::{Chosen, MAX_FILE};

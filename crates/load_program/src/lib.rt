@@ -1,4 +1,7 @@
 // What the program `load` does, for each program that does it on stored input.
+
+#![tactic(auto)]
+
 use libc::{STDERR_FILENO, STDOUT_FILENO};
 use model::MAX_FILE;
 use standard_input::FILE_ROOM;

@@ -1,4 +1,7 @@
 // The file of a trial load (document 02, M-106): its header, whose seed field holds the state after the last draw, and its plans.
+
+#![tactic(auto)]
+
 ghost use Rattle.std.specs.Prelude.{◌≡◌, ◌∷◌, ◌≤◌, replicate};
 ghost use Rattle.model.specs.PoolFile.{written_all};
 ghost use Rattle.model.specs.Plan.{max_objectives, max_constraints};

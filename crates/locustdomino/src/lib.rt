@@ -1,5 +1,8 @@
-// The public calls under C names, for controllers and stations in other languages. include/locustdomino.h says how each is called.
+// The public calls in numbers and lists alone, as controllers and stations in other languages make them: `locustdomino_c` exports each under its name here.
 // A call answers 0, or the number of the refusal. A refused call leaves all that it was lent as it was.
+
+#![tactic(auto)]
+
 ghost use Rattle.std.specs.Prelude.{◌≤◌, length};
 ghost use Rattle.model.specs.Session.{state};
 ghost use Rattle.model.specs.Property.{SessionOk};
@@ -13,8 +16,7 @@ ghost use Rattle.c_load.specs.Coded.{LoadsWords};
 ghost use Rattle.c_convert.specs.Coded.{ConvertsWords};
 
 // `nsga3_select` of edition 2 for 2, and else of edition 1: the generator's state moves on in place. The kept list is as long as the size.
-#[unsafe(no_mangle)]
-pub extern "C" fn locustdomino_select(
+pub fn locustdomino_select(
     edition: u64,
     pool: &[u64],
     directions: &[u8],
@@ -38,8 +40,7 @@ pub extern "C" fn locustdomino_select(
 
 // `nsga3_generate_offspring` of edition 2 for 2, and else of edition 1: the dimensions are as many as their slice has whole, six words each. `n_kept` is the kept list's length: the size, or 0 for a pool
 // of one plan.
-#[unsafe(no_mangle)]
-pub extern "C" fn locustdomino_generate_offspring(
+pub fn locustdomino_generate_offspring(
     edition: u64,
     pool: &[u64],
     directions: &[u8],
@@ -85,8 +86,7 @@ pub extern "C" fn locustdomino_generate_offspring(
 }
 
 // `open` of edition 2 for 2, and else of edition 1: the session's words go to the slice's front. A slice of fewer than `session_width` words meets 10, where no other number applies.
-#[unsafe(no_mangle)]
-pub extern "C" fn locustdomino_open(
+pub fn locustdomino_open(
     edition: u64,
     directions: &[u8],
     seed: u64,
@@ -125,8 +125,7 @@ pub extern "C" fn locustdomino_open(
 // property of the words and of what is lent beside them, which `locustdomino_open` gives and this call keeps. A session slice of fewer than
 // `session_width` words meets 7 where the history has over 4,096 records, else 10, and nothing is asked of it. A call that adds a dimension and is lent fewer than six words
 // for it meets 6; one that adds none does not look at the dimension.
-#[unsafe(no_mangle)]
-pub extern "C" fn locustdomino_sample(
+pub fn locustdomino_sample(
     session: &mut [u64],
     dimension: &[u64],
     plan: u64,
@@ -149,8 +148,7 @@ pub extern "C" fn locustdomino_sample(
 }
 
 // `choose`: the text for a pool file, and its length.
-#[unsafe(no_mangle)]
-pub extern "C" fn locustdomino_choose(file: &[u8], out: &mut [u8], length: &mut usize) -> u64
+pub fn locustdomino_choose(file: &[u8], out: &mut [u8], length: &mut usize) -> u64
     ensures { ListsWords file.now out.old length.old (record { code = result; length = length.new; out = out.new }) }
 {
     c_select::choose_words(file, out, length)
@@ -158,8 +156,7 @@ pub extern "C" fn locustdomino_choose(file: &[u8], out: &mut [u8], length: &mut 
 
 // `price_water`: each kept plan's cost in cents goes to the front of `costs`, and their total to `total`. A band is two words, its upper litre and its price in
 // hundredths of a cent, and the bands are as many as their slice has whole.
-#[unsafe(no_mangle)]
-pub extern "C" fn locustdomino_price_water(
+pub fn locustdomino_price_water(
     litres: &[u64],
     bands: &[u64],
     kept: &[usize],
@@ -173,16 +170,14 @@ pub extern "C" fn locustdomino_price_water(
 }
 
 // `write_load`: the pool file of a trial load, and its length.
-#[unsafe(no_mangle)]
-pub extern "C" fn locustdomino_write_load(input: &[u8], out: &mut [u8], length: &mut usize) -> u64
+pub fn locustdomino_write_load(input: &[u8], out: &mut [u8], length: &mut usize) -> u64
     ensures { LoadsWords input.now out.old length.old (record { code = result; length = length.new; out = out.new }) }
 {
     c_load::write_load_words(input, out, length)
 }
 
 // `convert`: a pool file in the other edition, and its length. A slice that is too short for it meets 10, where no other number applies.
-#[unsafe(no_mangle)]
-pub extern "C" fn locustdomino_convert(file: &[u8], out: &mut [u8], length: &mut usize) -> u64
+pub fn locustdomino_convert(file: &[u8], out: &mut [u8], length: &mut usize) -> u64
     ensures { ConvertsWords file.now out.old length.old (record { code = result; length = length.new; out = out.new }) }
 {
     c_convert::convert_words(file, out, length)

@@ -1,5 +1,7 @@
 // The types and the limits of the product. Names are those of the Rust; `Option` and `Distribution` are enums of our own.
 
+#![tactic(auto)]
+
 // The limits of documents 01 and 02 that sizes of arrays and loops name; the definitions of `specs` have the same numbers.
 pub const MAX_OBJECTIVES: usize = 8;
 // most plans wanted: of a size
@@ -64,27 +66,27 @@ pub const NO_LINE: usize = 18446744073709551615;
 pub const MAX_TEXT: usize = MAX_FIRST_POOL * 20 + 21;
 
 // The two editions of selection, generation step and session (document 02, M-100): the first is document 01's.
-#[derive(Drop)]
+#[derive(Clone, Copy)]
 pub enum Edition {
     First,
     Second,
 }
 
 // The generator (document 01, "Draw"): one word of state, which any seed may be.
-#[derive(Drop)]
+#[derive(Clone, Copy)]
 pub struct Rng {
     pub s: u64,
 }
 
 // Which way an objective is better.
-#[derive(Drop)]
+#[derive(Clone, Copy)]
 pub enum Direction {
     Minimize,
     Maximize,
 }
 
 // A setting of a plan. A Categorical is the index of its choice.
-#[derive(Drop)]
+#[derive(Clone, Copy)]
 pub enum ParamValue {
     Float(f64),
     Int(i64),
@@ -92,32 +94,32 @@ pub enum ParamValue {
 }
 
 // What may be left out: a step, a size, a number of divisions, a window, a plan number.
-#[derive(Drop)]
+#[derive(Clone, Copy)]
 pub enum OptionF64 {
     None,
     Some(f64),
 }
 
-#[derive(Drop)]
+#[derive(Clone, Copy)]
 pub enum OptionI64 {
     None,
     Some(i64),
 }
 
-#[derive(Drop)]
+#[derive(Clone, Copy)]
 pub enum OptionUsize {
     None,
     Some(usize),
 }
 
-#[derive(Drop)]
+#[derive(Clone, Copy)]
 pub enum OptionU64 {
     None,
     Some(u64),
 }
 
 // Reals from low to high, both included.
-#[derive(Drop)]
+#[derive(Clone, Copy)]
 pub struct FloatDistribution {
     pub low: f64,
     pub high: f64,
@@ -126,7 +128,7 @@ pub struct FloatDistribution {
 }
 
 // Whole numbers from low to high, both included; with a step, those that are a whole number of steps above low.
-#[derive(Drop)]
+#[derive(Clone, Copy)]
 pub struct IntDistribution {
     pub low: i64,
     pub high: i64,
@@ -135,12 +137,12 @@ pub struct IntDistribution {
 }
 
 // One of n_choices, counted from 0.
-#[derive(Drop)]
+#[derive(Clone, Copy)]
 pub struct CategoricalDistribution {
     pub n_choices: usize,
 }
 
-#[derive(Drop)]
+#[derive(Clone, Copy)]
 pub enum Distribution {
     Float(FloatDistribution),
     Int(IntDistribution),
@@ -148,13 +150,13 @@ pub enum Distribution {
 }
 
 // A dimension: what one setting of every plan is drawn from.
-#[derive(Drop)]
+#[derive(Clone, Copy)]
 pub struct DimensionInfo {
     pub distribution: Distribution,
 }
 
 // What breeding is given beside the pool: the dimensions, of which the first n_dims count, and the numbers of crossover and mutation.
-#[derive(Drop)]
+#[derive(Clone, Copy)]
 pub struct Operators {
     pub dimensions: [DimensionInfo; MAX_DIMS],
     pub n_dims: usize,
@@ -164,7 +166,7 @@ pub struct Operators {
 }
 
 // Whether a session still learns its dimensions from the first plan's calls.
-#[derive(Drop)]
+#[derive(Clone, Copy)]
 pub enum Phase {
     Discovery,
     Active,
@@ -172,7 +174,7 @@ pub enum Phase {
 
 // What a session was opened with and what follows from it: it never changes.
 // Of directions the first n_obj count: 0 minimise, 1 maximise.
-#[derive(Drop)]
+#[derive(Clone, Copy)]
 pub struct Config {
     pub edition: Edition,
     pub n_obj: usize,
@@ -187,7 +189,7 @@ pub struct Config {
 
 // How far a session is: its dimensions, the candidates and the plans of the present generation, how many plans wait, how many past generations are
 // remembered, and the generation's number.
-#[derive(Drop)]
+#[derive(Clone, Copy)]
 pub struct Progress {
     pub n_dims: usize,
     pub n_candidates: usize,
@@ -199,7 +201,7 @@ pub struct Progress {
 
 // A session's state that goes by value. Beside it the caller lends the candidates, the plan numbers, the next dimensions and the
 // pool.
-#[derive(Drop)]
+#[derive(Clone, Copy)]
 pub struct Session {
     pub config: Config,
     pub phase: Phase,
@@ -212,7 +214,7 @@ pub struct Session {
 
 // What put a plan on the kept list (document 02, M-108): its front was listed whole, it was the nearest on a line with no plan yet, it was drawn on a line
 // with one, or the pool had no plan left. A list of rules holds their marks, 0 to 3.
-#[derive(Drop)]
+#[derive(Clone, Copy)]
 pub enum Rule {
     WholeFront,
     Nearest,
@@ -221,39 +223,39 @@ pub enum Rule {
 }
 
 // What a selection or a generation step answers: how many plans its kept list has, or why it was turned down.
-#[derive(Drop)]
+#[derive(Clone, Copy)]
 pub enum Outcome {
     Kept(usize),
     Refused(u8),
 }
 
-#[derive(Drop)]
+#[derive(Clone, Copy)]
 pub struct Selection {
     pub outcome: Outcome,
     pub rng: Rng,
 }
 
 // What opening answers. The session of a refused opening is a blank one.
-#[derive(Drop)]
+#[derive(Clone, Copy)]
 pub enum Opening {
     Ready,
     Refused(u8),
 }
 
-#[derive(Drop)]
+#[derive(Clone, Copy)]
 pub struct Opened {
     pub outcome: Opening,
     pub session: Session,
 }
 
 // What a session call answers.
-#[derive(Drop)]
+#[derive(Clone, Copy)]
 pub enum Sampling {
     Setting(ParamValue),
     Refused(u8),
 }
 
-#[derive(Drop)]
+#[derive(Clone, Copy)]
 pub struct Sampled {
     pub outcome: Sampling,
     pub session: Session,
@@ -263,7 +265,7 @@ pub struct Sampled {
 pub const MAX_FILE: usize = 65536;
 
 // What a call that writes a text or a file answers: the length of what it wrote, or why it was turned down.
-#[derive(Drop)]
+#[derive(Clone, Copy)]
 pub enum Chosen {
     Written(usize),
     Refused(u8),
@@ -277,7 +279,7 @@ pub const MAX_PRICE: u64 = 1000000;
 pub const MAX_LITRES: u64 = 1000000000;
 
 // What pricing answers: the total in cents, or why it was turned down.
-#[derive(Drop)]
+#[derive(Clone, Copy)]
 pub enum Priced {
     Total(u64),
     Refused(u8),

@@ -1,5 +1,8 @@
 // Niching: the open places of the kept list are filled from the split front (Rust: niching_select of nsga3.rs; document 01, "Kept list").
 // `niching_select` is the layer's call; the other functions are its parts.
+
+#![tactic(auto)]
+
 ghost use Rattle.std.specs.Prelude.{◌≡◌, ℕ, [], length};
 ghost use Rattle.model.specs.Kept.{niche_count};
 ghost use Rattle.niching_array_laws.specs.Niche.{line_in, count_of, OnLines, Zeros, Numbered, Ready, Took, Splits, NichingSelects};
@@ -7,7 +10,7 @@ ghost use Rattle.niching_array_laws.specs.Niche.{line_in, count_of, OnLines, Zer
 use model::{MAX_LINES, MAX_POOL, Rng};
 
 // A picked plan, with the niche count that its line had before the pick.
-#[derive(Drop)]
+#[derive(Clone, Copy)]
 struct Picked {
     value: usize,
     count: usize,

@@ -1,1 +1,3 @@
 // Laws of what the arrays of niching hold; no code.
+
+#![tactic(auto)]

@@ -26,6 +26,7 @@ module _ {A : Type 0} (next : ℕ → List A → ℕ → Drawn A) where
   pub draw_all-take : (n s i : ℕ) → i ≤ n → take i (draw_all next n s).value ≡ (draw_all next i s).value
   unfolding in_turn
   draw_all-take zero s zero h = refl
+  draw_all-take zero s (suc _) h = elim h [ ]
   draw_all-take (suc n) s i h = last_or {k = i} {n = suc n} (omega arith)
       (λ e. rw e (take_all (suc n) (draw_all next (suc n) s).value (omega (arith, draw_all-length next (suc n) s))))
       (λ l. take-append-le i (draw_all next n s).value _ (omega (arith, draw_all-length next n s)) ∙ draw_all-take n s i (omega arith))

@@ -1,5 +1,8 @@
 // The line of an open place: one drawn among those with the least niche count of the lines with waiting members (document 01, "Kept list"). Which these are is read
 // off the lines' numbers, `waits` (document 02, M-104). `choose_line` is called by `niching`; the other functions are its parts.
+
+#![tactic(auto)]
+
 ghost use Rattle.std.specs.Prelude.{◌≡◌, ℕ, ◌<◌, ◌≤◌, length};
 ghost use Rattle.model.specs.Lists.{count_below, keep_below};
 ghost use Rattle.model.specs.Draw.{drawn};

@@ -1,5 +1,8 @@
 // The member of a line that an open place takes: at niche count 0 the nearest, else one drawn (document 01, "Kept list").
 // `choose_member` is called by `niching`; the other functions are its parts.
+
+#![tactic(auto)]
+
 ghost use Rattle.std.specs.Prelude.{◌≡◌, ◌<◌, length};
 ghost use Rattle.model.specs.Draw.{drawn};
 ghost use Rattle.model.specs.Kept.{nearest, draw_member};

@@ -1,6 +1,9 @@
 // Normalisation (document 01, "Association"; Rust: sampler/nsga3.rs), over the flat rows of the plans that shape the scale: the value of the p-th of them at objective j is
 // entry p * m + j.
 // The layer's calls are `update_ideal_point`, `find_intercepts` and `normalize_objectives`; the other functions are their parts.
+
+#![tactic(auto)]
+
 ghost use Rattle.std.specs.Prelude.{◌≡◌, ◌+◌, ◌*◌, ◌<◌, ◌≤◌, length};
 ghost use Rattle.std.proofs.lemmas.List.Edits.{sets};
 ghost use Rattle.model.specs.Lists.{list_below, over};

@@ -1,4 +1,7 @@
 // Selection (Rust: nsga3_select of sampler/nsga3.rs; document 01, "Kept list"). `nsga3_select` is the public call; the other functions are its steps.
+
+#![tactic(auto)]
+
 ghost use Rattle.std.specs.Prelude.{◌≡◌, true, length};
 ghost use Rattle.model.specs.Kept.{selected_split, selected};
 ghost use Rattle.model.specs.Calls.{word_request, lent, room_of, select_exit, select_accepted, Selects};

@@ -1,4 +1,7 @@
 // Runs document 01's example and calls around it through the public selection, and prints all that each leaves. What a call does not write stays 9.
+
+#![tactic(auto)]
+
 ghost use Rattle.std.specs.Prelude.{◌+◌, ◌*◌, ◌≤◌, length};
 ghost use Rattle.model.specs.Plan.{plan_words};
 

@@ -1,4 +1,7 @@
 // The float leaves and the draw under C names, for a program in another language to time.
+
+#![tactic(auto)]
+
 ghost use Rattle.std.specs.Prelude.{◌≡◌};
 ghost use Rattle.model.specs.Numbers.{sqrt_of, P, R};
 ghost use Rattle.model.specs.Draw.{drawn, draw_f64};

@@ -1,5 +1,8 @@
 // The parents of a generation, and the offspring bred from them (Rust: nsga3_generate_offspring of sampler/nsga3.rs; document 01,
 // "Setting and dimension"). Candidates lie one after the other, a word a setting.
+
+#![tactic(auto)]
+
 ghost use Rattle.std.specs.Prelude.{◌≡◌, false, [], ◌∷◌, ℕ, ◌*◌, ◌-◌, ◌≤◌, ◌<◌, length, get_or, take};
 ghost use Rattle.model.specs.Lists.{over};
 ghost use Rattle.model.specs.Plan.{plan_at, plan_count};

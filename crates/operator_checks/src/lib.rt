@@ -1,4 +1,7 @@
 // Refusals 5, 6 and 12: what operators and dimensions are asked (document 01, "Setting and dimension"; document 02, M-103; Rust: distribution.rs).
+
+#![tactic(auto)]
+
 ghost use Rattle.std.specs.Prelude.{◌≡◌, ◌≤◌};
 ghost use Rattle.model.specs.Setting.{step_above0, valid_bounds, valid_float_step, valid_step, valid_dimension, dimensions_of, max_dims};
 ghost use Rattle.model.specs.Refusal.{whole_eta, bad_operators, bad_bounds, bad_steps, bad_dimensions};

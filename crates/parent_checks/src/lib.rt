@@ -1,5 +1,8 @@
 // Refusal 9: what the plans to breed from are asked (document 01, "Setting and dimension"). A plan is a block of PLAN_WORDS words; its settings
 // stand from word 28 on, three words each.
+
+#![tactic(auto)]
+
 ghost use Rattle.std.specs.Prelude.{◌≡◌, not, ◌+◌, ◌≤◌, ◌<◌, length, drop};
 ghost use Rattle.model.specs.Lists.{all_below, list_below};
 ghost use Rattle.model.specs.Plan.{plan_at, plan_count, plan_words, max_settings};

@@ -1,4 +1,7 @@
 // Non-dominated fronts (Rust: pareto.rs), over flat rows in minimise-space: row p has m entries and starts at p * m.
+
+#![tactic(auto)]
+
 ghost use Rattle.std.specs.Prelude.{◌≡◌, ◌*◌, ◌≤◌, eqb, length, get_or};
 ghost use Rattle.model.specs.Lists.{list_below, over};
 ghost use Rattle.model.specs.Refusal.{max_pool};

@@ -1,1 +1,3 @@
 // Laws of where the two editions' distances part (document 02, M-105): no code.
+
+#![tactic(auto)]

@@ -1,4 +1,7 @@
 // The plans of a lent slice of words as flat lists: rows in minimise-space one after the other, and whether each plan is feasible and its violation sum.
+
+#![tactic(auto)]
+
 ghost use Rattle.std.specs.Prelude.{◌≡◌, ℕ, ◌+◌, ◌*◌, ◌<◌, ◌≤◌, length, get_or};
 ghost use Rattle.model.specs.Lists.{list_below, over};
 ghost use Rattle.model.specs.Real.{real};

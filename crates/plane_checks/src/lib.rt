@@ -1,5 +1,8 @@
 // Document 02, M-102: the five tests by which the old intercepts serve. Over flat rows: plan p's value at objective j is entry p * m + j. A matrix has eight
 // rows of nine places: entry (i, j) is place i * 9 + j, and row i's right side place i * 9 + m.
+
+#![tactic(auto)]
+
 ghost use Rattle.std.specs.Prelude.{◌≡◌, not, ◌||◌, ◌+◌, ◌*◌, ◌<◌, ◌≤◌, length};
 ghost use Rattle.std.specs.Float.Ieee.Scale.{finite};
 ghost use Rattle.model.specs.Hyperplane.{same_before, same_extremes, zero_pivot, unbounded_row, unbounded_matrix, unbounded_in, low_intercept, beyond_row, beyond_bound, falls_back};

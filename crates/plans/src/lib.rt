@@ -1,5 +1,8 @@
 // The plans of a lent slice of words, a block of PLAN_WORDS words each: how many there are, and the refusals that look at directions, a size, plans and the ideal
 // (2, 3, 7 and 8).
+
+#![tactic(auto)]
+
 ghost use Rattle.std.specs.Prelude.{◌≡◌, ◌+◌, ◌<◌, ◌≤◌, not, ◌&&◌, length, get_or};
 ghost use Rattle.model.specs.Lists.{all_below};
 ghost use Rattle.model.specs.Real.{real};

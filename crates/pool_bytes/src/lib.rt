@@ -1,4 +1,7 @@
 // A file is bytes: what its type says of each, as a fact that laws can use.
+
+#![tactic(auto)]
+
 ghost use Rattle.std.specs.Prelude.{◌<◌};
 ghost use Rattle.pool_bytes.specs.Bytes.{EachByte};
 

@@ -1,4 +1,7 @@
 // `choose` (document 01, "Pool file"): from the bytes of a pool file, of either edition, to the text of its selection.
+
+#![tactic(auto)]
+
 ghost use Rattle.std.specs.Prelude.{◌≡◌, ◌≤◌, ◌<◌, length, replicate};
 ghost use Rattle.model.specs.Real.{infinity};
 ghost use Rattle.model.specs.Plan.{max_objectives};

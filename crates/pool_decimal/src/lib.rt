@@ -1,4 +1,7 @@
 // Bytes and numbers in decimal, put into a lent slice at a place; each function answers the place after what it put.
+
+#![tactic(auto)]
+
 ghost use Rattle.std.specs.Prelude.{◌≡◌, [], ◌∷◌, ◌+◌, ◌<◌, ◌≤◌, length};
 ghost use Rattle.model.specs.PoolFile.{digits_of, decimal};
 ghost use Rattle.list_laws.specs.Put.{Put};

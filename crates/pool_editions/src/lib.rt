@@ -1,4 +1,7 @@
 // The plans of a pool file of either edition (document 01, "Pool file"; document 02, M-111), each laid out in its block of words.
+
+#![tactic(auto)]
+
 ghost use Rattle.std.specs.Prelude.{◌≡◌, true, ◌+◌, ◌*◌, ◌<◌, ◌≤◌, length};
 ghost use Rattle.model.specs.Plan.{plan_words};
 ghost use Rattle.model.specs.declared.Edition.TheVariants.{First};

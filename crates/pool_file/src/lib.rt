@@ -1,4 +1,7 @@
 // The pool file (document 01, "Pool file"), in either edition (document 02, M-111): its header, its direction marks and its plans.
+
+#![tactic(auto)]
+
 ghost use Rattle.std.specs.Prelude.{◌≡◌, ◌*◌, ◌≤◌, length};
 ghost use Rattle.model.specs.Plan.{plan_words, max_objectives};
 ghost use Rattle.model.specs.declared.Edition.TheVariants.{First};
@@ -16,7 +19,7 @@ use pool_plans::{End, read_words};
 const SECOND: u8 = 64;
 
 // The five numbers of a pool file's header.
-#[derive(Drop)]
+#[derive(Clone, Copy)]
 pub struct Header {
     pub m: u64,
     pub divisions: u64,
@@ -26,14 +29,14 @@ pub struct Header {
 }
 
 // The header and the place after it.
-#[derive(Drop)]
+#[derive(Clone, Copy)]
 pub enum Heading {
     Good(Header, usize),
     Broken,
 }
 
 // A pool file in good form, or not.
-#[derive(Drop)]
+#[derive(Clone, Copy)]
 pub enum Parsed {
     Good(Header),
     Broken,

@@ -1,5 +1,8 @@
 // The numbers of a pool file (document 01, "Pool file"), written in their one form into a lent slice at a place; each function answers the place after what it
 // wrote. Where the slice gets full nothing more is written, and the place stays past its end.
+
+#![tactic(auto)]
+
 ghost use Rattle.std.specs.Prelude.{[], ◌∷◌};
 ghost use Rattle.model.specs.PoolFile.{written};
 ghost use Rattle.pool_form.specs.Form.{Adds};

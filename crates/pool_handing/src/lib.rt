@@ -1,4 +1,7 @@
 // A text handed out to a caller, or refusal 10.
+
+#![tactic(auto)]
+
 ghost use Rattle.std.specs.Prelude.{◌≡◌};
 ghost use Rattle.pool_laws.specs.Choice.{exit, text_exit};
 

@@ -1,4 +1,7 @@
 // A part of `choose`: a listing handed out where there is room for it.
+
+#![tactic(auto)]
+
 ghost use Rattle.std.specs.Prelude.{◌≡◌, ◌≤◌, length};
 ghost use Rattle.model.specs.PoolFile.{listing_text};
 ghost use Rattle.model.specs.declared.Edition.TheVariants.{First};

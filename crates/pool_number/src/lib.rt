@@ -1,9 +1,12 @@
 // The numbers of a pool file (document 01, "Pool file").
+
+#![tactic(auto)]
+
 ghost use Rattle.std.specs.Prelude.{◌≡◌};
 ghost use Rattle.pool_number.specs.Reading.{number_at};
 
 // A number and the place after it, or bytes that break the form or end early.
-#[derive(Drop)]
+#[derive(Clone, Copy)]
 pub enum Read {
     Number(u64, usize),
     Broken,

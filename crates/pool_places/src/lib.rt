@@ -1,4 +1,7 @@
 // The place of first keeping of each plan, which the listing shows (document 01, "Pool file").
+
+#![tactic(auto)]
+
 ghost use Rattle.std.specs.Prelude.{◌≡◌, ℕ, ◌+◌, ◌^◌, ◌<◌, length, get_or};
 ghost use Rattle.model.specs.PoolFile.{place_of};
 ghost use Rattle.pool_laws.specs.Text.{Marked};

@@ -1,4 +1,7 @@
 // A plan's rows in a pool file (document 01, "Pool file"), laid out in the plan's block of words.
+
+#![tactic(auto)]
+
 ghost use Rattle.std.specs.Prelude.{◌≡◌, ◌+◌, ◌≤◌, length};
 ghost use Rattle.model.specs.Plan.{plan_words};
 ghost use Rattle.pool_plans.specs.Blocks.{WordsIs, counted, BlockIs};
@@ -10,7 +13,7 @@ use model::{
 use pool_number::{Read, read_number};
 
 // The place after what was read, or bytes that break the form or end early.
-#[derive(Drop)]
+#[derive(Clone, Copy)]
 pub enum End {
     At(usize),
     Broken,

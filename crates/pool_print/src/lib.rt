@@ -1,4 +1,7 @@
 // The text that the program `choose` prints for a pool file (document 01, "Pool file").
+
+#![tactic(auto)]
+
 ghost use Rattle.pool_print.specs.Printing.{Prints};
 
 use model::{Chosen, MAX_TEXT};

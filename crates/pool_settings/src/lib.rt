@@ -1,4 +1,7 @@
 // The settings of a plan in a pool file of the second edition (document 02, M-111): their form is checked, and they are passed over.
+
+#![tactic(auto)]
+
 ghost use Rattle.std.specs.Prelude.{ℕ, ◌≡◌};
 ghost use Rattle.model.specs.PoolFile.{many, setting, good_setting};
 ghost use Rattle.pool_settings.specs.Passing.{PassedIs, setting_of};

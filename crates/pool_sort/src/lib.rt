@@ -1,4 +1,7 @@
 // The first step of a selection: its pool, sorted.
+
+#![tactic(auto)]
+
 ghost use Rattle.std.specs.Prelude.{List, ℕ, ◌≤◌, Float, length};
 ghost use Rattle.model.specs.Plan.{plan_at, plan_count};
 ghost use Rattle.model.specs.Calls.{word_request};

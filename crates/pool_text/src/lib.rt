@@ -1,4 +1,7 @@
 // The text that `choose` prints (document 01, "Pool file"): the listing of a selection, or a refusal's number.
+
+#![tactic(auto)]
+
 ghost use Rattle.std.specs.Prelude.{◌≡◌, ◌+◌, ◌≤◌, length};
 ghost use Rattle.model.specs.Lists.{join_below, over};
 ghost use Rattle.model.specs.declared.Edition.TheVariants.{First};

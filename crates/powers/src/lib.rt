@@ -1,4 +1,7 @@
 // Powers, and roots of them (document 01, "Worked-out numbers").
+
+#![tactic(auto)]
+
 ghost use Rattle.std.specs.Prelude.{◌≡◌, ◌+◌, ◌<◌, ◌≤◌};
 ghost use Rattle.model.specs.Real.{real};
 ghost use Rattle.model.specs.Numbers.{P, R};
@@ -39,7 +42,7 @@ pub fn root(v: f64, k: u64) -> f64
 
 // ---- the guess and its neighbours
 
-#[derive(Drop)]
+#[derive(Clone, Copy)]
 struct Four {
     a: f64,
     b: f64,

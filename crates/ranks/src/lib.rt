@@ -1,4 +1,7 @@
 // The fronts that rank the plans to breed from (document 01, "Setting and dimension"; document 02, M-101; Rust: nsga3_generate_offspring of sampler/nsga3.rs).
+
+#![tactic(auto)]
+
 ghost use Rattle.std.specs.Prelude.{◌≡◌, cond, ◌≤◌, length, take};
 ghost use Rattle.model.specs.Edition.{ranks_by_rows};
 ghost use Rattle.model.specs.Lists.{over};

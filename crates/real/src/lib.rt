@@ -1,5 +1,8 @@
 // The float leaves (document 01, "Worked-out numbers"): words and reals, whole numbers and reals, bounds, clamp, midpoint and round. Every public function is
 // total: any word, a NaN or an infinity may go in.
+
+#![tactic(auto)]
+
 ghost use Rattle.std.specs.Prelude.{◌≡◌, false, T, pos, from_bits, to_bits};
 ghost use Rattle.std.specs.Float.{fin, binary64};
 ghost use Rattle.std.specs.Float.Ieee.{lt, to_signed, of_int};

@@ -1,1 +1,3 @@
 // Laws of the float leaves: no code.
+
+#![tactic(auto)]

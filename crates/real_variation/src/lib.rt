@@ -1,4 +1,7 @@
 // Crossover and mutation of reals (document 01, "Setting and dimension"; Rust: sampler/genetic.rs). An operator's exponent k is its eta + 1.
+
+#![tactic(auto)]
+
 ghost use Rattle.std.specs.Prelude.{◌≡◌};
 ghost use Rattle.std.specs.Float.Ieee.{lt};
 ghost use Rattle.model.specs.Real.{◌⊖◌, absolute};
@@ -9,7 +12,7 @@ use model::Rng;
 use rng_util::DrawnF64;
 
 // Two children, and the generator moved on.
-#[derive(Drop)]
+#[derive(Clone, Copy)]
 pub struct DrawnReals {
     pub first: f64,
     pub second: f64,

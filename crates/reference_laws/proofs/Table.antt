@@ -21,8 +21,8 @@ module _ {A : Type 0} (f : ℕ → List A) where
   pub mem_join : {a : A} (n : ℕ) → Memᴰ a (join_below f n) → (i : ℕ) × (i < n) × Memᴰ a (f i)
   unfolding join_below
   mem_join zero m = absurd (Memᴰ.not-nil m)
-  mem_join (suc n) m =
-      ⊎_elim (λ w. let r = mem_join n w in (r.0, omega (arith, r.1), r.2)) (λ w. (n, omega arith, w)) (Memᴰ.append_cases (join_below f n) m)
+  mem_join {a = a} (suc n) m =
+      ⊎_elim (λ w. let r = mem_join {a = a} n w in (r.0, omega (arith, r.1), r.2)) (λ w. (n, omega arith, w)) (Memᴰ.append_cases (join_below f n) m)
 
   pub join_mem : {a : A} (i n : ℕ) → i < n → Memᴰ a (f i) → Memᴰ a (join_below f n)
   unfolding join_below

@@ -1,1 +1,3 @@
 // Laws of the reference table and of its divisions: no code.
+
+#![tactic(auto)]

@@ -1,4 +1,7 @@
 // The refusals of a selection (document 01, "Refusals"). `refusal` is what `nsga3` calls; `no_room` is its part and a generation step's.
+
+#![tactic(auto)]
+
 ghost use Rattle.std.specs.Prelude.{◌≡◌};
 ghost use Rattle.model.specs.Calls.{word_request};
 ghost use Rattle.model.specs.Refusal.{too_short, select_refusal};
@@ -7,7 +10,7 @@ ghost use Rattle.refusals.specs.Checked.{checked};
 use model::{Edition, Rng};
 
 // Whether a call goes through, or the number of the refusal that it meets.
-#[derive(Drop)]
+#[derive(Clone, Copy)]
 pub enum Check {
     Good,
     Refused(u8),

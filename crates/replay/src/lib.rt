@@ -1,5 +1,8 @@
 // The oracle's lines (oracle/README.md): numbers below 2^64 in decimal, parted by single spaces, an input line and its answer line by turns.
 // And the verdict on a case, with the tally of verdicts.
+
+#![tactic(auto)]
+
 ghost use Rattle.std.specs.Prelude.{◌≡◌, ◌+◌, ◌<◌, ◌≤◌, ◌&&◌, length};
 ghost use Rattle.replay.specs.Post.{Within, Ahead};
 ghost use Rattle.replay.specs.Verdicts.{SameFirst, Compares, Judges, up, tallied};
@@ -9,7 +12,7 @@ pub type Words = [u64; 8192];
 
 // What stands at a position: a number, with the position after it and after one space; the end of the line, with the start of the next one; or
 // something else.
-#[derive(Drop)]
+#[derive(Clone, Copy)]
 enum Found {
     Number(u64, usize),
     EndOfLine(usize),
@@ -17,7 +20,7 @@ enum Found {
 }
 
 // A number with one digit more.
-#[derive(Drop)]
+#[derive(Clone, Copy)]
 enum Longer {
     Number(u64),
     NoDigit,
@@ -113,7 +116,7 @@ fn skip_line(bytes: &[u8], at: usize) -> usize
 }
 
 // A line that was read: whether it is numbers and nothing else, at most 8,192; how many; and where the next line starts.
-#[derive(Drop)]
+#[derive(Clone, Copy)]
 pub struct Line {
     pub whole: bool,
     pub count: usize,
@@ -205,7 +208,7 @@ pub fn ahead(i: usize, k: usize) -> usize
 }
 
 // What became of a case. Passed over is one that is no command, or whose input is out of what the function asks.
-#[derive(Drop)]
+#[derive(Clone, Copy)]
 pub enum Verdict {
     Agrees,
     Differs,
@@ -260,7 +263,7 @@ pub fn judged(input: Line, answer: Line, given: &Words, ours: &Words, k: usize) 
     Verdict::Broken
 }
 
-#[derive(Drop)]
+#[derive(Clone, Copy)]
 pub struct Tally {
     pub agree: u64,
     pub differ: u64,

@@ -1,4 +1,7 @@
 // The answers to the oracle's lines of association: normalisation, the nearest lines, and the distance from a line.
+
+#![tactic(auto)]
+
 ghost use Rattle.std.specs.Prelude.{◌≡◌, ◌*◌, ◌<◌, ◌≤◌};
 ghost use Rattle.model.specs.Plan.{max_objectives};
 ghost use Rattle.model.specs.Refusal.{max_pool, max_lines};

@@ -1,5 +1,8 @@
 // The answers to the oracle's lines of breeding: draws of settings, crossover, mutation, the tournament, and the generation step, by its C name, for which a
 // line's plans are laid out as the pool of words that the function takes.
+
+#![tactic(auto)]
+
 ghost use Rattle.std.specs.Prelude.{◌*◌, ◌<◌, ◌≤◌, length};
 ghost use Rattle.model.specs.Plan.{plan_words};
 ghost use Rattle.model.specs.Refusal.{max_size};
@@ -94,7 +97,7 @@ fn exponent(eta: f64) -> u64 {
 }
 
 // What an operator takes: the exponent of its eta, and a candidate with its dimensions, of which and of whose settings the first `count` count.
-#[derive(Drop)]
+#[derive(Clone, Copy)]
 struct Operand {
     k: u64,
     count: usize,
@@ -252,7 +255,7 @@ fn tournament(input: &Words, n: usize, out: &mut Words) -> usize {
 // ---- the generation step
 
 // A line's numbers but for marks and ideal; of dimensions the first n_dims count.
-#[derive(Drop)]
+#[derive(Clone, Copy)]
 struct Step {
     call: Call,
     probability: f64,

@@ -1,4 +1,7 @@
 // Bytes in the oracle's lines: those of an input line, as they stand or in parts, and those of an answer, each or by their digest.
+
+#![tactic(auto)]
+
 ghost use Rattle.std.specs.Prelude.{◌≡◌, ◌≤◌, length};
 
 use replay::Words;

@@ -1,4 +1,7 @@
 // The answers to the oracle's lines of pool files of either edition, good and damaged, by the C name of `choose`.
+
+#![tactic(auto)]
+
 use model::{Chosen, MAX_TEXT};
 use replay::Words;
 

@@ -1,4 +1,7 @@
 // The answers to the oracle's lines of files to be converted, by the C name of `convert`.
+
+#![tactic(auto)]
+
 ghost use Rattle.std.specs.Prelude.{◌≤◌};
 
 use replay::Words;

@@ -1,5 +1,8 @@
 // The answers to the oracle's lines of domination and fronts. A pool is read into flat rows in minimise-space, with each plan's feasibility and
 // violation sum beside them.
+
+#![tactic(auto)]
+
 ghost use Rattle.std.specs.Prelude.{◌≡◌, true, ◌*◌, ◌≤◌, length};
 ghost use Rattle.model.specs.Plan.{max_objectives};
 ghost use Rattle.model.specs.Refusal.{max_pool};

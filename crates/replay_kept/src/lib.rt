@@ -1,4 +1,7 @@
 // The answers to the oracle's lines of selection, by its C name. A line's plans are laid out as the pool of words that the function takes.
+
+#![tactic(auto)]
+
 ghost use Rattle.std.specs.Prelude.{◌*◌, ◌≤◌, length};
 ghost use Rattle.model.specs.Plan.{plan_words};
 

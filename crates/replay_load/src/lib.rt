@@ -1,4 +1,7 @@
 // The answers to the oracle's lines of trial loads, by the C name of `write_load`.
+
+#![tactic(auto)]
+
 ghost use Rattle.std.specs.Prelude.{◌≤◌};
 
 use replay::Words;

@@ -1,4 +1,7 @@
 // Replays the oracle's answers to long inputs: full pools, sessions of 100 plans (oracle/README.md).
+
+#![tactic(auto)]
+
 fn main() {
     replay_program::run();
 }

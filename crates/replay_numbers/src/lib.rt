@@ -1,4 +1,7 @@
 // The answers to the oracle's lines of draws and worked-out numbers.
+
+#![tactic(auto)]
+
 use model::Rng;
 use replay::Words;
 

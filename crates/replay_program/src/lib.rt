@@ -1,4 +1,7 @@
 // What the programs do that replay the oracle's stored answers: all records one after the other, and for each is told how many agree.
+
+#![tactic(auto)]
+
 ghost use Rattle.std.specs.Prelude.{◌≤◌, length};
 ghost use Rattle.replay.specs.Post.{Ahead};
 
@@ -6,7 +9,7 @@ use libc::STDOUT_FILENO;
 use replay::{Tally, Verdict, Words};
 
 // One tally a record, in the order of the stored files, and one for lines that belong to none.
-#[derive(Drop)]
+#[derive(Clone, Copy)]
 struct Tallies {
     of: [Tally; 16],
 }
@@ -62,7 +65,7 @@ fn answer(record: usize, input: &Words, n: usize, out: &mut Words) -> usize {
 }
 
 // A case that was replayed, and where the next one starts.
-#[derive(Drop)]
+#[derive(Clone, Copy)]
 struct Step {
     record: usize,
     verdict: Verdict,

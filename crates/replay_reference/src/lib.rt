@@ -1,4 +1,7 @@
 // The answers to the oracle's lines on the reference table, and of the digests of tables. The line of an opening's divisions and size is a session's.
+
+#![tactic(auto)]
+
 ghost use Rattle.std.specs.Prelude.{◌*◌, ◌≤◌};
 ghost use Rattle.model.specs.Plan.{max_objectives};
 ghost use Rattle.model.specs.Refusal.{max_lines};

@@ -1,5 +1,8 @@
 // The answers to the oracle's lines of sessions, and of an opening alone. A line of sessions is one session: its opening and its calls, each with the history that is handed in; after every call
 // the answer and the state are written.
+
+#![tactic(auto)]
+
 ghost use Rattle.std.specs.Prelude.{◌≡◌, false, List, ℕ, ◌≤◌, ◌<◌, length};
 ghost use Rattle.model.specs.Session.{state, long_enough, max_words};
 ghost use Rattle.model.specs.Property.{SessionOk};
@@ -385,7 +388,7 @@ fn put_answer(
 // ---- a call of a line
 
 // The place after a history's records, and how many it has.
-#[derive(Drop)]
+#[derive(Clone, Copy)]
 struct Taken {
     next: usize,
     held: usize,
@@ -421,7 +424,7 @@ fn take_history(
 }
 
 // Where a replay stands: the session, the next place of the line, and the place of the answer.
-#[derive(Drop)]
+#[derive(Clone, Copy)]
 struct Stand {
     session: Session,
     next: usize,
@@ -429,7 +432,7 @@ struct Stand {
 }
 
 // What a line says of a call, how many records its history has, and the place after it.
-#[derive(Drop)]
+#[derive(Clone, Copy)]
 struct Asked {
     times: u64,
     plan: u64,
@@ -591,7 +594,7 @@ fn calls(input: &Words, n: usize, at: usize, count: u64, session: Session, out: 
 // ---- the opening
 
 // What an opening is given beside marks, size and divisions.
-#[derive(Drop)]
+#[derive(Clone, Copy)]
 struct Given {
     edition: u64,
     probability: f64,

@@ -1,5 +1,8 @@
 // What the oracle's lines are made of beside numbers (oracle/README.md): marks, reals, plans, dimensions and settings, read from a line at a place and
 // written to one; and what the lines of the two calls on a pool have in common.
+
+#![tactic(auto)]
+
 ghost use Rattle.std.specs.Prelude.{◌≡◌, ◌*◌, ◌≤◌};
 ghost use Rattle.model.specs.Plan.{max_settings};
 ghost use Rattle.model.specs.Refusal.{max_size};
@@ -251,13 +254,13 @@ pub fn read_plans(input: &Words, at: usize, n: usize, first: usize, pool: &mut [
 
 // ---- dimensions
 
-#[derive(Drop)]
+#[derive(Clone, Copy)]
 pub struct ReadDimension {
     pub distribution: Distribution,
     pub next: usize,
 }
 
-#[derive(Drop)]
+#[derive(Clone, Copy)]
 pub struct ReadDimensions {
     pub dims: [DimensionInfo; MAX_DIMS],
     pub next: usize,
@@ -358,7 +361,7 @@ pub fn put_dimension(out: &mut Words, at: usize, d: Distribution) -> usize
 
 // ---- settings
 
-#[derive(Drop)]
+#[derive(Clone, Copy)]
 pub struct ReadSettings {
     pub params: [Slot; MAX_DIMS],
     pub next: usize,
@@ -455,7 +458,7 @@ pub fn put_candidates(
 // ---- the calls on a pool: 70 and 87 of edition 1, 71 and 88 of edition 2
 
 // What their lines begin with, but for marks and ideal: the edition, the numbers after the marks, how long the ideal is, and how many plans follow.
-#[derive(Drop)]
+#[derive(Clone, Copy)]
 pub struct Call {
     pub edition: u64,
     pub m: usize,
@@ -489,7 +492,7 @@ pub fn call_of(input: &Words, m: usize, ideal: usize, plans: usize) -> Call
 }
 
 // How much of the lent slices' arrays a call is lent.
-#[derive(Drop)]
+#[derive(Clone, Copy)]
 pub struct Room {
     pub kept: usize,
     pub rules: usize,

@@ -1,4 +1,7 @@
 // The answers to the oracle's lines of water priced by band, by its C name. Litres and bands are lent as they stand in the line.
+
+#![tactic(auto)]
+
 ghost use Rattle.std.specs.Prelude.{◌≤◌, length};
 
 use replay::Words;

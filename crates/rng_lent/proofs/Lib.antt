@@ -1,3 +1,2 @@
 pub mod Xor
 pub mod Words
-pub mod Lent

@@ -1,4 +1,7 @@
 // The generator (document 01, "Draw"): its step and a state's word by value, and above them the draw that moves a lent generator on in its place.
+
+#![tactic(auto)]
+
 ghost use Rattle.std.specs.Prelude.{◌≡◌, ◌*◌, ◌%◌, ◌^◌};
 ghost use Rattle.model.specs.Draw.{drawn, step, word_of, draw_word};
 

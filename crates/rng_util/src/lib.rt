@@ -1,4 +1,7 @@
 // The draws (document 01, "Draw") with plain parameters: each takes the generator by value and answers the value with the generator moved on.
+
+#![tactic(auto)]
+
 ghost use Rattle.std.specs.Prelude.{◌≡◌, ◌<◌};
 ghost use Rattle.model.specs.Draw.{drawn, draw_word, draw_f64, draw_usize, draw_i64, f64_range};
 ghost use Rattle.rng_util.specs.Span.{Spanned};
@@ -6,25 +9,25 @@ ghost use Rattle.rng_util.specs.Span.{Spanned};
 use model::Rng;
 pub use rng_lent::wrapping_mul_u64;
 
-#[derive(Drop)]
+#[derive(Clone, Copy)]
 pub struct DrawnU64 {
     pub value: u64,
     pub rng: Rng,
 }
 
-#[derive(Drop)]
+#[derive(Clone, Copy)]
 pub struct DrawnF64 {
     pub value: f64,
     pub rng: Rng,
 }
 
-#[derive(Drop)]
+#[derive(Clone, Copy)]
 pub struct DrawnUsize {
     pub value: usize,
     pub rng: Rng,
 }
 
-#[derive(Drop)]
+#[derive(Clone, Copy)]
 pub struct DrawnI64 {
     pub value: i64,
     pub rng: Rng,

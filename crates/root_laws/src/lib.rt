@@ -1,1 +1,3 @@
 // Laws of roots in order: no code.
+
+#![tactic(auto)]

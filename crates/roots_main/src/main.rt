@@ -1,36 +1,37 @@
 // Runs document 02's M-113: the root is the greatest double whose power is at most v, roots rise with v, and spreads with the draw. A double is
 // written as its 64 bits.
-use libc::STDOUT_FILENO;
+
+#![tactic(auto)]
 
 // the pattern of 2^52
 const TOP: u64 = 0x4330_0000_0000_0000;
 
-fn text(t: &[u8]) {
-    io::write_all(STDOUT_FILENO, t);
+fn text(rt: &impl Print, t: &[u8]) {
+    let _ = rt.write_all(t);
 }
 
 // A label and a number.
-fn number(label: &[u8], n: u64) {
-    io::write_all(STDOUT_FILENO, label);
-    io::print_decimal(STDOUT_FILENO, n);
+fn number(rt: &impl Print, label: &[u8], n: u64) {
+    let _ = rt.write_all(label);
+    let _ = rt.print(n);
 }
 
 // A label, a power, and whether it is at most v.
-fn compared(label: &[u8], p: f64, v: f64) {
-    number(label, real::word_of_real(p));
+fn compared(rt: &impl Print, label: &[u8], p: f64, v: f64) {
+    number(rt, label, real::word_of_real(p));
     if p <= v {
-        text(b" <= v");
+        text(rt, b" <= v");
     } else {
-        text(b" > v");
+        text(rt, b" > v");
     }
 }
 
 // Whether x is at least the one before it; it ends a line.
-fn ordered(before: f64, x: f64) {
+fn ordered(rt: &impl Print, before: f64, x: f64) {
     if before <= x {
-        text(b", rising\n");
+        text(rt, b", rising\n");
     } else {
-        text(b", FALLING\n");
+        text(rt, b", FALLING\n");
     }
 }
 
@@ -56,22 +57,22 @@ fn further(v: f64, k: u64, from: u64) -> u64 {
 }
 
 // The root, its power, that of the next double, and how many doubles further up have one that is at most v.
-fn root_at(v: f64, k: u64, before: f64) -> f64 {
-    number(b"k ", k);
-    number(b" v ", real::word_of_real(v));
+fn root_at(rt: &impl Print, v: f64, k: u64, before: f64) -> f64 {
+    number(rt, b"k ", k);
+    number(rt, b" v ", real::word_of_real(v));
     let r = powers::root(v, k);
     let at = real::word_of_real(r);
-    number(b": root ", at);
-    compared(b", power ", powers::power(r, k), v);
-    compared(b", next ", powers::power(next(at), k), v);
-    number(b", further ", further(v, k, at));
-    ordered(before, r);
+    number(rt, b": root ", at);
+    compared(rt, b", power ", powers::power(r, k), v);
+    compared(rt, b", next ", powers::power(next(at), k), v);
+    number(rt, b", further ", further(v, k, at));
+    ordered(rt, before, r);
     r
 }
 
 // Roots of 0, the first two doubles above it, 2^-1022, 2^-100, 2^-52, 2^-31, 1 with its neighbours, 1.5^2 and the double before it, 2^31, 3^31 and the
 // double before it, the double before 2^51, and 2^51.
-fn roots(k: u64) {
+fn roots(rt: &impl Print, k: u64) {
     let values: [u64; 17] = [
         0x0000_0000_0000_0000,
         0x0000_0000_0000_0001,
@@ -93,22 +94,22 @@ fn roots(k: u64) {
     ];
     let mut last = 0.0;
     for i in 0..17 {
-        last = root_at(real::real_of_word(values[i]), k, last);
+        last = root_at(rt, real::real_of_word(values[i]), k, last);
     }
 }
 
 // The spread of a draw.
-fn spread_at(u: f64, k: u64, before: f64) -> f64 {
-    number(b"k ", k);
-    number(b" draw ", real::word_of_real(u));
+fn spread_at(rt: &impl Print, u: f64, k: u64, before: f64) -> f64 {
+    number(rt, b"k ", k);
+    number(rt, b" draw ", real::word_of_real(u));
     let s = real_variation::spread(u, k);
-    number(b": spread ", real::word_of_real(s));
-    ordered(before, s);
+    number(rt, b": spread ", real::word_of_real(s));
+    ordered(rt, before, s);
     s
 }
 
 // Spreads of the draws 0, 2^-52, 2^-51, 1/4, 3/8, 1/2 with its neighbours, 3/4 with its neighbours, 1 - 2^-51, 1 - 2^-52; and of 1 - 2^-53, which is none.
-fn spreads(k: u64) {
+fn spreads(rt: &impl Print, k: u64) {
     let draws: [u64; 14] = [
         0x0000_0000_0000_0000,
         0x3cb0_0000_0000_0000,
@@ -127,17 +128,17 @@ fn spreads(k: u64) {
     ];
     let mut last = 0.0;
     for i in 0..14 {
-        last = spread_at(real::real_of_word(draws[i]), k, last);
+        last = spread_at(rt, real::real_of_word(draws[i]), k, last);
     }
 }
 
-fn main() {
-    roots(1);
-    roots(2);
-    roots(31);
-    roots(100);
-    spreads(1);
-    spreads(2);
-    spreads(31);
-    spreads(100);
+fn main(rt: HostRuntime) {
+    roots(&rt, 1);
+    roots(&rt, 2);
+    roots(&rt, 31);
+    roots(&rt, 100);
+    spreads(&rt, 1);
+    spreads(&rt, 2);
+    spreads(&rt, 31);
+    spreads(&rt, 100);
 }

@@ -1,4 +1,7 @@
 // The rules of a kept list's places as the list of rules holds them (document 02, M-108).
+
+#![tactic(auto)]
+
 ghost use Rattle.std.specs.Prelude.{◌≡◌};
 ghost use Rattle.model.specs.Kept.{mark_of, rule_of};
 

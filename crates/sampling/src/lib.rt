@@ -1,4 +1,7 @@
 // Draws of settings (document 01, "Setting and dimension"; Rust: sampler/common.rs).
+
+#![tactic(auto)]
+
 ghost use Rattle.std.specs.Prelude.{◌≡◌, true, false, pos, ◌≤ℤ◌};
 ghost use Rattle.model.specs.Draw.{drawn};
 ghost use Rattle.model.specs.Setting.{step_above0, valid_dimension, last_step, sample_float, sample_int, sample_random, sample_all, dimensions_of};
@@ -30,6 +33,7 @@ fn sample_on_step(low: f64, high: f64, step: f64, rng: Rng) -> DrawnF64
 }
 
 // A real of low..high, on the step where there is one.
+#[tactic(auto, unfolding(model::specs::Setting::sample_float))]
 fn sample_real(low: f64, high: f64, step: OptionF64, rng: Rng) -> DrawnF64
     requires { StepSpanned low high step }
     ensures { drawn result.value result.rng.s ≡ sample_float low high step rng.s }
@@ -69,6 +73,7 @@ fn sample_stepped(low: i64, high: i64, step: i64, rng: Rng) -> DrawnI64
 }
 
 // A whole number of low..=high, by the step where there is one.
+#[tactic(auto, using(list_laws::proofs::Bools::true_T, settings::proofs::Signed::held, settings::proofs::Signed::back), unfolding(model::specs::Setting::sample_int))]
 fn sample_whole(low: i64, high: i64, step: OptionI64, rng: Rng) -> DrawnI64
     requires { Spanned low high × (step_above0 step ≡ true) }
     ensures { drawn result.value result.rng.s ≡ sample_int low high step rng.s }

@@ -1,5 +1,8 @@
 // The lists that a selection hands out, filled from their front. `nsga3` calls `list_whole` and `select_whole`, `ranks` calls `copy_first`; the other functions are
 // their parts.
+
+#![tactic(auto)]
+
 ghost use Rattle.std.specs.Prelude.{◌≡◌, ◌++◌, ◌-◌, ◌<◌, ◌≤◌, length, take, replicate};
 ghost use Rattle.model.specs.Lists.{over};
 ghost use Rattle.model.specs.declared.Rule.TheVariants as rule;

@@ -1,5 +1,8 @@
 // The session call (document 01, "Session"; Rust: sampler/nsga3.rs): a plan asks for a setting, and where the generation's plans all stand in history a new
 // generation is bred first.
+
+#![tactic(auto)]
+
 ghost use Rattle.std.specs.Prelude.{◌≡◌, true, false, List, [], ℕ};
 ghost use Rattle.std.proofs.Math.Option.{some};
 ghost use Rattle.model.specs.Session.{state, adds_for, discovers, long_enough};

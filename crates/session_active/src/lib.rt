@@ -1,5 +1,8 @@
 // The session calls that add no dimension (document 01, "Session"; Rust: sampler/nsga3.rs): where the generation's plans all stand in history a new generation
 // is bred first. All functions are internal.
+
+#![tactic(auto)]
+
 ghost use Rattle.std.specs.Prelude.{◌≡◌, true, false};
 ghost use Rattle.model.specs.Session.{state, discovers_for, breeds};
 ghost use Rattle.model.specs.declared.Phase.TheVariants as phase;

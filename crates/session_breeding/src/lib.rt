@@ -1,5 +1,8 @@
 // A session's breeding (documents 01, "Session", and 02, M-100; Rust: sampler/nsga3.rs): the generation step on the plans that wait and the children behind
 // them. All functions are internal.
+
+#![tactic(auto)]
+
 ghost use Rattle.std.specs.Prelude.{◌≡◌, ℕ, ◌*◌, ◌≤◌, List, [], length, take};
 ghost use Rattle.std.proofs.Math.Option.{none, some};
 ghost use Rattle.model.specs.Edition.{waiting_of};
@@ -124,7 +127,7 @@ fn let_wait(
 }
 
 // What a generation leaves of the ideal: the session's, and its own part.
-#[derive(Drop)]
+#[derive(Clone, Copy)]
 pub struct Left {
     pub ideal: [f64; 8],
     pub own: [f64; 8],
@@ -194,7 +197,7 @@ fn bred_on(
 }
 
 // What breeding answers: the refusal that it meets, with the session as it was, or the session after it.
-#[derive(Drop)]
+#[derive(Clone, Copy)]
 pub struct Bred {
     pub outcome: Outcome,
     pub session: Session,

@@ -1,5 +1,8 @@
 // A session as a caller holds it: lent arrays of full length, and a history of which the first records count. Calls go by their C names: a session's words are
 // written for each, and read back. They keep the session property, which an opening that is ready gives.
+
+#![tactic(auto)]
+
 ghost use Rattle.std.specs.Prelude.{◌*◌, ◌≤◌, length};
 ghost use Rattle.model.specs.Plan.{plan_words};
 ghost use Rattle.model.specs.Session.{state};

@@ -1,4 +1,7 @@
 // A session's words, written into a lent slice (specs/Coding.antt of `session_words` has the layout). All functions are internal.
+
+#![tactic(auto)]
+
 ghost use Rattle.std.specs.Prelude.{◌≡◌, ◌+◌, ◌*◌, ◌≤◌, length};
 ghost use Rattle.model.specs.declared.Distribution.TheVariants as dist;
 ghost use Rattle.model.specs.Lists.{join_below, over};

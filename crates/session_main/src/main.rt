@@ -1,6 +1,9 @@
 // Runs document 01's cases beside the proved table: 2,048 plans of a generation are open and the next new number gets 11, until breeding frees all of them; and
 // a constraint of 2^1000 passes where the next double gets 8. And a session of edition 2, whose kept plans wait and come first in the next pool (document 02,
 // M-100).
+
+#![tactic(auto)]
+
 ghost use Rattle.std.specs.Prelude.{ℕ, ◌≤◌, List};
 ghost use Rattle.model.specs.Session.{state};
 ghost use Rattle.model.specs.Property.{SessionOk};
@@ -162,7 +165,7 @@ fn put_records(history: &mut History) {
 // ---- the calls
 
 // The calls that are told: from which plan number on, how many, and on how many records of the history.
-#[derive(Drop)]
+#[derive(Clone, Copy)]
 struct Asking {
     plan: u64,
     times: u64,

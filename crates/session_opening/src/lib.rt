@@ -1,4 +1,7 @@
 // The public call `open` (document 01, "Session"; Rust: sampler/nsga3.rs). The other functions are internal.
+
+#![tactic(auto)]
+
 ghost use Rattle.std.specs.Prelude.{◌≡◌, false, ◌≤◌, length, replicate};
 ghost use Rattle.std.proofs.Math.Option.{some};
 ghost use Rattle.model.specs.Lists.{over};

@@ -1,4 +1,7 @@
 // Refusals 8 and 9 for the plans that a session breeds from (document 02, M-100): those that wait, and the children. All functions are internal.
+
+#![tactic(auto)]
+
 ghost use Rattle.std.specs.Prelude.{◌≡◌, ◌++◌, ◌*◌, length};
 ghost use Rattle.model.specs.Plan.{plan_count, plan_words};
 ghost use Rattle.model.specs.Session.{operators_of};

@@ -1,5 +1,8 @@
 // What a session call looks at: the plans of a generation and their records in history, and the tests of a call (document 01, "Session"; Rust:
 // sampler/nsga3.rs). All functions are internal.
+
+#![tactic(auto)]
+
 ghost use Rattle.std.specs.Prelude.{◌≡◌, true, not, ◌&&◌, ℕ, ◌+◌, ◌-◌, ◌*◌, ◌≤◌, ◌<◌, leb, length, get_or, take};
 ghost use Rattle.std.proofs.lemmas.List.Edits.{sets};
 ghost use Rattle.model.specs.Lists.{all_below, has, over, place_in};

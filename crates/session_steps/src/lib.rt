@@ -1,5 +1,8 @@
 // What an accepted session call does to the state where it does not breed (document 01, "Session"; Rust: sampler/nsga3.rs, sampler/genetic.rs). All functions are
 // internal.
+
+#![tactic(auto)]
+
 ghost use Rattle.std.specs.Prelude.{◌≡◌, true, false, List, [], ℕ, ◌*◌, ◌≤◌, ◌<◌, length};
 ghost use Rattle.model.specs.Setting.{valid_dimension, max_dims};
 ghost use Rattle.model.specs.Refusal.{bad_dimensions};

@@ -1,5 +1,8 @@
 // A session and its dimensions read from words of a lent slice, which programs in other languages hold (specs/Coding.antt has the layout). All functions are
 // internal.
+
+#![tactic(auto)]
+
 ghost use Rattle.std.specs.Prelude.{◌≡◌, ◌%◌, ◌≤◌, get_or};
 ghost use Rattle.std.specs.Float.{binary64};
 ghost use Rattle.std.specs.Float.Ieee.{of_bits};

@@ -1,4 +1,7 @@
 // Settings (document 01, "Setting and dimension"; Rust: param.rs): a dimension's kind and bounds, settings as words, and arrays before they are filled.
+
+#![tactic(auto)]
+
 ghost use Rattle.std.specs.Prelude.{◌≡◌, ◌&&◌, replicate};
 ghost use Rattle.std.specs.Int.Signed.{le_z};
 ghost use Rattle.model.specs.Setting.{kind_of, kind_of_dimension, max_dims, in_bounds, to_word, of_word};
@@ -8,20 +11,20 @@ ghost use Rattle.settings.specs.Candidate.{blank_slot};
 use model::{CategoricalDistribution, DimensionInfo, Distribution, MAX_DIMS, ParamValue, Rng};
 
 // A setting as a place of a candidate holds it.
-#[derive(Drop)]
+#[derive(Clone, Copy)]
 pub struct Slot {
     pub value: ParamValue,
 }
 
 // What a draw answers: its value, and the generator moved on.
-#[derive(Drop)]
+#[derive(Clone, Copy)]
 pub struct DrawnValue {
     pub value: ParamValue,
     pub rng: Rng,
 }
 
 // Of a candidate the first n places count, n being the number of dimensions.
-#[derive(Drop)]
+#[derive(Clone, Copy)]
 pub struct DrawnCandidate {
     pub params: [Slot; MAX_DIMS],
     pub rng: Rng,
@@ -60,6 +63,7 @@ pub fn kind_of(v: ParamValue) -> u64
 }
 
 // v is of its dimension's kind and within its bounds.
+#[tactic(auto, unfolding(model::specs::Setting::in_bounds))]
 pub fn in_bounds(d: Distribution, v: ParamValue) -> bool
     ensures { result ≡ in_bounds d v }
 {

@@ -1,4 +1,7 @@
 // Document 02, M-112: the association of the plans that shape the scale, and a line for those alone.
+
+#![tactic(auto)]
+
 ghost use Rattle.std.specs.Prelude.{◌≡◌, ◌*◌, ◌<◌, ◌≤◌, length};
 ghost use Rattle.model.specs.Plan.{max_objectives};
 ghost use Rattle.model.specs.Refusal.{max_pool};

@@ -1,5 +1,8 @@
 // Document 02, M-112: the marked plans of a pool by themselves. `list_marked` lists their places, `gather_rows` lays their rows one after the other, and
 // `spread` lays what is worked out for them back at their places; the other functions are parts of these.
+
+#![tactic(auto)]
+
 ghost use Rattle.std.specs.Prelude.{◌≡◌, true, cond, ℕ, ◌+◌, ◌*◌, ◌<◌, ◌≤◌, length, get_or};
 ghost use Rattle.std.specs.Float.{nan};
 ghost use Rattle.std.proofs.lemmas.List.Edits.{sets};
@@ -13,6 +16,7 @@ ghost use Rattle.shaper_rows.specs.Gathered.{places_of, earlier, Spreads};
 use model::NO_LINE;
 
 // The places of the marked plans among the first n, and how many there are.
+#[tactic(auto, using(crate::proofs::Ranks::earlier_none, crate::proofs::Ranks::earlier_more, crate::proofs::Ranks::places_none, crate::proofs::Ranks::places_yes, crate::proofs::Ranks::places_no, crate::proofs::list_marked::Statement::statement))]
 pub fn list_marked(marks: &[bool], n: usize, places: &mut [usize]) -> usize
     requires { (n ≤ length marks.now) × (n ≤ length places.old) }
     ensures { (result ≡ earlier marks.now n) × (places.new ≡ over (places_of marks.now n) places.old) }

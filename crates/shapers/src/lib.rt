@@ -1,4 +1,7 @@
 // Document 02, M-112: which plans shape the scale, as a mark for each plan. `mark_shapers` is the layer's call; the other functions are its parts.
+
+#![tactic(auto)]
+
 ghost use Rattle.std.specs.Prelude.{◌≡◌, true, ℕ, ◌<◌, ◌≤◌, length, get_or};
 ghost use Rattle.model.specs.Lists.{list_below, over};
 ghost use Rattle.model.specs.Plan.{plan_at, plan_count, max_constraints};

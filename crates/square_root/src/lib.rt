@@ -1,5 +1,8 @@
 // The square root (document 01, "Worked-out numbers"). It takes the bits apart, shifts the significand up by its leading zeros, evens out the exponent,
 // takes the root of the significand digit by digit, and rounds by the remainder.
+
+#![tactic(auto)]
+
 ghost use Rattle.std.specs.Prelude.{◌≡◌, cond, ◌*◌, ◌^◌, ◌<◌, ◌≤◌, leb};
 ghost use Rattle.std.specs.Float.{binary64};
 ghost use Rattle.std.specs.Float.Ieee.{of_bits};

@@ -1,4 +1,7 @@
 // The refusals of a generation step (document 01, "Refusals"; Rust: nsga3_generate_offspring of sampler/nsga3.rs).
+
+#![tactic(auto)]
+
 ghost use Rattle.std.specs.Prelude.{◌≡◌, ◌≤◌};
 ghost use Rattle.model.specs.Refusal.{max_size, step_refusal, step_too_short};
 ghost use Rattle.model.specs.Calls.{word_request};

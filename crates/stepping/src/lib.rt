@@ -1,5 +1,8 @@
 // Floats on a step (document 02, M-103; Rust: `sample_random` of sampler/common.rs): the greatest k, the value of k steps, and the Floats of bred children moved
 // to their nearest step. Every function is total but the last.
+
+#![tactic(auto)]
+
 ghost use Rattle.std.specs.Prelude.{◌≡◌, ◌*◌, ◌%◌, ◌≤◌, length, get_or};
 ghost use Rattle.model.specs.Lists.{list_below, over};
 ghost use Rattle.model.specs.Setting.{max_dims, dimensions_of, last_step, on_step, nearest_step, move_float, move_setting};
@@ -36,6 +39,7 @@ fn nearest_step(low: f64, high: f64, step: f64, v: f64) -> i64
     k
 }
 
+#[tactic(auto, using(settings::proofs::Signed::back, crate::proofs::move_float::Statement::statement), unfolding(model::specs::Setting::move_float))]
 fn move_float(low: f64, high: f64, step: OptionF64, v: f64) -> f64
     ensures { result ≡ move_float low high step v }
 {
@@ -46,6 +50,7 @@ fn move_float(low: f64, high: f64, step: OptionF64, v: f64) -> f64
 }
 
 // A Float of a dimension with a step is moved, and any other setting stands.
+#[tactic(auto, using(crate::proofs::move_setting::Statement::statement), unfolding(model::specs::Setting::move_setting))]
 fn move_setting(d: Distribution, v: ParamValue) -> ParamValue
     ensures { result ≡ move_setting d v }
 {

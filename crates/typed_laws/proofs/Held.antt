@@ -4,7 +4,7 @@ use mathlib.Core.Path.{◌≡◌, sym, ◌∙◌}
 use mathlib.Core.List.{List, [], ◌∷◌, map}
 use native.Mathlib.Nat.{not-suc-le-zero}
 use native.Mathlib.Omega.{arith}
-use lib.ListN.{length, get_or, length-map}
+use lib.ListN.{length, get_or}
 use mir.Val.{Val}
 use base.Fml.{Fml}
 use denote.Shadow.{shadow}
@@ -58,7 +58,7 @@ info_held x vs p = dimension_held x.distribution _ p.1.1.0
 
 -- what holds of each element by its type holds of the element at each place
 module _ {A : Type 0} (f : A → List Val → Fml) (P : A → Type 0) (one : (x : A) (vs : List Val) → shadow (f x vs) → P x) (z : A) where
-  each_at : (xs : List A) (us : List Val) → shadow (each A f xs us) → (i : ℕ) → i < length xs → P (get_or xs i z)
+  pub each_at : (xs : List A) (us : List Val) → shadow (each A f xs us) → (i : ℕ) → i < length xs → P (get_or xs i z)
   each_at [] us p i h = absurd (not-suc-le-zero h)
   each_at (x ∷ xs) [] p i h = absurd p
   each_at (x ∷ xs) (u ∷ us) p zero h = one x (u ∷ []) p.0
@@ -80,28 +80,28 @@ each_field f into P one z xs us p = each_at (λ x vs. f (into x) vs) P one z xs 
 
 module _ (o : Operators) (vs : List Val) (p : Is (struct.row operators.the_type) o vs) where
   operators-dimensions : length o.dimensions ≡ max_dims
-  operators-dimensions = sym (length-map o.dimensions _) ∙ p.1.1.0.1.0.1
+  operators-dimensions = p.1.1.0.1.0.1
 
   pub operators-held : (d : ℕ) → d < max_dims → Held (dimensions_of o.dimensions d)
   operators-held d h =
       let e = operators-dimensions in
       let q = p.1.1.0 in
-      each_field _ _ (λ (x : DimensionInfo). Held x.distribution) info_held no_dimension o.dimensions q.0 q.1.1 d (omega arith)
+      each_at (λ x us. (struct.row info.the_type).own_val x us) (λ (x : DimensionInfo). Held x.distribution) info_held no_dimension o.dimensions q.0 q.1.1 d (omega arith)
 
 -- ---- a session's
 
 module _ (s : Session) (vs : List Val) (p : Is (struct.row session.the_type) s vs) where
   pub session-dimensions : length s.dimensions ≡ max_dims
-  session-dimensions = sym (length-map s.dimensions _) ∙ p.1.1.1.1.1.1.0.1.0.1
+  session-dimensions = p.1.1.1.1.1.1.0.1.0.1
 
   pub session-held : (d : ℕ) → d < max_dims → Held (dimension_of s d)
   session-held d h =
       let e = session-dimensions in
       let q = p.1.1.1.1.1.1.0 in
-      each_field _ _ (λ (x : DimensionInfo). Held x.distribution) info_held no_dimension s.dimensions q.0 q.1.1 d (omega arith)
+      each_at (λ x us. (struct.row info.the_type).own_val x us) (λ (x : DimensionInfo). Held x.distribution) info_held no_dimension s.dimensions q.0 q.1.1 d (omega arith)
 
   pub session-ideal : length s.ideal_point ≡ 8
-  session-ideal = sym (length-map s.ideal_point _) ∙ p.1.1.1.1.1.1.1.0.1.0.1
+  session-ideal = p.1.1.1.1.1.1.1.0.1.0.1
 
   pub session-directions : length s.config.directions ≡ 8
-  session-directions = sym (length-map s.config.directions _) ∙ p.1.1.0.1.1.1.1.0.1.0.1
+  session-directions = p.1.1.0.1.1.1.1.0.1.0.1

@@ -1,5 +1,8 @@
 // Crossover and mutation of single settings (document 01, "Setting and dimension"; Rust: sampler/genetic.rs). An operator's exponent k is its
 // eta + 1.
+
+#![tactic(auto)]
+
 ghost use Rattle.std.specs.Prelude.{◌≡◌, true};
 ghost use Rattle.model.specs.Draw.{drawn};
 ghost use Rattle.model.specs.Setting.{valid_dimension, exponent_of, pair, clamp_int, to_int, cross_float, cross_int, cross_categorical};
@@ -11,7 +14,7 @@ use model::{Distribution, FloatDistribution, IntDistribution, ParamValue, Rng};
 use settings::DrawnValue;
 
 // Two children, and the generator moved on.
-#[derive(Drop)]
+#[derive(Clone, Copy)]
 pub struct DrawnPair {
     pub first: ParamValue,
     pub second: ParamValue,

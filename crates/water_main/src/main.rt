@@ -1,5 +1,8 @@
 // Worked examples of water priced by band (document 02, M-110), each to be followed by hand. A price is in hundredths of a cent, a cost in cents. What a call
 // does not write stays 9.
+
+#![tactic(auto)]
+
 ghost use Rattle.std.specs.Prelude.{◌≤◌, length};
 
 use libc::STDOUT_FILENO;

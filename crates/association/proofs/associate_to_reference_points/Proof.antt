@@ -9,24 +9,24 @@ use Rattle.list_laws.proofs.Built.{over_below}
 use Rattle.association.proofs.associate_to_reference_points.Statement.{statement}
 use Rattle.association.proofs.associate_to_reference_points.Tie as tie
 
-known-norms-requires : tie.Need-known-norms-requires
+known-norms-requires : tie.Need-known_norms-known-requires
 known-norms-requires c κs = tt
 
-slice-aggregate-line-norms : tie.Need-slice-aggregate-line-norms
+slice-aggregate-line-norms : tie.Need-slice_bounds-line_norms-end
 slice-aggregate-line-norms c = refl
 
-line-norms-requires : tie.Need-line-norms-requires
+line-norms-requires : tie.Need-line_norms-requires
 line-norms-requires c κs =
-    let e = c.before.before.before.before.before.before.args in
-    let k : c.before.known-norms.result ≤ e.n-lines = omega arith in
+    let e = c.args in
+    let k : c.known_norms-known.result ≤ e.n_lines = omega arith in
     (omega (arith, mul-le-mul_right e.m k), omega arith)
 
-slice-aggregate-nearest-lines : tie.Need-slice-aggregate-nearest-lines
+slice-aggregate-nearest-lines : tie.Need-slice_bounds-nearest_lines-end
 slice-aggregate-nearest-lines c = search rules
 
-nearest-lines-requires : tie.Need-nearest-lines-requires
+nearest-lines-requires : tie.Need-nearest_lines-requires
 nearest-lines-requires c κs =
-    let n = c.before.before.before.before.line-norms in (
+    let n = c.line_norms in (
       omega arith,
       omega arith,
       omega arith,
@@ -35,10 +35,10 @@ nearest-lines-requires c κs =
       omega arith,
     )
 
-same_length : tie.Need-same-length
+same_length : tie.Need-shape_of-lines
 same_length c = search rules
 
-same-length-2 : tie.Need-same-length-2
+same-length-2 : tie.Need-shape_of-distances
 same-length-2 c = search rules
 
 returns : tie.Need-returns

@@ -8,58 +8,58 @@ use native.Mathlib.Omega.{arith}
 use Rattle.block_lines.proofs.hand_out.Statement.{statement}
 use Rattle.block_lines.proofs.hand_out.Tie as tie
 
-abbrev invariant_loop : tie.invariant-loop
+abbrev invariant_loop : tie.invariant-loop-b
 invariant_loop edition near best start len lines₀ distances₀ b₀ lines distances b =
     (b ≤ len) × (length lines ≡ length lines₀) × (length distances ≡ length distances₀) × Handed edition near best start b lines₀ lines distances₀ distances
 
-abbrev decreases_loop : tie.decreases-loop
+abbrev decreases_loop : tie.decreases-loop-b
 decreases_loop edition near best start len lines₀ distances₀ b₀ lines distances b = len - b
 
-loop-holds : tie.Need-loop-init invariant_loop decreases_loop
+loop-holds : tie.Need-loop-b-init invariant_loop decreases_loop
 loop-holds c = (omega arith, refl, refl, record { line = run_none _ _ _; distance = run_none _ _ _ })
 
-mul-lines : tie.Need-overflow-mul-lines invariant_loop decreases_loop
+mul-lines : tie.Need-offset_bounds-near-b invariant_loop decreases_loop
 mul-lines c = omega arith
 
-shared-slice-read-lines : tie.Need-shared-slice-read-lines invariant_loop decreases_loop
+shared-slice-read-lines : tie.Need-bounds-near-b invariant_loop decreases_loop
 shared-slice-read-lines c = omega arith
 
-add-lines : tie.Need-overflow-add-lines invariant_loop decreases_loop
+add-lines : tie.Need-overflow_add-lines invariant_loop decreases_loop
 add-lines c = omega arith
 
-mul-lines-2 : tie.Need-overflow-mul-lines-2 invariant_loop decreases_loop
+mul-lines-2 : tie.Need-offset_bounds-lines-start invariant_loop decreases_loop
 mul-lines-2 c = omega arith
 
-slice-write-lines : tie.Need-slice-write-lines invariant_loop decreases_loop
+slice-write-lines : tie.Need-bounds-lines-start invariant_loop decreases_loop
 slice-write-lines c = omega arith
 
-mul-measure : tie.Need-overflow-mul-measure invariant_loop decreases_loop
+mul-measure : tie.Need-offset_bounds-best-b invariant_loop decreases_loop
 mul-measure c = omega arith
 
-shared-slice-read-measure : tie.Need-shared-slice-read-measure invariant_loop decreases_loop
+shared-slice-read-measure : tie.Need-bounds-best-b invariant_loop decreases_loop
 shared-slice-read-measure c = omega arith
 
 measure-requires : tie.Need-measure-requires invariant_loop decreases_loop
 measure-requires c κs = tt
 
-add-distances : tie.Need-overflow-add-distances invariant_loop decreases_loop
+add-distances : tie.Need-overflow_add-distances invariant_loop decreases_loop
 add-distances c = omega arith
 
-mul-distances : tie.Need-overflow-mul-distances invariant_loop decreases_loop
+mul-distances : tie.Need-offset_bounds-distances-start invariant_loop decreases_loop
 mul-distances c = omega arith
 
-slice-write-distances : tie.Need-slice-write-distances invariant_loop decreases_loop
+slice-write-distances : tie.Need-bounds-distances-start invariant_loop decreases_loop
 slice-write-distances c = omega arith
 
-add-b : tie.Need-overflow-add-b invariant_loop decreases_loop
+add-b : tie.Need-overflow_add-b invariant_loop decreases_loop
 add-b c = omega arith
 
-loop-less : tie.Need-loop-smaller invariant_loop decreases_loop
+loop-less : tie.Need-loop-b-smaller invariant_loop decreases_loop
 loop-less c = omega arith
 
-loop-again : tie.Need-loop-preserved invariant_loop decreases_loop
+loop-again : tie.Need-loop-b-preserved invariant_loop decreases_loop
 loop-again c =
-    let l = c.before.before.before.before.loop in
+    let l = c.loop-b in
     let h = l.invariant.3 in (
       omega arith,
       simp length-set l.invariant.1,
@@ -67,16 +67,16 @@ loop-again c =
       record { line = run_more _ _ _ _ _ _ h.line refl; distance = run_more _ _ _ _ _ _ h.distance c.measure.ensures },
     )
 
-same_length : tie.Need-same-length invariant_loop decreases_loop
-same_length c = c.before.loop.invariant.1
+same_length : tie.Need-shape_of-lines invariant_loop decreases_loop
+same_length c = c.loop-b.invariant.1
 
-same-length-2 : tie.Need-same-length-2 invariant_loop decreases_loop
-same-length-2 c = c.before.loop.invariant.2
+same-length-2 : tie.Need-shape_of-distances invariant_loop decreases_loop
+same-length-2 c = c.loop-b.invariant.2
 
 returns : tie.Need-returns invariant_loop decreases_loop
 returns c =
-    let l = c.before.loop in
-    let e : l.b ≡ c.before.before.before.before.before.before.args.len = omega arith in
+    let l = c.loop-b in
+    let e : l.b ≡ c.args.len = omega arith in
     rw e at l.invariant.3
 
 pub hand_out_spec : {M : Type 1} → statement M

@@ -8,14 +8,14 @@ use Rattle.list_laws.proofs.Bools.{past, and_not}
 use Rattle.block_search.proofs.is_close.Statement.{statement}
 use Rattle.block_search.proofs.is_close.Tie as tie
 
-returns : tie.Need-returns
+returns : tie.Need-returns-then-squares-best
 unfolding of_bits
-returns c = sym (past c.if1.true refl)
+returns c = sym (past c.if-squares-best.true refl)
 
-returns-2 : tie.Need-returns-2
+returns-2 : tie.Need-returns-else-squares-best
 returns-2 c =
-    let a = c.before.args in
-    c.if1.false ∙ sym (and_not (lt a.squares a.best) (not (lt a.squares (a.best ⊗ nearly_one))) c.if1.false)
+    let a = c.args in
+    c.if-squares-best.false ∙ sym (and_not (lt a.squares a.best) (not (lt a.squares (a.best ⊗ nearly_one))) c.if-squares-best.false)
 
 pub is_close_spec : {M : Type 1} → statement M
 is_close_spec = tie.close (tie.spec returns returns-2)

@@ -11,44 +11,44 @@ use borrow.Author.Rules.{rules}
 use Rattle.block_search.proofs.next_line.Statement.{statement}
 use Rattle.block_search.proofs.next_line.Tie as tie
 
-returns : tie.Need-returns
+returns : tie.Need-returns-then-norm
 unfolding of_bits
 returns c =
     let e = c.before.before.before.before.before in
     let a = e.args in
-    turn_short a.edition a.x.now a.m a.len a.table.now a.line a.norm _ _ e.requires.3 c.if1.true e.requires.6
+    turn_short a.edition a.x.now a.m a.len a.table.now a.line a.norm _ _ e.requires.3 c.if-norm.true e.requires.6
 
-mul-line-squares : tie.Need-overflow-mul-line-squares
+mul-line-squares : tie.Need-overflow_mul-line
 mul-line-squares c = search rules
 
-slice-aggregate-line-squares : tie.Need-slice-aggregate-line-squares
+slice-aggregate-line-squares : tie.Need-slice_bounds-line_squares-end
 slice-aggregate-line-squares c = refl
 
-line-squares-requires : tie.Need-line-squares-requires
+line-squares-requires : tie.Need-line_squares-requires
 unfolding of_bits neg
-line-squares-requires c κs = (omega arith, omega arith, omega arith, omega arith, record { at = λ b h. get_or-replicate max_block b minus_nought nan (omega arith) }, c.before.before.before.before.before.before.requires.3, c.before.if1.false)
+line-squares-requires c κs = (omega arith, omega arith, omega arith, omega arith, record { at = λ b h. get_or-replicate max_block b minus_nought nan (omega arith) }, c.requires.3, c.if-norm.false)
 
-slice-aggregate-keep : tie.Need-slice-aggregate-keep
+slice-aggregate-keep : tie.Need-slice_bounds-keep-end
 slice-aggregate-keep c = search rules
 
 keep-requires : tie.Need-keep-requires
 keep-requires c κs = search rules
 
-same_length : tie.Need-same-length
+same_length : tie.Need-shape_of-lines
 same_length c = search rules
 
-same-length-2 : tie.Need-same-length-2
+same-length-2 : tie.Need-shape_of-best
 same-length-2 c = search rules
 
-returns-2 : tie.Need-returns-2
+returns-2 : tie.Need-returns
 returns-2 c =
     let e = c.before.before.before.before.before.before.before.before.before.before.before.before.before.before.before.before in
     let a = e.args in
-    c.before.before.before.before.keep.ensures (block_distance a.edition a.x.now a.m a.len a.table.now) e.requires.6
-    (turn_squares a.edition a.x.now a.m a.len a.table.now a.line _ c.before.before.before.before.before.before.before.before.before.line-squares.ensures)
+    c.keep.ensures (block_distance a.edition a.x.now a.m a.len a.table.now) e.requires.6
+    (turn_squares a.edition a.x.now a.m a.len a.table.now a.line _ c.line_squares.ensures)
 
-pub next-line_spec : {M : Type 1} → statement M
-next-line_spec =
+pub next_line_spec : {M : Type 1} → statement M
+next_line_spec =
     tie.close
     (tie.spec
     returns

@@ -13,49 +13,49 @@ use borrow.Author.Rules.{rules}
 use Rattle.columns.proofs.line_squares.Statement.{statement}
 use Rattle.columns.proofs.line_squares.Tie as tie
 
-three-squares-requires : tie.Need-three-squares-requires
+three-squares-requires : tie.Need-three_squares-requires
 three-squares-requires c κs =
     let s = c.before.before.before.before.before in
     let a = s.args in
     let r = from a.table.now a.line_at in
-    let e = c.before.if1.true in
+    let e = c.if-m-eq3.true in
     (subst (λ (k : ℕ). k * a.len ≤ length a.x.now) e s.requires.0, omega arith, omega arith, subst (λ (k : ℕ). a.norm ≡ dot k r r) e s.requires.5, s.requires.6)
 
-same_length : tie.Need-same-length
+same_length : tie.Need-shape_of-squares-then-m-eq3
 same_length c = search rules
 
-returns : tie.Need-returns
+returns : tie.Need-returns-then-m-eq3
 returns c =
-    let a = c.before.before.before.before.before.before.before.before.args in
-    so_many a.x.now a.m 3 a.len (from a.table.now a.line_at) _ c.before.before.before.before.if1.true c.before.before.three-squares.ensures
+    let a = c.args in
+    so_many a.x.now a.m 3 a.len (from a.table.now a.line_at) _ c.if-m-eq3.true c.three_squares.ensures
 
-slice-aggregate-dots : tie.Need-slice-aggregate-dots
+slice-aggregate-dots : tie.Need-slice_bounds-dots-end
 slice-aggregate-dots c = refl
 
 dots-requires : tie.Need-dots-requires
 unfolding of_bits neg
 dots-requires c κs = (omega arith, omega arith, omega arith, record { at = λ b h. get_or-replicate max_block b minus_nought nan (omega arith) })
 
-slice-aggregate-divide : tie.Need-slice-aggregate-divide
+slice-aggregate-divide : tie.Need-slice_bounds-divide-end
 slice-aggregate-divide c = search rules
 
 divide-requires : tie.Need-divide-requires
 divide-requires c κs = search rules
 
-slice-aggregate-off-squares : tie.Need-slice-aggregate-off-squares
+slice-aggregate-off-squares : tie.Need-slice_bounds-off_squares-end
 slice-aggregate-off-squares c = search rules
 
-off-squares-requires : tie.Need-off-squares-requires
+off-squares-requires : tie.Need-off_squares-requires
 off-squares-requires c κs = search rules
 
-same-length-2 : tie.Need-same-length-2
+same-length-2 : tie.Need-shape_of-squares
 same-length-2 c = search rules
 
-returns-2 : tie.Need-returns-2
+returns-2 : tie.Need-returns
 returns-2 c =
     let e = c.before.before.before.before.before.before.before.before.before.before.before.before.before.before.before in
     let a = e.args in
-    passes-square a.x.now a.m a.len (from a.table.now a.line_at) a.norm _ _ _ e.requires.5 e.requires.6 c.before.before.before.before.before.before.before.before.before.dots.ensures c.before.before.before.before.before.before.divide.ensures c.before.before.off-squares.ensures
+    passes-square a.x.now a.m a.len (from a.table.now a.line_at) a.norm _ _ _ e.requires.5 e.requires.6 c.dots.ensures c.divide.ensures c.off_squares.ensures
 
 pub line_squares_spec : {M : Type 1} → statement M
 line_squares_spec =

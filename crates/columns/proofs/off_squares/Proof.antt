@@ -14,92 +14,92 @@ use native.Mathlib.Omega.{arith}
 use Rattle.columns.proofs.off_squares.Statement.{statement}
 use Rattle.columns.proofs.off_squares.Tie as tie
 
-abbrev invariant_loop : tie.invariant-loop
+abbrev invariant_loop : tie.invariant-loop-j
 invariant_loop x m len table line_at t sums₀ j₀ sums j = (j ≤ m) × (length sums ≡ length sums₀) × OffSquares x j len (from table line_at) t sums
 
-abbrev decreases_loop : tie.decreases-loop
+abbrev decreases_loop : tie.decreases-loop-j
 decreases_loop x m len table line_at t sums₀ j₀ sums j = m - j
 
-abbrev invariant-loop2 : tie.invariant-loop2
+abbrev invariant-loop2 : tie.invariant-loop-j-2
 invariant-loop2 x m len table line_at t sums₀ j₀ sums j = (j ≤ m) × (length sums ≡ length sums₀) × OffSquares x j len (from table line_at) t sums
 
-abbrev decreases-loop2 : tie.decreases-loop2
+abbrev decreases-loop2 : tie.decreases-loop-j-2
 decreases-loop2 x m len table line_at t sums₀ j₀ sums j = m - j
 
 -- column j lies within the block
-inside : (c : tie.In-loop2 invariant_loop decreases_loop invariant-loop2 decreases-loop2) → c.before.loop2.j * c.before.before.before.before.before.before.before.before.args.len + c.before.before.before.before.before.before.before.before.args.len ≤ c.before.before.before.before.before.before.before.before.args.m * c.before.before.before.before.before.before.before.before.args.len
-inside c = row_inside _ _ _ c.loop2-test.true
+inside : (c : tie.In-loop-j-2 invariant_loop decreases_loop invariant-loop2 decreases-loop2) → c.loop-j-2.j * c.args.len + c.args.len ≤ c.args.m * c.args.len
+inside c = row_inside _ _ _ c.loop-j-2-test.true
 
 -- term j of plan b
 abbrev terms : tie.Start invariant_loop decreases_loop invariant-loop2 decreases-loop2 → ℕ → ℕ → Float
 terms c b j = let a = c.args in square (from a.x.now (j * a.len) b ⊖ (get_or a.t.now b nan ⊗ from a.table.now a.line_at j))
 
-loop-holds : tie.Need-loop-init invariant_loop decreases_loop invariant-loop2 decreases-loop2
+loop-holds : tie.Need-loop-j-init invariant_loop decreases_loop invariant-loop2 decreases-loop2
 loop-holds c =
     let e = c.before.before.before.before in
     (omega arith, refl, pass_none (terms e) e.args.len e.args.sums.now e.requires.4)
 
-add-loop : tie.Need-overflow-add-loop invariant_loop decreases_loop invariant-loop2 decreases-loop2
+add-loop : tie.Need-overflow_add-j invariant_loop decreases_loop invariant-loop2 decreases-loop2
 add-loop c = omega arith
 
-four-squares-requires : tie.Need-four-squares-requires invariant_loop decreases_loop invariant-loop2 decreases-loop2
+four-squares-requires : tie.Need-four_squares-requires invariant_loop decreases_loop invariant-loop2 decreases-loop2
 four-squares-requires c κs =
     let e = c.before.before.before.before.before.before.before in
-    let l = c.before.before.loop in
+    let l = c.loop-j in
     let h : l.j + 1 + 1 + 1 + 1 ≤ e.args.m = omega arith in
     (omega (arith, mul-le-mul_right e.args.len h), omega arith, omega arith, omega arith, l.invariant.2)
 
-add-j : tie.Need-overflow-add-j invariant_loop decreases_loop invariant-loop2 decreases-loop2
+add-j : tie.Need-overflow_add-j-in-loop-j invariant_loop decreases_loop invariant-loop2 decreases-loop2
 add-j c = omega arith
 
-loop-less : tie.Need-loop-smaller invariant_loop decreases_loop invariant-loop2 decreases-loop2
+loop-less : tie.Need-loop-j-smaller invariant_loop decreases_loop invariant-loop2 decreases-loop2
 loop-less c = omega arith
 
-loop-again : tie.Need-loop-preserved invariant_loop decreases_loop invariant-loop2 decreases-loop2
+loop-again : tie.Need-loop-j-preserved invariant_loop decreases_loop invariant-loop2 decreases-loop2
 loop-again c =
-    let l = c.before.before.before.before.before.loop in
-    let a = c.before.before.before.before.before.before.before.before.before.before.args in
-    let f = c.before.before.four-squares in
-    (omega arith, f.auto.1.1.1.1.1.1.0 ∙ l.invariant.1, off_as a.x.now (l.j + 1 + 1 + 1 + 1) (l.j + 4) a.len (from a.table.now a.line_at) a.t.now _ (omega arith) f.ensures)
+    let l = c.loop-j in
+    let a = c.args in
+    let f = c.four_squares in
+    (omega arith, f.auto.sums ∙ l.invariant.1, off_as a.x.now (l.j + 1 + 1 + 1 + 1) (l.j + 4) a.len (from a.table.now a.line_at) a.t.now _ (omega arith) f.ensures)
 
-loop2-holds : tie.Need-loop2-init invariant_loop decreases_loop invariant-loop2 decreases-loop2
-loop2-holds c = (omega arith, refl, c.before.loop.invariant.2)
+loop2-holds : tie.Need-loop-j-2-init invariant_loop decreases_loop invariant-loop2 decreases-loop2
+loop2-holds c = (omega arith, refl, c.loop-j.invariant.2)
 
-add_r : tie.Need-overflow-add-r invariant_loop decreases_loop invariant-loop2 decreases-loop2
+add_r : tie.Need-overflow_add-r invariant_loop decreases_loop invariant-loop2 decreases-loop2
 add_r c = omega arith
 
-mul-r : tie.Need-overflow-mul-r invariant_loop decreases_loop invariant-loop2 decreases-loop2
+mul-r : tie.Need-offset_bounds-table-line_at invariant_loop decreases_loop invariant-loop2 decreases-loop2
 mul-r c = omega arith
 
-shared-slice-read-r : tie.Need-shared-slice-read-r invariant_loop decreases_loop invariant-loop2 decreases-loop2
+shared-slice-read-r : tie.Need-bounds-table-line_at invariant_loop decreases_loop invariant-loop2 decreases-loop2
 shared-slice-read-r c = omega arith
 
-mul-add-squares : tie.Need-overflow-mul-add-squares invariant_loop decreases_loop invariant-loop2 decreases-loop2
+mul-add-squares : tie.Need-overflow_mul-j invariant_loop decreases_loop invariant-loop2 decreases-loop2
 mul-add-squares c = omega (arith, inside c.before)
 
-add-squares-requires : tie.Need-add-squares-requires invariant_loop decreases_loop invariant-loop2 decreases-loop2
+add-squares-requires : tie.Need-add_squares-requires invariant_loop decreases_loop invariant-loop2 decreases-loop2
 add-squares-requires c κs = (omega (arith, inside c.before.before), omega arith, omega arith)
 
-add-j-2 : tie.Need-overflow-add-j-2 invariant_loop decreases_loop invariant-loop2 decreases-loop2
+add-j-2 : tie.Need-overflow_add-j-in-loop-j-2 invariant_loop decreases_loop invariant-loop2 decreases-loop2
 add-j-2 c = omega arith
 
-loop2-less : tie.Need-loop2-smaller invariant_loop decreases_loop invariant-loop2 decreases-loop2
+loop2-less : tie.Need-loop-j-2-smaller invariant_loop decreases_loop invariant-loop2 decreases-loop2
 loop2-less c = omega arith
 
-loop2-again : tie.Need-loop2-preserved invariant_loop decreases_loop invariant-loop2 decreases-loop2
+loop2-again : tie.Need-loop-j-2-preserved invariant_loop decreases_loop invariant-loop2 decreases-loop2
 loop2-again c =
-    let l = c.before.before.before.before.before.before.loop2 in
+    let l = c.loop-j-2 in
     let e = c.before.before.before.before.before.before.before.before.before.before.before.before.before in
-    let f = c.before.before.add-squares in
-    (omega arith, f.auto.1.1.1.1.1.0 ∙ l.invariant.1, pass-more (terms e) e.args.len l.j l.sums _ l.invariant.2 f.ensures)
+    let f = c.add_squares in
+    (omega arith, f.auto.sums ∙ l.invariant.1, pass-more (terms e) e.args.len l.j l.sums _ l.invariant.2 f.ensures)
 
-same_length : tie.Need-same-length invariant_loop decreases_loop invariant-loop2 decreases-loop2
-same_length c = c.before.loop2.invariant.1 ∙ c.before.before.before.loop.invariant.1
+same_length : tie.Need-shape_of-sums invariant_loop decreases_loop invariant-loop2 decreases-loop2
+same_length c = c.loop-j-2.invariant.1 ∙ c.loop-j.invariant.1
 
 returns : tie.Need-returns invariant_loop decreases_loop invariant-loop2 decreases-loop2
 returns c =
-    let e : c.before.loop2.j ≡ c.before.before.before.before.before.before.before.before.args.m = omega arith in
-    rw e at c.before.loop2.invariant.2
+    let e : c.loop-j-2.j ≡ c.args.m = omega arith in
+    rw e at c.loop-j-2.invariant.2
 
 pub off_squares_spec : {M : Type 1} → statement M
 off_squares_spec =

@@ -12,24 +12,24 @@ use borrow.Author.Rules.{rules}
 use Rattle.das_dennis.proofs.das_dennis.Statement.{statement}
 use Rattle.das_dennis.proofs.das_dennis.Tie as tie
 
-sub-das-dennis-recursive : tie.Need-overflow-sub-das-dennis-recursive
+sub-das-dennis-recursive : tie.Need-overflow_sub-m
 sub-das-dennis-recursive c = search rules
 
-das-dennis-recursive-requires : tie.Need-das-dennis-recursive-requires
+das-dennis-recursive-requires : tie.Need-das_dennis_recursive-written-requires
 das-dennis-recursive-requires c κs =
-    let a = c.before.before.args in
+    let a = c.args in
     ((omega arith, omega arith, omega arith), omega (arith, whole_length a.m a.h (omega arith)))
 
-div-result : tie.Need-nonzero-div-result
+div-result : tie.Need-nonzero_div-result
 div-result c = search rules
 
-same_length : tie.Need-same-length
+same_length : tie.Need-shape_of-table
 same_length c = search rules
 
 returns : tie.Need-returns
 returns c =
-    let a = c.before.before.before.before.before.args in
-    let call = c.before.before.das-dennis-recursive in (
+    let a = c.args in
+    let call = c.das_dennis_recursive-written in (
       ap (λ (n : ℕ). n / a.m) (call.ensures.0 ∙ whole_length a.m a.h (omega arith)) ∙ mul-div_cancel (point_count a.m a.h) (omega arith),
       call.ensures.1 ∙ ap (λ (l : List Float). over l a.table.now) (whole-rows a.m a.h),
     )

@@ -9,25 +9,25 @@ use Rattle.association_laws.proofs.Search.{squares_short, squares_long}
 use Rattle.distances.proofs.distance_squared.Statement.{statement}
 use Rattle.distances.proofs.distance_squared.Tie as tie
 
-returns : tie.Need-returns
+returns : tie.Need-returns-then-norm
 unfolding div of_bits
-returns c = sym (squares_short _ _ _ _ c.before.before.before.requires.2 c.if1.true)
+returns c = sym (squares_short _ _ _ _ c.requires.2 c.if-norm.true)
 
-dot-product-requires : tie.Need-dot-product-requires
+dot-product-requires : tie.Need-dot_product-requires
 dot-product-requires c κs = search rules
 
-off-squares-requires : tie.Need-off-squares-requires
+off-squares-requires : tie.Need-off_squares-requires
 off-squares-requires c κs = search rules
 
-returns-2 : tie.Need-returns-2
+returns-2 : tie.Need-returns
 unfolding of_bits
 returns-2 c =
     let e = c.before.before.before.before.before in
     let a = e.args in
     let p = from a.points.now a.at in
     let r = from a.table.now a.line_at in
-    c.off-squares.ensures ∙ ap (λ t. off_squares a.m p r (t ⊘ a.norm)) c.before.dot-product.ensures
-    ∙ sym (squares_long _ p r _ e.requires.2 c.before.before.if1.false)
+    c.off_squares.ensures ∙ ap (λ t. off_squares a.m p r (t ⊘ a.norm)) c.dot_product.ensures
+    ∙ sym (squares_long _ p r _ e.requires.2 c.if-norm.false)
 
 pub distance_squared_spec : {M : Type 1} → statement M
 distance_squared_spec =

@@ -3,16 +3,16 @@ use borrow.Author.Rules.{rules}
 use Rattle.distances.proofs.measure.Statement.{statement}
 use Rattle.distances.proofs.measure.Tie as tie
 
-takes-root-requires : tie.Need-takes-root-requires
+takes-root-requires : tie.Need-takes_root-requires
 takes-root-requires c κs = tt
 
 sqrt-requires : tie.Need-sqrt-requires
 sqrt-requires c κs = tt
 
-returns : tie.Need-returns
-returns c = rw (← c.before.before.takes-root.ensures, c.before.if1.true) c.sqrt.ensures
+returns : tie.Need-returns-then-takes_root
+returns c = rw (← c.takes_root.ensures, c.if-takes_root.true) c.sqrt.ensures
 
-returns-2 : tie.Need-returns-2
+returns-2 : tie.Need-returns
 returns-2 c = search rules
 
 pub measure_spec : {M : Type 1} → statement M

@@ -9,47 +9,47 @@ use Rattle.float_laws.proofs.Sums.{sum_none, sum_more}
 use Rattle.distances.proofs.off_squares.Statement.{statement}
 use Rattle.distances.proofs.off_squares.Tie as tie
 
-abbrev invariant_loop : tie.invariant-loop
+abbrev invariant_loop : tie.invariant-loop-j
 invariant_loop points at table line_at m t sum₀ j₀ sum j = (j ≤ m) × (sum ≡ off_squares j (from points at) (from table line_at) t)
 
-abbrev decreases_loop : tie.decreases-loop
+abbrev decreases_loop : tie.decreases-loop-j
 decreases_loop points at table line_at m t sum₀ j₀ sum j = m - j
 
-loop-holds : tie.Need-loop-init invariant_loop decreases_loop
+loop-holds : tie.Need-loop-j-init invariant_loop decreases_loop
 unfolding of_bits neg
 loop-holds c = (omega arith, sym (sum_none _))
 
-add-off : tie.Need-overflow-add-off invariant_loop decreases_loop
+add-off : tie.Need-overflow_add-off invariant_loop decreases_loop
 add-off c = omega arith
 
-mul-off : tie.Need-overflow-mul-off invariant_loop decreases_loop
+mul-off : tie.Need-offset_bounds-points-at invariant_loop decreases_loop
 mul-off c = omega arith
 
-shared-slice-read-off : tie.Need-shared-slice-read-off invariant_loop decreases_loop
+shared-slice-read-off : tie.Need-bounds-points-at invariant_loop decreases_loop
 shared-slice-read-off c = omega arith
 
-add-off-2 : tie.Need-overflow-add-off-2 invariant_loop decreases_loop
+add-off-2 : tie.Need-overflow_add-off-in-loop-j invariant_loop decreases_loop
 add-off-2 c = omega arith
 
-mul-off-2 : tie.Need-overflow-mul-off-2 invariant_loop decreases_loop
+mul-off-2 : tie.Need-offset_bounds-table-line_at invariant_loop decreases_loop
 mul-off-2 c = omega arith
 
-shared-slice-read-off-2 : tie.Need-shared-slice-read-off-2 invariant_loop decreases_loop
+shared-slice-read-off-2 : tie.Need-bounds-table-line_at invariant_loop decreases_loop
 shared-slice-read-off-2 c = omega arith
 
-add-j : tie.Need-overflow-add-j invariant_loop decreases_loop
+add-j : tie.Need-overflow_add-j invariant_loop decreases_loop
 add-j c = omega arith
 
-loop-less : tie.Need-loop-smaller invariant_loop decreases_loop
+loop-less : tie.Need-loop-j-smaller invariant_loop decreases_loop
 loop-less c = omega arith
 
-loop-again : tie.Need-loop-preserved invariant_loop decreases_loop
-loop-again c = (omega arith, sum_more _ _ _ c.before.before.before.loop.invariant.1)
+loop-again : tie.Need-loop-j-preserved invariant_loop decreases_loop
+loop-again c = (omega arith, sum_more _ _ _ c.loop-j.invariant.1)
 
 returns : tie.Need-returns invariant_loop decreases_loop
 returns c =
-    let e : c.before.loop.j ≡ c.before.before.args.m = omega arith in
-    rw e at c.before.loop.invariant.1
+    let e : c.loop-j.j ≡ c.args.m = omega arith in
+    rw e at c.loop-j.invariant.1
 
 pub off_squares_spec : {M : Type 1} → statement M
 off_squares_spec =

@@ -6,17 +6,17 @@ use borrow.Author.Rules.{rules}
 use Rattle.divisions.proofs.bad_session_divisions.Statement.{statement}
 use Rattle.divisions.proofs.bad_session_divisions.Tie as tie
 
-divisions-of-requires : tie.Need-divisions-of-requires
+divisions-of-requires : tie.Need-divisions_of-requires
 divisions-of-requires c κs = search rules
 
-bad-divisions-requires : tie.Need-bad-divisions-requires
+bad-divisions-requires : tie.Need-bad_divisions-requires
 bad-divisions-requires c κs = search rules
 
 returns : tie.Need-returns
 returns c =
-    let a = c.before.before.args in
-    c.bad-divisions.ensures ∙ ap (bad_divisions a.m) c.before.divisions-of.ensures ∙ session-bad a.m _ _
+    let a = c.args in
+    c.bad_divisions.ensures ∙ ap (bad_divisions a.m) c.divisions_of.ensures ∙ session-bad a.m _ _
 
-pub bad-session-divisions_spec : {M : Type 1} → statement M
-bad-session-divisions_spec =
+pub bad_session_divisions_spec : {M : Type 1} → statement M
+bad_session_divisions_spec =
     tie.close (tie.spec divisions-of-requires bad-divisions-requires returns)

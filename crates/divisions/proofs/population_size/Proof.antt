@@ -8,30 +8,30 @@ use borrow.Author.Rules.{rules}
 use Rattle.divisions.proofs.population_size.Statement.{statement}
 use Rattle.divisions.proofs.population_size.Tie as tie
 
-divisions-of-requires : tie.Need-divisions-of-requires
+divisions-of-requires : tie.Need-divisions_of-requires
 divisions-of-requires c κs = search rules
 
-point-count-requires : tie.Need-point-count-requires
+point-count-requires : tie.Need-point_count-requires
 point-count-requires c κs =
-    let s = c.before in
-    omega (arith, c.divisions-of.ensures, session_allowed s.args.m _ _ s.requires.1)
+    let s = c in
+    omega (arith, c.divisions_of.ensures, session_allowed s.args.m _ _ s.requires.1)
 
-or-else-requires : tie.Need-or-else-requires
+or-else-requires : tie.Need-or_else-n-requires
 or-else-requires c κs = tt
 
 -- the size given, or else the point count
-sized : (c : tie.After-or-else) →
-    let a = c.before.before.before.args in
-    c.or_else.result ≡ or_else (given a.size) (point_count a.m (divisions_of a.m (given a.size) (given a.divisions)))
+sized : (c : tie.After-or_else-n) →
+    let a = c.args in
+    c.or_else-n.result ≡ or_else (given a.size) (point_count a.m (divisions_of a.m (given a.size) (given a.divisions)))
 sized c =
-    let a = c.before.before.before.args in
-    c.or_else.ensures ∙ ap (or_else (given a.size)) (c.before.point-count.ensures ∙ ap (point_count a.m) c.before.before.divisions-of.ensures)
+    let a = c.args in
+    c.or_else-n.ensures ∙ ap (or_else (given a.size)) (c.point_count.ensures ∙ ap (point_count a.m) c.divisions_of.ensures)
 
-returns : tie.Need-returns
-returns c = population_small _ _ _ _ (sized c.before) c.if1.true
+returns : tie.Need-returns-then-n-lt4
+returns c = population_small _ _ _ _ (sized c.before) c.if-n-lt4.true
 
-returns-2 : tie.Need-returns-2
-returns-2 c = population_large _ _ _ _ (sized c.before) c.if1.false
+returns-2 : tie.Need-returns-else-n-lt4
+returns-2 c = population_large _ _ _ _ (sized c.before) c.if-n-lt4.false
 
 pub population_size_spec : {M : Type 1} → statement M
 population_size_spec =

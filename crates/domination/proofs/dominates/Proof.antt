@@ -12,62 +12,62 @@ use Rattle.front_laws.proofs.Domination.{dominates_worse, dominates-better}
 use Rattle.domination.proofs.dominates.Statement.{statement}
 use Rattle.domination.proofs.dominates.Tie as tie
 
-abbrev invariant_loop : tie.invariant-loop
+abbrev invariant_loop : tie.invariant-loop-j
 invariant_loop rows m p q a b better₀ j₀ better j =
     (j ≤ m) × (any_below (λ k. lt (row_at rows m q k) (row_at rows m p k)) j ≡ false)
     × (better ≡ any_below (λ k. lt (row_at rows m p k) (row_at rows m q k)) j)
 
-abbrev decreases_loop : tie.decreases-loop
+abbrev decreases_loop : tie.decreases-loop-j
 decreases_loop rows m p q a b better₀ j₀ better j = m - j
 
-mul-a : tie.Need-overflow-mul-a invariant_loop decreases_loop
+mul-a : tie.Need-overflow_mul-a invariant_loop decreases_loop
 mul-a c = omega arith
 
-mul-b : tie.Need-overflow-mul-b invariant_loop decreases_loop
+mul-b : tie.Need-overflow_mul-b invariant_loop decreases_loop
 mul-b c = omega arith
 
-loop-holds : tie.Need-loop-init invariant_loop decreases_loop
+loop-holds : tie.Need-loop-j-init invariant_loop decreases_loop
 loop-holds c = (omega arith, any_below_none _, sym (any_below_none _))
 
-add-x : tie.Need-overflow-add-x invariant_loop decreases_loop
+add-x : tie.Need-overflow_add-x invariant_loop decreases_loop
 add-x c = omega arith
 
-mul-x : tie.Need-overflow-mul-x invariant_loop decreases_loop
+mul-x : tie.Need-offset_bounds-rows-a invariant_loop decreases_loop
 mul-x c = omega arith
 
-shared-slice-read-x : tie.Need-shared-slice-read-x invariant_loop decreases_loop
+shared-slice-read-x : tie.Need-bounds-rows-a invariant_loop decreases_loop
 shared-slice-read-x c = omega arith
 
-add-y : tie.Need-overflow-add-y invariant_loop decreases_loop
+add-y : tie.Need-overflow_add-y invariant_loop decreases_loop
 add-y c = omega arith
 
-mul-y : tie.Need-overflow-mul-y invariant_loop decreases_loop
+mul-y : tie.Need-offset_bounds-rows-b invariant_loop decreases_loop
 mul-y c = omega arith
 
-shared-slice-read-y : tie.Need-shared-slice-read-y invariant_loop decreases_loop
+shared-slice-read-y : tie.Need-bounds-rows-b invariant_loop decreases_loop
 shared-slice-read-y c = omega arith
 
-returns : tie.Need-returns invariant_loop decreases_loop
-returns c = sym (dominates_worse _ _ _ c.before.before.before.before.loop.j (omega arith) c.if1.true)
+returns : tie.Need-returns-then-y-x invariant_loop decreases_loop
+returns c = sym (dominates_worse _ _ _ c.loop-j.j (omega arith) c.if-y-x.true)
 
-add-j : tie.Need-overflow-add-j invariant_loop decreases_loop
+add-j : tie.Need-overflow_add-j invariant_loop decreases_loop
 add-j c = omega arith
 
-loop-less : tie.Need-loop-smaller invariant_loop decreases_loop
+loop-less : tie.Need-loop-j-smaller invariant_loop decreases_loop
 loop-less c = omega arith
 
-loop-again : tie.Need-loop-preserved invariant_loop decreases_loop
+loop-again : tie.Need-loop-j-preserved invariant_loop decreases_loop
 loop-again c =
-    let l = c.before.before.before.before.before.loop in (
+    let l = c.loop-j in (
       omega arith,
-      any_below_no _ _ l.invariant.1 c.before.if1.false,
-      ⊎_elim (λ w. w.1 ∙ sym (any_below_yes _ _ w.0.taken)) (λ w. w.1 ∙ l.invariant.2 ∙ sym (any_below-skip _ _ w.0.left)) c.if2.branch,
+      any_below_no _ _ l.invariant.1 c.if-y-x.false,
+      ⊎_elim (λ w. w.better-is ∙ sym (any_below_yes _ _ w.if-x-y.true)) (λ w. w.better-is ∙ l.invariant.2 ∙ sym (any_below-skip _ _ w.if-x-y.false)) c.if-x-y.branch-raw,
     )
 
-returns-2 : tie.Need-returns-2 invariant_loop decreases_loop
+returns-2 : tie.Need-returns invariant_loop decreases_loop
 returns-2 c =
-    let l = c.before.loop in
-    let e : l.j ≡ c.before.before.args.m = omega arith in
+    let l = c.loop-j in
+    let e : l.j ≡ c.args.m = omega arith in
     l.invariant.2 ∙ rw e (sym (dominates-better _ _ _ (rw e at l.invariant.1)))
 
 pub dominates_spec : {M : Type 1} → statement M

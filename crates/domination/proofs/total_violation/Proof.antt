@@ -11,46 +11,46 @@ use Rattle.front_laws.proofs.Violation.{violation_to, violation_none, violation-
 use Rattle.domination.proofs.total_violation.Statement.{statement}
 use Rattle.domination.proofs.total_violation.Tie as tie
 
-abbrev invariant_loop : tie.invariant-loop
+abbrev invariant_loop : tie.invariant-loop-i
 invariant_loop constraints sum₀ i₀ sum i = (i ≤ length constraints) × (sum ≡ violation_to constraints i)
 
-abbrev decreases_loop : tie.decreases-loop
+abbrev decreases_loop : tie.decreases-loop-i
 decreases_loop constraints sum₀ i₀ sum i = length constraints - i
 
-loop-holds : tie.Need-loop-init invariant_loop decreases_loop
+loop-holds : tie.Need-loop-i-init invariant_loop decreases_loop
 unfolding of_bits neg
 loop-holds c = (omega arith, sym (violation_none c.args.constraints.now))
 
-mul-c : tie.Need-overflow-mul-c invariant_loop decreases_loop
+mul-c : tie.Need-offset_bounds-constraints-i invariant_loop decreases_loop
 mul-c c = omega arith
 
-shared-slice-read-c : tie.Need-shared-slice-read-c invariant_loop decreases_loop
+shared-slice-read-c : tie.Need-bounds-constraints-i invariant_loop decreases_loop
 shared-slice-read-c c = omega arith
 
-add-i : tie.Need-overflow-add-i invariant_loop decreases_loop
+add-i : tie.Need-overflow_add-i invariant_loop decreases_loop
 add-i c = omega arith
 
-loop-less : tie.Need-loop-smaller invariant_loop decreases_loop
+loop-less : tie.Need-loop-i-smaller invariant_loop decreases_loop
 loop-less c = omega arith
 
-loop-again : tie.Need-loop-preserved invariant_loop decreases_loop
+loop-again : tie.Need-loop-i-preserved invariant_loop decreases_loop
 loop-again c =
-    let l = c.before.before.before.loop in
-    let cs = c.before.before.before.before.args.constraints.now in (
+    let l = c.loop-i in
+    let cs = c.args.constraints.now in (
       omega arith,
       ⊎_elim
-          (λ w. w.1 ∙ ap (λ v. v ⊕ get_or cs l.i nan) l.invariant.1 ∙ sym (violation-more cs l.i true w.0.taken))
-          (λ w. w.1 ∙ ap (λ v. v ⊕ nought) l.invariant.1 ∙ sym (violation-more cs l.i false w.0.left)) c.if1.branch,
+          (λ w. w.sum-is ∙ ap (λ v. v ⊕ get_or cs l.i nan) l.invariant.1 ∙ sym (violation-more cs l.i true w.if-c.true))
+          (λ w. w.sum-is ∙ ap (λ v. v ⊕ nought) l.invariant.1 ∙ sym (violation-more cs l.i false w.if-c.false)) c.if-c.branch-raw,
     )
 
 returns : tie.Need-returns invariant_loop decreases_loop
 returns c =
-    let l = c.before.loop in
-    let e : l.i ≡ length c.before.before.args.constraints.now = omega arith in
+    let l = c.loop-i in
+    let e : l.i ≡ length c.args.constraints.now = omega arith in
     (rw e at l.invariant.1) ∙ sym (violation-all _)
 
-pub total-violation_spec : {M : Type 1} → statement M
-total-violation_spec =
+pub total_violation_spec : {M : Type 1} → statement M
+total_violation_spec =
     tie.close
     (tie.spec
     invariant_loop

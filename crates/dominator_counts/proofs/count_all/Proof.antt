@@ -10,68 +10,68 @@ use Rattle.front_laws.proofs.Flat.{flat_beats_self}
 use Rattle.dominator_counts.proofs.count_all.Statement.{statement}
 use Rattle.dominator_counts.proofs.count_all.Tie as tie
 
-abbrev invariant_loop : tie.invariant-loop
+abbrev invariant_loop : tie.invariant-loop-q
 invariant_loop rows m feasible violations n counts₀ q₀ counts q =
     (q ≤ n) × (length counts ≡ length counts₀) × Counted (flat_beats rows m feasible violations) q counts
 
-abbrev decreases_loop : tie.decreases-loop
+abbrev decreases_loop : tie.decreases-loop-q
 decreases_loop rows m feasible violations n counts₀ q₀ counts q = n - q
 
-loop-holds : tie.Need-loop-init invariant_loop decreases_loop
+loop-holds : tie.Need-loop-q-init invariant_loop decreases_loop
 loop-holds c = (omega arith, refl, λ t h. absurd (omega arith))
 
-count-earlier-requires : tie.Need-count-earlier-requires invariant_loop decreases_loop
+count-earlier-requires : tie.Need-count_earlier-c-requires invariant_loop decreases_loop
 count-earlier-requires c κs =
-    let h = c.before in
-    let l = h.before.loop in
-    let a = h.before.before.before.before.before.before in (
+    let h = c in
+    let l = h.loop-q in
+    let a = c in (
       a.requires.0,
-      record { plan = h.loop-test.true; counted = omega (arith, a.requires.1, l.invariant.1); low = counted-low _ l.q l.counts l.invariant.2 },
+      record { plan = h.loop-q-test.true; counted = omega (arith, a.requires.1, l.invariant.1); low = counted-low _ l.q l.counts l.invariant.2 },
     )
 
 -- the call keeps the list's length, so q's count stands in it
-room : (c : tie.After-slice-known2 invariant_loop decreases_loop)
-    → c.before.before.before.before.before.loop.q < length c.before.before.count-earlier.new.1.1.1.1.1.1.0
+room : (c : tie.After-slice_known-in-loop-q-1 invariant_loop decreases_loop)
+    → c.loop-q.q < length c.count_earlier-c.new.counts
 room c = omega (
   arith,
-  c.before.before.count-earlier.auto.1.1.1.1.1.1.0,
-  c.before.before.before.before.loop-test.true,
-  c.before.before.before.before.before.loop.invariant.1,
-  c.before.before.before.before.before.before.before.before.before.before.requires.1,
+  c.count_earlier-c.auto.counts,
+  c.loop-q-test.true,
+  c.loop-q.invariant.1,
+  c.requires.1,
 )
 
-mul-counts : tie.Need-overflow-mul-counts invariant_loop decreases_loop
+mul-counts : tie.Need-offset_bounds-counts-q invariant_loop decreases_loop
 mul-counts c = omega (arith, room c)
 
-slice-write-counts : tie.Need-slice-write-counts invariant_loop decreases_loop
+slice-write-counts : tie.Need-bounds-counts-q invariant_loop decreases_loop
 slice-write-counts c = room c
 
-add-q : tie.Need-overflow-add-q invariant_loop decreases_loop
+add-q : tie.Need-overflow_add-q invariant_loop decreases_loop
 add-q c = omega arith
 
-loop-less : tie.Need-loop-smaller invariant_loop decreases_loop
+loop-less : tie.Need-loop-q-smaller invariant_loop decreases_loop
 loop-less c = omega arith
 
-loop-again : tie.Need-loop-preserved invariant_loop decreases_loop
+loop-again : tie.Need-loop-q-preserved invariant_loop decreases_loop
 loop-again c =
-    let r = c.before.before.count-earlier in
-    let l = c.before.before.before.before.before.loop in (
+    let r = c.count_earlier-c in
+    let l = c.loop-q in (
       omega arith,
-      simp length-set (r.auto.1.1.1.1.1.1.0 ∙ l.invariant.1),
+      simp length-set (r.auto.counts ∙ l.invariant.1),
       counted-more _ _ _ _ _ l.invariant.2 r.ensures (flat_beats_self _ _ _ _ _) (room c),
     )
 
-same_length : tie.Need-same-length invariant_loop decreases_loop
-same_length c = c.before.loop.invariant.1
+same_length : tie.Need-shape_of-counts invariant_loop decreases_loop
+same_length c = c.loop-q.invariant.1
 
 returns : tie.Need-returns invariant_loop decreases_loop
 returns c =
-    let l = c.before.loop in
-    let e : l.q ≡ c.before.before.before.before.before.before.args.n = omega arith in
+    let l = c.loop-q in
+    let e : l.q ≡ c.args.n = omega arith in
     rw e at l.invariant.2
 
-pub count-all_spec : {M : Type 1} → statement M
-count-all_spec =
+pub count_all_spec : {M : Type 1} → statement M
+count_all_spec =
     tie.close
     (tie.spec
     invariant_loop

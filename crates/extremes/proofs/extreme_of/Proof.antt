@@ -14,50 +14,50 @@ use Rattle.hyperplane_laws.proofs.Search.{best_taken, best_left}
 use Rattle.extremes.proofs.extreme_of.Statement.{statement}
 use Rattle.extremes.proofs.extreme_of.Tie as tie
 
-abbrev invariant_loop : tie.invariant-loop
+abbrev invariant_loop : tie.invariant-loop-p
 invariant_loop rows n m ideal i best₀ least₀ p₀ best least p =
     (p ≤ n) × (best ≡ best_from (λ p q. lt (asf m (row_at rows m p) (listed ideal) i) (asf m (row_at rows m q) (listed ideal) i)) 0 (λ p. p) p)
     × (least ≡ asf m (row_at rows m best) (listed ideal) i)
 
-abbrev decreases_loop : tie.decreases-loop
+abbrev decreases_loop : tie.decreases-loop-p
 decreases_loop rows n m ideal i best₀ least₀ p₀ best least p = n - p
 
-achievement-requires : tie.Need-achievement-requires invariant_loop decreases_loop
-achievement-requires c κs = (row_within 0 c.before.before.args.n c.before.before.args.m _ c.before.before.requires.2 c.before.before.requires.0, c.before.before.requires.1)
+achievement-requires : tie.Need-achievement-least-requires invariant_loop decreases_loop
+achievement-requires c κs = (row_within 0 c.args.n c.args.m _ c.requires.2 c.requires.0, c.requires.1)
 
-loop-holds : tie.Need-loop-init invariant_loop decreases_loop
-loop-holds c = (omega arith, sym (best_none _ _ _), c.achievement.ensures)
+loop-holds : tie.Need-loop-p-init invariant_loop decreases_loop
+loop-holds c = (omega arith, sym (best_none _ _ _), c.achievement-least.ensures)
 
-achievement-requires-2 : tie.Need-achievement-requires-2 invariant_loop decreases_loop
-achievement-requires-2 c κs = (row_within c.before.loop.p c.before.before.before.before.before.args.n c.before.before.before.before.before.args.m _ c.loop-test.true c.before.before.before.before.before.requires.0, c.before.before.before.before.before.requires.1)
+achievement-requires-2 : tie.Need-achievement-a-requires invariant_loop decreases_loop
+achievement-requires-2 c κs = (row_within c.loop-p.p c.args.n c.args.m _ c.loop-p-test.true c.requires.0, c.requires.1)
 
-add-p : tie.Need-overflow-add-p invariant_loop decreases_loop
+add-p : tie.Need-overflow_add-p invariant_loop decreases_loop
 add-p c = omega arith
 
-loop-less : tie.Need-loop-smaller invariant_loop decreases_loop
+loop-less : tie.Need-loop-p-smaller invariant_loop decreases_loop
 loop-less c = omega arith
 
-loop-again : tie.Need-loop-preserved invariant_loop decreases_loop
+loop-again : tie.Need-loop-p-preserved invariant_loop decreases_loop
 loop-again c =
-    let l = c.before.before.before.loop in
-    let a = c.before.before.before.before.before.before.before.args in
+    let l = c.loop-p in
+    let a = c.args in
     let g : ℕ → Float = λ p. asf a.m (row_at a.rows.now a.m p) (listed a.ideal.now) a.i in
     let better : ℕ → ℕ → Bool = λ p q. lt (g p) (g q) in
-    let v = c.before.achievement2.ensures in
+    let v = c.achievement-a.ensures in
     let e = ap₂ lt (sym v) (sym l.invariant.2) in (
       omega arith,
       ⊎_elim
-          (λ w. best_taken better 0 (λ p. p) _ l.invariant.1 refl (e ∙ w.0.taken) w.1)
-          (λ w. best_left better 0 (λ p. p) _ l.invariant.1 refl (e ∙ w.0.left) w.1) c.if1.branch,
-      ⊎_elim (λ w. w.2 ∙ v ∙ ap g (sym w.1)) (λ w. w.2 ∙ l.invariant.2 ∙ ap g (sym w.1)) c.if1.branch,
+          (λ w. best_taken better 0 (λ p. p) _ l.invariant.1 refl (e ∙ w.if-a-least.true) w.best-is)
+          (λ w. best_left better 0 (λ p. p) _ l.invariant.1 refl (e ∙ w.if-a-least.false) w.best-is) c.if-a-least.branch-raw,
+      ⊎_elim (λ w. w.least-is ∙ v ∙ ap g (sym w.best-is)) (λ w. w.least-is ∙ l.invariant.2 ∙ ap g (sym w.best-is)) c.if-a-least.branch-raw,
     )
 
 returns : tie.Need-returns invariant_loop decreases_loop
 unfolding extreme
-returns c = let e : c.before.loop.p ≡ c.before.before.before.before.before.args.n = omega arith in rw e at c.before.loop.invariant.1
+returns c = let e : c.loop-p.p ≡ c.args.n = omega arith in rw e at c.loop-p.invariant.1
 
-pub extreme-of_spec : {M : Type 1} → statement M
-extreme-of_spec =
+pub extreme_of_spec : {M : Type 1} → statement M
+extreme_of_spec =
     tie.close
     (tie.spec
     invariant_loop

@@ -12,74 +12,74 @@ use Rattle.hyperplane_laws.specs.Flat.{plane_row_at}
 use Rattle.extremes.proofs.fill_row.Statement.{statement}
 use Rattle.extremes.proofs.fill_row.Tie as tie
 
-abbrev invariant_loop : tie.invariant-loop
+abbrev invariant_loop : tie.invariant-loop-j
 invariant_loop rows p m ideal a₀ i start at j₀ a j =
     (j ≤ m) × (length a ≡ length a₀) × (a ≡ sets a₀ (i * 9) (list_below (plane_row_at rows m ideal p) j))
 
-abbrev decreases_loop : tie.decreases-loop
+abbrev decreases_loop : tie.decreases-loop-j
 decreases_loop rows p m ideal a₀ i start at j₀ a j = m - j
 
-mul-start : tie.Need-overflow-mul-start invariant_loop decreases_loop
+mul-start : tie.Need-overflow_mul-start invariant_loop decreases_loop
 mul-start c = omega arith
 
-mul_at : tie.Need-overflow-mul-at invariant_loop decreases_loop
+mul_at : tie.Need-overflow_mul-at invariant_loop decreases_loop
 mul_at c = omega arith
 
-loop-holds : tie.Need-loop-init invariant_loop decreases_loop
+loop-holds : tie.Need-loop-j-init invariant_loop decreases_loop
 loop-holds c = (omega arith, refl, run_none _ _ _)
 
-add_a : tie.Need-overflow-add-a invariant_loop decreases_loop
+add_a : tie.Need-overflow_add-a invariant_loop decreases_loop
 add_a c = omega arith
 
-mul-a : tie.Need-overflow-mul-a invariant_loop decreases_loop
+mul-a : tie.Need-offset_bounds-rows-start invariant_loop decreases_loop
 mul-a c = omega arith
 
-shared-slice-read-a : tie.Need-shared-slice-read-a invariant_loop decreases_loop
+shared-slice-read-a : tie.Need-bounds-rows-start invariant_loop decreases_loop
 shared-slice-read-a c = omega arith
 
-mul-a-2 : tie.Need-overflow-mul-a-2 invariant_loop decreases_loop
+mul-a-2 : tie.Need-offset_bounds-ideal-j invariant_loop decreases_loop
 mul-a-2 c = omega arith
 
-shared-slice-read-a-2 : tie.Need-shared-slice-read-a-2 invariant_loop decreases_loop
+shared-slice-read-a-2 : tie.Need-bounds-ideal-j invariant_loop decreases_loop
 shared-slice-read-a-2 c = omega arith
 
-add-a-2 : tie.Need-overflow-add-a-2 invariant_loop decreases_loop
+add-a-2 : tie.Need-overflow_add-a-in-loop-j invariant_loop decreases_loop
 add-a-2 c = omega arith
 
-mul-a-3 : tie.Need-overflow-mul-a-3 invariant_loop decreases_loop
+mul-a-3 : tie.Need-offset_bounds-a-at invariant_loop decreases_loop
 mul-a-3 c = omega arith
 
-slice-write-a : tie.Need-slice-write-a invariant_loop decreases_loop
+slice-write-a : tie.Need-bounds-a-at invariant_loop decreases_loop
 slice-write-a c = omega arith
 
-add-j : tie.Need-overflow-add-j invariant_loop decreases_loop
+add-j : tie.Need-overflow_add-j invariant_loop decreases_loop
 add-j c = omega arith
 
-loop-less : tie.Need-loop-smaller invariant_loop decreases_loop
+loop-less : tie.Need-loop-j-smaller invariant_loop decreases_loop
 loop-less c = omega arith
 
-loop-again : tie.Need-loop-preserved invariant_loop decreases_loop
+loop-again : tie.Need-loop-j-preserved invariant_loop decreases_loop
 loop-again c =
-    let l = c.before.before.before.loop in
-    (omega arith, simp length-set l.invariant.1, run_more _ _ _ _ _ _ l.invariant.2 (sym (cond_lt l.j c.before.before.before.before.args.m _ _ (omega arith))))
+    let l = c.loop-j in
+    (omega arith, simp length-set l.invariant.1, run_more _ _ _ _ _ _ l.invariant.2 (sym (cond_lt l.j c.args.m _ _ (omega arith))))
 
-add-a-3 : tie.Need-overflow-add-a-3 invariant_loop decreases_loop
+add-a-3 : tie.Need-overflow_add-a-2 invariant_loop decreases_loop
 add-a-3 c = omega arith
 
-mul-a-4 : tie.Need-overflow-mul-a-4 invariant_loop decreases_loop
+mul-a-4 : tie.Need-offset_bounds-a-at-2 invariant_loop decreases_loop
 mul-a-4 c = omega arith
 
-slice-write-a-2 : tie.Need-slice-write-a-2 invariant_loop decreases_loop
+slice-write-a-2 : tie.Need-bounds-a-at-2 invariant_loop decreases_loop
 slice-write-a-2 c = omega arith
 
-same_length : tie.Need-same-length invariant_loop decreases_loop
-same_length c = simp length-set c.before.loop.invariant.1
+same_length : tie.Need-shape_of-a invariant_loop decreases_loop
+same_length c = simp length-set c.loop-j.invariant.1
 
 returns : tie.Need-returns invariant_loop decreases_loop
 unfolding of_bits
 returns c =
-    let l = c.before.loop in
-    let a = c.before.before.args in
+    let l = c.loop-j in
+    let a = c.args in
     let e : l.j ≡ a.m = omega arith in
     run_more (plane_row_at a.rows.now a.m a.ideal.now a.p) _ _ _ _ _ (rw e at l.invariant.2) (sym (cond_le a.m a.m _ _ (omega arith)))
 

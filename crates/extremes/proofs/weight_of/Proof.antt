@@ -8,13 +8,13 @@ use Rattle.model.specs.Hyperplane.{small_weight}
 use Rattle.extremes.proofs.weight_of.Statement.{statement}
 use Rattle.extremes.proofs.weight_of.Tie as tie
 
-returns : tie.Need-returns
+returns : tie.Need-returns-then-i-j
 unfolding of_bits
-returns c = sym (ap (λ b. cond b unit small_weight) (eq-eqb _ _ c.if1.true))
+returns c = sym (ap (λ b. cond b unit small_weight) (eq-eqb _ _ c.if-i-j.true))
 
-returns-2 : tie.Need-returns-2
+returns-2 : tie.Need-returns-else-i-j
 unfolding of_bits
-returns-2 c = sym (ap (λ b. cond b unit small_weight) (ne_eqb _ _ c.if1.false))
+returns-2 c = sym (ap (λ b. cond b unit small_weight) (ne_eqb _ _ c.if-i-j.false))
 
-pub weight-of_spec : {M : Type 1} → statement M
-weight-of_spec = tie.close (tie.spec returns returns-2)
+pub weight_of_spec : {M : Type 1} → statement M
+weight_of_spec = tie.close (tie.spec returns returns-2)

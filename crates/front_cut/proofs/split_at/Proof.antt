@@ -9,39 +9,39 @@ use Rattle.front_cut.proofs.Fitting.{fitting_le, cut_by}
 use Rattle.front_cut.proofs.split_at.Statement.{statement}
 use Rattle.front_cut.proofs.split_at.Tie as tie
 
-fronts-that-fit-requires : tie.Need-fronts-that-fit-requires
+fronts-that-fit-requires : tie.Need-fronts_that_fit-k-requires
 fronts-that-fit-requires c κs = search rules
 
-front-start-requires : tie.Need-front-start-requires
+front-start-requires : tie.Need-front_start-whole-requires
 front-start-requires c κs =
-    let a = c.before.before in
-    omega (arith, c.fronts-that-fit.ensures, fitting_le a.args.ends.now a.args.fronts a.args.size, a.requires)
+    let a = c in
+    omega (arith, c.fronts_that_fit-k.ensures, fitting_le a.args.ends.now a.args.fronts a.args.size, a.requires)
 
-mul-end : tie.Need-overflow-mul-end
+mul-end : tie.Need-offset_bounds-ends-k
 mul-end c = search rules
 
-shared-slice-read-end : tie.Need-shared-slice-read-end
+shared-slice-read-end : tie.Need-bounds-ends-k
 shared-slice-read-end c = search rules
 
-returns : tie.Need-returns
+returns : tie.Need-returns-then-whole-size
 returns c =
-    let s = c.before.before.before in
-    cut_by _ _ _ _ _ s.before.fronts-that-fit.ensures s.front-start.ensures true
-    (and_both _ _ (lt-ltb _ _ c.before.before.if1.true) (lt-ltb _ _ c.before.if2.true))
+    let s = c in
+    cut_by _ _ _ _ _ s.fronts_that_fit-k.ensures s.front_start-whole.ensures true
+    (and_both _ _ (lt-ltb _ _ c.if-k-fronts.true) (lt-ltb _ _ c.if-whole-size.true))
 
-returns-2 : tie.Need-returns-2
+returns-2 : tie.Need-returns-else-whole-size
 returns-2 c =
-    let s = c.before.before in
-    cut_by _ _ _ _ _ s.before.fronts-that-fit.ensures s.front-start.ensures false
-    (and_no (ltb s.before.fronts-that-fit.result s.before.before.before.args.fronts) _ (le-ltb _ _ c.if2.false))
+    let s = c in
+    cut_by _ _ _ _ _ s.fronts_that_fit-k.ensures s.front_start-whole.ensures false
+    (and_no (ltb s.fronts_that_fit-k.result s.args.fronts) _ (le-ltb _ _ c.if-whole-size.false))
 
-returns-3 : tie.Need-returns-3
+returns-3 : tie.Need-returns-else-k-fronts
 returns-3 c =
-    let s = c.before in
-    cut_by _ _ _ _ _ s.before.fronts-that-fit.ensures s.front-start.ensures false (and_not _ _ (le-ltb _ _ c.if1.false))
+    let s = c in
+    cut_by _ _ _ _ _ s.fronts_that_fit-k.ensures s.front_start-whole.ensures false (and_not _ _ (le-ltb _ _ c.if-k-fronts.false))
 
-pub split-at_spec : {M : Type 1} → statement M
-split-at_spec =
+pub split_at_spec : {M : Type 1} → statement M
+split_at_spec =
     tie.close
     (tie.spec
     fronts-that-fit-requires

@@ -10,47 +10,47 @@ use Rattle.genetic.proofs.Steps.{tournament_is}
 use Rattle.genetic.proofs.tournament_select_rank.Statement.{statement}
 use Rattle.genetic.proofs.tournament_select_rank.Tie as tie
 
-draw-usize-requires : tie.Need-draw-usize-requires
+draw-usize-requires : tie.Need-draw_usize-a-requires
 draw-usize-requires c κs = search rules
 
-draw-usize-requires-2 : tie.Need-draw-usize-requires-2
+draw-usize-requires-2 : tie.Need-draw_usize-b-requires
 draw-usize-requires-2 c κs = search rules
 
-mul-if1 : tie.Need-overflow-mul-if1
+mul-if1 : tie.Need-offset_bounds-ranks-i
 mul-if1 c =
-    let s = c.before.before.before.before.before in
-    let h = drawn-below _ _ _ _ s.requires.0 c.before.before.before.draw-usize.ensures in
+    let s = c in
+    let h = drawn-below _ _ _ _ s.requires.0 c.draw_usize-a.ensures in
     omega arith
 
-shared-slice-read-if1 : tie.Need-shared-slice-read-if1
+shared-slice-read-if1 : tie.Need-bounds-ranks-i
 shared-slice-read-if1 c =
-    let s = c.before.before.before.before.before.before in
-    let h = drawn-below _ _ _ _ s.requires.0 c.before.before.before.before.draw-usize.ensures in
+    let s = c in
+    let h = drawn-below _ _ _ _ s.requires.0 c.draw_usize-a.ensures in
     omega arith
 
-mul-if1-2 : tie.Need-overflow-mul-if1-2
+mul-if1-2 : tie.Need-offset_bounds-ranks-j
 mul-if1-2 c =
-    let s = c.before.before.before.before.before.before in
-    let h = drawn-below _ _ _ _ s.requires.0 c.before.before.draw-usize2.ensures in
+    let s = c in
+    let h = drawn-below _ _ _ _ s.requires.0 c.draw_usize-b.ensures in
     omega arith
 
-shared-slice-read-if1-2 : tie.Need-shared-slice-read-if1-2
+shared-slice-read-if1-2 : tie.Need-bounds-ranks-j
 shared-slice-read-if1-2 c =
-    let s = c.before.before.before.before.before.before.before in
-    let h = drawn-below _ _ _ _ s.requires.0 c.before.before.before.draw-usize2.ensures in
+    let s = c in
+    let h = drawn-below _ _ _ _ s.requires.0 c.draw_usize-b.ensures in
     omega arith
 
-returns : tie.Need-returns
+returns : tie.Need-returns-then-ranks-i
 returns c =
-    let a = c.before.before.before.before.before.before.before.before.args in
-    tournament_is (λ (i : ℕ). get_or a.ranks.now i 0) _ _ _ _ _ _ true c.before.before.before.before.before.before.draw-usize.ensures
-    c.before.before.before.before.draw-usize2.ensures (le-leb _ _ c.if1.true)
+    let a = c.args in
+    tournament_is (λ (i : ℕ). get_or a.ranks.now i 0) _ _ _ _ _ _ true c.draw_usize-a.ensures
+    c.draw_usize-b.ensures (le-leb _ _ c.if-ranks-i.true)
 
-returns-2 : tie.Need-returns-2
+returns-2 : tie.Need-returns
 returns-2 c =
-    let a = c.before.before.before.before.before.before.before.before.args in
-    tournament_is (λ (i : ℕ). get_or a.ranks.now i 0) _ _ _ _ _ _ false c.before.before.before.before.before.before.draw-usize.ensures
-    c.before.before.before.before.draw-usize2.ensures (lt-leb _ _ c.if1.false)
+    let a = c.args in
+    tournament_is (λ (i : ℕ). get_or a.ranks.now i 0) _ _ _ _ _ _ false c.draw_usize-a.ensures
+    c.draw_usize-b.ensures (lt-leb _ _ c.if-ranks-i.false)
 
 pub tournament_select_rank_spec : {M : Type 1} → statement M
 tournament_select_rank_spec =

@@ -11,41 +11,41 @@ use native.Mathlib.Omega.{arith}
 use Rattle.niching_lines.proofs.least_count.Statement.{statement}
 use Rattle.niching_lines.proofs.least_count.Tie as tie
 
-abbrev invariant_loop : tie.invariant-loop
+abbrev invariant_loop : tie.invariant-loop-l
 invariant_loop counts waits n least₀ l₀ least l = (l ≤ n) × (least ≡ least_below max_pool counts waits l)
 
-abbrev decreases_loop : tie.decreases-loop
+abbrev decreases_loop : tie.decreases-loop-l
 decreases_loop counts waits n least₀ l₀ least l = n - l
 
-loop-holds : tie.Need-loop-init invariant_loop decreases_loop
+loop-holds : tie.Need-loop-l-init invariant_loop decreases_loop
 loop-holds c = (omega arith, sym (best_none ltb _ _))
 
-open-count-requires : tie.Need-open-count-requires invariant_loop decreases_loop
+open-count-requires : tie.Need-open_count-c-requires invariant_loop decreases_loop
 open-count-requires c κs = omega arith
 
-add-l : tie.Need-overflow-add-l invariant_loop decreases_loop
+add-l : tie.Need-overflow_add-l invariant_loop decreases_loop
 add-l c = omega arith
 
-loop-less : tie.Need-loop-smaller invariant_loop decreases_loop
+loop-less : tie.Need-loop-l-smaller invariant_loop decreases_loop
 loop-less c = omega arith
 
-loop-again : tie.Need-loop-preserved invariant_loop decreases_loop
+loop-again : tie.Need-loop-l-preserved invariant_loop decreases_loop
 loop-again c =
-    let l = c.before.before.before.loop in
-    let e = c.before.open-count.ensures in (
+    let l = c.loop-l in
+    let e = c.open_count-c.ensures in (
       omega arith,
       ⊎_elim
-          (λ w. w.1 ∙ e ∙ best_more ltb _ _ _ l.invariant.1 (lt-ltb _ _ (rw e at w.0.taken)))
-          (λ w. w.1 ∙ best_more ltb _ _ _ l.invariant.1 (le-ltb _ _ (rw e at w.0.left))) c.if1.branch,
+          (λ w. w.least-is ∙ e ∙ best_more ltb _ _ _ l.invariant.1 (lt-ltb _ _ (rw e at w.if-c-least.true)))
+          (λ w. w.least-is ∙ best_more ltb _ _ _ l.invariant.1 (le-ltb _ _ (rw e at w.if-c-least.false))) c.if-c-least.branch-raw,
     )
 
 returns : tie.Need-returns invariant_loop decreases_loop
 returns c =
-    let l = c.before.loop in
-    let e : l.l ≡ c.before.before.before.before.args.n = omega arith in
+    let l = c.loop-l in
+    let e : l.l ≡ c.args.n = omega arith in
     rw e at l.invariant.1
 
-pub least-count_spec : {M : Type 1} → statement M
-least-count_spec =
+pub least_count_spec : {M : Type 1} → statement M
+least_count_spec =
     tie.close
     (tie.spec invariant_loop decreases_loop loop-holds open-count-requires add-l loop-less loop-again returns)

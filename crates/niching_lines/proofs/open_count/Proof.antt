@@ -3,20 +3,20 @@ use borrow.Author.Rules.{rules}
 use Rattle.niching_lines.proofs.open_count.Statement.{statement}
 use Rattle.niching_lines.proofs.open_count.Tie as tie
 
-has-waiting-requires : tie.Need-has-waiting-requires
+has-waiting-requires : tie.Need-has_waiting-requires
 has-waiting-requires c κs = search rules
 
-mul-result : tie.Need-overflow-mul-result
+mul-result : tie.Need-offset_bounds-counts-l
 mul-result c = search rules
 
-shared-slice-read-result : tie.Need-shared-slice-read-result
+shared-slice-read-result : tie.Need-bounds-counts-l
 shared-slice-read-result c = search rules
 
-returns : tie.Need-returns
-returns c = rw (← c.before.before.has-waiting.ensures) (simp c.before.if1.true)
+returns : tie.Need-returns-then-has_waiting
+returns c = rw (← c.has_waiting.ensures) (simp c.if-has_waiting.true)
 
-returns-2 : tie.Need-returns-2
-returns-2 c = rw (← c.before.has-waiting.ensures) (simp c.if1.false)
+returns-2 : tie.Need-returns
+returns-2 c = rw (← c.has_waiting.ensures) (simp c.if-has_waiting.false)
 
 pub open_count_spec : {M : Type 1} → statement M
 open_count_spec =

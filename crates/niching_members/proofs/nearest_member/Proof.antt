@@ -10,44 +10,44 @@ use native.Mathlib.Omega.{arith}
 use Rattle.niching_members.proofs.nearest_member.Statement.{statement}
 use Rattle.niching_members.proofs.nearest_member.Tie as tie
 
-abbrev invariant_loop : tie.invariant-loop
+abbrev invariant_loop : tie.invariant-loop-i
 invariant_loop front lines distances taken l first best₀ i₀ best i =
     (i ≤ length front) × NearestSo (place_distance front distances) (waits_on front lines taken l) (length front) i best
 
-abbrev decreases_loop : tie.decreases-loop
+abbrev decreases_loop : tie.decreases-loop-i
 decreases_loop front lines distances taken l first best₀ i₀ best i = length front - i
 
-add-i : tie.Need-overflow-add-i invariant_loop decreases_loop
-add-i c = let a = c.before.before.before.before in omega (arith, a.requires.2.one.below, a.well-formed)
+add-i : tie.Need-overflow_add-i invariant_loop decreases_loop
+add-i c = let a = c in omega (arith, a.requires.2.one.below, a.well_formed)
 
-loop-holds : tie.Need-loop-init invariant_loop decreases_loop
-loop-holds c = let a = c.before.before.before.before in (omega (arith, a.requires.2.one.below), nearest-first _ _ _ _ a.requires.2)
+loop-holds : tie.Need-loop-i-init invariant_loop decreases_loop
+loop-holds c = let a = c in (omega (arith, a.requires.2.one.below), nearest-first _ _ _ _ a.requires.2)
 
-nearer-requires : tie.Need-nearer-requires invariant_loop decreases_loop
-nearer-requires c κs = let a = c.before.before.before.before.before.before in (a.requires.0, a.requires.1, c.before.loop.invariant.1.one.below, c.loop-test.true)
+nearer-requires : tie.Need-nearer-best-requires invariant_loop decreases_loop
+nearer-requires c κs = let a = c in (a.requires.0, a.requires.1, c.loop-i.invariant.1.one.below, c.loop-i-test.true)
 
-add-i-2 : tie.Need-overflow-add-i-2 invariant_loop decreases_loop
-add-i-2 c = let a = c.before.before.before.before.before.before.before in omega (arith, a.well-formed)
+add-i-2 : tie.Need-overflow_add-i-in-loop-i invariant_loop decreases_loop
+add-i-2 c = let a = c in omega (arith, a.well_formed)
 
-loop-less : tie.Need-loop-smaller invariant_loop decreases_loop
+loop-less : tie.Need-loop-i-smaller invariant_loop decreases_loop
 loop-less c = omega arith
 
-loop-again : tie.Need-loop-preserved invariant_loop decreases_loop
+loop-again : tie.Need-loop-i-preserved invariant_loop decreases_loop
 loop-again c =
-    let l = c.before.before.loop in
-    let u = c.before.loop-test.true in
-    (omega arith, nearest-more l.invariant.1 u _ c.nearer.ensures)
+    let l = c.loop-i in
+    let u = c.loop-i-test.true in
+    (omega arith, nearest-more l.invariant.1 u _ c.nearer-best.ensures)
 
 returns : tie.Need-returns invariant_loop decreases_loop
 returns c =
-    let l = c.before.loop in
-    let a = c.before.before.before.before.before.before.args in
+    let l = c.loop-i in
+    let a = c.args in
     let e : l.i ≡ length a.front.now = omega arith in
     let f = waits_on a.front.now a.lines.now a.taken.now a.l in
     (l.invariant.1.one, l.invariant.1.least ∙ ap (λ t. nearest (place_distance a.front.now a.distances.now) (keep_below f t)) e)
 
-pub nearest-member_spec : {M : Type 1} → statement M
-nearest-member_spec =
+pub nearest_member_spec : {M : Type 1} → statement M
+nearest_member_spec =
     tie.close
     (tie.spec
     invariant_loop

@@ -3,29 +3,29 @@ use borrow.Author.Rules.{rules}
 use Rattle.niching_members.proofs.waits_on.Statement.{statement}
 use Rattle.niching_members.proofs.waits_on.Tie as tie
 
-shared-slice-read-if1 : tie.Need-shared-slice-read-if1
+shared-slice-read-if1 : tie.Need-bounds-taken-i
 shared-slice-read-if1 c = search rules
 
-returns : tie.Need-returns
-returns c = simp c.if1.true
+returns : tie.Need-returns-then-taken-i
+returns c = simp c.if-taken-i.true
 
-mul-p : tie.Need-overflow-mul-p
+mul-p : tie.Need-offset_bounds-front-i
 mul-p c = search rules
 
-shared-slice-read-p : tie.Need-shared-slice-read-p
+shared-slice-read-p : tie.Need-bounds-front-i
 shared-slice-read-p c = search rules
 
-mul-result : tie.Need-overflow-mul-result
+mul-result : tie.Need-offset_bounds-lines-p
 mul-result c = search rules
 
-shared-slice-read-result : tie.Need-shared-slice-read-result
+shared-slice-read-result : tie.Need-bounds-lines-p
 shared-slice-read-result c = search rules
 
-returns-2 : tie.Need-returns-2
-returns-2 c = simp c.before.before.if1.false
+returns-2 : tie.Need-returns
+returns-2 c = simp c.if-taken-i.false
 
-pub waits-on_spec : {M : Type 1} → statement M
-waits-on_spec =
+pub waits_on_spec : {M : Type 1} → statement M
+waits_on_spec =
     tie.close
     (tie.spec
     shared-slice-read-if1

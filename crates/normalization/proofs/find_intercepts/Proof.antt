@@ -13,54 +13,54 @@ use Rattle.association_laws.specs.Flat.{intercept_at}
 use Rattle.normalization.proofs.find_intercepts.Statement.{statement}
 use Rattle.normalization.proofs.find_intercepts.Tie as tie
 
-abbrev invariant_loop : tie.invariant-loop
+abbrev invariant_loop : tie.invariant-loop-j
 invariant_loop rows n m ideal intercepts₀ j₀ intercepts j =
     (j ≤ m) × (length intercepts ≡ length intercepts₀) × (intercepts ≡ over (list_below (intercept_at rows n m ideal) j) intercepts₀)
 
-abbrev decreases_loop : tie.decreases-loop
+abbrev decreases_loop : tie.decreases-loop-j
 decreases_loop rows n m ideal intercepts₀ j₀ intercepts j = m - j
 
-loop-holds : tie.Need-loop-init invariant_loop decreases_loop
+loop-holds : tie.Need-loop-j-init invariant_loop decreases_loop
 loop-holds c = (omega arith, refl, sym (over_none _ _))
 
-greatest-of-requires : tie.Need-greatest-of-requires invariant_loop decreases_loop
+greatest-of-requires : tie.Need-greatest_of-requires invariant_loop decreases_loop
 greatest-of-requires c κs = search rules
 
-mul-intercept : tie.Need-overflow-mul-intercept invariant_loop decreases_loop
+mul-intercept : tie.Need-offset_bounds-ideal-j invariant_loop decreases_loop
 mul-intercept c = omega arith
 
-shared-slice-read-intercept : tie.Need-shared-slice-read-intercept invariant_loop decreases_loop
+shared-slice-read-intercept : tie.Need-bounds-ideal-j invariant_loop decreases_loop
 shared-slice-read-intercept c = omega arith
 
 intercept-requires : tie.Need-intercept-requires invariant_loop decreases_loop
 intercept-requires c κs = tt
 
-mul-intercepts : tie.Need-overflow-mul-intercepts invariant_loop decreases_loop
+mul-intercepts : tie.Need-offset_bounds-intercepts-j invariant_loop decreases_loop
 mul-intercepts c = omega arith
 
-slice-write-intercepts : tie.Need-slice-write-intercepts invariant_loop decreases_loop
+slice-write-intercepts : tie.Need-bounds-intercepts-j invariant_loop decreases_loop
 slice-write-intercepts c = omega arith
 
-add-j : tie.Need-overflow-add-j invariant_loop decreases_loop
+add-j : tie.Need-overflow_add-j invariant_loop decreases_loop
 add-j c = omega arith
 
-loop-less : tie.Need-loop-smaller invariant_loop decreases_loop
+loop-less : tie.Need-loop-j-smaller invariant_loop decreases_loop
 loop-less c = omega arith
 
-loop-again : tie.Need-loop-preserved invariant_loop decreases_loop
+loop-again : tie.Need-loop-j-preserved invariant_loop decreases_loop
 loop-again c =
-    let l = c.before.before.before.before.loop in
-    let a = c.before.before.before.before.before.before.before.before.args in
-    let v = c.intercept.ensures ∙ ap (λ t. intercept_from (t ⊖ get_or a.ideal.now l.j nan)) c.before.before.greatest-of.ensures in
+    let l = c.loop-j in
+    let a = c.args in
+    let v = c.intercept.ensures ∙ ap (λ t. intercept_from (t ⊖ get_or a.ideal.now l.j nan)) c.greatest_of.ensures in
     (omega arith, simp length-set l.invariant.1, over-set _ _ _ _ _ (omega arith) l.invariant.2 v)
 
-same_length : tie.Need-same-length invariant_loop decreases_loop
-same_length c = c.before.loop.invariant.1
+same_length : tie.Need-shape_of-intercepts invariant_loop decreases_loop
+same_length c = c.loop-j.invariant.1
 
 returns : tie.Need-returns invariant_loop decreases_loop
 returns c =
-    let e : c.before.loop.j ≡ c.before.before.before.before.before.args.m = omega arith in
-    rw e at c.before.loop.invariant.2
+    let e : c.loop-j.j ≡ c.args.m = omega arith in
+    rw e at c.loop-j.invariant.2
 
 pub find_intercepts_spec : {M : Type 1} → statement M
 find_intercepts_spec =

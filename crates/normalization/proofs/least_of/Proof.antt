@@ -10,56 +10,56 @@ use Rattle.list_laws.proofs.Best.{best_none, best_more}
 use Rattle.normalization.proofs.least_of.Statement.{statement}
 use Rattle.normalization.proofs.least_of.Tie as tie
 
-abbrev invariant_loop : tie.invariant-loop
+abbrev invariant_loop : tie.invariant-loop-p
 invariant_loop rows n m j start least₀ p₀ least p = (p ≤ n) × (least ≡ least_below start rows p m j)
 
-abbrev decreases_loop : tie.decreases-loop
+abbrev decreases_loop : tie.decreases-loop-p
 decreases_loop rows n m j start least₀ p₀ least p = n - p
 
 -- row p lies within the rows
-inside : (c : tie.In-loop invariant_loop decreases_loop) → c.before.loop.p * c.before.before.args.m + c.before.before.args.m ≤ c.before.before.args.n * c.before.before.args.m
-inside c = row_inside _ _ _ c.loop-test.true
+inside : (c : tie.In-loop-p invariant_loop decreases_loop) → c.loop-p.p * c.args.m + c.args.m ≤ c.args.n * c.args.m
+inside c = row_inside _ _ _ c.loop-p-test.true
 
-loop-holds : tie.Need-loop-init invariant_loop decreases_loop
+loop-holds : tie.Need-loop-p-init invariant_loop decreases_loop
 loop-holds c = let a = c.args in (omega arith, sym (best_none lt a.start (column a.rows.now a.m a.j)))
 
-mul-v : tie.Need-overflow-mul-v invariant_loop decreases_loop
+mul-v : tie.Need-overflow_mul-v invariant_loop decreases_loop
 mul-v c = omega (arith, inside c)
 
-add-v : tie.Need-overflow-add-v invariant_loop decreases_loop
+add-v : tie.Need-overflow_add-v invariant_loop decreases_loop
 add-v c = omega (arith, inside c)
 
-mul-v-2 : tie.Need-overflow-mul-v-2 invariant_loop decreases_loop
+mul-v-2 : tie.Need-offset_bounds-rows-p invariant_loop decreases_loop
 mul-v-2 c = omega (arith, inside c)
 
-shared-slice-read-v : tie.Need-shared-slice-read-v invariant_loop decreases_loop
+shared-slice-read-v : tie.Need-bounds-rows-p invariant_loop decreases_loop
 shared-slice-read-v c = omega (arith, inside c.before)
 
-add-p : tie.Need-overflow-add-p invariant_loop decreases_loop
+add-p : tie.Need-overflow_add-p invariant_loop decreases_loop
 add-p c = omega arith
 
-loop-less : tie.Need-loop-smaller invariant_loop decreases_loop
+loop-less : tie.Need-loop-p-smaller invariant_loop decreases_loop
 loop-less c = omega arith
 
-loop-again : tie.Need-loop-preserved invariant_loop decreases_loop
+loop-again : tie.Need-loop-p-preserved invariant_loop decreases_loop
 loop-again c =
     let head = c.before.before.before in
-    let l = head.loop in
-    let a = head.before.args in
+    let l = head.loop-p in
+    let a = head.args in
     let f = column a.rows.now a.m a.j in (
       omega arith,
       ⊎_elim
-          (λ w. w.1 ∙ best_more lt a.start f l.p l.invariant.1 w.0.taken)
-          (λ w. w.1 ∙ best_more lt a.start f l.p l.invariant.1 w.0.left) c.if1.branch,
+          (λ w. w.least-is ∙ best_more lt a.start f l.p l.invariant.1 w.if-v-least.true)
+          (λ w. w.least-is ∙ best_more lt a.start f l.p l.invariant.1 w.if-v-least.false) c.if-v-least.branch-raw,
     )
 
 returns : tie.Need-returns invariant_loop decreases_loop
 returns c =
-    let e : c.before.loop.p ≡ c.before.before.args.n = omega arith in
-    rw e at c.before.loop.invariant.1
+    let e : c.loop-p.p ≡ c.args.n = omega arith in
+    rw e at c.loop-p.invariant.1
 
-pub least-of_spec : {M : Type 1} → statement M
-least-of_spec =
+pub least_of_spec : {M : Type 1} → statement M
+least_of_spec =
     tie.close
     (tie.spec
     invariant_loop

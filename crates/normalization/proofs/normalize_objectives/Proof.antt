@@ -11,43 +11,43 @@ use Rattle.association_laws.proofs.Within.{rows_in_scale}
 use Rattle.normalization.proofs.normalize_objectives.Statement.{statement}
 use Rattle.normalization.proofs.normalize_objectives.Tie as tie
 
-abbrev invariant_loop : tie.invariant-loop
+abbrev invariant_loop : tie.invariant-loop-p
 invariant_loop rows n m ideal intercepts normalized₀ p₀ normalized p =
     (p ≤ n) × (length normalized ≡ length normalized₀) × (normalized ≡ over (flat_rows (normal_at rows m ideal intercepts) p m) normalized₀)
 
-abbrev decreases_loop : tie.decreases-loop
+abbrev decreases_loop : tie.decreases-loop-p
 decreases_loop rows n m ideal intercepts normalized₀ p₀ normalized p = n - p
 
-loop-holds : tie.Need-loop-init invariant_loop decreases_loop
+loop-holds : tie.Need-loop-p-init invariant_loop decreases_loop
 loop-holds c = (omega arith, refl, rows_none _ _ _)
 
-normalize-row-requires : tie.Need-normalize-row-requires invariant_loop decreases_loop
+normalize-row-requires : tie.Need-normalize_row-requires invariant_loop decreases_loop
 normalize-row-requires c κs =
-    let a = c.before.before.before.before.before.before.before.args in
-    let h = row_inside c.before.before.loop.p a.n a.m c.before.loop-test.true in
+    let a = c.args in
+    let h = row_inside c.loop-p.p a.n a.m c.loop-p-test.true in
     (omega arith, omega arith, omega arith, omega arith)
 
-add-p : tie.Need-overflow-add-p invariant_loop decreases_loop
+add-p : tie.Need-overflow_add-p invariant_loop decreases_loop
 add-p c = omega arith
 
-loop-less : tie.Need-loop-smaller invariant_loop decreases_loop
+loop-less : tie.Need-loop-p-smaller invariant_loop decreases_loop
 loop-less c = omega arith
 
-loop-again : tie.Need-loop-preserved invariant_loop decreases_loop
+loop-again : tie.Need-loop-p-preserved invariant_loop decreases_loop
 loop-again c =
-    let l = c.before.before.before.before.before.loop in
-    let a = c.before.before.before.before.before.before.before.before.before.before.args in
-    let f = c.before.before.normalize-row in
-    let h = row_within l.p a.n a.m (length a.normalized.now) c.before.before.before.before.loop-test.true (omega arith) in
-    (omega arith, f.auto.1.1.1.1.1.0 ∙ l.invariant.1, rows_more _ _ _ _ _ _ h l.invariant.2 f.ensures)
+    let l = c.loop-p in
+    let a = c.args in
+    let f = c.normalize_row in
+    let h = row_within l.p a.n a.m (length a.normalized.now) c.loop-p-test.true (omega arith) in
+    (omega arith, f.auto.normalized ∙ l.invariant.1, rows_more _ _ _ _ _ _ h l.invariant.2 f.ensures)
 
-same_length : tie.Need-same-length invariant_loop decreases_loop
-same_length c = c.before.loop.invariant.1
+same_length : tie.Need-shape_of-normalized invariant_loop decreases_loop
+same_length c = c.loop-p.invariant.1
 
 returns : tie.Need-returns invariant_loop decreases_loop
 returns c =
-    let a = c.before.before.before.before.before.before.args in
-    let l = c.before.loop in
+    let a = c.args in
+    let l = c.loop-p in
     let e : l.p ≡ a.n = omega arith in
     let left : l.normalized ≡ over (flat_rows (normal_at a.rows.now a.m a.ideal.now a.intercepts.now) a.n a.m) a.normalized.now =
     rw e at l.invariant.2 in

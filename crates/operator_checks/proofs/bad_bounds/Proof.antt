@@ -7,56 +7,56 @@ use Rattle.model.specs.Refusal.{bad_bounds}
 use Rattle.operator_checks.proofs.bad_bounds.Statement.{statement}
 use Rattle.operator_checks.proofs.bad_bounds.Tie as tie
 
-abbrev invariant_loop : tie.invariant-loop
+abbrev invariant_loop : tie.invariant-loop-i
 invariant_loop n dims i₀ i = (i ≤ n) × (n ≤ max_dims) × (all_below (λ d. valid_bounds (dimensions_of dims d)) i ≡ true)
 
-abbrev decreases_loop : tie.decreases-loop
+abbrev decreases_loop : tie.decreases-loop-i
 decreases_loop n dims i₀ i = n - i
 
-returns : tie.Need-returns invariant_loop decreases_loop
+returns : tie.Need-returns-then-n-gt-MAX_DIMS invariant_loop decreases_loop
 unfolding bad_bounds
-returns c = rw (lt-ltb max_dims c.before.args.n (omega arith))
+returns c = rw (lt-ltb max_dims c.args.n (omega arith))
 
-loop-holds : tie.Need-loop-init invariant_loop decreases_loop
+loop-holds : tie.Need-loop-i-init invariant_loop decreases_loop
 loop-holds c = (omega arith, omega arith, all_below_none _)
 
-mul-info : tie.Need-overflow-mul-info invariant_loop decreases_loop
+mul-info : tie.Need-offset_bounds-dims-i invariant_loop decreases_loop
 mul-info c = omega arith
 
-array-copy-out-info : tie.Need-array-copy-out-info invariant_loop decreases_loop
+array-copy-out-info : tie.Need-bounds-dims-i invariant_loop decreases_loop
 array-copy-out-info c = omega arith
 
-valid-bounds-requires : tie.Need-valid-bounds-requires invariant_loop decreases_loop
+valid-bounds-requires : tie.Need-valid_bounds-requires invariant_loop decreases_loop
 valid-bounds-requires c κs = tt
 
-add-i : tie.Need-overflow-add-i invariant_loop decreases_loop
+add-i : tie.Need-overflow_add-i invariant_loop decreases_loop
 add-i c = omega arith
 
-loop-less : tie.Need-loop-smaller invariant_loop decreases_loop
+loop-less : tie.Need-loop-i-smaller invariant_loop decreases_loop
 loop-less c = omega arith
 
-loop-again : tie.Need-loop-preserved invariant_loop decreases_loop
+loop-again : tie.Need-loop-i-preserved invariant_loop decreases_loop
 loop-again c =
-    let l = c.before.before.before.before.loop in
-    (omega arith, omega arith, all_below_yes _ _ l.invariant.2 (sym c.before.valid_bounds_lem.ensures ∙ c.if2.true))
+    let l = c.loop-i in
+    (omega arith, omega arith, all_below_yes _ _ l.invariant.2 (sym c.valid_bounds.ensures ∙ c.if-valid_bounds.true))
 
-returns-2 : tie.Need-returns-2 invariant_loop decreases_loop
+returns-2 : tie.Need-returns-else-valid_bounds invariant_loop decreases_loop
 unfolding bad_bounds
 returns-2 c =
-    let l = c.before.before.before.before.loop in
-    let n = c.before.before.before.before.before.before.args.n in
-    rw (le-ltb max_dims n (omega arith), all_below_no _ n l.i (omega arith) (sym c.before.valid_bounds_lem.ensures ∙ c.if2.false))
+    let l = c.loop-i in
+    let n = c.args.n in
+    rw (le-ltb max_dims n (omega arith), all_below_no _ n l.i (omega arith) (sym c.valid_bounds.ensures ∙ c.if-valid_bounds.false))
 
-returns-3 : tie.Need-returns-3 invariant_loop decreases_loop
+returns-3 : tie.Need-returns invariant_loop decreases_loop
 unfolding bad_bounds
 returns-3 c =
-    let l = c.before.loop in
-    let n = c.before.before.before.args.n in
+    let l = c.loop-i in
+    let n = c.args.n in
     let e : l.i ≡ n = omega arith in
     rw (le-ltb max_dims n (omega arith), rw e at l.invariant.2)
 
-pub bad-bounds_spec : {M : Type 1} → statement M
-bad-bounds_spec =
+pub bad_bounds_spec : {M : Type 1} → statement M
+bad_bounds_spec =
     tie.close
     (tie.spec
     invariant_loop

@@ -5,13 +5,13 @@ use Rattle.model.specs.Setting.{valid_bounds}
 use Rattle.operator_checks.proofs.valid_categorical.Statement.{statement}
 use Rattle.operator_checks.proofs.valid_categorical.Tie as tie
 
-returns : tie.Need-returns
+returns : tie.Need-returns-then-n-ge1
 unfolding valid_bounds
-returns c = rw (le-leb _ _ c.if1.true)
+returns c = rw (le-leb _ _ c.if-n-ge1.true)
 
-returns-2 : tie.Need-returns-2
+returns-2 : tie.Need-returns
 unfolding valid_bounds
-returns-2 c = rw (lt-leb _ _ c.if1.false)
+returns-2 c = rw (lt-leb _ _ c.if-n-ge1.false)
 
 pub valid_categorical_spec : {M : Type 1} → statement M
 valid_categorical_spec = tie.close (tie.spec returns returns-2)

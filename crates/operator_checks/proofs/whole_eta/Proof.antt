@@ -15,22 +15,22 @@ no_eta : (x : Float) → within nought ninety_nine x ≡ false → false ≡ who
 unfolding whole_eta
 no_eta x h = rw h
 
-real-within-requires : tie.Need-real-within-requires
+real-within-requires : tie.Need-real_within-requires
 real-within-requires c κs = tt
 
-truncating-f64-to-u64-requires : tie.Need-truncating-f64-to-u64-requires
-truncating-f64-to-u64-requires c κs = castable _ (sym c.before.real-within.ensures ∙ c.if1.true)
+truncating-f64-to-u64-requires : tie.Need-truncating_f64_to_u64-k-requires
+truncating-f64-to-u64-requires c κs = castable _ (sym c.real_within.ensures ∙ c.if-real_within.true)
 
-nearest-u64-to-f64-requires : tie.Need-nearest-u64-to-f64-requires
+nearest-u64-to-f64-requires : tie.Need-nearest_u64_to_f64-y-requires
 nearest-u64-to-f64-requires c κs = tt
 
-returns : tie.Need-returns
+returns : tie.Need-returns-then-real_within
 returns c =
-    let b = c.before.before in
-    is_eta _ _ _ (sym b.before.real-within.ensures ∙ b.if1.true) c.before.truncating-f64-to-u64.ensures c.nearest-u64-to-f64.ensures
+    let b = c in
+    is_eta _ _ _ (sym b.real_within.ensures ∙ b.if-real_within.true) c.truncating_f64_to_u64-k.ensures c.nearest_u64_to_f64-y.ensures
 
-returns-2 : tie.Need-returns-2
-returns-2 c = no_eta _ (sym c.before.real-within.ensures ∙ c.if1.false)
+returns-2 : tie.Need-returns
+returns-2 c = no_eta _ (sym c.real_within.ensures ∙ c.if-real_within.false)
 
 pub whole_eta_spec : {M : Type 1} → statement M
 whole_eta_spec =

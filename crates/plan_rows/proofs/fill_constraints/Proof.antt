@@ -10,61 +10,61 @@ use Rattle.list_laws.proofs.Built.{over_none, over-set, over-size}
 use Rattle.plan_rows.proofs.fill_constraints.Statement.{statement}
 use Rattle.plan_rows.proofs.fill_constraints.Tie as tie
 
-abbrev invariant_loop : tie.invariant-loop
+abbrev invariant_loop : tie.invariant-loop-p
 invariant_loop pool n feasible₀ violations₀ p₀ feasible violations p =
     (p ≤ n) × (feasible ≡ over (list_below (λ q. row.feasible (plan_at pool q).constraints) p) feasible₀)
     × (violations ≡ over (list_below (λ q. row.violation (plan_at pool q).constraints) p) violations₀)
 
-abbrev decreases_loop : tie.decreases-loop
+abbrev decreases_loop : tie.decreases-loop-p
 decreases_loop pool n feasible₀ violations₀ p₀ feasible violations p = n - p
 
 -- both lists keep their lengths
-sizes : (c : tie.At-loop invariant_loop decreases_loop)
-    → (length c.loop.feasible ≡ length c.before.before.before.before.args.feasible.now)
-    × (length c.loop.violations ≡ length c.before.before.before.before.args.violations.now)
+sizes : (c : tie.At-loop-p invariant_loop decreases_loop)
+    → (length c.loop-p.feasible ≡ length c.args.feasible.now)
+    × (length c.loop-p.violations ≡ length c.args.violations.now)
 sizes c =
     let a = c.before.before.before.before in (
-      over-size _ _ _ _ c.loop.invariant.1 (omega (arith, a.requires.0.1)),
-      over-size _ _ _ _ c.loop.invariant.2 (omega (arith, a.requires.0.2)),
+      over-size _ _ _ _ c.loop-p.invariant.1 (omega (arith, a.requires.0.1)),
+      over-size _ _ _ _ c.loop-p.invariant.2 (omega (arith, a.requires.0.2)),
     )
 
-loop-holds : tie.Need-loop-init invariant_loop decreases_loop
+loop-holds : tie.Need-loop-p-init invariant_loop decreases_loop
 loop-holds c = (omega arith, sym (over_none _ _), sym (over_none _ _))
 
-fill-plan-requires : tie.Need-fill-plan-requires invariant_loop decreases_loop
+fill-plan-requires : tie.Need-fill_plan-requires invariant_loop decreases_loop
 fill-plan-requires c κs =
     let a = c.before.before.before.before.before.before.before in
-    let l = c.before.before.before.loop in
-    let u = c.before.before.loop-test.true in
+    let l = c.loop-p in
+    let u = c.loop-p-test.true in
     let s = sizes c.before.before.before in
     (omega arith, a.requires.1 l.p u, omega (arith, s.0, a.requires.0.1), omega (arith, s.1, a.requires.0.2))
 
-add-p : tie.Need-overflow-add-p invariant_loop decreases_loop
+add-p : tie.Need-overflow_add-p invariant_loop decreases_loop
 add-p c = omega arith
 
-loop-less : tie.Need-loop-smaller invariant_loop decreases_loop
+loop-less : tie.Need-loop-p-smaller invariant_loop decreases_loop
 loop-less c = omega arith
 
-loop-again : tie.Need-loop-preserved invariant_loop decreases_loop
+loop-again : tie.Need-loop-p-preserved invariant_loop decreases_loop
 loop-again c =
     let a = c.before.before.before.before.before.before.before.before.before.before.before.before in
-    let l = c.before.before.before.before.before.before.before.before.loop in
-    let f = c.before.before.before.before.fill-plan.ensures in (
+    let l = c.loop-p in
+    let f = c.fill_plan.ensures in (
       omega arith,
       f.feasibility ∙ over-set _ _ _ l.p _ (omega (arith, a.requires.0.1)) l.invariant.1 refl,
       f.violations ∙ over-set _ _ _ l.p _ (omega (arith, a.requires.0.2)) l.invariant.2 refl,
     )
 
-same_length : tie.Need-same-length invariant_loop decreases_loop
+same_length : tie.Need-shape_of-feasible invariant_loop decreases_loop
 same_length c = (sizes c.before).0
 
-same-length-2 : tie.Need-same-length-2 invariant_loop decreases_loop
+same-length-2 : tie.Need-shape_of-violations invariant_loop decreases_loop
 same-length-2 c = (sizes c.before).1
 
 returns : tie.Need-returns invariant_loop decreases_loop
 returns c =
-    let l = c.before.loop in
-    let e : l.p ≡ c.before.before.before.before.before.args.n = omega arith in
+    let l = c.loop-p in
+    let e : l.p ≡ c.args.n = omega arith in
     record { feasibility = rw e at l.invariant.1; violations = rw e at l.invariant.2 }
 
 pub fill_constraints_spec : {M : Type 1} → statement M

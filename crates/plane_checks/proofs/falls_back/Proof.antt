@@ -6,43 +6,43 @@ use Rattle.hyperplane_laws.proofs.Agree.{or_yes, or_past}
 use Rattle.plane_checks.proofs.falls_back.Statement.{statement}
 use Rattle.plane_checks.proofs.falls_back.Tie as tie
 
-same-extremes-requires : tie.Need-same-extremes-requires
+same-extremes-requires : tie.Need-same_extremes-requires
 same-extremes-requires c κs = search rules
 
-returns : tie.Need-returns
+returns : tie.Need-returns-then-same_extremes
 unfolding falls_back unbounded
-returns c = sym (or_yes _ _ (sym c.before.same-extremes.ensures ∙ c.if1.true))
+returns c = sym (or_yes _ _ (sym c.same_extremes.ensures ∙ c.if-same_extremes.true))
 
-zero-pivot-requires : tie.Need-zero-pivot-requires
+zero-pivot-requires : tie.Need-zero_pivot-requires
 zero-pivot-requires c κs = search rules
 
-returns-2 : tie.Need-returns-2
+returns-2 : tie.Need-returns-then-zero_pivot
 unfolding falls_back unbounded
-returns-2 c = sym (or_past _ _ _ (sym c.before.before.before.same-extremes.ensures ∙ c.before.before.if1.false) (or_yes _ _ (sym c.before.zero-pivot.ensures ∙ c.if2.true)))
+returns-2 c = sym (or_past _ _ _ (sym c.same_extremes.ensures ∙ c.if-same_extremes.false) (or_yes _ _ (sym c.zero_pivot.ensures ∙ c.if-zero_pivot.true)))
 
-unbounded-plane-requires : tie.Need-unbounded-plane-requires
+unbounded-plane-requires : tie.Need-unbounded_plane-requires
 unbounded-plane-requires c κs = search rules
 
-returns-3 : tie.Need-returns-3
+returns-3 : tie.Need-returns-then-unbounded_plane
 unfolding falls_back unbounded
-returns-3 c = sym (or_past _ _ _ (sym c.before.before.before.before.before.same-extremes.ensures ∙ c.before.before.before.before.if1.false) (or_past _ _ _ (sym c.before.before.before.zero-pivot.ensures ∙ c.before.before.if2.false) (or_yes _ _ (sym c.before.unbounded-plane.ensures ∙ c.if3.true))))
+returns-3 c = sym (or_past _ _ _ (sym c.same_extremes.ensures ∙ c.if-same_extremes.false) (or_past _ _ _ (sym c.zero_pivot.ensures ∙ c.if-zero_pivot.false) (or_yes _ _ (sym c.unbounded_plane.ensures ∙ c.if-unbounded_plane.true))))
 
-low-intercept-requires : tie.Need-low-intercept-requires
+low-intercept-requires : tie.Need-low_intercept-requires
 low-intercept-requires c κs = search rules
 
-returns-4 : tie.Need-returns-4
+returns-4 : tie.Need-returns-then-low_intercept
 unfolding falls_back unbounded
-returns-4 c = sym (or_past _ _ _ (sym c.before.before.before.before.before.before.before.same-extremes.ensures ∙ c.before.before.before.before.before.before.if1.false) (or_past _ _ _ (sym c.before.before.before.before.before.zero-pivot.ensures ∙ c.before.before.before.before.if2.false) (or_past _ _ _ (sym c.before.before.before.unbounded-plane.ensures ∙ c.before.before.if3.false) (or_yes _ _ (sym c.before.low-intercept.ensures ∙ c.if4.true)))))
+returns-4 c = sym (or_past _ _ _ (sym c.same_extremes.ensures ∙ c.if-same_extremes.false) (or_past _ _ _ (sym c.zero_pivot.ensures ∙ c.if-zero_pivot.false) (or_past _ _ _ (sym c.unbounded_plane.ensures ∙ c.if-unbounded_plane.false) (or_yes _ _ (sym c.low_intercept.ensures ∙ c.if-low_intercept.true)))))
 
-beyond-bound-requires : tie.Need-beyond-bound-requires
+beyond-bound-requires : tie.Need-beyond_bound-requires
 beyond-bound-requires c κs = search rules
 
-returns-5 : tie.Need-returns-5
+returns-5 : tie.Need-returns
 unfolding falls_back unbounded
-returns-5 c = sym (or_past _ _ _ (sym c.before.before.before.before.before.before.before.before.same-extremes.ensures ∙ c.before.before.before.before.before.before.before.if1.false) (or_past _ _ _ (sym c.before.before.before.before.before.before.zero-pivot.ensures ∙ c.before.before.before.before.before.if2.false) (or_past _ _ _ (sym c.before.before.before.before.unbounded-plane.ensures ∙ c.before.before.before.if3.false) (or_past _ _ _ (sym c.before.before.low-intercept.ensures ∙ c.before.if4.false) (sym c.beyond-bound.ensures)))))
+returns-5 c = sym (or_past _ _ _ (sym c.same_extremes.ensures ∙ c.if-same_extremes.false) (or_past _ _ _ (sym c.zero_pivot.ensures ∙ c.if-zero_pivot.false) (or_past _ _ _ (sym c.unbounded_plane.ensures ∙ c.if-unbounded_plane.false) (or_past _ _ _ (sym c.low_intercept.ensures ∙ c.if-low_intercept.false) (sym c.beyond_bound.ensures)))))
 
-pub falls-back_spec : {M : Type 1} → statement M
-falls-back_spec =
+pub falls_back_spec : {M : Type 1} → statement M
+falls_back_spec =
     tie.close
     (tie.spec
     same-extremes-requires

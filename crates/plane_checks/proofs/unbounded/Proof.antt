@@ -26,17 +26,17 @@ high nan h = refl
 high (inf s) h = refl
 high (fin s m e) h = absurd (true≢false h)
 
-returns : tie.Need-returns
+returns : tie.Need-returns-then-x-2
 unfolding div of_bits neg
-returns c = inside c.before.before.args.x c.before.if1.true c.if2.true
+returns c = inside c.args.x c.if-x.true c.if-x-2.true
 
-returns-2 : tie.Need-returns-2
+returns-2 : tie.Need-returns-then-x
 unfolding div of_bits neg
-returns-2 c = low c.before.before.args.x c.if2.false
+returns-2 c = low c.args.x c.if-x-2.false
 
-returns-3 : tie.Need-returns-3
+returns-3 : tie.Need-returns
 unfolding div of_bits neg
-returns-3 c = high c.before.args.x c.if1.false
+returns-3 c = high c.args.x c.if-x.false
 
 pub unbounded_spec : {M : Type 1} → statement M
 unbounded_spec = tie.close (tie.spec returns returns-2 returns-3)

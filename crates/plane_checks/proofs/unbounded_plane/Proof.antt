@@ -5,23 +5,23 @@ use Rattle.hyperplane_laws.proofs.Agree.{or_yes, or_past}
 use Rattle.plane_checks.proofs.unbounded_plane.Statement.{statement}
 use Rattle.plane_checks.proofs.unbounded_plane.Tie as tie
 
-unbounded-matrix-requires : tie.Need-unbounded-matrix-requires
+unbounded-matrix-requires : tie.Need-unbounded_matrix-requires
 unbounded-matrix-requires c κs = search rules
 
-returns : tie.Need-returns
-returns c = sym (or_yes _ _ (sym c.before.unbounded-matrix.ensures ∙ c.if1.true))
+returns : tie.Need-returns-then-unbounded_matrix
+returns c = sym (or_yes _ _ (sym c.unbounded_matrix.ensures ∙ c.if-unbounded_matrix.true))
 
-unbounded-in-requires : tie.Need-unbounded-in-requires
+unbounded-in-requires : tie.Need-unbounded_in-requires
 unbounded-in-requires c κs = search rules
 
-returns-2 : tie.Need-returns-2
-returns-2 c = sym (or_past _ _ _ (sym c.before.before.before.unbounded-matrix.ensures ∙ c.before.before.if1.false) (or_yes _ _ (sym c.before.unbounded-in.ensures ∙ c.if2.true)))
+returns-2 : tie.Need-returns-then-unbounded_in
+returns-2 c = sym (or_past _ _ _ (sym c.unbounded_matrix.ensures ∙ c.if-unbounded_matrix.false) (or_yes _ _ (sym c.unbounded_in.ensures ∙ c.if-unbounded_in.true)))
 
-unbounded-in-requires-2 : tie.Need-unbounded-in-requires-2
+unbounded-in-requires-2 : tie.Need-unbounded_in-requires-2
 unbounded-in-requires-2 c κs = search rules
 
-returns-3 : tie.Need-returns-3
-returns-3 c = sym (or_past _ _ _ (sym c.before.before.before.before.unbounded-matrix.ensures ∙ c.before.before.before.if1.false) (or_past _ _ _ (sym c.before.before.unbounded-in.ensures ∙ c.before.if2.false) (sym c.unbounded-in2.ensures)))
+returns-3 : tie.Need-returns
+returns-3 c = sym (or_past _ _ _ (sym c.unbounded_matrix.ensures ∙ c.if-unbounded_matrix.false) (or_past _ _ _ (sym c.unbounded_in.ensures ∙ c.if-unbounded_in.false) (sym c.unbounded_in-2.ensures)))
 
 pub unbounded_plane_spec : {M : Type 1} → statement M
 unbounded_plane_spec =

@@ -7,12 +7,12 @@ use Rattle.plans.proofs.good_entry.Tie as tie
 measurable-requires : tie.Need-measurable-requires
 measurable-requires c κs = tt
 
-returns : tie.Need-returns
-returns c = let e = sym c.before.measurable.ensures ∙ c.if1.true in rw e
+returns : tie.Need-returns-then-measurable
+returns c = let e = sym c.measurable.ensures ∙ c.if-measurable.true in rw e
 
-returns-2 : tie.Need-returns-2
+returns-2 : tie.Need-returns
 unfolding div of_bits
-returns-2 c = let e = sym c.before.measurable.ensures ∙ c.if1.false in rw e
+returns-2 c = let e = sym c.measurable.ensures ∙ c.if-measurable.false in rw e
 
-pub good-entry_spec : {M : Type 1} → statement M
-good-entry_spec = tie.close (tie.spec measurable-requires returns returns-2)
+pub good_entry_spec : {M : Type 1} → statement M
+good_entry_spec = tie.close (tie.spec measurable-requires returns returns-2)

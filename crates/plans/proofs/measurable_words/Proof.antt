@@ -9,50 +9,50 @@ use Rattle.plans.proofs.Refused.{measurable_to}
 use Rattle.plans.proofs.measurable_words.Statement.{statement}
 use Rattle.plans.proofs.measurable_words.Tie as tie
 
-abbrev invariant_loop : tie.invariant-loop
+abbrev invariant_loop : tie.invariant-loop-j
 invariant_loop words at n j₀ j = (j ≤ n) × (measurable_to words at j ≡ true)
 
-abbrev decreases_loop : tie.decreases-loop
+abbrev decreases_loop : tie.decreases-loop-j
 decreases_loop words at n j₀ j = n - j
 
-loop-holds : tie.Need-loop-init invariant_loop decreases_loop
+loop-holds : tie.Need-loop-j-init invariant_loop decreases_loop
 loop-holds c = (omega arith, all_below_none _)
 
-add-real-of-word : tie.Need-overflow-add-real-of-word invariant_loop decreases_loop
+add-real-of-word : tie.Need-overflow_add-at invariant_loop decreases_loop
 add-real-of-word c = omega arith
 
-mul-real-of-word : tie.Need-overflow-mul-real-of-word invariant_loop decreases_loop
+mul-real-of-word : tie.Need-offset_bounds-words-at invariant_loop decreases_loop
 mul-real-of-word c = omega arith
 
-shared-slice-read-real-of-word : tie.Need-shared-slice-read-real-of-word invariant_loop decreases_loop
+shared-slice-read-real-of-word : tie.Need-bounds-words-at invariant_loop decreases_loop
 shared-slice-read-real-of-word c = omega arith
 
-real-of-word-requires : tie.Need-real-of-word-requires invariant_loop decreases_loop
+real-of-word-requires : tie.Need-real_of_word-x-requires invariant_loop decreases_loop
 real-of-word-requires c κs = tt
 
 measurable-requires : tie.Need-measurable-requires invariant_loop decreases_loop
 measurable-requires c κs = tt
 
-add-j : tie.Need-overflow-add-j invariant_loop decreases_loop
+add-j : tie.Need-overflow_add-j invariant_loop decreases_loop
 add-j c = omega arith
 
-loop-less : tie.Need-loop-smaller invariant_loop decreases_loop
+loop-less : tie.Need-loop-j-smaller invariant_loop decreases_loop
 loop-less c = omega arith
 
-loop-again : tie.Need-loop-preserved invariant_loop decreases_loop
-loop-again c = (omega arith, all_below_yes _ _ c.before.before.before.before.before.loop.invariant.1 (sym (c.before.measurable.ensures ∙ ap measurable c.before.before.real-of-word.ensures) ∙ c.if1.true))
+loop-again : tie.Need-loop-j-preserved invariant_loop decreases_loop
+loop-again c = (omega arith, all_below_yes _ _ c.loop-j.invariant.1 (sym (c.measurable.ensures ∙ ap measurable c.real_of_word-x.ensures) ∙ c.if-measurable.true))
 
-returns : tie.Need-returns invariant_loop decreases_loop
-returns c = sym (all_below_no _ _ c.before.before.before.before.before.loop.j (omega arith) (sym (c.before.measurable.ensures ∙ ap measurable c.before.before.real-of-word.ensures) ∙ c.if1.false))
+returns : tie.Need-returns-else-measurable invariant_loop decreases_loop
+returns c = sym (all_below_no _ _ c.loop-j.j (omega arith) (sym (c.measurable.ensures ∙ ap measurable c.real_of_word-x.ensures) ∙ c.if-measurable.false))
 
-returns-2 : tie.Need-returns-2 invariant_loop decreases_loop
+returns-2 : tie.Need-returns invariant_loop decreases_loop
 returns-2 c =
-    let l = c.before.loop in
-    let e : l.j ≡ c.before.before.before.args.n = omega arith in
+    let l = c.loop-j in
+    let e : l.j ≡ c.args.n = omega arith in
     sym (rw e at l.invariant.1)
 
-pub measurable-words_spec : {M : Type 1} → statement M
-measurable-words_spec =
+pub measurable_words_spec : {M : Type 1} → statement M
+measurable_words_spec =
     tie.close
     (tie.spec
     invariant_loop

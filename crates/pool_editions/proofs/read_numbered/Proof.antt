@@ -9,90 +9,65 @@ use borrow.Author.Rules.{rules}
 use Rattle.pool_editions.proofs.read_numbered.Statement.{statement}
 use Rattle.pool_editions.proofs.read_numbered.Tie as tie
 
-number_read : (c : tie.After-p) → let a = c.before.before.before.before.before.args in Number a.file.now a.at c.p.given.0.0 c.p.given.0.1.0
-number_read c = let n = c.before.before in number-told _ n.before.before.before.args.at _ _ _ n.read_number.ensures c.p.given.1
-
-rows-read : (c : tie.After-q) → let r = c.before.before.before.before in
-    let p = r.before.before.before in
-    let a = p.before.before.before.before.before.args in
-    Reads (rows a.m) (λ t. Block a.base a.pool.now r.read-plan.new.1.1.1.0 (measured a.m t)) a.file.now p.p.given.0.1.0 c.q.given.0.0
-rows-read c =
-    let r = c.before.before.before.before in
-    let p = r.before.before.before in
-    as_told _ _ _ p.p.given.0.1.0 c.q.given.1 r.read-plan.ensures
-
-count-read : (c : tie.After-c) → let q = c.before.before.before.before in
-    Number q.before.before.before.before.before.before.before.before.before.before.before.before.args.file.now q.q.given.0.0 c.c.given.0.0 c.c.given.0.1.0
-count-read c = let n = c.before.before in number-told _ n.before.before.q.given.0.0 _ _ _ n.read-number2.ensures c.c.given.1
-
-read-number-requires : tie.Need-read-number-requires
+read-number-requires : tie.Need-read_number-requires
 read-number-requires c κs = tt
 
-enum-known-p : tie.Need-enum-known-p
+enum-known-p : tie.Need-enum_known-p
 enum-known-p c = search rules
 
-enum_told : tie.Need-enum-told
+enum_told : tie.Need-enum_told-1
 enum_told c = search rules
 
-returns : tie.Need-returns
+returns : tie.Need-returns-in_default
 returns c =
-    let n = c.before.before in
-    let a = n.before.before.before.args in
-    no_number _ a.at _ a.base a.pool.now (told _ a.at _ _ n.read_number.ensures c.enum_told.given.1)
+    let a = c.args in
+    no_number _ a.at _ a.base a.pool.now (told _ a.at _ _ c.read_number.ensures c.in_default.is)
 
-read-plan-requires : tie.Need-read-plan-requires
+read-plan-requires : tie.Need-read_plan-requires
 read-plan-requires c κs = search rules
 
-enum-known-q : tie.Need-enum-known-q
+enum-known-q : tie.Need-enum_known-q
 enum-known-q c = search rules
 
-enum-told-2 : tie.Need-enum-told-2
+enum-told-2 : tie.Need-enum_told-in_default-read_plan
 enum-told-2 c = search rules
 
-same_length : tie.Need-same-length
+same_length : tie.Need-shape_of-pool-in_default-read_plan
 same_length c = search rules
 
-returns-2 : tie.Need-returns-2
+returns-2 : tie.Need-returns-in_default-read_plan
 returns-2 c =
-    let r = c.before.before.before.before in
-    let p = r.before.before.before in
-    let a = p.before.before.before.before.before.args in
-    no_rows _ _ _ a.base a.pool.now (number_read p) _ _ r.read-plan.ensures c.enum-told2.given.1
+    let a = c.args in
+    no_rows _ _ _ a.base a.pool.now (number-told _ c.args.at _ _ _ c.read_number.ensures c.in-Number.is) _ _ c.read_plan.ensures c.in_default-read_plan.is
 
-read-number-requires-2 : tie.Need-read-number-requires-2
+read-number-requires-2 : tie.Need-read_number-requires-2
 read-number-requires-2 c κs = tt
 
-enum-known-c : tie.Need-enum-known-c
+enum-known-c : tie.Need-enum_known-c
 enum-known-c c = search rules
 
-enum-told-3 : tie.Need-enum-told-3
+enum-told-3 : tie.Need-enum_told-in_default-read_number
 enum-told-3 c = search rules
 
-same-length-2 : tie.Need-same-length-2
+same-length-2 : tie.Need-shape_of-pool-in_default-read_number
 same-length-2 c = search rules
 
-returns-3 : tie.Need-returns-3
+returns-3 : tie.Need-returns-in_default-read_number
 returns-3 c =
-    let n = c.before.before in
-    let q = n.before.before in
-    let p = q.before.before.before.before.before.before.before in
-    no_count _ _ _ _ _ (number_read p) _ (rows-read q) (told _ q.q.given.0.0 _ _ n.read-number2.ensures c.enum-told3.given.1)
+    no_count _ _ _ _ _ (number-told _ c.args.at _ _ _ c.read_number.ensures c.in-Number.is) _ (as_told _ _ _ c.in-Number.p c.in-At.is c.read_plan.ensures) (told _ c.in-At.q _ _ c.read_number-2.ensures c.in_default-read_number.is)
 
-read-settings-requires : tie.Need-read-settings-requires
+read-settings-requires : tie.Need-read_settings-requires
 read-settings-requires c κs = tt
 
-same-length-3 : tie.Need-same-length-3
+same-length-3 : tie.Need-shape_of-pool
 same-length-3 c = search rules
 
-returns-4 : tie.Need-returns-4
+returns-4 : tie.Need-returns
 returns-4 c =
-    let k = c.before.before in
-    let q = k.before.before.before.before in
-    let p = q.before.before.before.before.before.before.before in
-    second-entry _ _ _ _ _ (number_read p) _ (rows-read q) (count-read k) c.read-settings.result c.read-settings.ensures
+    second-entry _ _ _ _ _ (number-told _ c.args.at _ _ _ c.read_number.ensures c.in-Number.is) _ (as_told _ _ _ c.in-Number.p c.in-At.is c.read_plan.ensures) (number-told _ c.in-At.q _ _ _ c.read_number-2.ensures c.in-Number-read_number.is) c.read_settings.result c.read_settings.ensures
 
-pub read-numbered_spec : {M : Type 1} → statement M
-read-numbered_spec =
+pub read_numbered_spec : {M : Type 1} → statement M
+read_numbered_spec =
     tie.close
     (tie.spec
     read-number-requires

@@ -9,71 +9,71 @@ use Rattle.pool_editions.proofs.Planned.{plans_none, plans-more, plans_stop}
 use Rattle.pool_editions.proofs.read_plans.Statement.{statement}
 use Rattle.pool_editions.proofs.read_plans.Tie as tie
 
-abbrev invariant_loop : tie.invariant-loop
+abbrev invariant_loop : tie.invariant-loop-i
 invariant_loop file at m n second pool₀ p₀ i₀ pool p i = (i ≤ n) × (length pool ≡ length pool₀) × Plans second file at m i pool p
 
-abbrev decreases_loop : tie.decreases-loop
+abbrev decreases_loop : tie.decreases-loop-i
 decreases_loop file at m n second pool₀ p₀ i₀ pool p i = n - i
 
-loop-holds : tie.Need-loop-init invariant_loop decreases_loop
-loop-holds c = let a = c.before.before.args in (omega arith, refl, plans_none a.second _ _ a.m a.pool.now)
+loop-holds : tie.Need-loop-i-init invariant_loop decreases_loop
+loop-holds c = let a = c.args in (omega arith, refl, plans_none a.second _ _ a.m a.pool.now)
 
-block-of-requires : tie.Need-block-of-requires invariant_loop decreases_loop
+block-of-requires : tie.Need-block_of-base-requires invariant_loop decreases_loop
 block-of-requires c κs = tt
 
-read-entry-requires : tie.Need-read-entry-requires invariant_loop decreases_loop
-read-entry-requires c κs = omega (arith, c.before.Block-of.ensures.0)
+read-entry-requires : tie.Need-read_entry-requires invariant_loop decreases_loop
+read-entry-requires c κs = omega (arith, c.block_of-base.ensures.0)
 
-enum-known-next : tie.Need-enum-known-next invariant_loop decreases_loop
+enum-known-next : tie.Need-enum_known-next invariant_loop decreases_loop
 enum-known-next c = search rules
 
-enum_told : tie.Need-enum-told invariant_loop decreases_loop
+enum_told : tie.Need-enum_told-1 invariant_loop decreases_loop
 enum_told c = search rules
 
-same_length : tie.Need-same-length invariant_loop decreases_loop
+same_length : tie.Need-shape_of-pool-in_default invariant_loop decreases_loop
 same_length c =
-    let r = c.before.before.before.before in
-    r.read-entry.auto.1.1.1.1.0 ∙ r.before.before.before.before.loop.invariant.1
+    let r = c in
+    r.read_entry.auto.pool ∙ r.loop-i.invariant.1
 
-returns : tie.Need-returns invariant_loop decreases_loop
+returns : tie.Need-returns-in_default invariant_loop decreases_loop
 returns c =
-    let r = c.before.before.before.before in
-    let b = r.before.before in
-    let h = b.before.before in
-    let l = h.loop in
-    let a = h.before.before.before.args in
-    plans_stop a.second _ _ a.m l.pool l.i l.p b.Block-of.result r.read-entry.new.1.1.1.1.0 r.read-entry.result l.invariant.2 r.read-entry.ensures _ b.before.loop-test.true c.enum_told.given.1
+    let r = c in
+    let b = c in
+    let h = c in
+    let l = h.loop-i in
+    let a = h.args in
+    plans_stop a.second _ _ a.m l.pool l.i l.p b.block_of-base.result r.read_entry.new.pool r.read_entry.result l.invariant.2 r.read_entry.ensures _ b.loop-i-test.true c.in_default.is
 
-add-i : tie.Need-overflow-add-i invariant_loop decreases_loop
+add-i : tie.Need-overflow_add-i invariant_loop decreases_loop
 add-i c = omega arith
 
-loop-less : tie.Need-loop-smaller invariant_loop decreases_loop
+loop-less : tie.Need-loop-i-smaller invariant_loop decreases_loop
 loop-less c = omega arith
 
-loop-again : tie.Need-loop-preserved invariant_loop decreases_loop
+loop-again : tie.Need-loop-i-preserved invariant_loop decreases_loop
 loop-again c =
-    let x = c.before in
-    let r = x.before.before.before.before in
-    let b = r.before.before in
-    let h = b.before.before in
-    let l = h.loop in
-    let a = h.before.before.before.args in (
+    let x = c in
+    let r = c in
+    let b = c in
+    let h = c in
+    let l = h.loop-i in
+    let a = h.args in (
       omega arith,
-      r.read-entry.auto.1.1.1.1.0 ∙ l.invariant.1,
-      plans-more a.second _ _ a.m l.pool l.i l.p b.Block-of.result r.read-entry.new.1.1.1.1.0 r.read-entry.result l.invariant.2 r.read-entry.ensures _ b.Block-of.ensures.1 x.next.given.1,
+      r.read_entry.auto.pool ∙ l.invariant.1,
+      plans-more a.second _ _ a.m l.pool l.i l.p b.block_of-base.result r.read_entry.new.pool r.read_entry.result l.invariant.2 r.read_entry.ensures _ b.block_of-base.ensures.1 x.in-At.is,
     )
 
-same-length-2 : tie.Need-same-length-2 invariant_loop decreases_loop
-same-length-2 c = c.before.loop.invariant.1
+same-length-2 : tie.Need-shape_of-pool invariant_loop decreases_loop
+same-length-2 c = c.loop-i.invariant.1
 
-returns-2 : tie.Need-returns-2 invariant_loop decreases_loop
+returns-2 : tie.Need-returns invariant_loop decreases_loop
 returns-2 c =
-    let l = c.before.loop in
-    let e : l.i ≡ c.before.before.before.before.args.n = omega arith in
+    let l = c.loop-i in
+    let e : l.i ≡ c.args.n = omega arith in
     rw (← e) l.invariant.2
 
-pub read-plans_spec : {M : Type 1} → statement M
-read-plans_spec =
+pub read_plans_spec : {M : Type 1} → statement M
+read_plans_spec =
     tie.close
     (tie.spec
     invariant_loop

@@ -5,25 +5,25 @@ use native.Mathlib.Omega.{arith}
 use Rattle.pool_form.proofs.put_byte.Statement.{statement}
 use Rattle.pool_form.proofs.put_byte.Tie as tie
 
-slice-write-out : tie.Need-slice-write-out
+slice-write-out : tie.Need-bounds-out-at
 slice-write-out c = search rules
 
-add-result : tie.Need-overflow-add-result
+add-result : tie.Need-overflow_add-result
 add-result c = search rules
 
-same_length : tie.Need-same-length
+same_length : tie.Need-shape_of-out-then-at-out
 same_length c = search rules
 
-returns : tie.Need-returns
-returns c = byte_room _ _ _ c.if1.true
+returns : tie.Need-returns-then-at-out
+returns c = byte_room _ _ _ c.if-at-out.true
 
-returns-2 : tie.Need-returns-2
-returns-2 c = byte_past _ _ _ c.if2.true
+returns-2 : tie.Need-returns-then-out-at
+returns-2 c = byte_past _ _ _ c.if-out-at.true
 
-add-result-2 : tie.Need-overflow-add-result-2
+add-result-2 : tie.Need-overflow_add-result-2
 add-result-2 c = search rules
 
-returns-3 : tie.Need-returns-3
+returns-3 : tie.Need-returns
 returns-3 c = byte_full _ _ _ (omega arith)
 
 pub put_byte_spec : {M : Type 1} → statement M

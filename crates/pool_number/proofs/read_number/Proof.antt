@@ -12,102 +12,102 @@ use Rattle.pool_number.proofs.Groups.{Taken, taken, wider, from-over, from-padde
 use Rattle.pool_number.proofs.read_number.Statement.{statement}
 use Rattle.pool_number.proofs.read_number.Tie as tie
 
-abbrev invariant_loop : tie.invariant-loop
+abbrev invariant_loop : tie.invariant-loop-p
 invariant_loop bytes at n₀ p₀ k₀ n p k = (k ≤ 63) × ((k % 7 ≡ 0) × ((n < 2 ^ k) × (number_from k n (drop p bytes) ≡ number (drop at bytes))))
 
-abbrev decreases_loop : tie.decreases-loop
+abbrev decreases_loop : tie.decreases-loop-p
 decreases_loop bytes at n₀ p₀ k₀ n p k = length bytes - p
 
-loop-holds : tie.Need-loop-init invariant_loop decreases_loop
+loop-holds : tie.Need-loop-p-init invariant_loop decreases_loop
 loop-holds c = (omega arith, (refl, (omega arith, refl)))
 
-shared-slice-read-wide : tie.Need-shared-slice-read-wide invariant_loop decreases_loop
+shared-slice-read-wide : tie.Need-bounds-bytes-p invariant_loop decreases_loop
 shared-slice-read-wide c = omega arith
 
-wide-requires : tie.Need-wide-requires invariant_loop decreases_loop
+wide-requires : tie.Need-wide-b-requires invariant_loop decreases_loop
 wide-requires c κs = tt
 
 -- what model reads with the byte that comes next
-turn : (w : tie.After-wide invariant_loop decreases_loop) → let l = w.before.before.before.loop in
+turn : (w : tie.After-wide-b invariant_loop decreases_loop) → let l = w.before.before.before.loop-p in
     let a = w.before.before.before.before.before.args in
-    number_from l.k l.n (w.wide.result ∷ drop (l.p + 1) a.bytes.now) ≡ number (drop a.at a.bytes.now)
+    number_from l.k l.n (w.wide-b.result ∷ drop (l.p + 1) a.bytes.now) ≡ number (drop a.at a.bytes.now)
 turn w =
-    let l = w.before.before.before.loop in
-    ap (number_from l.k l.n) (sym (opened _ l.p w.wide.result w.wide.ensures w.before.before.loop-test.true)) ∙ l.invariant.1.1.1
+    let l = w.before.before.before.loop-p in
+    ap (number_from l.k l.n) (sym (opened _ l.p w.wide-b.result w.wide-b.ensures w.before.before.loop-p-test.true)) ∙ l.invariant.1.1.1
 
-returns : tie.Need-returns invariant_loop decreases_loop
+returns : tie.Need-returns-then-b-gt1 invariant_loop decreases_loop
 returns c =
     let w = c.before.before in
-    let l = w.before.before.before.loop in
-    ap (as_read _) (sym (from-over l.k l.n w.wide.result _ c.before.if1.true (omega arith)) ∙ turn w)
+    let l = w.loop-p in
+    ap (as_read _) (sym (from-over l.k l.n w.wide-b.result _ c.if-k-eq63.true (omega arith)) ∙ turn w)
 
 -- where the two ways to the sum meet: what holds of the group
-group : (c : tie.Joined1 invariant_loop decreases_loop) → Taken c.before.before.before.before.loop.n c.before.before.before.before.loop.k c.before.wide.result
+group : (c : tie.Joined-k-eq63 invariant_loop decreases_loop) → Taken c.loop-p.n c.loop-p.k c.wide-b.result
 group c =
-    let l = c.before.before.before.before.loop in
-    taken l.n l.k c.before.wide.result l.invariant.1.1.0 l.invariant.0 l.invariant.1.0
-    (⊎_elim (λ w. inl (w.0.taken, w.1.left)) (λ w. inr w.left) c.if1.branch)
+    let l = c.loop-p in
+    taken l.n l.k c.wide-b.result l.invariant.1.1.0 l.invariant.0 l.invariant.1.0
+    (⊎_elim (λ w. inl (w.if-k-eq63.true, w.if-b-gt1.false)) (λ w. inr w.if-k-eq63.false) c.if-k-eq63.branch-raw)
 
 -- a last group that is not refused
-ended : (j : tie.Joined1 invariant_loop decreases_loop) → let l = j.before.before.before.before.loop in
+ended : (j : tie.Joined-k-eq63 invariant_loop decreases_loop) → let l = j.before.before.before.before.loop-p in
     let a = j.before.before.before.before.before.before.args in
-    let b = j.before.wide.result in
+    let b = j.before.wide-b.result in
     b < 128 → (1 ≤ b) ⊎ (l.k ≡ 0) → Number (l.n + (b % 128 * 2 ^ l.k) % 2 ^ 64) (l.p + 1) ≡ number_at a.bytes.now a.at
 ended j h s =
     let w = j.before in
-    let l = w.before.before.before.loop in
+    let l = w.before.before.before.loop-p in
     let g = group j in
     ap (λ (x : ℕ). Number (l.n + x) (l.p + 1)) g.exact ∙ as_number _ _ (l.p + 1) (omega arith)
-    ∙ ap (as_read _) (sym (from_last l.k l.n w.wide.result _ h g.fits s) ∙ turn w)
+    ∙ ap (as_read _) (sym (from_last l.k l.n w.wide-b.result _ h g.fits s) ∙ turn w)
 
-cast-n : tie.Need-overflow-cast-n invariant_loop decreases_loop
+cast-n : tie.Need-overflow_cast-n invariant_loop decreases_loop
 cast-n c = omega arith
 
-shl-n : tie.Need-overflow-shl-n invariant_loop decreases_loop
+shl-n : tie.Need-overflow_shl-n invariant_loop decreases_loop
 shl-n c = omega arith
 
-add-n : tie.Need-overflow-add-n invariant_loop decreases_loop
-add-n c = omega (arith, (group c).exact, (group c).ranges)
+add-n : tie.Need-overflow_add-n invariant_loop decreases_loop
+add-n c = omega (arith, (group c).exact, (group c).fits)
 
-add-p : tie.Need-overflow-add-p invariant_loop decreases_loop
+add-p : tie.Need-overflow_add-p invariant_loop decreases_loop
 add-p c = omega arith
 
-returns-2 : tie.Need-returns-2 invariant_loop decreases_loop
+returns-2 : tie.Need-returns-then-k-gt0 invariant_loop decreases_loop
 returns-2 c =
     let w = c.before.before.before.before in
-    let l = w.before.before.before.loop in
-    ap (as_read _) (sym (from-padded l.k l.n w.wide.result _ c.before.if4.true (omega arith)) ∙ turn w)
+    let l = w.loop-p in
+    ap (as_read _) (sym (from-padded l.k l.n w.wide-b.result _ c.if-b-eq0.true (omega arith)) ∙ turn w)
 
-returns-3 : tie.Need-returns-3 invariant_loop decreases_loop
+returns-3 : tie.Need-returns-else-k-gt0 invariant_loop decreases_loop
 returns-3 c = ended c.before.before.before (omega arith) (inr (omega arith))
 
-returns-4 : tie.Need-returns-4 invariant_loop decreases_loop
-returns-4 c = let z = c.if4.false in ended c.before.before (omega arith) (inl (omega arith))
+returns-4 : tie.Need-returns-else-b-eq0 invariant_loop decreases_loop
+returns-4 c = let z = c.if-b-eq0.false in ended c.before.before (omega arith) (inl (omega arith))
 
-add-k : tie.Need-overflow-add-k invariant_loop decreases_loop
+add-k : tie.Need-overflow_add-k invariant_loop decreases_loop
 add-k c = omega arith
 
-loop-less : tie.Need-loop-smaller invariant_loop decreases_loop
+loop-less : tie.Need-loop-p-smaller invariant_loop decreases_loop
 loop-less c = omega arith
 
-loop-again : tie.Need-loop-preserved invariant_loop decreases_loop
+loop-again : tie.Need-loop-p-preserved invariant_loop decreases_loop
 loop-again c =
     let j = c.before in
     let w = j.before in
-    let l = w.before.before.before.loop in
+    let l = w.before.before.before.loop-p in
     let g = group j in
-    let m = sym (from_more l.k l.n w.wide.result _ c.if3.false) ∙ turn w in (
-      ⊎_elim (λ v. omega arith) (λ v. omega arith) j.if1.branch,
-      (omega arith, (rw g.exact (wider l.n l.k w.wide.result l.invariant.1.1.0), rw g.exact m)),
+    let m = sym (from_more l.k l.n w.wide-b.result _ c.if-b-lt128.false) ∙ turn w in (
+      ⊎_elim (λ v. omega arith) (λ v. omega arith) j.if-k-eq63.branch-raw,
+      (omega arith, (rw g.exact (wider l.n l.k w.wide-b.result l.invariant.1.1.0), rw g.exact m)),
     )
 
-returns-5 : tie.Need-returns-5 invariant_loop decreases_loop
+returns-5 : tie.Need-returns invariant_loop decreases_loop
 returns-5 c =
-    let l = c.before.loop in
-    ap (as_read _) (sym (from_end _ l.k l.n l.p c.loop-test.false) ∙ l.invariant.1.1.1)
+    let l = c.loop-p in
+    ap (as_read _) (sym (from_end _ l.k l.n l.p c.loop-p-test.false) ∙ l.invariant.1.1.1)
 
-pub read-number_spec : {M : Type 1} → statement M
-read-number_spec =
+pub read_number_spec : {M : Type 1} → statement M
+read_number_spec =
     tie.close
     (tie.spec
     invariant_loop

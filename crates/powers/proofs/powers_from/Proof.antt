@@ -7,28 +7,28 @@ use Rattle.model.specs.Numbers.{P}
 use Rattle.powers.proofs.powers_from.Statement.{statement}
 use Rattle.powers.proofs.powers_from.Tie as tie
 
-real-of-word-requires : tie.Need-real-of-word-requires
+real-of-word-requires : tie.Need-real_of_word-requires
 real-of-word-requires c κs = tt
 
-add-real-of-word : tie.Need-overflow-add-real-of-word
+add-real-of-word : tie.Need-overflow_add-a
 add-real-of-word c = omega arith
 
-real-of-word-requires-2 : tie.Need-real-of-word-requires-2
+real-of-word-requires-2 : tie.Need-real_of_word-requires-2
 real-of-word-requires-2 c κs = tt
 
-add-real-of-word-2 : tie.Need-overflow-add-real-of-word-2
+add-real-of-word-2 : tie.Need-overflow_add-a-2
 add-real-of-word-2 c = omega arith
 
-real-of-word-requires-3 : tie.Need-real-of-word-requires-3
+real-of-word-requires-3 : tie.Need-real_of_word-requires-3
 real-of-word-requires-3 c κs = tt
 
-add-real-of-word-3 : tie.Need-overflow-add-real-of-word-3
+add-real-of-word-3 : tie.Need-overflow_add-a-3
 add-real-of-word-3 c = omega arith
 
-real-of-word-requires-4 : tie.Need-real-of-word-requires-4
+real-of-word-requires-4 : tie.Need-real_of_word-requires-4
 real-of-word-requires-4 c κs = tt
 
-power-four-requires : tie.Need-power-four-requires
+power-four-requires : tie.Need-power_four-requires
 power-four-requires c κs = tt
 
 at : (k : ℕ) (p x y : Float) → p ≡ P x k → x ≡ y → p ≡ P y k
@@ -41,8 +41,8 @@ returns c =
     let w2 = w3.before in
     let w1 = w2.before in
     let k = w1.before.args.k in
-    let e = c.power-four.ensures in
-    (at k _ _ _ e.0 w1.real-of-word.ensures, at k _ _ _ e.1 w2.real-of-word2.ensures, at k _ _ _ e.2 w3.real-of-word3.ensures, at k _ _ _ e.3 w4.real-of-word4.ensures)
+    let e = c.power_four.ensures in
+    (at k _ _ _ e.0 w1.real_of_word.ensures, at k _ _ _ e.1 w2.real_of_word-2.ensures, at k _ _ _ e.2 w3.real_of_word-3.ensures, at k _ _ _ e.3 w4.real_of_word-4.ensures)
 
 pub powers_from_spec : {M : Type 1} → statement M
 powers_from_spec =

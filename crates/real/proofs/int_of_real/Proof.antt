@@ -7,24 +7,24 @@ use Rattle.real_laws.proofs.Casts.{above_range, below_range}
 use Rattle.real.proofs.int_of_real.Statement.{statement}
 use Rattle.real.proofs.int_of_real.Tie as tie
 
-truncating-f64-to-i64-requires : tie.Need-truncating-f64-to-i64-requires
+truncating-f64-to-i64-requires : tie.Need-truncating_f64_to_i64-requires
 unfolding of_bits neg
-truncating-f64-to-i64-requires c κs = (true_T _ c.before.if1.true, true_T _ c.if2.true)
+truncating-f64-to-i64-requires c κs = (true_T _ c.if-x.true, true_T _ c.if-x-2.true)
 
-returns : tie.Need-returns
+returns : tie.Need-returns-then-x-2
 returns c = search rules
 
-returns-2 : tie.Need-returns-2
+returns-2 : tie.Need-returns-else-x-2
 unfolding of_bits neg
-returns-2 c = above_range c.before.before.args.x c.before.if1.true c.if2.false
+returns-2 c = above_range c.args.x c.if-x.true c.if-x-2.false
 
-returns-3 : tie.Need-returns-3
+returns-3 : tie.Need-returns-then-x-3
 unfolding to_signed
-returns-3 c = sym (ap (to_signed 63) (ne_nan c.before.before.args.x c.if3.true))
+returns-3 c = sym (ap (to_signed 63) (ne_nan c.args.x c.if-x-3.true))
 
-returns-4 : tie.Need-returns-4
+returns-4 : tie.Need-returns-else-x-3
 unfolding of_bits neg
-returns-4 c = below_range c.before.before.args.x c.before.if1.false (eq_not_nan c.before.before.args.x c.if3.false)
+returns-4 c = below_range c.args.x c.if-x.false (eq_not_nan c.args.x c.if-x-3.false)
 
 pub int_of_real_spec : {M : Type 1} → statement M
 int_of_real_spec =

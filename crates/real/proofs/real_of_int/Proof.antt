@@ -5,11 +5,11 @@ use mir.ValLaws.{to_z-of_z}
 use Rattle.real.proofs.real_of_int.Statement.{statement}
 use Rattle.real.proofs.real_of_int.Tie as tie
 
-nearest-i64-to-f64-requires : tie.Need-nearest-i64-to-f64-requires
+nearest-i64-to-f64-requires : tie.Need-nearest_i64_to_f64-requires
 nearest-i64-to-f64-requires c κs = tt
 
 returns : tie.Need-returns
-returns c = c.nearest-i64-to-f64.ensures ∙ ap (of_int binary64) (to_z-of_z w64 c.before.args.n c.before.ranges.n)
+returns c = c.nearest_i64_to_f64.ensures ∙ ap (of_int binary64) (to_z-of_z w64 c.args.n c.ranges.n)
 
-pub real-of_int_spec : {M : Type 1} → statement M
-real-of_int_spec = tie.close (tie.spec nearest-i64-to-f64-requires returns)
+pub real_of_int_spec : {M : Type 1} → statement M
+real_of_int_spec = tie.close (tie.spec nearest-i64-to-f64-requires returns)

@@ -16,14 +16,14 @@ zeros : div binary64 (of_bits binary64 0) (of_bits binary64 0) ≡ nan
 unfolding div of_bits
 zeros = refl
 
-float-from-bits-result : tie.Need-float-from-bits-result
-float-from-bits-result c = number c.before.args.w c.if1.false
+float-from-bits-result : tie.Need-float_from_bits-result
+float-from-bits-result c = number c.args.w c.if-w-gt9218868437227405312.false
 
-returns : tie.Need-returns
-returns c = zeros ∙ no_number c.before.args.w c.if1.true
+returns : tie.Need-returns-then-w-gt9218868437227405312
+returns c = zeros ∙ no_number c.args.w c.if-w-gt9218868437227405312.true
 
-returns-2 : tie.Need-returns-2
+returns-2 : tie.Need-returns-else-w-gt9218868437227405312
 returns-2 c = search rules
 
-pub real-of-word_spec : {M : Type 1} → statement M
-real-of-word_spec = tie.close (tie.spec float-from-bits-result returns returns-2)
+pub real_of_word_spec : {M : Type 1} → statement M
+real_of_word_spec = tie.close (tie.spec float-from-bits-result returns returns-2)

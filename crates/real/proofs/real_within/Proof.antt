@@ -2,11 +2,11 @@
 use Rattle.real.proofs.real_within.Statement.{statement}
 use Rattle.real.proofs.real_within.Tie as tie
 
-returns : tie.Need-returns
-returns c = rw c.if1.true
+returns : tie.Need-returns-then-low-x
+returns c = rw c.if-low-x.true
 
-returns-2 : tie.Need-returns-2
-returns-2 c = rw c.if1.false
+returns-2 : tie.Need-returns-else-low-x
+returns-2 c = rw c.if-low-x.false
 
-pub real-within_spec : {M : Type 1} → statement M
-real-within_spec = tie.close (tie.spec returns returns-2)
+pub real_within_spec : {M : Type 1} → statement M
+real_within_spec = tie.close (tie.spec returns returns-2)

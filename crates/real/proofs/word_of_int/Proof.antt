@@ -10,41 +10,41 @@ read : (c : tie.Start) → to_z w64 (of_z w64 c.args.n) ≡ c.args.n
 read c = to_z-of_z w64 c.args.n c.ranges.n
 
 -- what each way of the test knows
-from : (c : tie.Then1) → Up c.before.args.n
-from c = let s = c.before in up s.args.n s.ranges.n (sym (ap (λ (z : ℤ). le_z (pos 0) z) (read s)) ∙ c.if1.true)
+from : (c : tie.Then-n-ge0) → Up c.args.n
+from c = let s = c.before in up s.args.n s.ranges.n (sym (ap (λ (z : ℤ). le_z (pos 0) z) (read s)) ∙ c.if-n-ge0.true)
 
-below : (c : tie.Else1) → Down c.before.args.n
-below c = let s = c.before in down s.args.n s.ranges.n (sym (ap (λ (z : ℤ). le_z (pos 0) z) (read s)) ∙ c.if1.false)
+below : (c : tie.Else-n-ge0) → Down c.args.n
+below c = let s = c.before in down s.args.n s.ranges.n (sym (ap (λ (z : ℤ). le_z (pos 0) z) (read s)) ∙ c.if-n-ge0.false)
 
-cast-result : tie.Need-overflow-cast-result
-cast-result c = rw (read c.before) ((from c).from, (from c).ranges)
+cast-result : tie.Need-overflow_cast-result
+cast-result c = rw (read c.before) ((from c).from, (from c).fits)
 
-mul-result : tie.Need-overflow-mul-result
+mul-result : tie.Need-overflow_mul-result
 mul-result c = rw (read c.before) (from c).twice
 
-sub-result : tie.Need-overflow-sub-result
+sub-result : tie.Need-overflow_sub-result
 sub-result c = rw (read c.before, (below c).is) (record { sfits = (below c).small })
 
-back : (c : tie.Else1) → to_z w64 (below c).some ≡ pos (below c).some
+back : (c : tie.Else-n-ge0) → to_z w64 (below c).some ≡ pos (below c).some
 back c = to_z_pos w64 (below c).some (below c).small
 
-cast-result-2 : tie.Need-overflow-cast-result-2
+cast-result-2 : tie.Need-overflow_cast-result-else-n-ge0
 cast-result-2 c = rw (read c.before, (below c).is, back c) (tt, record { fits = let h = (below c).small in omega arith })
 
-mul-result-2 : tie.Need-overflow-mul-result-2
+mul-result-2 : tie.Need-overflow_mul-result-else-n-ge0
 mul-result-2 c = rw (read c.before, (below c).is, back c) (record { fits = let h = (below c).small in omega arith })
 
-add-result : tie.Need-overflow-add-result
+add-result : tie.Need-overflow_add-result
 add-result c = rw (read c.before, (below c).is, back c) (record { fits = let h = (below c).small in omega arith })
 
-returns : tie.Need-returns
+returns : tie.Need-returns-then-n-ge0
 returns c = rw (read c.before) (from c).is
 
-returns-2 : tie.Need-returns-2
+returns-2 : tie.Need-returns-else-n-ge0
 returns-2 c = rw (read c.before, (below c).is, back c) (below c).word
 
-pub word-of_int_spec : {M : Type 1} → statement M
-word-of_int_spec =
+pub word_of_int_spec : {M : Type 1} → statement M
+word_of_int_spec =
     tie.close
     (tie.spec
     cast-result

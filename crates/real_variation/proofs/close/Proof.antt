@@ -13,11 +13,11 @@ sides : (x : Float) → lt (absolute x) small_gap ≡ (lt x small_gap && lt (neg
 unfolding of_bits neg
 sides x = both_sides _ _ (omega arith) x
 
-returns : tie.Need-returns
-returns c = let x = c.before.args.p ⊖ c.before.args.q in rw (sides x, c.if1.true)
+returns : tie.Need-returns-then-gap
+returns c = let x = c.args.p ⊖ c.args.q in rw (sides x, c.if-gap.true)
 
-returns-2 : tie.Need-returns-2
-returns-2 c = let x = c.before.args.p ⊖ c.before.args.q in rw (sides x, c.if1.false)
+returns-2 : tie.Need-returns
+returns-2 c = let x = c.args.p ⊖ c.args.q in rw (sides x, c.if-gap.false)
 
 pub close_spec : {M : Type 1} → statement M
 close_spec = tie.close (tie.spec returns returns-2)

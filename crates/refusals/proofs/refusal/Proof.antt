@@ -23,102 +23,102 @@ Past s k = select_refusal (request s) (room s) ≡ first_of (drop k (select_chec
 
 -- ---- the places: where the call starts, and where the first test has passed
 
-abbrev start : tie.After-bad-count → tie.Start
+abbrev start : tie.After-bad_count-bad_count → tie.Start
 start c = c.before.before.before.before.before.before
 
-abbrev counts : tie.Else1 → tie.After-bad-count
+abbrev counts : tie.Else-bad_directions → tie.After-bad_count-bad_count
 counts c = c.before.before
 
-abbrev start-1 : tie.Else1 → tie.Start
+abbrev start-1 : tie.Else-bad_directions → tie.Start
 start-1 c = start (counts c)
 
 -- from the third test on
-abbrev first-3 : tie.Else3 → tie.Else1
+abbrev first-3 : tie.Else-bad_divisions → tie.Else-bad_directions
 first-3 c = c.before.before.before
 
-abbrev first-5 : tie.Else5 → tie.Else1
+abbrev first-5 : tie.Else-bad_pool → tie.Else-bad_directions
 first-5 c = first-3 c.before.before.before
 
 -- ---- what the tests say
 
-good-directions : (c : tie.Else1) → bad_directions (start-1 c).args.directions.now ≡ false
-good-directions c = sym c.before.bad-directions.ensures ∙ c.if1.false
+good-directions : (c : tie.Else-bad_directions) → bad_directions (start-1 c).args.directions.now ≡ false
+good-directions c = sym c.bad_directions.ensures ∙ c.if-bad_directions.false
 
 -- the pool's count
-counted : (c : tie.After-bad-count) → c.bad-count.result ≡ bad_count (request (start c)).edition (request (start c)).count
-counted c = c.bad-count.ensures ∙ ap (bad_count (request (start c)).edition) c.before.before.plan-count.ensures
+counted : (c : tie.After-bad_count-bad_count) → c.bad_count-bad_count.result ≡ bad_count (request (start c)).edition (request (start c)).count
+counted c = c.bad_count-bad_count.ensures ∙ ap (bad_count (request (start c)).edition) c.plan_count-n.ensures
 
-past_1 : (c : tie.Else1) → Past (start-1 c) 1
+past_1 : (c : tie.Else-bad_directions) → Past (start-1 c) 1
 unfolding select_refusal
 past_1 c = passed_over _ _ (good-directions c)
 
-past_2 : (c : tie.Else2) → Past (start-1 c.before) 2
-past_2 c = past_1 c.before ∙ passed_over _ _ (sym (counts c.before).before.bad-size.ensures ∙ c.if2.false)
+past_2 : (c : tie.Else-bad_size) → Past (start-1 c.before) 2
+past_2 c = past_1 c.before ∙ passed_over _ _ (sym (counts c.before).before.bad_size-bad_size.ensures ∙ c.if-bad_size.false)
 
-past_3 : (c : tie.Else3) → Past (start-1 (first-3 c)) 3
-past_3 c = past_2 c.before.before ∙ passed_over _ _ (sym c.before.bad-divisions.ensures ∙ c.if3.false)
+past_3 : (c : tie.Else-bad_divisions) → Past (start-1 (first-3 c)) 3
+past_3 c = past_2 c.before.before ∙ passed_over _ _ (sym c.bad_divisions.ensures ∙ c.if-bad_divisions.false)
 
-past_4 : (c : tie.Else4) → Past (start-1 (first-3 c.before)) 4
-past_4 c = past_3 c.before ∙ passed_over _ _ (sym (counted (counts (first-3 c.before))) ∙ c.if4.false)
+past_4 : (c : tie.Else-bad_count) → Past (start-1 (first-3 c.before)) 4
+past_4 c = past_3 c.before ∙ passed_over _ _ (sym (counted (counts (first-3 c.before))) ∙ c.if-bad_count.false)
 
-past_5 : (c : tie.Else5) → Past (start-1 (first-5 c)) 5
+past_5 : (c : tie.Else-bad_pool) → Past (start-1 (first-5 c)) 5
 unfolding bad_pool
-past_5 c = past_4 c.before.before ∙ passed_over _ _ (sym c.before.bad-pool.ensures ∙ c.if5.false)
+past_5 c = past_4 c.before.before ∙ passed_over _ _ (sym c.bad_pool.ensures ∙ c.if-bad_pool.false)
 
-slices : (c : tie.After-no-room) → let s = start-1 (first-5 c.before) in c.no_room.result ≡ no_room (request s) (room s)
+slices : (c : tie.After-no_room) → let s = start-1 (first-5 c.before) in c.no_room.result ≡ no_room (request s) (room s)
 unfolding no_room
 slices c =
     let k = counts (first-5 c.before) in
     let s = start k in
-    c.no_room.ensures ∙ ap (too_short (room s) s.args.size) k.before.before.plan-count.ensures
+    c.no_room.ensures ∙ ap (too_short (room s) s.args.size) k.before.before.plan_count-n.ensures
 
-past_6 : (c : tie.Else6) → Past (start-1 (first-5 c.before.before)) 6
-past_6 c = past_5 c.before.before ∙ passed_over _ _ (sym (slices c.before) ∙ c.if6.false)
+past_6 : (c : tie.Else-no_room) → Past (start-1 (first-5 c.before.before)) 6
+past_6 c = past_5 c.before.before ∙ passed_over _ _ (sym (slices c.before) ∙ c.if-no_room.false)
 
 -- ---- the needs
 
-plan-count-requires : tie.Need-plan-count-requires
+plan-count-requires : tie.Need-plan_count-n-requires
 plan-count-requires c κs = tt
 
-bad-size-requires : tie.Need-bad-size-requires
+bad-size-requires : tie.Need-bad_size-bad_size-requires
 bad-size-requires c κs = tt
 
-bad-count-requires : tie.Need-bad-count-requires
+bad-count-requires : tie.Need-bad_count-bad_count-requires
 bad-count-requires c κs = tt
 
-bad-directions-requires : tie.Need-bad-directions-requires
+bad-directions-requires : tie.Need-bad_directions-requires
 bad-directions-requires c κs = tt
 
-returns : tie.Need-returns
+returns : tie.Need-returns-then-bad_directions
 unfolding select_refusal
-returns c = sym (applies-first _ _ (sym c.before.bad-directions.ensures ∙ c.if1.true))
+returns c = sym (applies-first _ _ (sym c.bad_directions.ensures ∙ c.if-bad_directions.true))
 
-returns-2 : tie.Need-returns-2
-returns-2 c = sym (past_1 c.before ∙ applies-first _ _ (sym (counts c.before).before.bad-size.ensures ∙ c.if2.true))
+returns-2 : tie.Need-returns-then-bad_size
+returns-2 c = sym (past_1 c.before ∙ applies-first _ _ (sym (counts c.before).before.bad_size-bad_size.ensures ∙ c.if-bad_size.true))
 
-bad-divisions-requires : tie.Need-bad-divisions-requires
+bad-divisions-requires : tie.Need-bad_divisions-requires
 bad-divisions-requires c κs = some-objectives _ (good-directions c.before)
 
-returns-3 : tie.Need-returns-3
-returns-3 c = sym (past_2 c.before.before ∙ applies-first _ _ (sym c.before.bad-divisions.ensures ∙ c.if3.true))
+returns-3 : tie.Need-returns-then-bad_divisions
+returns-3 c = sym (past_2 c.before.before ∙ applies-first _ _ (sym c.bad_divisions.ensures ∙ c.if-bad_divisions.true))
 
-returns-4 : tie.Need-returns-4
-returns-4 c = sym (past_3 c.before ∙ applies-first _ _ (sym (counted (counts (first-3 c.before))) ∙ c.if4.true))
+returns-4 : tie.Need-returns-then-bad_count
+returns-4 c = sym (past_3 c.before ∙ applies-first _ _ (sym (counted (counts (first-3 c.before))) ∙ c.if-bad_count.true))
 
-bad-pool-requires : tie.Need-bad-pool-requires
+bad-pool-requires : tie.Need-bad_pool-requires
 bad-pool-requires c κs = (some-objectives _ (good-directions (first-3 c.before))).1
 
-returns-5 : tie.Need-returns-5
+returns-5 : tie.Need-returns-then-bad_pool
 unfolding bad_pool
-returns-5 c = sym (past_4 c.before.before ∙ applies-first _ _ (sym c.before.bad-pool.ensures ∙ c.if5.true))
+returns-5 c = sym (past_4 c.before.before ∙ applies-first _ _ (sym c.bad_pool.ensures ∙ c.if-bad_pool.true))
 
-no-room-requires : tie.Need-no-room-requires
+no-room-requires : tie.Need-no_room-requires
 no-room-requires c κs = tt
 
-returns-6 : tie.Need-returns-6
-returns-6 c = sym (past_5 c.before.before ∙ applies-first _ _ (sym (slices c.before) ∙ c.if6.true))
+returns-6 : tie.Need-returns-then-no_room
+returns-6 c = sym (past_5 c.before.before ∙ applies-first _ _ (sym (slices c.before) ∙ c.if-no_room.true))
 
-returns-7 : tie.Need-returns-7
+returns-7 : tie.Need-returns
 unfolding first_of
 returns-7 c = sym (past_6 c)
 

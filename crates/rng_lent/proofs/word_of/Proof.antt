@@ -6,5 +6,5 @@ use Rattle.rng_lent.proofs.word_of.Tie as tie
 returns : tie.Need-returns
 returns c = is_word c.args.s c.ranges.s.fits
 
-pub word-of_spec : {M : Type 1} → statement M
-word-of_spec = tie.close (tie.spec returns)
+pub word_of_spec : {M : Type 1} → statement M
+word_of_spec = tie.close (tie.spec returns)

@@ -29,29 +29,29 @@ columns ab w p q z e =
 halves : (a b : ℕ) → a * b ≡ (a / 2 ^ 32) * (b / 2 ^ 32) * (2 ^ 32 * 2 ^ 32) + (a / 2 ^ 32) * (b % 2 ^ 32) * 2 ^ 32 + (a % 2 ^ 32) * (b / 2 ^ 32) * 2 ^ 32 + (a % 2 ^ 32) * (b % 2 ^ 32)
 halves a b = (λ i. sym (div-add-mod' a (2 ^ 32)) i * sym (div-add-mod' b (2 ^ 32)) i) ∙ expand (2 ^ 32) (a % 2 ^ 32) (a / 2 ^ 32) (b % 2 ^ 32) (b / 2 ^ 32)
 
-mul-x : tie.Need-overflow-mul-x
+mul-x : tie.Need-overflow_mul-x
 mul-x c = record { fits = below (omega arith) (omega arith) }
 
-mul-y : tie.Need-overflow-mul-y
+mul-y : tie.Need-overflow_mul-y
 mul-y c = record { fits = below (omega arith) (omega arith) }
 
-add-m : tie.Need-overflow-add-m
+add-m : tie.Need-overflow_add-m
 add-m c = search rules
 
-mul-wrapping-add-u64 : tie.Need-overflow-mul-wrapping-add-u64
+mul-wrapping-add-u64 : tie.Need-overflow_mul-m
 mul-wrapping-add-u64 c = search rules
 
-mul-wrapping-add-u64-2 : tie.Need-overflow-mul-wrapping-add-u64-2
+mul-wrapping-add-u64-2 : tie.Need-overflow_mul-a0
 mul-wrapping-add-u64-2 c = record { fits = below (omega arith) (omega arith) }
 
-wrapping-add-u64-requires : tie.Need-wrapping-add-u64-requires
+wrapping-add-u64-requires : tie.Need-wrapping_add_u64-requires
 wrapping-add-u64-requires c κs = tt
 
 returns : tie.Need-returns
 returns c =
-    let a = c.before.args.a in
-    let b = c.before.args.b in
-    c.wrapping-add-u64.ensures ∙ columns (a * b) (a / 2 ^ 32 * (b / 2 ^ 32)) (a / 2 ^ 32 * (b % 2 ^ 32)) (a % 2 ^ 32 * (b / 2 ^ 32)) (a % 2 ^ 32 * (b % 2 ^ 32)) (halves a b)
+    let a = c.args.a in
+    let b = c.args.b in
+    c.wrapping_add_u64.ensures ∙ columns (a * b) (a / 2 ^ 32 * (b / 2 ^ 32)) (a / 2 ^ 32 * (b % 2 ^ 32)) (a % 2 ^ 32 * (b / 2 ^ 32)) (a % 2 ^ 32 * (b % 2 ^ 32)) (halves a b)
 
 pub wrapping_mul_u64_spec : {M : Type 1} → statement M
 wrapping_mul_u64_spec =

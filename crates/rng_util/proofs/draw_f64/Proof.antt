@@ -12,13 +12,13 @@ use Rattle.rng_util.proofs.Unit.{quotient, upper-below}
 use Rattle.rng_util.proofs.draw_f64.Statement.{statement}
 use Rattle.rng_util.proofs.draw_f64.Tie as tie
 
-next-requires : tie.Need-next-requires
+next-requires : tie.Need-next-d-requires
 next-requires c κs = tt
 
-int-to-float-t6 : tie.Need-int-to-float-t6
+int-to-float-t6 : tie.Need-int_to_float-result
 unfolding in_float
 int-to-float-t6 c =
-    let n = c.before.before.next in
+    let n = c.next-d in
     let h = drawn-word _ _ _ n.ensures in
     le→leb (n.result.value / 2 ^ 12) (2 ^ 53) (omega arith)
 
@@ -29,7 +29,7 @@ is_drawn s w t e =
     ∙ drawn-by unit_of e
 
 returns : tie.Need-returns
-returns c = is_drawn _ _ _ c.before.before.next.ensures
+returns c = is_drawn _ _ _ c.next-d.ensures
 
 pub draw_f64_spec : {M : Type 1} → statement M
 draw_f64_spec = tie.close (tie.spec next-requires int-to-float-t6 returns)

@@ -47,41 +47,41 @@ module _ (c : tie.Start) where
     ep : to_z w64 (of_z w64 (A +ℤ pos R)) ≡ A +ℤ pos R
     ep = to_z-of_z w64 (A +ℤ pos R) pick
 
-next-requires : tie.Need-next-requires
+next-requires : tie.Need-next-d-requires
 next-requires c κs = tt
 
-sub-t7 : tie.Need-overflow-sub-t7
+sub-t7 : tie.Need-overflow_sub-result
 sub-t7 c = let s = c.before.before in rw (eb s, ea s) (span.diff_fits (A s) (B s) s.ranges.a s.ranges.b s.requires)
 
-add-t8 : tie.Need-overflow-add-t8
+add-t8 : tie.Need-overflow_add-result
 add-t8 c = let s = c.before.before in rw (eb s, ea s, ed s) (span.span_fits (A s) (B s) s.ranges.a s.ranges.b s.requires)
 
-cast-t9 : tie.Need-overflow-cast-t9
+cast-t9 : tie.Need-overflow_cast-result
 cast-t9 c =
     let s = c.before.before in
     rw (eb s, ea s, ed s, es s)
     (span.span_non_neg (A s) (B s) s.ranges.a s.ranges.b s.requires, span.span_abs_fits (A s) (B s) s.ranges.a s.ranges.b s.requires)
 
-rem-t10 : tie.Need-nonzero-rem-t10
+rem-t10 : tie.Need-nonzero_rem-result
 rem-t10 c = let s = c.before.before in rw (eb s, ea s, ed s, es s) (span.span-some (A s) (B s) s.ranges.a s.ranges.b s.requires)
 
-cast-t11 : tie.Need-overflow-cast-t11
+cast-t11 : tie.Need-overflow_cast-result-2
 cast-t11 c =
     let s = c.before.before in
-    rw (eb s, ea s, ed s, es s) (rest s c.before.next.result.value)
+    rw (eb s, ea s, ed s, es s) (rest s c.next-d.result.value)
 
-add-t12 : tie.Need-overflow-add-t12
+add-t12 : tie.Need-overflow_add-result-2
 add-t12 c =
     let s = c.before.before in
-    let w = c.before.next.result.value in
+    let w = c.next-d.result.value in
     rw (eb s, ea s, ed s, es s, er s w) (pick s w)
 
 returns : tie.Need-returns
 unfolding draw_i64
 returns c =
     let s = c.before.before in
-    let w = c.before.next.result.value in
-    rw (eb s, ea s, ed s, es s, er s w, ep s w) (drawn-by (λ (v : ℕ). A s +ℤ pos (v % nat_abs (B s -ℤ A s +ℤ pos 1))) c.before.next.ensures)
+    let w = c.next-d.result.value in
+    rw (eb s, ea s, ed s, es s, er s w, ep s w) (drawn-by (λ (v : ℕ). A s +ℤ pos (v % nat_abs (B s -ℤ A s +ℤ pos 1))) c.next-d.ensures)
 
 pub draw_i64_spec : {M : Type 1} → statement M
 draw_i64_spec =

@@ -11,11 +11,11 @@ above : (count : ℕ) → (count ≡ 0 → ⊥) → rule.Drawn ≡ rule_of count
 above zero h = absurd (h refl)
 above (suc count) h = refl
 
-returns : tie.Need-returns
+returns : tie.Need-returns-then-count-eq0
 returns c = search rules
 
-returns-2 : tie.Need-returns-2
-returns-2 c = above _ c.if1.false
+returns-2 : tie.Need-returns-else-count-eq0
+returns-2 c = above _ c.if-count-eq0.false
 
 pub rule_of_spec : {M : Type 1} → statement M
 rule_of_spec = tie.close (tie.spec returns returns-2)

@@ -11,44 +11,44 @@ use Rattle.settings.proofs.Candidates.{candidate_none, candidate_more}
 use Rattle.sampling.proofs.sample_all.Statement.{statement}
 use Rattle.sampling.proofs.sample_all.Tie as tie
 
-abbrev invariant_loop : tie.invariant-loop
+abbrev invariant_loop : tie.invariant-loop-i
 invariant_loop n dims rng₀ params₀ i₀ rng params i =
     (i ≤ n) × (n ≤ max_dims) × (length params ≡ max_dims) × (drawn (settings_of params i) rng.s ≡ sample_all (dimensions_of dims) i rng₀.s)
 
-abbrev decreases_loop : tie.decreases-loop
+abbrev decreases_loop : tie.decreases-loop-i
 decreases_loop n dims rng₀ params₀ i₀ rng params i = n - i
 
-blank-candidate-requires : tie.Need-blank-candidate-requires invariant_loop decreases_loop
+blank-candidate-requires : tie.Need-blank_candidate-params-requires invariant_loop decreases_loop
 blank-candidate-requires c κs = tt
 
-loop-holds : tie.Need-loop-init invariant_loop decreases_loop
-loop-holds c = (omega arith, few _ _ c.before.requires, ap length c.blank-candidate.ensures, candidate_none _ _ _)
+loop-holds : tie.Need-loop-i-init invariant_loop decreases_loop
+loop-holds c = (omega arith, few _ _ c.requires, ap length c.blank_candidate-params.ensures, candidate_none _ _ _)
 
-mul-info : tie.Need-overflow-mul-info invariant_loop decreases_loop
+mul-info : tie.Need-offset_bounds-dims-i invariant_loop decreases_loop
 mul-info c = omega arith
 
-array-copy-out-info : tie.Need-array-copy-out-info invariant_loop decreases_loop
+array-copy-out-info : tie.Need-bounds-dims-i invariant_loop decreases_loop
 array-copy-out-info c = omega arith
 
-sample-random-requires : tie.Need-sample-random-requires invariant_loop decreases_loop
-sample-random-requires c κs = each _ _ c.before.before.before.before.requires c.before.before.loop.i c.before.loop-test.true
+sample-random-requires : tie.Need-sample_random-v-requires invariant_loop decreases_loop
+sample-random-requires c κs = each _ _ c.requires c.loop-i.i c.loop-i-test.true
 
-mul-params : tie.Need-overflow-mul-params invariant_loop decreases_loop
+mul-params : tie.Need-offset_bounds-params-i invariant_loop decreases_loop
 mul-params c = omega arith
 
-array-set-from-params : tie.Need-array-set-from-params invariant_loop decreases_loop
+array-set-from-params : tie.Need-bounds-params-i invariant_loop decreases_loop
 array-set-from-params c = omega arith
 
-add-i : tie.Need-overflow-add-i invariant_loop decreases_loop
+add-i : tie.Need-overflow_add-i invariant_loop decreases_loop
 add-i c = omega arith
 
-loop-less : tie.Need-loop-smaller invariant_loop decreases_loop
+loop-less : tie.Need-loop-i-smaller invariant_loop decreases_loop
 loop-less c = omega arith
 
-loop-again : tie.Need-loop-preserved invariant_loop decreases_loop
+loop-again : tie.Need-loop-i-preserved invariant_loop decreases_loop
 loop-again c =
-    let l = c.before.before.before.before.loop in
-    let v = c.before.sample-random in
+    let l = c.loop-i in
+    let v = c.sample_random-v in
     let room : l.i < length l.params = omega arith in (
       omega arith,
       omega arith,
@@ -58,8 +58,8 @@ loop-again c =
 
 returns : tie.Need-returns invariant_loop decreases_loop
 returns c =
-    let l = c.before.loop in
-    let e : l.i ≡ c.before.before.before.args.n = omega arith in
+    let l = c.loop-i in
+    let e : l.i ≡ c.args.n = omega arith in
     rw (← e) l.invariant.3
 
 pub sample_all_spec : {M : Type 1} → statement M

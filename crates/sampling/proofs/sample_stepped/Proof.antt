@@ -53,46 +53,46 @@ module _ (c : tie.Start) where
     ep : to_z w64 (of_z w64 (L +ℤ pos (stepped.rise L H S w))) ≡ L +ℤ pos (stepped.rise L H S w)
     ep = held (range.pick_fits L H c.ranges.low c.ranges.high c.requires.0 (stepped.rise L H S w) below)
 
-sub-span : tie.Need-overflow-sub-span
+sub-span : tie.Need-overflow_sub-span
 sub-span c = rw (eh c, el c) (range.diff_fits (L c) (H c) c.ranges.low c.ranges.high c.requires.0)
 
-cast-span : tie.Need-overflow-cast-span
+cast-span : tie.Need-overflow_cast-span
 cast-span c = rw (eh c, el c, ed c) (range.diff_non_neg (L c) (H c) c.ranges.low c.ranges.high c.requires.0, stepped.span_fits (L c) (H c) (S c) (asked c))
 
-cast-by : tie.Need-overflow-cast-by
+cast-by : tie.Need-overflow_cast-by
 cast-by c = rw (es c) (stepped.step_non_neg (L c) (H c) (S c) (asked c), stepped.by_fits (L c) (H c) (S c) (asked c))
 
-next-requires : tie.Need-next-requires
+next-requires : tie.Need-next-d-requires
 next-requires c κs = tt
 
-div-k : tie.Need-nonzero-div-k
+div-k : tie.Need-nonzero_div-k
 div-k c = let s = c.before.before in rw (es s) (stepped.by-some (L s) (H s) (S s) (asked s))
 
-add-k : tie.Need-overflow-add-k
+add-k : tie.Need-overflow_add-k
 add-k c = let s = c.before.before in rw (eh s, el s, ed s, es s) (stepped.count_fits (L s) (H s) (S s) (asked s))
 
-rem-k : tie.Need-nonzero-rem-k
+rem-k : tie.Need-nonzero_rem-k
 rem-k c = search rules
 
-mul-t12 : tie.Need-overflow-mul-t12
-mul-t12 c = let s = c.before.before in rw (eh s, el s, ed s, es s) (stepped.rise-fits (L s) (H s) (S s) (asked s) c.before.next.result.value)
+mul-t12 : tie.Need-overflow_mul-result
+mul-t12 c = let s = c.before.before in rw (eh s, el s, ed s, es s) (stepped.rise-fits (L s) (H s) (S s) (asked s) c.next-d.result.value)
 
-cast-t11 : tie.Need-overflow-cast-t11
+cast-t11 : tie.Need-overflow_cast-result
 cast-t11 c =
     let s = c.before.before in
-    rw (eh s, el s, ed s, es s) (range.above-fits (L s) (H s) s.ranges.low s.ranges.high s.requires.0 _ (below s c.before.next.result.value))
+    rw (eh s, el s, ed s, es s) (range.above-fits (L s) (H s) s.ranges.low s.ranges.high s.requires.0 _ (below s c.next-d.result.value))
 
-add-t14 : tie.Need-overflow-add-t14
+add-t14 : tie.Need-overflow_add-result
 add-t14 c =
     let s = c.before.before in
-    let w = c.before.next.result.value in
+    let w = c.next-d.result.value in
     rw (eh s, el s, ed s, es s, er s w) (range.pick_fits (L s) (H s) s.ranges.low s.ranges.high s.requires.0 _ (below s w))
 
 returns : tie.Need-returns
 returns c =
     let s = c.before.before in
-    let w = c.before.next.result.value in
-    rw (eh s, el s, ed s, es s, er s w, ep s w) (stepped.stepped_is (L s) (H s) (S s) (asked s) s.args.rng.s w c.before.next.result.rng.s c.before.next.ensures)
+    let w = c.next-d.result.value in
+    rw (eh s, el s, ed s, es s, er s w, ep s w) (stepped.stepped_is (L s) (H s) (S s) (asked s) s.args.rng.s w c.next-d.result.rng.s c.next-d.ensures)
 
 pub sample_stepped_spec : {M : Type 1} → statement M
 sample_stepped_spec =

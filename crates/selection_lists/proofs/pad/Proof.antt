@@ -8,43 +8,43 @@ use Rattle.list_laws.proofs.Written.{WrittenNumbers, written_none, written-more}
 use Rattle.selection_lists.proofs.pad.Statement.{statement}
 use Rattle.selection_lists.proofs.pad.Tie as tie
 
-abbrev invariant_loop : tie.invariant-loop
+abbrev invariant_loop : tie.invariant-loop-at
 invariant_loop n count out₀ rng₀ at₀ out rng at = (at ≤ count) × WrittenNumbers (λ place listed. draw_usize n) rng₀.s out₀ at out rng.s
 
-abbrev decreases_loop : tie.decreases-loop
+abbrev decreases_loop : tie.decreases-loop-at
 decreases_loop n count out₀ rng₀ at₀ out rng at = count - at
 
-loop-holds : tie.Need-loop-init invariant_loop decreases_loop
+loop-holds : tie.Need-loop-at-init invariant_loop decreases_loop
 loop-holds c = (omega arith, written_none _ _ _)
 
-draw-usize-requires : tie.Need-draw-usize-requires invariant_loop decreases_loop
+draw-usize-requires : tie.Need-draw_usize-d-requires invariant_loop decreases_loop
 draw-usize-requires c κs = search rules
 
-mul-out : tie.Need-overflow-mul-out invariant_loop decreases_loop
+mul-out : tie.Need-offset_bounds-out-at invariant_loop decreases_loop
 mul-out c = search rules
 
-slice-write-out : tie.Need-slice-write-out invariant_loop decreases_loop
-slice-write-out c = omega (arith, c.before.before.loop.invariant.1.same)
+slice-write-out : tie.Need-bounds-out-at invariant_loop decreases_loop
+slice-write-out c = omega (arith, c.loop-at.invariant.1.same)
 
-add_at : tie.Need-overflow-add-at invariant_loop decreases_loop
+add_at : tie.Need-overflow_add-at invariant_loop decreases_loop
 add_at c = search rules
 
-loop-less : tie.Need-loop-smaller invariant_loop decreases_loop
+loop-less : tie.Need-loop-at-smaller invariant_loop decreases_loop
 loop-less c = search rules
 
-loop-again : tie.Need-loop-preserved invariant_loop decreases_loop
+loop-again : tie.Need-loop-at-preserved invariant_loop decreases_loop
 loop-again c =
-    let l = c.before.before.before.loop in
-    let a = c.before.before.before.before.before in
-    (omega arith, written-more _ _ _ _ _ _ l.invariant.1 (omega (arith, c.before.before.loop-test.true, a.requires.1)) _ _ c.before.draw-usize.ensures)
+    let l = c.loop-at in
+    let a = c in
+    (omega arith, written-more _ _ _ _ _ _ l.invariant.1 (omega (arith, c.loop-at-test.true, a.requires.1)) _ _ c.draw_usize-d.ensures)
 
-same_length : tie.Need-same-length invariant_loop decreases_loop
-same_length c = c.before.loop.invariant.1.same
+same_length : tie.Need-shape_of-out invariant_loop decreases_loop
+same_length c = c.loop-at.invariant.1.same
 
 returns : tie.Need-returns invariant_loop decreases_loop
 returns c =
-    let l = c.before.loop in
-    let a = c.before.before.before in
+    let l = c.loop-at in
+    let a = c in
     let e : l.at ≡ a.args.count = omega arith in
     let h = subst (λ k. WrittenNumbers (λ place listed. draw_usize a.args.n) a.args.rng.s a.args.out.now k l.out l.rng.s) e l.invariant.1 in
     (h.written, h.state)

@@ -8,27 +8,27 @@ use borrow.Author.Rules.{rules}
 use Rattle.session_records.proofs.discovers.Statement.{statement}
 use Rattle.session_records.proofs.discovers.Tie as tie
 
-enum_told : tie.Need-enum-told
+enum_told : tie.Need-enum_told-1
 enum_told c = search rules
 
-enum-told-2 : tie.Need-enum-told-2
+enum-told-2 : tie.Need-enum_told-in-Discovery
 enum-told-2 c = search rules
 
-enum-told-3 : tie.Need-enum-told-3
+enum-told-3 : tie.Need-enum_told-in-None
 enum-told-3 c = search rules
 
-enum-known-first : tie.Need-enum-known-first
+enum-known-first : tie.Need-enum_known-first
 enum-known-first c = search rules
 
-returns : tie.Need-returns
+returns : tie.Need-returns-in-Active
 returns c = search rules
 
-returns-2 : tie.Need-returns-2
+returns-2 : tie.Need-returns-in-None
 returns-2 c = search rules
 
-returns-3 : tie.Need-returns-3
+returns-3 : tie.Need-returns-in-Some
 returns-3 c =
-    sym (ap₂ (λ (p : Phase) (f : OptionU64). not (past_discovery p) && discovers_for f c.before.before.before.before.before.args.plan) c.before.before.before.enum-told2.given.1 c.before.first.given.1)
+    sym (ap₂ (λ (p : Phase) (f : OptionU64). not (past_discovery p) && discovers_for f c.args.plan) c.in-Discovery.is c.in-Some.is)
 
 pub discovers_spec : {M : Type 1} → statement M
 discovers_spec =

@@ -13,67 +13,67 @@ use native.Mathlib.Omega.{arith}
 use Rattle.session_records.proofs.evaluated.Statement.{statement}
 use Rattle.session_records.proofs.evaluated.Tie as tie
 
-abbrev invariant_loop : tie.invariant-loop
+abbrev invariant_loop : tie.invariant-loop-i
 invariant_loop history plans n-plans size n i₀ i = (i ≤ size) × (all_below (stands_in history plans) i ≡ true)
 
-abbrev decreases_loop : tie.decreases-loop
+abbrev decreases_loop : tie.decreases-loop-i
 decreases_loop history plans n-plans size n i₀ i = size - i
 
-returns : tie.Need-returns invariant_loop decreases_loop
-returns c = sym (and_not _ _ (lt-leb _ c.before.before.before.args.n-plans c.if1.true))
+returns : tie.Need-returns-then-n_plans-size invariant_loop decreases_loop
+returns c = sym (and_not _ _ (lt-leb _ c.args.n_plans c.if-n_plans-size.true))
 
-returns-2 : tie.Need-returns-2 invariant_loop decreases_loop
+returns-2 : tie.Need-returns-then-plans-size invariant_loop decreases_loop
 returns-2 c =
-    let a = c.before.before.before.before.args in
-    sym (past (le-leb a.size a.n-plans c.before.if1.false) (and_not _ _ (lt-leb a.size (length a.plans.now) c.if2.true)))
+    let a = c.args in
+    sym (past (le-leb a.size a.n_plans c.if-n_plans-size.false) (and_not _ _ (lt-leb a.size (length a.plans.now) c.if-plans-size.true)))
 
-plan-count-requires : tie.Need-plan-count-requires invariant_loop decreases_loop
+plan-count-requires : tie.Need-plan_count-n-requires invariant_loop decreases_loop
 plan-count-requires c κs = tt
 
-loop-holds : tie.Need-loop-init invariant_loop decreases_loop
+loop-holds : tie.Need-loop-i-init invariant_loop decreases_loop
 loop-holds c = (omega arith, all_below_none _)
 
-mul-record-of : tie.Need-overflow-mul-record-of invariant_loop decreases_loop
+mul-record-of : tie.Need-offset_bounds-plans-i invariant_loop decreases_loop
 mul-record-of c = omega arith
 
-shared-slice-read-record-of : tie.Need-shared-slice-read-record-of invariant_loop decreases_loop
+shared-slice-read-record-of : tie.Need-bounds-plans-i invariant_loop decreases_loop
 shared-slice-read-record-of c = omega arith
 
-record-of-requires : tie.Need-record-of-requires invariant_loop decreases_loop
+record-of-requires : tie.Need-record_of-k-requires invariant_loop decreases_loop
 record-of-requires c κs = tt
 
-add-i : tie.Need-overflow-add-i invariant_loop decreases_loop
+add-i : tie.Need-overflow_add-i invariant_loop decreases_loop
 add-i c = omega arith
 
-loop-less : tie.Need-loop-smaller invariant_loop decreases_loop
+loop-less : tie.Need-loop-i-smaller invariant_loop decreases_loop
 loop-less c = omega arith
 
-loop-again : tie.Need-loop-preserved invariant_loop decreases_loop
+loop-again : tie.Need-loop-i-preserved invariant_loop decreases_loop
 loop-again c =
-    let l = c.before.before.before.before.loop in
-    let a = c.before.before.before.before.before.before.before.before.before.before.args in
-    let e = c.before.record_of.ensures in
-    let n = c.before.before.before.before.before.plan-count.ensures in
-    (omega arith, all_below_yes (stands_in a.history.now a.plans.now) l.i l.invariant.1 (sym (ap₂ (λ (x y : ℕ). ltb x y) e n) ∙ lt-ltb _ _ c.if3.true))
+    let l = c.loop-i in
+    let a = c.args in
+    let e = c.record_of-k.ensures in
+    let n = c.plan_count-n.ensures in
+    (omega arith, all_below_yes (stands_in a.history.now a.plans.now) l.i l.invariant.1 (sym (ap₂ (λ (x y : ℕ). ltb x y) e n) ∙ lt-ltb _ _ c.if-k-n.true))
 
-returns-3 : tie.Need-returns-3 invariant_loop decreases_loop
+returns-3 : tie.Need-returns-else-k-n invariant_loop decreases_loop
 returns-3 c =
-    let l = c.before.before.before.before.loop in
-    let a = c.before.before.before.before.before.before.before.before.before.before.args in
-    let e = c.before.record_of.ensures in
-    let n = c.before.before.before.before.before.plan-count.ensures in
-    let t = c.before.before.before.loop-test.true in
-    sym (past (le-leb a.size a.n-plans c.before.before.before.before.before.before.before.if1.false)
-    (past (le-leb a.size (length a.plans.now) c.before.before.before.before.before.before.if2.false)
-    (all_below_no (stands_in a.history.now a.plans.now) a.size l.i t (sym (ap₂ (λ (x y : ℕ). ltb x y) e n) ∙ le-ltb _ _ c.if3.false))))
+    let l = c.loop-i in
+    let a = c.args in
+    let e = c.record_of-k.ensures in
+    let n = c.plan_count-n.ensures in
+    let t = c.loop-i-test.true in
+    sym (past (le-leb a.size a.n_plans c.if-n_plans-size.false)
+    (past (le-leb a.size (length a.plans.now) c.if-plans-size.false)
+    (all_below_no (stands_in a.history.now a.plans.now) a.size l.i t (sym (ap₂ (λ (x y : ℕ). ltb x y) e n) ∙ le-ltb _ _ c.if-k-n.false))))
 
-returns-4 : tie.Need-returns-4 invariant_loop decreases_loop
+returns-4 : tie.Need-returns invariant_loop decreases_loop
 returns-4 c =
-    let l = c.before.loop in
-    let a = c.before.before.before.before.before.before.before.args in
+    let l = c.loop-i in
+    let a = c.args in
     let e : l.i ≡ a.size = omega arith in
-    sym (past (le-leb a.size a.n-plans c.before.before.before.before.if1.false)
-    (past (le-leb a.size (length a.plans.now) c.before.before.before.if2.false)
+    sym (past (le-leb a.size a.n_plans c.if-n_plans-size.false)
+    (past (le-leb a.size (length a.plans.now) c.if-plans-size.false)
     (ap (all_below (stands_in a.history.now a.plans.now)) (sym e) ∙ l.invariant.1)))
 
 pub evaluated_spec : {M : Type 1} → statement M

@@ -3,10 +3,10 @@ use native.Mathlib.Omega.{arith}
 use Rattle.session_records.proofs.from_end.Statement.{statement}
 use Rattle.session_records.proofs.from_end.Tie as tie
 
-sub-last : tie.Need-overflow-sub-last
+sub-last : tie.Need-overflow_sub-last
 sub-last c = omega arith
 
-sub-result : tie.Need-overflow-sub-result
+sub-result : tie.Need-overflow_sub-result
 sub-result c = omega arith
 
 returns : tie.Need-returns

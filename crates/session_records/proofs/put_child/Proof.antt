@@ -27,32 +27,32 @@ put_one b history k plan at to exit e f g =
 waits-requires : tie.Need-waits-requires
 waits-requires c κs = search rules
 
-returns : tie.Need-returns
+returns : tie.Need-returns-then-waits
 returns c =
-    let w = c.before in
-    let a = w.before.before.before.before.args in
-    put_none _ _ a.at a.to.now (sym c.if1.true ∙ w.waits.ensures)
+    let w = c in
+    let a = w.args in
+    put_none _ _ a.at a.to.now (sym c.if-waits.true ∙ w.waits.ensures)
 
-record-of-requires : tie.Need-record-of-requires
+record-of-requires : tie.Need-record_of-k-requires
 record-of-requires c κs = tt
 
-put-plan-requires : tie.Need-put-plan-requires
+put-plan-requires : tie.Need-put_plan-requires
 put-plan-requires c κs = search rules
 
-add-result : tie.Need-overflow-add-result
+add-result : tie.Need-overflow_add-result
 add-result c = search rules
 
-same_length : tie.Need-same-length
+same_length : tie.Need-shape_of-to
 same_length c = search rules
 
-returns-2 : tie.Need-returns-2
+returns-2 : tie.Need-returns
 returns-2 c =
-    let p = c.before.before in
-    let r = p.before.before in
-    let other = r.before in
-    let w = other.before in
-    let a = w.before.before.before.before.args in
-    put_one _ a.history.now _ a.plan a.at a.to.now _ (sym other.if1.false ∙ w.waits.ensures) r.record_of.ensures p.put-plan.ensures
+    let p = c in
+    let r = c in
+    let other = c in
+    let w = c in
+    let a = w.args in
+    put_one _ a.history.now _ a.plan a.at a.to.now _ (sym other.if-waits.false ∙ w.waits.ensures) r.record_of-k.ensures p.put_plan.ensures
 
 pub put_child_spec : {M : Type 1} → statement M
 put_child_spec =

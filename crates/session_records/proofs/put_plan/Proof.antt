@@ -9,38 +9,38 @@ use borrow.Author.Rules.{rules}
 use Rattle.session_records.proofs.put_plan.Statement.{statement}
 use Rattle.session_records.proofs.put_plan.Tie as tie
 
-mul-start : tie.Need-overflow-mul-start
+mul-start : tie.Need-overflow_mul-start
 mul-start c = search rules
 
-add-end : tie.Need-overflow-add-end
+add-end : tie.Need-overflow_add-end
 add-end c = search rules
 
-mul-put : tie.Need-overflow-mul-put
+mul-put : tie.Need-offset_bounds-from-start
 mul-put c = search rules
 
-sub-put : tie.Need-overflow-sub-put
+sub-put : tie.Need-slice_bounds-put-count
 sub-put c = search rules
 
-part-put-start : tie.Need-slice-bounds-put-start
+part-put-start : tie.Need-slice_bounds-put-start
 part-put-start c = search rules
 
-part-put-end : tie.Need-slice-bounds-put-end
+part-put-end : tie.Need-slice_bounds-put-end
 part-put-end c = search rules
 
 put-requires : tie.Need-put-requires
 put-requires c κs = search rules
 
-same_length : tie.Need-same-length
+same_length : tie.Need-shape_of-to
 same_length c = search rules
 
 returns : tie.Need-returns
 returns c =
-    let s = c.before.before.before.before.before.before.before in
+    let s = c in
     let a = s.args in
-    c.before.before.put.ensures ∙ ap (sets a.to.now a.at) (part-block a.from.now a.k s.requires.0)
+    c.put.ensures ∙ ap (sets a.to.now a.at) (part-block a.from.now a.k s.requires.0)
 
-pub put-plan_spec : {M : Type 1} → statement M
-put-plan_spec =
+pub put_plan_spec : {M : Type 1} → statement M
+put_plan_spec =
     tie.close
     (tie.spec
     mul-start

@@ -10,62 +10,62 @@ use borrow.Author.Rules.{rules}
 use Rattle.session_records.proofs.record_of.Statement.{statement}
 use Rattle.session_records.proofs.record_of.Tie as tie
 
-abbrev invariant_loop : tie.invariant-loop
+abbrev invariant_loop : tie.invariant-loop-j
 invariant_loop history plan n j₀ j = (j ≤ n) × ((t : ℕ) → n - j ≤ t → t < n → is_record history plan t ≡ false)
 
-abbrev decreases_loop : tie.decreases-loop
+abbrev decreases_loop : tie.decreases-loop-j
 decreases_loop history plan n j₀ j = n - j
 
-plan-count-requires : tie.Need-plan-count-requires invariant_loop decreases_loop
+plan-count-requires : tie.Need-plan_count-n-requires invariant_loop decreases_loop
 plan-count-requires c κs = tt
 
-loop-holds : tie.Need-loop-init invariant_loop decreases_loop
+loop-holds : tie.Need-loop-j-init invariant_loop decreases_loop
 loop-holds c = (omega arith, λ t a b. absurd (omega arith))
 
-from-end-requires : tie.Need-from-end-requires invariant_loop decreases_loop
+from-end-requires : tie.Need-from_end-k-requires invariant_loop decreases_loop
 from-end-requires c κs = search rules
 
-mul-if1 : tie.Need-overflow-mul-if1 invariant_loop decreases_loop
+mul-if1 : tie.Need-overflow_mul-k invariant_loop decreases_loop
 mul-if1 c = omega arith
 
-mul-if1-2 : tie.Need-overflow-mul-if1-2 invariant_loop decreases_loop
+mul-if1-2 : tie.Need-offset_bounds-history-k invariant_loop decreases_loop
 mul-if1-2 c = omega arith
 
-shared-slice-read-if1 : tie.Need-shared-slice-read-if1 invariant_loop decreases_loop
+shared-slice-read-if1 : tie.Need-bounds-history-k invariant_loop decreases_loop
 shared-slice-read-if1 c = omega arith
 
-returns : tie.Need-returns invariant_loop decreases_loop
+returns : tie.Need-returns-then-history-k invariant_loop decreases_loop
 returns c =
-    let l = c.before.before.before.before.loop in
-    let n = c.before.before.before.before.before.plan-count in
-    let a = c.before.before.before.before.before.before.before.args in
-    let k = c.before.before.from_end in
+    let l = c.loop-j in
+    let n = c.plan_count-n in
+    let a = c.args in
+    let k = c.from_end-k in
     let e = n.ensures in
     let f = k.ensures in
-    sym (record_found a.history.now a.plan k.result (omega arith) c.if1.true (λ t x y. l.invariant.1 t (omega arith) (omega arith)))
+    sym (record_found a.history.now a.plan k.result (omega arith) c.if-history-k.true (λ t x y. l.invariant.1 t (omega arith) (omega arith)))
 
-add-j : tie.Need-overflow-add-j invariant_loop decreases_loop
+add-j : tie.Need-overflow_add-j invariant_loop decreases_loop
 add-j c = omega arith
 
-loop-less : tie.Need-loop-smaller invariant_loop decreases_loop
+loop-less : tie.Need-loop-j-smaller invariant_loop decreases_loop
 loop-less c = omega arith
 
-loop-again : tie.Need-loop-preserved invariant_loop decreases_loop
+loop-again : tie.Need-loop-j-preserved invariant_loop decreases_loop
 loop-again c =
-    let l = c.before.before.before.before.loop in
-    let n = c.before.before.before.before.before.plan-count in
-    let a = c.before.before.before.before.before.before.before.args in
-    let k = c.before.before.from_end in (
+    let l = c.loop-j in
+    let n = c.plan_count-n in
+    let a = c.args in
+    let k = c.from_end-k in (
       omega arith,
       others-more a.history.now a.plan n.result l.j (omega arith)
-          (λ e. c.if1.false (ap (λ i. get_or a.history.now (i * plan_words) 0) k.ensures ∙ e)) l.invariant.1,
+          (λ e. c.if-history-k.false (ap (λ i. get_or a.history.now (i * plan_words) 0) k.ensures ∙ e)) l.invariant.1,
     )
 
-returns-2 : tie.Need-returns-2 invariant_loop decreases_loop
+returns-2 : tie.Need-returns invariant_loop decreases_loop
 returns-2 c =
-    let l = c.before.loop in
-    let n = c.before.before.plan-count in
-    let a = c.before.before.before.before.args in
+    let l = c.loop-j in
+    let n = c.plan_count-n in
+    let a = c.args in
     let e = n.ensures in
     e ∙ sym (record_nowhere a.history.now a.plan (λ t y. l.invariant.1 t (omega arith) (omega arith)))
 

@@ -6,19 +6,19 @@ use borrow.Author.Rules.{rules}
 use Rattle.session_window.proofs.memory_at.Statement.{statement}
 use Rattle.session_window.proofs.memory_at.Tie as tie
 
-waiting-of-requires : tie.Need-waiting-of-requires
+waiting-of-requires : tie.Need-waiting_of-requires
 waiting-of-requires c κs = search rules
 
-waiting : (c : tie.After-waiting-of) → c.waiting-of.result ≤ c.before.args.config.population_size
+waiting : (c : tie.After-waiting_of) → c.waiting_of.result ≤ c.args.config.population_size
 waiting c =
-    let config = c.before.args.config in
-    omega (arith, c.waiting-of.ensures, waiting_few config.edition config.population_size)
+    let config = c.args.config in
+    omega (arith, c.waiting_of.ensures, waiting_few config.edition config.population_size)
 
-add-result : tie.Need-overflow-add-result
-add-result c = record { fits = omega (arith, waiting c, c.before.requires) }
+add-result : tie.Need-overflow_add-result
+add-result c = record { fits = omega (arith, waiting c, c.requires) }
 
-mul-result : tie.Need-overflow-mul-result
-mul-result c = record { fits = omega (arith, waiting c, c.before.requires) }
+mul-result : tie.Need-overflow_mul-result
+mul-result c = record { fits = omega (arith, waiting c, c.requires) }
 
 returns : tie.Need-returns
 returns c = search rules

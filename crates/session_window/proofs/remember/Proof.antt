@@ -17,121 +17,121 @@ use borrow.Author.Rules.{rules}
 use Rattle.session_window.proofs.remember.Statement.{statement}
 use Rattle.session_window.proofs.remember.Tie as tie
 
-memory-at-requires : tie.Need-memory-at-requires
+memory-at-requires : tie.Need-memory_at-at-requires
 memory-at-requires c κs = search rules
 
-mul-held : tie.Need-overflow-mul-held
+mul-held : tie.Need-overflow_mul-held
 mul-held c =
-    let s = c.before.before.before in
+    let s = c in
     let few = row_inside s.args.n max_window s.args.config.n_obj s.requires.3 in
     record { fits = omega (arith, few, s.requires.1) }
 
-add-behind : tie.Need-overflow-add-behind
+add-behind : tie.Need-overflow_add-behind
 add-behind c =
-    let s = c.before.before.before in
+    let s = c in
     let few = row_inside s.args.n max_window s.args.config.n_obj s.requires.3 in
-    record { fits = omega (arith, few, s.requires.1, c.memory-at.ensures, waiting_few s.args.config.edition s.args.config.population_size, s.requires.0) }
+    record { fits = omega (arith, few, s.requires.1, c.memory_at-at.ensures, waiting_few s.args.config.edition s.args.config.population_size, s.requires.0) }
 
-mul-put : tie.Need-overflow-mul-put
+mul-put : tie.Need-offset_bounds-pool-at
 mul-put c = search rules
 
-sub-put : tie.Need-overflow-sub-put
+sub-put : tie.Need-slice_bounds-put-count
 sub-put c = search rules
 
-part-put-start : tie.Need-slice-bounds-put-start
+part-put-start : tie.Need-slice_bounds-put-start
 part-put-start c = search rules
 
-part-put-end : tie.Need-slice-bounds-put-end
+part-put-end : tie.Need-slice_bounds-put-end
 part-put-end c =
-    let s = c.before.before.before.before in
-    omega (arith, c.before.memory-at.ensures, s.requires.5, mul-le-mul_right s.args.config.n_obj s.requires.4)
+    let s = c in
+    omega (arith, c.memory_at-at.ensures, s.requires.5, mul-le-mul_right s.args.config.n_obj s.requires.4)
 
-slice-aggregate-put : tie.Need-slice-aggregate-put
+slice-aggregate-put : tie.Need-slice_bounds-put-end-2
 slice-aggregate-put c = search rules
 
 put-requires : tie.Need-put-requires
 put-requires c κs =
-    let s = c.before.before.before.before.before.before in
+    let s = c in
     let few = row_inside s.args.n max_window s.args.config.n_obj s.requires.3 in
-    let at = c.before.before.before.memory-at.result in
+    let at = c.memory_at-at.result in
     let held = s.args.n * s.args.config.n_obj in
     omega (arith, few, s.requires.1, length-take (at + held - at) (drop at s.args.pool.now))
 
-slice-aggregate-put-bits : tie.Need-slice-aggregate-put-bits
+slice-aggregate-put-bits : tie.Need-slice_bounds-put_bits-end
 slice-aggregate-put-bits c = search rules
 
-put-bits-requires : tie.Need-put-bits-requires
+put-bits-requires : tie.Need-put_bits-requires
 put-bits-requires c κs =
-    let s = c.before.before.before.before.before.before.before.before.before in
+    let s = c in
     let few = row_inside s.args.n max_window s.args.config.n_obj s.requires.3 in
-    (s.requires.2, omega (arith, few, s.requires.1, c.before.before.put.auto.1.1.0))
+    (s.requires.2, omega (arith, few, s.requires.1, c.put.auto.words))
 
-add-end : tie.Need-overflow-add-end
+add-end : tie.Need-overflow_add-end
 add-end c =
-    let s = c.before.before.before.before.before.before.before.before.before.before.before in
+    let s = c in
     let few = row_inside s.args.n max_window s.args.config.n_obj s.requires.3 in
     record { fits = omega (arith, few, s.requires.1) }
 
-most-remembered-requires : tie.Need-most-remembered-requires
+most-remembered-requires : tie.Need-most_remembered-requires
 most-remembered-requires c κs = search rules
 
-mul_most : tie.Need-overflow-mul-most
+mul_most : tie.Need-overflow_mul-most
 mul_most c =
-    let s = c.before.before.before.before.before.before.before.before.before.before.before.before in
-    record { fits = omega (arith, ap (λ (k : ℕ). k * s.args.config.n_obj) c.most-remembered.ensures, s.requires.5) }
+    let s = c in
+    record { fits = omega (arith, ap (λ (k : ℕ). k * s.args.config.n_obj) c.most_remembered.ensures, s.requires.5) }
 
-past-requires : tie.Need-past-requires
+past-requires : tie.Need-past-from-requires
 past-requires c κs = search rules
 
-mul-put-2 : tie.Need-overflow-mul-put-2
+mul-put-2 : tie.Need-offset_bounds-memory-from
 mul-put-2 c =
-    let s = c.before.before.before.before.before.before.before.before.before.before.before.before.before in
+    let s = c in
     let few = row_inside s.args.n max_window s.args.config.n_obj s.requires.3 in
-    record { fits = omega (arith, few, s.requires.1, c.past.ensures) }
+    record { fits = omega (arith, few, s.requires.1, c.past-from.ensures) }
 
-sub-put-2 : tie.Need-overflow-sub-put-2
+sub-put-2 : tie.Need-slice_bounds-put-count-2
 sub-put-2 c = search rules
 
-part-put-start-2 : tie.Need-slice-bounds-put-start-2
+part-put-start-2 : tie.Need-slice_bounds-put-start-2
 part-put-start-2 c = search rules
 
-part-put-end-2 : tie.Need-slice-bounds-put-end-2
+part-put-end-2 : tie.Need-slice_bounds-put-end-3
 part-put-end-2 c =
-    let s = c.before.before.before.before.before.before.before.before.before.before.before.before.before.before in
+    let s = c in
     let few = row_inside s.args.n max_window s.args.config.n_obj s.requires.3 in
-    omega (arith, few, s.requires.1, c.before.before.before.before.put-bits.auto.1.1.1.0, c.before.before.before.before.before.before.before.put.auto.1.1.0)
+    omega (arith, few, s.requires.1, c.put_bits.auto.to, c.put.auto.words)
 
 put-requires-2 : tie.Need-put-requires-2
 put-requires-2 c κs =
-    let s = c.before.before.before.before.before.before.before.before.before.before.before.before.before.before.before.before in
+    let s = c in
     let end = s.args.n * s.args.config.n_obj + s.args.config.n_obj in
-    let from = c.before.before.before.past.result in
+    let from = c.past-from.result in
     omega (
       arith,
-      length-take (end - from) (drop from c.before.before.before.before.before.before.put-bits.new.1.1.1.0),
-      c.before.before.before.past.ensures,
-      ap (λ (k : ℕ). k * s.args.config.n_obj) c.before.before.before.before.most-remembered.ensures,
-      c.before.before.before.before.before.before.before.before.before.before.before.before.before.memory-at.ensures,
+      length-take (end - from) (drop from c.put_bits.new.to),
+      c.past-from.ensures,
+      ap (λ (k : ℕ). k * s.args.config.n_obj) c.most_remembered.ensures,
+      c.memory_at-at.ensures,
       s.requires.5,
     )
 
-same_length : tie.Need-same-length
+same_length : tie.Need-shape_of-pool
 same_length c = search rules
 
 returns : tie.Need-returns
 returns c =
-    let s = c.before.before.before.before.before.before.before.before.before.before.before.before.before.before.before.before.before.before.before in
+    let s = c in
     let a = s.args in
     let m = a.config.n_obj in
     let held = a.n * m in
-    let at = c.before.before.before.before.before.before.before.before.before.before.before.before.before.before.before.before.memory-at in
+    let at = c.memory_at-at in
     let few = row_inside a.n max_window m s.requires.3 in
     let fits : at.result + held ≤ length a.pool.now = omega (arith, at.ensures, s.requires.5, mul-le-mul_right m s.requires.4) in
     remembered_is a.pool.now (list_below (λ i. get_or a.pool.now (memory_at a.config + i) 0) held) (list_below (λ j. bits (get_or a.own.now j nan)) m) (replicate 512 0) _ _ _
-    (memory_at a.config) at.result held m c.before.before.before.before.before.before.past.result (most_words a.config) _ at.ensures (ap (λ (k : ℕ). k * m) c.before.before.before.before.before.before.before.most-remembered.ensures) c.before.before.before.before.before.before.past.ensures
+    (memory_at a.config) at.result held m c.past-from.result (most_words a.config) _ at.ensures (ap (λ (k : ℕ). k * m) c.most_remembered.ensures) c.past-from.ensures
     (list_below-length _ held) (list_below-length _ m) (omega (arith, few, s.requires.1, length-replicate {A = ℕ} 512 0))
-    (c.before.before.before.before.before.before.before.before.before.before.before.before.put.ensures ∙ ap (sets (replicate 512 0) 0) (part_of a.pool.now at.result held fits ∙ ap (λ (k : ℕ). list_below (λ i. get_or a.pool.now (k + i) 0) held) at.ensures))
-    c.before.before.before.before.before.before.before.before.before.put-bits.ensures c.before.before.put2.ensures
+    (c.put.ensures ∙ ap (sets (replicate 512 0) 0) (part_of a.pool.now at.result held fits ∙ ap (λ (k : ℕ). list_below (λ i. get_or a.pool.now (k + i) 0) held) at.ensures))
+    c.put_bits.ensures c.put-2.ensures
 
 pub remember_spec : {M : Type 1} → statement M
 remember_spec =

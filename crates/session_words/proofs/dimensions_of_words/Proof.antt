@@ -11,63 +11,63 @@ use Rattle.session_words.specs.Coding.{info_at, dimensions_at}
 use Rattle.session_words.proofs.dimensions_of_words.Statement.{statement}
 use Rattle.session_words.proofs.dimensions_of_words.Tie as tie
 
-abbrev invariant_loop : tie.invariant-loop
+abbrev invariant_loop : tie.invariant-loop-d
 invariant_loop words from dims₀ d₀ dims d =
     (d ≤ max_dims) × (length dims ≡ max_dims) × (dims ≡ over (list_below (info_at words from) d) (replicate max_dims blank_dimension))
 
-abbrev decreases_loop : tie.decreases-loop
+abbrev decreases_loop : tie.decreases-loop-d
 decreases_loop words from dims₀ d₀ dims d = max_dims - d
 
-blank-dimensions-requires : tie.Need-blank-dimensions-requires invariant_loop decreases_loop
+blank-dimensions-requires : tie.Need-blank_dimensions-dims-requires invariant_loop decreases_loop
 blank-dimensions-requires c κs = tt
 
-loop-holds : tie.Need-loop-init invariant_loop decreases_loop
-loop-holds c = let e = c.blank-dimensions.ensures in (omega arith, ap length e, e ∙ sym (over_none _ _))
+loop-holds : tie.Need-loop-d-init invariant_loop decreases_loop
+loop-holds c = let e = c.blank_dimensions-dims.ensures in (omega arith, ap length e, e ∙ sym (over_none _ _))
 
-mul-dimension-of-words : tie.Need-overflow-mul-dimension-of-words invariant_loop decreases_loop
+mul-dimension-of-words : tie.Need-overflow_mul-d invariant_loop decreases_loop
 mul-dimension-of-words c = omega arith
 
-add-dimension-of-words : tie.Need-overflow-add-dimension-of-words invariant_loop decreases_loop
+add-dimension-of-words : tie.Need-overflow_add-from invariant_loop decreases_loop
 add-dimension-of-words c = omega arith
 
-dimension-of-words-requires : tie.Need-dimension-of-words-requires invariant_loop decreases_loop
+dimension-of-words-requires : tie.Need-dimension_of_words-distribution-requires invariant_loop decreases_loop
 dimension-of-words-requires c κs = omega arith
 
-mul-dims : tie.Need-overflow-mul-dims invariant_loop decreases_loop
+mul-dims : tie.Need-offset_bounds-dims-d invariant_loop decreases_loop
 mul-dims c = omega arith
 
-array-set-from-dims : tie.Need-array-set-from-dims invariant_loop decreases_loop
+array-set-from-dims : tie.Need-bounds-dims-d invariant_loop decreases_loop
 array-set-from-dims c = omega arith
 
-add-d : tie.Need-overflow-add-d invariant_loop decreases_loop
+add-d : tie.Need-overflow_add-d invariant_loop decreases_loop
 add-d c = omega arith
 
-loop-less : tie.Need-loop-smaller invariant_loop decreases_loop
+loop-less : tie.Need-loop-d-smaller invariant_loop decreases_loop
 loop-less c = omega arith
 
-loop-again : tie.Need-loop-preserved invariant_loop decreases_loop
+loop-again : tie.Need-loop-d-preserved invariant_loop decreases_loop
 loop-again c =
-    let l = c.before.before.loop in
-    let a = c.before.before.before.before.before.args in
+    let l = c.loop-d in
+    let a = c.args in
     let f = info_at a.words.now a.from in (
       omega arith,
       simp length-set l.invariant.1,
-      ap₂ (λ x y. set x l.d y) l.invariant.2 (ap (λ x. record { distribution = x }) c.dimension-of-words.ensures)
+      ap₂ (λ x y. set x l.d y) l.invariant.2 (ap (λ x. record { distribution = x }) c.dimension_of_words-distribution.ensures)
           ∙ over-more f l.d (replicate max_dims blank_dimension) (omega arith),
     )
 
 returns : tie.Need-returns invariant_loop decreases_loop
 unfolding dimensions_at
 returns c =
-    let l = c.before.loop in
-    let a = c.before.before.before.before.args in
+    let l = c.loop-d in
+    let a = c.args in
     let f = info_at a.words.now a.from in
     let e : l.d ≡ max_dims = omega arith in
     l.invariant.2 ∙ ap (λ x. over (list_below f x) (replicate max_dims blank_dimension)) e
     ∙ over-all (list_below f max_dims) (replicate max_dims blank_dimension) (omega (arith, list_below-length f max_dims))
 
-pub dimensions-of-words_spec : {M : Type 1} → statement M
-dimensions-of-words_spec =
+pub dimensions_of_words_spec : {M : Type 1} → statement M
+dimensions_of_words_spec =
     tie.close
     (tie.spec
     invariant_loop

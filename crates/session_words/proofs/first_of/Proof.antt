@@ -6,11 +6,11 @@ use Rattle.session_words.proofs.first_of.Statement.{statement}
 use Rattle.session_words.proofs.first_of.Tie as tie
 use Rattle.list_laws.proofs.Below.{by_suc}
 
-returns : tie.Need-returns
+returns : tie.Need-returns-then-has-eq0
 returns c = search rules
 
-returns-2 : tie.Need-returns-2
-returns-2 c = sym (by_suc (λ k. first_of k c.before.args.w) _ (λ k. refl) c.before.args.has c.if1.false)
+returns-2 : tie.Need-returns
+returns-2 c = sym (by_suc (λ k. first_of k c.args.w) _ (λ k. refl) c.args.has c.if-has-eq0.false)
 
-pub first-of_spec : {M : Type 1} → statement M
-first-of_spec = tie.close (tie.spec returns returns-2)
+pub first_of_spec : {M : Type 1} → statement M
+first_of_spec = tie.close (tie.spec returns returns-2)

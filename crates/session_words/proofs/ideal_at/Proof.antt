@@ -21,52 +21,52 @@ entry words i = real (get_or words (place.ideal + i) 0)
 abbrev blank : List Float
 blank = replicate max_objectives (real 0)
 
-abbrev invariant_loop : tie.invariant-loop
+abbrev invariant_loop : tie.invariant-loop-i
 invariant_loop words ideal₀ i₀ ideal i = (i ≤ max_objectives) × (length ideal ≡ max_objectives) × (ideal ≡ over (list_below (entry words) i) blank)
 
-abbrev decreases_loop : tie.decreases-loop
+abbrev decreases_loop : tie.decreases-loop-i
 decreases_loop words ideal₀ i₀ ideal i = max_objectives - i
 
-loop-holds : tie.Need-loop-init invariant_loop decreases_loop
+loop-holds : tie.Need-loop-i-init invariant_loop decreases_loop
 loop-holds c = (omega arith, refl, sym (over_none _ _))
 
-add-real-at : tie.Need-overflow-add-real-at invariant_loop decreases_loop
+add-real-at : tie.Need-overflow_add-i invariant_loop decreases_loop
 add-real-at c = omega arith
 
-real-at-requires : tie.Need-real-at-requires invariant_loop decreases_loop
+real-at-requires : tie.Need-real_at-requires invariant_loop decreases_loop
 real-at-requires c κs = tt
 
-mul-ideal : tie.Need-overflow-mul-ideal invariant_loop decreases_loop
+mul-ideal : tie.Need-offset_bounds-ideal-i invariant_loop decreases_loop
 mul-ideal c = omega arith
 
-array-write-ideal : tie.Need-array-write-ideal invariant_loop decreases_loop
+array-write-ideal : tie.Need-bounds-ideal-i invariant_loop decreases_loop
 array-write-ideal c = omega arith
 
-add-i : tie.Need-overflow-add-i invariant_loop decreases_loop
+add-i : tie.Need-overflow_add-i-in-loop-i invariant_loop decreases_loop
 add-i c = omega arith
 
-loop-less : tie.Need-loop-smaller invariant_loop decreases_loop
+loop-less : tie.Need-loop-i-smaller invariant_loop decreases_loop
 loop-less c = omega arith
 
-loop-again : tie.Need-loop-preserved invariant_loop decreases_loop
+loop-again : tie.Need-loop-i-preserved invariant_loop decreases_loop
 loop-again c =
-    let l = c.before.before.loop in
-    let f = entry c.before.before.before.before.args.words.now in (
+    let l = c.loop-i in
+    let f = entry c.args.words.now in (
       omega arith,
       simp length-set l.invariant.1,
-      ap₂ (λ x y. set x l.i y) l.invariant.2 c.real-at.ensures ∙ over-more f l.i blank (omega arith),
+      ap₂ (λ x y. set x l.i y) l.invariant.2 c.real_at.ensures ∙ over-more f l.i blank (omega arith),
     )
 
 returns : tie.Need-returns invariant_loop decreases_loop
 unfolding ideal_at
 returns c =
-    let l = c.before.loop in
-    let f = entry c.before.before.before.args.words.now in
+    let l = c.loop-i in
+    let f = entry c.args.words.now in
     let e : l.i ≡ max_objectives = omega arith in
     l.invariant.2 ∙ ap (λ x. over (list_below f x) blank) e ∙ over-all (list_below f max_objectives) blank (omega (arith, list_below-length f max_objectives))
 
-pub ideal-at_spec : {M : Type 1} → statement M
-ideal-at_spec =
+pub ideal_at_spec : {M : Type 1} → statement M
+ideal_at_spec =
     tie.close
     (tie.spec
     invariant_loop

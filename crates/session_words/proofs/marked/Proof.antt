@@ -6,11 +6,11 @@ use Rattle.session_words.proofs.marked.Statement.{statement}
 use Rattle.session_words.proofs.marked.Tie as tie
 use Rattle.list_laws.proofs.Below.{by_suc}
 
-returns : tie.Need-returns
+returns : tie.Need-returns-then-w-eq0
 returns c = search rules
 
-returns-2 : tie.Need-returns-2
-returns-2 c = sym (by_suc marked _ (λ k. refl) c.before.args.w c.if1.false)
+returns-2 : tie.Need-returns
+returns-2 c = sym (by_suc marked _ (λ k. refl) c.args.w c.if-w-eq0.false)
 
 pub marked_spec : {M : Type 1} → statement M
 marked_spec = tie.close (tie.spec returns returns-2)

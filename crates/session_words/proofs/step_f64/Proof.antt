@@ -7,16 +7,16 @@ use borrow.Author.Rules.{rules}
 use Rattle.session_words.proofs.step_f64.Statement.{statement}
 use Rattle.session_words.proofs.step_f64.Tie as tie
 
-returns : tie.Need-returns
+returns : tie.Need-returns-then-has-eq0
 returns c = search rules
 
-real-of-word-requires : tie.Need-real-of-word-requires
+real-of-word-requires : tie.Need-real_of_word-requires
 real-of-word-requires c κs = tt
 
-returns-2 : tie.Need-returns-2
+returns-2 : tie.Need-returns
 returns-2 c =
-    let a = c.before.before.args in
-    ap opt_f64.Some c.real-of-word.ensures ∙ sym (by_suc (λ k. step_f64 k a.w) _ (λ k. refl) a.has c.before.if1.false)
+    let a = c.args in
+    ap opt_f64.Some c.real_of_word.ensures ∙ sym (by_suc (λ k. step_f64 k a.w) _ (λ k. refl) a.has c.if-has-eq0.false)
 
 pub step_f64_spec : {M : Type 1} → statement M
 step_f64_spec = tie.close (tie.spec returns real-of-word-requires returns-2)

@@ -10,49 +10,49 @@ use Rattle.shaped_association.proofs.Shaped.{place_inside, few-places, shapers_i
 use Rattle.shaped_association.proofs.associate_marked.Statement.{statement}
 use Rattle.shaped_association.proofs.associate_marked.Tie as tie
 
-slice-aggregate-list-marked : tie.Need-slice-aggregate-list-marked
+slice-aggregate-list-marked : tie.Need-slice_bounds-list_marked-end
 slice-aggregate-list-marked c = search rules
 
-list-marked-requires : tie.Need-list-marked-requires
+list-marked-requires : tie.Need-list_marked-k-requires
 list-marked-requires c κs = search rules
 
-slice-aggregate-gather-rows : tie.Need-slice-aggregate-gather-rows
+slice-aggregate-gather-rows : tie.Need-slice_bounds-gather_rows-end
 slice-aggregate-gather-rows c = search rules
 
-slice-aggregate-gather-rows-2 : tie.Need-slice-aggregate-gather-rows-2
+slice-aggregate-gather-rows-2 : tie.Need-slice_bounds-gather_rows-end-2
 slice-aggregate-gather-rows-2 c = search rules
 
-gather-rows-requires : tie.Need-gather-rows-requires
+gather-rows-requires : tie.Need-gather_rows-requires
 gather-rows-requires c κs =
-    let s = c.before.before.before.before.before.before.before.before.before.before.before in
+    let s = c in
     let a = s.args in
-    let l = c.before.before.before.list-marked in
+    let l = c.list_marked-k in
     let few : l.result ≤ max_pool = omega (arith, l.ensures.0, few-places a.marks.now a.n, s.requires.1) in (
-      omega (arith, few, l.auto.1.1.0),
+      omega (arith, few, l.auto.places),
       row-values l.result a.m few s.requires.0,
-      λ i u. row_within (get_or l.new.1.1.0 i 0) a.n a.m (length a.rows.now)
-          (place_inside a.marks.now a.n l.result l.ensures.0 _ l.new.1.1.0 l.ensures.1 i u) s.requires.3,
+      λ i u. row_within (get_or l.new.places i 0) a.n a.m (length a.rows.now)
+          (place_inside a.marks.now a.n l.result l.ensures.0 _ l.new.places l.ensures.1 i u) s.requires.3,
     )
 
-slice-aggregate-associate : tie.Need-slice-aggregate-associate
+slice-aggregate-associate : tie.Need-slice_bounds-associate-end
 slice-aggregate-associate c = search rules
 
-slice-aggregate-associate-2 : tie.Need-slice-aggregate-associate-2
+slice-aggregate-associate-2 : tie.Need-slice_bounds-associate-end-2
 slice-aggregate-associate-2 c = search rules
 
-slice-aggregate-associate-3 : tie.Need-slice-aggregate-associate-3
+slice-aggregate-associate-3 : tie.Need-slice_bounds-associate-end-3
 slice-aggregate-associate-3 c = search rules
 
 associate-requires : tie.Need-associate-requires
 associate-requires c κs =
-    let s = c.before.before.before.before.before.before.before.before.before.before.before.before.before.before.before.before.before in
+    let s = c in
     let a = s.args in
-    let l = c.before.before.before.before.before.before.before.before.before.list-marked in
+    let l = c.list_marked-k in
     let few : l.result ≤ max_pool = omega (arith, l.ensures.0, few-places a.marks.now a.n, s.requires.1) in
     let values = row-values l.result a.m few s.requires.0 in (
       s.requires.0,
       values,
-      omega (arith, values, c.before.before.before.before.before.gather-rows.auto.1.1.1.1.0),
+      omega (arith, values, c.gather_rows.auto.out),
       s.requires.4,
       s.requires.5,
       few,
@@ -60,41 +60,41 @@ associate-requires c κs =
       omega (arith, l.ensures.0, s.requires.8),
     )
 
-slice-aggregate-spread : tie.Need-slice-aggregate-spread
+slice-aggregate-spread : tie.Need-slice_bounds-spread-end
 slice-aggregate-spread c = search rules
 
-slice-aggregate-spread-2 : tie.Need-slice-aggregate-spread-2
+slice-aggregate-spread-2 : tie.Need-slice_bounds-spread-end-2
 slice-aggregate-spread-2 c = search rules
 
 spread-requires : tie.Need-spread-requires
 spread-requires c κs =
-    let s = c.before.before.before.before.before.before.before.before.before.before.before.before.before.before.before.before.before.before.before.before.before.before.before.before.before.before in
+    let s = c in
     let a = s.args in
-    let f = c.before.before.before.before.before.before.before.before.associate in
+    let f = c.associate in
     let few = few-places a.marks.now a.n in (
       s.requires.2,
       s.requires.6,
       s.requires.7,
-      omega (arith, few, s.requires.1, f.auto.1.1.1.1.1.1.1.0),
-      omega (arith, few, s.requires.1, f.auto.1.1.1.1.1.1.1.1.0),
+      omega (arith, few, s.requires.1, f.auto.ideal),
+      omega (arith, few, s.requires.1, f.auto.ideal),
     )
 
-same_length : tie.Need-same-length
+same_length : tie.Need-shape_of-ideal
 same_length c = search rules
 
-same-length-2 : tie.Need-same-length-2
+same-length-2 : tie.Need-shape_of-lines
 same-length-2 c = search rules
 
-same-length-3 : tie.Need-same-length-3
+same-length-3 : tie.Need-shape_of-distances
 same-length-3 c = search rules
 
 returns : tie.Need-returns
 returns c r e S z L k =
-    let a = c.before.before.before.before.before.before.before.before.before.before.before.before.before.before.before.before.before.before.before.before.before.before.before.before.before.before.before.before.before.before.before.args in
-    let l = c.before.before.before.before.before.before.before.before.before.before.before.before.before.before.before.before.before.before.before.before.before.before.before.list-marked in
-    let rows = shapers_in r a.marks.now a.rows.now a.n a.m S l.result l.ensures.0 _ _ l.ensures.1 _ _ c.before.before.before.before.before.before.before.before.before.before.before.before.before.before.before.before.before.before.before.gather-rows.ensures in
+    let a = c.args in
+    let l = c.list_marked-k in
+    let rows = shapers_in r a.marks.now a.rows.now a.n a.m S l.result l.ensures.0 _ _ l.ensures.1 _ _ c.gather_rows.ensures in
     lined r a.marks.now a.rows.now a.n a.m S l.result l.ensures.0 _ _ _ _ _ _
-    (c.before.before.before.before.before.before.before.before.before.before.before.before.before.associate.ensures r e rows z L k) _ _ _ _ c.before.before.before.before.spread.ensures
+    (c.associate.ensures r e rows z L k) _ _ _ _ c.spread.ensures
 
 pub associate_marked_spec : {M : Type 1} → statement M
 associate_marked_spec =

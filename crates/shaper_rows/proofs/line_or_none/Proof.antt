@@ -3,17 +3,17 @@ use native.Mathlib.Omega.{arith}
 use Rattle.shaper_rows.proofs.line_or_none.Statement.{statement}
 use Rattle.shaper_rows.proofs.line_or_none.Tie as tie
 
-mul-result : tie.Need-overflow-mul-result
-mul-result c = omega (arith, c.before.requires c.if1.true)
+mul-result : tie.Need-offset_bounds-from-i
+mul-result c = omega (arith, c.requires c.if-shapes.true)
 
-shared-slice-read-result : tie.Need-shared-slice-read-result
-shared-slice-read-result c = omega (arith, c.before.before.requires c.before.if1.true)
+shared-slice-read-result : tie.Need-bounds-from-i
+shared-slice-read-result c = omega (arith, c.requires c.if-shapes.true)
 
-returns : tie.Need-returns
-returns c = rw c.before.if1.true
+returns : tie.Need-returns-then-shapes
+returns c = rw c.if-shapes.true
 
-returns-2 : tie.Need-returns-2
-returns-2 c = rw c.if1.false
+returns-2 : tie.Need-returns-else-shapes
+returns-2 c = rw c.if-shapes.false
 
 pub line_or_none_spec : {M : Type 1} → statement M
 line_or_none_spec = tie.close (tie.spec mul-result shared-slice-read-result returns returns-2)

@@ -12,10 +12,10 @@ use Rattle.real_laws.proofs.Roots.Digits.{Turns, Step, more-fits, take-fits, ste
 use Rattle.square_root.proofs.near_root.Statement.{statement}
 use Rattle.square_root.proofs.near_root.Tie as tie
 
-abbrev invariant_loop : tie.invariant-loop
+abbrev invariant_loop : tie.invariant-loop-i
 invariant_loop a rest₀ rem₀ root₀ i₀ rest rem root i = Turns a rest rem root i
 
-abbrev decreases_loop : tie.decreases-loop
+abbrev decreases_loop : tie.decreases-loop-i
 decreases_loop a rest₀ rem₀ root₀ i₀ rest rem root i = 53 - i
 
 -- the remainder says which way to round
@@ -35,66 +35,66 @@ module _ (a rest rem root i : ℕ) (t : Turns a rest rem root i) (l : 53 ≤ i) 
       let e = last a rest rem root i t l in
       near ∙ cond_le (root * root + root) (a * 2 ^ 52) (suc root) root (omega arith)
 
-loop-holds : tie.Need-loop-init invariant_loop decreases_loop
+loop-holds : tie.Need-loop-i-init invariant_loop decreases_loop
 loop-holds c = start c.args.a c.requires
 
-add-more : tie.Need-overflow-add-more invariant_loop decreases_loop
+add-more : tie.Need-overflow_add-more invariant_loop decreases_loop
 add-more c =
-    let a = c.before.before.args.a in
-    let l = c.before.loop in
-    record { fits = lt_of_lt_of_le (more-fits a l.rest l.rem l.root l.i l.invariant c.loop-test.true) (lit≤ tt) }
+    let a = c.args.a in
+    let l = c.loop-i in
+    record { fits = lt_of_lt_of_le (more-fits a l.rest l.rem l.root l.i l.invariant c.loop-i-test.true) (lit≤ tt) }
 
-add-take : tie.Need-overflow-add-take invariant_loop decreases_loop
+add-take : tie.Need-overflow_add-take invariant_loop decreases_loop
 add-take c =
-    let a = c.before.before.args.a in
-    let l = c.before.loop in
-    record { fits = lt_of_lt_of_le (take-fits a l.rest l.rem l.root l.i l.invariant c.loop-test.true) (lit≤ tt) }
+    let a = c.args.a in
+    let l = c.loop-i in
+    record { fits = lt_of_lt_of_le (take-fits a l.rest l.rem l.root l.i l.invariant c.loop-i-test.true) (lit≤ tt) }
 
-root-digit-requires : tie.Need-root-digit-requires invariant_loop decreases_loop
+root-digit-requires : tie.Need-root_digit-one-requires invariant_loop decreases_loop
 root-digit-requires c κs = tt
 
 -- what the digit makes of the turn
-taken : (c : tie.After-root-digit invariant_loop decreases_loop) → Step c.before.before.before.args.a c.before.before.loop.rest c.before.before.loop.rem c.before.before.loop.root c.before.before.loop.i c.root-digit.result
+taken : (c : tie.After-root_digit-one invariant_loop decreases_loop) → Step c.args.a c.loop-i.rest c.loop-i.rem c.loop-i.root c.loop-i.i c.root_digit-one.result
 taken c =
-    let l = c.before.before.loop in
-    step c.before.before.before.args.a l.rest l.rem l.root l.i c.root-digit.result l.invariant c.before.loop-test.true c.root-digit.ensures
+    let l = c.loop-i in
+    step c.args.a l.rest l.rem l.root l.i c.root_digit-one.result l.invariant c.loop-i-test.true c.root_digit-one.ensures
 
-mul-rem : tie.Need-overflow-mul-rem invariant_loop decreases_loop
+mul-rem : tie.Need-overflow_mul-rem invariant_loop decreases_loop
 mul-rem c =
-    let a = c.before.before.before.args.a in
-    let l = c.before.before.loop in
-    let f = more-fits a l.rest l.rem l.root l.i l.invariant c.before.loop-test.true in
+    let a = c.args.a in
+    let l = c.loop-i in
+    let f = more-fits a l.rest l.rem l.root l.i l.invariant c.loop-i-test.true in
     record { fits = lt_of_le_of_lt (taken c).less (lt_of_lt_of_le f (lit≤ tt)) }
 
-sub-rem : tie.Need-overflow-sub-rem invariant_loop decreases_loop
+sub-rem : tie.Need-overflow_sub-rem invariant_loop decreases_loop
 sub-rem c = (taken c).less
 
-add-root : tie.Need-overflow-add-root invariant_loop decreases_loop
-add-root c = record { fits = lt_of_lt_of_le (taken c).ranges (lit≤ tt) }
+add-root : tie.Need-overflow_add-root invariant_loop decreases_loop
+add-root c = record { fits = lt_of_lt_of_le (taken c).fits (lit≤ tt) }
 
-add-i : tie.Need-overflow-add-i invariant_loop decreases_loop
+add-i : tie.Need-overflow_add-i invariant_loop decreases_loop
 add-i c = omega arith
 
-loop-less : tie.Need-loop-smaller invariant_loop decreases_loop
+loop-less : tie.Need-loop-i-smaller invariant_loop decreases_loop
 loop-less c = omega arith
 
-loop-again : tie.Need-loop-preserved invariant_loop decreases_loop
+loop-again : tie.Need-loop-i-preserved invariant_loop decreases_loop
 loop-again c = (taken c).then
 
-add-result : tie.Need-overflow-add-result invariant_loop decreases_loop
+add-result : tie.Need-overflow_add-result invariant_loop decreases_loop
 add-result c =
-    let l = c.before.before.loop in
-    record { fits = lt_of_lt_of_le (last_fits c.before.before.before.args.a l.rest l.rem l.root l.i l.invariant) (lit≤ tt) }
+    let l = c.loop-i in
+    record { fits = lt_of_lt_of_le (last_fits c.args.a l.rest l.rem l.root l.i l.invariant) (lit≤ tt) }
 
-returns : tie.Need-returns invariant_loop decreases_loop
+returns : tie.Need-returns-then-root-rem invariant_loop decreases_loop
 returns c =
-    let l = c.before.before.loop in
-    sym (up c.before.before.before.args.a l.rest l.rem l.root l.i l.invariant c.before.loop-test.false c.if1.true)
+    let l = c.loop-i in
+    sym (up c.args.a l.rest l.rem l.root l.i l.invariant c.loop-i-test.false c.if-root-rem.true)
 
-returns-2 : tie.Need-returns-2 invariant_loop decreases_loop
+returns-2 : tie.Need-returns-else-root-rem invariant_loop decreases_loop
 returns-2 c =
-    let l = c.before.before.loop in
-    sym (down c.before.before.before.args.a l.rest l.rem l.root l.i l.invariant c.before.loop-test.false c.if1.false)
+    let l = c.loop-i in
+    sym (down c.args.a l.rest l.rem l.root l.i l.invariant c.loop-i-test.false c.if-root-rem.false)
 
 pub near_root_spec : {M : Type 1} → statement M
 near_root_spec =

@@ -14,28 +14,28 @@ use Rattle.square_root.proofs.root_of_units.Tie as tie
 known : (c : tie.Start) → Parts c.args.m c.args.k
 known c = parts c.args.m c.args.k c.requires.0 c.requires.1
 
-cast-s : tie.Need-overflow-cast-s
+cast-s : tie.Need-overflow_cast-s
 cast-s c = let p = known c in omega arith
 
-sub-s : tie.Need-overflow-sub-s
+sub-s : tie.Need-overflow_sub-s
 sub-s c = let p = known c in omega arith
 
-add-e : tie.Need-overflow-add-e
+add-e : tie.Need-overflow_add-e
 add-e c = omega arith
 
-sub-e : tie.Need-overflow-sub-e
+sub-e : tie.Need-overflow_sub-e
 sub-e c = let p = known c in omega arith
 
-add-near-root : tie.Need-overflow-add-near-root
+add-near-root : tie.Need-overflow_add-s
 add-near-root c = let p = known c in omega arith
 
-shl-near-root : tie.Need-overflow-shl-near-root
+shl-near-root : tie.Need-overflow_shl-m
 shl-near-root c = let p = known c in omega arith
 
-near-root-requires : tie.Need-near-root-requires
+near-root-requires : tie.Need-near_root-q-requires
 near-root-requires c κs = let p = known c in omega arith
 
-sub-result : tie.Need-overflow-sub-result
+sub-result : tie.Need-overflow_sub-result
 sub-result c = let p = known c.before in omega arith
 
 -- the result, by the digits with nothing shifted out; and the field
@@ -68,14 +68,14 @@ module _ (m k q : ℕ) (p : Parts m k) (e : q ≡ near_root ((m * 2 ^ moved m k)
       ∙ ap (λ (x : ℕ). odd 53 false x (exponent m k / 2 - 26) 1074) digits
       ∙ sym p.is
 
-add-result : tie.Need-overflow-add-result
-add-result c = record { fits = fits c.before.args.m c.before.args.k c.near-root.result (known c.before) c.near-root.ensures c.before.requires.2 }
+add-result : tie.Need-overflow_add-result
+add-result c = record { fits = fits c.args.m c.args.k c.near_root-q.result (known c.before) c.near_root-q.ensures c.requires.2 }
 
-float-from-bits-result : tie.Need-float-from-bits-result
-float-from-bits-result c = no_nan c.before.args.m c.before.args.k c.near-root.result (known c.before) c.near-root.ensures c.before.requires.2
+float-from-bits-result : tie.Need-float_from_bits-result
+float-from-bits-result c = no_nan c.args.m c.args.k c.near_root-q.result (known c.before) c.near_root-q.ensures c.requires.2
 
 returns : tie.Need-returns
-returns c = result c.before.args.m c.before.args.k c.near-root.result (known c.before) c.near-root.ensures c.before.requires.2
+returns c = result c.args.m c.args.k c.near_root-q.result (known c.before) c.near_root-q.ensures c.requires.2
 
 pub root_of_units_spec : {M : Type 1} → statement M
 root_of_units_spec =

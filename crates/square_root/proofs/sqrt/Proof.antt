@@ -66,30 +66,30 @@ below x h k l = elim (or_split (lt x nought) (eq x nought) (nlt→le nought x no
 
 -- ---- the needs
 held : (c : tie.Start) → T (fits binary64 c.args.x)
-held c = true_T _ c.well-formed.0.1
+held c = true_T _ c.well_formed.0.1
 
-float-to-bits-b : tie.Need-float-to-bits-b
+float-to-bits-b : tie.Need-float_to_bits-b
 unfolding of_bits
-float-to-bits-b c = (lt_not_nan nought c.before.args.x (true_T _ c.if1.true)).1
+float-to-bits-b c = (lt_not_nan nought c.args.x (true_T _ c.if-x.true)).1
 
-root-of-pattern-requires : tie.Need-root-of-pattern-requires
+root-of-pattern-requires : tie.Need-root_of_pattern-requires
 unfolding of_bits
-root-of-pattern-requires c κs = (pattern_above c.before.before.args.x (held c.before.before) c.before.if1.true, c.if2.true)
+root-of-pattern-requires c κs = (pattern_above c.args.x (held c.before.before) c.if-x.true, c.if-b-lt9218868437227405312.true)
 
-returns : tie.Need-returns
-returns c = c.root-of-pattern.ensures ∙ ap sqrt_of (of_bits-to_bits binary64 c.before.before.before.args.x (held c.before.before.before))
+returns : tie.Need-returns-then-b-lt9218868437227405312
+returns c = c.root_of_pattern.ensures ∙ ap sqrt_of (of_bits-to_bits binary64 c.args.x (held c.before.before.before))
 
-returns-2 : tie.Need-returns-2
+returns-2 : tie.Need-returns-else-b-lt9218868437227405312
 unfolding of_bits
-returns-2 c = infinite c.before.before.args.x (held c.before.before) c.before.if1.true c.if2.false
+returns-2 c = infinite c.args.x (held c.before.before) c.if-x.true c.if-b-lt9218868437227405312.false
 
-returns-3 : tie.Need-returns-3
+returns-3 : tie.Need-returns-then-x-2
 unfolding of_bits
-returns-3 c = level c.before.before.args.x c.if3.true
+returns-3 c = level c.args.x c.if-x-2.true
 
-returns-4 : tie.Need-returns-4
+returns-4 : tie.Need-returns-else-x-2
 unfolding of_bits div
-returns-4 c = let x = c.before.before.args.x in sym (no_root x (held c.before.before) (below x c.before.if1.false c.if3.false))
+returns-4 c = let x = c.args.x in sym (no_root x (held c.before.before) (below x c.if-x.false c.if-x-2.false))
 
 pub sqrt_spec : {M : Type 1} → statement M
 sqrt_spec =
