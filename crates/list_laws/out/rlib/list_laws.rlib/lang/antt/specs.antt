@@ -1,4 +1,0 @@
-pub mod Occ
-pub mod Put
-pub mod Places
-pub mod Rows
