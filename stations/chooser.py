@@ -10,8 +10,8 @@ from refusals import refusal
 
 TOP = os.path.dirname(os.path.dirname(os.path.abspath(__file__)))
 PROGRAM = os.path.join(TOP, "target", "bin", "choose")
-MISSING = ("the program is not built: there is no target/bin/choose in this clone. Build it with `bash examples/run`, which proves it first: "
-           "some four minutes on two cores, with the Rattle toolchain's rt on the path.")
+MISSING = ("the program is not built: there is no target/bin/choose in this clone. Build it with `bash examples/run`, which proves it first "
+           "with all that it stands on: the first time that takes long. The Rattle toolchain's rt must be on the path.")
 HEADER = re.compile(r"plans ([0-9]+) kept ([0-9]+)")
 LINE = re.compile(r"([0-9]+) ([0-9]+) ([0-9]+|-) ([0-9]+)")
 

@@ -6,7 +6,7 @@ use Rattle.model.specs.Lists.{In}
 use Rattle.model.specs.Association.{Request, feasible_plan}
 use Rattle.model.specs.Kept.{is_split, split_front}
 
--- the premises: two requests of edition 2, r and s. That of the split front is asked of r alone: s has the same (`Front-same`, proofs/Hopeless.antt).
+-- the premises: two requests of edition 2, r and s. That of the split front is asked of r alone: s has the same (`front_same`, proofs/Hopeless.antt).
 pub record HopelessRows (r s : Request) : Type 0 where
   pub edition : r.edition ≡ Second
   pub same_edition : s.edition ≡ Second

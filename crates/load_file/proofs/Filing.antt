@@ -1,6 +1,6 @@
 -- A load in good form: its counts, its length, the room for it.
 use Prim.Native.Nat.{ℕ, ◌≤◌, ◌<◌}
-use mathlib.Core.Path.{◌≡◌, ap, ap₂, sym, ◌∙◌}
+use mathlib.Core.Path.{◌≡◌, ap, sym, ◌∙◌}
 use mathlib.Core.Bool.{true, false, or-true}
 use mathlib.Core.List.{List}
 use mathlib.Core.Option.{some}
@@ -17,7 +17,7 @@ use Rattle.model.specs.Refusal.{first_of}
 use Rattle.model.specs.Calls.{ChooseExit, choose_by}
 use Rattle.model.specs.Load.{Load, parse_load, load_text, bad_counts, bad_load, filed_refusal, refusal_of_load, load_refusal, text_of_load, load_of, Loads}
 use Rattle.list_laws.proofs.Bools.{or_right}
-use Rattle.list_laws.proofs.Checks.{applies-first, passed_over}
+use Rattle.list_laws.proofs.Checks.{applies-first}
 use Rattle.pool_laws.specs.Choice.{exit, text_exit}
 use Rattle.pool_form.specs.Form.{Adds}
 use Rattle.pool_form.proofs.Pieces.{fitted, over-long}

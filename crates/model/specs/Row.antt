@@ -33,7 +33,7 @@ dominates m a b = not (any_below (λ j. lt (b j) (a j)) m) && any_below (λ j. l
 unfoldable pub feasible : List Float → Bool
 feasible cs = all_in (λ c. le c nought) cs
 
--- "the left_to_right sum of max(c, 0)"
+-- "the left-to-right sum of max(c, 0)"
 abbrev pub excess : Float → Float
 excess c = cond (lt nought c) c nought
 

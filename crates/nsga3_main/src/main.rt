@@ -5,26 +5,25 @@
 ghost use Rattle.std.specs.Prelude.{◌+◌, ◌*◌, ◌≤◌, length};
 ghost use Rattle.model.specs.Plan.{plan_words};
 
-use libc::STDOUT_FILENO;
 use model::{Edition, Outcome, PLAN_WORDS, ROW_LENGTH, Rng, VALUES};
 
-fn text(t: &[u8]) {
-    io::write_all(STDOUT_FILENO, t);
+fn text(rt: &impl Print, t: &[u8]) {
+    let _ = rt.write_all(t);
 }
 
 // A label and a number.
-fn number(label: &[u8], n: u64) {
-    io::write_all(STDOUT_FILENO, label);
-    io::print_decimal(STDOUT_FILENO, n);
+fn number(rt: &impl Print, label: &[u8], n: u64) {
+    let _ = rt.write_all(label);
+    let _ = rt.print(n);
 }
 
 // A label and the entries of a list.
-fn list(label: &[u8], entries: &[usize]) {
-    text(label);
+fn list(rt: &impl Print, label: &[u8], entries: &[usize]) {
+    text(rt, label);
     let mut i = 0;
     while i < entries.len() {
         let n = entries[i];
-        number(b" ", n as u64);
+        number(rt, b" ", n as u64);
         i += 1;
     }
 }
@@ -50,13 +49,13 @@ fn put_plans(pool: &mut [u64])
 }
 
 // What a call answers.
-fn answered(outcome: Outcome) {
+fn answered(rt: &impl Print, outcome: Outcome) {
     match outcome {
         Outcome::Kept(n) => {
-            number(b"kept ", n as u64);
+            number(rt, b"kept ", n as u64);
         }
         Outcome::Refused(n) => {
-            number(b"refused ", n as u64);
+            number(rt, b"refused ", n as u64);
         }
     }
 }
@@ -74,6 +73,7 @@ fn mark(x: f64) -> u64 {
 
 // All that a call leaves, on a line.
 fn tell(
+    rt: &impl Print,
     outcome: Outcome,
     kept: &[usize],
     fronts: &[usize],
@@ -81,18 +81,18 @@ fn tell(
     ideal: &[f64; 2],
     state: u64,
 ) {
-    answered(outcome);
-    list(b": list", kept);
-    list(b", fronts", fronts);
-    list(b", lines", lines);
-    number(b", ideal ", mark(ideal[0]));
-    number(b" ", mark(ideal[1]));
-    number(b", state ", state);
-    text(b"\n");
+    answered(rt, outcome);
+    list(rt, b": list", kept);
+    list(rt, b", fronts", fronts);
+    list(rt, b", lines", lines);
+    number(rt, b", ideal ", mark(ideal[0]));
+    number(rt, b" ", mark(ideal[1]));
+    number(rt, b", state ", state);
+    text(rt, b"\n");
 }
 
 // One selection from the three plans, with seed 5 and an ideal at infinity.
-fn call(m: usize, divisions: usize, size: usize, plans: usize)
+fn call(rt: &impl Print, m: usize, divisions: usize, size: usize, plans: usize)
     requires { (m ≤ 2) × (plans ≤ 3) }
 {
     let mut pool: [u64; 3 * PLAN_WORDS] = [0; 3 * PLAN_WORDS];
@@ -119,23 +119,23 @@ fn call(m: usize, divisions: usize, size: usize, plans: usize)
     );
     let outcome = s.outcome;
     let rng = s.rng;
-    tell(outcome, &kept, &fronts, &lines, &ideal, rng.s);
+    tell(rt, outcome, &kept, &fronts, &lines, &ideal, rng.s);
 }
 
-fn main() {
+fn main(rt: HostRuntime) {
     // the example: a front is split
-    call(2, 1, 2, 3);
+    call(&rt, 2, 1, 2, 3);
     // whole fronts fill the size
-    call(2, 1, 1, 3);
-    call(2, 1, 3, 3);
+    call(&rt, 2, 1, 1, 3);
+    call(&rt, 2, 1, 3, 3);
     // a pool smaller than the size is padded
-    call(2, 1, 7, 3);
+    call(&rt, 2, 1, 7, 3);
     // refusals 2, 3, 4, 7, 8 and 10
-    call(0, 1, 2, 3);
-    call(2, 1, 0, 3);
-    call(2, 1, 1025, 3);
-    call(2, 200, 2, 3);
-    call(2, 1, 2, 0);
-    call(1, 1, 2, 3);
-    call(2, 1, 9, 3);
+    call(&rt, 0, 1, 2, 3);
+    call(&rt, 2, 1, 0, 3);
+    call(&rt, 2, 1, 1025, 3);
+    call(&rt, 2, 200, 2, 3);
+    call(&rt, 2, 1, 2, 0);
+    call(&rt, 1, 1, 2, 3);
+    call(&rt, 2, 1, 9, 3);
 }

@@ -1,14 +1,13 @@
 -- THE POOL OF A FILE IS READ BY ITS EDITION: what the second edition's form is read into, its numbers and settings passed over, is what its reader of plans reads.
 use Prim.Native.Nat.{ℕ, ◌<◌}
 use mathlib.Core.Path.{◌≡◌, refl, sym, ap, ◌∙◌}
-use mathlib.Core.Bool.{Bool, true, false}
+use mathlib.Core.Bool.{true, false}
 use mathlib.Core.List.{List, [], ◌∷◌, map}
 use mathlib.Core.Option.{Option, none, some}
 use native.Mathlib.Omega.{arith}
 use lib.Dec.{eqb, leb}
 use lib.ListN.{length, get_or, drop}
-use Rattle.model.specs.Plan.{Plan}
-use Rattle.model.specs.PoolFile.{Parsed, PoolFile, File, Numbered, pure, onward, number, many, measured, numbered, file_by, pool_file, parse_by, parse, wholly, if_none_left, max_file, opens_second, second_file, is_passed_over, pool_of}
+use Rattle.model.specs.PoolFile.{Parsed, File, Numbered, pure, onward, number, many, measured, numbered, file_by, pool_file, parse_by, parse, wholly, if_none_left, max_file, opens_second, second_file, is_passed_over, pool_of}
 use Rattle.list_laws.proofs.Bools.{by_bool, by_option}
 use Rattle.pool_number.proofs.Options.{many-map}
 use Rattle.pool_editions.specs.Editions.{plan_second, plan_in}

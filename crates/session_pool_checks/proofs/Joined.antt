@@ -1,16 +1,14 @@
 -- 8 and 9 for two slices of plans, the second behind the first, from what each says of either.
-use Prim.Native.Nat.{ℕ, ◌+◌, ◌*◌, ◌≤◌}
-use mathlib.Core.Path.{◌≡◌, refl, sym, ap, ap₂, ◌∙◌}
+use Prim.Native.Nat.{ℕ, ◌*◌, ◌≤◌}
+use mathlib.Core.Path.{◌≡◌, refl, sym, ap, ◌∙◌}
 use mathlib.Core.Bool.{Bool, true, false, not, ◌&&◌, false≢true, true≢false}
 use mathlib.Core.List.{List, [], ◌∷◌, ◌++◌}
 use mathlib.Core.Option.{none, some}
-use native.Mathlib.Omega.{arith}
 use lib.ListN.{length, take}
 use Rattle.list_laws.proofs.Checks.{passed_over, applies-first}
 use Rattle.model.specs.declared.Session.{Session}
 use Rattle.model.specs.Lists.{all_below}
 use Rattle.model.specs.Plan.{Plan, plan_at, plan_count, plan_words, max_objectives}
-use Rattle.model.specs.Association.{objectives}
 use Rattle.model.specs.Session.{operators_of, dimension_of}
 use Rattle.model.specs.Refusal.{check, first_of, good_plan, good_plans, good_ideal, breedable, bad_pool, bad_parents}
 use Rattle.session_pool_laws.proofs.Blocks.{joined-count, joined-test}

@@ -2,17 +2,17 @@
 use Prim.Native.Nat.{ℕ, zero, suc, ◌+◌, ◌-◌, ◌*◌, ◌≤◌, ◌<◌}
 use mathlib.Core.Path.{◌≡◌, refl, sym, ap, ap₂, ◌∙◌}
 use mathlib.Core.List.{List, [], ◌∷◌, ◌++◌, append-nil, append_assoc}
-use native.Mathlib.Nat.{zero-mul, zero-add, suc-mul, add-mul, mul-le-mul_right, le_of_lt}
+use native.Mathlib.Nat.{zero-mul, suc-mul, add-mul, mul-le-mul_right, le_of_lt}
 use native.Mathlib.Omega.{arith}
 use lib.Ieee.{Float, lt}
 use lib.ListN.{length, get_or, take, drop, length-append, length-drop, take-append-drop, get_or-append}
-use lib.Seq.{drop-nil, drop-append-add, drop-append-le, get_or-append-add, length-take-le}
+use lib.Seq.{drop-nil, drop-append-add, drop-append-le, get_or-append-add}
 use Rattle.list_laws.proofs.Below.{by_lt}
 use Rattle.list_laws.proofs.Best.{best_same}
 use Rattle.list_laws.proofs.Built.{list_below-length, list_below-at}
 use Rattle.model.specs.Lists.{best_from}
 use Rattle.model.specs.Real.{real, bits}
-use Rattle.model.specs.Association.{Request, objectives}
+use Rattle.model.specs.Association.{Request, objectives, value_of, shapers, least_from}
 use Rattle.model.specs.Window.{own_part, own_words, last_of}
 use Rattle.window_laws.specs.Run.{least_over}
 use Rattle.window_laws.proofs.Least.{smaller, least-split, best_front}
@@ -135,4 +135,4 @@ parts_least m b (r ∷ rs) j h l =
     best_front b (λ g. real (get_or (parts_of (r ∷ rs)) (g * m + j) 0)) (length rs)
     ∙ ap₂ (λ (x : Float) (f : ℕ → Float). best_from lt x f (length rs)) (ap (smaller b) (word-front m r (parts_of rs) j h.0 l) ∙ sym (least-split b r j)) refl
     ∙ best_same lt _ _ (λ g. real (get_or (parts_of rs) (g * m + j) 0)) (length rs) (λ g u. word-behind m r (parts_of rs) g j h.0)
-    ∙ parts_least m _ rs j h.1 l
+    ∙ parts_least m (least_from b (λ p. value_of r p j) (shapers r)) rs j h.1 l

@@ -2,18 +2,17 @@
 -- no longer than the window; and it is the one that a selection uses.
 use Prim.Native.Nat.{ℕ, suc, ◌+◌, ◌-◌, ◌*◌, ◌≤◌, ◌<◌, min}
 use mathlib.Core.Path.{◌≡◌, refl, sym, ap, ap₂, subst, ◌∙◌}
-use mathlib.Core.Bool.{Bool, true, false, cond, not}
+use mathlib.Core.Bool.{true, false}
 use mathlib.Core.List.{List, [], ◌∷◌, ◌++◌, append-nil}
 use mathlib.Core.Option.{Option, none, some, some-ne-none}
 use native.Mathlib.Nat.{zero-mul}
 use native.Mathlib.Omega.{arith}
 use borrow.Author.Tests.{leb-true, not-false}
-use lib.Dec.{leb}
 use lib.Ieee.{Float, nan, lt}
-use lib.ListN.{length, get_or, take, replicate, length-append}
-use lib.Seq.{sets, get_or-take}
+use lib.ListN.{length, get_or, take, length-append}
+use lib.Seq.{get_or-take}
 use Rattle.list_laws.proofs.Best.{best_same}
-use Rattle.list_laws.proofs.Bools.{and_left, and_not, and_not_left, and_fails, by_bool, by_option}
+use Rattle.list_laws.proofs.Bools.{and_left, and_fails, by_bool}
 use Rattle.list_laws.proofs.Built.{list_below_none, list_below-length, list_below-at, list_below-same, over-take, over_below, over-long, take-replicate, repeated}
 use Rattle.list_laws.proofs.Rows.{row_lt}
 use Rattle.model.specs.declared.Config.{Config}
@@ -31,11 +30,11 @@ use Rattle.model.specs.Edition.{waiting_of}
 use Rattle.model.specs.Association.{Request, objectives, value_of, shapers, least_from, ideal_of}
 use Rattle.model.specs.Kept.{Selected}
 use Rattle.model.specs.Setting.{generation}
-use Rattle.model.specs.Window.{most_remembered, own_part, own_words, last_of, least_remembered, part_at, ideal_after}
-use Rattle.model.specs.Session.{State, Answered, state, given, opened, is_active, discovers, discover, activate, breeds, breed, bred_from, request_of, operators_of, sample_from_candidate, accepted, kept_words, memory_at, memory_in, memory_after, most_words, remembered_after, start_by, start_ideal}
+use Rattle.model.specs.Window.{most_remembered, own_words, last_of, least_remembered, ideal_after}
+use Rattle.model.specs.Session.{State, state, given, opened, is_active, discovers, discover, activate, breeds, breed, bred_from, request_of, operators_of, sample_from_candidate, accepted, kept_words, memory_at, memory_in, memory_after, remembered_after, start_by, start_ideal}
 use Rattle.model.specs.Refusal.{open_refusal, sample_refusal, bad_pool, bad_window}
 use Rattle.model.specs.Property.{SessionOk}
-use Rattle.model.specs.Calls.{open_by, open_of, opening_refused_by, Opens, SampleExit, sample_by, sample_of, Samples}
+use Rattle.model.specs.Calls.{open_by, open_of, opening_refused_by, SampleExit, sample_by, sample_of}
 use Rattle.demand3_laws.proofs.Passed.{some-objectives, sample_passed}
 use Rattle.demand3_laws.proofs.Calls.{request-objectives, request-accepted}
 use Rattle.session_laws.proofs.Request.{breeds_active, active_discovers}
@@ -43,7 +42,7 @@ use Rattle.session_laws.proofs.Steps.{Long, long, Untouched, sampled_leaves}
 use Rattle.session_laws.proofs.Window.{memory_stands, after-fits, own_back, objectives-few}
 use Rattle.window_laws.specs.Run.{least_over, pool_by, pool_of, Run, begun, called}
 use Rattle.window_laws.proofs.Least.{over_snoc}
-use Rattle.window_laws.proofs.Parts.{last-length, last-all, last_snoc, last-last, Fine, AllFine, fine_snoc, fine_drop, parts_of, parts_snoc, parts_last, parts_length, parts_least}
+use Rattle.window_laws.proofs.Parts.{last-length, last-all, last_snoc, last-last, Fine, AllFine, fine_snoc, fine_drop, parts_of, parts_snoc, parts_last, parts_least}
 
 -- ---- what ties a state to the pools bred from
 

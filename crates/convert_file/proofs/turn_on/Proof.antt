@@ -4,104 +4,104 @@ use borrow.Author.Rules.{rules}
 use Rattle.convert_file.proofs.turn_on.Statement.{statement}
 use Rattle.convert_file.proofs.turn_on.Tie as tie
 
-returns : tie.Need-returns
+returns : tie.Need-returns-then-file-gt-MAX_FILE
 returns c =
-    on-long _ c.if1.true
+    on-long _ c.if-file-gt-MAX_FILE.true
 
-put-word-requires : tie.Need-put-word-requires
+put-word-requires : tie.Need-put_word-to-requires
 put-word-requires c κs = search rules
 
-copy-head-requires : tie.Need-copy-head-requires
+copy-head-requires : tie.Need-copy_head-requires
 copy-head-requires c κs = search rules
 
-enum-known-m : tie.Need-enum-known-m
+enum-known-m : tie.Need-enum_known-m
 enum-known-m c = search rules
 
-enum_told : tie.Need-enum-told
+enum_told : tie.Need-enum_told-1
 enum_told c = search rules
 
-same_length : tie.Need-same-length
+same_length : tie.Need-shape_of-out-in_default
 same_length c = search rules
 
-returns-2 : tie.Need-returns-2
+returns-2 : tie.Need-returns-in_default
 returns-2 c =
-    let h = c.before.before.before.before in
-    let w = h.before.before.before.before.before in
-    let i = w.before.before in
-    let a = i.before.before.before.args in
-    on_no_head a.file.now i.if1.false a.out.now _ _ w.put_word.ensures _ _ _ h.copy-head.ensures c.enum_told.given.1
+    let h = c in
+    let w = c in
+    let i = c in
+    let a = i.args in
+    on_no_head a.file.now i.if-file-gt-MAX_FILE.false a.out.now _ _ w.put_word-to.ensures _ _ _ h.copy_head.ensures c.in_default.is
 
-number-plans-requires : tie.Need-number-plans-requires
+number-plans-requires : tie.Need-number_plans-requires
 number-plans-requires c κs = search rules
 
-enum-known-end : tie.Need-enum-known-end
+enum-known-end : tie.Need-enum_known-end
 enum-known-end c = search rules
 
-enum-told-2 : tie.Need-enum-told-2
+enum-told-2 : tie.Need-enum_told-in_default-number_plans
 enum-told-2 c = search rules
 
-same-length-2 : tie.Need-same-length-2
+same-length-2 : tie.Need-shape_of-out-in_default-number_plans
 same-length-2 c = search rules
 
-returns-3 : tie.Need-returns-3
+returns-3 : tie.Need-returns-in_default-number_plans
 returns-3 c =
-    let p = c.before.before.before.before in
-    let x = p.before.before.before.before in
-    let h = x.before.before.before.before in
-    let w = h.before.before.before.before.before in
-    let i = w.before.before in
-    let a = i.before.before.before.args in
-    on-no_plans a.file.now i.if1.false a.out.now _ _ w.put_word.ensures _ _ _ h.copy-head.ensures x.m.given.0.0 x.m.given.0.1.0 x.m.given.0.1.1.0
-    x.m.given.1 _ _ _ p.number-plans.ensures c.enum-told2.given.1
+    let p = c in
+    let x = c in
+    let h = c in
+    let w = c in
+    let i = c in
+    let a = i.args in
+    on-no_plans a.file.now i.if-file-gt-MAX_FILE.false a.out.now _ _ w.put_word-to.ensures _ _ _ h.copy_head.ensures x.in-Good.m x.in-Good.count x.in-Good.at
+    x.in-Good.is _ _ _ p.number_plans.ensures c.in_default-number_plans.is
 
-same-length-3 : tie.Need-same-length-3
+same-length-3 : tie.Need-shape_of-out-then-end-file
 same-length-3 c = search rules
 
-returns-4 : tie.Need-returns-4
+returns-4 : tie.Need-returns-then-end-file
 returns-4 c =
-    let y = c.before.before in
-    let p = y.before.before.before.before in
-    let x = p.before.before.before.before in
-    let h = x.before.before.before.before in
-    let w = h.before.before.before.before.before in
-    let i = w.before.before in
-    let a = i.before.before.before.args in
-    on_runs_on a.file.now i.if1.false a.out.now _ _ w.put_word.ensures _ _ _ h.copy-head.ensures x.m.given.0.0 x.m.given.0.1.0 x.m.given.0.1.1.0
-    x.m.given.1 _ _ _ p.number-plans.ensures y.end.given.0.0 y.end.given.1 c.if2.true
+    let y = c in
+    let p = c in
+    let x = c in
+    let h = c in
+    let w = c in
+    let i = c in
+    let a = i.args in
+    on_runs_on a.file.now i.if-file-gt-MAX_FILE.false a.out.now _ _ w.put_word-to.ensures _ _ _ h.copy_head.ensures x.in-Good.m x.in-Good.count x.in-Good.at
+    x.in-Good.is _ _ _ p.number_plans.ensures y.in-At.end y.in-At.is c.if-end-file.true
 
-same-length-4 : tie.Need-same-length-4
+same-length-4 : tie.Need-shape_of-out-then-to-gt-MAX_FILE
 same-length-4 c = search rules
 
-returns-5 : tie.Need-returns-5
+returns-5 : tie.Need-returns-then-to-gt-MAX_FILE
 returns-5 c =
-    let j = c.before in
-    let y = j.before.before in
-    let p = y.before.before.before.before in
-    let x = p.before.before.before.before in
-    let h = x.before.before.before.before in
-    let w = h.before.before.before.before.before in
-    let i = w.before.before in
-    let s = i.before.before.before in
+    let j = c in
+    let y = c in
+    let p = c in
+    let x = c in
+    let h = c in
+    let w = c in
+    let i = c in
+    let s = c in
     let a = s.args in
-    on-over a.file.now i.if1.false a.out.now _ _ w.put_word.ensures _ _ _ h.copy-head.ensures x.m.given.0.0 x.m.given.0.1.0 x.m.given.0.1.1.0
-    x.m.given.1 _ _ _ p.number-plans.ensures y.end.given.0.0 y.end.given.1 j.if2.false s.requires c.if3.true
+    on-over a.file.now i.if-file-gt-MAX_FILE.false a.out.now _ _ w.put_word-to.ensures _ _ _ h.copy_head.ensures x.in-Good.m x.in-Good.count x.in-Good.at
+    x.in-Good.is _ _ _ p.number_plans.ensures y.in-At.end y.in-At.is j.if-end-file.false s.requires c.if-to-gt-MAX_FILE.true
 
-same-length-5 : tie.Need-same-length-5
+same-length-5 : tie.Need-shape_of-out
 same-length-5 c = search rules
 
-returns-6 : tie.Need-returns-6
+returns-6 : tie.Need-returns
 returns-6 c =
-    let j = c.before in
-    let y = j.before.before in
-    let p = y.before.before.before.before in
-    let x = p.before.before.before.before in
-    let h = x.before.before.before.before in
-    let w = h.before.before.before.before.before in
-    let i = w.before.before in
-    let s = i.before.before.before in
+    let j = c in
+    let y = c in
+    let p = c in
+    let x = c in
+    let h = c in
+    let w = c in
+    let i = c in
+    let s = c in
     let a = s.args in
-    on-held a.file.now i.if1.false a.out.now _ _ w.put_word.ensures _ _ _ h.copy-head.ensures x.m.given.0.0 x.m.given.0.1.0 x.m.given.0.1.1.0
-    x.m.given.1 _ _ _ p.number-plans.ensures y.end.given.0.0 y.end.given.1 j.if2.false s.requires c.if3.false
+    on-held a.file.now i.if-file-gt-MAX_FILE.false a.out.now _ _ w.put_word-to.ensures _ _ _ h.copy_head.ensures x.in-Good.m x.in-Good.count x.in-Good.at
+    x.in-Good.is _ _ _ p.number_plans.ensures y.in-At.end y.in-At.is j.if-end-file.false s.requires c.if-to-gt-MAX_FILE.false
 
 pub turn_on_spec : {M : Type 1} → statement M
 turn_on_spec =

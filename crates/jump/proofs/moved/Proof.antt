@@ -7,14 +7,14 @@ use Rattle.jump.proofs.moved.Tie as tie
 applied-requires : tie.Need-applied-requires
 applied-requires c κs = tt
 
-returns : tie.Need-returns
+returns : tie.Need-returns-then-left-eq1
 returns c =
-    let s = c.before.before in
+    let s = c in
     c.applied.ensures ∙ sym (moved-one s.args.a s.args.c s.args.s (s.args.left % 2) (omega arith))
 
-returns-2 : tie.Need-returns-2
+returns-2 : tie.Need-returns
 returns-2 c =
-    let s = c.before in
+    let s = c in
     sym (moved_none s.args.a s.args.c s.args.s (s.args.left % 2) (λ e. omega arith))
 
 pub moved_spec : {M : Type 1} → statement M

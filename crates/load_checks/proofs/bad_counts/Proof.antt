@@ -5,51 +5,51 @@ use Rattle.load_checks.proofs.Counts.{too_few, too_many, of_size, of-divisions, 
 use Rattle.load_checks.proofs.bad_counts.Statement.{statement}
 use Rattle.load_checks.proofs.bad_counts.Tie as tie
 
-bad-size-requires : tie.Need-bad-size-requires
+bad-size-requires : tie.Need-bad_size-bad_size-requires
 bad-size-requires c κs = tt
 
-bad-count-requires : tie.Need-bad-count-requires
+bad-count-requires : tie.Need-bad_count-bad_count-requires
 bad-count-requires c κs = tt
 
-returns : tie.Need-returns
-returns c = too_few _ c.if1.true
+returns : tie.Need-returns-then-m-lt1
+returns c = too_few _ c.if-m-lt1.true
 
-returns-2 : tie.Need-returns-2
-returns-2 c = too_many _ c.if2.true
+returns-2 : tie.Need-returns-then-m-gt-MAX_OBJECTIVES
+returns-2 c = too_many _ c.if-m-gt-MAX_OBJECTIVES.true
 
-returns-3 : tie.Need-returns-3
+returns-3 : tie.Need-returns-then-bad_size
 returns-3 c =
-    let n = c.before.before.before in
-    of_size _ c.before.before.if1.false c.before.if2.false (sym n.before.bad-size.ensures ∙ c.if3.true)
+    let n = c in
+    of_size _ c.if-m-lt1.false c.if-m-gt-MAX_OBJECTIVES.false (sym n.bad_size-bad_size.ensures ∙ c.if-bad_size.true)
 
-bad-divisions-requires : tie.Need-bad-divisions-requires
+bad-divisions-requires : tie.Need-bad_divisions-requires
 bad-divisions-requires c κs = (omega arith, omega arith)
 
-returns-4 : tie.Need-returns-4
+returns-4 : tie.Need-returns-then-bad_divisions
 returns-4 c =
-    let k = c.before.before in
-    let n = k.before.before.before in
-    of-divisions _ k.before.before.if1.false k.before.if2.false (sym n.before.bad-size.ensures ∙ k.if3.false)
-    (sym c.before.bad-divisions.ensures ∙ c.if4.true)
+    let k = c in
+    let n = c in
+    of-divisions _ k.if-m-lt1.false k.if-m-gt-MAX_OBJECTIVES.false (sym n.bad_size-bad_size.ensures ∙ k.if-bad_size.false)
+    (sym c.bad_divisions.ensures ∙ c.if-bad_divisions.true)
 
-returns-5 : tie.Need-returns-5
+returns-5 : tie.Need-returns-then-bad_count
 returns-5 c =
-    let d = c.before in
-    let k = d.before.before in
-    let n = k.before.before.before in
-    of-count _ k.before.before.if1.false k.before.if2.false (sym n.before.bad-size.ensures ∙ k.if3.false)
-    (sym d.before.bad-divisions.ensures ∙ d.if4.false) (sym n.bad-count.ensures ∙ c.if5.true)
+    let d = c in
+    let k = c in
+    let n = c in
+    of-count _ k.if-m-lt1.false k.if-m-gt-MAX_OBJECTIVES.false (sym n.bad_size-bad_size.ensures ∙ k.if-bad_size.false)
+    (sym d.bad_divisions.ensures ∙ d.if-bad_divisions.false) (sym n.bad_count-bad_count.ensures ∙ c.if-bad_count.true)
 
-returns-6 : tie.Need-returns-6
+returns-6 : tie.Need-returns
 returns-6 c =
-    let d = c.before.before in
-    let k = d.before.before in
-    let n = k.before.before.before in
-    of-constraints _ k.before.before.if1.false k.before.if2.false (sym n.before.bad-size.ensures ∙ k.if3.false)
-    (sym d.before.bad-divisions.ensures ∙ d.if4.false) (sym n.bad-count.ensures ∙ c.before.if5.false)
+    let d = c in
+    let k = c in
+    let n = c in
+    of-constraints _ k.if-m-lt1.false k.if-m-gt-MAX_OBJECTIVES.false (sym n.bad_size-bad_size.ensures ∙ k.if-bad_size.false)
+    (sym d.bad_divisions.ensures ∙ d.if-bad_divisions.false) (sym n.bad_count-bad_count.ensures ∙ c.if-bad_count.false)
 
-pub bad-counts_spec : {M : Type 1} → statement M
-bad-counts_spec =
+pub bad_counts_spec : {M : Type 1} → statement M
+bad_counts_spec =
     tie.close
     (tie.spec
     bad-size-requires

@@ -8,45 +8,45 @@ use Rattle.load_draws.proofs.Drawing.{draws_none, draws_more, plan_none, plan-mo
 use Rattle.load_draws.proofs.put_plans.Statement.{statement}
 use Rattle.load_draws.proofs.put_plans.Tie as tie
 
-abbrev invariant_loop : tie.invariant-loop
+abbrev invariant_loop : tie.invariant-loop-i
 invariant_loop n m c out₀ at at₀ rng₀ i₀ out at' rng i = (i ≤ n) × Draws plans_numbers (draw_many m c i rng₀.s) out₀ at₀ out at' rng.s
 
-abbrev decreases_loop : tie.decreases-loop
+abbrev decreases_loop : tie.decreases-loop-i
 decreases_loop n m c out₀ at at₀ rng₀ i₀ out at' rng i = n - i
 
-loop-holds : tie.Need-loop-init invariant_loop decreases_loop
-loop-holds c = let a = c.before.args in (omega arith, draws_none plans_numbers plan_numbers (λ j l. draw_plan a.m a.c) plan_none _ _ _)
+loop-holds : tie.Need-loop-i-init invariant_loop decreases_loop
+loop-holds c = let a = c.args in (omega arith, draws_none plans_numbers plan_numbers (λ j l. draw_plan a.m a.c) plan_none _ _ _)
 
-put-plan-requires : tie.Need-put-plan-requires invariant_loop decreases_loop
+put-plan-requires : tie.Need-put_plan-s-requires invariant_loop decreases_loop
 put-plan-requires c κs = tt
 
-add-i : tie.Need-overflow-add-i invariant_loop decreases_loop
+add-i : tie.Need-overflow_add-i invariant_loop decreases_loop
 add-i c = omega arith
 
-loop-less : tie.Need-loop-smaller invariant_loop decreases_loop
+loop-less : tie.Need-loop-i-smaller invariant_loop decreases_loop
 loop-less c = omega arith
 
-loop-again : tie.Need-loop-preserved invariant_loop decreases_loop
+loop-again : tie.Need-loop-i-preserved invariant_loop decreases_loop
 loop-again c =
-    let p = c.before.before.before in
-    let i = p.before.before in
-    let l = i.before.loop in
-    let a = i.before.before.before.args in (
+    let p = c in
+    let i = c in
+    let l = i.loop-i in
+    let a = i.args in (
       omega arith,
-      draws_more plans_numbers plan_numbers (λ j l. draw_plan a.m a.c) plan-more l.i _ _ _ l.out l.at l.rng.s _ _ _ l.invariant.1 p.put-plan.ensures,
+      draws_more plans_numbers plan_numbers (λ j l. draw_plan a.m a.c) plan-more l.i _ _ _ l.out l.at l.rng.s _ _ _ l.invariant.1 p.put_plan-s.ensures,
     )
 
-same_length : tie.Need-same-length invariant_loop decreases_loop
-same_length c = c.before.loop.invariant.1.puts.same
+same_length : tie.Need-shape_of-out invariant_loop decreases_loop
+same_length c = c.loop-i.invariant.1.puts.same
 
 returns : tie.Need-returns invariant_loop decreases_loop
 returns c =
-    let l = c.before.loop in
-    let e : l.i ≡ c.before.before.before.args.n = omega arith in
+    let l = c.loop-i in
+    let e : l.i ≡ c.args.n = omega arith in
     rw (← e) l.invariant.1
 
-pub put-plans_spec : {M : Type 1} → statement M
-put-plans_spec =
+pub put_plans_spec : {M : Type 1} → statement M
+put_plans_spec =
     tie.close
     (tie.spec
     invariant_loop

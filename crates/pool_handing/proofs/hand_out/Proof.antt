@@ -18,21 +18,21 @@ handed : (text out : List ℕ) → length text ≤ length out → (after : List 
 handed text out h after r p =
     ap (exit (chosen.Written (length text))) (put-over out after r text h p) ∙ sym (rw (le-ltb (length out) (length text) h))
 
-returns : tie.Need-returns
+returns : tie.Need-returns-then-out-n
 returns c =
-    let a = c.before.before.before.args in
-    no_room a.text.now a.out.now _ refl c.if1.true
+    let a = c.args in
+    no_room a.text.now a.out.now _ refl c.if-out-n.true
 
-put-bytes-requires : tie.Need-put-bytes-requires
+put-bytes-requires : tie.Need-put_bytes-requires
 put-bytes-requires c κs = search rules
 
-same_length : tie.Need-same-length
+same_length : tie.Need-shape_of-out
 same_length c = search rules
 
-returns-2 : tie.Need-returns-2
+returns-2 : tie.Need-returns
 returns-2 c =
-    let p = c.before.before in
-    handed _ _ p.before.before.if1.false _ _ p.put-bytes.ensures
+    let p = c in
+    handed _ _ p.if-out-n.false _ _ p.put_bytes.ensures
 
 pub hand_out_spec : {M : Type 1} → statement M
 hand_out_spec = tie.close (tie.spec returns put-bytes-requires same_length returns-2)

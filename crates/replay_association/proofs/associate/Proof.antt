@@ -4,25 +4,25 @@ use borrow.Author.Rules.{rules}
 use Rattle.replay_association.proofs.associate.Statement.{statement}
 use Rattle.replay_association.proofs.associate.Tie as tie
 
-word-requires : tie.Need-word-requires
+word-requires : tie.Need-word-h-requires
 word-requires c κs = tt
 
-word-requires-2 : tie.Need-word-requires-2
+word-requires-2 : tie.Need-word-n-requires
 word-requires-2 c κs = tt
 
-returns : tie.Need-returns
+returns : tie.Need-returns-then-n-gt-MAX_POOL
 returns c = tt
 
-read-rows-requires : tie.Need-read-rows-requires
+read-rows-requires : tie.Need-read_rows-end-requires
 read-rows-requires c κs = search rules
 
-returns-2 : tie.Need-returns-2
+returns-2 : tie.Need-returns-then-end-words
 returns-2 c = tt
 
 associated-requires : tie.Need-associated-requires
-associated-requires c κs = let e = c.before.before.before.before.before.before in (search rules, search rules, search rules, mul-le-mul e.if1.false e.before.before.before.requires.1)
+associated-requires c κs = let e = c in (search rules, search rules, search rules, mul-le-mul e.if-n-gt-MAX_POOL.false e.requires.1)
 
-returns-3 : tie.Need-returns-3
+returns-3 : tie.Need-returns
 returns-3 c = tt
 
 pub associate_spec : {M : Type 1} → statement M

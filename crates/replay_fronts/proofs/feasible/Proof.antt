@@ -4,16 +4,16 @@ use lib.Seq.{length-take-le}
 use Rattle.replay_fronts.proofs.feasible.Statement.{statement}
 use Rattle.replay_fronts.proofs.feasible.Tie as tie
 
-slice-aggregate-is-feasible : tie.Need-slice-aggregate-is-feasible
-slice-aggregate-is-feasible c = sym (length-take-le c.before.before.before.args.k c.before.before.before.args.values.now c.before.if1.true)
+slice-aggregate-is-feasible : tie.Need-slice_bounds-is_feasible-end
+slice-aggregate-is-feasible c = sym (length-take-le c.args.k c.args.values.now c.if-k-values.true)
 
-is-feasible-requires : tie.Need-is-feasible-requires
+is-feasible-requires : tie.Need-is_feasible-requires
 is-feasible-requires c κs = tt
 
-returns : tie.Need-returns
+returns : tie.Need-returns-then-k-values
 returns c = tt
 
-returns-2 : tie.Need-returns-2
+returns-2 : tie.Need-returns-else-k-values
 returns-2 c = tt
 
 pub feasible_spec : {M : Type 1} → statement M

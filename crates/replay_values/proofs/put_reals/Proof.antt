@@ -4,31 +4,31 @@ use borrow.Author.Rules.{rules}
 use Rattle.replay_values.proofs.put_reals.Statement.{statement}
 use Rattle.replay_values.proofs.put_reals.Tie as tie
 
-abbrev invariant_loop : tie.invariant-loop
+abbrev invariant_loop : tie.invariant-loop-j
 invariant_loop out₀ at reals k place₀ j₀ out place j = j ≤ k
 
-abbrev decreases_loop : tie.decreases-loop
+abbrev decreases_loop : tie.decreases-loop-j
 decreases_loop out₀ at reals k place₀ j₀ out place j = k - j
 
-loop-holds : tie.Need-loop-init invariant_loop decreases_loop
+loop-holds : tie.Need-loop-j-init invariant_loop decreases_loop
 loop-holds c = search rules
 
-mul-put-real : tie.Need-overflow-mul-put-real invariant_loop decreases_loop
+mul-put-real : tie.Need-offset_bounds-reals-j invariant_loop decreases_loop
 mul-put-real c = search rules
 
-shared-slice-read-put-real : tie.Need-shared-slice-read-put-real invariant_loop decreases_loop
+shared-slice-read-put-real : tie.Need-bounds-reals-j invariant_loop decreases_loop
 shared-slice-read-put-real c = search rules
 
-put-real-requires : tie.Need-put-real-requires invariant_loop decreases_loop
+put-real-requires : tie.Need-put_real-place-requires invariant_loop decreases_loop
 put-real-requires c κs = tt
 
-add-j : tie.Need-overflow-add-j invariant_loop decreases_loop
+add-j : tie.Need-overflow_add-j invariant_loop decreases_loop
 add-j c = search rules
 
-loop-less : tie.Need-loop-smaller invariant_loop decreases_loop
+loop-less : tie.Need-loop-j-smaller invariant_loop decreases_loop
 loop-less c = search rules
 
-loop-again : tie.Need-loop-preserved invariant_loop decreases_loop
+loop-again : tie.Need-loop-j-preserved invariant_loop decreases_loop
 loop-again c = search rules
 
 returns : tie.Need-returns invariant_loop decreases_loop

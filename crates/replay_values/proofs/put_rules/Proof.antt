@@ -4,38 +4,38 @@ use borrow.Author.Rules.{rules}
 use Rattle.replay_values.proofs.put_rules.Statement.{statement}
 use Rattle.replay_values.proofs.put_rules.Tie as tie
 
-abbrev invariant_loop : tie.invariant-loop
+abbrev invariant_loop : tie.invariant-loop-j
 invariant_loop out₀ at rules k place₀ j₀ out place j = j ≤ k
 
-abbrev decreases_loop : tie.decreases-loop
+abbrev decreases_loop : tie.decreases-loop-j
 decreases_loop out₀ at rules k place₀ j₀ out place j = k - j
 
-loop-holds : tie.Need-loop-init invariant_loop decreases_loop
+loop-holds : tie.Need-loop-j-init invariant_loop decreases_loop
 loop-holds c = search rules
 
-shared-slice-read-wide : tie.Need-shared-slice-read-wide invariant_loop decreases_loop
+shared-slice-read-wide : tie.Need-bounds-rules-j invariant_loop decreases_loop
 shared-slice-read-wide c = search rules
 
 wide-requires : tie.Need-wide-requires invariant_loop decreases_loop
 wide-requires c κs = tt
 
-put-requires : tie.Need-put-requires invariant_loop decreases_loop
+put-requires : tie.Need-put-place-requires invariant_loop decreases_loop
 put-requires c κs = tt
 
-add-j : tie.Need-overflow-add-j invariant_loop decreases_loop
+add-j : tie.Need-overflow_add-j invariant_loop decreases_loop
 add-j c = search rules
 
-loop-less : tie.Need-loop-smaller invariant_loop decreases_loop
+loop-less : tie.Need-loop-j-smaller invariant_loop decreases_loop
 loop-less c = search rules
 
-loop-again : tie.Need-loop-preserved invariant_loop decreases_loop
+loop-again : tie.Need-loop-j-preserved invariant_loop decreases_loop
 loop-again c = search rules
 
 returns : tie.Need-returns invariant_loop decreases_loop
 returns c = tt
 
-pub put-rules_spec : {M : Type 1} → statement M
-put-rules_spec =
+pub put_rules_spec : {M : Type 1} → statement M
+put_rules_spec =
     tie.close
     (tie.spec
     invariant_loop

@@ -5,29 +5,29 @@ use borrow.Author.Rules.{rules}
 use Rattle.session_encoding.proofs.dimension_words.Statement.{statement}
 use Rattle.session_encoding.proofs.dimension_words.Tie as tie
 
-enum-known-d : tie.Need-enum-known-d
+enum-known-d : tie.Need-enum_known-d
 enum-known-d c = search rules
 
-float-words-requires : tie.Need-float-words-requires
+float-words-requires : tie.Need-float_words-requires
 float-words-requires c κs = tt
 
-enum-known-d-2 : tie.Need-enum-known-d-2
+enum-known-d-2 : tie.Need-enum_known-d-in-Int-1
 enum-known-d-2 c = search rules
 
-int-words-requires : tie.Need-int-words-requires
+int-words-requires : tie.Need-int_words-requires
 int-words-requires c κs = tt
 
-enum-known-d-3 : tie.Need-enum-known-d-3
+enum-known-d-3 : tie.Need-enum_known-d-in-Categorical-1
 enum-known-d-3 c = search rules
 
-returns : tie.Need-returns
-returns c = c.float-words.ensures ∙ sym (ap dimension_words c.before.before.d.given.1)
+returns : tie.Need-returns-in-Float
+returns c = c.float_words.ensures ∙ sym (ap dimension_words c.in-Float.is)
 
-returns-2 : tie.Need-returns-2
-returns-2 c = c.int-words.ensures ∙ sym (ap dimension_words c.before.before.d2.given.1)
+returns-2 : tie.Need-returns-in-Int
+returns-2 c = c.int_words.ensures ∙ sym (ap dimension_words c.in-Int.is)
 
-returns-3 : tie.Need-returns-3
-returns-3 c = sym (ap dimension_words c.before.d3.given.1)
+returns-3 : tie.Need-returns-in-Categorical
+returns-3 c = sym (ap dimension_words c.in-Categorical.is)
 
 pub dimension_words_spec : {M : Type 1} → statement M
 dimension_words_spec =

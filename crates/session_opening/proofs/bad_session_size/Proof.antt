@@ -7,17 +7,17 @@ use borrow.Author.Rules.{rules}
 use Rattle.session_opening.proofs.bad_session_size.Statement.{statement}
 use Rattle.session_opening.proofs.bad_session_size.Tie as tie
 
-enum-known-size : tie.Need-enum-known-size
+enum-known-size : tie.Need-enum_known-size
 enum-known-size c = search rules
 
-enum_told : tie.Need-enum-told
+enum_told : tie.Need-enum_told-1
 enum_told c = search rules
 
-returns : tie.Need-returns
-returns c = ap (λ (x : OptionUsize). bad_session_size (given x)) (sym c.before.size.given.1)
+returns : tie.Need-returns-in-Some
+returns c = ap (λ (x : OptionUsize). bad_session_size (given x)) (sym c.in-Some.is)
 
-returns-2 : tie.Need-returns-2
+returns-2 : tie.Need-returns-in-None
 returns-2 c = search rules
 
-pub bad-session-size_spec : {M : Type 1} → statement M
-bad-session-size_spec = tie.close (tie.spec enum-known-size enum_told returns returns-2)
+pub bad_session_size_spec : {M : Type 1} → statement M
+bad_session_size_spec = tie.close (tie.spec enum-known-size enum_told returns returns-2)

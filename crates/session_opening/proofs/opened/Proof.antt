@@ -5,23 +5,23 @@ use Rattle.demand3_laws.proofs.Passed.{some-objectives}
 use Rattle.session_opening.proofs.opened.Statement.{statement}
 use Rattle.session_opening.proofs.opened.Tie as tie
 
-marks-of-requires : tie.Need-marks-of-requires
-marks-of-requires c κs = (some-objectives _ c.before.requires.0).1
+marks-of-requires : tie.Need-marks_of-marks-requires
+marks-of-requires c κs = (some-objectives _ c.requires.0).1
 
-divisions-of-requires : tie.Need-divisions-of-requires
-divisions-of-requires c κs = some-objectives _ c.before.before.requires.0
+divisions-of-requires : tie.Need-divisions_of-h-requires
+divisions-of-requires c κs = some-objectives _ c.requires.0
 
-population-size-requires : tie.Need-population-size-requires
-population-size-requires c κs = (some-objectives _ c.before.before.before.requires.0, c.before.before.before.requires.1)
+population-size-requires : tie.Need-population_size-n-requires
+population-size-requires c κs = (some-objectives _ c.requires.0, c.requires.1)
 
 start-requires : tie.Need-start-requires
 start-requires c κs = tt
 
 returns : tie.Need-returns
 returns c =
-    let p = c.before in
-    let d = p.before in
-    c.start.ensures ∙ opened_is _ _ _ _ _ _ _ _ _ _ _ _ d.before.marks-of.ensures d.divisions-of.ensures p.population-size.ensures
+    let p = c in
+    let d = c in
+    c.start.ensures ∙ opened_is _ _ _ _ _ _ _ _ _ _ _ _ d.marks_of-marks.ensures d.divisions_of-h.ensures p.population_size-n.ensures
 
 pub opened_spec : {M : Type 1} → statement M
 opened_spec =

@@ -6,37 +6,37 @@ use borrow.Author.Rules.{rules}
 use Rattle.session_steps.proofs.overflow.Statement.{statement}
 use Rattle.session_steps.proofs.overflow.Tie as tie
 
-sample-all-requires : tie.Need-sample-all-requires
+sample-all-requires : tie.Need-sample_all-c-requires
 sample-all-requires c κs = search rules
 
-mul-put-candidate : tie.Need-overflow-mul-put-candidate
+mul-put-candidate : tie.Need-overflow_mul-k
 mul-put-candidate c =
-    let s = c.before.before.before.before.before.before.before in
+    let s = c in
     let h = fits_more s.requires.1 (few _ _ s.requires.0) s.requires.2 in
     record { fits = omega arith }
 
-put-candidate-requires : tie.Need-put-candidate-requires
+put-candidate-requires : tie.Need-put_candidate-requires
 put-candidate-requires c κs =
-    let s = c.before.before.before.before.before.before.before.before in
+    let s = c in
     (few _ _ s.requires.0, fits_more s.requires.1 (few _ _ s.requires.0) s.requires.2)
 
-add-t13 : tie.Need-overflow-add-t13
+add-t13 : tie.Need-overflow_add-progress
 add-t13 c = search rules
 
-with-rng-requires : tie.Need-with-rng-requires
+with-rng-requires : tie.Need-with_rng-requires
 with-rng-requires c κs = tt
 
-with-progress-requires : tie.Need-with-progress-requires
+with-progress-requires : tie.Need-with_progress-requires
 with-progress-requires c κs = tt
 
-same_length : tie.Need-same-length
+same_length : tie.Need-shape_of-candidates
 same_length c = search rules
 
 returns : tie.Need-returns
 returns c ps ns pool =
-    let p = c.before.before.before.before.put-candidate in
-    let v = c.before.before.before.before.before.before.before.before.sample-all in
-    overflow_is _ _ _ _ ps ns pool _ _ _ v.ensures p.ensures c.before.with-rng.ensures c.with-progress.ensures
+    let p = c.put_candidate in
+    let v = c.sample_all-c in
+    overflow_is _ _ _ _ ps ns pool _ _ _ v.ensures p.ensures c.with_rng.ensures c.with_progress.ensures
 
 pub overflow_spec : {M : Type 1} → statement M
 overflow_spec =
