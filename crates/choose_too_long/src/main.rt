@@ -2,6 +2,6 @@
 
 #![tactic(auto)]
 
-fn main() {
-    choose_program::run();
+fn main(rt: HostRuntime) {
+    choose_program::run(&rt);
 }

@@ -2,6 +2,6 @@
 
 #![tactic(auto)]
 
-fn main() {
-    convert_program::run();
+fn main(rt: HostRuntime) {
+    convert_program::run(&rt);
 }

@@ -20,7 +20,6 @@ use Rattle.pool_form.proofs.Pieces.{adds_none, adds_as}
 use Rattle.form_laws.proofs.Lists.{written_none}
 use Rattle.convert_rows.specs.Copied.{NumberCopied, CopiedIs}
 use Rattle.convert_rows.proofs.Copies.{as_copied, adds-all, adds_one}
-use Rattle.convert_file.specs.declared.Head.{Head}
 use Rattle.convert_file.specs.declared.Head.TheVariants as head
 use Rattle.convert_file.specs.Files.{Header, HeaderIs, Before, before, objectives_of, count_of, file_of, HeadIs}
 

@@ -2,6 +2,6 @@
 
 #![tactic(auto)]
 
-fn main() {
-    load_program::run();
+fn main(rt: HostRuntime) {
+    load_program::run(&rt);
 }

@@ -1,11 +1,11 @@
 -- Breeding from its parts: what the step answers is what the session becomes, and the pool's words are the plans bred from.
-use Rattle.std.proofs.Common.{◌≡◌, ℕ, ◌+◌, ◌*◌, ◌<◌, ◌≤◌, Bool, true, false, List, [], ◌++◌, length, get_or, take, drop, replicate, sym, refl, ap, ◌∙◌, subst, ap₂, ⊎_elim, le_trans, le_refl, le-add_right, mul-le-mul_right, arith, length-append, take-append-drop, length-take-le, take_at}
+use Rattle.std.proofs.Common.{◌≡◌, ℕ, ◌+◌, ◌*◌, ◌<◌, ◌≤◌, false, List, [], ◌++◌, length, get_or, take, drop, replicate, sym, refl, ap, ◌∙◌, subst, ap₂, ⊎_elim, le_trans, le_refl, le-add_right, mul-le-mul_right, arith, length-append, take-append-drop, length-take-le}
 use mathlib.Core.Option.{Option, none, some}
 use lib.Ieee.{Float, nan}
 use lib.ListN.{length-replicate}
 use lib.Seq.{sets}
 use Rattle.list_laws.proofs.Built.{join_below-same, over-take, over-at, over-front, over_run, over-length}
-use Rattle.list_laws.proofs.Checks.{applies-at, then_last, good_length, pool-plan}
+use Rattle.list_laws.proofs.Checks.{then_last, good_length, pool-plan}
 use Rattle.list_laws.proofs.Members.{get_d_in}
 use Rattle.model.specs.declared.Edition.{Edition}
 use Rattle.model.specs.declared.Selection.{Selection}
@@ -20,8 +20,8 @@ use Rattle.model.specs.Kept.{Selected, selected}
 use Rattle.model.specs.Window.{max_window, own_words, last_of, ideal_after}
 use Rattle.model.specs.Demand3.{Demand3}
 use Rattle.model.specs.Setting.{Operators, Generation, generation, words_of}
-use Rattle.model.specs.Session.{State, state, given, long_enough, numbers_of, children_of, kept_words, block_of, bred_from, bred_session, breed, request_of, ideal_left, operators_of, most_words, pool_room, memory_at, memory_in, memory_after, start_ideal, waiting_count, max_words}
-use Rattle.model.specs.Refusal.{Room, check, step_refusal, max_size, max_pool}
+use Rattle.model.specs.Session.{State, state, given, long_enough, numbers_of, children_of, kept_words, block_of, bred_from, bred_session, breed, request_of, ideal_left, operators_of, most_words, pool_room, memory_at, memory_in, memory_after, start_ideal, max_words}
+use Rattle.model.specs.Refusal.{Room, step_refusal, max_size, max_pool}
 use Rattle.model.specs.Calls.{Lent, StepExit, room_of, step_accepted}
 use Rattle.model.specs.Property.{SessionOk}
 use Rattle.refusals.specs.declared.Check.{Check}
@@ -37,7 +37,7 @@ use Rattle.session_laws.proofs.Steps.{short_ok}
 use Rattle.session_laws.proofs.Request.{waits-by, waits-most, waits-size, front_length, bred-enough, bred-few, words-objectives, most-within, step-refusal}
 use Rattle.session_laws.proofs.Window.{window-few, slid-sound}
 use Rattle.session_breeding.proofs.Lines.{ideal_is, memory_is, memory_same, left-same}
-use Rattle.session_breeding.specs.Breeding.{Stepped, stepped, taken_of, lent_with, step_on, Told, ideal_by, own_by, Keeping, Poised, Gatherable, bred_on, BredExit, bred_exit, breed_by, breed_of}
+use Rattle.session_breeding.specs.Breeding.{Stepped, stepped, taken_of, lent_with, step_on, Told, ideal_by, own_by, Keeping, Poised, Gatherable, bred_on, bred_exit, breed_by, breed_of}
 
 -- the step by equal operators
 module _ (o p : Operators) (r : Request) (e : o ≡ p) where

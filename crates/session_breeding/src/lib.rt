@@ -109,6 +109,7 @@ fn bred_session(session: Session, rng: Rng, ideal_point: [f64; 8]) -> Session
 
 // The kept plans' words are put at the pool's front, in the kept list's order, where the edition has it that they wait. The pool's first `end` words are the
 // plans that they are kept from; `room` takes them up in between.
+#[tactic(auto, using(crate::proofs::Breeding::waits_front))]
 fn let_wait(
     edition: Edition,
     size: usize,

@@ -6,50 +6,50 @@ use Rattle.c_convert.proofs.Coding.{into_refused, within, into_written}
 use Rattle.c_convert.proofs.convert_into.Statement.{statement}
 use Rattle.c_convert.proofs.convert_into.Tie as tie
 
-convert-requires : tie.Need-convert-requires
+convert-requires : tie.Need-convert-converted-requires
 convert-requires c κs = search rules
 
-enum-known-converted : tie.Need-enum-known-converted
+enum-known-converted : tie.Need-enum_known-converted
 enum-known-converted c = search rules
 
-array-share-prefix-text : tie.Need-array-share-prefix-text
+array-share-prefix-text : tie.Need-slice_bounds-text-end
 array-share-prefix-text c =
-    let k = c.before in
-    let u = k.before.before in
-    let a = u.before.before.before.before.args in
-    within a.file.now a.out.now _ _ u.convert.ensures k.converted.given.0.0 k.converted.given.1
+    let k = c in
+    let u = c in
+    let a = u.args in
+    within a.file.now a.out.now _ _ u.convert-converted.ensures k.in-Written.n k.in-Written.is
 
-slice-aggregate-hand-out : tie.Need-slice-aggregate-hand-out
+slice-aggregate-hand-out : tie.Need-slice_bounds-hand_out-end
 slice-aggregate-hand-out c =
-    let k = c.before.before in
-    let u = k.before.before in
-    let a = u.before.before.before.before.args in
-    sym (length-take-le k.converted.given.0.0 u.convert.new.1.0
-    (within a.file.now a.out.now _ _ u.convert.ensures k.converted.given.0.0 k.converted.given.1))
+    let k = c in
+    let u = c in
+    let a = u.args in
+    sym (length-take-le k.in-Written.n u.convert-converted.new.out
+    (within a.file.now a.out.now _ _ u.convert-converted.ensures k.in-Written.n k.in-Written.is))
 
-hand-out-requires : tie.Need-hand-out-requires
+hand-out-requires : tie.Need-hand_out-requires
 hand-out-requires c κs = search rules
 
-enum-known-converted-2 : tie.Need-enum-known-converted-2
+enum-known-converted-2 : tie.Need-enum_known-converted-in-Refused-1
 enum-known-converted-2 c = search rules
 
-same_length : tie.Need-same-length
+same_length : tie.Need-shape_of-out
 same_length c = search rules
 
-returns : tie.Need-returns
+returns : tie.Need-returns-in-Written
 returns c =
-    let h = c.before.before in
-    let k = h.before.before.before.before in
-    let u = k.before.before in
-    let a = u.before.before.before.before.args in
-    into_written a.file.now a.out.now _ _ u.convert.ensures k.converted.given.0.0 k.converted.given.1 _ h.hand-out.ensures
+    let h = c in
+    let k = c in
+    let u = c in
+    let a = u.args in
+    into_written a.file.now a.out.now _ _ u.convert-converted.ensures k.in-Written.n k.in-Written.is _ h.hand_out.ensures
 
-returns-2 : tie.Need-returns-2
+returns-2 : tie.Need-returns-in-Refused
 returns-2 c =
-    let k = c.before in
-    let u = k.before.before in
-    let a = u.before.before.before.before.args in
-    into_refused a.file.now a.out.now _ _ u.convert.ensures k.converted2.given.0.0 k.converted2.given.1
+    let k = c in
+    let u = c in
+    let a = u.args in
+    into_refused a.file.now a.out.now _ _ u.convert-converted.ensures k.in-Refused.number k.in-Refused.is
 
 pub convert_into_spec : {M : Type 1} → statement M
 convert_into_spec =

@@ -5,14 +5,14 @@ use Prim.Native.Nat.{ℕ}
 use Rattle.c_sample.proofs.short_session.Statement.{statement}
 use Rattle.c_sample.proofs.short_session.Tie as tie
 
-bad-history-requires : tie.Need-bad-history-requires
+bad-history-requires : tie.Need-bad_history-requires
 bad-history-requires c κs = tt
 
-returns : tie.Need-returns
-returns c = sym (ap (λ b. cond {A = ℕ} b 7 10) (sym c.before.bad-history.ensures ∙ c.if1.true))
+returns : tie.Need-returns-then-bad_history
+returns c = sym (ap (λ b. cond {A = ℕ} b 7 10) (sym c.bad_history.ensures ∙ c.if-bad_history.true))
 
-returns-2 : tie.Need-returns-2
-returns-2 c = sym (ap (λ b. cond {A = ℕ} b 7 10) (sym c.before.bad-history.ensures ∙ c.if1.false))
+returns-2 : tie.Need-returns
+returns-2 c = sym (ap (λ b. cond {A = ℕ} b 7 10) (sym c.bad_history.ensures ∙ c.if-bad_history.false))
 
-pub short-session_spec : {M : Type 1} → statement M
-short-session_spec = tie.close (tie.spec bad-history-requires returns returns-2)
+pub short_session_spec : {M : Type 1} → statement M
+short_session_spec = tie.close (tie.spec bad-history-requires returns returns-2)

@@ -30,76 +30,76 @@ given s = passed (ops s) (request s) (room_of (at s)) (room s) s.requires
 -- ---- the places, each from the next
 
 -- the call starts, and the plans are counted
-abbrev start : tie.After-plan-count → tie.Start
+abbrev start : tie.After-plan_count-count → tie.Start
 start c = c.before.before.before.before.before.before.before.before.before
 
 -- a pool of one: every setting is drawn
-abbrev one : tie.After-sample-candidates-arg → tie.Then1
+abbrev one : tie.After-sample_candidates-arg-1 → tie.Then-count-lt2
 one c = c.before.before
 
-abbrev drawn : tie.After-slice-known7 → tie.After-sample-candidates
+abbrev drawn : tie.After-slice_known-then-count-lt2-1 → tie.After-sample_candidates-rng
 drawn c = c.before.before
 
 -- a pool of two or more: a selection is made and bred from
-abbrev more : tie.After-select-and-breed-arg6 → tie.Else1
+abbrev more : tie.After-select_and_breed-arg-6-1 → tie.Else-count-lt2
 more c = c.before.before.before.before.before.before.before
 
-abbrev bred : tie.After-slice-known13 → tie.After-select-and-breed
+abbrev bred : tie.After-slice_known-12-1 → tie.After-select_and_breed
 bred c = c.before.before.before.before.before.before.before.before.before.before.before.before.before
 
 -- ---- a pool of one
 
-plan-count-requires : tie.Need-plan-count-requires
+plan-count-requires : tie.Need-plan_count-count-requires
 plan-count-requires c κs = tt
 
-sample-candidates-requires : tie.Need-sample-candidates-requires
+sample-candidates-requires : tie.Need-sample_candidates-rng-requires
 sample-candidates-requires c κs =
     let s = start (one c).before in
     (dimensions-pass (given s), offspring-room (given s))
 
-same_length : tie.Need-same-length
+same_length : tie.Need-shape_of-offspring-then-count-lt2
 same_length c = search rules
 
-returns : tie.Need-returns
+returns : tie.Need-returns-then-count-lt2
 returns c =
     let t = one (drawn c).before in
     let s = start t.before in
     let a = s.args in
-    let d = (drawn c).sample-candidates in
+    let d = (drawn c).sample_candidates-rng in
     one-exit a.edition (ops s) a.pool.now a.directions.now a.divisions a.size a.rng a.ideal.now (at s) a.offspring.now
-    (omega (arith, t.before.plan-count.ensures, t.if1.taken)) _ _ d.ensures.0 d.ensures.1
+    (omega (arith, t.before.plan_count-count.ensures, t.if-count-lt2.true)) _ _ d.ensures.0 d.ensures.1
 
 -- ---- a pool of two or more
 
-slice-aggregate-select-and-breed : tie.Need-slice-aggregate-select-and-breed
+slice-aggregate-select-and-breed : tie.Need-slice_bounds-select_and_breed-end
 slice-aggregate-select-and-breed c = search rules
 
-select-and-breed-requires : tie.Need-select-and-breed-requires
+select-and-breed-requires : tie.Need-select_and_breed-requires
 select-and-breed-requires c κs =
     let m = more c in
     let s = start m.before in
-    ((omega (arith, m.before.plan-count.ensures, m.if1.left), count-in_pool s.args.edition _ (given s).count), s.pre)
+    ((omega (arith, m.before.plan_count-count.ensures, m.if-count-lt2.false), count-in_pool s.args.edition _ (given s).count), s.requires)
 
-same-length-2 : tie.Need-same-length-2
+same-length-2 : tie.Need-shape_of-ideal
 same-length-2 c = search rules
 
-same-length-3 : tie.Need-same-length-3
+same-length-3 : tie.Need-shape_of-kept
 same-length-3 c = search rules
 
-same-length-4 : tie.Need-same-length-4
+same-length-4 : tie.Need-shape_of-rules
 same-length-4 c = search rules
 
-same-length-5 : tie.Need-same-length-5
+same-length-5 : tie.Need-shape_of-fronts
 same-length-5 c = search rules
 
-same-length-6 : tie.Need-same-length-6
+same-length-6 : tie.Need-shape_of-lines
 same-length-6 c = search rules
 
-same-length-7 : tie.Need-same-length-7
+same-length-7 : tie.Need-shape_of-offspring
 same-length-7 c = search rules
 
-returns-2 : tie.Need-returns-2
-returns-2 c = (bred c).select-and-breed.ensures
+returns-2 : tie.Need-returns
+returns-2 c = (bred c).select_and_breed.ensures
 
 pub step_spec : {M : Type 1} → statement M
 step_spec =
