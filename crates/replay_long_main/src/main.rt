@@ -2,6 +2,6 @@
 
 #![tactic(auto)]
 
-fn main() {
-    replay_program::run();
+fn main(rt: HostRuntime) {
+    replay_program::run(&rt);
 }

@@ -5,7 +5,6 @@
 ghost use Rattle.std.specs.Prelude.{◌≤◌, length};
 ghost use Rattle.replay.specs.Post.{Ahead};
 
-use libc::STDOUT_FILENO;
 use replay::{Tally, Verdict, Words};
 
 // One tally a record, in the order of the stored files, and one for lines that belong to none.
@@ -15,7 +14,7 @@ struct Tallies {
 }
 
 // What a program reads: the stored sample has 331,000 bytes, that of the calls on files 183,000, the long inputs 506,000.
-type Input = [u8; 524288];
+type Buffer = [u8; 524288];
 
 // The record of a command (oracle/README.md).
 fn record_of(command: u64) -> usize
@@ -128,64 +127,64 @@ fn replayed(bytes: &[u8]) -> Tallies {
     tallies
 }
 
-fn number(n: u64, label: &[u8]) {
-    io::print_decimal(STDOUT_FILENO, n);
-    io::write_all(STDOUT_FILENO, label);
+fn number(rt: &impl Print, n: u64, label: &[u8]) {
+    let _ = rt.print(n);
+    let _ = rt.write_all(label);
 }
 
 // A line of a tally.
-fn tell(record: &[u8], t: Tally) {
-    io::write_all(STDOUT_FILENO, record);
-    number(t.agree, b" agree, ");
-    number(t.differ, b" differ, ");
-    number(t.passed_over, b" passed over, ");
-    number(t.broken, b" broken\n");
+fn tell(rt: &impl Print, record: &[u8], t: Tally) {
+    let _ = rt.write_all(record);
+    number(rt, t.agree, b" agree, ");
+    number(rt, t.differ, b" differ, ");
+    number(rt, t.passed_over, b" passed over, ");
+    number(rt, t.broken, b" broken\n");
 }
 
 // A record's line.
-fn tell_of(record: usize, t: Tally) {
+fn tell_of(rt: &impl Print, record: usize, t: Tally) {
     match record {
-        0 => tell(b"draw: ", t),
-        1 => tell(b"numbers: ", t),
-        2 => tell(b"dominance: ", t),
-        3 => tell(b"fronts: ", t),
-        4 => tell(b"reference: ", t),
-        5 => tell(b"tables: ", t),
-        6 => tell(b"association: ", t),
-        7 => tell(b"kept: ", t),
-        8 => tell(b"breeding: ", t),
-        9 => tell(b"session: ", t),
-        10 => tell(b"choose: ", t),
-        11 => tell(b"water: ", t),
-        12 => tell(b"load: ", t),
-        13 => tell(b"editions: ", t),
-        14 => tell(b"convert: ", t),
-        _ => tell(b"no record: ", t),
+        0 => tell(rt, b"draw: ", t),
+        1 => tell(rt, b"numbers: ", t),
+        2 => tell(rt, b"dominance: ", t),
+        3 => tell(rt, b"fronts: ", t),
+        4 => tell(rt, b"reference: ", t),
+        5 => tell(rt, b"tables: ", t),
+        6 => tell(rt, b"association: ", t),
+        7 => tell(rt, b"kept: ", t),
+        8 => tell(rt, b"breeding: ", t),
+        9 => tell(rt, b"session: ", t),
+        10 => tell(rt, b"choose: ", t),
+        11 => tell(rt, b"water: ", t),
+        12 => tell(rt, b"load: ", t),
+        13 => tell(rt, b"editions: ", t),
+        14 => tell(rt, b"convert: ", t),
+        _ => tell(rt, b"no record: ", t),
     }
 }
 
-fn report(tallies: Tallies) {
+fn report(rt: &impl Print, tallies: Tallies) {
     let of = tallies.of;
     let mut r: usize = 0;
     while r < 16 {
         let t = of[r];
-        tell_of(r, t);
+        tell_of(rt, r, t);
         r += 1;
     }
 }
 
 // Reads as much as there is and tells the tallies.
-fn told(buffer: &mut [u8]) {
-    let n = standard_input::read_input(buffer);
-    report(replayed(&buffer[..n]));
+fn told(rt: &(impl Input + Print + Eprint), buffer: &mut [u8]) {
+    let n = standard_input::read_input(rt, buffer);
+    report(rt, replayed(&buffer[..n]));
 }
 
-fn told_of(buffer: &mut Input) {
-    told(buffer);
+fn told_of(rt: &(impl Input + Print + Eprint), buffer: &mut Buffer) {
+    told(rt, buffer);
 }
 
 // Replays what stands on standard input.
-pub fn run() {
+pub fn run(rt: &(impl Input + Print + Eprint)) {
     let mut buffer = [0u8; 524288];
-    told_of(&mut buffer);
+    told_of(rt, &mut buffer);
 }

@@ -8,7 +8,6 @@ ghost use Rattle.std.specs.Prelude.{ℕ, ◌≤◌, List};
 ghost use Rattle.model.specs.Session.{state};
 ghost use Rattle.model.specs.Property.{SessionOk};
 
-use libc::STDOUT_FILENO;
 use model::{
     CONSTRAINT_COUNT, CONSTRAINTS, CategoricalDistribution, DimensionInfo, Distribution, Edition,
     FloatDistribution, MAX_COME, MAX_DIMS, MAX_WORDS, Opening, Operators, OptionF64, OptionUsize,
@@ -20,9 +19,9 @@ use session_calls::{Candidates, History, NextDims, Numbers, OVERLONG, POOL_WORDS
 const POOL_PLANS: usize = POOL_WORDS / PLAN_WORDS;
 
 // A label and a number.
-fn number(label: &[u8], n: u64) {
-    io::write_all(STDOUT_FILENO, label);
-    io::print_decimal(STDOUT_FILENO, n);
+fn number(rt: &impl Print, label: &[u8], n: u64) {
+    let _ = rt.write_all(label);
+    let _ = rt.print(n);
 }
 
 // Reals from 0 to 1.
@@ -37,27 +36,28 @@ fn unit() -> Distribution {
 }
 
 // What a call answers; of a setting only that it is one.
-fn tell_answer(outcome: Sampling) {
+fn tell_answer(rt: &impl Print, outcome: Sampling) {
     match outcome {
         Sampling::Setting(_) => {
-            io::write_all(STDOUT_FILENO, b"a setting");
+            let _ = rt.write_all(b"a setting");
         }
         Sampling::Refused(n) => {
-            number(b"refused ", n as u64);
+            number(rt, b"refused ", n as u64);
         }
     }
 }
 
 // The generation and its plans.
-fn tell_state(session: Session) {
+fn tell_state(rt: &impl Print, session: Session) {
     let progress = session.progress;
-    number(b", generation ", progress.generation);
-    number(b", plans ", progress.n_plans as u64);
-    io::write_all(STDOUT_FILENO, b"\n");
+    number(rt, b", generation ", progress.generation);
+    number(rt, b", plans ", progress.n_plans as u64);
+    let _ = rt.write_all(b"\n");
 }
 
 // So many calls, the number rising by one, on a history of n records; the last is told.
 fn ask(
+    rt: &impl Print,
     session: Session,
     plan: u64,
     times: u64,
@@ -72,17 +72,17 @@ fn ask(
     requires n_bound { n ≤ 4097 }
     ensures { SessionOk (state result candidates.new plans.new next_dims.new pool.new) }
 {
-    number(b"plan ", plan);
-    number(b", ", times);
-    io::write_all(STDOUT_FILENO, b" times: ");
+    number(rt, b"plan ", plan);
+    number(rt, b", ", times);
+    let _ = rt.write_all(b" times: ");
     let d = unit();
     let r = session_calls::repeated(
         session, d, plan, times, history, n, candidates, plans, next_dims, pool,
     );
     let outcome = r.outcome;
     let session = r.session;
-    tell_answer(outcome);
-    tell_state(session);
+    tell_answer(rt, outcome);
+    tell_state(rt, session);
     session
 }
 
@@ -118,24 +118,24 @@ fn joined(session: Session, plans: &Numbers, pool: &Pool) -> u64 {
 }
 
 // The numbers of the plans that wait, behind how many plans the pool had that they were kept from.
-fn tell_waiting(count: u64, n: usize, pool: &Pool) {
-    number(b"of a pool of ", count);
-    io::write_all(STDOUT_FILENO, b" plans wait");
+fn tell_waiting(rt: &impl Print, count: u64, n: usize, pool: &Pool) {
+    number(rt, b"of a pool of ", count);
+    let _ = rt.write_all(b" plans wait");
     let mut i: usize = 0;
     while i < n {
         if i < POOL_PLANS {
-            number(b" ", pool[i * PLAN_WORDS]);
+            number(rt, b" ", pool[i * PLAN_WORDS]);
         }
         i += 1;
     }
-    io::write_all(STDOUT_FILENO, b"\n");
+    let _ = rt.write_all(b"\n");
 }
 
 // The same, where a generation was bred and plans wait.
-fn tell_bred(before: u64, count: u64, session: Session, pool: &Pool) {
+fn tell_bred(rt: &impl Print, before: u64, count: u64, session: Session, pool: &Pool) {
     let progress = session.progress;
     if progress.generation != before && 0 < progress.n_waiting {
-        tell_waiting(count, progress.n_waiting, pool);
+        tell_waiting(rt, count, progress.n_waiting, pool);
     }
 }
 
@@ -226,6 +226,7 @@ fn asked_of(i: usize) -> Asking
 
 // The calls at a place of the table, and who waits where they bred.
 fn told(
+    rt: &impl Print,
     session: Session,
     i: usize,
     history: &History,
@@ -241,14 +242,14 @@ fn told(
     let progress = session.progress;
     let count = joined(session, plans, pool);
     let after = ask(
-        session, c.plan, c.times, history, c.records, candidates, plans, next_dims, pool,
+        rt, session, c.plan, c.times, history, c.records, candidates, plans, next_dims, pool,
     );
-    tell_bred(progress.generation, count, after, pool);
+    tell_bred(rt, progress.generation, count, after, pool);
     after
 }
 
 // The calls from one place of the table to another.
-fn fill(session: Session, from: usize, to: usize)
+fn fill(rt: &impl Print, session: Session, from: usize, to: usize)
     requires session_ok { (cs ps ns pool : List ℕ) → SessionOk (state session cs ps ns pool) }
     requires from_le_to { from ≤ to }
 {
@@ -262,6 +263,7 @@ fn fill(session: Session, from: usize, to: usize)
     let mut i: usize = from;
     while i < to {
         now = told(
+            rt,
             now,
             i,
             &history,
@@ -275,7 +277,7 @@ fn fill(session: Session, from: usize, to: usize)
 }
 
 // A session of an edition, and the calls from one place of the table to another.
-fn sessions(edition: u64, from: usize, to: usize)
+fn sessions(rt: &impl Print, edition: u64, from: usize, to: usize)
     requires { from ≤ to }
 {
     let directions = [0u8; 2];
@@ -296,15 +298,15 @@ fn sessions(edition: u64, from: usize, to: usize)
     let outcome = opened.outcome;
     let session = opened.session;
     match outcome {
-        Opening::Ready => fill(session, from, to),
-        Opening::Refused(n) => number(b"refused ", n as u64),
+        Opening::Ready => fill(rt, session, from, to),
+        Opening::Refused(n) => number(rt, b"refused ", n as u64),
     }
 }
 
 // ---- a constraint's size
 
 // The generation step on two plans with equal rows, the second with one constraint.
-fn constrained(bits: u64) {
+fn constrained(rt: &impl Print, bits: u64) {
     let mut pool = [0u64; 2 * PLAN_WORDS];
     pool[ROW_LENGTH] = 1;
     pool[PLAN_WORDS] = 1;
@@ -343,18 +345,18 @@ fn constrained(bits: u64) {
         &mut offspring,
     );
     let outcome = s.outcome;
-    number(b"a constraint of bits ", bits);
+    number(rt, b"a constraint of bits ", bits);
     match outcome {
-        Outcome::Kept(n) => number(b": kept ", n as u64),
-        Outcome::Refused(n) => number(b": refused ", n as u64),
+        Outcome::Kept(n) => number(rt, b": kept ", n as u64),
+        Outcome::Refused(n) => number(rt, b": refused ", n as u64),
     }
-    io::write_all(STDOUT_FILENO, b"\n");
+    let _ = rt.write_all(b"\n");
 }
 
 // 2^1000 and the double after it.
-fn main() {
-    sessions(1, 0, 6);
-    sessions(2, 6, 14);
-    constrained(0x7e70_0000_0000_0000);
-    constrained(0x7e70_0000_0000_0001);
+fn main(rt: HostRuntime) {
+    sessions(&rt, 1, 0, 6);
+    sessions(&rt, 2, 6, 14);
+    constrained(&rt, 0x7e70_0000_0000_0000);
+    constrained(&rt, 0x7e70_0000_0000_0001);
 }

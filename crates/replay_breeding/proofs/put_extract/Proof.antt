@@ -4,22 +4,22 @@ use borrow.Author.Rules.{rules}
 use Rattle.replay_breeding.proofs.put_extract.Statement.{statement}
 use Rattle.replay_breeding.proofs.put_extract.Tie as tie
 
-bad-dimensions-requires : tie.Need-bad-dimensions-requires
+bad-dimensions-requires : tie.Need-bad_dimensions-requires
 bad-dimensions-requires c κs = tt
 
-returns : tie.Need-returns
+returns : tie.Need-returns-then-bad_dimensions
 returns c = tt
 
-extract-requires : tie.Need-extract-requires
-extract-requires c κs = (search rules, sym c.before.before.bad-dimensions.ensures ∙ c.before.if1.false)
+extract-requires : tie.Need-extract-drawn-requires
+extract-requires c κs = (search rules, sym c.bad_dimensions.ensures ∙ c.if-bad_dimensions.false)
 
-put-candidate-requires : tie.Need-put-candidate-requires
+put-candidate-requires : tie.Need-put_candidate-requires
 put-candidate-requires c κs = search rules
 
-returns-2 : tie.Need-returns-2
+returns-2 : tie.Need-returns
 returns-2 c = tt
 
-pub put-extract_spec : {M : Type 1} → statement M
-put-extract_spec =
+pub put_extract_spec : {M : Type 1} → statement M
+put_extract_spec =
     tie.close
     (tie.spec bad-dimensions-requires returns extract-requires put-candidate-requires returns-2)

@@ -4,19 +4,19 @@ use borrow.Author.Rules.{rules}
 use Rattle.replay_breeding.proofs.put_mutant.Statement.{statement}
 use Rattle.replay_breeding.proofs.put_mutant.Tie as tie
 
-bad-dimensions-requires : tie.Need-bad-dimensions-requires
+bad-dimensions-requires : tie.Need-bad_dimensions-requires
 bad-dimensions-requires c κs = tt
 
-returns : tie.Need-returns
+returns : tie.Need-returns-then-bad_dimensions
 returns c = tt
 
-mutate-requires : tie.Need-mutate-requires
-mutate-requires c κs = sym c.before.bad-dimensions.ensures ∙ c.if1.false
+mutate-requires : tie.Need-mutate-drawn-requires
+mutate-requires c κs = sym c.bad_dimensions.ensures ∙ c.if-bad_dimensions.false
 
-put-candidate-requires : tie.Need-put-candidate-requires
+put-candidate-requires : tie.Need-put_candidate-requires
 put-candidate-requires c κs = search rules
 
-returns-2 : tie.Need-returns-2
+returns-2 : tie.Need-returns
 returns-2 c = tt
 
 pub put_mutant_spec : {M : Type 1} → statement M

@@ -7,25 +7,25 @@ use borrow.Author.Rules.{rules}
 use Rattle.replay_convert.proofs.convert.Statement.{statement}
 use Rattle.replay_convert.proofs.convert.Tie as tie
 
-array-borrow-prefix-text : tie.Need-array-borrow-prefix-text
+array-borrow-prefix-text : tie.Need-slice_bounds-text-end
 array-borrow-prefix-text c = search rules
 
-slice-aggregate-locustdomino-convert : tie.Need-slice-aggregate-locustdomino-convert
+slice-aggregate-locustdomino-convert : tie.Need-slice_bounds-locustdomino_convert-end
 slice-aggregate-locustdomino-convert c = sym (length-take-le _ _ (omega arith))
 
-locustdomino-convert-requires : tie.Need-locustdomino-convert-requires
+locustdomino-convert-requires : tie.Need-locustdomino_convert-code-requires
 locustdomino-convert-requires c κs = search rules
 
 put-requires : tie.Need-put-requires
 put-requires c κs = search rules
 
-returns : tie.Need-returns
+returns : tie.Need-returns-then-code-ne0
 returns c = search rules
 
-put-file-requires : tie.Need-put-file-requires
+put-file-requires : tie.Need-put_file-requires
 put-file-requires c κs = search rules
 
-returns-2 : tie.Need-returns-2
+returns-2 : tie.Need-returns
 returns-2 c = search rules
 
 pub convert_spec : {M : Type 1} → statement M

@@ -6,16 +6,16 @@ use borrow.Author.Rules.{rules}
 use Rattle.replay_session.proofs.opened.Statement.{statement}
 use Rattle.replay_session.proofs.opened.Tie as tie
 
-option-at-requires : tie.Need-option-at-requires
+option-at-requires : tie.Need-option_at-size-requires
 option-at-requires c κs = search rules
 
-add-option-at : tie.Need-overflow-add-option-at
+add-option-at : tie.Need-overflow_add-at
 add-option-at c = search rules
 
-option-at-requires-2 : tie.Need-option-at-requires-2
+option-at-requires-2 : tie.Need-option_at-divisions-requires
 option-at-requires-2 c κs = search rules
 
-slice-aggregate-opened : tie.Need-slice-aggregate-opened
+slice-aggregate-opened : tie.Need-slice_bounds-opened-end
 slice-aggregate-opened c = sym (length-take-le _ _ (omega arith))
 
 opened-requires : tie.Need-opened-requires

@@ -4,41 +4,41 @@ use borrow.Author.Rules.{rules}
 use Rattle.replay_water.proofs.put_costs.Statement.{statement}
 use Rattle.replay_water.proofs.put_costs.Tie as tie
 
-abbrev invariant_loop : tie.invariant-loop
+abbrev invariant_loop : tie.invariant-loop-i
 invariant_loop out₀ costs k place₀ i₀ out place i = i ≤ k
 
-abbrev decreases_loop : tie.decreases-loop
+abbrev decreases_loop : tie.decreases-loop-i
 decreases_loop out₀ costs k place₀ i₀ out place i = k - i
 
-put-requires : tie.Need-put-requires invariant_loop decreases_loop
+put-requires : tie.Need-put-place-requires invariant_loop decreases_loop
 put-requires c κs = tt
 
-loop-holds : tie.Need-loop-init invariant_loop decreases_loop
+loop-holds : tie.Need-loop-i-init invariant_loop decreases_loop
 loop-holds c = search rules
 
-mul-put : tie.Need-overflow-mul-put invariant_loop decreases_loop
+mul-put : tie.Need-offset_bounds-costs-i invariant_loop decreases_loop
 mul-put c = search rules
 
-element-copy-out-put : tie.Need-element-copy-out-put invariant_loop decreases_loop
+element-copy-out-put : tie.Need-bounds-costs-i invariant_loop decreases_loop
 element-copy-out-put c = search rules
 
-put-requires-2 : tie.Need-put-requires-2 invariant_loop decreases_loop
+put-requires-2 : tie.Need-put-place-requires-then-i-lt1025 invariant_loop decreases_loop
 put-requires-2 c κs = tt
 
-add-i : tie.Need-overflow-add-i invariant_loop decreases_loop
+add-i : tie.Need-overflow_add-i invariant_loop decreases_loop
 add-i c = search rules
 
-loop-less : tie.Need-loop-smaller invariant_loop decreases_loop
+loop-less : tie.Need-loop-i-smaller invariant_loop decreases_loop
 loop-less c = search rules
 
-loop-again : tie.Need-loop-preserved invariant_loop decreases_loop
+loop-again : tie.Need-loop-i-preserved invariant_loop decreases_loop
 loop-again c = search rules
 
 returns : tie.Need-returns invariant_loop decreases_loop
 returns c = tt
 
-pub put-costs_spec : {M : Type 1} → statement M
-put-costs_spec =
+pub put_costs_spec : {M : Type 1} → statement M
+put_costs_spec =
     tie.close
     (tie.spec
     invariant_loop
