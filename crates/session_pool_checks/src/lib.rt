@@ -13,7 +13,7 @@ use model::Session;
 use refusals::Check;
 
 // Refusal 8 for two slices of plans, the second behind the first, with a session's ideal.
-#[tactic(auto, using(crate::proofs::Joined::pools_first, crate::proofs::Joined::pools_second))]
+#[tactic(auto, using(crate::proofs::Joined::pools_first, crate::proofs::Joined::pools_second, crate::proofs::bad_pools::Statement::statement))]
 fn bad_pools(session: Session, waiting: &[u64], children: &[u64]) -> bool
     requires { Sound session × (plan_count waiting.now * plan_words ≡ length waiting.now) }
     ensures { result ≡ bad_pool (request_from session (waiting.now ++ children.now)) }

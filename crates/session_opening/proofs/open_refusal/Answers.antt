@@ -4,6 +4,10 @@ use Rattle.demand3_laws.proofs.Passed.{some-objectives}
 use Rattle.session_opening.proofs.Opening.{refused_2, refused_3, refused_4, refused_5, refused_14, ready}
 use Rattle.session_opening.proofs.open_refusal.Goals as goal
 
+-- ---- the same from further on
+
+-- ---- what the tests say
+
 pub returns-then-bad_directions : goal.returns-then-bad_directions
 returns-then-bad_directions c = refused_2 _ _ _ _ _ _ _ (sym c.bad_directions.ensures ∙ c.if-bad_directions.true)
 

@@ -3,6 +3,7 @@ use mathlib.Core.List.{◌++◌}
 use Rattle.session_pool_checks.proofs.Joined.{refused_8, refused_9, refused-not}
 use Rattle.session_pool_checks.proofs.joined_refusal.Goals as goal
 
+-- both slices' words
 pub returns-then-bad_pools : goal.returns-then-bad_pools
 returns-then-bad_pools c =
     refused_8 c.args.session (c.args.waiting.now ++ c.args.children.now) _ c.bad_pools.ensures c.if-bad_pools.true
