@@ -1,1 +1,2 @@
 pub mod Limit
+mod Over
