@@ -3,10 +3,10 @@
 
 #![tactic(auto)]
 
-ghost use Rattle.std.specs.Prelude.{◌≡◌, ◌+◌, ◌*◌, ◌<◌, ◌≤◌, min, length};
+ghost use Rattle.std.specs.Prelude.{◌≡◌, ◌+◌, ◌*◌, ◌<◌, ◌≤◌, length};
 ghost use Rattle.model.specs.Plan.{max_objectives};
 ghost use Rattle.model.specs.Association.{nearest_of, Request, line_count};
-ghost use Rattle.model.specs.Refusal.{max_lines, max_pool};
+ghost use Rattle.model.specs.Refusal.{max_pool};
 ghost use Rattle.association_laws.specs.Flat.{NormsIn, distance_at, NearestAll};
 ghost use Rattle.association_laws.specs.Request.{ShapersIn, StartIn, LinesIn, Associates};
 
@@ -41,14 +41,10 @@ fn nearest_line(
         line: 0,
         squares: 1.0 / 0.0,
     };
-    let mut l = 0;
-    let mut line_at = 0;
-    while l < n_lines {
+    for l in 0..n_lines {
         let norm = distances::line_norm(table, m, l, norms, known);
-        let squares = distances::distance_squared(points, at, table, line_at, m, norm);
+        let squares = distances::distance_squared(points, at, table, l * m, m, norm);
         best = block_search::nearer(edition, best, l, squares);
-        l += 1;
-        line_at += m;
     }
     Nearest {
         line: best.line,
@@ -74,12 +70,10 @@ fn nearest_each(
     ensures { NearestAll edition normalized.now m table.now n_lines n lines.old lines.new
         distances.old distances.new }
 {
-    let mut p = 0;
-    while p < n {
+    for p in 0..n {
         let near = nearest_line(edition, normalized, p * m, m, table, n_lines, norms, known);
         lines[p] = near.line;
         distances[p] = near.distance;
-        p += 1;
     }
 }
 
@@ -105,21 +99,10 @@ fn nearest_lines(
         block_lines::nearest_by_blocks(
             edition, normalized, n, m, table, n_lines, norms, known, lines, distances,
         );
-        return;
-    }
-    nearest_each(
-        edition, normalized, n, m, table, n_lines, norms, known, lines, distances,
-    );
-}
-
-// How many lines' r·r find room in an array of MAX_LINES.
-fn known_norms(n_lines: usize) -> usize
-    ensures { result ≡ min n_lines max_lines }
-{
-    if n_lines < MAX_LINES {
-        n_lines
     } else {
-        MAX_LINES
+        nearest_each(
+            edition, normalized, n, m, table, n_lines, norms, known, lines, distances,
+        );
     }
 }
 
@@ -138,7 +121,8 @@ pub fn associate_to_reference_points(
     ensures { NearestAll edition normalized.now m table.now n_lines n lines.old lines.new
         distances.old distances.new }
 {
-    let known = known_norms(n_lines);
+    // as many lines' r·r as find room
+    let known = n_lines.min(MAX_LINES);
     let mut norms = [0.0; MAX_LINES];
     distances::line_norms(table, known, m, &mut norms);
     nearest_lines(

@@ -12,15 +12,10 @@ fn less_known(a: &[f64], m: usize, x: &[f64], i: usize) -> f64
     requires { (72 ≤ length a.now) × (m ≤ 8) × (m ≤ length x.now) × (i < m) }
     ensures { result ≡ less_known m a.now x.now i (m - (i + 1)) }
 {
-    let rest = m - (i + 1);
     let at = i * 9;
     let mut left = a[at + m];
-    let mut t = 0;
-    while t < rest {
-        // the columns from i + 1 on, rising
-        let j = m - (rest - t);
-        left = left - a[at + j] * x[j];
-        t += 1;
+    for j in i + 1..m {
+        left -= a[at + j] * x[j];
     }
     left
 }
@@ -30,12 +25,8 @@ pub fn back_substitute(a: &[f64], m: usize, x: &mut [f64])
     requires { (72 ≤ length a.now) × (m ≤ 8) × (m ≤ length x.old) }
     ensures { x.new ≡ solved m a.now x.old m }
 {
-    let mut t = 0;
-    while t < m {
-        let i = m - (t + 1);
-        let v = less_known(a, m, x, i) / a[i * 9 + i];
-        x[i] = v;
-        t += 1;
+    for i in (0..m).rev() {
+        x[i] = less_known(a, m, x, i) / a[i * 9 + i];
     }
 }
 
@@ -44,9 +35,7 @@ pub fn invert(x: &[f64], m: usize, out: &mut [f64])
     requires { (m ≤ length x.now) × (m ≤ length out.old) }
     ensures { out.new ≡ over (list_below (intercept_in x.now) m) out.old }
 {
-    let mut j = 0;
-    while j < m {
+    for j in 0..m {
         out[j] = 1.0 / x[j];
-        j += 1;
     }
 }

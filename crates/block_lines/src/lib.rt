@@ -25,11 +25,9 @@ fn hand_out(
     ensures { Handed edition near.now best.now start len lines.old lines.new
         distances.old distances.new }
 {
-    let mut b = 0;
-    while b < len {
+    for b in 0..len {
         lines[start + b] = near[b];
         distances[start + b] = distances::measure(edition, best[b]);
-        b += 1;
     }
 }
 
@@ -54,20 +52,12 @@ fn nearest_block(
 {
     let mut x = [0.0; BLOCK_VALUES];
     let mut near: [usize; BLOCK] = [0; BLOCK];
-    let far = 1.0 / 0.0;
-    let mut best = [far; BLOCK];
+    let mut best = [f64::INFINITY; BLOCK];
     columns::lay(points, start, m, len, &mut x);
     block_search::search(
         edition, &x, m, len, table, n_lines, norms, known, &mut near, &mut best,
     );
     hand_out(edition, &near, &best, start, len, lines, distances);
-}
-
-// How many of the plans that are left make the next block.
-fn block_length(left: usize) -> usize
-    ensures { result ≡ min left max_block }
-{
-    if left < BLOCK { left } else { BLOCK }
 }
 
 // Each plan's nearest line, and its distance from it.
@@ -88,12 +78,10 @@ pub fn nearest_by_blocks(
     ensures { NearestAll edition points.now m table.now n_lines n lines.old lines.new
         distances.old distances.new }
 {
-    let mut start = 0;
-    while start < n {
-        let len = block_length(n - start);
+    for start in (0..n).step_by(BLOCK) {
+        let len = (n - start).min(BLOCK);
         nearest_block(
             edition, points, start, len, m, table, n_lines, norms, known, lines, distances,
         );
-        start += len;
     }
 }

@@ -30,18 +30,12 @@ pub fn nearer(edition: Edition, best: Best, line: usize, squares: f64) -> Best
     let least_squares = best.squares;
     if squares < least_squares {
         if squares < least_squares * 0.9999999990686774 {
-            return Best {
-                line: line,
-                squares: squares,
-            };
+            return Best { line, squares };
         }
         let distance = distances::measure(edition, squares);
         let least = distances::measure(edition, least_squares);
         if distance < least {
-            return Best {
-                line: line,
-                squares: squares,
-            };
+            return Best { line, squares };
         }
     }
     best
@@ -62,8 +56,7 @@ fn keep_nearer(
     ensures { (d : ℕ → ℕ → Float) → FoundAll edition d line len lines.old best.old → NextAll edition d line len squares.now
         → FoundAll edition d (line + 1) len lines.new best.new }
 {
-    let mut b = 0;
-    while b < len {
+    for b in 0..len {
         let was = Best {
             line: lines[b],
             squares: best[b],
@@ -71,7 +64,6 @@ fn keep_nearer(
         let near = nearer(edition, was, line, squares[b]);
         lines[b] = near.line;
         best[b] = near.squares;
-        b += 1;
     }
 }
 
@@ -82,16 +74,14 @@ fn is_close(squares: f64, best: f64) -> bool
     squares < best && !(squares < best * 0.9999999990686774)
 }
 
-// Some plan's square is so close to its best one.
+// Some plan's square is so close to its best one. All are tested, without a branch.
 fn any_close(squares: &[f64], best: &[f64], len: usize) -> bool
     requires { (len ≤ length squares.now) × (len ≤ length best.now) }
     ensures { result ≡ any_below (close_at squares.now best.now) len }
 {
     let mut any = false;
-    let mut b = 0;
-    while b < len {
-        any = any | is_close(squares[b], best[b]);
-        b += 1;
+    for b in 0..len {
+        any |= is_close(squares[b], best[b]);
     }
     any
 }
@@ -101,24 +91,7 @@ fn roots_tell(edition: Edition, squares: &[f64], best: &[f64], len: usize) -> bo
     requires { (len ≤ length squares.now) × (len ≤ length best.now) }
     ensures { result ≡ (takes_root edition && any_below (close_at squares.now best.now) len) }
 {
-    if editions::takes_root(edition) {
-        return any_close(squares, best, len);
-    }
-    false
-}
-
-// One of two values.
-fn pick(first: bool, a: f64, b: f64) -> f64
-    ensures { result ≡ cond first a b }
-{
-    if first { a } else { b }
-}
-
-// One of two numbers.
-fn pick_line(first: bool, a: usize, b: usize) -> usize
-    ensures { result ≡ cond first a b }
-{
-    if first { a } else { b }
+    editions::takes_root(edition) && any_close(squares, best, len)
 }
 
 // The lesser square for each plan, without a branch.
@@ -126,13 +99,15 @@ fn keep_less(line: usize, squares: &[f64], len: usize, lines: &mut [usize], best
     requires { (len ≤ length squares.now) × (len ≤ length lines.old) × (len ≤ length best.old) }
     ensures { KeptLess line squares.now len lines.old lines.new best.old best.new }
 {
-    let mut b = 0;
-    while b < len {
+    for b in 0..len {
         let s = squares[b];
-        let less = s < best[b];
-        lines[b] = pick_line(less, line, lines[b]);
-        best[b] = pick(less, s, best[b]);
-        b += 1;
+        let was = Best {
+            line: lines[b],
+            squares: best[b],
+        };
+        let less = s < was.squares;
+        lines[b] = if less { line } else { was.line };
+        best[b] = if less { s } else { was.squares };
     }
 }
 
@@ -151,9 +126,9 @@ fn keep(
 {
     if roots_tell(edition, squares, best, len) {
         keep_nearer(edition, line, squares, len, lines, best);
-        return;
+    } else {
+        keep_less(line, squares, len, lines, best);
     }
-    keep_less(line, squares, len, lines, best);
 }
 
 // The next line, for each plan of a block. One that is too short is infinitely far.
@@ -198,10 +173,8 @@ pub fn search(
         × FoundAll edition (block_distance edition x.now m len table.now) 0 len lines.old best.old }
     ensures { FoundAll edition (block_distance edition x.now m len table.now) n_lines len lines.new best.new }
 {
-    let mut l = 0;
-    while l < n_lines {
+    for l in 0..n_lines {
         let norm = distances::line_norm(table, m, l, norms, known);
         next_line(edition, x, m, len, table, l, norm, lines, best);
-        l += 1;
     }
 }

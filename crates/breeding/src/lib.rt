@@ -17,11 +17,8 @@ fn look_up(from: &[usize], places: &[usize], count: usize, to: &mut [usize])
     requires { (count ≤ length places.now) × (count ≤ length to.old) × ((i : ℕ) → i < count → get_or places.now i 0 < length from.now) }
     ensures { to.new ≡ over (list_below (λ i. get_or from.now (get_or places.now i 0) 0) count) to.old }
 {
-    let mut i = 0;
-    while i < count {
-        let p = places[i];
-        to[i] = from[p];
-        i += 1;
+    for i in 0..count {
+        to[i] = from[places[i]];
     }
 }
 
@@ -86,7 +83,6 @@ pub fn breed_in(
     let rng = breed(pool, fronts, kept, size, operators, rng, offspring);
     if editions::moves_to_step(edition) {
         stepping::move_all(dims, n, size, offspring);
-        return rng;
     }
     rng
 }

@@ -1,28 +1,29 @@
-// The answer of a call that writes a text or a file, in numbers alone.
+// The answer of a call, in numbers alone.
 
 #![tactic(auto)]
 
 ghost use Rattle.std.specs.Prelude.{◌≡◌};
-ghost use Rattle.export_laws.specs.Coded.{chosen_code, chosen_length};
+ghost use Rattle.model.specs.Calls.{value_or};
+ghost use Rattle.export_laws.specs.Coded.{code_of};
 
-use model::Chosen;
+use model::Refusal;
 
 // 0, or the number of the refusal.
-pub fn chosen_code(answer: Chosen) -> u64
-    ensures { result ≡ chosen_code answer }
+pub fn code<T: Copy>(answer: Result<T, Refusal>) -> u64
+    ensures { result ≡ code_of answer }
 {
     match answer {
-        Chosen::Written(n) => 0,
-        Chosen::Refused(n) => words::wide(n),
+        Ok(_) => 0,
+        Err(refusal) => u64::from(refusal),
     }
 }
 
-// The length of what was written; a refusal leaves the number that was there.
-pub fn chosen_length(answer: Chosen, old: usize) -> usize
-    ensures { result ≡ chosen_length answer old }
+// What the answer holds; a refusal leaves what was there.
+pub fn value_or<T: Copy>(answer: Result<T, Refusal>, old: T) -> T
+    ensures { result ≡ value_or answer old }
 {
     match answer {
-        Chosen::Written(n) => n,
-        Chosen::Refused(n) => old,
+        Ok(value) => value,
+        Err(_) => old,
     }
 }

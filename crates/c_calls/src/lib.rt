@@ -2,27 +2,24 @@
 
 #![tactic(auto)]
 
-ghost use Rattle.std.specs.Prelude.{◌+◌, ◌*◌, ◌≤◌};
+ghost use Rattle.std.specs.Prelude.{◌≡◌, ◌+◌, ◌*◌, ◌≤◌, eqb, is_ok};
 ghost use Rattle.model.specs.Setting.{max_dims};
 ghost use Rattle.session_words.specs.Coding.{dimension_width};
 
-use model::{Chosen, DimensionInfo, MAX_DIMS, Outcome, Rng, Selection};
+use model::{DimensionInfo, MAX_DIMS, Refusal, Rng, Selection};
 use session_words::DIMENSION_WORDS;
 
 // The words of one dimension more than is accepted.
 const OVERFULL: usize = (MAX_DIMS + 1) * DIMENSION_WORDS;
 
-// A refusal's number, which a C name answers as a word.
-pub fn refusal(code: u64) -> u8 {
-    (code % 256) as u8
-}
-
-// The list of n that is kept where the answer is 0, or the refusal.
-fn outcome_of(code: u64, n: usize) -> Outcome {
+// What a number says that a C name answers: 0 that nothing is refused, any other the refusal that has it. No other number comes.
+pub fn answered(code: u64) -> Result<(), Refusal>
+    ensures { is_ok result ≡ eqb code 0 }
+{
     if code == 0 {
-        return Outcome::Kept(n);
+        return Ok(());
     }
-    Outcome::Refused(refusal(code))
+    Err(Refusal::try_from(code).unwrap_or(Refusal::Form))
 }
 
 // `nsga3_select`.
@@ -43,9 +40,10 @@ pub fn select(
     let code = locustdomino::locustdomino_select(
         edition, pool, directions, divisions, size, &mut s, ideal, kept, rules, fronts, lines,
     );
-    let outcome = outcome_of(code, size);
-    let rng = Rng { s };
-    Selection { outcome, rng }
+    Selection {
+        outcome: answered(code).map(|()| size),
+        rng: Rng { s },
+    }
 }
 
 // The words of so many dimensions; of more than are accepted, which are refused however many they are, one more.
@@ -53,9 +51,10 @@ fn width_of(n_dims: usize) -> usize
     ensures { result ≤ (max_dims + 1) * dimension_width }
 {
     if MAX_DIMS < n_dims {
-        return OVERFULL;
+        OVERFULL
+    } else {
+        n_dims * DIMENSION_WORDS
     }
-    n_dims * DIMENSION_WORDS
 }
 
 // `nsga3_generate_offspring`.
@@ -102,17 +101,16 @@ pub fn generate_offspring(
         offspring,
         &mut n_kept,
     );
-    let outcome = outcome_of(code, n_kept);
-    let rng = Rng { s };
-    Selection { outcome, rng }
+    Selection {
+        outcome: answered(code).map(|()| n_kept),
+        rng: Rng { s },
+    }
 }
 
 // `choose`.
-pub fn choose(file: &[u8], out: &mut [u8]) -> Chosen {
+pub fn choose(file: &[u8], out: &mut [u8]) -> Result<usize, Refusal> {
     let mut length: usize = 0;
     let code = locustdomino::locustdomino_choose(file, out, &mut length);
-    if code == 0 {
-        return Chosen::Written(length);
-    }
-    Chosen::Refused(refusal(code))
+    answered(code)?;
+    Ok(length)
 }

@@ -5,17 +5,17 @@
 ghost use Rattle.pool_laws.specs.Choice.{exit};
 ghost use Rattle.c_convert.specs.Coded.{ConvertsInto, ConvertsWords};
 
-use model::{Chosen, MAX_FILE};
+use model::{MAX_FILE, Refusal};
 
 // The converted file goes to the front of a slice of any length; one that is too short for it meets 10.
-fn convert_into(file: &[u8], out: &mut [u8]) -> Chosen
+fn convert_into(file: &[u8], out: &mut [u8]) -> Result<usize, Refusal>
     ensures { ConvertsInto file.now out.old (exit result out.new) }
 {
     let mut text: [u8; MAX_FILE] = [0; MAX_FILE];
     let converted = convert_call::convert(file, &mut text);
     match converted {
-        Chosen::Written(n) => pool_handing::hand_out(&text[..n], out),
-        Chosen::Refused(number) => Chosen::Refused(number),
+        Ok(n) => pool_handing::hand_out(&text[..n], out),
+        Err(refusal) => Err(refusal),
     }
 }
 
@@ -24,6 +24,6 @@ pub fn convert_words(file: &[u8], out: &mut [u8], length: &mut usize) -> u64
     ensures { ConvertsWords file.now out.old length.old (record { code = result; length = length.new; out = out.new }) }
 {
     let answer = convert_into(file, out);
-    *length = c_answers::chosen_length(answer, *length);
-    c_answers::chosen_code(answer)
+    *length = c_answers::value_or(answer, *length);
+    c_answers::code(answer)
 }

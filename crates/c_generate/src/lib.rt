@@ -4,19 +4,10 @@
 
 ghost use Rattle.std.specs.Prelude.{◌≡◌};
 ghost use Rattle.model.specs.Edition.{edition_of};
-ghost use Rattle.model.specs.Calls.{word_request, lent};
-ghost use Rattle.export_laws.specs.Coded.{kept_of, StepsWords, rng_of, word_operators};
+ghost use Rattle.model.specs.Calls.{word_request, lent, value_or};
+ghost use Rattle.export_laws.specs.Coded.{StepsWords, rng_of, word_operators};
 
-use model::{Operators, Outcome, Rng};
-
-fn count(outcome: Outcome, old: usize) -> usize
-    ensures { result ≡ kept_of outcome old }
-{
-    match outcome {
-        Outcome::Kept(n) => n,
-        Outcome::Refused(n) => old,
-    }
-}
+use model::{Operators, Refusal, Rng};
 
 // `nsga3_generate_offspring` of an edition, 1 or 2: the dimensions are as many as their slice has whole, six words each. `n_kept` is the kept list's length: the size, or 0 for a pool
 // of one plan.
@@ -71,6 +62,6 @@ pub fn generate_offspring_words(
     let after = step.rng;
     *state = after.s;
     let kept_by = step.outcome;
-    *n_kept = count(kept_by, *n_kept);
-    c_select::code(kept_by)
+    *n_kept = c_answers::value_or(kept_by, *n_kept);
+    c_answers::code(kept_by)
 }

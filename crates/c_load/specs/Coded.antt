@@ -1,6 +1,5 @@
 -- What `write_load` leaves, in numbers and lists alone, as a program in another language takes it.
-use Rattle.std.specs.Prelude.{ℕ, ◌≡◌, List, length, take}
-use Rattle.std.proofs.Math.Option.{none, some}
+use Rattle.std.specs.Prelude.{ℕ, ◌≡◌, List, length, take, None, Some}
 use Rattle.model.specs.Load.{Load, parse_load, load_refusal, load_of, Holds}
 use Rattle.export_laws.specs.Coded.{refusal_of, Listed, listed}
 
@@ -8,4 +7,4 @@ use Rattle.export_laws.specs.Coded.{refusal_of, Listed, listed}
 pub record LoadsWords (bytes entry : List ℕ) (old : ℕ) (exit : Listed) : Type 0 where
   pub whole : exit ≡ listed old (load_of bytes entry)
   pub refused : refusal_of exit.code ≡ load_refusal bytes (length entry)
-  pub holds : load_refusal bytes (length entry) ≡ none → (l : Load) → parse_load bytes ≡ some l → Holds l (take exit.length exit.out)
+  pub holds : load_refusal bytes (length entry) ≡ None → (l : Load) → parse_load bytes ≡ Some l → Holds l (take exit.length exit.out)

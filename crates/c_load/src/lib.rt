@@ -9,6 +9,6 @@ pub fn write_load_words(input: &[u8], out: &mut [u8], length: &mut usize) -> u64
     ensures { LoadsWords input.now out.old length.old (record { code = result; length = length.new; out = out.new }) }
 {
     let answer = load_file::write_load(input, out);
-    *length = c_answers::chosen_length(answer, *length);
-    c_answers::chosen_code(answer)
+    *length = c_answers::value_or(answer, *length);
+    c_answers::code(answer)
 }

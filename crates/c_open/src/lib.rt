@@ -5,16 +5,16 @@
 ghost use Rattle.std.specs.Prelude.{◌≡◌};
 ghost use Rattle.export_laws.specs.Coded.{optional, OpensWords};
 
-use model::{Opening, OptionUsize};
+use model::Refusal;
 
 // What may be left out: a mark of 0 says that it is.
-fn optional(has: u8, n: usize) -> OptionUsize
+fn optional(has: u8, n: usize) -> Option<usize>
     ensures { result ≡ optional has n }
 {
     if has == 0 {
-        return OptionUsize::None;
+        return None;
     }
-    OptionUsize::Some(n)
+    Some(n)
 }
 
 // `open` of edition 2 for 2, and else of edition 1: the session's words go to the slice's front. A slice of fewer than `session_width` words meets 10, where no other number applies.
@@ -53,10 +53,10 @@ pub fn open_words(
     );
     let outcome = opened.outcome;
     match outcome {
-        Opening::Refused(n) => words::wide(n),
-        Opening::Ready => {
+        Err(refusal) => u64::from(refusal),
+        Ok(()) => {
             if session.len() < session_words::SESSION_WORDS {
-                return 10;
+                return u64::from(Refusal::Room);
             }
             let state = opened.session;
             session_encoding::words_of_session(state, session);

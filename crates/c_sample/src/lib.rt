@@ -3,26 +3,27 @@
 #![tactic(auto)]
 
 ghost use Rattle.std.specs.Prelude.{◌≡◌, cond, ◌≤◌, length};
+ghost use Rattle.model.specs.declared.Refusal.TheVariants as why;
 ghost use Rattle.model.specs.Refusal.{bad_history};
 ghost use Rattle.model.specs.Session.{state};
 ghost use Rattle.model.specs.Property.{SessionOk};
 ghost use Rattle.session_words.specs.Coding.{session_width, session_of};
 ghost use Rattle.export_laws.specs.Coded.{lacks_words, sampled_words, SamplesWords};
 
-use model::{OptionU64, Phase, Sampling};
+use model::{Phase, Refusal};
 
-// The number for a session slice that is too short: 7 where the history has too many records, else 10.
-fn short_session(history: &[u64]) -> u64
-    ensures { result ≡ cond (bad_history history.now) 7 10 }
+// Why a session slice that is too short is turned down: the history has too many records, or else the slice.
+fn short_session(history: &[u64]) -> Refusal
+    ensures { result ≡ cond (bad_history history.now) why.Count why.Room }
 {
     if session_records::bad_history(history) {
-        return 7;
+        return Refusal::Count;
     }
-    10
+    Refusal::Room
 }
 
 // The call adds a dimension, and fewer words are lent for it than six.
-fn lacks_words(phase: Phase, first: OptionU64, plan: u64, lent: usize) -> bool
+fn lacks_words(phase: Phase, first: Option<u64>, plan: u64, lent: usize) -> bool
     ensures { result ≡ lacks_words phase first plan lent }
 {
     if session_records::discovers(phase, first, plan) {
@@ -53,13 +54,13 @@ pub fn sample_words(
         (sampled_words result kind.new value.new session.new (state (session_of session.new) candidates.new plans.new next_dims.new pool.new)) }
 {
     if session.len() < session_words::SESSION_WORDS {
-        return short_session(history);
+        return u64::from(short_session(history));
     }
     let before = session_words::session_of_words(session);
     let phase = before.phase;
     let first = before.discovery_trial_id;
     if lacks_words(phase, first, plan, dimension.len()) {
-        return 6;
+        return u64::from(Refusal::Bounds);
     }
     let distribution = session_words::dimension_of_words(dimension, 0);
     let sampled = session::sample(
@@ -74,8 +75,8 @@ pub fn sample_words(
     );
     let outcome = sampled.outcome;
     match outcome {
-        Sampling::Refused(n) => words::wide(n),
-        Sampling::Setting(v) => {
+        Err(refusal) => u64::from(refusal),
+        Ok(v) => {
             let after = sampled.session;
             session_encoding::words_of_session(after, session);
             *kind = settings::kind_of(v);

@@ -4,20 +4,10 @@
 
 ghost use Rattle.std.specs.Prelude.{◌≡◌};
 ghost use Rattle.model.specs.Edition.{edition_of};
-ghost use Rattle.model.specs.Calls.{word_request, lent};
-ghost use Rattle.export_laws.specs.Coded.{code_of, SelectsWords, rng_of, ListsWords};
+ghost use Rattle.model.specs.Calls.{word_request, lent, value_or};
+ghost use Rattle.export_laws.specs.Coded.{SelectsWords, rng_of, ListsWords};
 
-use model::{Outcome, Rng};
-
-// A call answers 0, or the number of the refusal.
-pub fn code(outcome: Outcome) -> u64
-    ensures { result ≡ code_of outcome }
-{
-    match outcome {
-        Outcome::Kept(n) => 0,
-        Outcome::Refused(n) => words::wide(n),
-    }
-}
+use model::{Refusal, Rng};
 
 // `nsga3_select` of an edition, 1 or 2: the generator's state moves on in place. The kept list is as long as the size.
 pub fn select_words(
@@ -53,7 +43,7 @@ pub fn select_words(
     let rng = answer.rng;
     *state = rng.s;
     let outcome = answer.outcome;
-    code(outcome)
+    c_answers::code(outcome)
 }
 
 // `choose`: the text for a pool file, and its length.
@@ -61,6 +51,6 @@ pub fn choose_words(file: &[u8], out: &mut [u8], length: &mut usize) -> u64
     ensures { ListsWords file.now out.old length.old (record { code = result; length = length.new; out = out.new }) }
 {
     let answer = pool_choice::choose(file, out);
-    *length = c_answers::chosen_length(answer, *length);
-    c_answers::chosen_code(answer)
+    *length = c_answers::value_or(answer, *length);
+    c_answers::code(answer)
 }

@@ -3,7 +3,7 @@ use Prim.Native.Nat.{ℕ, ◌≤◌, ◌<◌}
 use mathlib.Core.Path.{◌≡◌, ap, sym, subst}
 use mathlib.Core.Bool.{Bool, true, false, cond, ◌||◌}
 use mathlib.Core.List.{List}
-use mathlib.Core.Option.{none}
+use Rattle.std.specs.Prelude.{None}
 use native.Mathlib.Omega.{arith}
 use borrow.Author.Tests.{leb-true, leb-false}
 use lib.Dec.{leb}
@@ -78,12 +78,12 @@ module _ (r : Request) (accepted : Accepted r) (second : r.edition ≡ Second) (
 
 -- of every generation step of edition 2 that is not refused and selects, whatever words its plans lie in
 pub step_respects_pressure : (r : Request) → ((p : ℕ) → InWords (r.plans p)) → r.edition ≡ Second → (o : Operators) (room : Room) (offspring : ℕ)
-    → step_refusal o r room offspring ≡ none → 2 ≤ r.count → RespectsPressure r (selected r).kept
+    → step_refusal o r room offspring ≡ None → 2 ≤ r.count → RespectsPressure r (selected r).kept
 step_respects_pressure r words second o room offspring e two =
     respects_pressure r (step-accepted r words o room offspring e) second (omega arith) (size-limits r.size (passed o r room offspring e).size).0
 
 -- and of every session call of edition 2 that breeds, from at least as many plans as the size
-pub sample_respects_pressure : (st : State) (d : Distribution) (plan : ℕ) (history : List ℕ) → SessionOk st → sample_refusal st d plan history ≡ none
+pub sample_respects_pressure : (st : State) (d : Distribution) (plan : ℕ) (history : List ℕ) → SessionOk st → sample_refusal st d plan history ≡ None
     → breeds st history ≡ true → st.session.config.edition ≡ Second → (request_of st history).size ≤ (request_of st history).count
     → RespectsPressure (request_of st history) (selected (request_of st history)).kept
 sample_respects_pressure st d plan history ok e bred second enough =

@@ -10,17 +10,10 @@ ghost use Rattle.model.specs.Refusal.{bad_dimensions};
 ghost use Rattle.settings.specs.Candidate.{settings_of, parent_at};
 
 use model::{DimensionInfo, MAX_DIMS, Rng};
-use settings::{DrawnCandidate, Slot};
+use rng_util::{Drawn, DrawnPair};
+use settings::Slot;
 
-// Two children, of which the first n places count, and the generator moved on.
-#[derive(Clone, Copy)]
-pub struct DrawnChildren {
-    pub first: [Slot; MAX_DIMS],
-    pub second: [Slot; MAX_DIMS],
-    pub rng: Rng,
-}
-
-// The parents' settings crossed, dimension after dimension.
+// The parents' settings crossed, dimension after dimension: two children, of which the first n places count.
 pub fn cross_all(
     dims: [DimensionInfo; MAX_DIMS],
     n: usize,
@@ -28,7 +21,7 @@ pub fn cross_all(
     q: [Slot; MAX_DIMS],
     k: u64,
     rng: Rng,
-) -> DrawnChildren
+) -> DrawnPair<[Slot; MAX_DIMS]>
     requires { n ≤ max_dims }
     ensures { drawn (children (settings_of result.first n) (settings_of result.second n)) result.rng.s
         ≡ cross_all (dimensions_of dims) n (settings_of p n) (settings_of q n) k rng.s }
@@ -36,23 +29,13 @@ pub fn cross_all(
     let mut rng = rng;
     let mut first = p;
     let mut second = q;
-    let mut i = 0;
-    while i < n {
-        let info = dims[i];
-        let d = info.distribution;
-        let x = p[i];
-        let a = x.value;
-        let y = q[i];
-        let b = y.value;
-        let v = variation::cross_one(d, a, b, k, rng);
-        let value = v.first;
-        first[i] = Slot { value };
-        let value = v.second;
-        second[i] = Slot { value };
+    for i in 0..n {
+        let v = variation::cross_one(dims[i].distribution, p[i].value, q[i].value, k, rng);
+        first[i] = Slot { value: v.first };
+        second[i] = Slot { value: v.second };
         rng = v.rng;
-        i += 1;
     }
-    DrawnChildren { first, second, rng }
+    DrawnPair { first, second, rng }
 }
 
 // A candidate mutated: each of its n settings with probability 1 / n.
@@ -62,26 +45,19 @@ pub fn mutate(
     params: [Slot; MAX_DIMS],
     k: u64,
     rng: Rng,
-) -> DrawnCandidate
+) -> Drawn<[Slot; MAX_DIMS]>
     requires { bad_dimensions (dimensions_of dims) n ≡ false }
-    ensures { drawn (settings_of result.params n) result.rng.s ≡ mutate (dimensions_of dims) n (settings_of params n) k rng.s }
+    ensures { drawn (settings_of result.value n) result.rng.s ≡ mutate (dimensions_of dims) n (settings_of params n) k rng.s }
 {
     let probability = 1.0 / std::num::nearest_u64_to_f64(n as u64);
     let mut rng = rng;
     let mut out = params;
-    let mut i = 0;
-    while i < n {
-        let info = dims[i];
-        let d = info.distribution;
-        let x = params[i];
-        let a = x.value;
-        let v = variation::mutate_maybe(probability, d, a, k, rng);
-        let value = v.value;
-        out[i] = Slot { value };
+    for i in 0..n {
+        let v = variation::mutate_maybe(probability, dims[i].distribution, params[i].value, k, rng);
+        out[i] = Slot { value: v.value };
         rng = v.rng;
-        i += 1;
     }
-    DrawnCandidate { params: out, rng }
+    Drawn { value: out, rng }
 }
 
 // Parent p, as the words hold it.
@@ -96,14 +72,11 @@ pub fn read_parent(
 {
     let at = p * n;
     let mut params = settings::blank_candidate();
-    let mut j = 0;
-    while j < n {
-        let info = dims[j];
-        let d = info.distribution;
-        let kind = settings::kind_of_dimension(d);
-        let value = settings::of_word(kind, parents[at + j]);
-        params[j] = Slot { value };
-        j += 1;
+    for j in 0..n {
+        let kind = settings::kind_of_dimension(dims[j].distribution);
+        params[j] = Slot {
+            value: settings::of_word(kind, parents[at + j]),
+        };
     }
     params
 }

@@ -17,12 +17,8 @@ pub fn put_candidate(params: [Slot; MAX_DIMS], n: usize, at: usize, out: &mut [u
     requires { (n ≤ max_dims) × (at + n ≤ length out.old) }
     ensures { out.new ≡ sets out.old at (map to_word (settings_of params n)) }
 {
-    let mut j = 0;
-    while j < n {
-        let slot = params[j];
-        let v = slot.value;
-        out[at + j] = settings::to_word(v);
-        j += 1;
+    for j in 0..n {
+        out[at + j] = settings::to_word(params[j].value);
     }
 }
 
@@ -39,13 +35,10 @@ pub fn sample_candidates(
     ensures state { result.s ≡ (sample_candidates (dimensions_of dims) n count rng.s).state }
 {
     let mut rng = rng;
-    let mut i = 0;
-    while i < count {
+    for i in 0..count {
         let c = sampling::sample_all(dims, n, rng);
-        let params = c.params;
-        put_candidate(params, n, i * n, out);
+        put_candidate(c.value, n, i * n, out);
         rng = c.rng;
-        i += 1;
     }
     rng
 }

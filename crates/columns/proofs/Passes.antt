@@ -1,6 +1,6 @@
 -- One pass over the block adds one term to each plan's sum; what the passes make together.
-use Prim.Native.Nat.{ℕ, ◌+◌, ◌*◌, ◌≤◌, ◌<◌}
-use mathlib.Core.Path.{◌≡◌, ap, sym, subst, ◌∙◌}
+use Prim.Native.Nat.{ℕ, ◌+◌, ◌<◌}
+use mathlib.Core.Path.{◌≡◌, ap, sym, ◌∙◌}
 use mathlib.Core.Bool.{false}
 use mathlib.Core.List.{List}
 use native.Mathlib.Omega.{arith}
@@ -10,7 +10,6 @@ use Rattle.model.specs.Lists.{list_below, over}
 use Rattle.model.specs.Real.{◌⊕◌, ◌⊘◌, sum_to}
 use Rattle.model.specs.Association.{dot, off_squares, squares_of, small_norm}
 use Rattle.list_laws.proofs.Built.{over_below}
-use Rattle.list_laws.proofs.Rows.{row_within}
 use Rattle.float_laws.proofs.Sums.{sum_none, sum_more}
 use Rattle.association_laws.proofs.Search.{squares_long}
 use Rattle.columns.specs.Block.{plan_at, quotient, Each, Empty, Dots, OffSquares, LineSquares}
@@ -33,23 +32,9 @@ passes-square x m len r norm s t u e k d q o = record { at = here }
     here b h =
         o.at b h ∙ ap (off_squares m (plan_at x len b) r) (over_below _ len t s b nan q h ∙ ap (λ v. v ⊘ norm) (d.at b h)) ∙ sym (squares_long m (plan_at x len b) r norm e k)
 
--- as many objectives as one pass is made for
-pub so_many : (x : List Float) (m k len : ℕ) (r : ℕ → Float) (l : List Float) → m ≡ k → LineSquares x k len r l → LineSquares x m len r l
-so_many x m k len r l e = subst (λ (i : ℕ). LineSquares x i len r l) (sym e)
-
 -- four terms at once
-pub four-more : (f : ℕ → Float) (j : ℕ) (s : Float) → s ≡ sum_to f j → s ⊕ f j ⊕ f (j + 1) ⊕ f (j + 1 + 1) ⊕ f (j + 1 + 1 + 1) ≡ sum_to f (j + 1 + 1 + 1 + 1)
-four-more f j s e = sum_more f (j + 1 + 1 + 1) _ (sum_more f (j + 1 + 1) _ (sum_more f (j + 1) _ (sum_more f j s e)))
+next : (f : ℕ → Float) (j n : ℕ) (s : Float) → j + 1 ≡ n → s ≡ sum_to f j → s ⊕ f j ≡ sum_to f n
+next f j n s e h = sum_more f j s h ∙ ap (sum_to f) e
 
--- four columns lie within the block
-pub four_columns : (j len size : ℕ) → (j + 1 + 1 + 1 + 1) * len ≤ size
-    → (j * len + len ≤ size) × ((j + 1) * len + len ≤ size) × ((j + 1 + 1) * len + len ≤ size) × ((j + 1 + 1 + 1) * len + len ≤ size)
-four_columns j len size h =
-    let n = j + 1 + 1 + 1 + 1 in
-    (row_within j n len size (omega arith) h, row_within (j + 1) n len size (omega arith) h, row_within (j + 1 + 1) n len size (omega arith) h, row_within (j + 1 + 1 + 1) n len size (omega arith) h)
-
-pub dots_as : (x : List Float) (n k len : ℕ) (r : ℕ → Float) (l : List Float) → n ≡ k → Dots x n len r l → Dots x k len r l
-dots_as x n k len r l e = subst (λ (i : ℕ). Dots x i len r l) e
-
-pub off_as : (x : List Float) (n k len : ℕ) (r : ℕ → Float) (t l : List Float) → n ≡ k → OffSquares x n len r t l → OffSquares x k len r t l
-off_as x n k len r t l e = subst (λ (i : ℕ). OffSquares x i len r t l) e
+pub four-more : (f : ℕ → Float) (j : ℕ) (s : Float) → s ≡ sum_to f j → s ⊕ f j ⊕ f (j + 1) ⊕ f (j + 2) ⊕ f (j + 3) ≡ sum_to f (j + 4)
+four-more f j s e = next f (j + 3) (j + 4) _ (omega arith) (next f (j + 2) (j + 3) _ (omega arith) (next f (j + 1) (j + 2) _ (omega arith) (sum_more f j s e)))

@@ -26,10 +26,8 @@ fn lay_column(points: &[f64], start: usize, m: usize, j: usize, len: usize, x: &
     ensures { x.new ≡ sets x.old (j * len) (list_below (laid points.now m start j) len) }
 {
     let to = j * len;
-    let mut b = 0;
-    while b < len {
+    for b in 0..len {
         x[to + b] = points[(start + b) * m + j];
-        b += 1;
     }
 }
 
@@ -38,10 +36,8 @@ pub fn lay(points: &[f64], start: usize, m: usize, len: usize, x: &mut [f64])
     requires { ((start + len) * m ≤ length points.now) × (m * len ≤ length x.old) }
     ensures { x.new ≡ over (flat_rows (laid points.now m start) m len) x.old }
 {
-    let mut j = 0;
-    while j < m {
+    for j in 0..m {
         lay_column(points, start, m, j, len, x);
-        j += 1;
     }
 }
 
@@ -52,10 +48,8 @@ fn add_products(x: &[f64], at: usize, r: f64, len: usize, sums: &mut [f64])
     requires { (at + len ≤ length x.now) × (len ≤ length sums.old) }
     ensures { sums.new ≡ over (list_below (product_more sums.old x.now at r) len) sums.old }
 {
-    let mut b = 0;
-    while b < len {
-        sums[b] = sums[b] + x[at + b] * r;
-        b += 1;
+    for b in 0..len {
+        sums[b] += x[at + b] * r;
     }
 }
 
@@ -64,10 +58,8 @@ fn divide(norm: f64, len: usize, sums: &mut [f64])
     requires { len ≤ length sums.old }
     ensures { sums.new ≡ over (list_below (quotient sums.old norm) len) sums.old }
 {
-    let mut b = 0;
-    while b < len {
-        sums[b] = sums[b] / norm;
-        b += 1;
+    for b in 0..len {
+        sums[b] /= norm;
     }
 }
 
@@ -77,11 +69,9 @@ fn add_squares(x: &[f64], at: usize, r: f64, t: &[f64], len: usize, sums: &mut [
     ensures { sums.new
         ≡ over (list_below (square_more sums.old x.now at r t.now) len) sums.old }
 {
-    let mut b = 0;
-    while b < len {
+    for b in 0..len {
         let off = x[at + b] - t[b] * r;
-        sums[b] = sums[b] + off * off;
-        b += 1;
+        sums[b] += off * off;
     }
 }
 
@@ -89,13 +79,13 @@ fn add_squares(x: &[f64], at: usize, r: f64, t: &[f64], len: usize, sums: &mut [
 
 // The products of objectives j to j + 3 more.
 fn four_products(x: &[f64], j: usize, len: usize, table: &[f64], line_at: usize, sums: &mut [f64])
-    requires { ((j + 1 + 1 + 1 + 1) * len ≤ length x.now) × (line_at + (j + 1 + 1 + 1 + 1) ≤ length table.now) × (len ≤ length sums.old)
+    requires { ((j + 4) * len ≤ length x.now) × (line_at + (j + 4) ≤ length table.now) × (len ≤ length sums.old)
         × Dots x.now j len (from table.now line_at) sums.old }
-    ensures { Dots x.now (j + 1 + 1 + 1 + 1) len (from table.now line_at) sums.new }
+    ensures { Dots x.now (j + 4) len (from table.now line_at) sums.new }
 {
     let j1 = j + 1;
-    let j2 = j1 + 1;
-    let j3 = j2 + 1;
+    let j2 = j + 2;
+    let j3 = j + 3;
     let r0 = table[line_at + j];
     let r1 = table[line_at + j1];
     let r2 = table[line_at + j2];
@@ -104,10 +94,8 @@ fn four_products(x: &[f64], j: usize, len: usize, table: &[f64], line_at: usize,
     let a1 = j1 * len;
     let a2 = j2 * len;
     let a3 = j3 * len;
-    let mut b = 0;
-    while b < len {
+    for b in 0..len {
         sums[b] = sums[b] + x[a0 + b] * r0 + x[a1 + b] * r1 + x[a2 + b] * r2 + x[a3 + b] * r3;
-        b += 1;
     }
 }
 
@@ -121,13 +109,13 @@ fn four_squares(
     t: &[f64],
     sums: &mut [f64],
 )
-    requires { ((j + 1 + 1 + 1 + 1) * len ≤ length x.now) × (line_at + (j + 1 + 1 + 1 + 1) ≤ length table.now) × (len ≤ length t.now)
+    requires { ((j + 4) * len ≤ length x.now) × (line_at + (j + 4) ≤ length table.now) × (len ≤ length t.now)
         × (len ≤ length sums.old) × OffSquares x.now j len (from table.now line_at) t.now sums.old }
-    ensures { OffSquares x.now (j + 1 + 1 + 1 + 1) len (from table.now line_at) t.now sums.new }
+    ensures { OffSquares x.now (j + 4) len (from table.now line_at) t.now sums.new }
 {
     let j1 = j + 1;
-    let j2 = j1 + 1;
-    let j3 = j2 + 1;
+    let j2 = j + 2;
+    let j3 = j + 3;
     let r0 = table[line_at + j];
     let r1 = table[line_at + j1];
     let r2 = table[line_at + j2];
@@ -136,15 +124,13 @@ fn four_squares(
     let a1 = j1 * len;
     let a2 = j2 * len;
     let a3 = j3 * len;
-    let mut b = 0;
-    while b < len {
+    for b in 0..len {
         let q = t[b];
         let o0 = x[a0 + b] - q * r0;
         let o1 = x[a1 + b] - q * r1;
         let o2 = x[a2 + b] - q * r2;
         let o3 = x[a3 + b] - q * r3;
         sums[b] = sums[b] + o0 * o0 + o1 * o1 + o2 * o2 + o3 * o3;
-        b += 1;
     }
 }
 
@@ -155,15 +141,13 @@ fn dots(x: &[f64], m: usize, len: usize, table: &[f64], line_at: usize, sums: &m
     requires { (m * len ≤ length x.now) × (line_at + m ≤ length table.now) × (len ≤ length sums.old) × Empty len sums.old }
     ensures { Dots x.now m len (from table.now line_at) sums.new }
 {
-    let mut j = 0;
-    while j + 3 < m {
-        four_products(x, j, len, table, line_at, sums);
-        j += 4;
+    let fours = m / 4;
+    for q in 0..fours {
+        four_products(x, 4 * q, len, table, line_at, sums);
     }
-    while j < m {
+    for j in 4 * fours..m {
         let r = table[line_at + j];
         add_products(x, j * len, r, len, sums);
-        j += 1;
     }
 }
 
@@ -181,15 +165,13 @@ fn off_squares(
         × Empty len sums.old }
     ensures { OffSquares x.now m len (from table.now line_at) t.now sums.new }
 {
-    let mut j = 0;
-    while j + 3 < m {
-        four_squares(x, j, len, table, line_at, t, sums);
-        j += 4;
+    let fours = m / 4;
+    for q in 0..fours {
+        four_squares(x, 4 * q, len, table, line_at, t, sums);
     }
-    while j < m {
+    for j in 4 * fours..m {
         let r = table[line_at + j];
         add_squares(x, j * len, r, t, len, sums);
-        j += 1;
     }
 }
 
@@ -214,8 +196,7 @@ fn three_squares(
     let a0 = 0 * len;
     let a1 = 1 * len;
     let a2 = 2 * len;
-    let mut b = 0;
-    while b < len {
+    for b in 0..len {
         let x0 = x[a0 + b];
         let x1 = x[a1 + b];
         let x2 = x[a2 + b];
@@ -224,7 +205,6 @@ fn three_squares(
         let o1 = x1 - t * r1;
         let o2 = x2 - t * r2;
         squares[b] = -0.0 + o0 * o0 + o1 * o1 + o2 * o2;
-        b += 1;
     }
 }
 
@@ -244,10 +224,10 @@ pub fn line_squares(
 {
     if m == 3 {
         three_squares(x, len, table, line_at, norm, squares);
-        return;
+    } else {
+        let mut t = [-0.0; BLOCK];
+        dots(x, m, len, table, line_at, &mut t);
+        divide(norm, len, &mut t);
+        off_squares(x, m, len, table, line_at, &t, squares);
     }
-    let mut t = [-0.0; BLOCK];
-    dots(x, m, len, table, line_at, &mut t);
-    divide(norm, len, &mut t);
-    off_squares(x, m, len, table, line_at, &t, squares);
 }

@@ -1,14 +1,10 @@
 -- What stands before a file's plans, and what a file turns into, in model's words.
-use Rattle.std.specs.Prelude.{ℕ, ◌≡◌, List, ◌++◌, length, get_or, drop}
-use Rattle.std.proofs.Math.Option.{Option, none, some}
+use Rattle.std.specs.Prelude.{ℕ, ◌≡◌, List, ◌++◌, length, get_or, drop, Option, Some, None, Result, Ok, Err}
+use Rattle.model.specs.declared.Refusal.{Refusal}
 use Rattle.model.specs.PoolFile.{Reader, pure, number, many, written_all, File, ◌>>=◌}
-use Rattle.pool_plans.specs.declared.End.{End}
 use Rattle.pool_plans.specs.Blocks.{Reads, ReadsIs}
 use Rattle.pool_form.specs.Form.{Adds, Whole}
 use Rattle.convert_file.specs.declared.Head.{Head}
-use Rattle.convert_file.specs.declared.Head.TheVariants as head
-use Rattle.convert_file.specs.declared.Turned.{Turned}
-use Rattle.convert_file.specs.declared.Turned.TheVariants as turned
 
 -- ---- before the plans
 
@@ -17,7 +13,7 @@ pub record Header (words before : List ℕ) (o : ℕ) (after : List ℕ) (o' : �
   pub stored : words ≡ five
   pub adds : Adds (written_all five) before o after o'
 
-abbrev pub HeaderIs : List ℕ → ℕ → List ℕ → List ℕ → ℕ → List ℕ → ℕ → End → Type 0
+abbrev pub HeaderIs : List ℕ → ℕ → List ℕ → List ℕ → ℕ → List ℕ → ℕ → Option ℕ → Type 0
 HeaderIs file at words before o after o' = ReadsIs (many 5 number) (Header words before o after o') file at
 
 -- the five numbers and the directions
@@ -57,14 +53,13 @@ pub record Begun (m count : ℕ) (text : List ℕ) (o : ℕ) (after : List ℕ) 
   pub whole : length b.five ≡ 5
   pub adds : Adds (written_all (b.five ++ b.marks)) text o after o'
 
-abbrev pub HeadIs : List ℕ → ℕ → List ℕ → ℕ → List ℕ → ℕ → Head → Type 0
-HeadIs file at text o after o' (head.Good m count next) = Reads before (Begun m count text o after o') file at next
-HeadIs file at text o after o' head.Broken = before (drop at file) ≡ none
+abbrev pub HeadIs : List ℕ → ℕ → List ℕ → ℕ → List ℕ → ℕ → Option Head → Type 0
+HeadIs file at text o after o' (Some h) = Reads before (Begun h.m h.count text o after o') file at h.next
+HeadIs file at text o after o' None = before (drop at file) ≡ None
 
 -- ---- the whole file
 
--- by the refusal, the number of a broken form and the text
-abbrev pub TurnedIs : Option ℕ → ℕ → List ℕ → List ℕ → Turned → Type 0
-TurnedIs refusal broken text after (turned.Text n) = (refusal ≡ none) × Whole text after n
-TurnedIs refusal broken text after turned.Broken = refusal ≡ some broken
-TurnedIs refusal broken text after turned.NotHeld = refusal ≡ some 18
+-- by the refusal and the text
+abbrev pub TurnedIs : Option Refusal → List ℕ → List ℕ → Result ℕ Refusal → Type 0
+TurnedIs refusal text after (Ok n) = (refusal ≡ None) × Whole text after n
+TurnedIs refusal text after (Err r) = refusal ≡ Some r

@@ -3,7 +3,8 @@ use Prim.Native.Nat.{ℕ, zero, suc}
 use mathlib.Core.Path.{◌≡◌, ap, sym, ◌∙◌}
 use mathlib.Core.Bool.{true, false}
 use mathlib.Core.List.{List, [], ◌∷◌, map, map-map}
-use mathlib.Core.Option.{Option, none, some, none-ne-some, some-injective}
+use Rattle.list_laws.proofs.Options.{none-ne-some, some-injective}
+use Rattle.std.specs.Prelude.{Option, None, Some}
 use lib.Dec.{leb}
 use lib.ListN.{length}
 use Rattle.model.specs.Plan.{Plan}
@@ -21,21 +22,21 @@ pub record Wholly {A : Type 0} (r : Reader A) (bytes : List ℕ) (a : A) : Type 
   pub read : r bytes ≡ pure a []
 
 module _ {A : Type 0} where
-  left : (v : A) (rest : List ℕ) (a : A) → if_none_left rest v ≡ some a → pure v rest ≡ pure a []
+  left : (v : A) (rest : List ℕ) (a : A) → if_none_left rest v ≡ Some a → pure v rest ≡ pure a []
   left v [] a e = ap (λ (x : A). pure x []) (some-injective _ _ e)
   left v (b ∷ bytes) a e = absurd (none-ne-some a e)
 
-  none_left : (o : Option (Parsed A)) (a : A) → wholly o ≡ some a → o ≡ pure a []
-  none_left none a e = absurd (none-ne-some a e)
-  none_left (some p) a e = left p.value p.rest a e
+  none_left : (o : Option (Parsed A)) (a : A) → wholly o ≡ Some a → o ≡ pure a []
+  none_left None a e = absurd (none-ne-some a e)
+  none_left (Some p) a e = left p.value p.rest a e
 
-  pub parsed-wholly : (r : Reader A) (bytes : List ℕ) (a : A) → parse_by r bytes ≡ some a → Wholly r bytes a
+  pub parsed-wholly : (r : Reader A) (bytes : List ℕ) (a : A) → parse_by r bytes ≡ Some a → Wholly r bytes a
   unfolding parse_by
   parsed-wholly r bytes a e = by_bool (leb (length bytes) max_file)
       (λ t. record { short = t; read = none_left (r bytes) a (rw t at e) })
       (λ t. absurd (none-ne-some a (rw t at e)))
 
-  pub wholly-parsed : (r : Reader A) (bytes : List ℕ) (a : A) → Wholly r bytes a → parse_by r bytes ≡ some a
+  pub wholly-parsed : (r : Reader A) (bytes : List ℕ) (a : A) → Wholly r bytes a → parse_by r bytes ≡ Some a
   unfolding parse_by
   wholly-parsed r bytes a w = rw (w.short, w.read)
 
@@ -81,15 +82,15 @@ file_measured bytes f rest e =
 
 -- ---- the pool of each edition
 
-pub first-pool : (bytes : List ℕ) (f : File Rows) → opens_second bytes ≡ false → parse_by (file_by rows) bytes ≡ some f → parse bytes ≡ some (pooled f)
+pub first-pool : (bytes : List ℕ) (f : File Rows) → opens_second bytes ≡ false → parse_by (file_by rows) bytes ≡ Some f → parse bytes ≡ Some (pooled f)
 unfolding parse pool_file
 first-pool bytes f o e =
     let w = parsed-wholly (file_by rows) bytes f e in
     rw o (wholly-parsed (file_by plan) bytes (pooled f) (record { short = w.short; read = file_measured bytes f [] w.read }))
 
-pub second-pool : (bytes : List ℕ) (g : File Numbered) → opens_second bytes ≡ true → parse_by second_file bytes ≡ some g → parse bytes ≡ some (pooled (backwards g))
+pub second-pool : (bytes : List ℕ) (g : File Numbered) → opens_second bytes ≡ true → parse_by second_file bytes ≡ Some g → parse bytes ≡ Some (pooled (backwards g))
 unfolding parse
-second-pool bytes g o e = rw (o, e) (ap (λ (ps : List Plan). some (record {
+second-pool bytes g o e = rw (o, e) (ap (λ (ps : List Plan). Some (record {
   objectives = g.objectives;
   divisions = g.divisions;
   size = g.size;
@@ -100,9 +101,9 @@ second-pool bytes g o e = rw (o, e) (ap (λ (ps : List Plan). some (record {
 })) (sym (map-map (measured g.objectives) (λ p. p.rows) g.plans)))
 
 -- what `choose` prints for a file is told by its pool
-print_by : (bytes : List ℕ) (q : PoolFile) → parse bytes ≡ some q → printed bytes ≡ printed_by (file_refusal q max_text) (text_of (some q))
+print_by : (bytes : List ℕ) (q : PoolFile) → parse bytes ≡ Some q → printed bytes ≡ printed_by (file_refusal q max_text) (text_of (Some q))
 unfolding printed choose_refusal
 print_by bytes q e = rw e
 
-pub same_print : (a b : List ℕ) (q : PoolFile) → parse a ≡ some q → parse b ≡ some q → printed a ≡ printed b
+pub same_print : (a b : List ℕ) (q : PoolFile) → parse a ≡ Some q → parse b ≡ Some q → printed a ≡ printed b
 same_print a b q e f = print_by a q e ∙ sym (print_by b q f)

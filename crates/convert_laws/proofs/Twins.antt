@@ -3,10 +3,13 @@ use Prim.Native.Nat.{ℕ, ◌≤◌}
 use mathlib.Core.Path.{◌≡◌, refl, ap, sym, subst, ◌∙◌}
 use mathlib.Core.Bool.{Bool, true, false, cond, not, ◌&&◌, true≢false, false≢true}
 use mathlib.Core.List.{List, [], ◌∷◌, append-nil}
-use mathlib.Core.Option.{Option, none, some, some-ne-none}
+use Rattle.list_laws.proofs.Options.{some-ne-none}
+use Rattle.std.specs.Prelude.{Option, None, Some}
 use borrow.Author.Tests.{le-leb, leb-true, eq-eqb, ne_eqb, eqb-true}
 use lib.Dec.{leb}
 use lib.ListN.{length, drop}
+use Rattle.model.specs.declared.Refusal.{Refusal}
+use Rattle.model.specs.declared.Refusal.TheVariants as why
 use Rattle.model.specs.PoolFile.{Rows, rows, row_numbers, File, file_by, file_numbers, written_all, groups_of, first_form, max_file, parse_by, Numbered, numbered, opens_second, second_file, parse}
 use Rattle.model.specs.Convert.{plan_numbers, second_form, forwards, plain_from, turns_back, backwards, held_refusal, converted_text, convert_refusal, Twins}
 use Rattle.list_laws.proofs.Bools.{by_bool, by_option, and_left, and_right}
@@ -41,11 +44,11 @@ module _ (f : File Rows) (ok : FileOk RowsOk f) (other : f.objectives ≡ 64 →
   opens_first =
       ap opens_second (sym (append-nil (written_all (file_numbers row_numbers f)))) ∙ opens_with row_numbers f [] ∙ ne_eqb f.objectives 64 other
 
-  read_first : parse_by (file_by rows) first ≡ some f
+  read_first : parse_by (file_by rows) first ≡ Some f
   unfolding first first_form
   read_first = parsed-back rows row_numbers f (rows_writable f ok) short
 
-  read-second : parse_by second_file second ≡ some (forwards f)
+  read-second : parse_by second_file second ≡ Some (forwards f)
   unfolding second second_file
   read-second =
       let g = forwards f in
@@ -62,7 +65,7 @@ module _ (f : File Rows) (ok : FileOk RowsOk f) (other : f.objectives ≡ 64 →
   unfolding converted_text second
   there_text = rw (opens_first, read_first)
 
-  there_accepted : convert_refusal first ≡ none
+  there_accepted : convert_refusal first ≡ None
   unfolding convert_refusal
   there_accepted = rw (opens_first, read_first, le-leb (length (second_form (forwards f))) max_file fits)
 
@@ -71,18 +74,18 @@ module _ (f : File Rows) (ok : FileOk RowsOk f) (other : f.objectives ≡ 64 →
   unfolding converted_text second first
   back-text = rw (opens_64 (forwards f), read-second) (ap first_form (back-of-forwards f))
 
-  back-accepted : convert_refusal second ≡ none
+  back-accepted : convert_refusal second ≡ None
   unfolding convert_refusal second
   back-accepted =
       rw (opens_64 (forwards f), read-second, forwards_turns f other, ap first_form (back-of-forwards f), le-leb (length (first_form f)) max_file short)
 
   -- one pool
-  pool-first : parse first ≡ some (pooled f)
+  pool-first : parse first ≡ Some (pooled f)
   pool-first = first-pool first f opens_first read_first
 
-  pool-second : parse second ≡ some (pooled f)
+  pool-second : parse second ≡ Some (pooled f)
   unfolding second
-  pool-second = second-pool second (forwards f) (opens_64 (forwards f)) read-second ∙ ap (λ (x : File Rows). some (pooled x)) (back-of-forwards f)
+  pool-second = second-pool second (forwards f) (opens_64 (forwards f)) read-second ∙ ap (λ (x : File Rows). Some (pooled x)) (back-of-forwards f)
 
   pub there : Twins (first_form f) (second_form (forwards f))
   unfolding first second
@@ -106,13 +109,13 @@ module _ (f : File Rows) (ok : FileOk RowsOk f) (other : f.objectives ≡ 64 →
 
 -- ---- from the bytes of a file that is not refused
 
-abbrev held_when : Bool → Option ℕ
-held_when t = cond t none (some 18)
+abbrev held_when : Bool → Option Refusal
+held_when t = cond t None (Some why.NotHeld)
 
-held : (h : Bool) (text : List ℕ) → held_refusal h text ≡ none → (h && leb (length text) max_file) ≡ true
-held h text e = by_bool (h && leb (length text) max_file) (λ t. t) (λ t. absurd (some-ne-none 18 (sym (ap held_when t) ∙ e)))
+held : (h : Bool) (text : List ℕ) → held_refusal h text ≡ None → (h && leb (length text) max_file) ≡ true
+held h text e = by_bool (h && leb (length text) max_file) (λ t. t) (λ t. absurd (some-ne-none why.NotHeld (sym (ap held_when t) ∙ e)))
 
-held_fits : (h : Bool) (text : List ℕ) → held_refusal h text ≡ none → length text ≤ max_file
+held_fits : (h : Bool) (text : List ℕ) → held_refusal h text ≡ None → length text ≤ max_file
 held_fits h text e = leb-true (length text) max_file (and_right h _ (held h text e))
 
 opened : (bytes : List ℕ) → opens_second bytes ≡ true → bytes ≡ 64 ∷ drop 1 bytes
@@ -125,7 +128,7 @@ inner g t z = false≢true (sym (ap not (eq-eqb g.objectives 64 z)) ∙ and_righ
 
 module _ (bytes : List ℕ) (b : Bytes bytes) where
   -- of the first edition
-  module _ (o : opens_second bytes ≡ false) (f : File Rows) (e : parse_by (file_by rows) bytes ≡ some f) where
+  module _ (o : opens_second bytes ≡ false) (f : File Rows) (e : parse_by (file_by rows) bytes ≡ Some f) where
     whole-first : Wholly (file_by rows) bytes f
     whole-first = parsed-wholly (file_by rows) bytes f e
 
@@ -144,14 +147,14 @@ module _ (bytes : List ℕ) (b : Bytes bytes) where
         let t : opens_second bytes ≡ true = ap opens_second (sym form-first ∙ sym (append-nil w)) ∙ opens_with row_numbers f [] ∙ eq-eqb f.objectives 64 z in
         true≢false (sym t ∙ o)
 
-    pub twins-first : held_refusal true (second_form (forwards f)) ≡ none → Twins bytes (second_form (forwards f))
+    pub twins-first : held_refusal true (second_form (forwards f)) ≡ None → Twins bytes (second_form (forwards f))
     twins-first h =
         let t = there f ok-first not_64 (subst (λ (l : List ℕ). length l ≤ max_file) (sym form-first) (leb-true (length bytes) max_file whole-first.short))
         (held_fits true (second_form (forwards f)) h) in
         subst (λ (l : List ℕ). Twins l (second_form (forwards f))) form-first t
 
   -- of the second
-  module _ (o : opens_second bytes ≡ true) (g : File Numbered) (e : parse_by second_file bytes ≡ some g) where
+  module _ (o : opens_second bytes ≡ true) (g : File Numbered) (e : parse_by second_file bytes ≡ Some g) where
     whole-second : Wholly second_file bytes g
     whole-second = parsed-wholly second_file bytes g e
 
@@ -163,7 +166,7 @@ module _ (bytes : List ℕ) (b : Bytes bytes) where
     pub form-second : second_form g ≡ bytes
     form-second = second_opens g ∙ sym (opened bytes o ∙ ap (λ (l : List ℕ). 64 ∷ l) (formed.form ∙ append-nil (written_all (file_numbers plan_numbers g))))
 
-    pub twins-second : held_refusal (turns_back g) (first_form (backwards g)) ≡ none → Twins bytes (first_form (backwards g))
+    pub twins-second : held_refusal (turns_back g) (first_form (backwards g)) ≡ None → Twins bytes (first_form (backwards g))
     twins-second h =
         let f = backwards g in
         let turns = and_left (turns_back g) _ (held (turns_back g) (first_form f) h) in
@@ -172,12 +175,12 @@ module _ (bytes : List ℕ) (b : Bytes bytes) where
         let t = back f (backwards-words g formed.good) (inner g turns) (held_fits (turns_back g) (first_form f) h) (subst (λ (l : List ℕ). length l ≤ max_file) (sym same) short) in
         subst (λ (l : List ℕ). Twins l (first_form f)) same t
 
-  pub twins : convert_refusal bytes ≡ none → Twins bytes (converted_text bytes)
+  pub twins : convert_refusal bytes ≡ None → Twins bytes (converted_text bytes)
   unfolding convert_refusal converted_text
   twins h = by_bool (opens_second bytes)
       (λ o. by_option (parse_by second_file bytes)
-      (λ n. absurd (some-ne-none 17 (rw (o, n) at h)))
+      (λ n. absurd (some-ne-none why.SecondForm (rw (o, n) at h)))
       (λ g e. rw (o, e) (twins-second o g e (rw (o, e) at h))))
       (λ o. by_option (parse_by (file_by rows) bytes)
-      (λ n. absurd (some-ne-none 1 (rw (o, n) at h)))
+      (λ n. absurd (some-ne-none why.Form (rw (o, n) at h)))
       (λ f e. rw (o, e) (twins-first o f e (rw (o, e) at h))))

@@ -1,28 +1,23 @@
 -- Laws of plans turned from one edition to the other: one, and one more.
 use Prim.Native.Nat.{ℕ, suc, ◌+◌, ◌<◌}
-use mathlib.Core.Path.{◌≡◌, refl, ap, ap₂, sym, subst, ◌∙◌}
+use mathlib.Core.Path.{◌≡◌, refl, ap, ap₂, sym, ◌∙◌}
 use mathlib.Core.Bool.{Bool, true, ◌&&◌, and-true, and_assoc}
 use mathlib.Core.List.{List, [], ◌∷◌, ◌++◌, map, map-append, flatten, append-nil, append_assoc}
-use mathlib.Core.Option.{none}
+use Rattle.std.specs.Prelude.{None, Some}
 use native.Mathlib.Omega.{arith}
 use lib.Dec.{eqb}
 use lib.ListN.{length, drop}
-use Rattle.model.specs.PoolFile.{Reader, pure, number, many, written, written_all, Rows, rows, row_numbers, setting, Numbered, numbered}
+use Rattle.model.specs.PoolFile.{pure, number, many, written, written_all, Rows, rows, row_numbers, setting, Numbered, numbered}
 use Rattle.model.specs.Convert.{plan_numbers, numbered_from, plain_from}
-use Rattle.pool_number.specs.declared.Read.{Read}
-use Rattle.pool_number.specs.declared.Read.TheVariants as read
-use Rattle.pool_plans.specs.declared.End.{End}
-use Rattle.pool_plans.specs.declared.End.TheVariants as end
 use Rattle.pool_plans.specs.Blocks.{Reads}
-use Rattle.pool_plans.proofs.Storing.{as_told, reads_none, reads_more, reads_stop, reads-count}
+use Rattle.pool_plans.proofs.Storing.{reads_none, reads_more, reads_stop, reads-count}
 use Rattle.pool_settings.specs.Passing.{PassedIs}
 use Rattle.pool_form.specs.Form.{Adds}
 use Rattle.pool_form.proofs.Pieces.{adds_none, adds_as}
 use Rattle.form_laws.proofs.Lists.{written_none}
-use Rattle.convert_rows.specs.Copied.{Copied, CopiedIs}
+use Rattle.convert_rows.specs.Copied.{Copied}
 use Rattle.convert_rows.proofs.Copies.{adds-all, adds_one}
 use Rattle.convert_plans.specs.declared.Plain.{Plain}
-use Rattle.convert_plans.specs.declared.Plain.TheVariants as plain
 use Rattle.convert_plans.specs.Turned.{numbered_as, numbered_all, rows_of, rows_all, plain_as, Holds, PlainIs}
 
 -- ---- one plan more at the end
@@ -67,14 +62,11 @@ plain_more n (x ∷ ps) p =
 
 -- ---- forwards: plan i
 
-module _ (file : List ℕ) (at m i : ℕ) (before : List ℕ) (o : ℕ) (o₁ : List ℕ) (q₁ : ℕ) (a : Adds (written i) before o o₁ q₁) (o₂ : List ℕ) (q₂ : ℕ) (r : End) (w : CopiedIs (rows m) row_numbers file at o₁ q₁ o₂ q₂ r) where
-  pub number_stop : r ≡ end.Broken → rows m (drop at file) ≡ none
-  number_stop e = as_told (rows m) _ file at e w
-
-  pub number-turned : (next : ℕ) → r ≡ end.At next → (o₃ : List ℕ) (q₃ : ℕ) → Adds (written 0) o₂ q₂ o₃ q₃ → Copied (rows m) (numbered_as i) file at before o o₃ q₃ next
+module _ (file : List ℕ) (at m i : ℕ) (before : List ℕ) (o : ℕ) (o₁ : List ℕ) (q₁ : ℕ) (a : Adds (written i) before o o₁ q₁) (o₂ : List ℕ) (q₂ next : ℕ)
+    (d : Copied (rows m) row_numbers file at o₁ q₁ o₂ q₂ next) where
+  pub number-turned : (o₃ : List ℕ) (q₃ : ℕ) → Adds (written 0) o₂ q₂ o₃ q₃ → Copied (rows m) (numbered_as i) file at before o o₃ q₃ next
   unfolding flatten
-  number-turned next e o₃ q₃ b =
-      let d = as_told (rows m) (λ x. Adds (written_all (row_numbers x)) o₁ q₁ o₂ q₂) file at e w in
+  number-turned o₃ q₃ b =
       let ns = row_numbers d.value in
       record {
         value = d.value;
@@ -92,16 +84,16 @@ module _ (file : List ℕ) (at m : ℕ) (before : List ℕ) (o : ℕ) where
   numbered_none =
       reads_none (rows m) file at (λ rs. Adds (written_all (numbered_all rs)) before o before o) (adds_as before before o o [] _ (sym written_none) (adds_none before o))
 
-  module _ (i p : ℕ) (mid : List ℕ) (q : ℕ) (w : Copied (many i (rows m)) numbered_all file at before o mid q p) (r : End) (after : List ℕ) (o' : ℕ) (c : CopiedIs (rows m) (numbered_as i) file p mid q after o' r) where
+  module _ (i p : ℕ) (mid : List ℕ) (q : ℕ) (w : Copied (many i (rows m)) numbered_all file at before o mid q p) where
     abbrev so_far : List Rows → Type 0
     so_far rs = Adds (written_all (numbered_all rs)) before o mid q
 
-    pub numbered_stop : (n : ℕ) → i < n → r ≡ end.Broken → many n (rows m) (drop at file) ≡ none
-    numbered_stop n h e = reads_stop (rows m) file at so_far i p w n h (as_told (rows m) _ file p e c)
+    pub numbered_stop : (n : ℕ) → i < n → rows m (drop p file) ≡ None → many n (rows m) (drop at file) ≡ None
+    numbered_stop n h e = reads_stop (rows m) file at so_far i p w n h e
 
-    pub numbered_next : (next : ℕ) → r ≡ end.At next → Copied (many (i + 1) (rows m)) numbered_all file at before o after o' next
-    numbered_next next e =
-        let d = as_told (rows m) (λ x. Adds (written_all (numbered_as i x)) mid q after o') file p e c in
+    pub numbered_next : (after : List ℕ) (o' next : ℕ) → Copied (rows m) (numbered_as i) file p mid q after o' next
+        → Copied (many (i + 1) (rows m)) numbered_all file at before o after o' next
+    numbered_next after o' next d =
         let l = reads-count (rows m) file at so_far i p w in
         reads_more (rows m) file at so_far i p w d.value next d.reads (λ rs. Adds (written_all (numbered_all rs)) before o after o')
         (adds_as before after o o' _ _ (ap written_all (sym (numbers_more w.value d.value i l)))
@@ -109,33 +101,30 @@ module _ (file : List ℕ) (at m : ℕ) (before : List ℕ) (o : ℕ) where
 
 -- ---- backwards: plan i
 
-module _ (file : List ℕ) (at m i : ℕ) (before : List ℕ) (o : ℕ) where
-  pub plain_no_number : number (drop at file) ≡ none → numbered m (drop at file) ≡ none
+module _ (file : List ℕ) (at m : ℕ) where
+  pub plain_no_number : number (drop at file) ≡ None → numbered m (drop at file) ≡ None
   unfolding numbered
   plain_no_number e = rw e
 
-  module _ (n p : ℕ) (e : number (drop at file) ≡ pure n (drop p file)) (after : List ℕ) (o' : ℕ) (r : End) (w : CopiedIs (rows m) row_numbers file p before o after o' r) where
-    pub plain_no_rows : r ≡ end.Broken → numbered m (drop at file) ≡ none
+  module _ (n p : ℕ) (e : number (drop at file) ≡ pure n (drop p file)) where
+    pub plain_no_rows : rows m (drop p file) ≡ None → numbered m (drop at file) ≡ None
     unfolding numbered
-    plain_no_rows x = let y : rows m (drop p file) ≡ none = as_told (rows m) _ file p x w in rw (e, y)
+    plain_no_rows y = rw (e, y)
 
-    module _ (q : ℕ) (x : r ≡ end.At q) where
-      turned : Copied (rows m) row_numbers file p before o after o' q
-      turned = as_told (rows m) _ file p x w
-
-      pub plain_no_count : number (drop q file) ≡ none → numbered m (drop at file) ≡ none
+    module _ (before : List ℕ) (o : ℕ) (after : List ℕ) (o' q : ℕ) (turned : Copied (rows m) row_numbers file p before o after o' q) where
+      pub plain_no_count : number (drop q file) ≡ None → numbered m (drop at file) ≡ None
       unfolding numbered
       plain_no_count y = rw (e, turned.reads, y)
 
-      module _ (k s : ℕ) (f : number (drop q file) ≡ pure k (drop s file)) (r' : End) (v : PassedIs (many k setting) file s r') where
-        pub plain_no_settings : r' ≡ end.Broken → numbered m (drop at file) ≡ none
+      module _ (k s : ℕ) (f : number (drop q file) ≡ pure k (drop s file)) where
+        pub plain_no_settings : many k setting (drop s file) ≡ None → numbered m (drop at file) ≡ None
         unfolding numbered
-        plain_no_settings y = let z : many k setting (drop s file) ≡ none = as_told (many k setting) _ file s y v in rw (e, turned.reads, f, z)
+        plain_no_settings z = rw (e, turned.reads, f, z)
 
-        pub plain_turned : (next : ℕ) → r' ≡ end.At next → (held : Bool) → held ≡ (eqb n i && eqb k 0) → PlainIs (numbered m) rows_of (plain_as i) file at before o after o' (plain.At next held)
+        pub plain_turned : (i next : ℕ) → PassedIs (many k setting) file s (Some next) → (held : Bool) → held ≡ (eqb n i && eqb k 0)
+            → Reads (numbered m) (Holds rows_of (plain_as i) before o after o' held) file at next
         unfolding numbered
-        plain_turned next y held h =
-            let z = as_told (many k setting) (λ xs. Unit {0}) file s y v in
+        plain_turned i next z held h =
             let l : length z.value ≡ k = reads-count setting file s _ k next z in
             record {
               value = record { number = n; rows = turned.value; settings = z.value };
@@ -144,10 +133,6 @@ module _ (file : List ℕ) (at m i : ℕ) (before : List ℕ) (o : ℕ) where
             }
 
 -- .. and so many
-
-pub as_plain : {A : Type 0} (r : Reader A) (numbers : A → List ℕ) (test : A → Bool) (file : List ℕ) (at : ℕ) (before : List ℕ) (o : ℕ) (after : List ℕ) (o' : ℕ) (x y : Plain) → x ≡ y
-    → PlainIs r numbers test file at before o after o' x → PlainIs r numbers test file at before o after o' y
-as_plain r numbers test file at before o after o' x y e w = subst (PlainIs r numbers test file at before o after o') e w
 
 module _ (file : List ℕ) (at m : ℕ) (before : List ℕ) (o : ℕ) where
   abbrev pub Turned : ℕ → List ℕ → ℕ → Bool → ℕ → Type 0
@@ -159,21 +144,21 @@ module _ (file : List ℕ) (at m : ℕ) (before : List ℕ) (o : ℕ) where
       reads_none (numbered m) file at (Holds rows_all (plain_from 0) before o before o true)
       (record { adds = adds_as before before o o [] _ (sym written_none) (adds_none before o); told = refl })
 
-  module _ (i p : ℕ) (mid : List ℕ) (q : ℕ) (held : Bool) (w : Turned i mid q held p) (r : Plain) (after : List ℕ) (o' : ℕ) (c : PlainIs (numbered m) rows_of (plain_as i) file p mid q after o' r) where
-    pub plain_stop : (n : ℕ) → i < n → r ≡ plain.Broken → many n (numbered m) (drop at file) ≡ none
-    plain_stop n h e =
-        reads_stop (numbered m) file at (Holds rows_all (plain_from 0) before o mid q held) i p w n h (as_plain (numbered m) rows_of (plain_as i) file p mid q after o' r plain.Broken e c)
+  module _ (i p : ℕ) (mid : List ℕ) (q : ℕ) (held : Bool) (w : Turned i mid q held p) where
+    pub plain_stop : (n : ℕ) → i < n → numbered m (drop p file) ≡ None → many n (numbered m) (drop at file) ≡ None
+    plain_stop n h e = reads_stop (numbered m) file at (Holds rows_all (plain_from 0) before o mid q held) i p w n h e
 
-    pub plain_next : (next : ℕ) (this : Bool) → r ≡ plain.At next this → (b : Bool) → b ≡ (held && this) → Turned (i + 1) after o' b next
-    plain_next next this e b h =
-        let d = as_plain (numbered m) rows_of (plain_as i) file p mid q after o' r (plain.At next this) e c in
+    pub plain_next : (r : Plain) (after : List ℕ) (o' : ℕ) → PlainIs (numbered m) rows_of (plain_as i) file p mid q after o' (Some r)
+        → Turned (i + 1) after o' (held && r.held) r.next
+    plain_next r after o' d =
         let l = reads-count (numbered m) file at (Holds rows_all (plain_from 0) before o mid q held) i p w in
-        reads_more (numbered m) file at (Holds rows_all (plain_from 0) before o mid q held) i p w d.value next d.reads (Holds rows_all (plain_from 0) before o after o' b)
+        reads_more (numbered m) file at (Holds rows_all (plain_from 0) before o mid q held) i p w d.value r.next d.reads
+        (Holds rows_all (plain_from 0) before o after o' (held && r.held))
         (record {
           adds =
               adds_as before after o o' _ _ (ap written_all (sym (rows_more w.value d.value)))
               (adds-all before mid after o q o' (rows_all w.value) (rows_of d.value) w.stored.adds d.stored.adds);
           told =
-              h ∙ ap₂ (λ (x y : Bool). x && y) w.stored.told (d.stored.told ∙ ap (λ (k : ℕ). plain_as k d.value) (sym l))
+              ap₂ (λ (x y : Bool). x && y) w.stored.told (d.stored.told ∙ ap (λ (k : ℕ). plain_as k d.value) (sym l))
               ∙ sym (plain_more 0 w.value d.value ∙ ap (λ (k : ℕ). plain_from 0 w.value && plain_as k d.value) (omega arith));
         })

@@ -1,13 +1,11 @@
 -- What plans turn into, in model's words.
-use Rattle.std.specs.Prelude.{ℕ, ◌≡◌, Bool, ◌&&◌, eqb, length, drop}
+use Rattle.std.specs.Prelude.{ℕ, ◌≡◌, Bool, ◌&&◌, eqb, length, drop, Option, Some, None}
 use mathlib.Core.List.{List, [], map, flatten}
-use Rattle.std.proofs.Math.Option.{none}
 use Rattle.model.specs.PoolFile.{Reader, written_all, Rows, row_numbers, Numbered}
 use Rattle.model.specs.Convert.{plan_numbers, numbered_from}
 use Rattle.pool_plans.specs.Blocks.{Reads}
 use Rattle.pool_form.specs.Form.{Adds}
 use Rattle.convert_plans.specs.declared.Plain.{Plain}
-use Rattle.convert_plans.specs.declared.Plain.TheVariants as plain
 
 -- ---- forwards: the numbers of plan i, and of plans numbered from 0
 
@@ -35,6 +33,6 @@ pub record Holds {A : Type 0} (numbers : A → List ℕ) (test : A → Bool) (be
   pub told : held ≡ test a
 
 module _ {A : Type 0} where
-  abbrev pub PlainIs : Reader A → (A → List ℕ) → (A → Bool) → List ℕ → ℕ → List ℕ → ℕ → List ℕ → ℕ → Plain → Type 0
-  PlainIs r numbers test file at before o after o' (plain.At next held) = Reads r (Holds numbers test before o after o' held) file at next
-  PlainIs r numbers test file at before o after o' plain.Broken = r (drop at file) ≡ none
+  abbrev pub PlainIs : Reader A → (A → List ℕ) → (A → Bool) → List ℕ → ℕ → List ℕ → ℕ → List ℕ → ℕ → Option Plain → Type 0
+  PlainIs r numbers test file at before o after o' (Some p) = Reads r (Holds numbers test before o after o' p.held) file at p.next
+  PlainIs r numbers test file at before o after o' None = r (drop at file) ≡ None

@@ -10,22 +10,26 @@ ghost use Rattle.convert_plans.specs.Turned.{numbered_as, numbered_all, plain_as
 
 use convert_rows::copy_rows;
 use pool_form::put_word;
-use pool_number::{Read, read_number};
-use pool_plans::End;
+use pool_number::read_number;
 use pool_settings::read_settings;
 
 // ---- forwards
 
-// A plan: its number, its rows, and no settings.
-fn number_plan(file: &[u8], at: usize, m: usize, number: u64, out: &mut [u8], to: &mut usize) -> End
+// A plan: its number, its rows, and no settings. The place after it, or None where bytes break the form or end early.
+fn number_plan(
+    file: &[u8],
+    at: usize,
+    m: usize,
+    number: u64,
+    out: &mut [u8],
+    to: &mut usize,
+) -> Option<usize>
     ensures { CopiedIs (rows m) (numbered_as number) file.now at out.old to.old out.new to.new result }
 {
     *to = put_word(number, out, *to);
-    let End::At(next) = copy_rows(file, at, m, out, to) else {
-        return End::Broken;
-    };
+    let next = copy_rows(file, at, m, out, to)?;
     *to = put_word(0, out, *to);
-    End::At(next)
+    Some(next)
 }
 
 // n plans of m values, numbered from 0.
@@ -36,65 +40,49 @@ pub fn number_plans(
     n: usize,
     out: &mut [u8],
     to: &mut usize,
-) -> End
+) -> Option<usize>
     ensures { CopiedIs (many n (rows m)) numbered_all file.now at out.old to.old out.new to.new result }
 {
     let mut p = at;
-    let mut number: u64 = 0;
-    let mut left = n;
-    while 0 < left {
-        let End::At(next) = number_plan(file, p, m, number, out, to) else {
-            return End::Broken;
-        };
-        p = next;
-        number += 1;
-        left -= 1;
+    for i in 0..n {
+        p = number_plan(file, p, m, i as u64, out, to)?;
     }
-    End::At(p)
+    Some(p)
 }
 
 // ---- backwards
 
-// The place after what was read, and whether the first edition can hold it; or bytes that break the form or end early.
+// The place after what was read, and whether the first edition can hold it.
 #[derive(Clone, Copy)]
-pub enum Plain {
-    At(usize, bool),
-    Broken,
+pub struct Plain {
+    pub next: usize,
+    pub held: bool,
 }
 
 // Plan i has its place as its number, and no settings.
 fn is_plain(number: u64, i: usize, settings: u64) -> bool
     ensures { result ≡ (eqb number i && eqb settings 0) }
 {
-    if number == i as u64 {
-        return settings == 0;
-    }
-    false
+    number == i as u64 && settings == 0
 }
 
 // Plan i: its rows alone.
-fn plain_plan(file: &[u8], at: usize, m: usize, i: usize, out: &mut [u8], to: &mut usize) -> Plain
+fn plain_plan(
+    file: &[u8],
+    at: usize,
+    m: usize,
+    i: usize,
+    out: &mut [u8],
+    to: &mut usize,
+) -> Option<Plain>
     ensures { PlainIs (numbered m) rows_of (plain_as i) file.now at out.old to.old out.new to.new result }
 {
-    let Read::Number(number, p) = read_number(file, at) else {
-        return Plain::Broken;
-    };
-    let End::At(q) = copy_rows(file, p, m, out, to) else {
-        return Plain::Broken;
-    };
-    let Read::Number(settings, s) = read_number(file, q) else {
-        return Plain::Broken;
-    };
-    let End::At(next) = read_settings(file, s, settings as usize) else {
-        return Plain::Broken;
-    };
-    Plain::At(next, is_plain(number, i, settings))
-}
-
-fn both(a: bool, b: bool) -> bool
-    ensures { result ≡ (a && b) }
-{
-    if a { b } else { false }
+    let plan = read_number(file, at)?;
+    let p = copy_rows(file, plan.next, m, out, to)?;
+    let settings = read_number(file, p)?;
+    let next = read_settings(file, settings.next, settings.number as usize)?;
+    let held = is_plain(plan.number, i, settings.number);
+    Some(Plain { next, held })
 }
 
 // n plans of m values. The form is looked at to the end, also where the first edition cannot hold a plan.
@@ -105,19 +93,15 @@ pub fn plain_plans(
     n: usize,
     out: &mut [u8],
     to: &mut usize,
-) -> Plain
+) -> Option<Plain>
     ensures { PlainIs (many n (numbered m)) rows_all (plain_from 0) file.now at out.old to.old out.new to.new result }
 {
     let mut p = at;
-    let mut i: usize = 0;
     let mut held = true;
-    while i < n {
-        let Plain::At(next, this) = plain_plan(file, p, m, i, out, to) else {
-            return Plain::Broken;
-        };
-        held = both(held, this);
-        p = next;
-        i += 1;
+    for i in 0..n {
+        let plan = plain_plan(file, p, m, i, out, to)?;
+        held &= plan.held;
+        p = plan.next;
     }
-    Plain::At(p, held)
+    Some(Plain { next: p, held })
 }

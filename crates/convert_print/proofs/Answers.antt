@@ -2,20 +2,20 @@
 use Prim.Native.Nat.{ℕ, ◌≤◌, ◌<◌}
 use mathlib.Core.Path.{◌≡◌, ap, sym, subst, ◌∙◌}
 use mathlib.Core.List.{List}
-use mathlib.Core.Option.{Option, none, some, some-ne-none}
+use Rattle.list_laws.proofs.Options.{some-ne-none}
+use Rattle.std.specs.Prelude.{Option, None, Some, Result, Ok, Err}
 use native.Mathlib.Omega.{arith}
 use lib.ListN.{length, take, length-append}
-use Rattle.model.specs.declared.Chosen.{Chosen}
-use Rattle.model.specs.declared.Chosen.TheVariants as chosen
+use Rattle.model.specs.Refusal.{number_of}
+use Rattle.model.specs.declared.Refusal.{Refusal}
 use Rattle.model.specs.Lists.{over}
 use Rattle.model.specs.PoolFile.{refused_text, max_file}
-use Rattle.model.specs.Calls.{ChooseExit, choose_by, printed_by, chosen_refused_by, text_handed_out}
+use Rattle.model.specs.Calls.{ChooseExit, choose_by, printed_by, refused_by, handed_out}
 use Rattle.model.specs.Convert.{converted_text, convert_refusal, convert_of, convert_printed, Twins, Converts}
-use Rattle.pool_laws.proofs.Lengths.{refused-short}
 use Rattle.convert_print.specs.Printing.{Prints}
 
 prints : (bytes out after : List ℕ) (r : ℕ) → r ≡ length (convert_printed bytes) → after ≡ over (convert_printed bytes) out
-    → (convert_refusal bytes ≡ none → Twins bytes (take r after)) → Prints bytes out after r
+    → (convert_refusal bytes ≡ None → Twins bytes (take r after)) → Prints bytes out after r
 prints bytes out after r c a h =
     record {
       count = c;
@@ -25,32 +25,32 @@ prints bytes out after r c a h =
     }
 
 module _ (bytes out : List ℕ) (x : ChooseExit) (p : Converts bytes out x) where
-  by : (o : Option ℕ) → convert_refusal bytes ≡ o → x ≡ choose_by o (converted_text bytes) out
+  by : (o : Option Refusal) → convert_refusal bytes ≡ o → x ≡ choose_by o (converted_text bytes) out
   unfolding convert_of
-  by o h = p.whole ∙ ap (λ (t : Option ℕ). choose_by t (converted_text bytes) out) h
+  by o h = p.whole ∙ ap (λ (t : Option Refusal). choose_by t (converted_text bytes) out) h
 
-  print_by : (o : Option ℕ) → convert_refusal bytes ≡ o → convert_printed bytes ≡ printed_by o (converted_text bytes)
+  print_by : (o : Option Refusal) → convert_refusal bytes ≡ o → convert_printed bytes ≡ printed_by o (converted_text bytes)
   unfolding convert_printed
-  print_by o h = ap (λ (t : Option ℕ). printed_by t (converted_text bytes)) h
+  print_by o h = ap (λ (t : Option Refusal). printed_by t (converted_text bytes)) h
 
-  pub written : (n : ℕ) → x.answer ≡ chosen.Written n → Prints bytes out x.out n
+  pub written : (n : ℕ) → x.answer ≡ Ok n → Prints bytes out x.out n
   written n h =
-      let o = sym p.refused ∙ ap chosen_refused_by h in
-      let q : chosen.Written n ≡ chosen.Written (length (converted_text bytes)) = sym h ∙ ap (λ (t : ChooseExit). t.answer) (by none o) in
+      let o = sym p.refused ∙ ap refused_by h in
+      let q : Ok n ≡ Ok (length (converted_text bytes)) = sym h ∙ ap (λ (t : ChooseExit). t.answer) (by None o) in
       let l : n ≡ length (converted_text bytes) = cc in
-      prints bytes out x.out n (l ∙ ap length (sym (print_by none o)))
-      (ap (λ (t : ChooseExit). t.out) (by none o) ∙ ap (λ (t : List ℕ). over t out) (sym (print_by none o)))
-      (λ e. subst (λ (y : Chosen). Twins bytes (text_handed_out y x.out)) h (p.twins e))
+      prints bytes out x.out n (l ∙ ap length (sym (print_by None o)))
+      (ap (λ (t : ChooseExit). t.out) (by None o) ∙ ap (λ (t : List ℕ). over t out) (sym (print_by None o)))
+      (λ e. subst (λ (y : Result ℕ Refusal). Twins bytes (handed_out y x.out)) h (p.twins e))
 
-  pub refused : (n : ℕ) → x.answer ≡ chosen.Refused n → (after : List ℕ) (r : ℕ) → r ≡ length (refused_text n) → after ≡ over (refused_text n) x.out
+  refused-so : (n : Refusal) → x.answer ≡ Err n → (after : List ℕ) (r : ℕ) → r ≡ length (refused_text (number_of n)) → after ≡ over (refused_text (number_of n)) x.out
       → Prints bytes out after r
-  refused n h after r c a =
-      let o = sym p.refused ∙ ap chosen_refused_by h in
-      let t = print_by (some n) o in
+  refused-so n h after r c a =
+      let o = sym p.refused ∙ ap refused_by h in
+      let t = print_by (Some n) o in
       prints bytes out after r (c ∙ ap length (sym t))
-      (a ∙ ap (over (refused_text n)) (ap (λ (t : ChooseExit). t.out) (by (some n) o)) ∙ ap (λ (s : List ℕ). over s out) (sym t))
+      (a ∙ ap (over (refused_text (number_of n))) (ap (λ (t : ChooseExit). t.out) (by (Some n) o)) ∙ ap (λ (s : List ℕ). over s out) (sym t))
       (λ e. absurd (some-ne-none n (sym o ∙ e)))
 
--- a refusal's text has room
-pub refusal-room : (n room : ℕ) → room ≡ max_file → n < 256 → length (refused_text n) ≤ room
-refusal-room n room full h = let s = refused-short n (omega arith) in omega arith
+  pub refused : (n : Refusal) → x.answer ≡ Err n → (k : ℕ) → k ≡ number_of n → (after : List ℕ) (r : ℕ) → r ≡ length (refused_text k) → after ≡ over (refused_text k) x.out
+      → Prints bytes out after r
+  refused n h k e after r c a = refused-so n h after r (c ∙ ap (λ (j : ℕ). length (refused_text j)) e) (a ∙ ap (λ (j : ℕ). over (refused_text j) x.out) e)

@@ -1,6 +1,5 @@
 -- What the program puts into its array.
-use Rattle.std.specs.Prelude.{ℕ, ◌≤◌, ◌≡◌, List, length, take}
-use Rattle.std.proofs.Math.Option.{none}
+use Rattle.std.specs.Prelude.{ℕ, ◌≤◌, ◌≡◌, List, length, take, None}
 use Rattle.model.specs.Lists.{over}
 use Rattle.model.specs.Convert.{convert_refusal, convert_printed, Twins}
 
@@ -10,4 +9,4 @@ pub record Prints (bytes before after : List ℕ) (r : ℕ) : Type 0 where
   pub count : r ≡ length (convert_printed bytes)
   pub text : after ≡ over (convert_printed bytes) before
   pub within : r ≤ length after
-  pub twins : convert_refusal bytes ≡ none → Twins bytes (take r after)
+  pub twins : convert_refusal bytes ≡ None → Twins bytes (take r after)

@@ -2,14 +2,11 @@
 use Prim.Native.Nat.{ℕ, ◌+◌, ◌<◌}
 use mathlib.Core.Path.{◌≡◌, ap, sym, subst, ◌∙◌}
 use mathlib.Core.List.{List, [], ◌∷◌, ◌++◌, append-nil}
-use mathlib.Core.Option.{none}
+use Rattle.std.specs.Prelude.{None, Option, Some}
 use lib.ListN.{length, drop}
 use Rattle.model.specs.PoolFile.{number, written, written_all, many, rows, row_numbers}
 use Rattle.pool_number.specs.declared.Read.{Read}
-use Rattle.pool_number.specs.declared.Read.TheVariants as read
-use Rattle.pool_plans.specs.declared.End.{End}
-use Rattle.pool_plans.specs.declared.End.TheVariants as end
-use Rattle.pool_plans.proofs.Storing.{as_told, reads_none, reads_more, reads_stop, reads-count}
+use Rattle.pool_plans.proofs.Storing.{reads_none, reads_more, reads_stop, reads-count}
 use Rattle.pool_form.specs.Form.{Adds}
 use Rattle.pool_form.proofs.Pieces.{adds_none, adds_then, adds_as}
 use Rattle.form_laws.proofs.Lists.{written_none, written-more, written-append}
@@ -19,11 +16,6 @@ use Rattle.convert_rows.specs.Copied.{NumberCopied, Copied, CopiedIs}
 
 pub written_one : (n : ℕ) → written_all (n ∷ []) ≡ written n
 written_one n = written-more n [] ∙ ap (λ (l : List ℕ). written n ++ l) written_none ∙ append-nil (written n)
-
-module _ (file : List ℕ) (at : ℕ) (before : List ℕ) (o : ℕ) (after : List ℕ) (o' : ℕ) where
-  -- an answer by the case that was told
-  pub as_copied : (r x : Read) → r ≡ x → NumberCopied file at before o after o' r → NumberCopied file at before o after o' x
-  as_copied r x e w = subst (NumberCopied file at before o after o') e w
 
 -- ---- so many
 
@@ -39,43 +31,36 @@ module _ (file : List ℕ) (at : ℕ) (before : List ℕ) (o : ℕ) where
   numbers_none =
       reads_none number file at (λ l. Adds (written_all l) before o before o) (adds_as before before o o [] _ (sym written_none) (adds_none before o))
 
-  module _ (i p : ℕ) (mid : List ℕ) (q : ℕ) (w : Copied (many i number) (λ l. l) file at before o mid q p) (r : Read) (after : List ℕ) (o' : ℕ) (c : NumberCopied file p mid q after o' r) where
-    pub numbers_more : (n next : ℕ) → r ≡ read.Number n next → Copied (many (i + 1) number) (λ l. l) file at before o after o' next
-    numbers_more n next e =
-        let x = as_copied file p mid q after o' r (read.Number n next) e c in
-        reads_more number file at (λ l. Adds (written_all l) before o mid q) i p w n next x.0 (λ l. Adds (written_all l) before o after o')
-        (adds-all before mid after o q o' w.value (n ∷ []) w.stored (adds_one mid after q o' n x.1))
+  module _ (i p : ℕ) (mid : List ℕ) (q : ℕ) (w : Copied (many i number) (λ l. l) file at before o mid q p) where
+    pub numbers_more : (r : Read) (after : List ℕ) (o' : ℕ) → NumberCopied file p mid q after o' (Some r)
+        → Copied (many (i + 1) number) (λ l. l) file at before o after o' r.next
+    numbers_more r after o' x =
+        reads_more number file at (λ l. Adds (written_all l) before o mid q) i p w r.number r.next x.0 (λ l. Adds (written_all l) before o after o')
+        (adds-all before mid after o q o' w.value (r.number ∷ []) w.stored (adds_one mid after q o' r.number x.1))
 
-    pub numbers_stop : (n : ℕ) → i < n → r ≡ read.Broken → many n number (drop at file) ≡ none
-    numbers_stop n h e =
-        reads_stop number file at (λ l. Adds (written_all l) before o mid q) i p w n h (as_copied file p mid q after o' r read.Broken e c)
+    pub numbers_stop : (n : ℕ) → i < n → number (drop p file) ≡ None → many n number (drop at file) ≡ None
+    numbers_stop n h e = reads_stop number file at (λ l. Adds (written_all l) before o mid q) i p w n h e
 
 -- ---- rows
 
-module _ (file : List ℕ) (at m : ℕ) (before : List ℕ) (o : ℕ) (o₁ : List ℕ) (q₁ : ℕ) (r : End) (w : CopiedIs (many m number) (λ l. l) file at before o o₁ q₁ r) where
-  pub rows_none : r ≡ end.Broken → rows m (drop at file) ≡ none
+module _ (file : List ℕ) (at m : ℕ) where
+  pub rows_none : many m number (drop at file) ≡ None → rows m (drop at file) ≡ None
   unfolding rows
-  rows_none e = let n : many m number (drop at file) ≡ none = as_told (many m number) _ file at e w in rw n
+  rows_none n = rw n
 
-  module _ (p : ℕ) (e : r ≡ end.At p) (o₂ : List ℕ) (q₂ : ℕ) (r' : Read) (c : NumberCopied file p o₁ q₁ o₂ q₂ r') where
-    values : Copied (many m number) (λ l. l) file at before o o₁ q₁ p
-    values = as_told (many m number) _ file at e w
-
-    pub rows_no_count : r' ≡ read.Broken → rows m (drop at file) ≡ none
+  module _ (before : List ℕ) (o : ℕ) (o₁ : List ℕ) (q₁ p : ℕ) (values : Copied (many m number) (λ l. l) file at before o o₁ q₁ p) where
+    pub rows_no_count : number (drop p file) ≡ None → rows m (drop at file) ≡ None
     unfolding rows
-    rows_no_count e' = let n : number (drop p file) ≡ none = as_copied file p o₁ q₁ o₂ q₂ r' read.Broken e' c in rw (values.reads, n)
+    rows_no_count n = rw (values.reads, n)
 
-    module _ (k q : ℕ) (e' : r' ≡ read.Number k q) (o₃ : List ℕ) (q₃ : ℕ) where
-      count : NumberCopied file p o₁ q₁ o₂ q₂ (read.Number k q)
-      count = as_copied file p o₁ q₁ o₂ q₂ r' (read.Number k q) e' c
-
-      pub rows_copied : (r'' : End) → CopiedIs (many k number) (λ l. l) file q o₂ q₂ o₃ q₃ r'' → CopiedIs (rows m) row_numbers file at before o o₃ q₃ r''
+    module _ (o₂ : List ℕ) (q₂ : ℕ) (k : Read) (count : NumberCopied file p o₁ q₁ o₂ q₂ (Some k)) (o₃ : List ℕ) (q₃ : ℕ) where
+      pub rows_copied : (r : Option ℕ) → CopiedIs (many k.number number) (λ l. l) file k.next o₂ q₂ o₃ q₃ r → CopiedIs (rows m) row_numbers file at before o o₃ q₃ r
       unfolding rows
-      rows_copied end.Broken d = rw (values.reads, count.0, d)
-      rows_copied (end.At next) d =
-          let n : length d.value ≡ k = reads-count number file q _ k next d in
+      rows_copied None d = rw (values.reads, count.0, d)
+      rows_copied (Some next) d =
+          let n : length d.value ≡ k.number = reads-count number file k.next _ k.number next d in
           let a : Adds (written_all (length d.value ∷ [])) o₁ q₁ o₂ q₂ =
-          subst (λ (j : ℕ). Adds (written_all (j ∷ [])) o₁ q₁ o₂ q₂) (sym n) (adds_one o₁ o₂ q₁ q₂ k count.1) in
+          subst (λ (j : ℕ). Adds (written_all (j ∷ [])) o₁ q₁ o₂ q₂) (sym n) (adds_one o₁ o₂ q₁ q₂ k.number count.1) in
           record {
             value = record { values = values.value; constraints = d.value };
             reads = rw (values.reads, count.0, d.reads);

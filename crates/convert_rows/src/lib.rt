@@ -8,44 +8,39 @@ ghost use Rattle.convert_rows.specs.Copied.{NumberCopied, CopiedIs};
 
 use pool_form::put_word;
 use pool_number::{Read, read_number};
-use pool_plans::End;
 
 // Copies a number, and answers it.
-pub fn copy_number(file: &[u8], at: usize, out: &mut [u8], to: &mut usize) -> Read
+pub fn copy_number(file: &[u8], at: usize, out: &mut [u8], to: &mut usize) -> Option<Read>
     ensures { NumberCopied file.now at out.old to.old out.new to.new result }
 {
-    let Read::Number(n, next) = read_number(file, at) else {
-        return Read::Broken;
-    };
-    *to = put_word(n, out, *to);
-    Read::Number(n, next)
+    let read = read_number(file, at)?;
+    *to = put_word(read.number, out, *to);
+    Some(read)
 }
 
-// Copies n numbers.
-pub fn copy_numbers(file: &[u8], at: usize, n: usize, out: &mut [u8], to: &mut usize) -> End
+// Copies n numbers. The place after them, or None where bytes break the form or end early.
+pub fn copy_numbers(
+    file: &[u8],
+    at: usize,
+    n: usize,
+    out: &mut [u8],
+    to: &mut usize,
+) -> Option<usize>
     ensures { CopiedIs (many n number) (λ l. l) file.now at out.old to.old out.new to.new result }
 {
     let mut p = at;
-    let mut i: usize = 0;
-    while i < n {
-        let Read::Number(_, next) = copy_number(file, p, out, to) else {
-            return End::Broken;
-        };
-        p = next;
-        i += 1;
+    for _ in 0..n {
+        let read = copy_number(file, p, out, to)?;
+        p = read.next;
     }
-    End::At(p)
+    Some(p)
 }
 
 // Copies the rows of a plan of m values.
-pub fn copy_rows(file: &[u8], at: usize, m: usize, out: &mut [u8], to: &mut usize) -> End
+pub fn copy_rows(file: &[u8], at: usize, m: usize, out: &mut [u8], to: &mut usize) -> Option<usize>
     ensures { CopiedIs (rows m) row_numbers file.now at out.old to.old out.new to.new result }
 {
-    let End::At(p) = copy_numbers(file, at, m, out, to) else {
-        return End::Broken;
-    };
-    let Read::Number(c, q) = copy_number(file, p, out, to) else {
-        return End::Broken;
-    };
-    copy_numbers(file, q, c as usize, out, to)
+    let p = copy_numbers(file, at, m, out, to)?;
+    let count = copy_number(file, p, out, to)?;
+    copy_numbers(file, count.next, count.number as usize, out, to)
 }

@@ -23,9 +23,7 @@ fn put_row(table: &mut [f64], row: [f64; MAX_OBJECTIVES], n: usize)
     requires { (n ≤ 8) × (n ≤ length table.old) }
     ensures { table.new ≡ over (take n row) table.old }
 {
-    for j in 0..n {
-        table[j] = row[j];
-    }
+    table[..n].copy_from_slice(&row[..n]);
 }
 
 // Every row that begins with the first depth entries of current, has left coordinates after the next one, and shares out remaining of the divisions;

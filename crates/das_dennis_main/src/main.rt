@@ -4,33 +4,20 @@
 
 ghost use Rattle.std.specs.Prelude.{◌≤◌};
 
-use model::{MAX_TABLE_VALUES, OptionUsize};
-
-fn text(rt: &impl Print, t: &[u8]) {
-    let _ = rt.write_all(t);
-}
-
-// A label and a number.
-fn number(rt: &impl Print, label: &[u8], n: usize) {
-    let _ = rt.write_all(label);
-    let _ = rt.print(n as u64);
-}
+use model::MAX_TABLE_VALUES;
 
 // The point count, and how many lines the table has.
 fn counted(rt: &impl Print, m: usize, h: usize)
     requires { (1 ≤ m) × (m ≤ 8) }
 {
-    number(rt, b"m ", m);
-    number(rt, b" H ", h);
     if divisions::bad_divisions(m, h) {
-        text(rt, b": refused 4\n");
+        let _ = println!(rt; "m {m} H {h}: refused 4");
         return;
     }
     let mut table = [0.0; MAX_TABLE_VALUES];
     let lines = das_dennis::das_dennis(m, h, &mut table);
-    number(rt, b": ", divisions::point_count(m, h));
-    number(rt, b", lines ", lines);
-    text(rt, b"\n");
+    let count = divisions::point_count(m, h);
+    let _ = println!(rt; "m {m} H {h}: {count}, lines {lines}");
 }
 
 // A coordinate of a table with two divisions; `?` for anything else.
@@ -53,25 +40,20 @@ fn marks(rt: &impl Print, table: [f64; 20]) {
     for i in 0..20 {
         line[i] = mark(table[i]);
     }
-    text(rt, &line);
+    let _ = rt.write_all(&line);
 }
 
 // The divisions and the population size of a session.
-fn session(rt: &impl Print, m: usize, size: OptionUsize, divisions: OptionUsize)
+fn session(rt: &impl Print, m: usize, size: Option<usize>, divisions: Option<usize>)
     requires { (1 ≤ m) × (m ≤ 8) }
 {
-    number(rt, b"session m ", m);
     if divisions::bad_session_divisions(m, size, divisions) {
-        text(rt, b": refused 4\n");
+        let _ = println!(rt; "session m {m}: refused 4");
         return;
     }
-    number(rt, b": H ", divisions::divisions_of(m, size, divisions));
-    number(
-        rt,
-        b", size ",
-        divisions::population_size(m, size, divisions),
-    );
-    text(rt, b"\n");
+    let h = divisions::divisions_of(m, size, divisions);
+    let plans = divisions::population_size(m, size, divisions);
+    let _ = println!(rt; "session m {m}: H {h}, size {plans}");
 }
 
 // Deb and Jain 2014: 91, 210, and 120 and 36 for the two layers of eight objectives. Then the bounds of refusal 4.
@@ -104,24 +86,24 @@ fn tables(rt: &impl Print) {
 
 // P3 and P4.
 fn automatic(rt: &impl Print) {
-    number(rt, b"automatic ", divisions::auto_divisions(2, 200));
-    number(rt, b" ", divisions::auto_divisions(2, 201));
-    number(rt, b" ", divisions::auto_divisions(3, 100));
-    text(rt, b"\n");
+    let a = divisions::auto_divisions(2, 200);
+    let b = divisions::auto_divisions(2, 201);
+    let c = divisions::auto_divisions(3, 100);
+    let _ = println!(rt; "automatic {a} {b} {c}");
 }
 
 fn main(rt: HostRuntime) {
     counts(&rt);
     tables(&rt);
     automatic(&rt);
-    session(&rt, 3, OptionUsize::None, OptionUsize::None);
-    session(&rt, 3, OptionUsize::Some(0), OptionUsize::None);
-    session(&rt, 3, OptionUsize::Some(990), OptionUsize::None);
-    session(&rt, 3, OptionUsize::Some(991), OptionUsize::None);
-    session(&rt, 8, OptionUsize::Some(792), OptionUsize::None);
-    session(&rt, 8, OptionUsize::Some(793), OptionUsize::None);
-    session(&rt, 1, OptionUsize::None, OptionUsize::Some(7));
-    session(&rt, 5, OptionUsize::Some(50), OptionUsize::Some(6));
-    session(&rt, 5, OptionUsize::None, OptionUsize::Some(6));
-    session(&rt, 5, OptionUsize::None, OptionUsize::Some(0));
+    session(&rt, 3, None, None);
+    session(&rt, 3, Some(0), None);
+    session(&rt, 3, Some(990), None);
+    session(&rt, 3, Some(991), None);
+    session(&rt, 8, Some(792), None);
+    session(&rt, 8, Some(793), None);
+    session(&rt, 1, None, Some(7));
+    session(&rt, 5, Some(50), Some(6));
+    session(&rt, 5, None, Some(6));
+    session(&rt, 5, None, Some(0));
 }

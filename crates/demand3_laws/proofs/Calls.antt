@@ -4,10 +4,11 @@ use Prim.Native.Nat.{ℕ, ◌+◌, ◌*◌, ◌≤◌}
 use mathlib.Core.Path.{◌≡◌, refl, ap, sym, subst}
 use mathlib.Core.Bool.{true, false}
 use mathlib.Core.List.{List}
-use mathlib.Core.Option.{Option, none, some}
+use Rattle.std.specs.Prelude.{Option, None, Some}
 use native.Mathlib.Omega.{arith}
 use lib.ListN.{length, get_or, take, length-take}
 use borrow.Author.Tests.{le-ltb}
+use Rattle.model.specs.declared.Refusal.{Refusal}
 use Rattle.model.specs.declared.Distribution.{Distribution}
 use Rattle.model.specs.Lists.{over}
 use Rattle.model.specs.Plan.{plan_at, plan_words}
@@ -45,15 +46,15 @@ word-accepted r words directions divisions pool =
 
 -- ---- the answers tell the refusal, or that there is none
 
-pub select_refused : (r : Request) (at : Lent) (o : Option ℕ) → refused_by (select_by o r at).answer.outcome ≡ o
+pub select_refused : (r : Request) (at : Lent) (o : Option Refusal) → refused_by (select_by o r at).answer.outcome ≡ o
 unfolding select_accepted
-select_refused r at none = refl
-select_refused r at (some n) = refl
+select_refused r at None = refl
+select_refused r at (Some n) = refl
 
-step-refused : (o : Operators) (r : Request) (at : Lent) (offspring : List ℕ) (n : Option ℕ) → refused_by (step_by n o r at offspring).answer.outcome ≡ n
+step-refused : (o : Operators) (r : Request) (at : Lent) (offspring : List ℕ) (n : Option Refusal) → refused_by (step_by n o r at offspring).answer.outcome ≡ n
 unfolding step_accepted
-step-refused o r at offspring none = refl
-step-refused o r at offspring (some n) = refl
+step-refused o r at offspring None = refl
+step-refused o r at offspring (Some n) = refl
 
 -- ---- the first entries of the slices that a selection lays its two lists over
 
@@ -77,7 +78,7 @@ generation_selects o r h = ap (λ (g : Generation). g.selection) (generation-man
 -- ---- `nsga3_select`
 
 module _ (r : Request) (words : (p : ℕ) → InWords (r.plans p)) where
-  pub select_accepted_lem : (room : Room) → select_refusal r room ≡ none → Accepted r
+  pub select_accepted_lem : (room : Room) → select_refusal r room ≡ None → Accepted r
   select_accepted_lem room e = let p = select_passed r room e in word-accepted r words p.directions p.divisions p.pool
 
   pub selects : (entry : Lent) → Selects r entry (select_of r entry)
@@ -89,23 +90,23 @@ module _ (r : Request) (words : (p : ℕ) → InWords (r.plans p)) where
     ruled = λ e. rules e (ruled r (select_accepted_lem (room_of entry) e));
   }
     where
-      go : select_refusal r (room_of entry) ≡ none → Demand3 r (selected r).kept
+      go : select_refusal r (room_of entry) ≡ None → Demand3 r (selected r).kept
           → Demand3 r (handed_out (select_of r entry).answer.outcome (select_of r entry).slices.kept)
       go e d = rw e (subst (Demand3 r) (sym (over-take (selected r).kept entry.kept (length (selected r).kept) refl)) d)
 
-      rules : select_refusal r (room_of entry) ≡ none → Ruled r (selected r).kept (selected r).rules
+      rules : select_refusal r (room_of entry) ≡ None → Ruled r (selected r).kept (selected r).rules
           → Ruled r (handed_out (select_of r entry).answer.outcome (select_of r entry).slices.kept)
           (handed_out (select_of r entry).answer.outcome (select_of r entry).slices.rules)
       rules e d = rw e (ruled-over r (selected r).kept (selected r).rules entry.kept entry.rules d)
 
   -- ---- `nsga3_generate_offspring`
 
-  pub step-accepted : (o : Operators) (room : Room) (offspring : ℕ) → step_refusal o r room offspring ≡ none → Accepted r
+  pub step-accepted : (o : Operators) (room : Room) (offspring : ℕ) → step_refusal o r room offspring ≡ None → Accepted r
   step-accepted o room offspring e = let p = passed o r room offspring e in word-accepted r words p.directions p.divisions p.pool
 
   -- what a step owes beside: its offspring lie within their bounds
   pub steps : (o : Operators) (entry : Lent) (offspring : List ℕ)
-      → (step_refusal o r (room_of entry) (length offspring) ≡ none → WordsWithin o.dims o.dim_count r.size (step_of o r entry offspring).offspring)
+      → (step_refusal o r (room_of entry) (length offspring) ≡ None → WordsWithin o.dims o.dim_count r.size (step_of o r entry offspring).offspring)
       → Steps o r entry offspring (step_of o r entry offspring)
   unfolding step_of step_accepted
   steps o entry offspring bounds =
@@ -117,12 +118,12 @@ module _ (r : Request) (words : (p : ℕ) → InWords (r.plans p)) where
         bounds = bounds;
       }
     where
-      rules : step_refusal o r (room_of entry) (length offspring) ≡ none → Ruled r (generation o r).selection.kept (generation o r).selection.rules
+      rules : step_refusal o r (room_of entry) (length offspring) ≡ None → Ruled r (generation o r).selection.kept (generation o r).selection.rules
           → Ruled r (handed_out (step_of o r entry offspring).answer.outcome (step_of o r entry offspring).slices.kept)
           (handed_out (step_of o r entry offspring).answer.outcome (step_of o r entry offspring).slices.rules)
       rules e d = rw e (ruled-over r (generation o r).selection.kept (generation o r).selection.rules entry.kept entry.rules d)
 
-      go : step_refusal o r (room_of entry) (length offspring) ≡ none → Demand3 r (generation o r).selection.kept
+      go : step_refusal o r (room_of entry) (length offspring) ≡ None → Demand3 r (generation o r).selection.kept
           → Demand3 r (handed_out (step_of o r entry offspring).answer.outcome (step_of o r entry offspring).slices.kept)
       go e d = rw e (subst (Demand3 r) (sym (over-take (generation o r).selection.kept entry.kept (length (generation o r).selection.kept) refl)) d)
 
@@ -140,7 +141,7 @@ module _ (st : State) (history : List ℕ) (ok : SessionOk st) where
   request-accepted pool = word-accepted (request_of st history) (plan_at-row (bred_from st history)) ok.config.directions request-divisions pool
 
 -- the list of the selection that it makes, where a call breeds, from at least as many plans as the size
-pub sample_demand3 : (st : State) (d : Distribution) (plan : ℕ) (history : List ℕ) → SessionOk st → sample_refusal st d plan history ≡ none → breeds st history ≡ true
+pub sample_demand3 : (st : State) (d : Distribution) (plan : ℕ) (history : List ℕ) → SessionOk st → sample_refusal st d plan history ≡ None → breeds st history ≡ true
     → (request_of st history).size ≤ (request_of st history).count → Demand3 (request_of st history) (selected (request_of st history)).kept
 sample_demand3 st d plan history ok e bred enough =
     let pool : bad_pool (request_of st history) ≡ false = rw bred at (sample_passed st d plan history e).pool in

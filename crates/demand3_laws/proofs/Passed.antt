@@ -3,7 +3,7 @@ use Prim.Native.Nat.{ℕ, ◌≤◌, ◌<◌}
 use mathlib.Core.Path.{◌≡◌}
 use mathlib.Core.Bool.{true, false, not, ◌&&◌, ◌||◌}
 use mathlib.Core.List.{List}
-use mathlib.Core.Option.{none}
+use Rattle.std.specs.Prelude.{None}
 use native.Mathlib.Omega.{arith}
 use lib.Dec.{eqb, leb, ltb}
 use lib.ListN.{length}
@@ -68,7 +68,7 @@ pub record SelectPassed (r : Request) (room : Room) : Type 0 where
   pub pool : bad_pool r ≡ false
   pub slices : no_room r room ≡ false
 
-pub select_passed : (r : Request) (room : Room) → select_refusal r room ≡ none → SelectPassed r room
+pub select_passed : (r : Request) (room : Room) → select_refusal r room ≡ None → SelectPassed r room
 unfolding select_refusal
 select_passed r room e = record {
   directions = applies-at _ 0 e;
@@ -93,7 +93,7 @@ pub record Passed (o : Operators) (r : Request) (room : Room) (offspring : ℕ) 
   pub parents : bad_parents o r ≡ false
   pub slices : no_step_room o r room offspring ≡ false
 
-pub passed : (o : Operators) (r : Request) (room : Room) (offspring : ℕ) → step_refusal o r room offspring ≡ none → Passed o r room offspring
+pub passed : (o : Operators) (r : Request) (room : Room) (offspring : ℕ) → step_refusal o r room offspring ≡ None → Passed o r room offspring
 unfolding step_refusal
 passed o r room offspring e = record {
   directions = applies-at _ 0 e;
@@ -119,7 +119,7 @@ pub record SamplePassed (st : State) (d : Distribution) (plan : ℕ) (history : 
   pub slices : long_enough st ≡ true
   pub come : (leb max_come st.session.progress.n_plans && (is_new st plan && not (breeds st history))) ≡ false
 
-pub sample_passed : (st : State) (d : Distribution) (plan : ℕ) (history : List ℕ) → sample_refusal st d plan history ≡ none → SamplePassed st d plan history
+pub sample_passed : (st : State) (d : Distribution) (plan : ℕ) (history : List ℕ) → sample_refusal st d plan history ≡ None → SamplePassed st d plan history
 unfolding sample_refusal
 sample_passed st d plan history e = record {
   dimension = applies-at _ 0 e;

@@ -2,7 +2,7 @@
 use Prim.Native.Nat.{ℕ, ◌+◌, ◌*◌, ◌<◌}
 use mathlib.Core.Path.{◌≡◌, sym, subst}
 use mathlib.Core.List.{List}
-use mathlib.Core.Option.{none}
+use Rattle.std.specs.Prelude.{None}
 use lib.Dec.{T}
 use lib.Ieee.{nan, binary64, fits}
 use lib.ListN.{get_or}
@@ -30,7 +30,7 @@ module _ (r : Request) (words : List ℕ) (same : (p : ℕ) → r.plans p ≡ pl
       measured-words r (λ p j. get_or words (p * plan_words + j) 0) same (some-objectives r.marks a.directions).1 a.pool held
 
   -- ---- `nsga3_select`
-  module _ (room : Room) (e : select_refusal r room ≡ none) where
+  module _ (room : Room) (e : select_refusal r room ≡ None) where
     pub select_scaled : Scaled r
     select_scaled = scaled r (measured (select_accepted_lem r in_slice room e))
 
@@ -38,7 +38,7 @@ module _ (r : Request) (words : List ℕ) (same : (p : ℕ) → r.plans p ≡ pl
     select_by-paper = let a = select_accepted_lem r in_slice room e in by-paper r a (measured a)
 
   -- ---- `nsga3_generate_offspring`
-  module _ (o : Operators) (room : Room) (offspring : ℕ) (e : step_refusal o r room offspring ≡ none) where
+  module _ (o : Operators) (room : Room) (offspring : ℕ) (e : step_refusal o r room offspring ≡ None) where
     pub step_scaled : Scaled r
     step_scaled = scaled r (measured (step-accepted r in_slice o room offspring e))
 

@@ -18,10 +18,8 @@ fn dot_product(a: &[f64], i: usize, b: &[f64], k: usize, m: usize) -> f64
     ensures { result ≡ dot m (from a.now i) (from b.now k) }
 {
     let mut sum = -0.0;
-    let mut j = 0;
-    while j < m {
-        sum = sum + a[i + j] * b[k + j];
-        j += 1;
+    for j in 0..m {
+        sum += a[i + j] * b[k + j];
     }
     sum
 }
@@ -32,11 +30,9 @@ fn off_squares(points: &[f64], at: usize, table: &[f64], line_at: usize, m: usiz
     ensures { result ≡ off_squares m (from points.now at) (from table.now line_at) t }
 {
     let mut sum = -0.0;
-    let mut j = 0;
-    while j < m {
+    for j in 0..m {
         let off = points[at + j] - t * table[line_at + j];
-        sum = sum + off * off;
-        j += 1;
+        sum += off * off;
     }
     sum
 }
@@ -46,10 +42,8 @@ pub fn line_norms(table: &[f64], n: usize, m: usize, norms: &mut [f64])
     requires { (n * m ≤ length table.now) × (n ≤ length norms.old) }
     ensures { norms.new ≡ over (list_below (norm_at table.now m) n) norms.old }
 {
-    let mut l = 0;
-    while l < n {
+    for l in 0..n {
         norms[l] = dot_product(table, l * m, table, l * m, m);
-        l += 1;
     }
 }
 
@@ -79,10 +73,11 @@ pub fn distance_squared(
     ensures { result ≡ squares_of m (from points.now at) (from table.now line_at) }
 {
     if norm < 1e-30 {
-        return 1.0 / 0.0;
+        1.0 / 0.0
+    } else {
+        let t = dot_product(points, at, table, line_at, m) / norm;
+        off_squares(points, at, table, line_at, m, t)
     }
-    let t = dot_product(points, at, table, line_at, m) / norm;
-    off_squares(points, at, table, line_at, m, t)
 }
 
 // The distance whose square is given: its root, or in edition 2 the square itself.
@@ -90,9 +85,10 @@ pub fn measure(edition: Edition, squares: f64) -> f64
     ensures { result ≡ measure_of edition squares }
 {
     if editions::takes_root(edition) {
-        return square_root::sqrt(squares);
+        square_root::sqrt(squares)
+    } else {
+        squares
     }
-    squares
 }
 
 // The distance of a point from a line.

@@ -5,9 +5,8 @@
 ghost use Rattle.std.specs.Prelude.{◌≡◌, false, ◌≤◌};
 ghost use Rattle.model.specs.Reference.{binomial, point_count, auto_divisions, or_else, divisions_of, population_size_of};
 ghost use Rattle.model.specs.Refusal.{bad_divisions, bad_session_divisions};
-ghost use Rattle.model.specs.Session.{given};
 
-use model::{MAX_DIVISIONS, MAX_LINES, OptionUsize};
+use model::{MAX_DIVISIONS, MAX_LINES};
 
 // n over k, factor by factor; each division is exact.
 fn n_combinations(n: usize, k: usize) -> usize
@@ -37,43 +36,38 @@ pub fn auto_divisions(m: usize, target: usize) -> usize
     requires { (1 ≤ m) × (m ≤ 8) }
     ensures { result ≡ auto_divisions m target }
 {
-    let mut h: usize = 1;
-    let found = loop {
-        if MAX_DIVISIONS < h {
-            break 12;
-        }
+    for h in 1..=MAX_DIVISIONS {
         if point_count(m, h) >= target {
-            break h;
+            return h;
         }
-        h += 1;
-    };
-    found
+    }
+    12
 }
 
 // What is given, or else d.
-fn or_else(x: OptionUsize, d: usize) -> usize
-    ensures { result ≡ or_else (given x) d }
+fn or_else(x: Option<usize>, d: usize) -> usize
+    ensures { result ≡ or_else x d }
 {
     match x {
-        OptionUsize::Some(n) => n,
-        OptionUsize::None => d,
+        Some(n) => n,
+        None => d,
     }
 }
 
 // The divisions that a session uses: those given, or automatic ones for the size given, or for 100.
-pub fn divisions_of(m: usize, size: OptionUsize, divisions: OptionUsize) -> usize
+pub fn divisions_of(m: usize, size: Option<usize>, divisions: Option<usize>) -> usize
     requires { (1 ≤ m) × (m ≤ 8) }
-    ensures { result ≡ divisions_of m (given size) (given divisions) }
+    ensures { result ≡ divisions_of m size divisions }
 {
     let automatic = auto_divisions(m, or_else(size, 100));
     or_else(divisions, automatic)
 }
 
 // The size given, else the point count; never under 4.
-pub fn population_size(m: usize, size: OptionUsize, divisions: OptionUsize) -> usize
+pub fn population_size(m: usize, size: Option<usize>, divisions: Option<usize>) -> usize
     requires le_m { (1 ≤ m) × (m ≤ 8) }
-    requires divisions_value { bad_session_divisions m (given size) (given divisions) ≡ false }
-    ensures { result ≡ population_size_of m (given size) (given divisions) }
+    requires divisions_value { bad_session_divisions m size divisions ≡ false }
+    ensures { result ≡ population_size_of m size divisions }
 {
     let n = or_else(size, point_count(m, divisions_of(m, size, divisions)));
     if n < 4 { 4 } else { n }
@@ -84,19 +78,13 @@ pub fn bad_divisions(m: usize, h: usize) -> bool
     requires { (1 ≤ m) × (m ≤ 8) }
     ensures { result ≡ bad_divisions m h }
 {
-    if h < 1 {
-        return true;
-    }
-    if MAX_DIVISIONS < h {
-        return true;
-    }
-    MAX_LINES < point_count(m, h)
+    h < 1 || MAX_DIVISIONS < h || MAX_LINES < point_count(m, h)
 }
 
 // Refusal 4 at the opening of a session, for divisions given or automatic.
-pub fn bad_session_divisions(m: usize, size: OptionUsize, divisions: OptionUsize) -> bool
+pub fn bad_session_divisions(m: usize, size: Option<usize>, divisions: Option<usize>) -> bool
     requires { (1 ≤ m) × (m ≤ 8) }
-    ensures { result ≡ bad_session_divisions m (given size) (given divisions) }
+    ensures { result ≡ bad_session_divisions m size divisions }
 {
     bad_divisions(m, divisions_of(m, size, divisions))
 }

@@ -6,6 +6,16 @@ ghost use Rattle.std.specs.Prelude.{◌≡◌, ◌+◌, ◌*◌, ◌≤◌, leng
 ghost use Rattle.model.specs.Lists.{one};
 ghost use Rattle.model.specs.Row.{direction_of, to_minimize, feasible, violation};
 ghost use Rattle.front_laws.specs.Flat.{flat_dominates, flat_beats, Within};
+ghost use Rattle.domination.specs.Pools.{Both, beats};
+
+// The flat lists of a pool: its rows, and for each plan whether it is feasible and its violation sum.
+#[derive(Clone, Copy)]
+pub struct FlatPool<'a> {
+    pub rows: &'a [f64],
+    pub m: usize,
+    pub feasible: &'a [bool],
+    pub violations: &'a [f64],
+}
 
 // A maximised value is negated; the mark is 0 to minimise, 1 to maximise.
 pub fn to_minimize(value: f64, direction: u8) -> f64
@@ -22,8 +32,7 @@ pub fn dominates(rows: &[f64], m: usize, p: usize, q: usize) -> bool
     let a = p * m;
     let b = q * m;
     let mut better = false;
-    let mut j = 0;
-    while j < m {
+    for j in 0..m {
         let x = rows[a + j];
         let y = rows[b + j];
         if y < x {
@@ -32,7 +41,6 @@ pub fn dominates(rows: &[f64], m: usize, p: usize, q: usize) -> bool
         if x < y {
             better = true;
         }
-        j += 1;
     }
     better
 }
@@ -41,16 +49,7 @@ pub fn dominates(rows: &[f64], m: usize, p: usize, q: usize) -> bool
 pub fn is_feasible(constraints: &[f64]) -> bool
     ensures { result ≡ feasible constraints.now }
 {
-    let mut i = 0;
-    while i < constraints.len() {
-        let c = constraints[i];
-        if c <= 0.0 {
-            i += 1;
-        } else {
-            return false;
-        }
-    }
-    true
+    constraints.iter().all(|&c| c <= 0.0)
 }
 
 // The sum of max(c, 0) from left to right.
@@ -58,15 +57,8 @@ pub fn total_violation(constraints: &[f64]) -> f64
     ensures { result ≡ violation constraints.now }
 {
     let mut sum = -0.0;
-    let mut i = 0;
-    while i < constraints.len() {
-        let c = constraints[i];
-        if 0.0 < c {
-            sum = sum + c;
-        } else {
-            sum = sum + 0.0;
-        }
-        i += 1;
+    for &c in constraints {
+        sum += if 0.0 < c { c } else { 0.0 };
     }
     sum
 }
@@ -96,20 +88,12 @@ pub fn constrained_dominates(
 }
 
 // Whether member p, which is about to lower the counts, dominates q. A zero count answers no without a test: it would have counted p.
-pub fn dominates_counted(
-    rows: &[f64],
-    m: usize,
-    feasible: &[bool],
-    violations: &[f64],
-    p: usize,
-    q: usize,
-    count: usize,
-) -> bool
-    requires { Within rows.now m feasible.now violations.now p q × (one (flat_beats rows.now m feasible.now violations.now p q) ≤ count) }
-    ensures { result ≡ flat_beats rows.now m feasible.now violations.now p q }
+pub fn dominates_counted(pool: FlatPool<'_>, p: usize, q: usize, count: usize) -> bool
+    requires { Both pool p q × (one (beats pool p q) ≤ count) }
+    ensures { result ≡ beats pool.entry p q }
 {
     if count == 0 {
         return false;
     }
-    constrained_dominates(rows, m, feasible, violations, p, q)
+    constrained_dominates(pool.rows, pool.m, pool.feasible, pool.violations, p, q)
 }

@@ -18,17 +18,13 @@ fn pivot_row(a: &[f64], m: usize, k: usize) -> usize
     requires { (72 ≤ length a.now) × (m ≤ 8) × (k < m) }
     ensures { result ≡ pivot_row m a.now k }
 {
-    let rest = m - k;
     let mut best = k;
-    let mut t = 0;
-    while t < rest {
-        let i = k + t;
+    for i in k..m {
         let x = magnitude_of(a[best * 9 + k]);
         let y = magnitude_of(a[i * 9 + k]);
         if x < y {
             best = i;
         }
-        t += 1;
     }
     best
 }
@@ -40,13 +36,8 @@ fn swap_rows(a: &mut [f64], m: usize, k: usize, p: usize)
 {
     let x = k * 9;
     let y = p * 9;
-    let mut column = 0;
-    while column <= m {
-        let u = a[x + column];
-        let v = a[y + column];
-        a[x + column] = v;
-        a[y + column] = u;
-        column += 1;
+    for column in 0..m + 1 {
+        a.swap(x + column, y + column);
     }
 }
 
@@ -58,10 +49,8 @@ fn less_row(a: &mut [f64], m: usize, k: usize, i: usize)
     let x = i * 9;
     let y = k * 9;
     let q = a[x + k] / a[y + k];
-    let mut j = 0;
-    while j <= m {
-        a[x + j] = a[x + j] - q * a[y + j];
-        j += 1;
+    for j in 0..m + 1 {
+        a[x + j] -= q * a[y + j];
     }
 }
 
@@ -70,11 +59,8 @@ fn clear_column(a: &mut [f64], m: usize, k: usize)
     requires { (72 ≤ length a.old) × (m ≤ 8) × (k < m) }
     ensures { a.new ≡ cleared m a.old k (m - (k + 1)) }
 {
-    let rest = m - (k + 1);
-    let mut t = 0;
-    while t < rest {
-        less_row(a, m, k, k + 1 + t);
-        t += 1;
+    for i in k + 1..m {
+        less_row(a, m, k, i);
     }
 }
 
@@ -93,9 +79,7 @@ pub fn eliminate(a: &mut [f64], m: usize)
     requires { (72 ≤ length a.old) × (m ≤ 8) }
     ensures { a.new ≡ eliminated m a.old m }
 {
-    let mut k = 0;
-    while k < m {
+    for k in 0..m {
         step(a, m, k);
-        k += 1;
     }
 }

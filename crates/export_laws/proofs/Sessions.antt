@@ -3,39 +3,37 @@ use Prim.Native.Nat.{ℕ, ◌≤◌, ◌<◌}
 use mathlib.Core.Path.{◌≡◌, refl, sym, ap, ap₂, subst, ◌∙◌}
 use mathlib.Core.Bool.{Bool, true, false, cond, true≢false}
 use mathlib.Core.List.{List, [], ◌∷◌}
-use mathlib.Core.Option.{Option, none, some, some-injective}
+use Rattle.list_laws.proofs.Options.{some-injective}
+use Rattle.std.specs.Prelude.{Option, None, Some, Result, Ok, Err}
 use native.Mathlib.Omega.{arith}
 use borrow.Author.Tests.{lt-ltb, le-ltb}
 use lib.Dec.{ltb}
 use lib.Ieee.{Float}
 use lib.ListN.{length}
+use Rattle.model.specs.declared.Refusal.{Refusal}
+use Rattle.model.specs.declared.Refusal.TheVariants as why
 use Rattle.model.specs.declared.Distribution.{Distribution}
 use Rattle.model.specs.declared.Edition.{Edition}
 use Rattle.model.specs.declared.Opened.{Opened}
-use Rattle.model.specs.declared.Opening.{Opening}
-use Rattle.model.specs.declared.Opening.TheVariants as opening
-use Rattle.model.specs.declared.OptionUsize.{OptionUsize}
 use Rattle.model.specs.declared.ParamValue.{ParamValue}
 use Rattle.model.specs.declared.Sampled.{Sampled}
-use Rattle.model.specs.declared.Sampling.{Sampling}
-use Rattle.model.specs.declared.Sampling.TheVariants as sampling
 use Rattle.model.specs.declared.Session.{Session}
 use Rattle.model.specs.Edition.{edition_of}
 use Rattle.model.specs.Lists.{over}
-use Rattle.model.specs.Session.{State, Answered, state, given, accepted, asked}
+use Rattle.model.specs.Session.{State, Answered, state, accepted, asked}
 use Rattle.model.specs.Setting.{in_bounds, kind_of, to_word, of_word}
 use Rattle.model.specs.Property.{SessionOk}
-use Rattle.model.specs.Refusal.{check, first_of, bad_history, open_refusal, sample_refusal}
-use Rattle.model.specs.Calls.{opening_refused_by, open_of, Opens, sampling_refused_by, SampleExit, sample_by, sample_of, Bred, Samples}
+use Rattle.model.specs.Refusal.{check, first_of, bad_history, number_of, open_refusal, sample_refusal}
+use Rattle.model.specs.Calls.{refused_by, open_of, Opens, refused_by, SampleExit, sample_by, sample_of, Bred, Samples}
 use Rattle.session_words.specs.Coding.{dimension_width, session_width, session_words, session_of, dimension_at}
 use Rattle.list_laws.proofs.Below.{cond_lt, cond_le}
 use Rattle.list_laws.proofs.Checks.{passed_over, applies-first}
-use Rattle.export_laws.specs.Coded.{number_of, refusal_of, or_refusal, written, opened_by, open_words_refusal, OpensWords, SampledWords, sampled_words, sampled_by, sampled_exit, sampled_after, lacks_words, word_checks, word_refusal, sample_words_refusal, sample_words, SamplesWords}
-use Rattle.export_laws.proofs.Refusals.{open_above, sample_above, word-above, or_above, told}
+use Rattle.export_laws.specs.Coded.{code_number, refusal_of, or_refusal, written, opened_by, open_words_refusal, OpensWords, SampledWords, sampled_words, sampled_by, sampled_exit, sampled_after, lacks_words, word_checks, word_refusal, sample_words_refusal, sample_words, SamplesWords}
+use Rattle.export_laws.proofs.Refusals.{above, told}
 
 -- ---- opening
 
-module _ (n : ℕ) (edition : Edition) (marks : List ℕ) (seed : ℕ) (s t u v : OptionUsize) (p c m : Float) (w z : OptionUsize) (r : Opened) (en : edition ≡ edition_of n) (es : s ≡ t) (eu : u ≡ v)
+module _ (n : ℕ) (edition : Edition) (marks : List ℕ) (seed : ℕ) (s t u v : Option ℕ) (p c m : Float) (w z : Option ℕ) (r : Opened) (en : edition ≡ edition_of n) (es : s ≡ t) (eu : u ≡ v)
     (ew : w ≡ z) (opens : Opens edition marks seed s u p c m w r) (entry : List ℕ) where
   promise : Opens (edition_of n) marks seed t v p c m z r
   promise =
@@ -46,51 +44,51 @@ module _ (n : ℕ) (edition : Edition) (marks : List ℕ) (seed : ℕ) (s t u v 
   abbrev answer : Opened
   answer = open_of (edition_of n) marks seed t v p c m z
 
-  coded : (o : Opening) → r.outcome ≡ o → opened_by o r.session entry ≡ opened_by answer.outcome answer.session entry
+  coded : (o : Result Unit Refusal) → r.outcome ≡ o → opened_by o r.session entry ≡ opened_by answer.outcome answer.session entry
   coded o e = sym (ap (λ x. opened_by x r.session entry) e) ∙ ap (λ (x : Opened). opened_by x.outcome x.session entry) promise.whole
 
-  abbrev refusal : Option ℕ
-  refusal = open_refusal marks (given t) (given v) p c m (given z)
+  abbrev refusal : Option Refusal
+  refusal = open_refusal marks t v p c m z
 
-  abbrev room : Option ℕ
-  room = first_of (check 10 (ltb (length entry) session_width) ∷ [])
+  abbrev room : Option Refusal
+  room = first_of (check why.Room (ltb (length entry) session_width) ∷ [])
 
   -- the refusal of an opening, as its outcome has it
-  by_outcome : (o : Opening) → r.outcome ≡ o → refusal ≡ opening_refused_by o
-  by_outcome o e = sym promise.refused ∙ ap opening_refused_by e
+  by_outcome : (o : Result Unit Refusal) → r.outcome ≡ o → refusal ≡ refused_by o
+  by_outcome o e = sym promise.refused ∙ ap refused_by e
 
   -- and in words, where the slice too is looked at
-  in_words : (o : Opening) → r.outcome ≡ o → or_refusal (opening_refused_by o) room ≡ open_words_refusal marks (given t) (given v) p c m (given z) (length entry)
+  in_words : (o : Result Unit Refusal) → r.outcome ≡ o → or_refusal (refused_by o) room ≡ open_words_refusal marks t v p c m z (length entry)
   unfolding open_words_refusal
   in_words o e = sym (ap (λ x. or_refusal x room) (by_outcome o e))
 
-  pub open_refused : (refused k : ℕ) → r.outcome ≡ opening.Refused refused → k ≡ refused → OpensWords n marks seed t v p c m z entry k entry
+  pub open_refused : (refused : Refusal) (k : ℕ) → r.outcome ≡ Err refused → k ≡ number_of refused → OpensWords n marks seed t v p c m z entry k entry
   open_refused refused k e h =
-      let never : refused ≡ 0 → ⊥ = λ y. open_above marks (given t) (given v) p c m (given z) (by_outcome (opening.Refused refused) e ∙ ap some y) in
+      let never : number_of refused ≡ 0 → ⊥ = above refused in
       record {
-        whole = ap (λ x. written x entry) h ∙ coded (opening.Refused refused) e;
-        refused = ap refusal_of h ∙ told (some refused) (λ z. never (some-injective refused 0 z)) ∙ in_words (opening.Refused refused) e;
+        whole = ap (λ x. written x entry) h ∙ coded (Err refused) e;
+        refused = ap refusal_of h ∙ told (Some refused) ∙ in_words (Err refused) e;
         holds = λ z. absurd (never (sym h ∙ z));
         gives = λ z. absurd (never (sym h ∙ z));
       }
 
-  pub open_short : r.outcome ≡ opening.Ready → length entry < session_width → OpensWords n marks seed t v p c m z entry 10 entry
-  open_short e h =
+  pub open_short : (k : ℕ) → r.outcome ≡ (Ok tt) → length entry < session_width → k ≡ number_of why.Room → OpensWords n marks seed t v p c m z entry k entry
+  open_short k e h told_room =
       record {
-        whole = sym (cond_lt (length entry) session_width _ _ h) ∙ coded opening.Ready e;
-        refused = sym (applies-first (check 10 (ltb (length entry) session_width)) [] (lt-ltb (length entry) session_width h)) ∙ in_words opening.Ready e;
-        holds = λ z. absurd (omega arith);
-        gives = λ z. absurd (omega arith);
+        whole = ap (λ x. written x entry) told_room ∙ sym (cond_lt (length entry) session_width _ _ h) ∙ coded (Ok tt) e;
+        refused = ap refusal_of told_room ∙ sym (applies-first (check why.Room (ltb (length entry) session_width)) [] (lt-ltb (length entry) session_width h)) ∙ in_words (Ok tt) e;
+        holds = λ z. absurd (above why.Room (sym told_room ∙ z));
+        gives = λ z. absurd (above why.Room (sym told_room ∙ z));
       }
 
-  pub open_ready : (exit : List ℕ) → r.outcome ≡ opening.Ready → session_width ≤ length entry → exit ≡ over (session_words r.session) entry → session_of exit ≡ r.session
+  pub open_ready : (exit : List ℕ) → r.outcome ≡ (Ok tt) → session_width ≤ length entry → exit ≡ over (session_words r.session) entry → session_of exit ≡ r.session
       → OpensWords n marks seed t v p c m z entry 0 exit
   unfolding first_of
   open_ready exit e h x b =
       record {
         whole = ap (written 0) x
-            ∙ sym (cond_le (length entry) session_width _ _ h) ∙ coded opening.Ready e;
-        refused = sym (passed_over (check 10 (ltb (length entry) session_width)) [] (le-ltb (length entry) session_width h)) ∙ in_words opening.Ready e;
+            ∙ sym (cond_le (length entry) session_width _ _ h) ∙ coded (Ok tt) e;
+        refused = sym (passed_over (check why.Room (ltb (length entry) session_width)) [] (le-ltb (length entry) session_width h)) ∙ in_words (Ok tt) e;
         holds = λ z. b ∙ ap (λ (x : Opened). x.session) promise.whole;
         gives = λ z cs ps ns pool. subst (λ y. SessionOk (state y cs ps ns pool)) (sym b) (promise.gives cs ps ns pool);
       }
@@ -98,27 +96,27 @@ module _ (n : ℕ) (edition : Edition) (marks : List ℕ) (seed : ℕ) (s t u v 
 -- ---- a session call
 
 -- the number told is that of the first refusal, of the words or of the call
-number-after : (o q : Option ℕ) (a : Answered) (st : State) (k v : ℕ) (ws : List ℕ) → (sampled_after o (sample_by q st a) st k v ws).code ≡ number_of (or_refusal o q)
-number-after none none a st k v ws = refl
-number-after none (some n) a st k v ws = refl
-number-after (some n) q a st k v ws = refl
+number-after : (o q : Option Refusal) (a : Answered) (st : State) (k v : ℕ) (ws : List ℕ) → (sampled_after o (sample_by q st a) st k v ws).code ≡ code_number (or_refusal o q)
+number-after None None a st k v ws = refl
+number-after None (Some n) a st k v ws = refl
+number-after (Some n) q a st k v ws = refl
 
 -- the first of what is looked at before the call
-first_short : (short lacks bad : Bool) → short ≡ true → first_of (word_checks short lacks bad) ≡ some (cond bad 7 10)
+first_short : (short lacks bad : Bool) → short ≡ true → first_of (word_checks short lacks bad) ≡ Some (cond bad why.Count why.Room)
 unfolding first_of
 first_short true lacks true e = refl
 first_short true lacks false e = refl
 first_short false lacks bad e = absurd (true≢false (sym e))
 
-short-number : (bad : Bool) (n : ℕ) → n ≡ cond bad 7 10 → n ≡ 0 → ⊥
+short-number : (bad : Bool) (n : ℕ) → n ≡ number_of (cond bad why.Count why.Room) → n ≡ 0 → ⊥
 short-number true n e z = omega arith
 short-number false n e z = omega arith
 
-first_lacks : (short lacks bad : Bool) → short ≡ false → lacks ≡ true → first_of (word_checks short lacks bad) ≡ some 6
+first_lacks : (short lacks bad : Bool) → short ≡ false → lacks ≡ true → first_of (word_checks short lacks bad) ≡ Some why.Bounds
 unfolding first_of
 first_lacks short lacks bad e h = rw (e, h)
 
-first_passed : (short lacks bad : Bool) → short ≡ false → lacks ≡ false → first_of (word_checks short lacks bad) ≡ none
+first_passed : (short lacks bad : Bool) → short ≡ false → lacks ≡ false → first_of (word_checks short lacks bad) ≡ None
 unfolding first_of
 first_passed short lacks bad e h = rw (e, h)
 
@@ -140,17 +138,19 @@ module _ (ws ds : List ℕ) (plan : ℕ) (history cs ps ns pool : List ℕ) (k v
       let words = word_refusal ws ds plan history in
       let call = sample_refusal before (dimension_at ds 0) plan history in
       ap (λ (x : SampledWords). refusal_of x.code) e ∙ ap refusal_of (number-after words call (accepted before (dimension_at ds 0) plan history) before k v ws)
-      ∙ told (or_refusal words call) (or_above words call (word-above ws ds plan history) (sample_above before (dimension_at ds 0) plan history))
+      ∙ told (or_refusal words call)
 
   -- where the words are refused, all stays as it was
-  turned_down : (n : ℕ) → word_refusal ws ds plan history ≡ some n → sampled_words n k v ws before ≡ sample_words ws ds plan history cs ps ns pool k v
+  turned_down : (n : Refusal) → word_refusal ws ds plan history ≡ Some n → sampled_words (number_of n) k v ws before ≡ sample_words ws ds plan history cs ps ns pool k v
   unfolding sample_words
   turned_down n e = sym (ap (λ o. sampled_after o called before k v ws) e)
 
-  pub sample_short : (n : ℕ) → length ws < session_width → n ≡ cond (bad_history history) 7 10 → SamplesWords ws ds plan history cs ps ns pool k v (sampled_words n k v ws before)
+  pub sample_short : (n : ℕ) → length ws < session_width → n ≡ number_of (cond (bad_history history) why.Count why.Room) → SamplesWords ws ds plan history cs ps ns pool k v (sampled_words n k v ws before)
   unfolding word_refusal
   sample_short n h e =
-      let whole = turned_down n (first_short (ltb (length ws) session_width) (lacking (session_of ws)) (bad_history history) (lt-ltb (length ws) session_width h) ∙ ap some (sym e)) in
+      let why_short = cond (bad_history history) why.Count why.Room in
+      let whole = ap (λ x. sampled_words x k v ws before) e
+      ∙ turned_down why_short (first_short (ltb (length ws) session_width) (lacking (session_of ws)) (bad_history history) (lt-ltb (length ws) session_width h)) in
       record {
         whole = whole;
         refused = tells _ whole;
@@ -160,17 +160,17 @@ module _ (ws ds : List ℕ) (plan : ℕ) (history cs ps ns pool : List ℕ) (k v
       }
 
   pub sample_lacks : (s : Session) → session_width ≤ length ws → s ≡ session_of ws → SessionOk before → lacking s ≡ true
-      → SamplesWords ws ds plan history cs ps ns pool k v (sampled_words 6 k v ws before)
+      → (n : ℕ) → n ≡ number_of why.Bounds → SamplesWords ws ds plan history cs ps ns pool k v (sampled_words n k v ws before)
   unfolding word_refusal
-  sample_lacks s h es ok lacks =
+  sample_lacks s h es ok lacks n e =
       let short = sym (ap lacking es) ∙ lacks in
-      let whole = turned_down 6 (first_lacks (ltb (length ws) session_width) (lacking (session_of ws)) (bad_history history) (le-ltb (length ws) session_width h) short) in
+      let whole = ap (λ x. sampled_words x k v ws before) e ∙ turned_down why.Bounds (first_lacks (ltb (length ws) session_width) (lacking (session_of ws)) (bad_history history) (le-ltb (length ws) session_width h) short) in
       record {
         whole = whole;
         refused = tells _ whole;
         keeps = λ z. ok;
-        demand3 = λ z. absurd (omega arith);
-        bounds = λ z. absurd (omega arith);
+        demand3 = λ z. absurd (above why.Bounds (sym e ∙ z));
+        bounds = λ z. absurd (above why.Bounds (sym e ∙ z));
       }
 
   module _ (h : session_width ≤ length ws) (s : Session) (d : Distribution) (es : s ≡ session_of ws) (ed : d ≡ dimension_at ds 0) (has : lacking s ≡ false) (r : Sampled) (xs ys zs ts : List ℕ)
@@ -185,25 +185,25 @@ module _ (ws ds : List ℕ) (plan : ℕ) (history cs ps ns pool : List ℕ) (k v
     promise' : Samples before (dimension_at ds 0) plan history (record { answer = r.outcome; after = left })
     promise' = subst (λ x. Samples before x plan history (record { answer = r.outcome; after = left })) ed (subst (λ x. Samples (state x cs ps ns pool) d plan history (record { answer = r.outcome; after = left })) es samples)
 
-    passed : word_refusal ws ds plan history ≡ none
+    passed : word_refusal ws ds plan history ≡ None
     unfolding word_refusal
     passed = first_passed (ltb (length ws) session_width) (lacking (session_of ws)) (bad_history history) (le-ltb (length ws) session_width h) (sym (ap lacking es) ∙ has)
 
-    is : (o : Sampling) → r.outcome ≡ o → sampled_by o left k v ws ≡ sample_words ws ds plan history cs ps ns pool k v
+    is : (o : Result ParamValue Refusal) → r.outcome ≡ o → sampled_by o left k v ws ≡ sample_words ws ds plan history cs ps ns pool k v
     unfolding sample_words
     is o e =
         sym (ap (λ x. sampled_by x left k v ws) e) ∙ ap (λ (x : SampleExit). sampled_exit x k v ws) promise'.whole
         ∙ sym (ap (λ x. sampled_after x called before k v ws) passed)
 
-    same : (n : ℕ) → r.outcome ≡ sampling.Refused n → left ≡ before
+    same : (n : Refusal) → r.outcome ≡ Err n → left ≡ before
     unfolding sample_of
     same n e =
         ap (λ (x : SampleExit). x.after) promise'.whole
-        ∙ ap (λ o. (sample_by o before (accepted before (dimension_at ds 0) plan history)).after) (sym promise'.refused ∙ ap sampling_refused_by e)
+        ∙ ap (λ o. (sample_by o before (accepted before (dimension_at ds 0) plan history)).after) (sym promise'.refused ∙ ap refused_by e)
 
     -- the promise, of words that stand for the session left
     kept_promise : (c kind value : ℕ) (exit : List ℕ) → session_of exit ≡ r.session
-        → (c ≡ 0 → sample_refusal before (dimension_at ds 0) plan history ≡ none) → (c ≡ 0 → in_bounds asks (of_word kind value) ≡ true)
+        → (c ≡ 0 → sample_refusal before (dimension_at ds 0) plan history ≡ None) → (c ≡ 0 → in_bounds asks (of_word kind value) ≡ true)
         → sampled_words c kind value exit (state (session_of exit) xs ys zs ts) ≡ sample_words ws ds plan history cs ps ns pool k v
         → SamplesWords ws ds plan history cs ps ns pool k v (sampled_words c kind value exit (state (session_of exit) xs ys zs ts))
     kept_promise c kind value exit b passes within e =
@@ -215,17 +215,17 @@ module _ (ws ds : List ℕ) (plan : ℕ) (history cs ps ns pool : List ℕ) (k v
           bounds = within;
         }
 
-    pub sample_refused : (n c : ℕ) → r.outcome ≡ sampling.Refused n → c ≡ n
+    pub sample_refused : (n : Refusal) (c : ℕ) → r.outcome ≡ Err n → c ≡ number_of n
         → SamplesWords ws ds plan history cs ps ns pool k v (sampled_words c k v ws (state (session_of ws) xs ys zs ts))
     sample_refused n c e h =
         let b : session_of ws ≡ r.session = sym (ap (λ (x : State). x.session) (same n e)) in
-        let never : c ≡ 0 → ⊥ = λ z. sample_above before (dimension_at ds 0) plan history (sym promise'.refused ∙ ap sampling_refused_by e ∙ ap some (sym h ∙ z)) in
-        kept_promise c k v ws b (λ z. absurd (never z)) (λ z. absurd (never z)) (ap₂ (λ x y. sampled_words x k v ws (state y xs ys zs ts)) h b ∙ is (sampling.Refused n) e)
+        let never : c ≡ 0 → ⊥ = λ z. above n (sym h ∙ z) in
+        kept_promise c k v ws b (λ z. absurd (never z)) (λ z. absurd (never z)) (ap₂ (λ x y. sampled_words x k v ws (state y xs ys zs ts)) h b ∙ is (Err n) e)
 
-    pub sample_set : (x : ParamValue) (kind value : ℕ) (exit : List ℕ) → r.outcome ≡ sampling.Setting x → kind ≡ kind_of x → value ≡ to_word x → of_word (kind_of x) value ≡ x
+    pub sample_set : (x : ParamValue) (kind value : ℕ) (exit : List ℕ) → r.outcome ≡ Ok x → kind ≡ kind_of x → value ≡ to_word x → of_word (kind_of x) value ≡ x
         → exit ≡ over (session_words r.session) ws → session_of exit ≡ r.session
         → SamplesWords ws ds plan history cs ps ns pool k v (sampled_words 0 kind value exit (state (session_of exit) xs ys zs ts))
     sample_set x kind value exit e hk hv back hx b =
-        kept_promise 0 kind value exit b (λ z. sym promise'.refused ∙ ap sampling_refused_by e) (λ z. ap (in_bounds asks) (ap (λ j. of_word j value) hk ∙ back) ∙ promise'.bounds x e)
+        kept_promise 0 kind value exit b (λ z. sym promise'.refused ∙ ap refused_by e) (λ z. ap (in_bounds asks) (ap (λ j. of_word j value) hk ∙ back) ∙ promise'.bounds x e)
         (ap₂ (λ p q. sampled_words 0 p q exit (state (session_of exit) xs ys zs ts)) hk hv
-        ∙ ap₂ (λ p q. sampled_words 0 (kind_of x) (to_word x) p (state q xs ys zs ts)) hx b ∙ is (sampling.Setting x) e)
+        ∙ ap₂ (λ p q. sampled_words 0 (kind_of x) (to_word x) p (state q xs ys zs ts)) hx b ∙ is (Ok x) e)

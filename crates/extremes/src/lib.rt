@@ -22,13 +22,11 @@ fn achievement(rows: &[f64], p: usize, m: usize, ideal: &[f64], i: usize) -> f64
 {
     let start = p * m;
     let mut best = -1.0 / 0.0;
-    let mut j = 0;
-    while j < m {
+    for j in 0..m {
         let v = (rows[start + j] - ideal[j]) / weight_of(i, j);
         if best < v {
             best = v;
         }
-        j += 1;
     }
     best
 }
@@ -40,14 +38,12 @@ fn extreme_of(rows: &[f64], n: usize, m: usize, ideal: &[f64], i: usize) -> usiz
 {
     let mut best = 0;
     let mut least = achievement(rows, 0, m, ideal, i);
-    let mut p = 0;
-    while p < n {
+    for p in 0..n {
         let a = achievement(rows, p, m, ideal, i);
         if a < least {
             least = a;
             best = p;
         }
-        p += 1;
     }
     best
 }
@@ -57,10 +53,8 @@ pub fn find_extremes(rows: &[f64], n: usize, m: usize, ideal: &[f64], extremes: 
     requires { (n * m ≤ length rows.now) × (m ≤ length ideal.now) × (0 < n) × (m ≤ length extremes.old) }
     ensures { extremes.new ≡ over (list_below (extreme_at rows.now n m ideal.now) m) extremes.old }
 {
-    let mut i = 0;
-    while i < m {
+    for i in 0..m {
         extremes[i] = extreme_of(rows, n, m, ideal, i);
-        i += 1;
     }
 }
 
@@ -71,10 +65,8 @@ fn fill_row(rows: &[f64], p: usize, m: usize, ideal: &[f64], a: &mut [f64], i: u
 {
     let start = p * m;
     let at = i * 9;
-    let mut j = 0;
-    while j < m {
+    for j in 0..m {
         a[at + j] = rows[start + j] - ideal[j];
-        j += 1;
     }
     a[at + m] = 1.0;
 }
@@ -86,10 +78,7 @@ pub fn fill_matrix(rows: &[f64], m: usize, ideal: &[f64], extremes: &[usize], a:
     ensures { a.new
         ≡ plane_rows m (λ i. row_at rows.now m (get_or extremes.now i 0)) (listed ideal.now) a.old m }
 {
-    let mut i = 0;
-    while i < m {
-        let p = extremes[i];
-        fill_row(rows, p, m, ideal, a, i);
-        i += 1;
+    for i in 0..m {
+        fill_row(rows, extremes[i], m, ideal, a, i);
     }
 }

@@ -2,7 +2,7 @@
 use Prim.Native.Nat.{ℕ, ◌≤◌}
 use mathlib.Core.Path.{◌≡◌, refl, sym, ap, ◌∙◌}
 use mathlib.Core.List.{List, [], ◌∷◌, ◌++◌, map, flatten, append_assoc, append-nil}
-use mathlib.Core.Option.{some}
+use Rattle.std.specs.Prelude.{Some}
 use borrow.Author.Tests.{le-leb}
 use lib.ListN.{length}
 use Rattle.model.specs.PoolFile.{Reader, pure, many, number, written, written_all, Rows, rows, row_numbers, File, file_by, file_numbers, max_file, parse_by}
@@ -52,7 +52,7 @@ module _ {P : Type 0} (plan : ℕ → Reader P) (numbers : P → List ℕ) where
         )
 
     -- .. with nothing behind it, where it is not too long
-    pub parsed-back : length (written_all (file_numbers numbers f)) ≤ max_file → parse_by (file_by plan) (written_all (file_numbers numbers f)) ≡ some f
+    pub parsed-back : length (written_all (file_numbers numbers f)) ≤ max_file → parse_by (file_by plan) (written_all (file_numbers numbers f)) ≡ Some f
     unfolding parse_by
     parsed-back h =
         let bytes = written_all (file_numbers numbers f) in

@@ -18,47 +18,30 @@ fn fronts_that_fit(ends: &[usize], fronts: usize, size: usize) -> usize
     requires { fronts ≤ length ends.now }
     ensures { result ≡ fitting ends.now fronts size }
 {
-    let mut k = 0;
-    while k < fronts {
-        if size < ends[k] {
-            return k;
-        }
-        k += 1;
-    }
-    fronts
+    ends[..fronts]
+        .iter()
+        .position(|&end| size < end)
+        .unwrap_or(fronts)
 }
 
 // Where front k starts.
+#[tactic(auto, using(crate::proofs::Fitting::start_none, crate::proofs::Fitting::start_some))]
 fn front_start(ends: &[usize], k: usize) -> usize
     requires { k ≤ length ends.now }
     ensures { result ≡ start_of ends.now k }
 {
-    if k == 0 {
-        return 0;
-    }
-    ends[k - 1]
+    if k == 0 { 0 } else { ends[k - 1] }
 }
 
 // The cut for a size, from the fronts' ends.
+#[tactic(auto, using(crate::proofs::Fitting::fitting_le))]
 pub fn split_at(ends: &[usize], fronts: usize, size: usize) -> Cut
     requires { fronts ≤ length ends.now }
     ensures { result ≡ cut_of ends.now fronts size }
 {
     let k = fronts_that_fit(ends, fronts, size);
     let whole = front_start(ends, k);
-    if k < fronts {
-        if whole < size {
-            let end = ends[k];
-            return Cut {
-                whole: whole,
-                end: end,
-                split: true,
-            };
-        }
-    }
-    Cut {
-        whole: whole,
-        end: whole,
-        split: false,
-    }
+    let split = k < fronts && whole < size;
+    let end = if split { ends[k] } else { whole };
+    Cut { whole, end, split }
 }

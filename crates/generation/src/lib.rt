@@ -5,8 +5,7 @@
 ghost use Rattle.model.specs.Calls.{word_request, lent, step_exit, Steps};
 ghost use Rattle.model.specs.Setting.{operators_in};
 
-use model::{Edition, Operators, Outcome, Rng, Selection};
-use refusals::Check;
+use model::{Edition, Operators, Rng, Selection};
 
 // The offspring of a pool of plans, with the selection that they are bred from: document 01's generation step, or the number of the refusal that it
 // meets, with nothing written and no word drawn.
@@ -46,11 +45,11 @@ pub fn nsga3_generate_offspring(
         offspring.len(),
     );
     match check {
-        Check::Refused(number) => Selection {
-            outcome: Outcome::Refused(number),
+        Err(refusal) => Selection {
+            outcome: Err(refusal),
             rng,
         },
-        Check::Good => generation_step::step(
+        Ok(()) => generation_step::step(
             edition, pool, directions, divisions, size, rng, operators, ideal, kept, rules, fronts,
             lines, offspring,
         ),

@@ -2,7 +2,7 @@
 use Prim.Native.Nat.{ℕ, ◌*◌, ◌≤◌}
 use mathlib.Core.Path.{◌≡◌, sym, ap, ◌∙◌}
 use mathlib.Core.Bool.{false, ◌&&◌}
-use mathlib.Core.Option.{none}
+use Rattle.std.specs.Prelude.{None}
 use borrow.Author.Tests.{ltb-false, le-leb}
 use lib.Dec.{leb, ltb}
 use Rattle.list_laws.proofs.Bools.{or_left, or_right}
@@ -33,6 +33,6 @@ module _ {o : Operators} {r : Request} {room : Room} {offspring : ℕ} (p : Pass
   pub fronts-room : 2 ≤ r.count → r.count ≤ room.fronts
   fronts-room h = (room-each r room (select_room h)).2
 
-  pub selects : 2 ≤ r.count → select_refusal r room ≡ none
+  pub selects : 2 ≤ r.count → select_refusal r room ≡ None
   unfolding select_refusal first_of
   selects h = rw (p.directions, p.size, p.divisions, p.count, p.pool, select_room h)

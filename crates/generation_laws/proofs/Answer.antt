@@ -3,16 +3,16 @@ use Prim.Native.Nat.{ℕ, ◌≤◌, ◌<◌}
 use mathlib.Core.Path.{◌≡◌, refl, ap, ap₂, sym, subst, ◌∙◌}
 use mathlib.Core.Bool.{Bool, true, false, cond}
 use mathlib.Core.List.{List}
-use mathlib.Core.Option.{none, some}
+use Rattle.std.specs.Prelude.{None, Some, Ok, Err}
 use native.Mathlib.Omega.{arith}
 use borrow.Author.Tests.{lt-ltb}
 use lib.Ieee.{Float}
 use lib.ListN.{length, get_or, take}
 use Rattle.list_laws.proofs.Built.{list_below-length, over-take, over-at, over_below}
 use Rattle.list_laws.proofs.Draws.{draw_all-length}
+use Rattle.model.specs.declared.Refusal.{Refusal}
 use Rattle.model.specs.declared.Edition.{Edition}
 use Rattle.model.specs.declared.ParamValue.{ParamValue}
-use Rattle.model.specs.declared.Outcome.TheVariants as outcome
 use Rattle.model.specs.declared.Rng.{Rng}
 use Rattle.model.specs.Edition.{ranks_by_rows, moves_to_step}
 use Rattle.model.specs.Lists.{over}
@@ -36,7 +36,7 @@ use Rattle.generation_laws.proofs.Breeding.{offspring-same}
 
 -- an exit that keeps n plans
 abbrev kept-exit : ℕ → ℕ → List Float → Lent → List ℕ → StepExit
-kept-exit n s i at out = step_exit (answered (outcome.Kept n) s) i at out
+kept-exit n s i at out = step_exit (answered (Ok n) s) i at out
 
 module _ (edition : Edition) (o : Operators) (pool directions : List ℕ) (divisions size : ℕ) (g : Rng) (ideal : List Float) (at : Lent) (old : List ℕ) where
   abbrev r : Request
@@ -46,7 +46,7 @@ module _ (edition : Edition) (o : Operators) (pool directions : List ℕ) (divis
 
   pub one-exit : plan_count pool < 2 → (out : List ℕ) (h : Rng) → out ≡ over (words_of (sample_candidates o.dims o.dim_count size g.s).value) old
       → h.s ≡ (sample_candidates o.dims o.dim_count size g.s).state
-      → step_exit (record { outcome = outcome.Kept 0; rng = h }) ideal at out ≡ step_accepted o r at old
+      → step_exit (record { outcome = Ok 0; rng = h }) ideal at out ≡ step_accepted o r at old
   unfolding step_accepted generation generation_of_one
   one-exit few out h e f =
       ap₂ (λ s w. kept-exit 0 s ideal at w) f e
@@ -54,7 +54,7 @@ module _ (edition : Edition) (o : Operators) (pool directions : List ℕ) (divis
 
   -- ---- a pool of two or more
 
-  module _ (refused : step_refusal o r (room_of at) (length old) ≡ none) (two : 2 ≤ plan_count pool) where
+  module _ (refused : step_refusal o r (room_of at) (length old) ≡ None) (two : 2 ≤ plan_count pool) where
     -- the selection is not refused
     pub select_exit_lem : (x : SelectExit) → Selects r at x → x ≡ select_accepted r at
     unfolding select_of
@@ -130,7 +130,7 @@ module _ (edition : Edition) (o : Operators) (pool directions : List ℕ) (divis
         pub bred-exit : (out : List ℕ) (h : Rng)
             → out ≡ over (words_of (moved_by (moves_to_step edition) o.dims o.dim_count (bred_of_words o pool fronts x.slices.kept size x.answer.rng.s).value)) old
             → h.s ≡ (bred_of_words o pool fronts x.slices.kept size x.answer.rng.s).state
-            → step_exit (record { outcome = outcome.Kept size; rng = h }) x.ideal x.slices out ≡ step_accepted o r at old
+            → step_exit (record { outcome = Ok size; rng = h }) x.ideal x.slices out ≡ step_accepted o r at old
         unfolding select_accepted step_accepted generation_of
         bred-exit out h f q =
             ap₂ (λ s w. kept-exit size s x.ideal x.slices w)
@@ -143,7 +143,7 @@ module _ (edition : Edition) (o : Operators) (pool directions : List ℕ) (divis
   -- ---- the promise
 
   module _ (held : bad_dimensions o.dims o.dim_count ≡ false → AllHeld o.dims o.dim_count) where
-    bounds : step_refusal o r (room_of at) (length old) ≡ none → WordsWithin o.dims o.dim_count size (step_of o r at old).offspring
+    bounds : step_refusal o r (room_of at) (length old) ≡ None → WordsWithin o.dims o.dim_count size (step_of o r at old).offspring
     unfolding step_of step_accepted
     bounds e =
         let ok = passed o r (room_of at) (length old) e in
@@ -153,11 +153,11 @@ module _ (edition : Edition) (o : Operators) (pool directions : List ℕ) (divis
     promise : (x : StepExit) → x ≡ step_of o r at old → Steps o r at old x
     promise x e = subst (Steps o r at old) (sym e) (steps r (plan_at-row pool) o at old bounds)
 
-    pub refused_so : (n : ℕ) → some n ≡ step_refusal o r (room_of at) (length old)
-        → Steps o r at old (record { answer = record { outcome = outcome.Refused n; rng = g }; ideal = ideal; slices = at; offspring = old })
+    pub refused_so : (n : Refusal) → Some n ≡ step_refusal o r (room_of at) (length old)
+        → Steps o r at old (record { answer = record { outcome = Err n; rng = g }; ideal = ideal; slices = at; offspring = old })
     unfolding step_of
     refused_so n e = promise _ (ap (λ m. step_by m o r at old) e)
 
-    pub stepped_so : none ≡ step_refusal o r (room_of at) (length old) → (x : StepExit) → x ≡ step_accepted o r at old → Steps o r at old x
+    pub stepped_so : None ≡ step_refusal o r (room_of at) (length old) → (x : StepExit) → x ≡ step_accepted o r at old → Steps o r at old x
     unfolding step_of
     stepped_so e x h = promise x (h ∙ ap (λ m. step_by m o r at old) e)

@@ -2,14 +2,13 @@
 
 #![tactic(auto)]
 
-ghost use Rattle.std.specs.Prelude.{◌≡◌, ◌≤◌, length};
-ghost use Rattle.std.proofs.Math.Option.{none};
+ghost use Rattle.std.specs.Prelude.{◌≡◌, ◌≤◌, length, None};
 ghost use Rattle.model.specs.Plan.{plan_count};
 ghost use Rattle.model.specs.Refusal.{step_refusal};
 ghost use Rattle.model.specs.Calls.{word_request, lent, room_of, step_exit, step_accepted};
 ghost use Rattle.model.specs.Setting.{operators_in};
 
-use model::{Edition, MAX_POOL, Operators, Outcome, Rng, Selection};
+use model::{Edition, MAX_POOL, Operators, Rng, Selection};
 
 // A pool of two plans or more: those to breed from are selected, and bred from by the edition's fronts, for which `ranks` has room.
 fn select_and_breed(
@@ -31,7 +30,7 @@ fn select_and_breed(
     requires bound { (2 ≤ plan_count pool.now) × (plan_count pool.now ≤ length ranks.old) }
     requires offspring_value { step_refusal (operators_in operators)
         (word_request edition pool.now directions.now divisions size rng ideal.old)
-        (room_of (lent kept.old rules.old fronts.old lines.old)) (length offspring.old) ≡ none }
+        (room_of (lent kept.old rules.old fronts.old lines.old)) (length offspring.old) ≡ None }
     ensures { step_exit result ideal.new (lent kept.new rules.new fronts.new lines.new) offspring.new
         ≡ step_accepted (operators_in operators)
         (word_request edition pool.now directions.now divisions size rng ideal.old)
@@ -46,7 +45,7 @@ fn select_and_breed(
         edition, pool, ranks, kept, size, operators, after, offspring,
     );
     Selection {
-        outcome: Outcome::Kept(size),
+        outcome: Ok(size),
         rng,
     }
 }
@@ -69,7 +68,7 @@ pub fn step(
 ) -> Selection
     requires { step_refusal (operators_in operators)
         (word_request edition pool.now directions.now divisions size rng ideal.old)
-        (room_of (lent kept.old rules.old fronts.old lines.old)) (length offspring.old) ≡ none }
+        (room_of (lent kept.old rules.old fronts.old lines.old)) (length offspring.old) ≡ None }
     ensures { step_exit result ideal.new (lent kept.new rules.new fronts.new lines.new) offspring.new
         ≡ step_accepted (operators_in operators)
         (word_request edition pool.now directions.now divisions size rng ideal.old)
@@ -80,7 +79,7 @@ pub fn step(
         let dims = operators.dimensions;
         let rng = candidates::sample_candidates(dims, operators.n_dims, size, rng, offspring);
         return Selection {
-            outcome: Outcome::Kept(0),
+            outcome: Ok(0),
             rng,
         };
     }

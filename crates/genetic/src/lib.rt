@@ -9,9 +9,8 @@ ghost use Rattle.model.specs.Setting.{max_dims, children, crossover, tournament,
 ghost use Rattle.model.specs.Refusal.{bad_dimensions, bad_operators};
 ghost use Rattle.settings.specs.Candidate.{settings_of, parents_in};
 
-use candidate_operators::DrawnChildren;
 use model::{DimensionInfo, MAX_DIMS, Operators, Rng};
-use rng_util::DrawnUsize;
+use rng_util::{Drawn, DrawnPair};
 use settings::Slot;
 
 // Two children of two parents. It runs unless its draw exceeds the probability.
@@ -23,39 +22,36 @@ pub fn crossover(
     p: [Slot; MAX_DIMS],
     q: [Slot; MAX_DIMS],
     rng: Rng,
-) -> DrawnChildren
+) -> DrawnPair<[Slot; MAX_DIMS]>
     requires { n ≤ max_dims }
     ensures { drawn (children (settings_of result.first n) (settings_of result.second n)) result.rng.s
         ≡ crossover (dimensions_of dims) n probability k (settings_of p n) (settings_of q n) rng.s }
 {
-    let d = rng_util::f64_range(rng, 0.0, 1.0);
-    let u = d.value;
-    let rng = d.rng;
-    if u > probability {
-        return DrawnChildren {
+    let u = rng_util::f64_range(rng, 0.0, 1.0);
+    if u.value > probability {
+        return DrawnPair {
             first: p,
             second: q,
-            rng,
+            rng: u.rng,
         };
     }
-    candidate_operators::cross_all(dims, n, p, q, k, rng)
+    candidate_operators::cross_all(dims, n, p, q, k, u.rng)
 }
 
 // Two of n are drawn, and the one of smaller rank wins, the first on a tie.
-pub fn tournament_select_rank(ranks: &[usize], n: usize, rng: Rng) -> DrawnUsize
+pub fn tournament_select_rank(ranks: &[usize], n: usize, rng: Rng) -> Drawn<usize>
     requires { (0 < n) × (n ≤ length ranks.now) }
     ensures { drawn result.value result.rng.s ≡ tournament (λ i. get_or ranks.now i 0) n rng.s }
 {
     let a = rng_util::draw_usize(rng, n);
-    let i = a.value;
-    let rng = a.rng;
-    let b = rng_util::draw_usize(rng, n);
-    let j = b.value;
-    let rng = b.rng;
-    if ranks[i] <= ranks[j] {
-        return DrawnUsize { value: i, rng };
+    let b = rng_util::draw_usize(a.rng, n);
+    if ranks[a.value] <= ranks[b.value] {
+        return Drawn {
+            value: a.value,
+            rng: b.rng,
+        };
     }
-    DrawnUsize { value: j, rng }
+    b
 }
 
 // Two winners among `count` parents are crossed, and both children mutated.
@@ -65,7 +61,7 @@ pub fn brood(
     ranks: &[usize],
     operators: Operators,
     rng: Rng,
-) -> DrawnChildren
+) -> DrawnPair<[Slot; MAX_DIMS]>
     requires { (0 < count) × (count * operators.n_dims ≤ length parents.now) × (count ≤ length ranks.now)
         × (bad_dimensions (operators_in operators).dims operators.n_dims ≡ false)
         × (bad_operators operators.crossover_prob operators.crossover_eta operators.mutation_eta ≡ false) }
@@ -76,24 +72,19 @@ pub fn brood(
     let dims = operators.dimensions;
     let n = operators.n_dims;
     let a = tournament_select_rank(ranks, count, rng);
-    let i = a.value;
-    let rng = a.rng;
-    let b = tournament_select_rank(ranks, count, rng);
-    let j = b.value;
-    let rng = b.rng;
-    let p = candidate_operators::read_parent(parents, dims, n, i);
-    let q = candidate_operators::read_parent(parents, dims, n, j);
+    let b = tournament_select_rank(ranks, count, a.rng);
+    let p = candidate_operators::read_parent(parents, dims, n, a.value);
+    let q = candidate_operators::read_parent(parents, dims, n, b.value);
     let k = variation::exponent_of(operators.crossover_eta);
-    let c = crossover(dims, n, operators.crossover_prob, k, p, q, rng);
-    let first = c.first;
-    let second = c.second;
-    let rng = c.rng;
+    let c = crossover(dims, n, operators.crossover_prob, k, p, q, b.rng);
     let m = variation::exponent_of(operators.mutation_eta);
-    let x = candidate_operators::mutate(dims, n, first, m, rng);
-    let first = x.params;
-    let rng = x.rng;
-    let y = candidate_operators::mutate(dims, n, second, m, rng);
-    let second = y.params;
-    let rng = y.rng;
-    DrawnChildren { first, second, rng }
+    let x = candidate_operators::mutate(dims, n, c.first, m, c.rng);
+    let y = candidate_operators::mutate(dims, n, c.second, m, x.rng);
+    let first = x.value;
+    let second = y.value;
+    DrawnPair {
+        first,
+        second,
+        rng: y.rng,
+    }
 }

@@ -3,9 +3,8 @@
 use Prim.Native.Nat.{ℕ, ◌<◌}
 use mathlib.Core.Path.{◌≡◌, ap, sym, ◌∙◌}
 use mathlib.Core.List.{List}
-use mathlib.Core.Option.{none}
+use Rattle.std.specs.Prelude.{None, Ok}
 use lib.ListN.{length}
-use Rattle.model.specs.declared.Outcome.TheVariants as outcome
 use Rattle.model.specs.Association.{Request}
 use Rattle.model.specs.Kept.{Selected, selected}
 use Rattle.model.specs.Setting.{Operators, Generation}
@@ -16,12 +15,12 @@ use Rattle.demand3_laws.proofs.Calls.{select_accepted_lem, step-accepted}
 use Rattle.hopeless_laws.specs.Hopeless.{HopelessRows}
 use Rattle.hopeless_laws.proofs.Hopeless.{hopeless, hopeless_generation}
 
-module _ (r s : Request) (h : HopelessRows r s) (entry : Lent) (e : select_refusal r (room_of entry) ≡ none) (k : select_refusal s (room_of entry) ≡ none) where
+module _ (r s : Request) (h : HopelessRows r s) (entry : Lent) (e : select_refusal r (room_of entry) ≡ None) (k : select_refusal s (room_of entry) ≡ None) where
   -- the plans lie in words
   module _ (words : (p : ℕ) → InWords (r.plans p)) where
     accepted-same : select_accepted r entry ≡ select_accepted s entry
     unfolding select_accepted
-    accepted-same = ap (λ (sel : Selected). select_exit (answered (outcome.Kept (length sel.kept)) sel.state) sel.ideal (laid sel entry))
+    accepted-same = ap (λ (sel : Selected). select_exit (answered (Ok (length sel.kept)) sel.state) sel.ideal (laid sel entry))
         (hopeless r s h (select_accepted_lem r words (room_of entry) e))
 
     exit-same : select_of r entry ≡ select_of s entry
@@ -35,8 +34,8 @@ module _ (r s : Request) (h : HopelessRows r s) (entry : Lent) (e : select_refus
 -- ---- `nsga3_generate_offspring`, on pools with the same settings
 
 module _ (r s : Request) (h : HopelessRows r s) (settings : (p : ℕ) → p < r.count → (s.plans p).settings ≡ (r.plans p).settings) (words : (p : ℕ) → InWords (r.plans p))
-    (o : Operators) (entry : Lent) (offspring : List ℕ) (e : step_refusal o r (room_of entry) (length offspring) ≡ none)
-    (k : step_refusal o s (room_of entry) (length offspring) ≡ none) where
+    (o : Operators) (entry : Lent) (offspring : List ℕ) (e : step_refusal o r (room_of entry) (length offspring) ≡ None)
+    (k : step_refusal o s (room_of entry) (length offspring) ≡ None) where
   step_same : step_of o r entry offspring ≡ step_of o s entry offspring
   unfolding step_of step_accepted
   step_same =

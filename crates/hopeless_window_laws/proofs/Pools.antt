@@ -4,17 +4,16 @@ use Prim.Native.Nat.{ℕ, ◌+◌, ◌*◌, ◌<◌, min}
 use mathlib.Core.Path.{◌≡◌, refl, sym, ap, ap₂, subst, ◌∙◌}
 use mathlib.Core.Bool.{true, false}
 use mathlib.Core.List.{List, ◌++◌}
-use mathlib.Core.Option.{Option, none, some}
+use Rattle.std.specs.Prelude.{Option, None, Some}
 use lib.Ieee.{Float, lt}
 use lib.ListN.{length, get_or, take}
 use Rattle.list_laws.proofs.Best.{best_same}
 use Rattle.list_laws.proofs.Bools.{and_fails}
 use Rattle.list_laws.proofs.Built.{list_below-length, list_below-at, list_below-same, over-take}
 use Rattle.list_laws.proofs.Rows.{row_lt}
+use Rattle.model.specs.declared.Refusal.{Refusal}
 use Rattle.model.specs.declared.Config.{Config}
 use Rattle.model.specs.declared.Distribution.{Distribution}
-use Rattle.model.specs.declared.OptionUsize.{OptionUsize}
-use Rattle.model.specs.declared.OptionUsize.TheVariants as opt_usize
 use Rattle.model.specs.declared.Session.{Session}
 use Rattle.model.specs.Lists.{best_from, list_below, over}
 use Rattle.model.specs.Real.{real, infinity}
@@ -22,7 +21,7 @@ use Rattle.model.specs.Association.{Request, objectives, ideal_of}
 use Rattle.model.specs.Kept.{Selected, selected}
 use Rattle.model.specs.Setting.{generation}
 use Rattle.model.specs.Window.{most_remembered, own_words, last_of, least_remembered, ideal_after}
-use Rattle.model.specs.Session.{State, given, breeds, breed, request_of, operators_of, accepted, sample_from_candidate, memory_at, memory_in, memory_after, most_words, remembered_after, start_by, start_ideal}
+use Rattle.model.specs.Session.{State, breeds, breed, request_of, operators_of, accepted, sample_from_candidate, memory_at, memory_in, memory_after, most_words, remembered_after, start_by, start_ideal}
 use Rattle.model.specs.Refusal.{sample_refusal, bad_pool}
 use Rattle.model.specs.Property.{SessionOk}
 use Rattle.model.specs.Calls.{SampleExit, sample_by, sample_of, Samples}
@@ -52,10 +51,10 @@ module _ (s : Session) (pool : List ℕ) where
   word_in g j h l = sym (list_below-at (λ i. get_or pool (memory_at s.config + i) 0) (n * m) 0 (g * m + j) (row_lt g j n m h l))
 
   -- with a window it is the least of what is remembered, and of nothing else
-  pub start_is : (w : ℕ) → s.config.window ≡ opt_usize.Some w → take m (start_ideal s pool) ≡ start_from m n (memory_in s pool)
+  pub start_is : (w : ℕ) → s.config.window ≡ Some w → take m (start_ideal s pool) ≡ start_from m n (memory_in s pool)
   unfolding start_ideal
   start_is w e =
-      ap (λ (o : OptionUsize). take m (start_by (given o) s pool)) e
+      ap (λ (o : Option ℕ). take m (start_by o s pool)) e
       ∙ over-take (list_below (least_remembered pool (memory_at s.config) m n) m) s.ideal_point m (list_below-length (least_remembered pool (memory_at s.config) m n) m)
       ∙ list_below-same (least_remembered pool (memory_at s.config) m n) (λ j. best_from lt infinity (λ g. real (get_or (memory_in s pool) (g * m + j) 0)) n) m
       (λ j l. best_same lt infinity _ _ n (λ g h. ap real (word_in g j h l)))
@@ -69,7 +68,7 @@ module _ (w : ℕ) (st su : State) (history other : List ℕ) (h : HopelessPools
   abbrev s : Request
   s = request_of su other
 
-  window_su : su.session.config.window ≡ opt_usize.Some w
+  window_su : su.session.config.window ≡ Some w
   window_su = ap (λ (c : Config). c.window) h.config ∙ h.window
 
   start-same : s.ideal ≡ r.ideal
@@ -105,15 +104,15 @@ module _ (w : ℕ) (st su : State) (history other : List ℕ) (h : HopelessPools
       ∙ ap₂ (λ (a b : List ℕ). last_of (most_words st.session.config) (a ++ b)) h.remembered.words (sym (hopeless_own r s rows (request-accepted st history ok pool)))
 
   count_same : remembered_after su.session ≡ remembered_after st.session
-  count_same = ap₂ (λ (n : ℕ) (c : Config). min (n + 1) (most_remembered (given c.window))) h.remembered.count h.config
+  count_same = ap₂ (λ (n : ℕ) (c : Config). min (n + 1) (most_remembered c.window)) h.remembered.count h.config
 
 -- the ideal that a session with a window has once it bred
-ideal-left : (w : ℕ) (st : State) (history : List ℕ) → SessionOk st → st.session.config.window ≡ opt_usize.Some w
+ideal-left : (w : ℕ) (st : State) (history : List ℕ) → SessionOk st → st.session.config.window ≡ Some w
     → take st.session.config.n_obj (breed st history).session.ideal_point ≡ list_below (ideal_of (request_of st history)) (objectives (request_of st history))
 unfolding breed
 ideal-left w st history ok e =
     let q = request_of st history in
-    ap (λ (o : OptionUsize). take st.session.config.n_obj (over (ideal_after (given o) q (generation (operators_of st.session) q).selection) st.session.ideal_point)) e
+    ap (λ (o : Option ℕ). take st.session.config.n_obj (over (ideal_after o q (generation (operators_of st.session) q).selection) st.session.ideal_point)) e
     ∙ over-take (list_below (ideal_of q) (objectives q)) st.session.ideal_point st.session.config.n_obj
     (list_below-length (ideal_of q) (objectives q) ∙ request-objectives st history ok)
 
@@ -126,11 +125,11 @@ call_leaves st d plan history b =
     let a = breeds_active st history b in
     rw (active_discovers st plan a, a, b) (sampled_leaves (breed st history) plan)
 
-exit_leaves : (st : State) (d : Distribution) (plan : ℕ) (history : List ℕ) (x : SampleExit) → Samples st d plan history x → sample_refusal st d plan history ≡ none → breeds st history ≡ true
+exit_leaves : (st : State) (d : Distribution) (plan : ℕ) (history : List ℕ) (x : SampleExit) → Samples st d plan history x → sample_refusal st d plan history ≡ None → breeds st history ≡ true
     → Untouched (breed st history) x.after
 unfolding sample_of
 exit_leaves st d plan history x samples e b =
-    let whole = samples.whole ∙ ap (λ (o : Option ℕ). sample_by o st (accepted st d plan history)) e in
+    let whole = samples.whole ∙ ap (λ (o : Option Refusal). sample_by o st (accepted st d plan history)) e in
     subst (λ (y : SampleExit). Untouched (breed st history) y.after) (sym whole) (call_leaves st d plan history b)
 
 -- what is remembered, by what it depends on
@@ -146,7 +145,7 @@ untouched_ideal : (st x : State) → Untouched st x → take x.session.config.n_
 untouched_ideal st x u = ap₂ (λ (c : Config) (l : List Float). take c.n_obj l) u.config u.ideal
 
 module _ (w : ℕ) (st su : State) (history other : List ℕ) (h : HopelessPools w st su history other) (ok : SessionOk st) (also : SessionOk su)
-    (d f : Distribution) (plan number : ℕ) (e : sample_refusal st d plan history ≡ none) (k : sample_refusal su f number other ≡ none)
+    (d f : Distribution) (plan number : ℕ) (e : sample_refusal st d plan history ≡ None) (k : sample_refusal su f number other ≡ None)
     (b : breeds st history ≡ true) (c : breeds su other ≡ true) (x y : SampleExit) (first : Samples st d plan history x) (second : Samples su f number other y) where
   pool-good : bad_pool (request_of st history) ≡ false
   pool-good = and_fails (breeds st history) _ (sample_passed st d plan history e).pool b

@@ -1,8 +1,7 @@
 -- Document 02, M-112, of sessions: "Then two accepted pools that differ only in the rows of infeasible plans, with equal directions, lines, generator state, starting
 -- ideal and size, and a feasible split front, yield the same kept list, rules and draws. With a window, its remembered ideals must be equal too."
-use Rattle.std.specs.Prelude.{ℕ, ◌<◌, ◌≡◌, true, List, take}
+use Rattle.std.specs.Prelude.{ℕ, ◌<◌, ◌≡◌, true, List, take, Some}
 use Rattle.model.specs.declared.Edition.TheVariants.{Second}
-use Rattle.model.specs.declared.OptionUsize.TheVariants as opt_usize
 use Rattle.model.specs.Lists.{In}
 use Rattle.model.specs.Association.{Request, feasible_plan}
 use Rattle.model.specs.Kept.{is_split, split_front, selected}
@@ -17,7 +16,7 @@ pub record SameMemory (st su : State) : Type 0 where
 -- the least of what is remembered (`start_is`, proofs/Pools.antt).
 pub record HopelessPools (w : ℕ) (st su : State) (history other : List ℕ) : Type 0 where
   pub edition : st.session.config.edition ≡ Second
-  pub window : st.session.config.window ≡ opt_usize.Some w
+  pub window : st.session.config.window ≡ Some w
   -- "with equal directions, lines, .. and size": all that was settled at opening
   pub config : su.session.config ≡ st.session.config
   pub generator : su.session.rng.s ≡ st.session.rng.s

@@ -52,7 +52,7 @@ pub fn find_edition_intercepts(
 {
     if editions::uses_plane(edition) {
         find_plane_intercepts(rows, n, m, ideal, out);
-        return;
+    } else {
+        normalization::find_intercepts(rows, n, m, ideal, out);
     }
-    normalization::find_intercepts(rows, n, m, ideal, out);
 }

@@ -21,10 +21,7 @@ fn applied(a: u64, c: u64, s: u64) -> u64
 fn moved(a: u64, c: u64, s: u64, left: u64) -> u64
     ensures { result ≡ moved_by a c s (left % 2) }
 {
-    if left % 2 == 1 {
-        return applied(a, c, s);
-    }
-    s
+    if left % 2 == 1 { applied(a, c, s) } else { s }
 }
 
 // The generator k words on. The map is that of 2^i steps before digit i of k is looked at.
@@ -35,13 +32,11 @@ pub fn jump(rng: Rng, k: u64) -> Rng
     let mut left = k;
     let mut a: u64 = 6364136223846793005;
     let mut c: u64 = 1442695040888963407;
-    let mut i: u64 = 0;
-    while i < 64 {
+    for _i in 0..64u64 {
         s = moved(a, c, s, left);
-        left = left / 2;
+        left /= 2;
         c = applied(a, c, c);
         a = wrapping_mul_u64(a, a);
-        i += 1;
     }
     Rng { s }
 }

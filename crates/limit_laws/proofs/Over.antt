@@ -3,11 +3,12 @@ use Prim.Native.Nat.{ℕ, ◌+◌, ◌*◌, ◌≤◌, ◌<◌, min}
 use mathlib.Core.Path.{◌≡◌, refl, sym, ap, ap₂, ◌∙◌}
 use mathlib.Core.Bool.{Bool, true, false, not, ◌&&◌, ◌||◌}
 use mathlib.Core.List.{List}
-use mathlib.Core.Option.{some}
+use Rattle.std.specs.Prelude.{Some}
 use native.Mathlib.Nat.{min-eq_left, min-le_right}
 use native.Mathlib.Omega.{arith}
 use borrow.Author.Tests.{lt-ltb, le-ltb, le-leb, lt-leb}
 use lib.Dec.{leb, ltb}
+use Rattle.model.specs.declared.Refusal.TheVariants as why
 use Rattle.model.specs.declared.Distribution.{Distribution}
 use Rattle.model.specs.Lists.{all_below, list_below}
 use Rattle.model.specs.Real.{real}
@@ -37,7 +38,7 @@ pub next_within : (n : ℕ) (d : Distribution) → n < 24 → bad_next n d ≡ n
 next_within n d h = rw (lt-leb max_dims n (omega arith))
 
 pub session-over : (st : State) (d : Distribution) (plan : ℕ) (history : List ℕ) → discovers st plan ≡ true → 24 ≤ st.session.progress.n_dims
-    → sample_refusal st d plan history ≡ some 6
+    → sample_refusal st d plan history ≡ Some why.Bounds
 unfolding sample_refusal first_of
 session-over st d plan history e h = rw (e, le-leb max_dims st.session.progress.n_dims (omega arith))
 

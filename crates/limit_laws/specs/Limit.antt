@@ -1,6 +1,7 @@
 -- Document 02, M-107: "Twenty-four settings." What the greatest number turns down, and that nothing below it depends on it.
-use Rattle.std.specs.Prelude.{ℕ, ◌+◌, ◌*◌, ◌≤◌, ◌<◌, ◌≡◌, Bool, true, false, not, ◌&&◌, List}
-use Rattle.std.proofs.Math.Option.{Option, some}
+use Rattle.std.specs.Prelude.{ℕ, ◌+◌, ◌*◌, ◌≤◌, ◌<◌, ◌≡◌, Bool, true, false, not, ◌&&◌, List, Option, Some}
+use Rattle.model.specs.declared.Refusal.{Refusal}
+use Rattle.model.specs.declared.Refusal.TheVariants as why
 use Rattle.model.specs.declared.Distribution.{Distribution}
 use Rattle.model.specs.Lists.{all_below}
 use Rattle.model.specs.Plan.{Plan, plan_up_to, plan_of}
@@ -11,7 +12,7 @@ use Rattle.model.specs.Refusal.{Room, first_of, bad_bounds, bad_bounds_past, bad
 
 -- The refusal of a generation step whose greatest number of dimensions and settings is `limit`. A request's plans have their settings as lists, so nothing else
 -- in it depends on the number; nor does what an accepted step answers (`generation`).
-abbrev pub step_refusal_past : ℕ → Operators → Request → Room → ℕ → Option ℕ
+abbrev pub step_refusal_past : ℕ → Operators → Request → Room → ℕ → Option Refusal
 step_refusal_past limit o r room offspring =
     first_of (step_checks_by (bad_bounds_past limit o.dims o.dim_count) (some_fails (breedable_past limit o.dims o.dim_count) r) o r room offspring)
 
@@ -24,7 +25,7 @@ pub record TwentyFour : Type 0 where
   pub next_within : (n : ℕ) (d : Distribution) → n < 24 → bad_next n d ≡ not (valid_bounds d)
   -- a session with 24 dimensions answers 6 to a call that would add one
   pub session : (st : State) (d : Distribution) (plan : ℕ) (history : List ℕ) → discovers st plan ≡ true → 24 ≤ st.session.progress.n_dims
-      → sample_refusal st d plan history ≡ some 6
+      → sample_refusal st d plan history ≡ Some why.Bounds
   -- "and a plan that refusal 9 looks at meets it with over 24"
   pub settings_over : (dims : ℕ → Distribution) (n : ℕ) (p : Plan) → 24 < p.setting_count → breedable dims n p ≡ false
   pub settings_within : (dims : ℕ → Distribution) (n : ℕ) (p : Plan) → p.setting_count ≤ 24

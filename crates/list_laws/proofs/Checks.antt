@@ -3,29 +3,31 @@ use Prim.Native.Nat.{ℕ, zero, suc, ◌≤◌, ◌<◌}
 use mathlib.Core.Path.{◌≡◌, refl}
 use mathlib.Core.Bool.{Bool, true, false, cond, ◌&&◌}
 use mathlib.Core.List.{List, [], ◌∷◌}
-use mathlib.Core.Option.{none, some, some-ne-none}
+use Rattle.list_laws.proofs.Options.{some-ne-none}
+use Rattle.std.specs.Prelude.{None, Some, unwrap_or}
 use borrow.Author.Tests.{eqb-true, leb-true, not-false}
 use lib.Dec.{eqb, leb}
 use lib.Ieee.{Float}
 use lib.ListN.{length, get_or}
+use Rattle.model.specs.declared.Refusal.{Refusal}
+use Rattle.model.specs.declared.Refusal.TheVariants as why
 use Rattle.model.specs.Lists.{all_in}
 use Rattle.model.specs.Plan.{Plan, max_constraints}
-use Rattle.model.specs.Reference.{or_else}
 use Rattle.model.specs.Association.{Request, objectives}
 use Rattle.model.specs.Refusal.{Check, check, first_of, measurable, good_plan, good_plans, good_ideal, bad_pool}
 use Rattle.list_laws.proofs.Tests.{all_below-each}
 use Rattle.list_laws.proofs.Bools.{by_bool, and_left, and_right}
 
 -- where none applies, each of them does not
-not-given : (c : Check) (cs : List Check) → first_of (c ∷ cs) ≡ none → (c.applies ≡ false) × (first_of cs ≡ none)
+not-given : (c : Check) (cs : List Check) → first_of (c ∷ cs) ≡ None → (c.applies ≡ false) × (first_of cs ≡ None)
 unfolding first_of
 not-given c cs e = go c.applies refl e
   where
-    go : (b : Bool) → c.applies ≡ b → cond b (some c.number) (first_of cs) ≡ none → (c.applies ≡ false) × (first_of cs ≡ none)
-    go true h k = absurd (some-ne-none c.number k)
+    go : (b : Bool) → c.applies ≡ b → cond b (Some c.reason) (first_of cs) ≡ None → (c.applies ≡ false) × (first_of cs ≡ None)
+    go true h k = absurd (some-ne-none c.reason k)
     go false h k = (h, k)
 
-pub applies-at : (cs : List Check) (i : ℕ) → first_of cs ≡ none → (get_or cs i (check 0 false)).applies ≡ false
+pub applies-at : (cs : List Check) (i : ℕ) → first_of cs ≡ None → (get_or cs i (check why.Form false)).applies ≡ false
 applies-at [] i e = refl
 applies-at (c ∷ cs) zero e = (not-given c cs e).0
 applies-at (c ∷ cs) (suc i) e = applies-at cs i (not-given c cs e).1
@@ -81,11 +83,11 @@ module _ (r : Request) (e : bad_pool r ≡ false) where
   pool-plan = all_below-each (λ p. good_plan (objectives r) (r.plans p)) r.count pool-plans
 
 -- one that applies is the first
-pub applies-first : (c : Check) (cs : List Check) → c.applies ≡ true → first_of (c ∷ cs) ≡ some c.number
+pub applies-first : (c : Check) (cs : List Check) → c.applies ≡ true → first_of (c ∷ cs) ≡ Some c.reason
 unfolding first_of
 applies-first c cs e = rw e
 
 -- the first of three checks, of which the last applies, by the first of the two before
-pub then_last : (a b c : Check) → c.applies ≡ true → first_of (a ∷ b ∷ c ∷ []) ≡ some (or_else (first_of (a ∷ b ∷ [])) c.number)
+pub then_last : (a b c : Check) → c.applies ≡ true → first_of (a ∷ b ∷ c ∷ []) ≡ Some (unwrap_or (first_of (a ∷ b ∷ [])) c.reason)
 unfolding first_of
 then_last a b c e = by_bool a.applies (λ p. rw p) (λ p. by_bool b.applies (λ q. rw (p, q)) (λ q. rw (p, q, e)))

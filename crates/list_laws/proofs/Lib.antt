@@ -1,4 +1,5 @@
 pub mod Bools
+pub mod Options
 pub mod Below
 pub mod Tests
 pub mod Counts
@@ -15,3 +16,4 @@ pub mod Runs
 pub mod Stores
 pub mod Checks
 pub mod Limits
+pub mod Chains

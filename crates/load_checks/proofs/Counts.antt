@@ -1,5 +1,5 @@
 -- The counts of a load, test by test.
-use Prim.Native.Nat.{ℕ, ◌≤◌, ◌<◌}
+use Prim.Native.Nat.{◌≤◌, ◌<◌}
 use mathlib.Core.Path.{◌≡◌, sym, ◌∙◌}
 use mathlib.Core.Bool.{true, false, and-false, ◌||◌}
 use borrow.Author.Tests.{lt-leb, le-leb}

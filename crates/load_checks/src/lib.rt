@@ -13,22 +13,13 @@ use model::{Edition, MAX_CONSTRAINTS, MAX_OBJECTIVES};
 pub fn bad_counts(load: Load) -> bool
     ensures { result ≡ bad_counts (load_from load) }
 {
-    let bad_size = plans::bad_size(load.size as usize);
-    let bad_count = plans::bad_count(Edition::First, load.count as usize);
     let m = load.objectives as usize;
-    if m < 1 {
-        return true;
-    }
-    if MAX_OBJECTIVES < m {
-        return true;
-    }
-    if bad_size {
-        return true;
-    }
-    if divisions::bad_divisions(m, load.divisions as usize) {
-        return true;
-    }
-    if bad_count {
+    if m < 1
+        || MAX_OBJECTIVES < m
+        || plans::bad_size(load.size as usize)
+        || divisions::bad_divisions(m, load.divisions as usize)
+        || plans::bad_count(Edition::First, load.count as usize)
+    {
         return true;
     }
     (MAX_CONSTRAINTS as u64) < load.constraints

@@ -10,7 +10,7 @@ ghost use Rattle.load_draws.specs.Drawing.{draw_one, draw_some, draw_many, real_
 
 use model::Rng;
 use pool_form::put_word;
-use rng_util::{DrawnF64, draw_f64};
+use rng_util::{Drawn, draw_f64};
 
 // The place after what was written, and the generator after what was drawn.
 #[derive(Clone, Copy)]
@@ -20,14 +20,14 @@ pub struct Stand {
 }
 
 // A value is a draw; a constraint is one less 0.5.
-fn draw_one(lowered: bool, rng: Rng) -> DrawnF64
+fn draw_one(lowered: bool, rng: Rng) -> Drawn<f64>
     ensures { drawn result.value result.rng.s ≡ draw_one lowered rng.s }
 {
     let d = draw_f64(rng);
     if lowered {
         let value = d.value - 0.5;
         let rng = d.rng;
-        return DrawnF64 { value, rng };
+        return Drawn { value, rng };
     }
     d
 }
@@ -46,16 +46,11 @@ fn put_one(lowered: bool, rng: Rng, out: &mut [u8], at: usize) -> Stand
 fn put_some(n: usize, lowered: bool, rng: Rng, out: &mut [u8], at: usize) -> Stand
     ensures { Draws (map bits) (draw_some lowered n rng.s) out.old at out.new result.at result.rng.s }
 {
-    let mut at = at;
-    let mut rng = rng;
-    let mut i = 0;
-    while i < n {
-        let s = put_one(lowered, rng, out, at);
-        at = s.at;
-        rng = s.rng;
-        i += 1;
+    let mut stand = Stand { at, rng };
+    for _ in 0..n {
+        stand = put_one(lowered, stand.rng, out, stand.at);
     }
-    Stand { at, rng }
+    stand
 }
 
 // A plan: m values, the number of its constraints, and these.
@@ -72,14 +67,9 @@ fn put_plan(m: usize, c: usize, rng: Rng, out: &mut [u8], at: usize) -> Stand
 pub fn put_plans(n: usize, m: usize, c: usize, rng: Rng, out: &mut [u8], at: usize) -> Stand
     ensures { Draws plans_numbers (draw_many m c n rng.s) out.old at out.new result.at result.rng.s }
 {
-    let mut at = at;
-    let mut rng = rng;
-    let mut i = 0;
-    while i < n {
-        let s = put_plan(m, c, rng, out, at);
-        at = s.at;
-        rng = s.rng;
-        i += 1;
+    let mut stand = Stand { at, rng };
+    for _ in 0..n {
+        stand = put_plan(m, c, stand.rng, out, stand.at);
     }
-    Stand { at, rng }
+    stand
 }

@@ -3,12 +3,12 @@ use Prim.Native.Nat.{ℕ, ◌≤◌, ◌<◌}
 use mathlib.Core.Path.{◌≡◌, ap, sym, ◌∙◌}
 use mathlib.Core.Bool.{true, false, or-true}
 use mathlib.Core.List.{List}
-use mathlib.Core.Option.{some}
+use Rattle.std.specs.Prelude.{Some, Err}
 use native.Mathlib.Omega.{arith}
 use borrow.Author.Tests.{lt-ltb, le-ltb, ltb-false}
 use lib.Dec.{eqb}
 use lib.ListN.{length, take}
-use Rattle.model.specs.declared.Chosen.TheVariants as chosen
+use Rattle.model.specs.declared.Refusal.TheVariants as why
 use Rattle.model.specs.Plan.{max_objectives, max_constraints}
 use Rattle.model.specs.PoolFile.{max_file}
 use Rattle.model.specs.declared.Edition.TheVariants.{First}
@@ -26,17 +26,17 @@ use Rattle.load_laws.proofs.Promise.{promise}
 use Rattle.load_file.specs.Filed.{filed_exit}
 
 -- the whole promise, from what a load in good form leaves
-pub filed : (bytes out : List ℕ) (l : Load) (x : ChooseExit) → parse_load bytes ≡ some l → x ≡ filed_exit l out → Loads bytes out x
+pub filed : (bytes out : List ℕ) (l : Load) (x : ChooseExit) → parse_load bytes ≡ Some l → x ≡ filed_exit l out → Loads bytes out x
 unfolding load_of load_refusal
 filed bytes out l x read e = promise bytes out x (e ∙ sym (ap (λ g. choose_by (refusal_of_load g (length out)) (text_of_load g) out) read))
 
 module _ (l : Load) (out : List ℕ) where
   -- refusal 13
-  turned_down : bad_load l ≡ true → exit (chosen.Refused 13) out ≡ filed_exit l out
+  turned_down : bad_load l ≡ true → exit (Err why.Load) out ≡ filed_exit l out
   unfolding filed_refusal
   turned_down bad = sym (ap (λ o. choose_by o (load_text l) out) (applies-first _ _ bad))
 
-  pub bad-counts : bad_counts l ≡ true → exit (chosen.Refused 13) out ≡ filed_exit l out
+  pub bad-counts : bad_counts l ≡ true → exit (Err why.Load) out ≡ filed_exit l out
   unfolding bad_load
   bad-counts bad = turned_down (rw bad)
 
@@ -48,7 +48,7 @@ module _ (l : Load) (out : List ℕ) where
 
     -- the file is made in a buffer that is as long as the longest one
     module _ (before after : List ℕ) (n : ℕ) (made : Adds (load_text l) before 0 after n) (full : length before ≡ max_file) where
-      pub too_long : max_file < n → exit (chosen.Refused 13) out ≡ filed_exit l out
+      pub too_long : max_file < n → exit (Err why.Load) out ≡ filed_exit l out
       unfolding bad_load
       too_long h =
           let m = made.same ∙ full in

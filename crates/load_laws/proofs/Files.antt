@@ -3,7 +3,7 @@ use Prim.Native.Nat.{ℕ, ◌≤◌}
 use mathlib.Core.Path.{◌≡◌, ap, sym, ◌∙◌, subst}
 use mathlib.Core.Bool.{false}
 use mathlib.Core.List.{List, [], ◌∷◌, ◌++◌, flatten, append-nil, map-map}
-use mathlib.Core.Option.{some}
+use Rattle.std.specs.Prelude.{Some}
 use native.Mathlib.Omega.{arith}
 use borrow.Author.Tests.{ne_eqb}
 use lib.Dec.{lit<}
@@ -54,7 +54,7 @@ module _ (l : Load) (words : LoadWords l) where
       ap opens_second (sym (append-nil text)) ∙ opens_with plan_numbers (load_pool l) [] ∙ ne_eqb l.objectives 64 (λ z. omega arith)
 
   -- READ BACK
-  pub load-reads : l.objectives ≤ max_objectives → length (load_text l) ≤ max_file → parse (load_text l) ≡ some (load_pool l)
+  pub load-reads : l.objectives ≤ max_objectives → length (load_text l) ≤ max_file → parse (load_text l) ≡ Some (load_pool l)
   unfolding parse pool_file
   load-reads few h =
       let e = text_is l in

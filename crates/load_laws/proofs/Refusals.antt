@@ -2,7 +2,7 @@
 use Prim.Native.Nat.{ℕ, zero, suc, ◌≤◌, ◌<◌}
 use mathlib.Core.Path.{◌≡◌, refl, sym, ap, ◌∙◌, subst}
 use mathlib.Core.Bool.{Bool, true, false, not, ◌&&◌, or-true}
-use mathlib.Core.Option.{none}
+use Rattle.std.specs.Prelude.{None}
 use native.Mathlib.Omega.{arith}
 use borrow.Author.Tests.{eq-eqb, le-leb, le-ltb, leb-true, ltb-false, not-false}
 use lib.Dec.{leb}
@@ -119,6 +119,6 @@ module _ (l : Load) (ok : Counted l) where
       selected-short request (size-limits request.size not_3).1 (count-limits First request.count not_7).1
       (lines-some (objectives request) request.divisions (subst (λ m. 1 ≤ m) (sym marks-many) ok.wide)) four.lines
 
-  pub none_refuses : file_refusal (load_pool l) max_text ≡ none
+  pub none_refuses : file_refusal (load_pool l) max_text ≡ None
   unfolding file_refusal first_of
   none_refuses = rw (not_2, not_3, not_4, not_7, not_8, le-ltb max_text (length (file_text (load_pool l))) not_10)

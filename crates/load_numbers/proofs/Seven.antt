@@ -2,18 +2,16 @@
 use Prim.Native.Nat.{ℕ, suc, ◌≤◌, ◌<◌}
 use mathlib.Core.Path.{◌≡◌, refl, ap, sym, ◌∙◌}
 use mathlib.Core.List.{List, ◌∷◌}
-use mathlib.Core.Option.{Option, none, some}
+use Rattle.std.specs.Prelude.{Option, None, Some}
 use native.Mathlib.Omega.{arith}
 use lib.ListN.{length, drop, drop_of_length-le}
 use lib.Seq.{sets, drop-cons, take_all}
 use Rattle.model.specs.PoolFile.{Parsed, Reader, pure, onward, number, many, wholly, if_none_left}
-use Rattle.model.specs.Load.{Load, load, parse_load}
+use Rattle.model.specs.Load.{load, parse_load}
 use Rattle.list_laws.proofs.Bools.{by_option}
 use Rattle.list_laws.proofs.Built.{over-front, over-all}
-use Rattle.pool_plans.specs.declared.End.{End}
-use Rattle.pool_plans.specs.declared.End.TheVariants as end
-use Rattle.pool_plans.specs.Blocks.{Words, WordsIs}
-use Rattle.pool_plans.proofs.Storing.{as_told, reads-count, stored_plain}
+use Rattle.pool_plans.specs.Blocks.{Words}
+use Rattle.pool_plans.proofs.Storing.{reads-count, stored_plain}
 use Rattle.load_numbers.specs.Asking.{load_in}
 
 -- a value read before so many others, where each goes on as they do together
@@ -35,21 +33,17 @@ load_seven bytes =
     before-many number 1 (λ l. load_in (m ∷ h ∷ size ∷ count ∷ constraints ∷ l)) _ r₅ λ seed r₆.
     before-many number 0 (λ l. load_in (m ∷ h ∷ size ∷ count ∷ constraints ∷ seed ∷ l)) _ r₆ λ k r₇. refl
 
-module _ (input l o : List ℕ) (r : End) (w : WordsIs (λ v. v) input 0 7 7 0 l o r) where
-  pub seven_none : r ≡ end.Broken → parse_load input ≡ none
+module _ (input : List ℕ) where
+  pub seven_none : many 7 number input ≡ None → parse_load input ≡ None
   unfolding parse_load
-  seven_none e =
-      ap wholly (load_seven input ∙ ap (λ (t : Option (Parsed (List ℕ))). onward t (λ k. pure (load_in k))) (as_told (many 7 number) _ input 0 e w))
+  seven_none e = ap wholly (load_seven input ∙ ap (λ (t : Option (Parsed (List ℕ))). onward t (λ k. pure (load_in k))) e)
 
-  module _ (next : ℕ) (e : r ≡ end.At next) where
-    seven : Words (λ v. v) input 0 7 7 0 l o next
-    seven = as_told (many 7 number) _ input 0 e w
-
+  module _ (l o : List ℕ) (next : ℕ) (seven : Words (λ v. v) input 0 7 7 0 l o next) where
     whole : parse_load input ≡ if_none_left (drop next input) (load_in seven.value)
     unfolding parse_load
     whole = ap wholly (load_seven input ∙ ap (λ (t : Option (Parsed (List ℕ))). onward t (λ k. pure (load_in k))) seven.reads)
 
-    pub seven_runs_on : next < length input → parse_load input ≡ none
+    pub seven_runs_on : next < length input → parse_load input ≡ None
     seven_runs_on u = whole ∙ ap (λ (t : List ℕ). if_none_left t (load_in seven.value)) (drop-cons input next 0 u)
 
     module _ (room : length l ≡ 7) where
@@ -60,7 +54,7 @@ module _ (input l o : List ℕ) (r : End) (w : WordsIs (λ v. v) input 0 7 7 0 l
           stored_plain 7 0 l o seven.value seven.stored ∙ ap (sets l 0) (take_all 7 seven.value (omega arith)) ∙ over-front seven.value l (omega arith)
           ∙ over-all seven.value l (omega arith)
 
-      pub seven_good : length input ≤ next → parse_load input ≡ some (load_in o)
+      pub seven_good : length input ≤ next → parse_load input ≡ Some (load_in o)
       seven_good u =
           whole ∙ ap (λ (t : List ℕ). if_none_left t (load_in seven.value)) (drop_of_length-le input u)
-          ∙ ap (λ (k : List ℕ). some (load_in k)) (sym in_words)
+          ∙ ap (λ (k : List ℕ). Some (load_in k)) (sym in_words)

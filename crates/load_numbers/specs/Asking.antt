@@ -1,9 +1,6 @@
 -- What is read of a load that is asked for, in model's words.
-use Rattle.std.specs.Prelude.{ℕ, List, get_or}
-use Rattle.std.proofs.Math.Option.{Option, none, some}
+use Rattle.std.specs.Prelude.{ℕ, List, get_or, Option, Some, None}
 use Rattle.model.specs.Load.{Load}
-use Rattle.load_numbers.specs.declared.Asking.{Asking}
-use Rattle.load_numbers.specs.declared.Asking.TheVariants as asking
 use Rattle.load_numbers.specs.declared.Load.{Load as Numbers}
 
 -- the seven numbers
@@ -18,9 +15,9 @@ load_from l = record {
   skip = l.skip;
 }
 
-abbrev pub asked : Asking → Option Load
-asked (asking.Good l) = some (load_from l)
-asked asking.Broken = none
+abbrev pub asked : Option Numbers → Option Load
+asked (Some l) = Some (load_from l)
+asked None = None
 
 -- the load that seven numbers form
 abbrev pub load_in : List ℕ → Load

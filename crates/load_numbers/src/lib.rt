@@ -6,7 +6,7 @@ ghost use Rattle.std.specs.Prelude.{◌≡◌};
 ghost use Rattle.model.specs.Load.{parse_load};
 ghost use Rattle.load_numbers.specs.Asking.{asked};
 
-use pool_plans::{End, read_words};
+use pool_plans::read_words;
 
 // m, H, size, plan count, constraint count, seed, and how many words further on the generator starts.
 #[derive(Clone, Copy)]
@@ -20,25 +20,16 @@ pub struct Load {
     pub skip: u64,
 }
 
-// A load in good form, or not.
-#[derive(Clone, Copy)]
-pub enum Asking {
-    Good(Load),
-    Broken,
-}
-
-// Seven numbers in the pool file's form; what breaks the form, ends early or runs on is Broken.
-pub fn read_load(input: &[u8]) -> Asking
+// Seven numbers in the pool file's form; None where they break the form, end early or run on.
+pub fn read_load(input: &[u8]) -> Option<Load>
     ensures { parse_load input.now ≡ asked result }
 {
     let mut words: [u64; 7] = [0; 7];
-    let End::At(end) = read_words(input, 0, 7, 7, &mut words, 0) else {
-        return Asking::Broken;
-    };
+    let end = read_words(input, 0, 7, 7, &mut words, 0)?;
     if end < input.len() {
-        return Asking::Broken;
+        return None;
     }
-    let load = Load {
+    Some(Load {
         objectives: words[0],
         divisions: words[1],
         size: words[2],
@@ -46,6 +37,5 @@ pub fn read_load(input: &[u8]) -> Asking
         constraints: words[4],
         seed: words[5],
         skip: words[6],
-    };
-    Asking::Good(load)
+    })
 }

@@ -1,6 +1,5 @@
 -- What the program puts into its array.
-use Rattle.std.specs.Prelude.{ℕ, ◌≤◌, ◌≡◌, List, length, take}
-use Rattle.std.proofs.Math.Option.{none, some}
+use Rattle.std.specs.Prelude.{ℕ, ◌≤◌, ◌≡◌, List, length, take, None, Some}
 use Rattle.model.specs.Lists.{over}
 use Rattle.model.specs.PoolFile.{max_file}
 use Rattle.model.specs.Load.{Load, parse_load, load_refusal, load_printed, Holds}
@@ -11,4 +10,4 @@ pub record Prints (bytes before after : List ℕ) (r : ℕ) : Type 0 where
   pub count : r ≡ length (load_printed bytes)
   pub text : after ≡ over (load_printed bytes) before
   pub within : r ≤ length after
-  pub holds : load_refusal bytes max_file ≡ none → (l : Load) → parse_load bytes ≡ some l → Holds l (take r after)
+  pub holds : load_refusal bytes max_file ≡ None → (l : Load) → parse_load bytes ≡ Some l → Holds l (take r after)

@@ -4,7 +4,7 @@
 
 ghost use Rattle.load_print.specs.Printing.{Prints};
 
-use model::{Chosen, MAX_FILE};
+use model::MAX_FILE;
 
 // The file, or `refused N`, at the front of the array lent, which has room for the longest; answers its length.
 pub fn printed(input: &[u8], out: &mut [u8; MAX_FILE]) -> usize
@@ -12,7 +12,7 @@ pub fn printed(input: &[u8], out: &mut [u8; MAX_FILE]) -> usize
 {
     let chosen = load_file::write_load(input, out);
     match chosen {
-        Chosen::Written(n) => n,
-        Chosen::Refused(number) => pool_text::write_refused(number as usize, out),
+        Ok(n) => n,
+        Err(refusal) => pool_text::write_refused(u64::from(refusal) as usize, out),
     }
 }

@@ -1,10 +1,9 @@
 -- The whole file: its header and its plans.
-use Prim.Native.Nat.{ℕ, ◌≤◌}
-use mathlib.Core.Path.{◌≡◌, refl, ap, sym, subst, ◌∙◌}
-use mathlib.Core.Bool.{false, ◌||◌}
+use Prim.Native.Nat.{ℕ}
+use mathlib.Core.Path.{◌≡◌, refl, ap, sym, ◌∙◌}
 use mathlib.Core.List.{List, ◌∷◌, ◌++◌}
 use lib.ListN.{replicate}
-use Rattle.model.specs.PoolFile.{written, written_all, file_numbers, first_form}
+use Rattle.model.specs.PoolFile.{written_all, file_numbers, first_form}
 use Rattle.model.specs.Load.{Load, ahead, draw_plans, load_pool, load_text}
 use Rattle.form_laws.proofs.Lists.{written-append}
 use Rattle.pool_form.specs.Form.{Adds}

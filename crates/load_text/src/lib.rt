@@ -23,10 +23,8 @@ fn put_marks(m: usize, out: &mut [u8], at: usize) -> usize
     ensures { Adds (written_all (replicate m 0)) out.old at out.new result }
 {
     let mut at = at;
-    let mut j = 0;
-    while j < m {
+    for _ in 0..m {
         at = put_word(0, out, at);
-        j += 1;
     }
     at
 }

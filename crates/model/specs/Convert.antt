@@ -1,10 +1,11 @@
 -- Document 02, M-111, "Pool files, second edition": the converter from each edition to the other, and what the call owes.
-use Rattle.std.specs.Prelude.{ℕ, suc, ◌≤◌, ◌≡◌, Bool, true, cond, not, ◌&&◌, eqb, leb, length}
+use Rattle.std.specs.Prelude.{ℕ, suc, ◌≤◌, ◌≡◌, Bool, true, cond, not, ◌&&◌, eqb, leb, length, Option, None, Some}
 use mathlib.Core.List.{List, [], ◌∷◌, ◌++◌, map, flatten}
-use Rattle.std.proofs.Math.Option.{Option, none, some}
+use Rattle.model.specs.declared.Refusal.{Refusal}
+use Rattle.model.specs.declared.Refusal.TheVariants as why
 use Rattle.model.specs.Plan.{Setting}
 use Rattle.model.specs.PoolFile.{Rows, rows, File, file_by, written_all, row_numbers, file_numbers, first_form, max_file, parse_by, Numbered, opens_second, second_file, parse}
-use Rattle.model.specs.Calls.{ChooseExit, choose_by, chosen_refused_by, text_handed_out, printed_by, printed}
+use Rattle.model.specs.Calls.{ChooseExit, choose_by, refused_by, handed_out, printed_by, printed}
 
 -- ---- the second edition as it is written
 
@@ -60,30 +61,30 @@ backwards f = record {
 -- ---- the converter
 
 -- 18: "one that the first edition cannot hold, or a converted file over 65,536 bytes, last"
-abbrev pub held_refusal : Bool → List ℕ → Option ℕ
-held_refusal held text = cond (held && leb (length text) max_file) none (some 18)
+abbrev pub held_refusal : Bool → List ℕ → Option Refusal
+held_refusal held text = cond (held && leb (length text) max_file) None (Some why.NotHeld)
 
 abbrev pub forwards_text : Option (File Rows) → List ℕ
-forwards_text none = []
-forwards_text (some f) = second_form (forwards f)
+forwards_text None = []
+forwards_text (Some f) = second_form (forwards f)
 
-abbrev pub forwards_refusal : Option (File Rows) → Option ℕ
-forwards_refusal none = some 1
-forwards_refusal (some f) = held_refusal true (second_form (forwards f))
+abbrev pub forwards_refusal : Option (File Rows) → Option Refusal
+forwards_refusal None = Some why.Form
+forwards_refusal (Some f) = held_refusal true (second_form (forwards f))
 
 abbrev pub backwards_text : Option (File Numbered) → List ℕ
-backwards_text none = []
-backwards_text (some f) = first_form (backwards f)
+backwards_text None = []
+backwards_text (Some f) = first_form (backwards f)
 
-abbrev pub backwards_refusal : Option (File Numbered) → Option ℕ
-backwards_refusal none = some 17
-backwards_refusal (some f) = held_refusal (turns_back f) (first_form (backwards f))
+abbrev pub backwards_refusal : Option (File Numbered) → Option Refusal
+backwards_refusal None = Some why.SecondForm
+backwards_refusal (Some f) = held_refusal (turns_back f) (first_form (backwards f))
 
 -- "The converter turns a file opening with 64 back and any other forward"; "It looks at 1, 17 and 18 only"
 unfoldable pub converted_text : List ℕ → List ℕ
 converted_text bytes = cond (opens_second bytes) (backwards_text (parse_by second_file bytes)) (forwards_text (parse_by (file_by rows) bytes))
 
-unfoldable pub convert_refusal : List ℕ → Option ℕ
+unfoldable pub convert_refusal : List ℕ → Option Refusal
 convert_refusal bytes = cond (opens_second bytes) (backwards_refusal (parse_by second_file bytes)) (forwards_refusal (parse_by (file_by rows) bytes))
 
 -- ---- the call
@@ -95,7 +96,7 @@ convert_of bytes out = choose_by (convert_refusal bytes) (converted_text bytes) 
 pub record Twins (bytes text : List ℕ) : Type 0 where
   pub fits : length text ≤ max_file
   -- "there and back again gives the same bytes"
-  pub accepted : convert_refusal text ≡ none
+  pub accepted : convert_refusal text ≡ None
   pub back : converted_text text ≡ bytes
   -- both hold one pool, and `choose` prints the same for both
   pub pool : parse text ≡ parse bytes
@@ -104,8 +105,8 @@ pub record Twins (bytes text : List ℕ) : Type 0 where
 -- THE PROMISE of `convert`
 pub record Converts (bytes entry : List ℕ) (exit : ChooseExit) : Type 0 where
   pub whole : exit ≡ convert_of bytes entry
-  pub refused : chosen_refused_by exit.answer ≡ convert_refusal bytes
-  pub twins : convert_refusal bytes ≡ none → Twins bytes (text_handed_out exit.answer exit.out)
+  pub refused : refused_by exit.answer ≡ convert_refusal bytes
+  pub twins : convert_refusal bytes ≡ None → Twins bytes (handed_out exit.answer exit.out)
 
 -- what the program prints
 unfoldable pub convert_printed : List ℕ → List ℕ

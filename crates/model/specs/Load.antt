@@ -1,13 +1,14 @@
 -- Document 02, M-106, "A trial load anyone can rebuild": seven numbers in, a pool file out, and what the call that writes it owes.
-use Rattle.std.specs.Prelude.{ℕ, zero, suc, ◌≤◌, ◌≡◌, Bool, not, ◌&&◌, ◌||◌, List, [], ◌∷◌, map, leb, ltb, Float, length, replicate}
-use Rattle.std.proofs.Math.Option.{Option, none, some}
+use Rattle.std.specs.Prelude.{ℕ, zero, suc, ◌≤◌, ◌≡◌, Bool, not, ◌&&◌, ◌||◌, List, [], ◌∷◌, map, leb, ltb, Float, length, replicate, Option, None, Some}
+use Rattle.model.specs.declared.Refusal.{Refusal}
+use Rattle.model.specs.declared.Refusal.TheVariants as why
 use Rattle.model.specs.declared.Edition.TheVariants.{First}
 use Rattle.model.specs.Real.{◌⊖◌, bits, half}
 use Rattle.model.specs.Draw.{Drawn, drawn, step, draw_f64, draw_all}
 use Rattle.model.specs.Plan.{Plan, measured_plan, max_objectives, max_constraints}
 use Rattle.model.specs.PoolFile.{Reader, pure, ◌>>=◌, number, Rows, File, PoolFile, first_form, wholly, parse, max_file}
 use Rattle.model.specs.Refusal.{check, first_of, bad_size, bad_divisions, bad_count, choose_refusal}
-use Rattle.model.specs.Calls.{ChooseExit, choose_by, chosen_refused_by, text_handed_out, printed_by, max_text}
+use Rattle.model.specs.Calls.{ChooseExit, choose_by, refused_by, handed_out, printed_by, max_text}
 
 -- ---- the generator, further on
 
@@ -107,24 +108,24 @@ unfoldable pub bad_load : Load → Bool
 bad_load l = bad_counts l || ltb max_file (length (load_text l))
 
 -- a slice is too short (10) for a file that there is, so 13 comes first
-unfoldable pub filed_refusal : Load → ℕ → Option ℕ
+unfoldable pub filed_refusal : Load → ℕ → Option Refusal
 filed_refusal l room = first_of (
-    check 13 (bad_load l)
-    ∷ check 10 (ltb room (length (load_text l)))
+    check why.Load (bad_load l)
+    ∷ check why.Room (ltb room (length (load_text l)))
     ∷ [])
 
-abbrev pub refusal_of_load : Option Load → ℕ → Option ℕ
-refusal_of_load none room = some 1
-refusal_of_load (some l) room = filed_refusal l room
+abbrev pub refusal_of_load : Option Load → ℕ → Option Refusal
+refusal_of_load None room = Some why.Form
+refusal_of_load (Some l) room = filed_refusal l room
 
-unfoldable pub load_refusal : List ℕ → ℕ → Option ℕ
+unfoldable pub load_refusal : List ℕ → ℕ → Option Refusal
 load_refusal bytes room = refusal_of_load (parse_load bytes) room
 
 -- ---- the call
 
 abbrev pub text_of_load : Option Load → List ℕ
-text_of_load none = []
-text_of_load (some l) = load_text l
+text_of_load None = []
+text_of_load (Some l) = load_text l
 
 unfoldable pub load_of : List ℕ → List ℕ → ChooseExit
 load_of bytes out = choose_by (load_refusal bytes (length out)) (text_of_load (parse_load bytes)) out
@@ -132,14 +133,14 @@ load_of bytes out = choose_by (load_refusal bytes (length out)) (text_of_load (p
 -- a file that holds a load: it is in good form and reads back as exactly the plans drawn, and `choose` turns it down with nothing
 pub record Holds (l : Load) (file : List ℕ) : Type 0 where
   pub fits : length file ≤ max_file
-  pub reads : parse file ≡ some (load_pool l)
-  pub chosen : choose_refusal file max_text ≡ none
+  pub reads : parse file ≡ Some (load_pool l)
+  pub chosen : choose_refusal file max_text ≡ None
 
 -- THE PROMISE of `write_load`
 pub record Loads (bytes entry : List ℕ) (exit : ChooseExit) : Type 0 where
   pub whole : exit ≡ load_of bytes entry
-  pub refused : chosen_refused_by exit.answer ≡ load_refusal bytes (length entry)
-  pub holds : load_refusal bytes (length entry) ≡ none → (l : Load) → parse_load bytes ≡ some l → Holds l (text_handed_out exit.answer exit.out)
+  pub refused : refused_by exit.answer ≡ load_refusal bytes (length entry)
+  pub holds : load_refusal bytes (length entry) ≡ None → (l : Load) → parse_load bytes ≡ Some l → Holds l (handed_out exit.answer exit.out)
 
 -- "Refused, printed as by `choose`": what the program prints, with room for every file
 unfoldable pub load_printed : List ℕ → List ℕ

@@ -1,9 +1,8 @@
 -- Document 01, "Pool file", and document 02, M-111: the form of the file that `choose` reads, in its two editions, and the text that it prints.
-use Rattle.std.specs.Prelude.{ℕ, zero, suc, ◌+◌, ◌*◌, ◌/◌, ◌%◌, ◌^◌, Bool, false, cond, not, ◌&&◌, ◌||◌, eqb, leb, ltb, length, get_or, drop, replicate}
+use Rattle.std.specs.Prelude.{ℕ, zero, suc, ◌+◌, ◌*◌, ◌/◌, ◌%◌, ◌^◌, Bool, false, cond, not, ◌&&◌, ◌||◌, eqb, leb, ltb, length, get_or, drop, replicate, Option, None, Some}
 use Prim.Native.Char.{code}
 use Prim.Native.String.{String, len, char_at}
 use mathlib.Core.List.{List, [], ◌∷◌, ◌++◌, map, flatten}
-use Rattle.std.proofs.Math.Option.{Option, none, some}
 use Rattle.std.specs.Int.Signed.{le_z}
 use Rattle.model.specs.declared.Edition.TheVariants.{First}
 use Rattle.model.specs.Lists.{place_in, list_below, join_below}
@@ -25,13 +24,13 @@ Reader A = List ℕ → Option (Parsed A)
 
 module _ {A : Type 0} where
   abbrev pub pure : A → Reader A
-  pure a bytes = some (record { value = a; rest = bytes })
+  pure a bytes = Some (record { value = a; rest = bytes })
 
 -- one reader after the other; the second may use what the first read
 module _ {A B : Type 0} where
   abbrev pub onward : Option (Parsed A) → (A → Reader B) → Option (Parsed B)
-  onward none f = none
-  onward (some p) f = f p.value p.rest
+  onward None f = None
+  onward (Some p) f = f p.value p.rest
 
   abbrev pub ◌>>=◌ : Reader A → (A → Reader B) → Reader B
   ◌>>=◌ r f = λ bytes. onward (r bytes) f
@@ -39,11 +38,11 @@ module _ {A B : Type 0} where
 -- "Unsigned numbers in groups of seven bits, lowest first, top bit set on all but the last byte, shortest form, each below 2^64": the groups so far have k bits
 -- and form n. The shortest form has no last group of nothing but zeros, unless it is the only one.
 unfoldable pub number_from : ℕ → ℕ → Reader ℕ
-number_from k n [] = none
+number_from k n [] = None
 number_from k n (b ∷ bytes) =
     let v = n + b % 128 * 2 ^ k in
     let more = number_from (k + 7) v bytes in
-    cond (leb 128 b) more (cond (ltb v (2 ^ 64) && (leb 1 b || eqb k 0)) (some (record { value = v; rest = bytes })) none)
+    cond (leb 128 b) more (cond (ltb v (2 ^ 64) && (leb 1 b || eqb k 0)) (Some (record { value = v; rest = bytes })) None)
 
 abbrev pub number : Reader ℕ
 number = number_from 0 0
@@ -144,16 +143,16 @@ max_file = 65536
 -- what is read where nothing is left behind it
 module _ {A : Type 0} where
   abbrev pub if_none_left : List ℕ → A → Option A
-  if_none_left [] a = some a
-  if_none_left (b ∷ bytes) a = none
+  if_none_left [] a = Some a
+  if_none_left (b ∷ bytes) a = None
 
   abbrev pub wholly : Option (Parsed A) → Option A
-  wholly none = none
-  wholly (some p) = if_none_left p.rest p.value
+  wholly None = None
+  wholly (Some p) = if_none_left p.rest p.value
 
   -- the file that so many bytes hold, where they are not too many and none is left
   unfoldable pub parse_by : Reader A → List ℕ → Option A
-  parse_by r bytes = cond (leb (length bytes) max_file) (wholly (r bytes)) none
+  parse_by r bytes = cond (leb (length bytes) max_file) (wholly (r bytes)) None
 
 -- ---- the second edition (document 02, M-111)
 
@@ -163,7 +162,7 @@ unfoldable pub good_setting : Setting → Bool
 good_setting x = leb x.kind 2 && (not (eqb x.kind 1) || (le_z min_whole (int_of_word x.value) && le_z (int_of_word x.value) max_whole))
 
 abbrev pub if_good : Setting → Reader Setting
-if_good x bytes = cond (good_setting x) (pure x bytes) none
+if_good x bytes = cond (good_setting x) (pure x bytes) None
 
 unfoldable pub setting : Reader Setting
 setting = do
@@ -207,8 +206,8 @@ is_passed_over f = record {
 }
 
 abbrev pub pool_of : Option (File Numbered) → Option PoolFile
-pool_of none = none
-pool_of (some f) = some (is_passed_over f)
+pool_of None = None
+pool_of (Some f) = Some (is_passed_over f)
 
 -- the pool of a file of either edition
 unfoldable pub parse : List ℕ → Option PoolFile

@@ -1,7 +1,5 @@
 -- The session property: "a contract may ask of it a property that opening is proved to give and every call to keep, refused or not, and nothing more".
-use Rattle.std.specs.Prelude.{ℕ, ◌≤◌, ◌<◌, max, ◌≡◌, true, false, ◌⊎◌, length, get_or, take}
-use Rattle.model.specs.declared.OptionU64.{OptionU64}
-use Rattle.model.specs.declared.OptionU64.TheVariants as opt_u64
+use Rattle.std.specs.Prelude.{ℕ, ◌≤◌, ◌<◌, max, ◌≡◌, true, false, ◌⊎◌, length, get_or, take, Option, None, Some}
 use Rattle.model.specs.declared.Phase.{Phase}
 use Rattle.model.specs.declared.Phase.TheVariants.{Discovery, Active}
 use Rattle.model.specs.declared.Config.{Config}
@@ -12,7 +10,7 @@ use Rattle.model.specs.Plan.{plan_at}
 use Rattle.model.specs.Setting.{WordsWithin}
 use Rattle.model.specs.Real.{real}
 use Rattle.model.specs.Window.{most_remembered}
-use Rattle.model.specs.Session.{State, dimension_of, plans_of, long_enough, max_come, numbers_of, waiting_count, given, memory_in}
+use Rattle.model.specs.Session.{State, dimension_of, plans_of, long_enough, max_come, numbers_of, waiting_count, memory_in}
 use Rattle.model.specs.Refusal.{bad_directions, bad_divisions, bad_operators, bad_window, bad_dimensions, good_entry, good_ideal, good_plans, breedable, max_size}
 
 -- what opening settled is within document 01's limits
@@ -23,12 +21,12 @@ pub record ConfigOk (c : Config) : Type 0 where
   pub at_least4 : 4 ≤ c.population_size
   pub at_most : c.population_size ≤ max_size
   pub operators : bad_operators c.crossover_prob c.crossover_eta c.mutation_eta ≡ false
-  pub window : bad_window (given c.window) ≡ false
+  pub window : bad_window c.window ≡ false
 
 -- in discovery a first plan is known exactly if a dimension is entered, there is neither a candidate nor a plan, nobody waits and nothing is remembered
-abbrev pub KnownBy : OptionU64 → ℕ → Type 0
-KnownBy opt_u64.None dims = dims ≡ 0
-KnownBy (opt_u64.Some plan) dims = 1 ≤ dims
+abbrev pub KnownBy : Option ℕ → ℕ → Type 0
+KnownBy None dims = dims ≡ 0
+KnownBy (Some plan) dims = 1 ≤ dims
 
 pub record DiscoveryOk (s : Session) : Type 0 where
   pub first : KnownBy s.discovery_trial_id s.progress.n_dims
@@ -72,6 +70,6 @@ pub record SessionOk (st : State) : Type 0 where
   -- nobody waits, or as many plans as the edition has wait
   pub waiting : (waiting_count st ≡ 0) ⊎ (waiting_count st ≡ waiting_of st.session.config.edition st.session.config.population_size)
   -- no more generations are remembered than the window has beside the present one
-  pub remembered : st.session.progress.n_remembered ≤ most_remembered (given st.session.config.window)
+  pub remembered : st.session.progress.n_remembered ≤ most_remembered st.session.config.window
   pub ideal : good_ideal st.session.config.n_obj (take st.session.config.n_obj st.session.ideal_point) ≡ true
   pub lent : long_enough st ≡ true → LentOk st

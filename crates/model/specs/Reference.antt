@@ -1,6 +1,5 @@
 -- Document 01, "Reference table". A line (a reference point) is a row of m coordinates, given here by whole numbers with sum H.
-use Rattle.std.specs.Prelude.{ℕ, zero, suc, ◌+◌, ◌-◌, ◌*◌, ◌/◌, max, Bool, cond, List, [], ◌∷◌, map, pos, leb, ltb, Float, get_or}
-use Rattle.std.proofs.Math.Option.{Option, none, some}
+use Rattle.std.specs.Prelude.{ℕ, zero, suc, ◌+◌, ◌-◌, ◌*◌, ◌/◌, max, Bool, cond, List, [], ◌∷◌, map, pos, leb, ltb, Float, get_or, Option, None, Some}
 use Rattle.std.specs.Float.{nan}
 use Rattle.model.specs.Lists.{join_below, first_below}
 use Rattle.model.specs.Real.{◌⊘◌, of_whole}
@@ -48,8 +47,8 @@ auto_divisions m target = let i = first_below (reaches m target) max_divisions i
 
 -- what is given, or else
 abbrev pub or_else : Option ℕ → ℕ → ℕ
-or_else none d = d
-or_else (some n) d = n
+or_else None d = d
+or_else (Some n) d = n
 
 -- the divisions that a session uses: those given, or automatic ones; "target is the size given, or 100"
 unfoldable pub divisions_of : ℕ → Option ℕ → Option ℕ → ℕ

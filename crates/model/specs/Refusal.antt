@@ -1,8 +1,10 @@
 -- Document 01, "Why a call is turned down": for each public call the first number that applies, or none.
-use Rattle.std.specs.Prelude.{ℕ, ◌*◌, Bool, true, false, cond, not, ◌&&◌, ◌||◌, List, [], ◌∷◌, eqb, leb, ltb, Float, pos, length, get_or}
-use Rattle.std.proofs.Math.Option.{Option, none, some}
+use Rattle.std.specs.Prelude.{ℕ, ◌*◌, Bool, true, false, cond, not, ◌&&◌, ◌||◌, List, [], ◌∷◌, eqb, leb, ltb, Float, pos, length, get_or, Option, None, Some, Result, MatchResult, ◌≡◌, ◌<◌, ◌⊎◌}
 use Rattle.std.specs.Float.{binary64}
 use Rattle.std.specs.Float.Ieee.{eq, of_bits, to_unsigned}
+use Rattle.model.specs.declared.Refusal.{Refusal}
+use Rattle.model.specs.declared.UnknownRefusal.{UnknownRefusal}
+use Rattle.model.specs.declared.Refusal.TheVariants as why
 use Rattle.model.specs.declared.Distribution.{Distribution}
 use Rattle.model.specs.declared.Edition.{Edition}
 use Rattle.model.specs.declared.Edition.TheVariants.{Second}
@@ -20,16 +22,41 @@ use Rattle.model.specs.PoolFile.{PoolFile, opens_second, parse, file_request, fi
 -- ---- the first that applies
 
 pub record Check : Type 0 where
-  pub number : ℕ
+  pub reason : Refusal
   pub applies : Bool
 
-abbrev pub check : ℕ → Bool → Check
-check n b = record { number = n; applies = b }
+abbrev pub check : Refusal → Bool → Check
+check r b = record { reason = r; applies = b }
 
 -- "The first that applies is answered, and where none applies the call goes through"
-unfoldable pub first_of : List Check → Option ℕ
-first_of [] = none
-first_of (c ∷ cs) = cond c.applies (some c.number) (first_of cs)
+unfoldable pub first_of : List Check → Option Refusal
+first_of [] = None
+first_of (c ∷ cs) = cond c.applies (Some c.reason) (first_of cs)
+
+-- the number of a refusal, as C programs and printed tables have it
+abbrev pub number_of : Refusal → ℕ
+number_of why.Form = 1
+number_of why.Directions = 2
+number_of why.Size = 3
+number_of why.Divisions = 4
+number_of why.Operators = 5
+number_of why.Bounds = 6
+number_of why.Count = 7
+number_of why.Values = 8
+number_of why.Parents = 9
+number_of why.Room = 10
+number_of why.Generation = 11
+number_of why.Steps = 12
+number_of why.Load = 13
+number_of why.Window = 14
+number_of why.Bands = 15
+number_of why.Litres = 16
+number_of why.SecondForm = 17
+number_of why.NotHeld = 18
+
+-- the answer is the refusal that has the number, or that none has
+abbrev pub Numbered : ℕ → Result Refusal UnknownRefusal → Type 0
+Numbered n r = MatchResult r (λ refusal. number_of refusal ≡ n) (λ unknown. (unknown.0 ≡ n) × ((n ≡ 0) ⊎ (18 < n)))
 
 -- ---- what each number asks
 
@@ -55,8 +82,8 @@ abbrev pub bad_size : ℕ → Bool
 bad_size size = eqb size 0 || ltb max_size size
 
 abbrev pub bad_session_size : Option ℕ → Bool
-bad_session_size none = false
-bad_session_size (some size) = ltb max_size size
+bad_session_size None = false
+bad_session_size (Some size) = ltb max_size size
 
 -- 4. "Divisions given are not 1 to 199, or there would be more than 1,024 lines."
 abbrev pub outside_divisions : ℕ → Bool
@@ -66,8 +93,8 @@ unfoldable pub bad_divisions : ℕ → ℕ → Bool
 bad_divisions m h = outside_divisions h || ltb max_lines (point_count m h)
 
 abbrev pub bad_given_divisions : Option ℕ → Bool
-bad_given_divisions none = false
-bad_given_divisions (some h) = outside_divisions h
+bad_given_divisions None = false
+bad_given_divisions (Some h) = outside_divisions h
 
 -- automatic divisions are 1 to 199 themselves, so only the number of lines can turn them down
 unfoldable pub bad_session_divisions : ℕ → Option ℕ → Option ℕ → Bool
@@ -85,8 +112,8 @@ bad_operators probability crossover_eta_of mutation_eta_of = not (within nought 
 
 -- 14. document 02, M-109: "w is not 1 to 64; right after 5"
 abbrev pub bad_window : Option ℕ → Bool
-bad_window none = false
-bad_window (some w) = not (leb 1 w && leb w max_window)
+bad_window None = false
+bad_window (Some w) = not (leb 1 w && leb w max_window)
 
 -- 6. what `valid_bounds` asks, and document 02, M-107: "the 25th dimension now meets refusal 6". The greatest number is a parameter, so that what does not
 -- depend on it can be said (`limit_laws`).
@@ -203,16 +230,16 @@ no_room r room = too_short room r.size r.count
 -- what a selection looks at, with its test of 10
 abbrev pub select_checks : Request → Bool → List Check
 select_checks r short =
-    check 2 (bad_directions r.marks)
-    ∷ check 3 (bad_size r.size)
-    ∷ check 4 (bad_divisions (objectives r) r.divisions)
-    ∷ check 7 (bad_count r.edition r.count)
-    ∷ check 8 (bad_pool r)
-    ∷ check 10 short
+    check why.Directions (bad_directions r.marks)
+    ∷ check why.Size (bad_size r.size)
+    ∷ check why.Divisions (bad_divisions (objectives r) r.divisions)
+    ∷ check why.Count (bad_count r.edition r.count)
+    ∷ check why.Values (bad_pool r)
+    ∷ check why.Room short
     ∷ []
 
 -- `nsga3_select`
-unfoldable pub select_refusal : Request → Room → Option ℕ
+unfoldable pub select_refusal : Request → Room → Option Refusal
 select_refusal r room = first_of (select_checks r (no_room r room))
 
 -- `nsga3_generate_offspring`: where it selects, it hands out what a selection does; a pool of one has no kept list, no fronts and no lines
@@ -225,61 +252,61 @@ no_step_room o r room offspring = step_too_short room offspring r.size r.count o
 -- what a step looks at, with its tests of 6 and 9; document 02, M-103: 12 is looked at "right after 6, wherever that is looked at"
 abbrev pub step_checks_by : Bool → Bool → Operators → Request → Room → ℕ → List Check
 step_checks_by six nine o r room offspring =
-    check 2 (bad_directions r.marks)
-    ∷ check 3 (bad_size r.size)
-    ∷ check 4 (bad_divisions (objectives r) r.divisions)
-    ∷ check 5 (bad_operators o.probability o.crossover_eta_of o.mutation_eta_of)
-    ∷ check 6 six
-    ∷ check 12 (bad_steps o.dims o.dim_count)
-    ∷ check 7 (bad_count r.edition r.count)
-    ∷ check 8 (bad_pool r)
-    ∷ check 9 nine
-    ∷ check 10 (no_step_room o r room offspring)
+    check why.Directions (bad_directions r.marks)
+    ∷ check why.Size (bad_size r.size)
+    ∷ check why.Divisions (bad_divisions (objectives r) r.divisions)
+    ∷ check why.Operators (bad_operators o.probability o.crossover_eta_of o.mutation_eta_of)
+    ∷ check why.Bounds six
+    ∷ check why.Steps (bad_steps o.dims o.dim_count)
+    ∷ check why.Count (bad_count r.edition r.count)
+    ∷ check why.Values (bad_pool r)
+    ∷ check why.Parents nine
+    ∷ check why.Room (no_step_room o r room offspring)
     ∷ []
 
 abbrev pub step_checks : Operators → Request → Room → ℕ → List Check
 step_checks o r room offspring = step_checks_by (bad_bounds o.dims o.dim_count) (bad_parents o r) o r room offspring
 
-unfoldable pub step_refusal : Operators → Request → Room → ℕ → Option ℕ
+unfoldable pub step_refusal : Operators → Request → Room → ℕ → Option Refusal
 step_refusal o r room offspring = first_of (step_checks o r room offspring)
 
 -- `open`
-unfoldable pub open_refusal : List ℕ → Option ℕ → Option ℕ → Float → Float → Float → Option ℕ → Option ℕ
+unfoldable pub open_refusal : List ℕ → Option ℕ → Option ℕ → Float → Float → Float → Option ℕ → Option Refusal
 open_refusal marks size divisions probability crossover_eta_of mutation_eta_of window = first_of (
-    check 2 (bad_directions marks)
-    ∷ check 3 (bad_session_size size)
-    ∷ check 4 (bad_session_divisions (length marks) size divisions)
-    ∷ check 5 (bad_operators probability crossover_eta_of mutation_eta_of)
-    ∷ check 14 (bad_window window)
+    check why.Directions (bad_directions marks)
+    ∷ check why.Size (bad_session_size size)
+    ∷ check why.Divisions (bad_session_divisions (length marks) size divisions)
+    ∷ check why.Operators (bad_operators probability crossover_eta_of mutation_eta_of)
+    ∷ check why.Window (bad_window window)
     ∷ [])
 
 -- `sample`: "A session call looks at 6 only when it adds a dimension, and at 8 and 9 only when it breeds, for the plans bred from." So with 12.
 -- 11. "A new plan number comes while the generation has 2,048 and this call doesn't breed"; a call in discovery finds no plan in its generation
-unfoldable pub sample_refusal : State → Distribution → ℕ → List ℕ → Option ℕ
+unfoldable pub sample_refusal : State → Distribution → ℕ → List ℕ → Option Refusal
 sample_refusal st d plan history =
     let bred = breeds st history in
     first_of (
-    check 6 (discovers st plan && bad_next st.session.progress.n_dims d)
-    ∷ check 12 (discovers st plan && bad_next_step d)
-    ∷ check 7 (bad_history history)
-    ∷ check 8 (bred && bad_pool (request_of st history))
-    ∷ check 9 (bred && bad_parents (operators_of st.session) (request_of st history))
-    ∷ check 10 (not (long_enough st))
-    ∷ check 11 (leb max_come st.session.progress.n_plans && (is_new st plan && not bred))
+    check why.Bounds (discovers st plan && bad_next st.session.progress.n_dims d)
+    ∷ check why.Steps (discovers st plan && bad_next_step d)
+    ∷ check why.Count (bad_history history)
+    ∷ check why.Values (bred && bad_pool (request_of st history))
+    ∷ check why.Parents (bred && bad_parents (operators_of st.session) (request_of st history))
+    ∷ check why.Room (not (long_enough st))
+    ∷ check why.Generation (leb max_come st.session.progress.n_plans && (is_new st plan && not bred))
     ∷ [])
 
 -- `choose`: the whole form is read first, so 1 and 17 come before what any number in the file says
-unfoldable pub file_refusal : PoolFile → ℕ → Option ℕ
+unfoldable pub file_refusal : PoolFile → ℕ → Option Refusal
 file_refusal f out = first_of (select_checks (file_request f) (ltb out (length (file_text f))))
 
 -- 1. "A pool file breaks its form, ends early, runs on or is too long." 17, document 02: "a file opening with 64 that breaks the second form, ends early, runs on
 -- or is too long, right after 1, which no longer covers it"
-abbrev pub form_refusal : List ℕ → ℕ
-form_refusal bytes = cond (opens_second bytes) 17 1
+abbrev pub form_refusal : List ℕ → Refusal
+form_refusal bytes = cond (opens_second bytes) why.SecondForm why.Form
 
-abbrev pub refusal_of_parsed : ℕ → Option PoolFile → ℕ → Option ℕ
-refusal_of_parsed n none out = some n
-refusal_of_parsed n (some f) out = file_refusal f out
+abbrev pub refusal_of_parsed : Refusal → Option PoolFile → ℕ → Option Refusal
+refusal_of_parsed n None out = Some n
+refusal_of_parsed n (Some f) out = file_refusal f out
 
-unfoldable pub choose_refusal : List ℕ → ℕ → Option ℕ
+unfoldable pub choose_refusal : List ℕ → ℕ → Option Refusal
 choose_refusal bytes out = refusal_of_parsed (form_refusal bytes) (parse bytes) out

@@ -1,14 +1,9 @@
 -- Document 01, "Session": the state, what opening answers, and what an accepted call does.
-use Rattle.std.specs.Prelude.{ℕ, ◌+◌, ◌-◌, ◌*◌, ◌%◌, ◌^◌, min, Bool, true, false, cond, not, ◌&&◌, ◌||◌, List, [], ◌++◌, map, eqb, leb, ltb, Float, length, get_or, set, take, replicate}
-use Rattle.std.proofs.Math.Option.{Option, none, some}
+use Rattle.std.specs.Prelude.{ℕ, ◌+◌, ◌-◌, ◌*◌, ◌%◌, ◌^◌, min, Bool, true, false, cond, not, ◌&&◌, ◌||◌, List, [], ◌++◌, map, eqb, leb, ltb, Float, length, get_or, set, take, replicate, Option, None, Some}
 use Rattle.std.proofs.lemmas.List.Edits.{sets}
 use Rattle.model.specs.declared.ParamValue.{ParamValue}
 use Rattle.model.specs.declared.Distribution.{Distribution}
 use Rattle.model.specs.declared.Distribution.TheVariants as dist
-use Rattle.model.specs.declared.OptionU64.{OptionU64}
-use Rattle.model.specs.declared.OptionU64.TheVariants as opt_u64
-use Rattle.model.specs.declared.OptionUsize.{OptionUsize}
-use Rattle.model.specs.declared.OptionUsize.TheVariants as opt_usize
 use Rattle.model.specs.declared.DimensionInfo.{DimensionInfo}
 use Rattle.model.specs.declared.Edition.{Edition}
 use Rattle.model.specs.declared.Edition.TheVariants.{First}
@@ -51,13 +46,8 @@ max_words = max_come * max_dims
 abbrev pub plan_room : Edition → ℕ → ℕ
 plan_room edition size = (waiting_of edition size + size) * plan_words
 
--- an optional size, number of divisions or window, as the definitions take it
-abbrev pub given : OptionUsize → Option ℕ
-given opt_usize.None = none
-given (opt_usize.Some n) = some n
-
 abbrev pub most_words : Config → ℕ
-most_words c = most_remembered (given c.window) * c.n_obj
+most_words c = most_remembered c.window * c.n_obj
 
 abbrev pub pool_room : Config → ℕ
 pool_room c = plan_room c.edition c.population_size + most_words c
@@ -116,7 +106,7 @@ abbrev pub start : Config → ℕ → Session
 start c seed = record {
   config = c;
   phase = Discovery;
-  discovery_trial_id = opt_u64.None;
+  discovery_trial_id = None;
   rng = record { s = seed };
   dimensions = replicate max_dims blank_dimension;
   ideal_point = replicate max_objectives infinity;
@@ -128,7 +118,7 @@ abbrev pub entered : Session → Distribution → ℕ → ℕ → Session
 entered s d plan g = record {
   config = s.config;
   phase = Discovery;
-  discovery_trial_id = opt_u64.Some plan;
+  discovery_trial_id = Some plan;
   rng = record { s = g };
   dimensions = set s.dimensions s.progress.n_dims (record { distribution = d });
   ideal_point = s.ideal_point;
@@ -150,7 +140,7 @@ renewed s g ideal waiting remembered number = record {
 
 -- how many generations are remembered once one more is bred from
 abbrev pub remembered_after : Session → ℕ
-remembered_after s = min (s.progress.n_remembered + 1) (most_remembered (given s.config.window))
+remembered_after s = min (s.progress.n_remembered + 1) (most_remembered s.config.window)
 
 -- the session after breeding: the kept plans wait where the edition has it so, and the generation's number wraps at 2^64
 abbrev pub bred_session : Session → ℕ → List Float → Session
@@ -161,7 +151,7 @@ bred_session s g ideal =
 
 -- The session that an accepted opening answers. "Directions are given at opening (added), with the seed." Document 02, M-100: "A session is opened as edition 1
 -- (today's) or edition 2". M-109: "A session may be opened with a window of w generations."
-unfoldable pub opened : Edition → List ℕ → ℕ → Option ℕ → Option ℕ → Float → Float → Float → OptionUsize → Session
+unfoldable pub opened : Edition → List ℕ → ℕ → Option ℕ → Option ℕ → Float → Float → Float → Option ℕ → Session
 opened edition marks seed size divisions probability crossover_eta_of mutation_eta_of window = start (record {
   edition = edition;
   n_obj = length marks;
@@ -185,7 +175,7 @@ blank = start (record {
   crossover_prob = nought;
   crossover_eta = nought;
   mutation_eta = nought;
-  window = opt_usize.None;
+  window = None;
 }) 0
 
 -- ---- an accepted call
@@ -311,12 +301,12 @@ memory_in s pool = list_below (λ i. get_or pool (memory_at s.config + i) 0) (s.
 -- the ideal that a selection starts from, at the front of the session's: the least over the generations remembered, infinity where there is none. Without a
 -- window it is the session's.
 abbrev pub start_by : Option ℕ → Session → List ℕ → List Float
-start_by none s pool = s.ideal_point
-start_by (some w) s pool =
+start_by None s pool = s.ideal_point
+start_by (Some w) s pool =
     over (list_below (least_remembered pool (memory_at s.config) s.config.n_obj s.progress.n_remembered) s.config.n_obj) s.ideal_point
 
 unfoldable pub start_ideal : Session → List ℕ → List Float
-start_ideal s pool = start_by (given s.config.window) s pool
+start_ideal s pool = start_by s.config.window s pool
 
 -- what is remembered once a pool is bred from: the present generation's own part behind those before it, and no more than the window has
 unfoldable pub memory_after : Session → List ℕ → Request → List ℕ
@@ -353,7 +343,7 @@ pool_after st history kept =
 
 -- the ideal that a session has afterwards
 abbrev pub ideal_left : State → List ℕ → Selected → List Float
-ideal_left st history sel = over (ideal_after (given st.session.config.window) (request_of st history) sel) st.session.ideal_point
+ideal_left st history sel = over (ideal_after st.session.config.window (request_of st history) sel) st.session.ideal_point
 
 -- "a new generation is bred": its candidates take the place of the old ones
 unfoldable pub breed : State → List ℕ → State
@@ -382,12 +372,12 @@ abbrev pub is_active : Session → Bool
 is_active s = past_discovery s.phase
 
 -- the plan whose calls add dimensions: the first that came
-abbrev pub discovers_for : OptionU64 → ℕ → Bool
-discovers_for opt_u64.None plan = true
-discovers_for (opt_u64.Some first) plan = eqb first plan
+abbrev pub discovers_for : Option ℕ → ℕ → Bool
+discovers_for None plan = true
+discovers_for (Some first) plan = eqb first plan
 
 -- the call adds a dimension: by the session's phase and the first plan's number, and by its state
-abbrev pub adds_for : Phase → OptionU64 → ℕ → Bool
+abbrev pub adds_for : Phase → Option ℕ → ℕ → Bool
 adds_for phase first plan = not (past_discovery phase) && discovers_for first plan
 
 unfoldable pub discovers : State → ℕ → Bool

@@ -1,5 +1,5 @@
 -- Document 01, "Setting and dimension": settings, bounds, sampling, extraction, crossover, mutation and the generation step.
-use Rattle.std.specs.Prelude.{ℕ, zero, suc, ◌+◌, ◌*◌, ◌/◌, ◌%◌, ◌^◌, ◌<◌, ◌≡◌, Bool, true, false, cond, not, ◌&&◌, ℤ, pos, negsuc, ◌+ℤ◌, ◌-ℤ◌, ◌*ℤ◌, eqb, leb, ltb, Float, length, get_or, take}
+use Rattle.std.specs.Prelude.{ℕ, zero, suc, ◌+◌, ◌*◌, ◌/◌, ◌%◌, ◌^◌, ◌<◌, ◌≡◌, Bool, true, false, cond, not, ◌&&◌, ℤ, pos, negsuc, ◌+ℤ◌, ◌-ℤ◌, ◌*ℤ◌, eqb, leb, ltb, Float, length, get_or, take, Option, None, Some}
 use mathlib.Core.List.{List, [], ◌∷◌, ◌++◌, map, flatten}
 use Rattle.std.specs.Int.Signed.{le_z, lt_z, quot_z}
 use Rattle.std.specs.Float.{nan, binary64}
@@ -12,10 +12,6 @@ use Rattle.model.specs.declared.Distribution.TheVariants as dist
 use Rattle.model.specs.declared.FloatDistribution.{FloatDistribution}
 use Rattle.model.specs.declared.IntDistribution.{IntDistribution}
 use Rattle.model.specs.declared.Operators as given
-use Rattle.model.specs.declared.OptionF64.{OptionF64}
-use Rattle.model.specs.declared.OptionF64.TheVariants as opt_f64
-use Rattle.model.specs.declared.OptionI64.{OptionI64}
-use Rattle.model.specs.declared.OptionI64.TheVariants as opt_i64
 use Rattle.model.specs.Lists.{list_below}
 use Rattle.model.specs.Real.{◌⊕◌, ◌⊖◌, ◌⊗◌, ◌⊘◌, real, bits, nought, half, unit, two, infinity, of_whole, absolute, within, clamp}
 use Rattle.model.specs.Draw.{Drawn, drawn, draw_usize, draw_i64, f64_range, in_turn, draw_all}
@@ -74,9 +70,9 @@ max_whole = pos (2 ^ 53)
 abbrev pub min_whole : ℤ
 min_whole = negsuc 9007199254740991
 
-abbrev pub step_above0 : OptionI64 → Bool
-step_above0 opt_i64.None = true
-step_above0 (opt_i64.Some n) = le_z (pos 1) n
+abbrev pub step_above0 : Option ℤ → Bool
+step_above0 None = true
+step_above0 (Some n) = le_z (pos 1) n
 
 -- at most so many dimensions: one number with a plan's settings, since a candidate has a setting for each dimension
 abbrev pub max_dims : ℕ
@@ -84,7 +80,7 @@ max_dims = max_settings
 
 -- the dimension at each place of an array; `no_dimension` is what the logic reads past its end, which nothing here does
 abbrev pub no_dimension : DimensionInfo
-no_dimension = record { distribution = dist.Float (record { low = nan; high = nan; log_scale = false; step = opt_f64.None }) }
+no_dimension = record { distribution = dist.Float (record { low = nan; high = nan; log_scale = false; step = None }) }
 
 abbrev pub dimensions_of : List DimensionInfo → ℕ → Distribution
 dimensions_of infos d = (get_or infos d no_dimension).distribution
@@ -103,9 +99,9 @@ steps_of low high step = (high ⊖ low) ⊘ step
 
 -- What refusal 12 asks of a dimension. Document 02, M-103: "the step is not finite, not above 0, or (high - low) / step exceeds 2^53". The quotient of bounds that
 -- refusal 6 lets pass by a finite step above 0 is no NaN.
-unfoldable pub valid_float_step : Float → Float → OptionF64 → Bool
-valid_float_step low high opt_f64.None = true
-valid_float_step low high (opt_f64.Some step) = lt nought step && (lt step infinity && le (steps_of low high step) max_bound)
+unfoldable pub valid_float_step : Float → Float → Option Float → Bool
+valid_float_step low high None = true
+valid_float_step low high (Some step) = lt nought step && (lt step infinity && le (steps_of low high step) max_bound)
 
 unfoldable pub valid_step : Distribution → Bool
 valid_step (dist.Float d) = valid_float_step d.low d.high d.step
@@ -131,9 +127,9 @@ in_bounds (dist.Categorical d) (value.Categorical c) = ltb c d.n_choices
 -- ---- sampling
 
 -- an Int without a step is drawn from low..=high; with one, k is drawn from 0..=(high - low) / step and the value is low + k × step
-unfoldable pub sample_int : ℤ → ℤ → OptionI64 → ℕ → Drawn ℤ
-sample_int low high opt_i64.None s = draw_i64 low high s
-sample_int low high (opt_i64.Some n) s = let k = draw_i64 (pos 0) (quot_z (high -ℤ low) n) s in drawn (low +ℤ k.value *ℤ n) k.state
+unfoldable pub sample_int : ℤ → ℤ → Option ℤ → ℕ → Drawn ℤ
+sample_int low high None s = draw_i64 low high s
+sample_int low high (Some n) s = let k = draw_i64 (pos 0) (quot_z (high -ℤ low) n) s in drawn (low +ℤ k.value *ℤ n) k.state
 
 -- Document 02, M-103: "k from 0 to floor((high - low) / step)": the greatest k. A cast drops the fraction, which leaves the floor of what is not below 0.
 abbrev pub last_step : Float → Float → Float → ℤ
@@ -144,9 +140,9 @@ abbrev pub on_step : Float → Float → Float → ℤ → Float
 on_step low high step k = clamp low high (low ⊕ (of_whole k ⊗ step))
 
 -- a Float without a step is drawn from low..high; with one, k is drawn from 0..=last_step
-unfoldable pub sample_float : Float → Float → OptionF64 → ℕ → Drawn Float
-sample_float low high opt_f64.None s = f64_range low high s
-sample_float low high (opt_f64.Some step) s =
+unfoldable pub sample_float : Float → Float → Option Float → ℕ → Drawn Float
+sample_float low high None s = f64_range low high s
+sample_float low high (Some step) s =
     let k = draw_i64 (pos 0) (last_step low high step) s in drawn (on_step low high step k.value) k.state
 
 -- `sample_random`
@@ -375,9 +371,9 @@ mutate dims n c k s = mutate_first dims n n c k s
 abbrev pub nearest_step : Float → Float → Float → Float → ℤ
 nearest_step low high step v = to_int (pos 0) (last_step low high step) ((v ⊖ low) ⊘ step)
 
-unfoldable pub move_float : Float → Float → OptionF64 → Float → Float
-move_float low high opt_f64.None v = v
-move_float low high (opt_f64.Some step) v = on_step low high step (nearest_step low high step v)
+unfoldable pub move_float : Float → Float → Option Float → Float → Float
+move_float low high None v = v
+move_float low high (Some step) v = on_step low high step (nearest_step low high step v)
 
 -- a setting: "every Float of a dimension with a step"
 unfoldable pub move_setting : Distribution → ParamValue → ParamValue

@@ -1,6 +1,5 @@
 -- Document 02, M-109, "An ideal point that forgets": what a session that is opened with a window of w generations remembers of each, and the ideal.
-use Rattle.std.specs.Prelude.{ℕ, ◌+◌, ◌-◌, ◌*◌, List, Float, length, get_or, drop}
-use Rattle.std.proofs.Math.Option.{Option, none, some}
+use Rattle.std.specs.Prelude.{ℕ, ◌+◌, ◌-◌, ◌*◌, List, Float, length, get_or, drop, Option, None, Some}
 use Rattle.std.specs.Float.Ieee.{lt}
 use Rattle.model.specs.Lists.{list_below, best_from}
 use Rattle.model.specs.Real.{real, bits, infinity}
@@ -13,8 +12,8 @@ max_window = 64
 
 -- how many past generations are remembered: with the present one they are "the last w generations"
 abbrev pub most_remembered : Option ℕ → ℕ
-most_remembered none = 0
-most_remembered (some w) = w - 1
+most_remembered None = 0
+most_remembered (Some w) = w - 1
 
 -- a generation's own part of the ideal: "the least value per objective" of its pool, over the plans that shape the scale, whatever was before
 unfoldable pub own_part : Request → ℕ → Float
@@ -40,5 +39,5 @@ least_remembered words at m n j = best_from lt infinity (λ g. part_at words at 
 -- generations that split no front count too": the least of what the request starts from and of its pool. Without a window it is what the selection hands out,
 -- and moves only where a front is split.
 abbrev pub ideal_after : Option ℕ → Request → Selected → List Float
-ideal_after none r sel = sel.ideal
-ideal_after (some w) r sel = list_below (ideal_of r) (objectives r)
+ideal_after None r sel = sel.ideal
+ideal_after (Some w) r sel = list_below (ideal_of r) (objectives r)

@@ -2,6 +2,9 @@
 
 #![tactic(auto)]
 
+ghost use Rattle.std.specs.Prelude.{◌≡◌};
+ghost use Rattle.model.specs.Refusal.{number_of, Numbered};
+
 // The limits of documents 01 and 02 that sizes of arrays and loops name; the definitions of `specs` have the same numbers.
 pub const MAX_OBJECTIVES: usize = 8;
 // most plans wanted: of a size
@@ -93,38 +96,13 @@ pub enum ParamValue {
     Categorical(usize),
 }
 
-// What may be left out: a step, a size, a number of divisions, a window, a plan number.
-#[derive(Clone, Copy)]
-pub enum OptionF64 {
-    None,
-    Some(f64),
-}
-
-#[derive(Clone, Copy)]
-pub enum OptionI64 {
-    None,
-    Some(i64),
-}
-
-#[derive(Clone, Copy)]
-pub enum OptionUsize {
-    None,
-    Some(usize),
-}
-
-#[derive(Clone, Copy)]
-pub enum OptionU64 {
-    None,
-    Some(u64),
-}
-
 // Reals from low to high, both included.
 #[derive(Clone, Copy)]
 pub struct FloatDistribution {
     pub low: f64,
     pub high: f64,
     pub log_scale: bool,
-    pub step: OptionF64,
+    pub step: Option<f64>,
 }
 
 // Whole numbers from low to high, both included; with a step, those that are a whole number of steps above low.
@@ -133,7 +111,7 @@ pub struct IntDistribution {
     pub low: i64,
     pub high: i64,
     pub log_scale: bool,
-    pub step: OptionI64,
+    pub step: Option<i64>,
 }
 
 // One of n_choices, counted from 0.
@@ -184,7 +162,7 @@ pub struct Config {
     pub crossover_prob: f64,
     pub crossover_eta: f64,
     pub mutation_eta: f64,
-    pub window: OptionUsize,
+    pub window: Option<usize>,
 }
 
 // How far a session is: its dimensions, the candidates and the plans of the present generation, how many plans wait, how many past generations are
@@ -205,7 +183,7 @@ pub struct Progress {
 pub struct Session {
     pub config: Config,
     pub phase: Phase,
-    pub discovery_trial_id: OptionU64,
+    pub discovery_trial_id: Option<u64>,
     pub rng: Rng,
     pub dimensions: [DimensionInfo; MAX_DIMS],
     pub ideal_point: [f64; MAX_OBJECTIVES],
@@ -222,54 +200,114 @@ pub enum Rule {
     Padding,
 }
 
-// What a selection or a generation step answers: how many plans its kept list has, or why it was turned down.
-#[derive(Clone, Copy)]
-pub enum Outcome {
-    Kept(usize),
-    Refused(u8),
+// Why a call is turned down. The numbers of these reasons, which C programs and printed tables have, are those of `number_of` (specs/Refusal.antt).
+#[derive(Clone, Copy, PartialEq, Eq)]
+pub enum Refusal {
+    Form,
+    Directions,
+    Size,
+    Divisions,
+    Operators,
+    Bounds,
+    Count,
+    Values,
+    Parents,
+    Room,
+    Generation,
+    Steps,
+    Load,
+    Window,
+    Bands,
+    Litres,
+    SecondForm,
+    NotHeld,
 }
 
+// The number of a refusal.
+impl From<Refusal> for u64 {
+    ghost from_gives = { λ refusal n. n ≡ number_of refusal };
+
+    fn from(refusal: Refusal) -> u64 {
+        match refusal {
+            Refusal::Form => 1,
+            Refusal::Directions => 2,
+            Refusal::Size => 3,
+            Refusal::Divisions => 4,
+            Refusal::Operators => 5,
+            Refusal::Bounds => 6,
+            Refusal::Count => 7,
+            Refusal::Values => 8,
+            Refusal::Parents => 9,
+            Refusal::Room => 10,
+            Refusal::Generation => 11,
+            Refusal::Steps => 12,
+            Refusal::Load => 13,
+            Refusal::Window => 14,
+            Refusal::Bands => 15,
+            Refusal::Litres => 16,
+            Refusal::SecondForm => 17,
+            Refusal::NotHeld => 18,
+        }
+    }
+}
+
+// A number that no refusal has.
+#[derive(Clone, Copy, PartialEq, Eq)]
+pub struct UnknownRefusal(pub u64);
+
+impl TryFrom<u64> for Refusal {
+    type Error = UnknownRefusal;
+
+    ghost try_from_gives = { Numbered };
+
+    fn try_from(number: u64) -> Result<Self, UnknownRefusal> {
+        match number {
+            1 => Ok(Refusal::Form),
+            2 => Ok(Refusal::Directions),
+            3 => Ok(Refusal::Size),
+            4 => Ok(Refusal::Divisions),
+            5 => Ok(Refusal::Operators),
+            6 => Ok(Refusal::Bounds),
+            7 => Ok(Refusal::Count),
+            8 => Ok(Refusal::Values),
+            9 => Ok(Refusal::Parents),
+            10 => Ok(Refusal::Room),
+            11 => Ok(Refusal::Generation),
+            12 => Ok(Refusal::Steps),
+            13 => Ok(Refusal::Load),
+            14 => Ok(Refusal::Window),
+            15 => Ok(Refusal::Bands),
+            16 => Ok(Refusal::Litres),
+            17 => Ok(Refusal::SecondForm),
+            18 => Ok(Refusal::NotHeld),
+            _ => Err(UnknownRefusal(number)),
+        }
+    }
+}
+
+// What a selection or a generation step answers: how many plans its kept list has, or why it was turned down; and the generator.
 #[derive(Clone, Copy)]
 pub struct Selection {
-    pub outcome: Outcome,
+    pub outcome: Result<usize, Refusal>,
     pub rng: Rng,
 }
 
 // What opening answers. The session of a refused opening is a blank one.
 #[derive(Clone, Copy)]
-pub enum Opening {
-    Ready,
-    Refused(u8),
-}
-
-#[derive(Clone, Copy)]
 pub struct Opened {
-    pub outcome: Opening,
+    pub outcome: Result<(), Refusal>,
     pub session: Session,
 }
 
-// What a session call answers.
-#[derive(Clone, Copy)]
-pub enum Sampling {
-    Setting(ParamValue),
-    Refused(u8),
-}
-
+// What a session call answers: a setting, or why it was turned down.
 #[derive(Clone, Copy)]
 pub struct Sampled {
-    pub outcome: Sampling,
+    pub outcome: Result<ParamValue, Refusal>,
     pub session: Session,
 }
 
 // The longest pool file, in bytes.
 pub const MAX_FILE: usize = 65536;
-
-// What a call that writes a text or a file answers: the length of what it wrote, or why it was turned down.
-#[derive(Clone, Copy)]
-pub enum Chosen {
-    Written(usize),
-    Refused(u8),
-}
 
 // The limits of water priced by band (document 02, M-110): bands, a price in hundredths of a cent, a plan's litres.
 pub const MAX_BANDS: usize = 16;
@@ -277,10 +315,3 @@ pub const MAX_BANDS: usize = 16;
 pub const MAX_PRICE: u64 = 1000000;
 
 pub const MAX_LITRES: u64 = 1000000000;
-
-// What pricing answers: the total in cents, or why it was turned down.
-#[derive(Clone, Copy)]
-pub enum Priced {
-    Total(u64),
-    Refused(u8),
-}

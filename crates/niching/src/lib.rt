@@ -22,12 +22,8 @@ fn count_lines(plans: &[usize], lines: &[usize], counts: &mut [usize])
     requires { OnLines plans.now lines.now (length counts.old) × Zeros counts.old }
     ensures { (l : ℕ) → count_of counts.new l ≡ niche_count (line_in lines.now) plans.now l }
 {
-    let mut i = 0;
-    while i < plans.len() {
-        let p = plans[i];
-        let l = lines[p];
-        counts[l] = counts[l] + 1;
-        i += 1;
+    for &p in plans {
+        counts[lines[p]] += 1;
     }
 }
 
@@ -96,8 +92,7 @@ pub fn niching_select(
     count_waiting(front, lines, &mut waits);
     let mut taken: [bool; MAX_POOL] = [false; MAX_POOL];
     let mut rng = rng;
-    let mut at = 0;
-    while at < open {
+    for at in 0..open {
         let d = pick(
             rng,
             front,
@@ -112,7 +107,6 @@ pub fn niching_select(
         let rule = rule_marks::rule_of(d.count);
         rules[at] = rule_marks::mark(rule);
         rng = d.rng;
-        at += 1;
     }
     rng
 }

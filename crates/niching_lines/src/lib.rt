@@ -11,7 +11,7 @@ ghost use Rattle.model.specs.Refusal.{max_pool};
 ghost use Rattle.niching_array_laws.specs.Niche.{count_of, has_waiting, is_least, open_count, least_below, Kth, Open};
 
 use model::{MAX_POOL, Rng};
-use rng_util::DrawnUsize;
+use rng_util::Drawn;
 
 // Line l has waiting members: its number is above 0.
 fn has_waiting(waits: &[usize], l: usize) -> bool
@@ -27,9 +27,10 @@ fn open_count(counts: &[usize], waits: &[usize], l: usize) -> usize
     ensures { result ≡ open_count max_pool counts.now waits.now l }
 {
     if has_waiting(waits, l) {
-        return counts[l];
+        counts[l]
+    } else {
+        MAX_POOL
     }
-    MAX_POOL
 }
 
 // The least niche count of the lines with waiting members.
@@ -38,13 +39,11 @@ fn least_count(counts: &[usize], waits: &[usize], n: usize) -> usize
     ensures { result ≡ least_below max_pool counts.now waits.now n }
 {
     let mut least = MAX_POOL;
-    let mut l = 0;
-    while l < n {
+    for l in 0..n {
         let c = open_count(counts, waits, l);
         if c < least {
             least = c;
         }
-        l += 1;
     }
     least
 }
@@ -54,10 +53,7 @@ fn is_least(counts: &[usize], waits: &[usize], least: usize, l: usize) -> bool
     requires { (l < length counts.now) × (l < length waits.now) }
     ensures { result ≡ is_least counts.now waits.now least l }
 {
-    if has_waiting(waits, l) {
-        return counts[l] == least;
-    }
-    false
+    has_waiting(waits, l) && counts[l] == least
 }
 
 // How many lines have the niche count `least` and waiting members.
@@ -66,12 +62,10 @@ fn count_least(counts: &[usize], waits: &[usize], least: usize, n: usize) -> usi
     ensures { result ≡ count_below (is_least counts.now waits.now least) n }
 {
     let mut count: usize = 0;
-    let mut l = 0;
-    while l < n {
+    for l in 0..n {
         if is_least(counts, waits, least, l) {
             count += 1;
         }
-        l += 1;
     }
     count
 }
@@ -83,21 +77,19 @@ fn nth_least(counts: &[usize], waits: &[usize], least: usize, n: usize, k: usize
     ensures { Kth (is_least counts.now waits.now least) n k result }
 {
     let mut left = k;
-    let mut l = 0;
-    while l < n {
+    for l in 0..n {
         if is_least(counts, waits, least, l) {
             if left == 0 {
                 return l;
             }
             left -= 1;
         }
-        l += 1;
     }
-    l
+    n
 }
 
 // One line, drawn among those with the least niche count of the lines whose number is above 0.
-pub fn choose_line(rng: Rng, counts: &[usize], waits: &[usize], n: usize) -> DrawnUsize
+pub fn choose_line(rng: Rng, counts: &[usize], waits: &[usize], n: usize) -> Drawn<usize>
     requires { (n ≤ length counts.now) × (n ≤ length waits.now) × ((l : ℕ) → count_of counts.now l < max_pool)
         × ((l : ℕ) × Open waits.now n l) }
     ensures { Open waits.now n result.value
@@ -109,5 +101,5 @@ pub fn choose_line(rng: Rng, counts: &[usize], waits: &[usize], n: usize) -> Dra
     let k = d.value;
     let rng = d.rng;
     let value = nth_least(counts, waits, least, n, k);
-    DrawnUsize { value, rng }
+    Drawn { value, rng }
 }

@@ -9,18 +9,14 @@ ghost use Rattle.model.specs.Kept.{nearest, draw_member};
 ghost use Rattle.niching_array_laws.specs.Niche.{distance_in, member_at, waits_on, places, members, place_distance, nearer_of, Kth, Listed, Measured, MemberOf};
 
 use model::Rng;
-use rng_util::DrawnUsize;
+use rng_util::Drawn;
 
 // The member at place i of the front waits on line l.
 fn waits_on(front: &[usize], lines: &[usize], taken: &[bool], l: usize, i: usize) -> bool
     requires { (i < length front.now) × (i < length taken.now) × (member_at front.now i < length lines.now) }
     ensures { result ≡ waits_on front.now lines.now taken.now l i }
 {
-    if taken[i] {
-        return false;
-    }
-    let p = front[i];
-    lines[p] == l
+    !taken[i] && lines[front[i]] == l
 }
 
 // The place of the k-th member that waits on line l, in listed order, counted from 0.
@@ -29,17 +25,15 @@ fn nth_member(front: &[usize], lines: &[usize], taken: &[bool], l: usize, k: usi
     ensures { Kth (waits_on front.now lines.now taken.now l) (length front.now) k result }
 {
     let mut left = k;
-    let mut i = 0;
-    while i < front.len() {
+    for i in 0..front.len() {
         if waits_on(front, lines, taken, l, i) {
             if left == 0 {
                 return i;
             }
             left -= 1;
         }
-        i += 1;
     }
-    i
+    front.len()
 }
 
 // The nearer of the members at places `best` and `other`, if that at `other` waits on line l; `best` on a tie.
@@ -56,14 +50,9 @@ fn nearer(
         × (best < length front.now) × (other < length front.now) }
     ensures { result ≡ nearer_of front.now lines.now distances.now taken.now l best other }
 {
-    if waits_on(front, lines, taken, l, other) {
-        let p = front[other];
-        let q = front[best];
-        if distances[p] < distances[q] {
-            return other;
-        }
-    }
-    best
+    let takes_over = waits_on(front, lines, taken, l, other)
+        && distances[front[other]] < distances[front[best]];
+    if takes_over { other } else { best }
 }
 
 // The place of the nearest member that waits on line l, the first listed on a tie; `first` is the first of them.
@@ -81,10 +70,8 @@ fn nearest_member(
         × (result ≡ nearest (place_distance front.now distances.now) (places front.now lines.now taken.now l)) }
 {
     let mut best = first;
-    let mut i = first + 1;
-    while i < front.len() {
+    for i in first + 1..front.len() {
         best = nearer(front, lines, distances, taken, l, best, i);
-        i += 1;
     }
     best
 }
@@ -99,7 +86,7 @@ pub fn choose_member(
     l: usize,
     count: usize,
     waiting: usize,
-) -> DrawnUsize
+) -> Drawn<usize>
     requires { Listed front.now lines.now taken.now × Measured front.now distances.now
         × (waiting ≡ length (places front.now lines.now taken.now l)) × (0 < waiting) }
     ensures { MemberOf front.now lines.now taken.now l result.value
@@ -109,11 +96,11 @@ pub fn choose_member(
     if count == 0 {
         let first = nth_member(front, lines, taken, l, 0);
         let value = nearest_member(front, lines, distances, taken, l, first);
-        return DrawnUsize { value, rng };
+        return Drawn { value, rng };
     }
     let d = rng_util::draw_usize(rng, waiting);
     let k = d.value;
     let rng = d.rng;
     let value = nth_member(front, lines, taken, l, k);
-    DrawnUsize { value, rng }
+    Drawn { value, rng }
 }

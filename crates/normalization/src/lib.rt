@@ -19,13 +19,11 @@ fn least_of(rows: &[f64], n: usize, m: usize, j: usize, start: f64) -> f64
     ensures { result ≡ least_below start rows.now n m j }
 {
     let mut least = start;
-    let mut p = 0;
-    while p < n {
+    for p in 0..n {
         let v = rows[p * m + j];
         if v < least {
             least = v;
         }
-        p += 1;
     }
     least
 }
@@ -35,11 +33,8 @@ pub fn update_ideal_point(rows: &[f64], n: usize, m: usize, ideal: &mut [f64])
     requires { (n * m ≤ length rows.now) × (m ≤ length ideal.old) }
     ensures { ideal.new ≡ over (list_below (least_at rows.now n m ideal.old) m) ideal.old }
 {
-    let mut j = 0;
-    while j < m {
-        let start = ideal[j];
-        ideal[j] = least_of(rows, n, m, j, start);
-        j += 1;
+    for j in 0..m {
+        ideal[j] = least_of(rows, n, m, j, ideal[j]);
     }
 }
 
@@ -49,13 +44,11 @@ fn greatest_of(rows: &[f64], n: usize, m: usize, j: usize) -> f64
     ensures { result ≡ greatest_below rows.now n m j }
 {
     let mut best = -1.0 / 0.0;
-    let mut p = 0;
-    while p < n {
+    for p in 0..n {
         let v = rows[p * m + j];
         if best < v {
             best = v;
         }
-        p += 1;
     }
     best
 }
@@ -73,10 +66,8 @@ pub fn find_intercepts(rows: &[f64], n: usize, m: usize, ideal: &[f64], intercep
     ensures { intercepts.new
         ≡ over (list_below (intercept_at rows.now n m ideal.now) m) intercepts.old }
 {
-    let mut j = 0;
-    while j < m {
+    for j in 0..m {
         intercepts[j] = intercept(greatest_of(rows, n, m, j) - ideal[j]);
-        j += 1;
     }
 }
 
@@ -94,10 +85,8 @@ fn normalize_row(
         ≡ sets normalized.old (p * m) (list_below (normal_at rows.now m ideal.now intercepts.now p) m) }
 {
     let at = p * m;
-    let mut j = 0;
-    while j < m {
+    for j in 0..m {
         normalized[at + j] = (rows[at + j] - ideal[j]) / intercepts[j];
-        j += 1;
     }
 }
 
@@ -117,9 +106,7 @@ pub fn normalize_objectives(
     ensures in_scale { (r : Request) → Measurable r → ShapersIn r rows.now n m → IdealIn r ideal.now m
         → InterceptsIn r intercepts.now m → InScale r.edition normalized.new n m }
 {
-    let mut p = 0;
-    while p < n {
+    for p in 0..n {
         normalize_row(rows, p, m, ideal, intercepts, normalized);
-        p += 1;
     }
 }

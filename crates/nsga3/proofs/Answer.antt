@@ -6,20 +6,18 @@ use mathlib.Core.List.{List, ◌++◌}
 use native.Mathlib.Omega.{arith}
 use lib.Ieee.{Float}
 use lib.ListN.{length, take, replicate}
+use Rattle.std.specs.Prelude.{Result, Ok, Err}
+use Rattle.model.specs.declared.Refusal.{Refusal}
 use Rattle.model.specs.declared.Edition.{Edition}
-use Rattle.model.specs.declared.Outcome.TheVariants as outcome
 use Rattle.model.specs.declared.Rng.{Rng}
 use Rattle.model.specs.declared.Rule.TheVariants as rule
-use Rattle.refusals.specs.declared.Check.{Check}
-use Rattle.refusals.specs.declared.Check.TheVariants as check
-use Rattle.refusals.specs.Checked.{checked}
 use Rattle.model.specs.Lists.{over}
 use Rattle.model.specs.Plan.{Plan}
 use Rattle.model.specs.Association.{Request}
 use Rattle.model.specs.Refusal.{select_refusal}
 use Rattle.niching_laws.proofs.KeptLength.{kept-length, fronts-all}
 use Rattle.model.specs.Kept.{before, is_split, by_split, selected_whole, selected, padding, without_line, mark_of}
-use Rattle.model.specs.Calls.{Lent, lent, room_of, SelectExit, select_exit, laid, word_request, answered, select_accepted, select_by, select_of, Selects}
+use Rattle.model.specs.Calls.{Lent, lent, room_of, SelectExit, select_exit, laid, word_request, answered, select_accepted, select_by, select_of, Selects, refused_by}
 use Rattle.demand3_laws.proofs.Calls.{plan_at-row, selects}
 use Rattle.front_cut.specs.declared.Cut.{Cut}
 use Rattle.plan_rows.specs.Filled.{RowsFilled}
@@ -62,14 +60,14 @@ rows_in marks plans n k e old rows h f = record { table = h; values = λ p j a b
 
 pub accepted-exit : (r : Request) (o : List ℕ) (c : Cut) (i : List Float) (k₀ k u₀ u f₀ f l₀ l : List ℕ) (g : Rng) → Sorts r o c f₀ f
     → Hands (selected r) i k₀ k u₀ u l₀ l g.s
-    → select_exit (record { outcome = outcome.Kept r.size; rng = g }) i (lent k u f l) ≡ select_accepted r (lent k₀ u₀ f₀ l₀)
+    → select_exit (record { outcome = Ok r.size; rng = g }) i (lent k u f l) ≡ select_accepted r (lent k₀ u₀ f₀ l₀)
 unfolding select_accepted
 accepted-exit r o c i k₀ k u₀ u f₀ f l₀ l g a h =
-    ap₂ (λ s j. select_exit (answered (outcome.Kept r.size) s) j (lent k u f l)) h.state h.ideal
-    ∙ ap₂ (λ x y. select_exit (answered (outcome.Kept r.size) (selected r).state) (selected r).ideal (lent x u f y)) h.kept h.lines
-    ∙ ap₂ (λ x y. select_exit (answered (outcome.Kept r.size) (selected r).state) (selected r).ideal (lent (over (selected r).kept k₀) x y (over (selected r).lines l₀)))
+    ap₂ (λ s j. select_exit (answered (Ok r.size) s) j (lent k u f l)) h.state h.ideal
+    ∙ ap₂ (λ x y. select_exit (answered (Ok r.size) (selected r).state) (selected r).ideal (lent x u f y)) h.kept h.lines
+    ∙ ap₂ (λ x y. select_exit (answered (Ok r.size) (selected r).state) (selected r).ideal (lent (over (selected r).kept k₀) x y (over (selected r).lines l₀)))
     h.rules (a.ranks ∙ ap (λ t. over t f₀) (sym (fronts-all r)))
-    ∙ ap (λ n. select_exit (answered (outcome.Kept n) (selected r).state) (selected r).ideal (laid (selected r) (lent k₀ u₀ f₀ l₀)))
+    ∙ ap (λ n. select_exit (answered (Ok n) (selected r).state) (selected r).ideal (laid (selected r) (lent k₀ u₀ f₀ l₀)))
     (sym (kept-length r))
 
 module _ (edition : Edition) (pool directions : List ℕ) (divisions size : ℕ) (g : Rng) (ideal : List Float) (entry : Lent) where
@@ -80,14 +78,14 @@ module _ (edition : Edition) (pool directions : List ℕ) (divisions size : ℕ)
   promise x e = subst (Selects r entry) (sym e) (selects r (plan_at-row pool) entry)
 
   -- by what the check answers
-  module _ {k : Check} (e : checked k ≡ select_refusal r (room_of entry)) where
-    pub refused : (n : ℕ) → k ≡ check.Refused n → Selects r entry (record { answer = record { outcome = outcome.Refused n; rng = g }; ideal = ideal; slices = entry })
+  module _ {k : Result Unit Refusal} (e : refused_by k ≡ select_refusal r (room_of entry)) where
+    pub refused : (n : Refusal) → k ≡ Err n → Selects r entry (record { answer = record { outcome = Err n; rng = g }; ideal = ideal; slices = entry })
     unfolding select_of
-    refused n v = promise _ (ap (λ o. select_by o r entry) (sym (ap checked v) ∙ e))
+    refused n v = promise _ (ap (λ o. select_by o r entry) (sym (ap refused_by v) ∙ e))
 
-    pub limits-kept : k ≡ check.Good → Admitted r (room_of entry)
-    limits-kept v = admitted r (room_of entry) (sym e ∙ ap checked v)
+    pub limits-kept : k ≡ (Ok tt) → Admitted r (room_of entry)
+    limits-kept v = admitted r (room_of entry) (sym e ∙ ap refused_by v)
 
-    pub selected_so : k ≡ check.Good → (x : SelectExit) → x ≡ select_accepted r entry → Selects r entry x
+    pub selected_so : k ≡ (Ok tt) → (x : SelectExit) → x ≡ select_accepted r entry → Selects r entry x
     unfolding select_of
-    selected_so v x h = promise x (h ∙ ap (λ o. select_by o r entry) (sym (ap checked v) ∙ e))
+    selected_so v x h = promise x (h ∙ ap (λ o. select_by o r entry) (sym (ap refused_by v) ∙ e))

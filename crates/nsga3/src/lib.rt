@@ -9,8 +9,7 @@ ghost use Rattle.nsga3_laws.specs.Admitted.{Admitted};
 ghost use Rattle.nsga3.specs.Handed.{SortedPool, Hands};
 
 use front_cut::Cut;
-use model::{Edition, MAX_POOL, MAX_ROW_VALUES, MAX_TABLE_VALUES, Outcome, Rng, Selection};
-use refusals::Check;
+use model::{Edition, MAX_POOL, MAX_ROW_VALUES, MAX_TABLE_VALUES, Rng, Selection};
 
 // The kept list where a front is split, with its rules: the whole fronts, then plans that niching picks from the split one. The ideal moves, and every plan that shapes the scale gets a line.
 fn select_split(
@@ -133,7 +132,7 @@ fn select(
         lines,
     );
     Selection {
-        outcome: Outcome::Kept(size),
+        outcome: Ok(size),
         rng,
     }
 }
@@ -170,11 +169,11 @@ pub fn nsga3_select(
         lines.len(),
     );
     match check {
-        Check::Refused(number) => Selection {
-            outcome: Outcome::Refused(number),
+        Err(refusal) => Selection {
+            outcome: Err(refusal),
             rng,
         },
-        Check::Good => select(
+        Ok(()) => select(
             edition, pool, directions, divisions, size, rng, ideal, kept, rules, fronts, lines,
         ),
     }

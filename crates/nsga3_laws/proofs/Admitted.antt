@@ -1,6 +1,6 @@
 -- Where no refusal is given, each limit is kept.
 use mathlib.Core.Path.{◌≡◌}
-use mathlib.Core.Option.{none}
+use Rattle.std.specs.Prelude.{None}
 use Rattle.model.specs.Association.{Request, objectives}
 use Rattle.model.specs.Refusal.{Room, select_refusal}
 use Rattle.list_laws.proofs.Checks.{pool-plans, pool-ideal, good-ideal-length}
@@ -9,7 +9,7 @@ use Rattle.reference_laws.proofs.Count.{lines-some}
 use Rattle.demand3_laws.proofs.Passed.{size-limits, count-limits, count-in_pool, some-objectives, room-each, select_passed}
 use Rattle.nsga3_laws.specs.Admitted.{Admitted}
 
-pub admitted : (r : Request) (room : Room) → select_refusal r room ≡ none → Admitted r room
+pub admitted : (r : Request) (room : Room) → select_refusal r room ≡ None → Admitted r room
 admitted r room e =
     let p = select_passed r room e in
     let m = some-objectives r.marks p.directions in

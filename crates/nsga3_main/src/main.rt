@@ -5,26 +5,13 @@
 ghost use Rattle.std.specs.Prelude.{◌+◌, ◌*◌, ◌≤◌, length};
 ghost use Rattle.model.specs.Plan.{plan_words};
 
-use model::{Edition, Outcome, PLAN_WORDS, ROW_LENGTH, Rng, VALUES};
-
-fn text(rt: &impl Print, t: &[u8]) {
-    let _ = rt.write_all(t);
-}
-
-// A label and a number.
-fn number(rt: &impl Print, label: &[u8], n: u64) {
-    let _ = rt.write_all(label);
-    let _ = rt.print(n);
-}
+use model::{Edition, PLAN_WORDS, ROW_LENGTH, Refusal, Rng, VALUES};
 
 // A label and the entries of a list.
-fn list(rt: &impl Print, label: &[u8], entries: &[usize]) {
-    text(rt, label);
-    let mut i = 0;
-    while i < entries.len() {
-        let n = entries[i];
-        number(rt, b" ", n as u64);
-        i += 1;
+fn list(rt: &impl Print, label: &str, entries: &[usize]) {
+    let _ = print!(rt; "{label}");
+    for n in entries {
+        let _ = print!(rt; " {n}");
     }
 }
 
@@ -49,13 +36,13 @@ fn put_plans(pool: &mut [u64])
 }
 
 // What a call answers.
-fn answered(rt: &impl Print, outcome: Outcome) {
+fn answered(rt: &impl Print, outcome: Result<usize, Refusal>) {
     match outcome {
-        Outcome::Kept(n) => {
-            number(rt, b"kept ", n as u64);
+        Ok(n) => {
+            let _ = print!(rt; "kept {n}");
         }
-        Outcome::Refused(n) => {
-            number(rt, b"refused ", n as u64);
+        Err(refusal) => {
+            let _ = print!(rt; "refused {}", u64::from(refusal));
         }
     }
 }
@@ -63,18 +50,18 @@ fn answered(rt: &impl Print, outcome: Outcome) {
 // An entry of the ideal as a number: 0 for 0.0, 1 for infinity, 2 for any other.
 fn mark(x: f64) -> u64 {
     if x == 0.0 {
-        return 0;
+        0
+    } else if x == 1.0 / 0.0 {
+        1
+    } else {
+        2
     }
-    if x == 1.0 / 0.0 {
-        return 1;
-    }
-    2
 }
 
 // All that a call leaves, on a line.
 fn tell(
     rt: &impl Print,
-    outcome: Outcome,
+    outcome: Result<usize, Refusal>,
     kept: &[usize],
     fronts: &[usize],
     lines: &[usize],
@@ -82,13 +69,12 @@ fn tell(
     state: u64,
 ) {
     answered(rt, outcome);
-    list(rt, b": list", kept);
-    list(rt, b", fronts", fronts);
-    list(rt, b", lines", lines);
-    number(rt, b", ideal ", mark(ideal[0]));
-    number(rt, b" ", mark(ideal[1]));
-    number(rt, b", state ", state);
-    text(rt, b"\n");
+    list(rt, ": list", kept);
+    list(rt, ", fronts", fronts);
+    list(rt, ", lines", lines);
+    let first = mark(ideal[0]);
+    let second = mark(ideal[1]);
+    let _ = println!(rt; ", ideal {first} {second}, state {state}");
 }
 
 // One selection from the three plans, with seed 5 and an ideal at infinity.

@@ -31,14 +31,10 @@ pub fn fill_parents(
     ensures state { result.s ≡ (parents_of (dimensions_of dims) n (plan_at pool.now) (take count kept.now) rng.s).state }
 {
     let mut rng = rng;
-    let mut i = 0;
-    while i < count {
-        let p = kept[i];
-        let c = extraction::extract(pool, p, dims, n, rng);
-        let params = c.params;
-        candidates::put_candidate(params, n, i * n, parents);
+    for i in 0..count {
+        let c = extraction::extract(pool, kept[i], dims, n, rng);
+        candidates::put_candidate(c.value, n, i * n, parents);
         rng = c.rng;
-        i += 1;
     }
     rng
 }
@@ -84,14 +80,10 @@ pub fn write_offspring(
         (λ i. get_or ranks.now i 0) size rng.s).state }
 {
     let mut rng = rng;
-    let mut k = 0;
-    while k < (size + 1) / 2 {
+    for k in 0..(size + 1) / 2 {
         let c = genetic::brood(parents, count, ranks, operators, rng);
-        let first = c.first;
-        let second = c.second;
-        put_children(first, second, operators.n_dims, 2 * k, size, offspring);
+        put_children(c.first, c.second, operators.n_dims, 2 * k, size, offspring);
         rng = c.rng;
-        k += 1;
     }
     rng
 }

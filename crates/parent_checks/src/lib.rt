@@ -11,7 +11,9 @@ ghost use Rattle.model.specs.Setting.{max_dims, dimensions_of};
 ghost use Rattle.extraction.specs.Entries.{setting_at, as_setting, entries_of};
 
 use extraction::Entry;
-use model::{DimensionInfo, Distribution, MAX_DIMS, MAX_SETTINGS, PLAN_WORDS, SETTING_COUNT};
+use model::{
+    DimensionInfo, Distribution, MAX_DIMS, MAX_SETTINGS, PLAN_WORDS, Refusal, SETTING_COUNT,
+};
 
 // A setting after setting j has its parameter number.
 fn repeated(pool: &[u64], at: usize, j: usize, count: usize) -> bool
@@ -19,12 +21,10 @@ fn repeated(pool: &[u64], at: usize, j: usize, count: usize) -> bool
     ensures { result ≡ not (others_differ (setting_at pool.now at j) (drop (j + 1) (list_below (setting_at pool.now at) count))) }
 {
     let x = pool[at + (28 + 3 * j)];
-    let mut t = j + 1;
-    while t < count {
+    for t in j + 1..count {
         if x == pool[at + (28 + 3 * t)] {
             return true;
         }
-        t += 1;
     }
     false
 }
@@ -34,9 +34,7 @@ fn named_once(pool: &[u64], at: usize, count: usize) -> bool
     requires { (at + plan_words ≤ length pool.now) × (count ≤ max_settings) }
     ensures { result ≡ named_once (list_below (setting_at pool.now at) count) }
 {
-    let mut j = count;
-    while 0 < j {
-        j -= 1;
+    for j in 0..count {
         if repeated(pool, at, j, count) {
             return false;
         }
@@ -45,14 +43,12 @@ fn named_once(pool: &[u64], at: usize, count: usize) -> bool
 }
 
 // A setting is of its dimension's kind and within its bounds.
+#[tactic(auto, unfolding(model::specs::Refusal::fits_dimension))]
 fn fits_dimension(d: Distribution, x: Entry) -> bool
     ensures { result ≡ fits_dimension d (as_setting x) }
 {
-    let kind = x.kind;
-    if kind == settings::kind_of_dimension(d) {
-        return settings::in_bounds(d, settings::of_word(kind, x.value));
-    }
-    false
+    x.kind == settings::kind_of_dimension(d)
+        && settings::in_bounds(d, settings::of_word(x.kind, x.value))
 }
 
 // Dimension i has no setting, or one that fits.
@@ -65,16 +61,11 @@ fn fits_at(
     requires { (count ≤ max_settings) × (i < max_dims) }
     ensures { result ≡ fits_at (dimensions_of dims) (entries_of sorted count) i }
 {
-    if count <= i {
-        return true;
-    }
-    let x = sorted[i];
-    let info = dims[i];
-    let d = info.distribution;
-    fits_dimension(d, x)
+    count <= i || fits_dimension(dims[i].distribution, sorted[i])
 }
 
 // Each of the n dimensions has no setting, or one that fits.
+#[tactic(auto, using(list_laws::proofs::Tests::all_below_none, list_laws::proofs::Tests::all_below_yes))]
 fn all_fit(
     sorted: [Entry; MAX_SETTINGS],
     count: usize,
@@ -84,11 +75,8 @@ fn all_fit(
     requires { (count ≤ max_settings) × (n ≤ max_dims) }
     ensures { result ≡ all_below (fits_at (dimensions_of dims) (entries_of sorted count)) n }
 {
-    let mut i = 0;
-    while i < n {
-        if fits_at(sorted, count, dims, i) {
-            i += 1;
-        } else {
+    for i in 0..n {
+        if !fits_at(sorted, count, dims, i) {
             return false;
         }
     }
@@ -105,24 +93,21 @@ fn breedable(pool: &[u64], i: usize, dims: [DimensionInfo; MAX_DIMS], n: usize) 
     if count > MAX_SETTINGS {
         return false;
     }
-    if named_once(pool, at, count) {
-        let sorted = extraction::sort_by_param(pool, at, count);
-        return all_fit(sorted, count, dims, n);
+    if !named_once(pool, at, count) {
+        return false;
     }
-    false
+    let sorted = extraction::sort_by_param(pool, at, count);
+    all_fit(sorted, count, dims, n)
 }
 
 // Refusal 9: a plan of the pool cannot be bred from.
+#[tactic(auto, using(list_laws::proofs::Tests::all_below_none, list_laws::proofs::Tests::all_below_yes))]
 pub fn bad_parents(pool: &[u64], dims: [DimensionInfo; MAX_DIMS], n: usize) -> bool
     requires { n ≤ max_dims }
     ensures { result ≡ not (all_below (λ p. breedable (dimensions_of dims) n (plan_at pool.now p)) (plan_count pool.now)) }
 {
-    let count = plans::plan_count(pool);
-    let mut p = 0;
-    while p < count {
-        if breedable(pool, p, dims, n) {
-            p += 1;
-        } else {
+    for p in 0..plans::plan_count(pool) {
+        if !breedable(pool, p, dims, n) {
             return true;
         }
     }

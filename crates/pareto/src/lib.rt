@@ -10,6 +10,7 @@ ghost use Rattle.list_laws.specs.Put.{Picked};
 ghost use Rattle.front_laws.specs.Flat.{flat_dominates, flat_beats, Pool, KnownRows};
 ghost use Rattle.front_laws.specs.Post.{Sorted};
 
+use domination::FlatPool;
 use model::MAX_POOL;
 
 // A row in minimise-space: as many of the values as there are directions.
@@ -18,10 +19,8 @@ pub fn to_minimize_space(values: &[f64], directions: &[u8], row: &mut [f64])
     ensures { row.new
         ≡ over (list_below (minimised directions.now values.now) (length directions.now)) row.old }
 {
-    let mut j = 0;
-    while j < directions.len() {
-        row[j] = domination::to_minimize(values[j], directions[j]);
-        j += 1;
+    for (j, &direction) in directions.iter().enumerate() {
+        row[j] = domination::to_minimize(values[j], direction);
     }
 }
 
@@ -31,13 +30,11 @@ fn first_front(n: usize, counts: &[usize], order: &mut [usize]) -> usize
     ensures { Picked (λ q. eqb (get_or counts.now q 0) 0) order.old 0 n order.new result }
 {
     let mut len = 0;
-    let mut q = 0;
-    while q < n {
+    for q in 0..n {
         if counts[q] == 0 {
             order[len] = q;
             len += 1;
         }
-        q += 1;
     }
     len
 }
@@ -59,25 +56,20 @@ pub fn fast_non_dominated_sort_constrained(
         order.old order.new rank.old rank.new ends.old ends.new result }
 {
     let mut counts: [usize; MAX_POOL] = [0; MAX_POOL];
-    dominator_counts::count_all(rows, m, feasible, violations, n, &mut counts);
+    let pool = FlatPool {
+        rows,
+        m,
+        feasible,
+        violations,
+    };
+    dominator_counts::count_all(pool, n, &mut counts);
     let mut start = 0;
     let mut end = first_front(n, &counts, order);
     let mut k = 0;
+    // a while: each front is listed by the round of the one before it, and the last one lists none
     while start < end {
         ends[k] = end;
-        let len = front_round::pass_front(
-            rows,
-            m,
-            feasible,
-            violations,
-            n,
-            k,
-            start,
-            end,
-            &mut counts,
-            order,
-            rank,
-        );
+        let len = front_round::pass_front(pool, n, k, start, end, &mut counts, order, rank);
         start = end;
         end = len;
         k += 1;

@@ -28,10 +28,8 @@ fn fill_row(pool: &[u64], directions: &[u8], p: usize, rows: &mut [f64])
 {
     let m = directions.len();
     let at = p * m;
-    let mut j = 0;
-    while j < m {
+    for j in 0..m {
         rows[at + j] = row_value(pool, directions, p, j);
-        j += 1;
     }
 }
 
@@ -41,10 +39,8 @@ pub fn fill_rows(pool: &[u64], directions: &[u8], n: usize, rows: &mut [f64])
     requires by_index { (p : ℕ) → p < n → length directions.now ≤ (plan_at pool.now p).row_length }
     ensures { RowsFilled directions.now (plan_at pool.now) n rows.old rows.new }
 {
-    let mut p = 0;
-    while p < n {
+    for p in 0..n {
         fill_row(pool, directions, p, rows);
-        p += 1;
     }
 }
 
@@ -53,10 +49,8 @@ fn copy_reals(words: &[u64], at: usize, n: usize, out: &mut [f64])
     requires { (at + n ≤ length words.now) × (n ≤ length out.old) }
     ensures { out.new ≡ over (list_below (λ j. real (get_or words.now (at + j) 0)) n) out.old }
 {
-    let mut j = 0;
-    while j < n {
+    for j in 0..n {
         out[j] = real::real_of_word(words[at + j]);
-        j += 1;
     }
 }
 
@@ -68,10 +62,11 @@ fn fill_plan(pool: &[u64], p: usize, feasible: &mut [bool], violations: &mut [f6
 {
     let at = p * PLAN_WORDS;
     let count = pool[at + CONSTRAINT_COUNT] as usize;
-    let mut constraints: [f64; MAX_CONSTRAINTS] = [0.0; MAX_CONSTRAINTS];
-    copy_reals(pool, at + CONSTRAINTS, count, &mut constraints);
-    feasible[p] = domination::is_feasible(&constraints[..count]);
-    violations[p] = domination::total_violation(&constraints[..count]);
+    let mut reals = [0.0; MAX_CONSTRAINTS];
+    copy_reals(pool, at + CONSTRAINTS, count, &mut reals);
+    let constraints = &reals[..count];
+    feasible[p] = domination::is_feasible(constraints);
+    violations[p] = domination::total_violation(constraints);
 }
 
 // Whether each of the first n plans is feasible, and its violation sum.
@@ -81,9 +76,7 @@ pub fn fill_constraints(pool: &[u64], n: usize, feasible: &mut [bool], violation
     ensures { ConstraintsOf (plan_at pool.now) n feasible.old feasible.new
         violations.old violations.new }
 {
-    let mut p = 0;
-    while p < n {
+    for p in 0..n {
         fill_plan(pool, p, feasible, violations);
-        p += 1;
     }
 }

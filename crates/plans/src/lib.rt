@@ -28,20 +28,9 @@ pub fn plan_count(pool: &[u64]) -> usize
 pub fn bad_directions(directions: &[u8]) -> bool
     ensures { result ≡ bad_directions directions.now }
 {
-    if directions.len() < 1 {
-        return true;
-    }
-    if MAX_OBJECTIVES < directions.len() {
-        return true;
-    }
-    let mut j = 0;
-    while j < directions.len() {
-        if 1 < directions[j] {
-            return true;
-        }
-        j += 1;
-    }
-    false
+    directions.is_empty()
+        || MAX_OBJECTIVES < directions.len()
+        || directions.iter().any(|&mark| 1 < mark)
 }
 
 // A value is within -2^1000..2^1000; a NaN is not.
@@ -55,29 +44,14 @@ fn measurable(x: f64) -> bool
 fn good_entry(x: f64) -> bool
     ensures { result ≡ good_entry x }
 {
-    if measurable(x) {
-        return true;
-    }
-    x == 1.0 / 0.0
+    measurable(x) || x == 1.0 / 0.0
 }
 
 // Refusal 8 for the ideal: it has m entries, each measurable or plus infinity.
 fn good_ideal(m: usize, ideal: &[f64]) -> bool
     ensures { result ≡ good_ideal m ideal.now }
 {
-    if ideal.len() != m {
-        return false;
-    }
-    let mut j = 0;
-    while j < ideal.len() {
-        let x = ideal[j];
-        if good_entry(x) {
-            j += 1;
-        } else {
-            return false;
-        }
-    }
-    true
+    ideal.len() == m && ideal.iter().all(|&x| good_entry(x))
 }
 
 // The reals of n words from place `at` on are measurable.
@@ -85,48 +59,34 @@ fn measurable_words(words: &[u64], at: usize, n: usize) -> bool
     requires { at + n ≤ length words.now }
     ensures { result ≡ all_below (λ j. measurable (real (get_or words.now (at + j) 0))) n }
 {
-    let mut j = 0;
-    while j < n {
-        let x = real::real_of_word(words[at + j]);
-        if measurable(x) {
-            j += 1;
-        } else {
-            return false;
-        }
-    }
-    true
+    words[at..at + n]
+        .iter()
+        .all(|&word| measurable(real::real_of_word(word)))
 }
 
 // Refusal 8 for plan i: its row length is m, it has at most 16 constraints, and its values and constraints are measurable.
+#[tactic(auto, using(crate::proofs::Refused::plan_tests))]
 fn good_plan(pool: &[u64], i: usize, m: usize) -> bool
     requires { (i < plan_count pool.now) × (m ≤ max_objectives) }
     ensures { result ≡ good_plan m (plan_at pool.now i) }
 {
     let at = i * PLAN_WORDS;
     let row_length = pool[at + ROW_LENGTH] as usize;
-    if row_length != m {
-        return false;
-    }
     let count = pool[at + CONSTRAINT_COUNT] as usize;
-    if MAX_CONSTRAINTS < count {
-        return false;
-    }
-    if measurable_words(pool, at + VALUES, m) {
-        return measurable_words(pool, at + CONSTRAINTS, count);
-    }
-    false
+    row_length == m
+        && count <= MAX_CONSTRAINTS
+        && measurable_words(pool, at + VALUES, m)
+        && measurable_words(pool, at + CONSTRAINTS, count)
 }
 
 // Refusal 8 for the first n plans of a pool.
+#[tactic(auto, using(list_laws::proofs::Tests::all_below_none, list_laws::proofs::Tests::all_below_yes))]
 fn good_plans(pool: &[u64], n: usize, m: usize) -> bool
     requires { (n ≤ plan_count pool.now) × (m ≤ max_objectives) }
     ensures { result ≡ good_plans m (plan_at pool.now) n }
 {
-    let mut p = 0;
-    while p < n {
-        if good_plan(pool, p, m) {
-            p += 1;
-        } else {
+    for p in 0..n {
+        if !good_plan(pool, p, m) {
             return false;
         }
     }
@@ -137,20 +97,14 @@ fn good_plans(pool: &[u64], n: usize, m: usize) -> bool
 pub fn bad_size(size: usize) -> bool
     ensures { result ≡ bad_size size }
 {
-    if size == 0 {
-        return true;
-    }
-    MAX_SIZE < size
+    size == 0 || MAX_SIZE < size
 }
 
 // Refusal 7 for a pool of n plans: there is none, or there are more than the edition takes.
 pub fn bad_count(edition: Edition, n: usize) -> bool
     ensures { result ≡ bad_count edition n }
 {
-    if n == 0 {
-        return true;
-    }
-    editions::most_plans(edition) < n
+    n == 0 || editions::most_plans(edition) < n
 }
 
 // Refusal 8 for a pool and its ideal.
@@ -159,10 +113,5 @@ pub fn bad_pool(pool: &[u64], m: usize, ideal: &[f64]) -> bool
     ensures { result ≡ not (good_plans m (plan_at pool.now) (plan_count pool.now) && good_ideal m ideal.now) }
 {
     let n = plan_count(pool);
-    if good_plans(pool, n, m) {
-        if good_ideal(m, ideal) {
-            return false;
-        }
-    }
-    true
+    !(good_plans(pool, n, m) && good_ideal(m, ideal))
 }

@@ -11,10 +11,8 @@ ghost use Rattle.model.specs.Calls.{word_request, Chooses};
 ghost use Rattle.pool_laws.specs.Choice.{exit, list_exit};
 
 use model::{
-    Chosen, Edition, FIRST_POOL_WORDS, MAX_FIRST_POOL, MAX_OBJECTIVES, MAX_SIZE, Outcome,
-    PLAN_WORDS, Rng,
+    Edition, FIRST_POOL_WORDS, MAX_FIRST_POOL, MAX_OBJECTIVES, MAX_SIZE, PLAN_WORDS, Refusal, Rng,
 };
-use pool_file::Parsed;
 
 // The listing of what the words of a pool ask for, from an ideal at infinity.
 fn choose_words(
@@ -24,7 +22,7 @@ fn choose_words(
     size: usize,
     rng: Rng,
     out: &mut [u8],
-) -> Chosen
+) -> Result<usize, Refusal>
     requires { length directions.now ≤ max_objectives }
     ensures { exit result out.new
         ≡ list_exit (word_request First pool.now directions.now divisions size rng (replicate (length directions.now) infinity))
@@ -51,8 +49,8 @@ fn choose_words(
     );
     let outcome = selection.outcome;
     match outcome {
-        Outcome::Refused(number) => Chosen::Refused(number),
-        Outcome::Kept(n) => pool_listing::put_listing(
+        Err(refusal) => Err(refusal),
+        Ok(n) => pool_listing::put_listing(
             plans::plan_count(pool),
             &kept[..n],
             &fronts,
@@ -70,20 +68,19 @@ fn plans_stored(count: usize) -> usize
 }
 
 // The text that a pool file asks for, at the front of the slice lent: the listing, or the number of the refusal with nothing written.
-pub fn choose(file: &[u8], out: &mut [u8]) -> Chosen
+pub fn choose(file: &[u8], out: &mut [u8]) -> Result<usize, Refusal>
     ensures { Chooses file.now out.old (exit result out.new) }
 {
     let mut directions: [u8; MAX_OBJECTIVES] = [0; MAX_OBJECTIVES];
     let mut pool: [u64; FIRST_POOL_WORDS] = [0; FIRST_POOL_WORDS];
-    let parsed = pool_file::parse_pool(file, &mut directions, &mut pool);
-    let Parsed::Good(header) = parsed else {
+    let Some(header) = pool_file::parse_pool(file, &mut directions, &mut pool) else {
         if pool_file::opens_second(file) {
-            return Chosen::Refused(17);
+            return Err(Refusal::SecondForm);
         }
-        return Chosen::Refused(1);
+        return Err(Refusal::Form);
     };
     if (MAX_OBJECTIVES as u64) < header.m {
-        return Chosen::Refused(2);
+        return Err(Refusal::Directions);
     }
     let m = header.m as usize;
     let divisions = header.divisions as usize;

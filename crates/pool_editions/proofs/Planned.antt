@@ -4,7 +4,7 @@ use mathlib.Core.Path.{◌≡◌, ap, sym, ◌∙◌}
 use mathlib.Core.Bool.{Bool}
 use mathlib.Core.Logic.{inl}
 use mathlib.Core.List.{List, [], ◌∷◌, ◌++◌}
-use mathlib.Core.Option.{none}
+use Rattle.std.specs.Prelude.{None, Some}
 use native.Mathlib.Omega.{arith}
 use lib.ListN.{length, get_or, drop}
 use Rattle.model.specs.Plan.{Plan, plan_from, plan_at, plan_words}
@@ -13,10 +13,8 @@ use Rattle.model.specs.declared.Edition.TheVariants.{First}
 use Rattle.model.specs.Edition.{most_plans}
 use Rattle.list_laws.proofs.Built.{snoc_each}
 use Rattle.list_laws.proofs.Rows.{row_inside}
-use Rattle.pool_plans.specs.declared.End.{End}
-use Rattle.pool_plans.specs.declared.End.TheVariants as end
 use Rattle.pool_plans.specs.Blocks.{Block, Blocks, roomed}
-use Rattle.pool_plans.proofs.Storing.{as_told, reads_none, reads-count, reads_more, reads_stop}
+use Rattle.pool_plans.proofs.Storing.{reads_none, reads-count, reads_more, reads_stop}
 use Rattle.pool_plans.proofs.Blocks.{plan_of-same}
 use Rattle.pool_editions.specs.Editions.{plan_in, EntryIs, Plans}
 
@@ -35,13 +33,12 @@ module _ (second : Bool) (file : List ℕ) (at m : ℕ) where
   pub plans_none : (o : List ℕ) → Plans second file at m 0 o at
   plans_none o = reads_none (plan_in second m) file at (Blocks 0 o) (λ h p l. absurd (omega arith))
 
-  module _ (l : List ℕ) (i p base : ℕ) (o : List ℕ) (r : End) (w : Plans second file at m i l p) (b : EntryIs second file p m base l o r) where
-    pub plans_stop : (n : ℕ) → i < n → r ≡ end.Broken → many n (plan_in second m) (drop at file) ≡ none
-    plans_stop n h e =
-        reads_stop (plan_in second m) file at (Blocks i l) i p w n h (as_told (plan_in second m) (Block base l o) file p e b)
+  module _ (l : List ℕ) (i p : ℕ) (w : Plans second file at m i l p) where
+    pub plans_stop : (n : ℕ) → i < n → plan_in second m (drop p file) ≡ None → many n (plan_in second m) (drop at file) ≡ None
+    plans_stop n h e = reads_stop (plan_in second m) file at (Blocks i l) i p w n h e
 
-    pub plans-more : (next : ℕ) → (i < most_plans First → base ≡ i * plan_words) → r ≡ end.At next → Plans second file at m (i + 1) o next
-    plans-more next place e =
-        let k = as_told (plan_in second m) (Block base l o) file p e b in
+    pub plans-more : (base : ℕ) (o : List ℕ) (next : ℕ) → (i < most_plans First → base ≡ i * plan_words) → EntryIs second file p m base l o (Some next)
+        → Plans second file at m (i + 1) o next
+    plans-more base o next place k =
         reads_more (plan_in second m) file at (Blocks i l) i p w k.value next k.reads (Blocks (i + 1) o)
         (blocks_more i base l o w.value k.value (reads-count (plan_in second m) file at (Blocks i l) i p w) place w.stored k.stored)

@@ -3,7 +3,7 @@ use Prim.Native.Nat.{ℕ, ◌≤◌, ◌<◌}
 use mathlib.Core.Path.{◌≡◌, ap, sym, ◌∙◌}
 use mathlib.Core.Bool.{Bool}
 use mathlib.Core.List.{List, map}
-use mathlib.Core.Option.{Option, none}
+use Rattle.std.specs.Prelude.{Option, None}
 use native.Mathlib.Omega.{arith}
 use borrow.Author.Tests.{le-leb, lt-leb}
 use lib.ListN.{length, take, drop, length-map, drop_of_length-le}
@@ -12,14 +12,13 @@ use Rattle.model.specs.Plan.{max_objectives}
 use Rattle.model.specs.PoolFile.{Parsed, onward, number, many, file_by, parse_by, wholly, if_none_left, max_file}
 use Rattle.list_laws.proofs.Bools.{by_option}
 use Rattle.list_laws.proofs.Built.{over-front, over-all, over-take}
-use Rattle.pool_plans.specs.declared.End.{End}
-use Rattle.pool_plans.specs.declared.End.TheVariants as end
+use Rattle.std.specs.Prelude as maybe
 use Rattle.pool_file.specs.declared.Header.{Header}
 use Rattle.pool_file.specs.declared.Heading.{Heading}
-use Rattle.pool_plans.specs.Blocks.{Words, WordsIs}
-use Rattle.pool_editions.specs.Editions.{plan_in, Plans, PlansIs}
+use Rattle.pool_plans.specs.Blocks.{Words}
+use Rattle.pool_editions.specs.Editions.{plan_in, Plans}
 use Rattle.pool_file.specs.Parsing.{header_of, file_of, after_header, headed, HeadingIs, begins, file_in, parse_in, PoolOf, capped}
-use Rattle.pool_plans.proofs.Storing.{as_told, reads-count, stored_plain}
+use Rattle.pool_plans.proofs.Storing.{reads-count, stored_plain}
 
 -- ---- the header
 
@@ -38,20 +37,17 @@ header-first second bytes = by_option (number bytes)
     (λ n. rw (u, v, w, x, n))
     (λ e y. rw (u, v, w, x, y))))))
 
-module _ (file : List ℕ) (at : ℕ) (l o : List ℕ) (r : End) (w : WordsIs (λ v. v) file at 5 5 0 l o r) where
+module _ (file : List ℕ) (at : ℕ) where
   -- what is read by way of the five numbers
   by-five : (second : Bool) (t : Option (Parsed (List ℕ))) → many 5 number (drop at file) ≡ t
       → file_by (plan_in second) (drop at file) ≡ onward t (λ k. after_header second (header_of k))
   by-five second t e =
       header-first second (drop at file) ∙ ap (λ (t : Option (Parsed (List ℕ))). onward t (λ k. after_header second (header_of k))) e
 
-  pub header_none : r ≡ end.Broken → (second : Bool) → file_by (plan_in second) (drop at file) ≡ none
-  header_none e second = by-five second none (as_told (many 5 number) _ file at e w)
+  pub header_none : many 5 number (drop at file) ≡ None → (second : Bool) → file_by (plan_in second) (drop at file) ≡ None
+  header_none e second = by-five second None e
 
-  module _ (next : ℕ) (e : r ≡ end.At next) (room : length l ≡ 5) where
-    five : Words (λ v. v) file at 5 5 0 l o next
-    five = as_told (many 5 number) _ file at e w
-
+  module _ (l o : List ℕ) (next : ℕ) (five : Words (λ v. v) file at 5 5 0 l o next) (room : length l ≡ 5) where
     -- the words hold what was read
     in_words : o ≡ five.value
     in_words =
@@ -64,7 +60,7 @@ module _ (file : List ℕ) (at : ℕ) (l o : List ℕ) (r : End) (w : WordsIs (�
 
 -- ---- marks, plans and end
 
-pub parse-long : (second : Bool) (file : List ℕ) → max_file < length file → parse_in second file ≡ none
+pub parse-long : (second : Bool) (file : List ℕ) → max_file < length file → parse_in second file ≡ None
 unfolding parse_by
 parse-long second file h = rw (lt-leb (length file) max_file h)
 
@@ -76,10 +72,10 @@ parse-short second file h = rw (le-leb (length file) max_file h)
 abbrev pub Begun : Bool → List ℕ → Header → ℕ → Type 0
 Begun second file h at = parse_in second file ≡ wholly (after_header second h (drop at file))
 
-pub parse-headed : (second : Bool) (file : List ℕ) (from : ℕ) → length file ≤ max_file → from ≡ begins second → (r x : Heading) → HeadingIs file from r → r ≡ x
-    → parse_in second file ≡ wholly (headed second file x)
-parse-headed second file from fits b r x k e =
-    parse-short second file fits ∙ ap (λ (i : ℕ). wholly (file_by (plan_in second) (drop i file))) (sym b) ∙ ap wholly (k second ∙ ap (headed second file) e)
+pub parse-headed : (second : Bool) (file : List ℕ) (from : ℕ) → length file ≤ max_file → from ≡ begins second → (r : maybe.Option Heading) → HeadingIs file from r
+    → parse_in second file ≡ wholly (headed second file r)
+parse-headed second file from fits b r k =
+    parse-short second file fits ∙ ap (λ (i : ℕ). wholly (file_by (plan_in second) (drop i file))) (sym b) ∙ ap wholly (k second)
 
 -- the marks are read too, up to `next`
 pub record Marked (second : Bool) (file : List ℕ) (h : Header) (l o : List ℕ) (next : ℕ) : Type 0 where
@@ -87,35 +83,28 @@ pub record Marked (second : Bool) (file : List ℕ) (h : Header) (l o : List ℕ
   pub begun : Begun second file h at
   pub marks : Words capped file at h.m max_objectives 0 l o next
 
-module _ (second : Bool) (file : List ℕ) (h : Header) (at : ℕ) (b : Begun second file h at) (l o : List ℕ) (q : End)
-    (w : WordsIs capped file at h.m max_objectives 0 l o q) where
-  pub parse_no_marks : q ≡ end.Broken → parse_in second file ≡ none
+module _ (second : Bool) (file : List ℕ) (h : Header) (at : ℕ) (b : Begun second file h at) where
+  pub parse_no_marks : many h.m number (drop at file) ≡ None → parse_in second file ≡ None
   unfolding after_header
-  parse_no_marks g = let n : many h.m number (drop at file) ≡ none = as_told (many h.m number) _ file at g w in b ∙ rw n
+  parse_no_marks n = b ∙ rw n
 
-  pub parse-marked : (next : ℕ) → q ≡ end.At next → Marked second file h l o next
-  parse-marked next g = record { at = at; begun = b; marks = as_told (many h.m number) _ file at g w }
+  pub parse-marked : (l o : List ℕ) (next : ℕ) → Words capped file at h.m max_objectives 0 l o next → Marked second file h l o next
+  parse-marked l o next w = record { at = at; begun = b; marks = w }
 
-module _ (second : Bool) (file : List ℕ) (h : Header) (l o : List ℕ) (next : ℕ) (m : Marked second file h l o next) (pool : List ℕ) (y : End)
-    (v : PlansIs second file next h.m h.count pool y) where
+module _ (second : Bool) (file : List ℕ) (h : Header) (l o : List ℕ) (next : ℕ) (m : Marked second file h l o next) where
   abbrev values : List ℕ
   values = m.marks.value
 
-  pub parse-no_plans : y ≡ end.Broken → parse_in second file ≡ none
+  pub parse-no_plans : many h.count (plan_in second h.m) (drop next file) ≡ None → parse_in second file ≡ None
   unfolding after_header
-  parse-no_plans z =
-      let n : many h.count (plan_in second h.m) (drop next file) ≡ none = as_told (many h.count (plan_in second h.m)) _ file next z v in
-      m.begun ∙ rw (m.marks.reads, n)
+  parse-no_plans n = m.begun ∙ rw (m.marks.reads, n)
 
-  module _ (stop : ℕ) (z : y ≡ end.At stop) where
-    plans : Plans second file next h.m h.count pool stop
-    plans = as_told (many h.count (plan_in second h.m)) _ file next z v
-
+  module _ (pool : List ℕ) (stop : ℕ) (plans : Plans second file next h.m h.count pool stop) where
     whole : parse_in second file ≡ if_none_left (drop stop file) (file_of h values plans.value)
     unfolding after_header
     whole = m.begun ∙ rw (m.marks.reads, plans.reads)
 
-    pub parse_runs_on : stop < length file → parse_in second file ≡ none
+    pub parse_runs_on : stop < length file → parse_in second file ≡ None
     parse_runs_on u = whole ∙ ap (λ (t : List ℕ). if_none_left t (file_of h values plans.value)) (drop-cons file stop 0 u)
 
     counted : length values ≡ h.m

@@ -1,15 +1,11 @@
 -- What the parser answers and stores, in model's words.
-use Rattle.pool_file.specs.declared.Parsed.{Parsed as Answer}
-use Rattle.std.specs.Prelude.{ℕ, ◌≤◌, ◌≡◌, Bool, cond, List, map, ltb, get_or, take, drop}
-use Rattle.std.proofs.Math.Option.{Option, none, some}
+use Rattle.std.specs.Prelude.{ℕ, ◌≤◌, ◌≡◌, Bool, cond, List, map, ltb, get_or, take, drop, Option, Some, None}
 use Rattle.model.specs.Plan.{Plan, max_objectives}
 use Rattle.model.specs.PoolFile.{Parsed, Reader, PoolFile, pure, number, many, file_by, parse_by, parse, ◌>>=◌}
 use Rattle.pool_plans.specs.Blocks.{Blocks}
 use Rattle.pool_editions.specs.Editions.{plan_in}
 use Rattle.pool_file.specs.declared.Header.{Header}
 use Rattle.pool_file.specs.declared.Heading.{Heading}
-use Rattle.pool_file.specs.declared.Heading.TheVariants as heading
-use Rattle.pool_file.specs.declared.Parsed.TheVariants as answer
 
 -- a mark as a byte holds it: 0 and 1 as they are, and 2 for every other
 abbrev pub capped : ℕ → ℕ
@@ -40,12 +36,12 @@ after_header second h = do
   pure (file_of h marks plans)
 
 -- what is read after a heading, where there is one
-abbrev pub headed : Bool → List ℕ → Heading → Option (Parsed PoolFile)
-headed second file (heading.Good h at) = after_header second h (drop at file)
-headed second file heading.Broken = none
+abbrev pub headed : Bool → List ℕ → Option Heading → Option (Parsed PoolFile)
+headed second file (Some h) = after_header second h.header (drop h.next file)
+headed second file None = None
 
 -- the header that stands at a place
-abbrev pub HeadingIs : List ℕ → ℕ → Heading → Type 0
+abbrev pub HeadingIs : List ℕ → ℕ → Option Heading → Type 0
 HeadingIs file at r = (second : Bool) → file_by (plan_in second) (drop at file) ≡ headed second file r
 
 -- the second edition's fields begin behind the number that opens it
@@ -65,18 +61,18 @@ parse_in second bytes = parse_by (file_in second) bytes
 pub record PoolOf (file : Option PoolFile) (h : Header) (directions pool : List ℕ) : Type 0 where
   pub values : List ℕ
   pub read : List Plan
-  pub parsed : file ≡ some (file_of h values read)
+  pub parsed : file ≡ Some (file_of h values read)
   pub marks : h.m ≤ max_objectives → take h.m directions ≡ map capped values
   pub plans : Blocks h.count pool read
 
 -- the answer for what a file is read as
-abbrev pub PoolOfIs : Option PoolFile → List ℕ → List ℕ → Answer → Type 0
-PoolOfIs file directions pool (answer.Good h) = PoolOf file h directions pool
-PoolOfIs file directions pool answer.Broken = file ≡ none
+abbrev pub PoolOfIs : Option PoolFile → List ℕ → List ℕ → Option Header → Type 0
+PoolOfIs file directions pool (Some h) = PoolOf file h directions pool
+PoolOfIs file directions pool None = file ≡ None
 
 abbrev pub Pool : List ℕ → Header → List ℕ → List ℕ → Type 0
 Pool file h directions pool = PoolOf (parse file) h directions pool
 
 -- THE PROMISE of the parser
-abbrev pub PoolIs : List ℕ → List ℕ → List ℕ → Answer → Type 0
+abbrev pub PoolIs : List ℕ → List ℕ → List ℕ → Option Header → Type 0
 PoolIs file directions pool r = PoolOfIs (parse file) directions pool r

@@ -12,8 +12,8 @@ ghost use Rattle.pool_file.specs.Parsing.{capped, begins, parse_in, HeadingIs, P
 
 use model::{MAX_FILE, MAX_OBJECTIVES};
 use pool_editions::read_plans;
-use pool_number::{Read, read_number};
-use pool_plans::{End, read_words};
+use pool_number::read_number;
+use pool_plans::read_words;
 
 // The number that opens a file of the second edition.
 const SECOND: u8 = 64;
@@ -30,16 +30,9 @@ pub struct Header {
 
 // The header and the place after it.
 #[derive(Clone, Copy)]
-pub enum Heading {
-    Good(Header, usize),
-    Broken,
-}
-
-// A pool file in good form, or not.
-#[derive(Clone, Copy)]
-pub enum Parsed {
-    Good(Header),
-    Broken,
+struct Heading {
+    header: Header,
+    next: usize,
 }
 
 // A mark as a byte: 0 and 1 as they are, 2 for every other.
@@ -49,34 +42,28 @@ fn capped(v: u64) -> u8
     if v < 2 { v as u8 } else { 2 }
 }
 
-// Reads n direction marks; the first 8 of them are stored at the front.
-fn read_marks(file: &[u8], at: usize, n: usize, directions: &mut [u8]) -> End
+// Reads n direction marks; the first 8 of them are stored at the front. The place after them, or None where bytes break the form or end early.
+fn read_marks(file: &[u8], at: usize, n: usize, directions: &mut [u8]) -> Option<usize>
     requires { max_objectives ≤ length directions.old }
     ensures { WordsIs capped file.now at n max_objectives 0 directions.old directions.new result }
 {
     let mut p = at;
-    let mut i: usize = 0;
-    while i < n {
-        let Read::Number(v, next) = read_number(file, p) else {
-            return End::Broken;
-        };
+    for i in 0..n {
+        let mark = read_number(file, p)?;
         if i < MAX_OBJECTIVES {
-            directions[i] = capped(v);
+            directions[i] = capped(mark.number);
         }
-        p = next;
-        i += 1;
+        p = mark.next;
     }
-    End::At(p)
+    Some(p)
 }
 
 // The five numbers that stand from a place on.
-fn read_header(file: &[u8], at: usize) -> Heading
+fn read_header(file: &[u8], at: usize) -> Option<Heading>
     ensures { HeadingIs file.now at result }
 {
     let mut words: [u64; 5] = [0; 5];
-    let End::At(next) = read_words(file, at, 5, 5, &mut words, 0) else {
-        return Heading::Broken;
-    };
+    let next = read_words(file, at, 5, 5, &mut words, 0)?;
     let header = Header {
         m: words[0],
         divisions: words[1],
@@ -84,54 +71,45 @@ fn read_header(file: &[u8], at: usize) -> Heading
         count: words[3],
         seed: words[4],
     };
-    Heading::Good(header, next)
+    Some(Heading { header, next })
 }
 
 // A file of the second edition opens with the number 64, whose form is that one byte.
 pub fn opens_second(file: &[u8]) -> bool
     ensures { result ≡ opens_second file.now }
 {
-    if file.len() == 0 {
-        return false;
-    }
-    file[0] == SECOND
+    !file.is_empty() && file[0] == SECOND
 }
 
 // Where the header begins.
 fn begins(second: bool) -> usize
     ensures { result ≡ begins second }
 {
-    if second { 1 } else { 0 }
+    usize::from(second)
 }
 
 // A whole file, read as one of an edition: its header, its first 8 direction marks, and each plan of a pool that is not too large in its block.
-// What breaks the form anywhere, ends early, runs on or is too long is Broken.
-fn parse_in(file: &[u8], second: bool, directions: &mut [u8], pool: &mut [u64]) -> Parsed
+// None where it breaks the form anywhere, ends early, runs on or is too long.
+fn parse_in(file: &[u8], second: bool, directions: &mut [u8], pool: &mut [u64]) -> Option<Header>
     requires { (max_objectives ≤ length directions.old) × (most_plans First * plan_words ≤ length pool.old) }
     ensures { PoolOfIs (parse_in second file.now) directions.new pool.new result }
 {
     if MAX_FILE < file.len() {
-        return Parsed::Broken;
+        return None;
     }
-    let Heading::Good(header, at) = read_header(file, begins(second)) else {
-        return Parsed::Broken;
-    };
+    let heading = read_header(file, begins(second))?;
+    let header = heading.header;
     let m = header.m as usize;
-    let count = header.count as usize;
-    let End::At(next) = read_marks(file, at, m, directions) else {
-        return Parsed::Broken;
-    };
-    let End::At(end) = read_plans(file, next, m, count, second, pool) else {
-        return Parsed::Broken;
-    };
+    let marked = read_marks(file, heading.next, m, directions)?;
+    let end = read_plans(file, marked, m, header.count as usize, second, pool)?;
     if end < file.len() {
-        return Parsed::Broken;
+        return None;
     }
-    Parsed::Good(header)
+    Some(header)
 }
 
-// A file of either edition.
-pub fn parse_pool(file: &[u8], directions: &mut [u8], pool: &mut [u64]) -> Parsed
+// A file of either edition: its header, where it is in good form.
+pub fn parse_pool(file: &[u8], directions: &mut [u8], pool: &mut [u64]) -> Option<Header>
     requires { (max_objectives ≤ length directions.old) × (most_plans First * plan_words ≤ length pool.old) }
     ensures { PoolIs file.now directions.new pool.new result }
 {

@@ -7,7 +7,7 @@ use native.Mathlib.Numerals.{add-one}
 use native.Mathlib.Omega.{arith}
 use lib.ListN.{length, take, set, length-append, length-set}
 use lib.Seq.{take-suc-set}
-use Rattle.pool_form.specs.Form.{Whole, Over, Sofar, Adds}
+use Rattle.pool_form.specs.Form.{Whole, Sofar, Adds}
 
 -- ---- one byte
 

@@ -27,9 +27,10 @@ pub fn put_word(n: u64, out: &mut [u8], at: usize) -> usize
 {
     let mut left = n;
     let mut p = at;
+    // a while: each turn takes seven bits off what is left
     while 127 < left {
         p = put_byte((left % 128 + 128) as u8, out, p);
-        left = left / 128;
+        left /= 128;
     }
     put_byte(left as u8, out, p)
 }

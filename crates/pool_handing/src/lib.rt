@@ -5,16 +5,16 @@
 ghost use Rattle.std.specs.Prelude.{◌≡◌};
 ghost use Rattle.pool_laws.specs.Choice.{exit, text_exit};
 
-use model::Chosen;
+use model::Refusal;
 
 // A text goes to the front of the slice lent, if that has room for it: its length is looked at before anything is written.
-pub fn hand_out(text: &[u8], out: &mut [u8]) -> Chosen
+pub fn hand_out(text: &[u8], out: &mut [u8]) -> Result<usize, Refusal>
     ensures { exit result out.new ≡ text_exit text.now out.old }
 {
     let n = text.len();
     if out.len() < n {
-        return Chosen::Refused(10);
+        return Err(Refusal::Room);
     }
     pool_decimal::put_bytes(text, out, 0);
-    Chosen::Written(n)
+    Ok(n)
 }

@@ -1,26 +1,25 @@
 -- From the parser's answer to the promise of `choose`.
-use Rattle.pool_file.specs.declared.Parsed.{Parsed as Answer}
 use Prim.Native.Nat.{ℕ, ◌*◌, ◌≤◌, ◌<◌}
 use mathlib.Core.Path.{◌≡◌, ap, sym, ◌∙◌, subst, ap₂, refl}
 use mathlib.Core.Bool.{Bool, true, false, cond}
 use mathlib.Core.List.{List}
-use mathlib.Core.Option.{Option, none, some}
+use Rattle.std.specs.Prelude.{Option, None, Some, Err}
 use native.Mathlib.Omega.{arith}
 use lib.ListN.{length}
-use Rattle.model.specs.declared.Chosen.TheVariants as chosen
+use Rattle.model.specs.declared.Refusal.{Refusal}
+use Rattle.model.specs.declared.Refusal.TheVariants as why
 use Rattle.model.specs.declared.Edition.TheVariants.{First}
 use Rattle.model.specs.Edition.{most_plans}
 use Rattle.model.specs.Plan.{plan_words, max_objectives}
 use Rattle.model.specs.Association.{Request}
 use Rattle.model.specs.PoolFile.{PoolFile, opens_second, parse, file_request, file_text}
 use Rattle.model.specs.Refusal.{select_refusal, form_refusal, refusal_of_parsed, file_refusal, choose_refusal}
-use Rattle.model.specs.Calls.{ChooseExit, choose_by, text_of, choose_of, Chooses, chosen_refused_by, text_handed_out}
+use Rattle.model.specs.Calls.{ChooseExit, choose_by, text_of, choose_of, Chooses, refused_by, handed_out}
 use Rattle.list_laws.proofs.Built.{over-take}
 use Rattle.list_laws.proofs.Bools.{by_option}
 use Rattle.list_laws.proofs.Below.{by_lt}
 use Rattle.plans.proofs.Refused.{directions-many}
 use Rattle.pool_file.specs.declared.Header.{Header}
-use Rattle.pool_file.specs.declared.Parsed.TheVariants as answer
 use Rattle.pool_file.specs.Parsing.{file_of, PoolIs, Pool}
 use Rattle.pool_laws.specs.Choice.{exit, roomy, list_exit}
 use Rattle.pool_laws.proofs.Shapes.{Whole, parse-whole}
@@ -29,23 +28,23 @@ use Rattle.pool_laws.proofs.Refusals.{file_refusal_lem, directions-first, many-p
 use Rattle.pool_laws.proofs.Demand3.{file_accepted, file_tells}
 
 -- an answer tells the refusal, or that there is none
-told : (o : Option ℕ) (text out : List ℕ) → chosen_refused_by (choose_by o text out).answer ≡ o
-told none text out = refl
-told (some n) text out = refl
+told : (o : Option Refusal) (text out : List ℕ) → refused_by (choose_by o text out).answer ≡ o
+told None text out = refl
+told (Some n) text out = refl
 
 -- the text that it hands out is the file's listing
-listed : (file out : List ℕ) (x : ChooseExit) → x ≡ choose_of file out → choose_refusal file (length out) ≡ none → (f : PoolFile) → parse file ≡ some f
-    → text_handed_out x.answer x.out ≡ file_text f
+listed : (file out : List ℕ) (x : ChooseExit) → x ≡ choose_of file out → choose_refusal file (length out) ≡ None → (f : PoolFile) → parse file ≡ Some f
+    → handed_out x.answer x.out ≡ file_text f
 unfolding choose_of
 listed file out x e o f read =
-    ap (λ (t : ChooseExit). text_handed_out t.answer t.out) (e ∙ ap₂ (λ (n : Option ℕ) (g : Option PoolFile). choose_by n (text_of g) out) o read)
+    ap (λ (t : ChooseExit). handed_out t.answer t.out) (e ∙ ap₂ (λ (n : Option Refusal) (g : Option PoolFile). choose_by n (text_of g) out) o read)
     ∙ over-take (file_text f) out (length (file_text f)) refl
 
 promise : (file out : List ℕ) (x : ChooseExit) → x ≡ choose_of file out → Chooses file out x
 unfolding choose_of
 promise file out x e = record {
   whole = e;
-  refused = ap (λ (t : ChooseExit). chosen_refused_by t.answer) e ∙ told (choose_refusal file (length out)) (text_of (parse file)) out;
+  refused = ap (λ (t : ChooseExit). refused_by t.answer) e ∙ told (choose_refusal file (length out)) (text_of (parse file)) out;
   listing = listed file out x e;
   demand3 = λ o f read enough. file_tells file (length out) o f read enough _ (listed file out x e o f read);
 }
@@ -58,17 +57,17 @@ by-parse file out o n x g = promise file out x (g ∙ sym (ap (λ (t : Option Po
 
 -- ---- a file that breaks the form of its edition
 
-module _ (file directions pool : List ℕ) (a : Answer) (p : PoolIs file directions pool a) (e : a ≡ answer.Broken) (out : List ℕ) where
-  broken : Chooses file out (exit (chosen.Refused (form_refusal file)) out)
-  broken = by-parse file out none (subst (λ (t : Answer). PoolIs file directions pool t) e p) _ refl
+module _ (file directions pool : List ℕ) (p : PoolIs file directions pool None) (out : List ℕ) where
+  broken : Chooses file out (exit (Err (form_refusal file)) out)
+  broken = by-parse file out None p _ refl
 
-  by-edition : (second : Bool) → opens_second file ≡ second → Chooses file out (exit (chosen.Refused (cond second 17 1)) out)
-  by-edition second o = subst (λ (b : Bool). Chooses file out (exit (chosen.Refused (cond b 17 1)) out)) o broken
+  by-edition : (second : Bool) → opens_second file ≡ second → Chooses file out (exit (Err (cond second why.SecondForm why.Form)) out)
+  by-edition second o = subst (λ (b : Bool). Chooses file out (exit (Err (cond b why.SecondForm why.Form)) out)) o broken
 
-  pub broken-second : opens_second file ≡ true → Chooses file out (exit (chosen.Refused 17) out)
+  pub broken-second : opens_second file ≡ true → Chooses file out (exit (Err why.SecondForm) out)
   broken-second = by-edition true
 
-  pub broken-first : opens_second file ≡ false → Chooses file out (exit (chosen.Refused 1) out)
+  pub broken-first : opens_second file ≡ false → Chooses file out (exit (Err why.Form) out)
   broken-first = by-edition false
 
 -- ---- the words' request and the file's
@@ -80,27 +79,24 @@ alike_exit f whole w c out = by_option (select_refusal (file_request f) roomy)
 
 -- ---- a file in good form
 
-module _ (file directions pool : List ℕ) (a : Answer) (p : PoolIs file directions pool a) (h : Header) (e : a ≡ answer.Good h) (out : List ℕ) where
-  held : Pool file h directions pool
-  held = subst (λ (t : Answer). PoolIs file directions pool t) e p
-
+module _ (file directions pool : List ℕ) (h : Header) (held : Pool file h directions pool) (out : List ℕ) where
   abbrev form : PoolFile
   form = file_of h held.values held.read
 
-  refused : (n : ℕ) → file_refusal form (length out) ≡ some n → Chooses file out (exit (chosen.Refused n) out)
-  refused n g = by-parse file out (some form) held.parsed _ (sym (ap (λ (o : Option ℕ). choose_by o (file_text form) out) g))
+  refused : (n : Refusal) → file_refusal form (length out) ≡ Some n → Chooses file out (exit (Err n) out)
+  refused n g = by-parse file out (Some form) held.parsed _ (sym (ap (λ (o : Option Refusal). choose_by o (file_text form) out) g))
 
-  pub many-objectives : 8 < h.m → Chooses file out (exit (chosen.Refused 2) out)
+  pub many-objectives : 8 < h.m → Chooses file out (exit (Err why.Directions) out)
   many-objectives g =
-      refused 2 (directions-first form (length out) (directions-many held.values (omega (arith, (parse-whole file form held.parsed).marks))))
+      refused why.Directions (directions-first form (length out) (directions-many held.values (omega (arith, (parse-whole file form held.parsed).marks))))
 
   -- k plans have words: all of them, or none of too many
   pub chosen-words : h.m ≤ max_objectives → most_plans First * plan_words ≤ length pool → (k : ℕ) → (h.count ≤ most_plans First → k ≡ h.count) → (most_plans First < h.count → k ≡ 0)
       → (x : ChooseExit) → x ≡ list_exit (stored h directions pool k) out → Chooses file out x
-  chosen-words few room k full empty x g = by-parse file out (some form) held.parsed x (g ∙ by_lt (most_plans First) h.count
+  chosen-words few room k full empty x g = by-parse file out (Some form) held.parsed x (g ∙ by_lt (most_plans First) h.count
       (λ many. ap (λ (j : ℕ). list_exit (stored h directions pool j) out) (empty many)
       ∙ refused_alike (stored h directions pool 0) form out (two-same file h directions pool held few) refl (four_same file h directions pool held few) refl
       (many-plans h.count many))
       (λ small. ap (λ (j : ℕ). list_exit (stored h directions pool j) out) (full small)
       ∙ alike_exit form (parse-whole file form held.parsed) (stored h directions pool h.count) (carried file h directions pool held few small room) out
-      ∙ sym (ap (λ (o : Option ℕ). choose_by o (file_text form) out) (file_refusal_lem form (length out)))))
+      ∙ sym (ap (λ (o : Option Refusal). choose_by o (file_text form) out) (file_refusal_lem form (length out)))))

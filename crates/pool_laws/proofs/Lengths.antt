@@ -5,6 +5,9 @@ use mathlib.Core.Logic.{◌⊎◌, ⊎_elim}
 use mathlib.Core.List.{List}
 use native.Mathlib.Omega.{arith}
 use lib.ListN.{length, get_or, length-append}
+use Rattle.model.specs.declared.Refusal.{Refusal}
+use Rattle.model.specs.declared.Refusal.TheVariants as why
+use Rattle.model.specs.Refusal.{number_of}
 use Rattle.model.specs.Lists.{join_below}
 use Rattle.model.specs.declared.Edition.TheVariants.{First}
 use Rattle.model.specs.Edition.{most_plans}
@@ -52,3 +55,28 @@ listing-short count sel s =
 -- a refusal's number has at most four digits
 pub refused-short : (n : ℕ) → n < 10000 → length (refused_text n) ≤ 13
 refused-short n h = let a = decimal-four n h in rw refused-text (simp length-append (omega arith))
+
+-- and no refusal's number has more
+pub number-few : (r : Refusal) → number_of r ≤ 18
+number-few why.Form = omega arith
+number-few why.Directions = omega arith
+number-few why.Size = omega arith
+number-few why.Divisions = omega arith
+number-few why.Operators = omega arith
+number-few why.Bounds = omega arith
+number-few why.Count = omega arith
+number-few why.Values = omega arith
+number-few why.Parents = omega arith
+number-few why.Room = omega arith
+number-few why.Generation = omega arith
+number-few why.Steps = omega arith
+number-few why.Load = omega arith
+number-few why.Window = omega arith
+number-few why.Bands = omega arith
+number-few why.Litres = omega arith
+number-few why.SecondForm = omega arith
+number-few why.NotHeld = omega arith
+
+-- so that a refusal's text has room in any slice of 13 bytes
+pub refusal-short : (r : Refusal) (n : ℕ) → n ≡ number_of r → length (refused_text n) ≤ 13
+refusal-short r n e = refused-short n (omega (arith, number-few r, e))

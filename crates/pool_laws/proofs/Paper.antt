@@ -3,7 +3,7 @@ use Prim.Native.Nat.{ℕ, ◌<◌}
 use mathlib.Core.Path.{◌≡◌, sym, subst}
 use mathlib.Core.Bool.{false}
 use mathlib.Core.List.{List}
-use mathlib.Core.Option.{none, some}
+use Rattle.std.specs.Prelude.{None, Some}
 use native.Mathlib.Omega.{arith}
 use lib.Dec.{T}
 use lib.Ieee.{nan, binary64, fits}
@@ -25,7 +25,7 @@ use Rattle.pool_laws.proofs.Demand3.{file_accepted, file_passes}
 start-held : (n j : ℕ) → j < n → T (fits binary64 (get_or (replicate n infinity) j nan))
 start-held n j h = subst (λ x. T (fits binary64 x)) (sym (get_or-replicate n j infinity nan h)) (inf-fits binary64 false)
 
-module _ (f : PoolFile) (whole : Whole f) (e : select_refusal (file_request f) roomy ≡ none) where
+module _ (f : PoolFile) (whole : Whole f) (e : select_refusal (file_request f) roomy ≡ None) where
   file_measurable : Measurable (file_request f)
   file_measurable =
       let a = file_accepted f whole e in
@@ -40,8 +40,8 @@ module _ (f : PoolFile) (whole : Whole f) (e : select_refusal (file_request f) r
   file_by-paper = by-paper (file_request f) (file_accepted f whole e) file_measurable
 
 -- ---- `choose`
-module _ (bytes : List ℕ) (out : ℕ) (e : choose_refusal bytes out ≡ none) (f : PoolFile) (read : parse bytes ≡ some f) where
-  selects : select_refusal (file_request f) roomy ≡ none
+module _ (bytes : List ℕ) (out : ℕ) (e : choose_refusal bytes out ≡ None) (f : PoolFile) (read : parse bytes ≡ Some f) where
+  selects : select_refusal (file_request f) roomy ≡ None
   selects = file_selects f out (file_passes bytes out e f read)
 
   pub choose_scaled : Scaled (file_request f)

@@ -3,11 +3,12 @@ use Prim.Native.Nat.{ℕ, ◌<◌}
 use mathlib.Core.Path.{◌≡◌, refl, ap, sym, ◌∙◌}
 use mathlib.Core.Bool.{Bool, true, false, cond, or-true, true≢false}
 use mathlib.Core.List.{List, [], ◌∷◌}
-use mathlib.Core.Option.{Option, none, some}
+use Rattle.std.specs.Prelude.{Option, None, Some, Err}
 use borrow.Author.Tests.{lt-ltb, le-ltb}
 use lib.Dec.{ltb}
 use lib.ListN.{length}
-use Rattle.model.specs.declared.Chosen.TheVariants as chosen
+use Rattle.model.specs.declared.Refusal.{Refusal}
+use Rattle.model.specs.declared.Refusal.TheVariants as why
 use Rattle.model.specs.declared.Edition.TheVariants.{First}
 use Rattle.model.specs.Edition.{most_plans}
 use Rattle.model.specs.Association.{Request, objectives}
@@ -22,11 +23,11 @@ enough : (r : Request) → bad_size r.size ≡ false → bad_count First r.count
 unfolding no_room
 enough r a b = rw (le-ltb max_size r.size (size-limits r.size a).1, le-ltb (most_plans First) r.count (count-limits First r.count b).1)
 
-abbrev six : Bool → Bool → Bool → Bool → Bool → Bool → Option ℕ
-six a b c d e f = first_of (check 2 a ∷ check 3 b ∷ check 4 c ∷ check 7 d ∷ check 8 e ∷ check 10 f ∷ [])
+abbrev six : Bool → Bool → Bool → Bool → Bool → Bool → Option Refusal
+six a b c d e f = first_of (check why.Directions a ∷ check why.Size b ∷ check why.Divisions c ∷ check why.Count d ∷ check why.Values e ∷ check why.Room f ∷ [])
 
 -- where 10 applies only after 3 or 7, another 10 may follow
-ten_last : (a b c d e x y : Bool) → (b ≡ false → d ≡ false → x ≡ false) → six a b c d e y ≡ first_some (six a b c d e x) (cond y (some 10) none)
+ten_last : (a b c d e x y : Bool) → (b ≡ false → d ≡ false → x ≡ false) → six a b c d e y ≡ first_some (six a b c d e x) (cond y (Some why.Room) None)
 unfolding first_of
 ten_last true b c d e x y f = refl
 ten_last false true c d e x y f = refl
@@ -43,14 +44,14 @@ file_refusal_lem f out =
     (no_room (file_request f) roomy) (ltb out (length (file_text f))) (enough (file_request f))
 
 -- so where it is not refused, its request is not
-pub file_selects : (f : PoolFile) (out : ℕ) → file_refusal f out ≡ none → select_refusal (file_request f) roomy ≡ none
+pub file_selects : (f : PoolFile) (out : ℕ) → file_refusal f out ≡ None → select_refusal (file_request f) roomy ≡ None
 file_selects f out e = first_none (select_refusal (file_request f) roomy) _ (sym (file_refusal_lem f out) ∙ e)
   where
-    first_none : (a b : Option ℕ) → first_some a b ≡ none → a ≡ none
-    first_none none b h = refl
-    first_none (some n) b h = h
+    first_none : (a b : Option Refusal) → first_some a b ≡ None → a ≡ None
+    first_none None b h = refl
+    first_none (Some n) b h = h
 
-pub directions-first : (f : PoolFile) (out : ℕ) → bad_directions f.marks ≡ true → file_refusal f out ≡ some 2
+pub directions-first : (f : PoolFile) (out : ℕ) → bad_directions f.marks ≡ true → file_refusal f out ≡ Some why.Directions
 unfolding file_refusal
 directions-first f out e = applies-first _ _ e
 
@@ -60,7 +61,7 @@ pub many-plans : (n : ℕ) → most_plans First < n → bad_count First n ≡ tr
 many-plans n h = rw (lt-ltb (most_plans First) n h, or-true)
 
 -- where 7 applies, neither a later test nor a text is looked at
-seven_stops : (a b c e f x y : Bool) (o : Option ℕ) (s t out : List ℕ) → choose_by (first_some (six a b c true e f) o) s out ≡ choose_by (six a b c true x y) t out
+seven_stops : (a b c e f x y : Bool) (o : Option Refusal) (s t out : List ℕ) → choose_by (first_some (six a b c true e f) o) s out ≡ choose_by (six a b c true x y) t out
 unfolding first_of
 seven_stops true b c e f x y o s t out = refl
 seven_stops false true c e f x y o s t out = refl
@@ -79,11 +80,11 @@ refused_alike w f out two three four empty many =
 -- ---- the listing's answer, by the selection's
 
 module _ (r : Request) (out : List ℕ) where
-  list-by : (o : Option ℕ) → select_refusal r roomy ≡ o → list_exit r out ≡ choose_by (first_some o (text_refusal (request_text r) (length out))) (request_text r) out
-  list-by o e = ap (λ (t : Option ℕ). choose_by (first_some t (text_refusal (request_text r) (length out))) (request_text r) out) e
+  list-by : (o : Option Refusal) → select_refusal r roomy ≡ o → list_exit r out ≡ choose_by (first_some o (text_refusal (request_text r) (length out))) (request_text r) out
+  list-by o e = ap (λ (t : Option Refusal). choose_by (first_some t (text_refusal (request_text r) (length out))) (request_text r) out) e
 
-  pub list-refused : (n : ℕ) → select_refusal r roomy ≡ some n → list_exit r out ≡ exit (chosen.Refused n) out
-  list-refused n e = list-by (some n) e
+  pub list-refused : (n : Refusal) → select_refusal r roomy ≡ Some n → list_exit r out ≡ exit (Err n) out
+  list-refused n e = list-by (Some n) e
 
-  pub list_written : select_refusal r roomy ≡ none → list_exit r out ≡ text_exit (request_text r) out
-  list_written e = list-by none e
+  pub list_written : select_refusal r roomy ≡ None → list_exit r out ≡ text_exit (request_text r) out
+  list_written e = list-by None e

@@ -3,7 +3,8 @@ use Prim.Native.Nat.{ℕ, zero, suc, ◌<◌}
 use mathlib.Core.Path.{◌≡◌, sym, ap, ◌∙◌, subst}
 use mathlib.Core.Bool.{Bool, true, false}
 use mathlib.Core.List.{List, [], ◌∷◌, map}
-use mathlib.Core.Option.{some, none-ne-some, some-injective}
+use Rattle.list_laws.proofs.Options.{none-ne-some, some-injective}
+use Rattle.std.specs.Prelude.{Some}
 use native.Mathlib.Nat.{not-suc-le-zero}
 use native.Mathlib.Omega.{arith}
 use lib.Dec.{T, leb}
@@ -24,7 +25,7 @@ use Rattle.pool_number.proofs.Options.{both_read, many_parts, many-length}
 
 -- ---- each of many
 
-module _ {A : Type 0} (r : Reader A) (Q : A → Type 0) (each : (bytes : List ℕ) (p : Parsed A) → r bytes ≡ some p → Q p.value) (d : A) where
+module _ {A : Type 0} (r : Reader A) (Q : A → Type 0) (each : (bytes : List ℕ) (p : Parsed A) → r bytes ≡ Some p → Q p.value) (d : A) where
   many-each : (n : ℕ) (bytes : List ℕ) (l : List A) (rest : List ℕ) → many n r bytes ≡ pure l rest → (i : ℕ) → i < n → Q (get_or l i d)
   many-each zero bytes l rest e i h = absurd (not-suc-le-zero h)
   many-each (suc n) bytes l rest e zero h =
@@ -48,7 +49,7 @@ reals_held words j h =
     subst (λ x. T (fits binary64 x)) (sym (map_at real words j nan 0 (omega (arith, length-map words real)))) (of_bits-fits binary64 (get_or words j 0))
 
 -- as many values are read as there are objectives
-row-length : (m : ℕ) (bytes : List ℕ) (p : Parsed Rows) → rows m bytes ≡ some p → length p.value.values ≡ m
+row-length : (m : ℕ) (bytes : List ℕ) (p : Parsed Rows) → rows m bytes ≡ Some p → length p.value.values ≡ m
 unfolding rows
 row-length m bytes p e =
     let v = both_read (many m number bytes) _ _ e in
@@ -57,7 +58,7 @@ row-length m bytes p e =
     subst (λ (t : Parsed Rows). length t.value.values ≡ m) (some-injective _ _ k.2)
     (many-length number m bytes v.0.value v.0.rest v.1)
 
-measured-shape : (m : ℕ) (bytes : List ℕ) (p : Parsed Rows) → rows m bytes ≡ some p → Shape m (measured m p.value)
+measured-shape : (m : ℕ) (bytes : List ℕ) (p : Parsed Rows) → rows m bytes ≡ Some p → Shape m (measured m p.value)
 measured-shape m bytes p e = record {
   row = length-map p.value.values real ∙ row-length m bytes p e;
   values = reals_held p.value.values;
@@ -68,10 +69,10 @@ measured-shape m bytes p e = record {
 record Between (m : ℕ) (r : Rows) : Type 0 where
   pub bytes : List ℕ
   pub parsed : Parsed Rows
-  pub reads : rows m bytes ≡ some parsed
+  pub reads : rows m bytes ≡ Some parsed
   pub is : parsed.value ≡ r
 
-rows_between : (m : ℕ) (bytes : List ℕ) (p : Parsed Numbered) → numbered m bytes ≡ some p → Between m p.value.rows
+rows_between : (m : ℕ) (bytes : List ℕ) (p : Parsed Numbered) → numbered m bytes ≡ Some p → Between m p.value.rows
 unfolding numbered
 rows_between m bytes p e =
     let n = both_read (number bytes) _ _ e in
@@ -81,7 +82,7 @@ rows_between m bytes p e =
     record { bytes = n.0.rest; parsed = r.0; reads = r.1; is = ap (λ (t : Parsed Numbered). t.value.rows) (some-injective _ _ k.2) }
 
 -- of either edition
-plan-shape : (second : Bool) (m : ℕ) (bytes : List ℕ) (p : Parsed Plan) → plan_in second m bytes ≡ some p → Shape m p.value
+plan-shape : (second : Bool) (m : ℕ) (bytes : List ℕ) (p : Parsed Plan) → plan_in second m bytes ≡ Some p → Shape m p.value
 unfolding plan plan_second
 plan-shape false m bytes p e =
     let q = both_read (rows m bytes) _ _ e in
@@ -99,7 +100,7 @@ pub record Whole (f : PoolFile) : Type 0 where
   pub count : length f.plans ≡ f.count
   pub plans : (p : ℕ) → p < f.count → Shape f.objectives (get_or f.plans p no_plan)
 
-after-whole : (second : Bool) (h : Header) (bytes : List ℕ) (p : Parsed PoolFile) → after_header second h bytes ≡ some p → Whole p.value
+after-whole : (second : Bool) (h : Header) (bytes : List ℕ) (p : Parsed PoolFile) → after_header second h bytes ≡ Some p → Whole p.value
 unfolding after_header
 after-whole second h bytes p e =
     let k = both_read (many h.m number bytes) _ _ e in
@@ -110,16 +111,16 @@ after-whole second h bytes p e =
       plans = many-each (plan_in second h.m) (Shape h.m) (plan-shape second h.m) no_plan h.count k.0.rest l.0.value l.0.rest l.1;
     })
 
-file_whole : (second : Bool) (bytes : List ℕ) (p : Parsed PoolFile) → file_by (plan_in second) bytes ≡ some p → Whole p.value
+file_whole : (second : Bool) (bytes : List ℕ) (p : Parsed PoolFile) → file_by (plan_in second) bytes ≡ Some p → Whole p.value
 file_whole second bytes p e =
     let l = both_read (many 5 number bytes) (λ l. after_header second (header_of l)) _ (sym (header-first second bytes) ∙ e) in
     after-whole second (header_of l.0.value) l.0.rest p l.2
 
-none_left : (l : List ℕ) (f g : PoolFile) → if_none_left l f ≡ some g → f ≡ g
+none_left : (l : List ℕ) (f g : PoolFile) → if_none_left l f ≡ Some g → f ≡ g
 none_left [] f g e = some-injective _ _ e
 none_left (b ∷ l) f g e = absurd (none-ne-some _ e)
 
-in_whole : (second : Bool) (bytes : List ℕ) (f : PoolFile) → parse_in second bytes ≡ some f → Whole f
+in_whole : (second : Bool) (bytes : List ℕ) (f : PoolFile) → parse_in second bytes ≡ Some f → Whole f
 unfolding parse_by file_in
 in_whole second bytes f e = by_bool (leb (length bytes) max_file)
     (λ v. by_option (file_by (plan_in second) (drop (begins second) bytes))
@@ -127,5 +128,5 @@ in_whole second bytes f e = by_bool (leb (length bytes) max_file)
     (λ p u. subst (λ (t : PoolFile). Whole t) (none_left p.rest p.value f (rw (v, u) at e)) (file_whole second (drop (begins second) bytes) p u)))
     (λ v. absurd (none-ne-some _ (rw v at e)))
 
-pub parse-whole : (bytes : List ℕ) (f : PoolFile) → parse bytes ≡ some f → Whole f
+pub parse-whole : (bytes : List ℕ) (f : PoolFile) → parse bytes ≡ Some f → Whole f
 parse-whole bytes f e = in_whole (opens_second bytes) bytes f (sym (parse_in_lem bytes) ∙ e)

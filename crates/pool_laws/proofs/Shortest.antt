@@ -4,7 +4,7 @@ use mathlib.Core.Path.{◌≡◌, refl, ap, sym, ◌∙◌, subst}
 use mathlib.Core.Bool.{true, ◌||◌}
 use mathlib.Core.Logic.{◌⊎◌, inl, inr, ⊎_elim}
 use mathlib.Core.List.{List, [], ◌∷◌, ◌++◌}
-use mathlib.Core.Option.{some}
+use Rattle.std.specs.Prelude.{Some}
 use native.Mathlib.Nat.{add-mul, mul_assoc, mul_comm}
 use native.Mathlib.Omega.{arith}
 use borrow.Author.Tests.{lt-ltb, le-ltb, leb-true, ltb-true, eqb-true}
@@ -124,7 +124,7 @@ more-form k acc b rest p l h f =
         ∙ ap (λ (x : ℕ). (n % 128 + 128) ∷ (groups_of (suc g) x ++ p.rest)) (sym d)
         ∙ ap (λ (r : List ℕ). r ++ p.rest) (sym (groups_more (suc g) n t))
 
-formed : (bytes : List ℕ) (k acc : ℕ) (p : Parsed ℕ) → number_from k acc bytes ≡ some p → Bytes bytes → Form k acc bytes p
+formed : (bytes : List ℕ) (k acc : ℕ) (p : Parsed ℕ) → number_from k acc bytes ≡ Some p → Bytes bytes → Form k acc bytes p
 formed = number_by (λ k acc bytes p. Bytes bytes → Form k acc bytes p)
     (λ k acc b rest l w y. last-form k acc b rest l w)
     (λ k acc b rest p l f y. more-form k acc b rest p l (y 0 (omega arith)) (f (λ i h. y (suc i) (omega arith))))

@@ -5,7 +5,8 @@ use mathlib.Core.List.{List}
 use native.Mathlib.Omega.{arith}
 use borrow.Author.Tests.{lt-ltb, le-ltb}
 use lib.ListN.{length, take}
-use Rattle.model.specs.declared.Chosen.TheVariants as chosen
+use Rattle.std.specs.Prelude.{Ok, Err}
+use Rattle.model.specs.declared.Refusal.TheVariants as why
 use Rattle.model.specs.Lists.{over}
 use Rattle.list_laws.proofs.Built.{over-take}
 use Rattle.list_laws.specs.Put.{Put}
@@ -13,7 +14,7 @@ use Rattle.pool_laws.specs.Choice.{exit, text_exit}
 use Rattle.list_laws.proofs.Stores.{put_as, put-over}
 
 module _ (text out : List ℕ) (n : ℕ) (e : n ≡ length text) where
-  pub no_room : length out < n → exit (chosen.Refused 10) out ≡ text_exit text out
+  pub no_room : length out < n → exit (Err why.Room) out ≡ text_exit text out
   no_room h = sym (rw (lt-ltb (length out) (length text) (omega arith)))
 
   module _ (h : n ≤ length out) (old buffer : List ℕ) (a : buffer ≡ over text old) where
@@ -24,7 +25,7 @@ module _ (text out : List ℕ) (n : ℕ) (e : n ≡ length text) where
     pub room : 0 + length (take n buffer) ≤ length out
     room = omega (arith, ap length taken)
 
-    pub handed : (after : List ℕ) (r : ℕ) → Put out 0 (take n buffer) after r → exit (chosen.Written n) after ≡ text_exit text out
+    pub handed : (after : List ℕ) (r : ℕ) → Put out 0 (take n buffer) after r → exit (Ok n) after ≡ text_exit text out
     handed after r p =
-        ap₂ (λ k o. exit (chosen.Written k) o) e (put-over out after r text (omega arith) (put_as out after 0 r (take n buffer) text taken p))
+        ap₂ (λ k o. exit (Ok k) o) e (put-over out after r text (omega arith) (put_as out after 0 r (take n buffer) text taken p))
         ∙ sym (rw (le-ltb (length out) (length text) (omega arith)))

@@ -2,12 +2,11 @@
 use Prim.Native.Nat.{ℕ, ◌≤◌}
 use mathlib.Core.Path.{◌≡◌, ap, sym, subst, ◌∙◌}
 use mathlib.Core.List.{List}
-use mathlib.Core.Option.{Option, none}
+use Rattle.std.specs.Prelude.{Option, None, Ok, Err}
 use native.Mathlib.Omega.{arith}
 use lib.Ieee.{binary64, div, of_bits}
 use lib.ListN.{length, take, replicate}
-use Rattle.model.specs.declared.Chosen.TheVariants as chosen
-use Rattle.model.specs.declared.Outcome.TheVariants as outcome
+use Rattle.model.specs.declared.Refusal.{Refusal}
 use Rattle.model.specs.Real.{infinity}
 use Rattle.model.specs.declared.Edition.TheVariants.{First}
 use Rattle.model.specs.Edition.{most_plans}
@@ -41,12 +40,12 @@ module _ {r : Request} {entry : Lent} {x : SelectExit} (p : Selects r entry x) (
   told : select_refusal r roomy ≡ refused_by x.answer.outcome
   told = ap (select_refusal r) (sym k) ∙ sym p.refused
 
-  pub refused-exit : (n : ℕ) (out : List ℕ) → x.answer.outcome ≡ outcome.Refused n → exit (chosen.Refused n) out ≡ list_exit r out
+  pub refused-exit : (n : Refusal) (out : List ℕ) → x.answer.outcome ≡ Err n → exit (Err n) out ≡ list_exit r out
   refused-exit n out h = sym (list-refused r out n (told ∙ ap refused_by h))
 
   -- a selection of edition 1 that went through
-  module _ (first : r.edition ≡ First) {n : ℕ} (h : x.answer.outcome ≡ outcome.Kept n) where
-    accepted : select_refusal r roomy ≡ none
+  module _ (first : r.edition ≡ First) {n : ℕ} (h : x.answer.outcome ≡ Ok n) where
+    accepted : select_refusal r roomy ≡ None
     accepted = told ∙ ap refused_by h
 
     limits : Admitted r roomy
@@ -54,12 +53,12 @@ module _ {r : Request} {entry : Lent} {x : SelectExit} (p : Selects r entry x) (
 
     went : x ≡ select_accepted r entry
     unfolding select_of
-    went = p.whole ∙ ap (λ (t : Option ℕ). select_by t r entry) (ap (select_refusal r) k ∙ accepted)
+    went = p.whole ∙ ap (λ (t : Option Refusal). select_by t r entry) (ap (select_refusal r) k ∙ accepted)
 
     size : n ≡ r.size
     unfolding select_accepted
     size =
-        let q : outcome.Kept n ≡ outcome.Kept (length (selected r).kept) = sym h ∙ ap (λ (t : SelectExit). t.answer.outcome) went in
+        let q : Ok n ≡ Ok (length (selected r).kept) = sym h ∙ ap (λ (t : SelectExit). t.answer.outcome) went in
         let c : n ≡ length (selected r).kept = cc in
         c ∙ kept-length r
 

@@ -10,7 +10,7 @@ ghost use Rattle.model.specs.Calls.{max_text};
 ghost use Rattle.pool_laws.specs.Text.{listed};
 ghost use Rattle.pool_laws.specs.Choice.{exit, text_exit};
 
-use model::{Chosen, MAX_TEXT};
+use model::{MAX_TEXT, Refusal};
 
 // The listing of a selection, if the slice lent has room for it: nothing is written before its length is known.
 pub fn put_listing(
@@ -19,7 +19,7 @@ pub fn put_listing(
     fronts: &[usize],
     lines: &[usize],
     out: &mut [u8],
-) -> Chosen
+) -> Result<usize, Refusal>
     requires count_bound { (count ≤ most_plans First) × (count ≤ length fronts.now) × (count ≤ length lines.now) }
     requires lines_len_bound { length (listing_text count (listed kept.now fronts.now lines.now)) ≤ max_text }
     ensures { exit result out.new
@@ -28,8 +28,8 @@ pub fn put_listing(
     let mut text: [u8; MAX_TEXT] = [0; MAX_TEXT];
     let n = pool_text::write_listing(count, kept, fronts, lines, &mut text);
     if out.len() < n {
-        return Chosen::Refused(10);
+        return Err(Refusal::Room);
     }
     pool_decimal::put_bytes(&text[..n], out, 0);
-    Chosen::Written(n)
+    Ok(n)
 }

@@ -4,7 +4,8 @@ use mathlib.Core.Path.{◌≡◌, refl, sym, ap, ◌∙◌, subst}
 use mathlib.Core.Bool.{Bool, true, false, cond, ◌&&◌, ◌||◌, and-false, or-true}
 use mathlib.Core.Logic.{◌⊎◌, ⊎_elim}
 use mathlib.Core.List.{List, [], ◌∷◌}
-use mathlib.Core.Option.{none, some, none-ne-some, some-injective}
+use Rattle.list_laws.proofs.Options.{none-ne-some, some-injective}
+use Rattle.std.specs.Prelude.{None, Some}
 use native.Mathlib.Nat.{lt_of_lt_of_le, add_comm, mul-le-mul_right}
 use native.Mathlib.Omega.{arith}
 use borrow.Author.Tests.{eq-eqb, ne_eqb, lt-ltb, le-ltb, le-leb, lt-leb, leb-true, leb-false}
@@ -15,7 +16,6 @@ use lib.ListN.{length, drop, get_or, length-drop, drop_of_length-le}
 use Rattle.model.specs.PoolFile.{Parsed, pure, number_from}
 use Rattle.list_laws.proofs.Bools.{by_bool}
 use Rattle.list_laws.proofs.Built.{drop-next}
-use Rattle.pool_number.specs.declared.Read.TheVariants.{Number}
 use Rattle.pool_number.specs.Reading.{as_read}
 
 -- a last byte ends a number below 2^64 in its shortest form
@@ -30,7 +30,7 @@ module _ (k n b : ℕ) (rest : List ℕ) where
   from_more l = rw (le-leb 128 b l)
 
   -- the last
-  from-ended : b < 128 → (t : Bool) → good-last k n b ≡ t → number_from k n (b ∷ rest) ≡ cond t (pure (n + b % 128 * 2 ^ k) rest) none
+  from-ended : b < 128 → (t : Bool) → good-last k n b ≡ t → number_from k n (b ∷ rest) ≡ cond t (pure (n + b % 128 * 2 ^ k) rest) None
   unfolding number_from
   from-ended l t e = rw (lt-leb 128 b l, e)
 
@@ -40,17 +40,17 @@ module _ (k n b : ℕ) (rest : List ℕ) where
       from-ended l true (rw (lt-ltb (n + b % 128 * 2 ^ k) (2 ^ 64) f, t))
 
   -- a group of zeros after others
-  pub from-padded : b ≡ 0 → 0 < k → number_from k n (b ∷ rest) ≡ none
+  pub from-padded : b ≡ 0 → 0 < k → number_from k n (b ∷ rest) ≡ None
   from-padded z l = from-ended (omega arith) false (rw (lt-leb 1 b (omega arith), ne_eqb k 0 (λ y. omega arith), and-false))
 
   -- one that makes the number too large
-  from-large : b < 128 → 2 ^ 64 ≤ b * 2 ^ k → number_from k n (b ∷ rest) ≡ none
+  from-large : b < 128 → 2 ^ 64 ≤ b * 2 ^ k → number_from k n (b ∷ rest) ≡ None
   from-large l h =
       let e : b % 128 ≡ b = omega arith in
       from-ended l false (rw (e, le-ltb (n + b * 2 ^ k) (2 ^ 64) (omega arith)))
 
 -- past 64 bits model's definition reads on and refuses at the end
-past : (bytes : List ℕ) (k n : ℕ) → 64 ≤ k → number_from k n bytes ≡ none
+past : (bytes : List ℕ) (k n : ℕ) → 64 ≤ k → number_from k n bytes ≡ None
 unfolding number_from
 past [] k n h = refl
 past (b ∷ bytes) k n h = by_bool (leb 128 b)
@@ -63,12 +63,12 @@ past (b ∷ bytes) k n h = by_bool (leb 128 b)
     (λ v. let l : b < 1 = leb-false 1 b v in from-padded k n b bytes (omega arith) (omega arith)))
 
 -- the tenth group has one bit
-pub from-over : (k n b : ℕ) (rest : List ℕ) → k ≡ 63 → 1 < b → number_from k n (b ∷ rest) ≡ none
+pub from-over : (k n b : ℕ) (rest : List ℕ) → k ≡ 63 → 1 < b → number_from k n (b ∷ rest) ≡ None
 from-over k n b rest z l = by_bool (leb 128 b)
     (λ v. from_more k n b rest (leb-true 128 b v) ∙ past rest (k + 7) (n + b % 128 * 2 ^ k) (omega arith))
     (λ v. from-large k n b rest (leb-false 128 b v) (rw z (omega arith)))
 
-pub from_end : (s : List ℕ) (k n p : ℕ) → length s ≤ p → number_from k n (drop p s) ≡ none
+pub from_end : (s : List ℕ) (k n p : ℕ) → length s ≤ p → number_from k n (drop p s) ≡ None
 unfolding number_from
 from_end s k n p h = rw (drop_of_length-le s h)
 
@@ -82,7 +82,7 @@ opened s p b e h = rw e (drop-next 0 s p h)
 pub number_by : (P : ℕ → ℕ → List ℕ → Parsed ℕ → Type 0)
     → ((k n b : ℕ) (rest : List ℕ) → b < 128 → good-last k n b ≡ true → P k n (b ∷ rest) (record { value = n + b % 128 * 2 ^ k; rest = rest }))
     → ((k n b : ℕ) (rest : List ℕ) (p : Parsed ℕ) → 128 ≤ b → P (k + 7) (n + b % 128 * 2 ^ k) rest p → P k n (b ∷ rest) p)
-    → (bytes : List ℕ) (k n : ℕ) (p : Parsed ℕ) → number_from k n bytes ≡ some p → P k n bytes p
+    → (bytes : List ℕ) (k n : ℕ) (p : Parsed ℕ) → number_from k n bytes ≡ Some p → P k n bytes p
 unfolding number_from
 number_by P last more [] k n p e = absurd (none-ne-some _ e)
 number_by P last more (b ∷ bytes) k n p e = by_bool (leb 128 b)
@@ -117,7 +117,7 @@ taken n k b h l d w = ⊎_elim
     (λ f. below63 n k b h (omega arith))
     w
 
--- ---- the answer as the code's enum
+-- ---- the answer as the code's
 
-pub as_number : (s : List ℕ) (v q : ℕ) → q ≤ length s → Number v q ≡ as_read (length s) (pure v (drop q s))
-as_number s v q h = ap (λ (t : ℕ). Number v t) (omega (arith, length-drop q s))
+pub as_number : (s : List ℕ) (v q : ℕ) → q ≤ length s → Some (record { number = v; next = q }) ≡ as_read (length s) (pure v (drop q s))
+as_number s v q h = ap (λ (t : ℕ). Some (record { number = v; next = t })) (omega (arith, length-drop q s))

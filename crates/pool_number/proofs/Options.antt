@@ -2,7 +2,8 @@
 use Prim.Native.Nat.{ℕ, zero, suc, ◌+◌, ◌-◌, ◌<◌}
 use mathlib.Core.Path.{◌≡◌, refl, sym, ap, ap₂, ◌∙◌}
 use mathlib.Core.List.{List, [], ◌∷◌, ◌++◌, map}
-use mathlib.Core.Option.{Option, none, some, none-ne-some, some-injective}
+use Rattle.list_laws.proofs.Options.{none-ne-some, some-injective}
+use Rattle.std.specs.Prelude.{Option, None, Some}
 use native.Mathlib.Nat.{zero-add, suc-add}
 use native.Mathlib.Omega.{arith}
 use lib.ListN.{length}
@@ -11,10 +12,10 @@ use Rattle.list_laws.proofs.Bools.{by_option}
 
 -- a reader after another: where the two read, the first did, and the second what it left
 module _ {A B : Type 0} where
-  pub both_read : (o : Option (Parsed A)) (f : A → Reader B) (p : Parsed B) → onward o f ≡ some p
-      → (q : Parsed A) × (o ≡ some q) × (f q.value q.rest ≡ some p)
-  both_read none f p e = absurd (none-ne-some p e)
-  both_read (some q) f p e = (q, refl, e)
+  pub both_read : (o : Option (Parsed A)) (f : A → Reader B) (p : Parsed B) → onward o f ≡ Some p
+      → (q : Parsed A) × (o ≡ Some q) × (f q.value q.rest ≡ Some p)
+  both_read None f p e = absurd (none-ne-some p e)
+  both_read (Some q) f p e = (q, refl, e)
 
 -- ---- so many of the same
 
@@ -27,8 +28,8 @@ module _ {A : Type 0} (r : Reader A) where
   pub record Parts (i : ℕ) (bytes : List ℕ) (l : List A) (rest : List ℕ) : Type 0 where
     pub head : Parsed A
     pub tail : Parsed (List A)
-    pub first : r bytes ≡ some head
-    pub later : many i r head.rest ≡ some tail
+    pub first : r bytes ≡ Some head
+    pub later : many i r head.rest ≡ Some tail
     pub values : l ≡ head.value ∷ tail.value
     pub ends : rest ≡ tail.rest
 
@@ -69,7 +70,7 @@ module _ {A : Type 0} (r : Reader A) where
   many_more i bytes l rest a rest' e f = many_then i 1 bytes l rest e ∙ rw f
 
   -- where the next is none, there are not so many
-  pub many_stop : (i n : ℕ) (bytes : List ℕ) (l : List A) (rest : List ℕ) → i < n → many i r bytes ≡ pure l rest → r rest ≡ none → many n r bytes ≡ none
+  pub many_stop : (i n : ℕ) (bytes : List ℕ) (l : List A) (rest : List ℕ) → i < n → many i r bytes ≡ pure l rest → r rest ≡ None → many n r bytes ≡ None
   unfolding many
   many_stop i n bytes l rest h e f =
       let k : n ≡ i + suc (n - suc i) = omega arith in

@@ -11,10 +11,8 @@ fn mark_place(places: &mut [usize], p: usize, i: usize)
     requires { i + 1 < 2 ^ 64 }
     ensures { Marked places.old p i places.new }
 {
-    if p < places.len() {
-        if places[p] == 0 {
-            places[p] = i + 1;
-        }
+    if p < places.len() && places[p] == 0 {
+        places[p] = i + 1;
     }
 }
 
@@ -23,9 +21,7 @@ pub fn mark_places(kept: &[usize], places: &mut [usize])
     requires { (p : ℕ) → p < length places.old → get_or places.old p 0 ≡ 0 }
     ensures { (p : ℕ) → p < length places.old → get_or places.new p 0 ≡ place_of kept.now p }
 {
-    let mut i = 0;
-    while i < kept.len() {
-        mark_place(places, kept[i], i);
-        i += 1;
+    for (i, &p) in kept.iter().enumerate() {
+        mark_place(places, p, i);
     }
 }

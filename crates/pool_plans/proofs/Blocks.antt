@@ -3,7 +3,7 @@ use Prim.Native.Nat.{ℕ, suc, ◌+◌, ◌*◌, ◌≤◌, ◌<◌, min}
 use mathlib.Core.Path.{◌≡◌, ap, sym, ◌∙◌}
 use mathlib.Core.Logic.{◌⊎◌, ⊎_elim}
 use mathlib.Core.List.{List, map}
-use mathlib.Core.Option.{none}
+use Rattle.std.specs.Prelude.{None}
 use native.Mathlib.Nat.{add-zero, min_comm, min-le_left, min-le_right, le-min}
 use native.Mathlib.Omega.{arith}
 use lib.ListN.{length, get_or, take, drop, set, length-take, length-map, length-set, get_or-map}
@@ -13,10 +13,8 @@ use Rattle.model.specs.Real.{real}
 use Rattle.model.specs.Plan.{Plan, measured_plan, setting_in, plan_of, plan_from, plan_words, max_settings}
 use Rattle.model.specs.PoolFile.{pure, number, many, measured, rows as form}
 use Rattle.list_laws.proofs.Built.{list_below-same, list_below-whole}
-use Rattle.pool_plans.specs.declared.End.{End}
-use Rattle.pool_plans.specs.declared.End.TheVariants as end
-use Rattle.pool_plans.specs.Blocks.{Reads, Held, Words, WordsIs, counted, Block, roomed}
-use Rattle.pool_plans.proofs.Storing.{as_told, reads-count, stored_plain}
+use Rattle.pool_plans.specs.Blocks.{Reads, Words, counted, Block, roomed}
+use Rattle.pool_plans.proofs.Storing.{reads-count, stored_plain}
 use Rattle.list_laws.proofs.Runs.{before_run, sets_past, in_run}
 
 -- ---- the plan that words form
@@ -160,35 +158,30 @@ module _ (l : List ℕ) (base m c : ℕ) (vs cs : List ℕ) (a : length vs ≡ m
 -- ---- the block, by how far its reader gets
 
 module _ (file : List ℕ) (at m base : ℕ) (l : List ℕ) where
-  pub block_none : (o : List ℕ) (r : End) → WordsIs (λ v. v) file at m 8 (base + 2) l o r → r ≡ end.Broken → form m (drop at file) ≡ none
+  pub block_none : many m number (drop at file) ≡ None → form m (drop at file) ≡ None
   unfolding form
-  block_none o r w e = let n : many m number (drop at file) ≡ none = as_told (many m number) _ file at e w in rw n
+  block_none n = rw n
 
-  module _ (o₁ : List ℕ) (r : End) (p : ℕ) (w : WordsIs (λ v. v) file at m 8 (base + 2) l o₁ r) (e : r ≡ end.At p) where
-    first : Words (λ v. v) file at m 8 (base + 2) l o₁ p
-    first = as_told (many m number) _ file at e w
-
-    pub block_no_count : number (drop p file) ≡ none → form m (drop at file) ≡ none
+  module _ (o₁ : List ℕ) (p : ℕ) (first : Words (λ v. v) file at m 8 (base + 2) l o₁ p) where
+    pub block_no_count : number (drop p file) ≡ None → form m (drop at file) ≡ None
     unfolding form
     block_no_count f = rw (first.reads, f)
 
-    module _ (c q : ℕ) (f : number (drop p file) ≡ pure c (drop q file)) (o₂ : List ℕ) (r' : End) where
-      -- wherever the constraints were to stand
-      pub block-short : (place : ℕ) → WordsIs (λ v. v) file q c 16 place o₁ o₂ r' → r' ≡ end.Broken → form m (drop at file) ≡ none
+    module _ (c q : ℕ) (f : number (drop p file) ≡ pure c (drop q file)) where
+      pub block-short : many c number (drop q file) ≡ None → form m (drop at file) ≡ None
       unfolding form
-      block-short place w' g = let n : many c number (drop q file) ≡ none = as_told (many c number) _ file q g w' in rw (first.reads, f, n)
+      block-short n = rw (first.reads, f, n)
 
-      pub block-good : WordsIs (λ v. v) file q c 16 (base + 11) o₁ o₂ r' → (next : ℕ) (o : List ℕ) → r' ≡ end.At next → base + plan_words ≤ length l
-          → o ≡ counted o₂ base m c → Reads (form m) (λ t. Block base l o (measured m t)) file at next
+      pub block-good : (o₂ : List ℕ) (next : ℕ) → Words (λ v. v) file q c 16 (base + 11) o₁ o₂ next → base + plan_words ≤ length l
+          → Reads (form m) (λ t. Block base l (counted o₂ base m c) (measured m t)) file at next
       unfolding form block filled rows
-      block-good w' next o g room k =
-          let second = as_told (many c number) (Held (λ v. v) 16 (base + 11) o₁ o₂) file q g w' in
+      block-good o₂ next second room =
           let vs = first.value in
           let cs = second.value in
           let a = reads-count number file at _ m p first in
           let b = reads-count number file q _ c next second in
-          let z : o ≡ block l base m c vs cs a b room =
-          k ∙ ap (λ (t : List ℕ). counted t base m c) (stored_plain 16 (base + 11) o₁ o₂ cs second.stored
+          let z : counted o₂ base m c ≡ block l base m c vs cs a b room =
+          ap (λ (t : List ℕ). counted t base m c) (stored_plain 16 (base + 11) o₁ o₂ cs second.stored
           ∙ ap (λ (t : List ℕ). sets t (base + 11) (take 16 cs)) (stored_plain 8 (base + 2) l o₁ vs first.stored)) in
           record {
             value = record { values = vs; constraints = cs };

@@ -1,20 +1,15 @@
 -- What is read one after the other: one more, and none; numbers are stored as far as there is room.
 use Prim.Native.Nat.{ℕ, ◌+◌, ◌≤◌, ◌<◌}
-use mathlib.Core.Path.{◌≡◌, ap, sym, ◌∙◌, subst}
+use mathlib.Core.Path.{◌≡◌, ap, sym, ◌∙◌}
 use mathlib.Core.List.{List, [], ◌∷◌, ◌++◌, map, map-append, map-id}
-use mathlib.Core.Option.{none}
+use Rattle.std.specs.Prelude.{None}
 use native.Mathlib.Omega.{arith}
 use lib.ListN.{length, take, drop, set, length-append, length-map}
 use lib.Seq.{sets, take_all, take-nil, take-append-le}
 use Rattle.model.specs.PoolFile.{Reader, pure, number, many}
 use Rattle.pool_number.proofs.Options.{many-zero, many_more, many_stop, many-length}
-use Rattle.pool_plans.specs.declared.End.{End}
-use Rattle.pool_plans.specs.Blocks.{Reads, ReadsIs, Held, Words}
+use Rattle.pool_plans.specs.Blocks.{Reads, Held, Words}
 use Rattle.list_laws.proofs.Runs.{sets_snoc}
-
--- a reader's answer, by the case that was told
-pub as_told : {A : Type 0} (r : Reader A) (Q : A → Type 0) (file : List ℕ) (at : ℕ) {x y : End} → x ≡ y → ReadsIs r Q file at x → ReadsIs r Q file at y
-as_told r Q file at e w = subst (ReadsIs r Q file at) e w
 
 module _ {A : Type 0} (r : Reader A) (file : List ℕ) (at : ℕ) where
   pub reads_none : (Q : List A → Type 0) → Q [] → Reads (many 0 r) Q file at at
@@ -32,7 +27,7 @@ module _ {A : Type 0} (r : Reader A) (file : List ℕ) (at : ℕ) where
       stored = s;
     }
 
-    pub reads_stop : (n : ℕ) → i < n → r (drop p file) ≡ none → many n r (drop at file) ≡ none
+    pub reads_stop : (n : ℕ) → i < n → r (drop p file) ≡ None → many n r (drop at file) ≡ None
     reads_stop n h e = many_stop r i n (drop at file) w.value (drop p file) h w.reads e
 
 -- ---- numbers

@@ -10,16 +10,9 @@ use model::{
     CONSTRAINT_COUNT, CONSTRAINTS, MAX_CONSTRAINTS, MAX_OBJECTIVES, ROW_LENGTH, SETTING_COUNT,
     VALUES,
 };
-use pool_number::{Read, read_number};
+use pool_number::read_number;
 
-// The place after what was read, or bytes that break the form or end early.
-#[derive(Clone, Copy)]
-pub enum End {
-    At(usize),
-    Broken,
-}
-
-// Reads n numbers; the first keep of them are stored from base on.
+// Reads n numbers; the first keep of them are stored from base on. The place after them, or None where bytes break the form or end early.
 pub fn read_words(
     file: &[u8],
     at: usize,
@@ -27,26 +20,23 @@ pub fn read_words(
     keep: usize,
     pool: &mut [u64],
     base: usize,
-) -> End
+) -> Option<usize>
     requires { base + keep ≤ length pool.old }
     ensures { WordsIs (λ v. v) file.now at n keep base pool.old pool.new result }
 {
     let mut p = at;
-    let mut i: usize = 0;
-    while i < n {
-        let Read::Number(v, next) = read_number(file, p) else {
-            return End::Broken;
-        };
+    for i in 0..n {
+        let word = read_number(file, p)?;
         if i < keep {
-            pool[base + i] = v;
+            pool[base + i] = word.number;
         }
-        p = next;
-        i += 1;
+        p = word.next;
     }
-    End::At(p)
+    Some(p)
 }
 
 // The words of a plan beside its values and constraints: its number, its row length and its two other counts.
+#[tactic(auto, unfolding(crate::specs::Blocks::counted))]
 fn put_counts(pool: &mut [u64], base: usize, m: u64, c: u64)
     requires { base + plan_words ≤ length pool.old }
     ensures { pool.new ≡ counted pool.old base m c }
@@ -58,26 +48,21 @@ fn put_counts(pool: &mut [u64], base: usize, m: u64, c: u64)
 }
 
 // Reads the rows of a plan of m values into the block of words at base: its first 8 values and its first 16 constraints have room there.
-pub fn read_plan(file: &[u8], at: usize, m: usize, pool: &mut [u64], base: usize) -> End
+// The place after them, or None where bytes break the form or end early.
+pub fn read_plan(file: &[u8], at: usize, m: usize, pool: &mut [u64], base: usize) -> Option<usize>
     requires { base + plan_words ≤ length pool.old }
     ensures { BlockIs file.now at m base pool.old pool.new result }
 {
-    let End::At(p) = read_words(file, at, m, MAX_OBJECTIVES, pool, base + VALUES) else {
-        return End::Broken;
-    };
-    let Read::Number(c, q) = read_number(file, p) else {
-        return End::Broken;
-    };
-    let End::At(next) = read_words(
+    let p = read_words(file, at, m, MAX_OBJECTIVES, pool, base + VALUES)?;
+    let count = read_number(file, p)?;
+    let next = read_words(
         file,
-        q,
-        c as usize,
+        count.next,
+        count.number as usize,
         MAX_CONSTRAINTS,
         pool,
         base + CONSTRAINTS,
-    ) else {
-        return End::Broken;
-    };
-    put_counts(pool, base, m as u64, c);
-    End::At(next)
+    )?;
+    put_counts(pool, base, m as u64, count.number);
+    Some(next)
 }

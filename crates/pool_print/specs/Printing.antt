@@ -1,6 +1,5 @@
 -- What the program puts into its array of text.
-use Rattle.std.specs.Prelude.{ℕ, ◌≤◌, ◌≡◌, List, length, take}
-use Rattle.std.proofs.Math.Option.{none, some}
+use Rattle.std.specs.Prelude.{ℕ, ◌≤◌, ◌≡◌, List, length, take, None, Some}
 use Rattle.model.specs.Lists.{over}
 use Rattle.model.specs.PoolFile.{PoolFile, parse}
 use Rattle.model.specs.Refusal.{choose_refusal}
@@ -12,4 +11,4 @@ pub record Prints (file before after : List ℕ) (r : ℕ) : Type 0 where
   pub count : r ≡ length (printed file)
   pub text : after ≡ over (printed file) before
   pub within : r ≤ length after
-  pub demand3 : choose_refusal file max_text ≡ none → (f : PoolFile) → parse file ≡ some f → f.size ≤ f.count → Tells f (take r after)
+  pub demand3 : choose_refusal file max_text ≡ None → (f : PoolFile) → parse file ≡ Some f → f.size ≤ f.count → Tells f (take r after)

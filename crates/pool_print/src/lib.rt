@@ -4,7 +4,7 @@
 
 ghost use Rattle.pool_print.specs.Printing.{Prints};
 
-use model::{Chosen, MAX_TEXT};
+use model::MAX_TEXT;
 
 // The text for a file's bytes, at the front of the array lent, which has room for the longest; answers its length.
 pub fn printed(file: &[u8], out: &mut [u8; MAX_TEXT]) -> usize
@@ -12,7 +12,7 @@ pub fn printed(file: &[u8], out: &mut [u8; MAX_TEXT]) -> usize
 {
     let chosen = pool_choice::choose(file, out);
     match chosen {
-        Chosen::Written(n) => n,
-        Chosen::Refused(number) => pool_text::write_refused(number as usize, out),
+        Ok(n) => n,
+        Err(refusal) => pool_text::write_refused(u64::from(refusal) as usize, out),
     }
 }

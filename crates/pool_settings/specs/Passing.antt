@@ -1,13 +1,12 @@
 -- What is read and passed over.
-use Rattle.std.specs.Prelude.{ℕ, ◌^◌, List}
+use Rattle.std.specs.Prelude.{ℕ, ◌^◌, List, Option}
 use Rattle.model.specs.Plan.{Setting}
 use Rattle.model.specs.PoolFile.{Reader}
-use Rattle.pool_plans.specs.declared.End.{End}
 use Rattle.pool_plans.specs.Blocks.{ReadsIs}
 
 -- only where it ends is answered
 module _ {A : Type 0} where
-  abbrev pub PassedIs : Reader A → List ℕ → ℕ → End → Type 0
+  abbrev pub PassedIs : Reader A → List ℕ → ℕ → Option ℕ → Type 0
   PassedIs r = ReadsIs r (λ a. Unit {0})
 
 -- the setting that three numbers form

@@ -6,8 +6,7 @@ ghost use Rattle.std.specs.Prelude.{ℕ, ◌≡◌};
 ghost use Rattle.model.specs.PoolFile.{many, setting, good_setting};
 ghost use Rattle.pool_settings.specs.Passing.{PassedIs, setting_of};
 
-use pool_number::{Read, read_number};
-use pool_plans::End;
+use pool_number::read_number;
 
 // The kind of an Int, and the last kind.
 const INT: u64 = 1;
@@ -20,46 +19,30 @@ const MAX_INT_WORD: u64 = 18014398509481984;
 fn good_setting(kind: u64, value: u64) -> bool
     ensures { (param : ℕ) → result ≡ good_setting (setting_of param kind value) }
 {
-    if CATEGORICAL < kind {
-        return false;
-    }
-    if kind == INT {
-        return value <= MAX_INT_WORD;
-    }
-    true
+    kind <= CATEGORICAL && (kind != INT || value <= MAX_INT_WORD)
 }
 
-// Reads a setting: its parameter number, its kind and its value.
-fn read_setting(file: &[u8], at: usize) -> End
+// Reads a setting: its parameter number, its kind and its value. The place after it, or None where bytes break the form or end early.
+fn read_setting(file: &[u8], at: usize) -> Option<usize>
     ensures { PassedIs setting file.now at result }
 {
-    let Read::Number(_, p) = read_number(file, at) else {
-        return End::Broken;
-    };
-    let Read::Number(kind, q) = read_number(file, p) else {
-        return End::Broken;
-    };
-    let Read::Number(value, next) = read_number(file, q) else {
-        return End::Broken;
-    };
-    if good_setting(kind, value) {
-        return End::At(next);
+    let param = read_number(file, at)?;
+    let kind = read_number(file, param.next)?;
+    let value = read_number(file, kind.next)?;
+    if good_setting(kind.number, value.number) {
+        Some(value.next)
+    } else {
+        None
     }
-    End::Broken
 }
 
 // Reads n settings.
-pub fn read_settings(file: &[u8], at: usize, n: usize) -> End
+pub fn read_settings(file: &[u8], at: usize, n: usize) -> Option<usize>
     ensures { PassedIs (many n setting) file.now at result }
 {
     let mut p = at;
-    let mut i: usize = 0;
-    while i < n {
-        let End::At(next) = read_setting(file, p) else {
-            return End::Broken;
-        };
-        p = next;
-        i += 1;
+    for _ in 0..n {
+        p = read_setting(file, p)?;
     }
-    End::At(p)
+    Some(p)
 }

@@ -19,9 +19,10 @@ fn put_line(l: usize, out: &mut [u8], at: usize) -> usize
     ensures { Put out.old at (ended (line_text l) 32) out.new result }
 {
     if l == NO_LINE {
-        return put_bytes(b"- ", out, at);
+        put_bytes(b"- ", out, at)
+    } else {
+        put_number(l, b' ', out, at)
     }
-    put_number(l, b' ', out, at)
 }
 
 // A plan's line.
@@ -60,10 +61,8 @@ fn put_plans(
     ensures { Put out.old at (join_below (fields_of fronts.now lines.now places.now) count) out.new result }
 {
     let mut r = at;
-    let mut p = 0;
-    while p < count {
+    for p in 0..count {
         r = put_plan(p, fronts[p], lines[p], places[p], out, r);
-        p += 1;
     }
     r
 }

@@ -12,10 +12,8 @@ pub fn power(y: f64, k: u64) -> f64
     ensures { result ≡ P y k }
 {
     let mut p = y;
-    let mut j: u64 = 1;
-    while j < k {
-        p = p * y;
-        j += 1;
+    for _j in 1..k {
+        p *= y;
     }
     p
 }
@@ -58,13 +56,11 @@ fn power_four(a: f64, b: f64, c: f64, d: f64, k: u64) -> Four
     let mut q = b;
     let mut r = c;
     let mut s = d;
-    let mut j: u64 = 1;
-    while j < k {
-        p = p * a;
-        q = q * b;
-        r = r * c;
-        s = s * d;
-        j += 1;
+    for _j in 1..k {
+        p *= a;
+        q *= b;
+        r *= c;
+        s *= d;
     }
     Four {
         a: p,
@@ -94,19 +90,17 @@ fn near(v: f64, k: u64, a: u64) -> u64
     ensures { result < Top → Parted v k result (result + 1) }
 {
     let f = powers_from(a, k);
-    if f.a <= v {
-        if f.b <= v {
-            if f.c <= v {
-                if f.d <= v {
-                    return TOP;
-                }
-                return a + 2;
-            }
-            return a + 1;
-        }
-        return a;
+    if !(f.a <= v) {
+        TOP
+    } else if !(f.b <= v) {
+        a
+    } else if !(f.c <= v) {
+        a + 1
+    } else if !(f.d <= v) {
+        a + 2
+    } else {
+        TOP
     }
-    TOP
 }
 
 // ---- the ends sought from a guess
@@ -128,12 +122,13 @@ fn lower_end(v: f64, k: u64, b: u64) -> u64
 {
     let mut at = b;
     let mut step: u64 = 1;
+    // a while: the step doubles
     while step <= at {
         if power(real::real_of_word(at), k) <= v {
             return at;
         }
-        at = at - step;
-        step = step * 2;
+        at -= step;
+        step *= 2;
     }
     0
 }
@@ -145,10 +140,11 @@ fn upper_end(v: f64, k: u64, b: u64) -> u64
 {
     let mut at = b + 1;
     let mut step: u64 = 1;
+    // a while: the step doubles
     while at + step < TOP {
         if power(real::real_of_word(at), k) <= v {
-            at = at + step;
-            step = step * 2;
+            at += step;
+            step *= 2;
         } else {
             return at;
         }
@@ -163,6 +159,7 @@ fn between(v: f64, k: u64, a: u64, b: u64) -> u64
 {
     let mut lower = a;
     let mut upper = b;
+    // a while: either end moves to the middle
     while lower + 1 < upper {
         let middle = (lower + upper) / 2;
         if power(real::real_of_word(middle), k) <= v {
@@ -181,12 +178,13 @@ fn quick_power(y: f64, k: u64) -> f64 {
     let mut p = 1.0;
     let mut square = y;
     let mut left = k;
+    // a while: what is left of k is halved
     while 0 < left {
         if left % 2 == 1 {
-            p = p * square;
+            p *= square;
         }
-        square = square * square;
-        left = left / 2;
+        square *= square;
+        left /= 2;
     }
     p
 }
@@ -232,11 +230,5 @@ fn guess(v: f64, k: u64) -> u64
 fn inner(b: u64) -> u64
     ensures { (1 ≤ result) × (result + 2 ≤ Top) }
 {
-    if b < 1 {
-        return 1;
-    }
-    if b < TOP - 2 {
-        return b;
-    }
-    TOP - 2
+    b.clamp(1, TOP - 2)
 }

@@ -20,10 +20,10 @@ fn row_fronts(pool: &[u64], directions: &[u8], fronts: &mut [usize])
 {
     let n = plans::plan_count(pool);
     let m = directions.len();
-    let mut rows: [f64; MAX_ROW_VALUES] = [0.0; MAX_ROW_VALUES];
+    let mut rows = [0.0; MAX_ROW_VALUES];
     plan_rows::fill_rows(pool, directions, n, &mut rows);
-    let mut order: [usize; MAX_POOL] = [0; MAX_POOL];
-    let mut ends: [usize; MAX_POOL] = [0; MAX_POOL];
+    let mut order = [0; MAX_POOL];
+    let mut ends = [0; MAX_POOL];
     pareto::fast_non_dominated_sort(&rows, m, n, &mut order, fronts, &mut ends);
 }
 
@@ -42,8 +42,7 @@ pub fn rank_fronts(
 {
     if editions::ranks_by_rows(edition) {
         row_fronts(pool, directions, ranks);
-        return;
+    } else {
+        selection_lists::copy_first(fronts, plans::plan_count(pool), ranks);
     }
-    let n = plans::plan_count(pool);
-    selection_lists::copy_first(fronts, n, ranks);
 }

@@ -3,7 +3,7 @@ use Prim.Native.Nat.{ℕ, ◌*◌, ◌≤◌, ◌<◌}
 use mathlib.Core.Path.{◌≡◌, refl, ap, sym, ◌∙◌}
 use mathlib.Core.Logic.{⊎_elim}
 use mathlib.Core.Bool.{Bool, true, false}
-use mathlib.Core.Option.{Option, none, some}
+use Rattle.std.specs.Prelude.{Option, None, Some}
 use native.Mathlib.Nat.{max-eq_left, max-eq_right, le_of_lt}
 use borrow.Author.Tests.{le-leb, lt-leb, leb-true, ltb-false, not-false}
 use native.Mathlib.Omega.{arith}
@@ -62,8 +62,8 @@ auto_inside m target = ⊎_elim (λ f. inside-holds _ f.least f.most) (λ n. ap 
 -- refusal 4 at opening is that of the divisions that the session would use
 pub session-bad : (m : ℕ) (size divisions : Option ℕ) → bad_divisions m (divisions_of m size divisions) ≡ bad_session_divisions m size divisions
 unfolding bad_divisions bad_session_divisions divisions_of
-session-bad m size (some h) = refl
-session-bad m size none = rw (auto_inside m (or_else size 100))
+session-bad m size (Some h) = refl
+session-bad m size None = rw (auto_inside m (or_else size 100))
 
 pub session_allowed : (m : ℕ) (size divisions : Option ℕ) → bad_session_divisions m size divisions ≡ false → Allowed m (divisions_of m size divisions)
 session_allowed m size divisions e = allowed m (divisions_of m size divisions) (session-bad m size divisions ∙ e)

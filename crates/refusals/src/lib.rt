@@ -3,18 +3,10 @@
 #![tactic(auto)]
 
 ghost use Rattle.std.specs.Prelude.{◌≡◌};
-ghost use Rattle.model.specs.Calls.{word_request};
+ghost use Rattle.model.specs.Calls.{word_request, refused_by};
 ghost use Rattle.model.specs.Refusal.{too_short, select_refusal};
-ghost use Rattle.refusals.specs.Checked.{checked};
 
-use model::{Edition, Rng};
-
-// Whether a call goes through, or the number of the refusal that it meets.
-#[derive(Clone, Copy)]
-pub enum Check {
-    Good,
-    Refused(u8),
-}
+use model::{Edition, Refusal, Rng};
 
 // Refusal 10: a lent slice is shorter than the answer that it is for.
 pub fn no_room(
@@ -27,16 +19,7 @@ pub fn no_room(
 ) -> bool
     ensures { result ≡ too_short (record { kept = kept; rules = rules; fronts = fronts; lines = lines }) size n }
 {
-    if kept < size {
-        return true;
-    }
-    if rules < size {
-        return true;
-    }
-    if fronts < n {
-        return true;
-    }
-    lines < n
+    kept < size || rules < size || fronts < n || lines < n
 }
 
 // The first refusal that applies to a selection.
@@ -52,31 +35,31 @@ pub fn refusal(
     rules: usize,
     fronts: usize,
     lines: usize,
-) -> Check
-    ensures { checked result ≡ select_refusal (word_request edition pool.now directions.now divisions size rng ideal.now)
+) -> Result<(), Refusal>
+    ensures { refused_by result ≡ select_refusal (word_request edition pool.now directions.now divisions size rng ideal.now)
         (record { kept = kept; rules = rules; fronts = fronts; lines = lines }) }
 {
     let n = plans::plan_count(pool);
     let bad_size = plans::bad_size(size);
     let bad_count = plans::bad_count(edition, n);
     if plans::bad_directions(directions) {
-        return Check::Refused(2);
+        return Err(Refusal::Directions);
     }
     if bad_size {
-        return Check::Refused(3);
+        return Err(Refusal::Size);
     }
     let m = directions.len();
     if divisions::bad_divisions(m, divisions) {
-        return Check::Refused(4);
+        return Err(Refusal::Divisions);
     }
     if bad_count {
-        return Check::Refused(7);
+        return Err(Refusal::Count);
     }
     if plans::bad_pool(pool, m, ideal) {
-        return Check::Refused(8);
+        return Err(Refusal::Values);
     }
     if no_room(size, n, kept, rules, fronts, lines) {
-        return Check::Refused(10);
+        return Err(Refusal::Room);
     }
-    Check::Good
+    Ok(())
 }

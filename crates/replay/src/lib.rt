@@ -3,212 +3,158 @@
 
 #![tactic(auto)]
 
-ghost use Rattle.std.specs.Prelude.{◌≡◌, ◌+◌, ◌<◌, ◌≤◌, ◌&&◌, length};
-ghost use Rattle.replay.specs.Post.{Within, Ahead};
-ghost use Rattle.replay.specs.Verdicts.{SameFirst, Compares, Judges, up, tallied};
+ghost use Rattle.std.specs.Prelude.{◌≡◌, true, ◌<◌, ◌≤◌, length, IfSome};
+ghost use Rattle.replay.specs.Post.{Shorter};
+ghost use Rattle.replay.specs.Verdicts.{SameFirst, Compares, Judges, tallied};
 
-// A line's numbers; the longest of the stored lines has 7,859.
-pub type Words = [u64; 8192];
+use std::fmt;
 
-// What stands at a position: a number, with the position after it and after one space; the end of the line, with the start of the next one; or
-// something else.
-#[derive(Clone, Copy)]
-enum Found {
-    Number(u64, usize),
-    EndOfLine(usize),
-    Broken,
-}
+// How many numbers a line has room for; the longest of the stored lines has 7,859.
+pub const ROOM: usize = 8192;
 
-// A number with one digit more.
-#[derive(Clone, Copy)]
-enum Longer {
-    Number(u64),
-    NoDigit,
-    TooLarge,
-}
-
-fn with_digit(n: u64, b: u8) -> Longer {
-    if b < 48 {
-        return Longer::NoDigit;
-    }
-    if 57 < b {
-        return Longer::NoDigit;
-    }
-    let d = (b as u64) - 48;
-    if n < 1844674407370955161 {
-        return Longer::Number(n * 10 + d);
-    }
-    if 1844674407370955161 < n {
-        return Longer::TooLarge;
-    }
-    if 5 < d {
-        return Longer::TooLarge;
-    }
-    Longer::Number(n * 10 + d)
-}
-
-// The number n, whose digits end before i: one space after it is passed, a line's end is not.
-fn ended(bytes: &[u8], i: usize, n: u64) -> Found
-    requires { i < length bytes.now }
-    ensures { Within i (length bytes.now) result }
-{
-    let b = bytes[i];
-    if b == b' ' {
-        return Found::Number(n, i + 1);
-    }
-    if b == b'\n' {
-        return Found::Number(n, i);
-    }
-    Found::Broken
-}
-
-// The number that begins with the digits of `first` and goes on at `at`.
-fn digits(bytes: &[u8], at: usize, first: u64) -> Found
-    requires { at ≤ length bytes.now }
-    ensures { Within at (length bytes.now) result }
-{
-    let mut n = first;
-    let mut i = at;
-    while i < bytes.len() {
-        let step = with_digit(n, bytes[i]);
-        match step {
-            Longer::Number(more) => {
-                n = more;
-                i += 1;
-            }
-            Longer::NoDigit => return ended(bytes, i, n),
-            Longer::TooLarge => return Found::Broken,
-        }
-    }
-    Found::Number(n, i)
-}
-
-// What stands at a position.
-fn next_number(bytes: &[u8], at: usize) -> Found
-    requires { at < length bytes.now }
-    ensures { Within (at + 1) (length bytes.now) result }
-{
-    let b = bytes[at];
-    if b == b'\n' {
-        return Found::EndOfLine(at + 1);
-    }
-    let step = with_digit(0, b);
-    let Longer::Number(first) = step else {
-        return Found::Broken;
-    };
-    digits(bytes, at + 1, first)
-}
-
-// The start of the next line.
-fn skip_line(bytes: &[u8], at: usize) -> usize
-    requires { at ≤ length bytes.now }
-    ensures { Ahead at (length bytes.now) result }
-{
-    let mut i = at;
-    while i < bytes.len() {
-        let b = bytes[i];
-        i += 1;
-        if b == b'\n' {
-            return i;
-        }
-    }
-    i
-}
-
-// A line that was read: whether it is numbers and nothing else, at most 8,192; how many; and where the next line starts.
-#[derive(Clone, Copy)]
+// A line's numbers, of which the first `len` count. A line that is given more than it has room for counts them all the same, so that it is like no other.
+#[derive(Drop)]
 pub struct Line {
-    pub whole: bool,
-    pub count: usize,
-    pub next: usize,
+    pub words: [u64; ROOM],
+    pub len: usize,
 }
 
-fn broken(bytes: &[u8], at: usize) -> Line
-    requires { at ≤ length bytes.now }
-    ensures { (result.count ≤ 8192) × Ahead at (length bytes.now) result.next }
-{
-    let next = skip_line(bytes, at);
-    Line {
-        whole: false,
-        count: 0,
-        next,
-    }
-}
-
-// Reads the line at a position.
-pub fn read_line(bytes: &[u8], at: usize, line: &mut Words) -> Line
-    requires { at ≤ length bytes.now }
-    ensures { (result.count ≤ 8192) × Ahead at (length bytes.now) result.next }
-{
-    let mut i = at;
-    let mut n: usize = 0;
-    while i < bytes.len() {
-        let found = next_number(bytes, i);
-        match found {
-            Found::Number(w, next) => {
-                if 8192 <= n {
-                    return broken(bytes, i);
-                }
-                line[n] = w;
-                n += 1;
-                i = next;
-            }
-            Found::EndOfLine(next) => {
-                return Line {
-                    whole: true,
-                    count: n,
-                    next,
-                };
-            }
-            Found::Broken => return broken(bytes, i),
+impl Line {
+    // A line without numbers.
+    pub fn new() -> Line {
+        Line {
+            words: [0; ROOM],
+            len: 0,
         }
     }
-    Line {
-        whole: true,
-        count: n,
-        next: i,
+
+    pub fn clear(&mut self) {
+        self.len = 0;
+    }
+
+    // Adds a number.
+    pub fn put(&mut self, w: u64) {
+        if self.len < ROOM {
+            self.words[self.len] = w;
+        }
+        self.len = self.len.saturating_add(1);
+    }
+
+    pub fn put_count(&mut self, n: usize) {
+        self.put(n as u64);
+    }
+
+    pub fn put_real(&mut self, x: f64) {
+        self.put(real::word_of_real(x));
+    }
+
+    // The number at a place; 0 where there is none.
+    pub fn word(&self, i: usize) -> u64 {
+        if i < ROOM { self.words[i] } else { 0 }
+    }
+
+    // Adds the numbers of a text; none where it is anything but numbers, or they are more than there is room for.
+    pub fn read(&mut self, text: &[u8]) -> Option<()>
+        ensures { IfSome result (λ _. self.new.len ≤ 8192) }
+    {
+        let mut number: Option<u64> = None;
+        for &b in text {
+            match b {
+                b' ' => self.put(number.take()?),
+                b'0'..=b'9' => number = Some(with_digit(number.unwrap_or(0), b - b'0')?),
+                _ => return None,
+            }
+        }
+        if let Some(last) = number {
+            self.put(last);
+        }
+        if self.len <= ROOM { Some(()) } else { None }
+    }
+
+    // Its numbers from the first on.
+    pub fn reader(&self) -> Reader<'_> {
+        Reader { line: self, at: 0 }
     }
 }
 
-// The number at a place; 0 where there is none.
-pub fn word(line: &Words, i: usize) -> u64 {
-    if i < 8192 { line[i] } else { 0 }
+// A number with one digit more, where it stays below 2^64.
+fn with_digit(n: u64, digit: u8) -> Option<u64> {
+    n.checked_mul(10)?.checked_add(u64::from(digit))
 }
 
-// The command of an input line, its first number; 0, which is none, where the line is not numbers.
-pub fn command(line: Line, words: &Words) -> u64 {
-    if line.whole {
-        return word(words, 0);
+// A line that is read number by number; past its end there are zeros.
+#[derive(Clone, Copy)]
+pub struct Reader<'a> {
+    line: &'a Line,
+    at: usize,
+}
+
+impl<'a> Reader<'a> {
+    // The next number.
+    pub fn word(&mut self) -> u64 {
+        let w = self.line.word(self.at);
+        self.skip(1);
+        w
     }
-    0
+
+    pub fn count(&mut self) -> usize {
+        self.word() as usize
+    }
+
+    // The next number, where it is at most the one given.
+    pub fn count_to(&mut self, most: usize) -> Option<usize>
+        ensures { IfSome result (λ n. n ≤ most) }
+    {
+        let n = self.count();
+        if n <= most { Some(n) } else { None }
+    }
+
+    pub fn real(&mut self) -> f64 {
+        real::real_of_word(self.word())
+    }
+
+    pub fn skip(&mut self, k: usize) {
+        self.at = self.at.saturating_add(k);
+    }
+
+    // The next n numbers; none past the room of a line.
+    pub fn words(&mut self, n: usize) -> Option<&'a [u64]>
+        ensures { IfSome result (λ words. length words.now ≡ n) }
+    {
+        let line = self.line;
+        let from = self.at;
+        let words = line.words.get(from..from.checked_add(n)?)?;
+        self.skip(n);
+        Some(words)
+    }
+
+    // None unless every number was read, and no more.
+    pub fn end(&self) -> Option<()> {
+        if self.at == self.line.len {
+            Some(())
+        } else {
+            None
+        }
+    }
 }
 
-// Writes a number and answers the next place; past the end it writes nothing.
-pub fn put(line: &mut Words, i: usize, w: u64) -> usize
-    ensures { result ≤ 8193 }
+// A digest starts at 0 and goes on by a word: times 6364136223846793005 plus the word, modulo 2^64.
+pub fn digested(digest: u64, word: u64) -> u64 {
+    digest.wrapping_mul(6364136223846793005).wrapping_add(word)
+}
+
+// The first line of a text, without its line feed, and what comes after it.
+pub fn first_line(text: &[u8]) -> (&[u8], &[u8])
+    ensures { Shorter (length text.now) (length result.1.now) }
 {
-    if i < 8192 {
-        line[i] = w;
-        return i + 1;
+    match text.iter().position(|&b| b == b'\n') {
+        Some(end) => (&text[..end], &text[end + 1..]),
+        None => (text, &[]),
     }
-    8193
-}
-
-// The place k further on; 8,193 stands for any past the end.
-pub fn ahead(i: usize, k: usize) -> usize
-    ensures { result ≤ 8193 }
-{
-    if 8192 < i {
-        return 8193;
-    }
-    if 8192 - i < k {
-        return 8193;
-    }
-    i + k
 }
 
 // What became of a case. Passed over is one that is no command, or whose input is out of what the function asks.
-#[derive(Clone, Copy)]
+#[derive(Clone, Copy, PartialEq)]
 pub enum Verdict {
     Agrees,
     Differs,
@@ -217,50 +163,42 @@ pub enum Verdict {
 }
 
 // Whether two lines begin with the same n numbers.
-fn same(a: &Words, b: &Words, n: usize) -> bool
+fn same(a: &[u64; ROOM], b: &[u64; ROOM], n: usize) -> bool
     requires { n ≤ 8192 }
     ensures { SameFirst n a.now b.now result }
 {
-    let mut i: usize = 0;
-    while i < n {
-        if a[i] == b[i] {
-            i += 1;
-        } else {
+    for i in 0..n {
+        if a[i] != b[i] {
             return false;
         }
     }
     true
 }
 
-// The n numbers given beside the k worked out; k is 0 for a case passed over.
-fn compared(given: &Words, n: usize, ours: &Words, k: usize) -> Verdict
-    requires { n ≤ 8192 }
-    ensures { Compares n given.now k ours.now result }
+// The numbers given beside those worked out, of which there are none for a case passed over.
+fn compared(given: &Line, ours: &Line) -> Verdict
+    requires { given.now.len ≤ 8192 }
+    ensures { Compares given.now.len given.now.words ours.now.len ours.now.words result }
 {
-    if k == 0 {
-        return Verdict::PassedOver;
-    }
-    if n != k {
-        return Verdict::Differs;
-    }
-    if same(given, ours, k) {
+    if ours.len == 0 {
+        Verdict::PassedOver
+    } else if given.len == ours.len && same(&given.words, &ours.words, ours.len) {
         Verdict::Agrees
     } else {
         Verdict::Differs
     }
 }
 
-// The verdict on an input line, its answer line and the k numbers worked out.
-pub fn judged(input: Line, answer: Line, given: &Words, ours: &Words, k: usize) -> Verdict
-    requires { answer.count ≤ 8192 }
-    ensures { Judges (input.whole && answer.whole) answer.count given.now k ours.now result }
+// The verdict on a case: whether both its lines are numbers and nothing else, the answer line, and the numbers worked out.
+pub fn judged(whole: bool, given: &Line, ours: &Line) -> Verdict
+    requires { whole ≡ true → given.now.len ≤ 8192 }
+    ensures { Judges whole given.now.len given.now.words ours.now.len ours.now.words result }
 {
-    if input.whole {
-        if answer.whole {
-            return compared(given, answer.count, ours, k);
-        }
+    if whole {
+        compared(given, ours)
+    } else {
+        Verdict::Broken
     }
-    Verdict::Broken
 }
 
 #[derive(Clone, Copy)]
@@ -271,22 +209,40 @@ pub struct Tally {
     pub broken: u64,
 }
 
-fn one_more(n: u64) -> u64
-    ensures { result ≡ up n }
-{
-    std::num::wrapping_add_u64(n, 1)
+impl Tally {
+    pub fn new() -> Tally {
+        Tally {
+            agree: 0,
+            differ: 0,
+            passed_over: 0,
+            broken: 0,
+        }
+    }
+
+    // One verdict more.
+    pub fn count(&mut self, verdict: Verdict)
+        ensures { self.new ≡ tallied verdict self.old }
+    {
+        match verdict {
+            Verdict::Agrees => self.agree = self.agree.wrapping_add(1),
+            Verdict::Differs => self.differ = self.differ.wrapping_add(1),
+            Verdict::PassedOver => self.passed_over = self.passed_over.wrapping_add(1),
+            Verdict::Broken => self.broken = self.broken.wrapping_add(1),
+        }
+    }
 }
 
-// The tally with one verdict more.
-pub fn counted(tally: Tally, verdict: Verdict) -> Tally
-    ensures { result ≡ tallied verdict tally }
-{
-    let mut t = tally;
-    match verdict {
-        Verdict::Agrees => t.agree = one_more(t.agree),
-        Verdict::Differs => t.differ = one_more(t.differ),
-        Verdict::PassedOver => t.passed_over = one_more(t.passed_over),
-        Verdict::Broken => t.broken = one_more(t.broken),
+impl fmt::Display for Tally {
+    fn fmt<W: fmt::Write>(&self, f: &mut fmt::Formatter<W>) -> fmt::Result {
+        let Tally {
+            agree,
+            differ,
+            passed_over,
+            broken,
+        } = *self;
+        write!(
+            f,
+            "{agree} agree, {differ} differ, {passed_over} passed over, {broken} broken"
+        )
     }
-    t
 }

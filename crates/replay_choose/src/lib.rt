@@ -2,60 +2,35 @@
 
 #![tactic(auto)]
 
-use model::{Chosen, MAX_TEXT};
-use replay::Words;
+use model::MAX_TEXT;
+use replay::Line;
 
-// The first n bytes of a text, in whole or by their digest.
-fn put_text(text: &[u8; MAX_TEXT], n: usize, whole: bool, out: &mut Words) -> usize {
-    if whole {
-        return replay_bytes::put_bytes(out, 0, text, n);
-    }
-    replay_bytes::put_digest(out, 0, text, n)
-}
-
-// The text of a file.
-fn text_of(file: &[u8], whole: bool, out: &mut Words) -> usize {
+// The text of a file, in whole or by its digest.
+fn put_text(file: &[u8], whole: bool, out: &mut Line) {
     let mut text = [0u8; MAX_TEXT];
     let chosen = c_calls::choose(file, &mut text);
     let n = match chosen {
-        Chosen::Written(n) => n,
-        Chosen::Refused(number) => pool_text::write_refused(number as usize, &mut text),
+        Ok(n) => n,
+        Err(refusal) => pool_text::write_refused(u64::from(refusal) as usize, &mut text),
     };
-    put_text(&text, n, whole, out)
+    replay_bytes::put_bytes(out, &text, n, whole);
 }
 
-// 95: a file that stands in the line.
-fn in_line(input: &Words, n: usize, out: &mut Words) -> usize {
-    let count = replay::word(input, 1) as usize;
-    if n != replay::ahead(count, 2) {
-        return 0;
-    }
-    if 8190 < count {
-        return 0;
-    }
-    let mut file = [0u8; 8192];
-    if replay_bytes::read_bytes(input, 2, count, &mut file) {
-        return text_of(&file[..count], true, out);
-    }
-    0
-}
-
-// 96 and 97: a file in parts.
-fn in_parts(input: &Words, n: usize, whole: bool, out: &mut Words) -> usize {
-    let mut file = [0u8; 65664];
-    let length = replay_bytes::read_parts(input, 1, n, &mut file);
-    if 65664 < length {
-        return 0;
-    }
-    text_of(&file[..length], whole, out)
-}
-
-// The answer to an input line of n numbers; how many numbers it has, 0 for a case passed over.
-pub fn answer(input: &Words, n: usize, out: &mut Words) -> usize {
-    match replay::word(input, 0) {
-        95 => in_line(input, n, out),
-        96 => in_parts(input, n, true, out),
-        97 => in_parts(input, n, false, out),
-        _ => 0,
-    }
+// 95: a file that stands in the line. 96 and 97: a file in parts.
+pub fn answer(input: &Line, out: &mut Line) -> Option<()> {
+    let mut line = input.reader();
+    let command = line.word();
+    let mut file = [0u8; replay_bytes::PARTS_ROOM];
+    let length = match command {
+        95 => {
+            let count = line.count_to(replay::ROOM)?;
+            replay_bytes::read_bytes(&mut line, &mut file[..count])?;
+            line.end()?;
+            count
+        }
+        96 | 97 => replay_bytes::read_parts(&mut line, &mut file)?,
+        _ => return None,
+    };
+    put_text(&file[..length], command != 97, out);
+    Some(())
 }

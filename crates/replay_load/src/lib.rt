@@ -2,40 +2,21 @@
 
 #![tactic(auto)]
 
-ghost use Rattle.std.specs.Prelude.{◌≤◌};
+use model::MAX_FILE;
+use replay::Line;
 
-use replay::Words;
-
-// What the call answers where `room` bytes are lent.
-fn load(input: &[u8], room: usize, whole: bool, out: &mut Words) -> usize
-    requires { room ≤ 65536 }
-{
-    let mut file = [0u8; 65536];
+// 105 and 106. The answer to an input line; none for a case passed over. As many bytes are lent as the line says.
+pub fn answer(input: &Line, out: &mut Line) -> Option<()> {
+    let mut line = input.reader();
+    let whole = line.word() == 105;
+    let room = line.count_to(MAX_FILE)?;
+    let count = line.count_to(replay::ROOM)?;
+    let mut bytes = [0u8; replay::ROOM];
+    replay_bytes::read_bytes(&mut line, &mut bytes[..count])?;
+    line.end()?;
+    let mut file = [0u8; MAX_FILE];
     let mut n: usize = 0;
-    let code = locustdomino::locustdomino_write_load(input, &mut file[..room], &mut n);
-    if code != 0 {
-        return replay::put(out, 0, code);
-    }
-    replay_bytes::put_file(out, &file, n, whole)
-}
-
-// 105 and 106. The answer to an input line of n numbers; how many numbers it has, 0 for a case passed over.
-pub fn answer(input: &Words, n: usize, out: &mut Words) -> usize {
-    let whole = replay::word(input, 0) == 105;
-    let room = replay::word(input, 1) as usize;
-    let count = replay::word(input, 2) as usize;
-    if n != replay::ahead(count, 3) {
-        return 0;
-    }
-    if 8189 < count {
-        return 0;
-    }
-    if 65536 < room {
-        return 0;
-    }
-    let mut bytes = [0u8; 8192];
-    if replay_bytes::read_bytes(input, 3, count, &mut bytes) {
-        return load(&bytes[..count], room, whole, out);
-    }
-    0
+    let code = locustdomino::locustdomino_write_load(&bytes[..count], &mut file[..room], &mut n);
+    replay_bytes::put_answer(out, code, &file, n, whole);
+    Some(())
 }

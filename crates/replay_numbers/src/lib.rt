@@ -3,128 +3,91 @@
 #![tactic(auto)]
 
 use model::Rng;
-use replay::Words;
-
-// How many numbers the input line of a command has; 0 for any other command.
-fn line_length(command: u64) -> usize {
-    match command {
-        11 | 22 | 23 => 2,
-        10 | 12 | 20 | 21 | 24 => 3,
-        13 | 14 | 25 => 4,
-        _ => 0,
-    }
-}
-
-// An answer of one real.
-fn put_real(out: &mut Words, x: f64) -> usize {
-    replay_values::put_real(out, 0, x)
-}
+use replay::{Line, Reader};
 
 // 10: the next words.
-fn words(state: u64, count: u64, out: &mut Words) -> usize {
+fn words(state: u64, count: u64, out: &mut Line) -> Option<()> {
     if 4000 < count {
-        return 0;
+        return None;
     }
-    let n = count as usize;
     let mut s = state;
-    let mut i: usize = 0;
-    while i < n {
+    for _ in 0..count {
         let d = rng_util::next(Rng { s });
-        replay::put(out, i, d.value);
+        out.put(d.value);
         let r = d.rng;
         s = r.s;
-        i += 1;
     }
-    replay::put(out, n, s)
+    out.put(s);
+    Some(())
 }
 
 // 12
-fn below(s: u64, n: u64, out: &mut Words) -> usize {
+fn below(s: u64, n: usize, out: &mut Line) -> Option<()> {
     if n == 0 {
-        return 0;
+        return None;
     }
-    let d = rng_util::draw_usize(Rng { s }, n as usize);
-    replay_values::put_drawn(out, d.value as u64, d.rng)
+    let d = rng_util::draw_usize(Rng { s }, n);
+    replay_values::put_drawn(out, d.value as u64, d.rng);
+    Some(())
 }
 
 // 13
-fn between(s: u64, a: i64, b: i64, out: &mut Words) -> usize {
-    if a <= b {
-        if -9007199254740992 <= a {
-            if b <= 9007199254740992 {
-                let d = rng_util::draw_i64(Rng { s }, a, b);
-                return replay_values::put_drawn(out, real::word_of_int(d.value), d.rng);
-            }
-        }
+fn between(s: u64, a: i64, b: i64, out: &mut Line) -> Option<()> {
+    if a > b || a < -9007199254740992 || 9007199254740992 < b {
+        return None;
     }
-    0
+    let d = rng_util::draw_i64(Rng { s }, a, b);
+    replay_values::put_drawn(out, real::word_of_int(d.value), d.rng);
+    Some(())
 }
 
 // 11 and 14
-fn unit(s: u64, out: &mut Words) -> usize {
+fn unit(s: u64, out: &mut Line) {
     let d = rng_util::draw_f64(Rng { s });
-    replay_values::put_drawn(out, real::word_of_real(d.value), d.rng)
+    replay_values::put_drawn(out, real::word_of_real(d.value), d.rng);
 }
 
-fn range(s: u64, low: f64, high: f64, out: &mut Words) -> usize {
+fn range(s: u64, low: f64, high: f64, out: &mut Line) {
     let d = rng_util::f64_range(Rng { s }, low, high);
-    replay_values::put_drawn(out, real::word_of_real(d.value), d.rng)
+    replay_values::put_drawn(out, real::word_of_real(d.value), d.rng);
 }
 
-// 20, the power, and 21, the root, take k from 1 to 100.
-fn powered(command: u64, x: f64, k: u64, out: &mut Words) -> usize {
-    if k < 1 {
-        return 0;
-    }
-    if 100 < k {
-        return 0;
-    }
-    let y = if command == 20 {
-        powers::power(x, k)
-    } else {
-        powers::root(x, k)
+// The k that 20, the power, and 21, the root, take: from 1 to 100.
+fn degree(input: &mut Reader) -> Option<u64> {
+    let k = input.word();
+    if 1 <= k && k <= 100 { Some(k) } else { None }
+}
+
+// The answer to an input line; none for a case passed over.
+pub fn answer(input: &Line, out: &mut Line) -> Option<()> {
+    let mut line = input.reader();
+    let command = line.word();
+    let length = match command {
+        11 | 22 | 23 => 2,
+        10 | 12 | 20 | 21 | 24 => 3,
+        13 | 14 | 25 => 4,
+        _ => return None,
     };
-    put_real(out, y)
-}
-
-fn draws(input: &Words, command: u64, out: &mut Words) -> usize {
-    let s = replay::word(input, 1);
-    let x = replay::word(input, 2);
-    let y = replay::word(input, 3);
+    if input.len != length {
+        return None;
+    }
     match command {
-        10 => words(s, x, out),
-        11 => unit(s, out),
-        12 => below(s, x, out),
-        13 => between(s, real::int_of_word(x), real::int_of_word(y), out),
-        14 => range(s, real::real_of_word(x), real::real_of_word(y), out),
-        _ => 0,
+        10 => words(line.word(), line.word(), out)?,
+        11 => unit(line.word(), out),
+        12 => below(line.word(), line.count(), out)?,
+        13 => between(
+            line.word(),
+            real::int_of_word(line.word()),
+            real::int_of_word(line.word()),
+            out,
+        )?,
+        14 => range(line.word(), line.real(), line.real(), out),
+        20 => out.put_real(powers::power(line.real(), degree(&mut line)?)),
+        21 => out.put_real(powers::root(line.real(), degree(&mut line)?)),
+        22 => out.put_real(square_root::sqrt(line.real())),
+        23 => out.put_real(real::round(line.real())),
+        24 => out.put_real(real::midpoint(line.real(), line.real())),
+        _ => out.put_real(real::clamp(line.real(), line.real(), line.real())),
     }
-}
-
-fn numbers(input: &Words, command: u64, out: &mut Words) -> usize {
-    let x = replay_values::real_at(input, 1);
-    let y = replay_values::real_at(input, 2);
-    let k = replay::word(input, 2);
-    match command {
-        20 | 21 => powered(command, x, k, out),
-        22 => put_real(out, square_root::sqrt(x)),
-        23 => put_real(out, real::round(x)),
-        24 => put_real(out, real::midpoint(x, y)),
-        25 => put_real(out, real::clamp(x, y, replay_values::real_at(input, 3))),
-        _ => 0,
-    }
-}
-
-// The answer to an input line of n numbers; how many numbers it has, 0 for a case passed over.
-pub fn answer(input: &Words, n: usize, out: &mut Words) -> usize {
-    let command = replay::word(input, 0);
-    let k = line_length(command);
-    if n != k {
-        return 0;
-    }
-    if command < 20 {
-        draws(input, command, out)
-    } else {
-        numbers(input, command, out)
-    }
+    Some(())
 }

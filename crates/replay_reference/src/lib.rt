@@ -2,97 +2,62 @@
 
 #![tactic(auto)]
 
-ghost use Rattle.std.specs.Prelude.{◌*◌, ◌≤◌};
+ghost use Rattle.std.specs.Prelude.{◌*◌, ◌≤◌, IfSome};
 ghost use Rattle.model.specs.Plan.{max_objectives};
 ghost use Rattle.model.specs.Refusal.{max_lines};
 
-use model::MAX_TABLE_VALUES;
-use replay::Words;
-use replay_values::Table;
+use model::{MAX_DIVISIONS, MAX_OBJECTIVES, MAX_TABLE_VALUES};
+use replay::Line;
+
+pub type Table = [f64; MAX_TABLE_VALUES];
 
 // The table of m and h, and how many lines it has; none where the divisions are refused.
-pub fn fill_table(m: usize, h: usize, table: &mut Table) -> usize
+pub fn fill_table(m: usize, h: usize, table: &mut Table) -> Option<usize>
     requires { (1 ≤ m) × (m ≤ 8) }
-    ensures { result * m ≤ max_lines * max_objectives }
+    ensures { IfSome result (λ lines. lines * m ≤ max_lines * max_objectives) }
 {
     if divisions::bad_divisions(m, h) {
-        return 0;
+        return None;
     }
-    das_dennis::das_dennis(m, h, table)
-}
-
-// The digest of the first n entries: from 0 on, times 6364136223846793005 plus the entry's word, modulo 2^64.
-fn digest(table: &Table, n: usize) -> u64
-    requires { n ≤ max_lines * max_objectives }
-{
-    let mut d: u64 = 0;
-    let mut i: usize = 0;
-    while i < n {
-        let p = rng_util::wrapping_mul_u64(d, 6364136223846793005);
-        d = std::num::wrapping_add_u64(p, real::word_of_real(table[i]));
-        i += 1;
-    }
-    d
+    Some(das_dennis::das_dennis(m, h, table))
 }
 
 // 50 and 54, of divisions that are not refused: how many lines the table has, then m and the table, or its digest.
-fn table(m: usize, h: usize, digested: bool, out: &mut Words) -> usize
+fn table(m: usize, h: usize, digested: bool, out: &mut Line) -> Option<()>
     requires { (1 ≤ m) × (m ≤ 8) }
 {
     let mut table = [0.0; MAX_TABLE_VALUES];
-    let lines = fill_table(m, h, &mut table);
-    if lines == 0 {
-        return 0;
-    }
-    let k = lines * m;
+    let lines = fill_table(m, h, &mut table)?;
+    let values = &table[..lines * m];
+    out.put_count(lines);
     if digested {
-        return replay_values::put_two(out, 0, lines as u64, digest(&table, k));
+        let words = values.iter().map(|&x| real::word_of_real(x));
+        out.put(words.fold(0, replay::digested));
+    } else {
+        out.put_count(m);
+        for &x in values {
+            out.put_real(x);
+        }
     }
-    let place = replay_values::put_two(out, 0, lines as u64, m as u64);
-    replay_values::put_table(out, place, &table, k)
+    Some(())
 }
 
-// 51
-fn automatic(m: usize, target: usize, out: &mut Words) -> usize
-    requires { (1 ≤ m) × (m ≤ 8) }
-{
-    replay::put(out, 0, divisions::auto_divisions(m, target) as u64)
-}
-
-// 52
-fn count(m: usize, h: usize, out: &mut Words) -> usize
-    requires { (1 ≤ m) × (m ≤ 8) }
-{
-    if 199 < h {
-        return 0;
-    }
-    replay::put(out, 0, divisions::point_count(m, h) as u64)
-}
-
-// 50, 51, 52 and 54: m and one number more.
-fn of_two(command: u64, m: usize, x: usize, out: &mut Words) -> usize {
-    if m < 1 {
-        return 0;
-    }
-    if 8 < m {
-        return 0;
+// The answer to an input line; none for a case passed over. 50, 51, 52 and 54: m and one number more.
+pub fn answer(input: &Line, out: &mut Line) -> Option<()> {
+    let mut line = input.reader();
+    let command = line.word();
+    let m = line.count_to(MAX_OBJECTIVES)?;
+    let x = line.count();
+    line.end()?;
+    if m == 0 {
+        return None;
     }
     match command {
-        50 => table(m, x, false, out),
-        51 => automatic(m, x, out),
-        52 => count(m, x, out),
-        54 => table(m, x, true, out),
-        _ => 0,
+        50 => table(m, x, false, out)?,
+        51 => out.put_count(divisions::auto_divisions(m, x)),
+        52 if x <= MAX_DIVISIONS => out.put_count(divisions::point_count(m, x)),
+        54 => table(m, x, true, out)?,
+        _ => return None,
     }
-}
-
-// The answer to an input line of n numbers; how many numbers it has, 0 for a case passed over.
-pub fn answer(input: &Words, n: usize, out: &mut Words) -> usize {
-    let command = replay::word(input, 0);
-    let m = replay::word(input, 1) as usize;
-    if n != 3 {
-        return 0;
-    }
-    let x = replay::word(input, 2) as usize;
-    of_two(command, m, x, out)
+    Some(())
 }

@@ -6,33 +6,14 @@
 // the pattern of 2^52
 const TOP: u64 = 0x4330_0000_0000_0000;
 
-fn text(rt: &impl Print, t: &[u8]) {
-    let _ = rt.write_all(t);
+// Whether a power is at most v.
+fn side(p: f64, v: f64) -> &'static str {
+    if p <= v { "<=" } else { ">" }
 }
 
-// A label and a number.
-fn number(rt: &impl Print, label: &[u8], n: u64) {
-    let _ = rt.write_all(label);
-    let _ = rt.print(n);
-}
-
-// A label, a power, and whether it is at most v.
-fn compared(rt: &impl Print, label: &[u8], p: f64, v: f64) {
-    number(rt, label, real::word_of_real(p));
-    if p <= v {
-        text(rt, b" <= v");
-    } else {
-        text(rt, b" > v");
-    }
-}
-
-// Whether x is at least the one before it; it ends a line.
-fn ordered(rt: &impl Print, before: f64, x: f64) {
-    if before <= x {
-        text(rt, b", rising\n");
-    } else {
-        text(rt, b", FALLING\n");
-    }
+// Whether x is at least the one before it.
+fn order(before: f64, x: f64) -> &'static str {
+    if before <= x { "rising" } else { "FALLING" }
 }
 
 // The double after that of a pattern, up to 2^52.
@@ -47,6 +28,7 @@ fn next(at: u64) -> f64 {
 fn further(v: f64, k: u64, from: u64) -> u64 {
     let mut n: u64 = 0;
     let mut at = from;
+    // a while: what is left up to 2^52 is halved
     while at < TOP {
         at = (at + TOP + 1) / 2;
         if powers::power(real::real_of_word(at), k) <= v {
@@ -58,15 +40,20 @@ fn further(v: f64, k: u64, from: u64) -> u64 {
 
 // The root, its power, that of the next double, and how many doubles further up have one that is at most v.
 fn root_at(rt: &impl Print, v: f64, k: u64, before: f64) -> f64 {
-    number(rt, b"k ", k);
-    number(rt, b" v ", real::word_of_real(v));
+    let v_bits = real::word_of_real(v);
     let r = powers::root(v, k);
     let at = real::word_of_real(r);
-    number(rt, b": root ", at);
-    compared(rt, b", power ", powers::power(r, k), v);
-    compared(rt, b", next ", powers::power(next(at), k), v);
-    number(rt, b", further ", further(v, k, at));
-    ordered(rt, before, r);
+    let power = powers::power(r, k);
+    let power_bits = real::word_of_real(power);
+    let side_of_power = side(power, v);
+    let after = powers::power(next(at), k);
+    let after_bits = real::word_of_real(after);
+    let side_of_after = side(after, v);
+    let beyond = further(v, k, at);
+    let rising = order(before, r);
+    let _ = println!(rt;
+        "k {k} v {v_bits}: root {at}, power {power_bits} {side_of_power} v, next {after_bits} {side_of_after} v, further {beyond}, {rising}"
+    );
     r
 }
 
@@ -93,18 +80,18 @@ fn roots(rt: &impl Print, k: u64) {
         0x4320_0000_0000_0000,
     ];
     let mut last = 0.0;
-    for i in 0..17 {
-        last = root_at(rt, real::real_of_word(values[i]), k, last);
+    for v in values {
+        last = root_at(rt, real::real_of_word(v), k, last);
     }
 }
 
 // The spread of a draw.
 fn spread_at(rt: &impl Print, u: f64, k: u64, before: f64) -> f64 {
-    number(rt, b"k ", k);
-    number(rt, b" draw ", real::word_of_real(u));
+    let draw = real::word_of_real(u);
     let s = real_variation::spread(u, k);
-    number(rt, b": spread ", real::word_of_real(s));
-    ordered(rt, before, s);
+    let spread = real::word_of_real(s);
+    let rising = order(before, s);
+    let _ = println!(rt; "k {k} draw {draw}: spread {spread}, {rising}");
     s
 }
 
@@ -127,8 +114,8 @@ fn spreads(rt: &impl Print, k: u64) {
         0x3fef_ffff_ffff_ffff,
     ];
     let mut last = 0.0;
-    for i in 0..14 {
-        last = spread_at(rt, real::real_of_word(draws[i]), k, last);
+    for u in draws {
+        last = spread_at(rt, real::real_of_word(u), k, last);
     }
 }
 

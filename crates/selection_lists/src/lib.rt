@@ -15,49 +15,18 @@ pub fn copy_first(from: &[usize], n: usize, to: &mut [usize])
     requires { (n ≤ length from.now) × (n ≤ length to.old) }
     ensures { to.new ≡ over (take n from.now) to.old }
 {
-    let mut i = 0;
-    while i < n {
-        to[i] = from[i];
-        i += 1;
-    }
-}
-
-// One mark for each of the first n places of a list of rules.
-fn mark_first(mark: u8, n: usize, rules: &mut [u8])
-    requires { n ≤ length rules.old }
-    ensures { rules.new ≡ over (replicate n mark) rules.old }
-{
-    let mut i = 0;
-    while i < n {
-        rules[i] = mark;
-        i += 1;
-    }
-}
-
-// No line for each of n plans.
-fn no_lines(n: usize, lines: &mut [usize])
-    requires { n ≤ length lines.old }
-    ensures { lines.new ≡ over (replicate n without_line) lines.old }
-{
-    let mut i = 0;
-    while i < n {
-        lines[i] = NO_LINE;
-        i += 1;
-    }
+    to[..n].copy_from_slice(&from[..n]);
 }
 
 // Draws `count` plans of n.
-fn pad(rng: Rng, n: usize, count: usize, out: &mut [usize]) -> Rng
+fn pad(mut rng: Rng, n: usize, count: usize, out: &mut [usize]) -> Rng
     requires { (0 < n) × (count ≤ length out.old) }
     ensures { (out.new ≡ over (padding n count rng.s).value out.old) × (result.s ≡ (padding n count rng.s).state) }
 {
-    let mut rng = rng;
-    let mut at = 0;
-    while at < count {
+    for at in 0..count {
         let d = rng_util::draw_usize(rng, n);
         out[at] = d.value;
         rng = d.rng;
-        at += 1;
     }
     rng
 }
@@ -69,8 +38,7 @@ pub fn list_whole(order: &[usize], whole: usize, kept: &mut [usize], rules: &mut
         × (rules.new ≡ over (replicate whole (mark_of rule.WholeFront)) rules.old) }
 {
     copy_first(order, whole, kept);
-    let listed = rule_marks::mark(Rule::WholeFront);
-    mark_first(listed, whole, rules);
+    rules[..whole].fill(rule_marks::mark(Rule::WholeFront));
 }
 
 // The kept list where no front is split: the first `whole` plans of the order, then plans drawn up to the size, with the rules beside them. No plan has a line.
@@ -90,8 +58,7 @@ pub fn select_whole(
         × (lines.new ≡ over (replicate n without_line) lines.old) × (result.s ≡ (padding n (size - whole) rng.s).state) }
 {
     list_whole(order, whole, kept, rules);
-    no_lines(n, lines);
-    let padded = rule_marks::mark(Rule::Padding);
-    mark_first(padded, size - whole, &mut rules[whole..]);
+    lines[..n].fill(NO_LINE);
+    rules[whole..size].fill(rule_marks::mark(Rule::Padding));
     pad(rng, n, size - whole, &mut kept[whole..])
 }

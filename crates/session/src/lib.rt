@@ -3,8 +3,7 @@
 
 #![tactic(auto)]
 
-ghost use Rattle.std.specs.Prelude.{◌≡◌, true, false, List, [], ℕ};
-ghost use Rattle.std.proofs.Math.Option.{some};
+ghost use Rattle.std.specs.Prelude.{◌≡◌, true, false, List, [], ℕ, Some};
 ghost use Rattle.model.specs.Session.{state, adds_for, discovers, long_enough};
 ghost use Rattle.model.specs.Refusal.{sample_refusal, bad_history};
 ghost use Rattle.model.specs.Calls.{sample_of, Samples};
@@ -12,7 +11,7 @@ ghost use Rattle.model.specs.Property.{SessionOk};
 ghost use Rattle.model.specs.declared.Distribution.{Distribution};
 ghost use Rattle.session_steps.specs.Exits.{exit};
 
-use model::{Distribution, PLAN_WORDS, Phase, Sampled, Session};
+use model::{Distribution, PLAN_WORDS, Phase, Refusal, Sampled, Session};
 
 // ---- a call that adds a dimension
 
@@ -31,28 +30,28 @@ fn sample_discovering(
     let progress = session.progress;
     let n = progress.n_dims;
     if session_records::bad_dimension(n, distribution) {
-        return session_active::refused(session, 6);
+        return session_active::refused(session, Refusal::Bounds);
     }
     if session_records::bad_step(distribution) {
-        return session_active::refused(session, 12);
+        return session_active::refused(session, Refusal::Steps);
     }
     if session_records::bad_history(history) {
-        return session_active::refused(session, 7);
+        return session_active::refused(session, Refusal::Count);
     }
     if long {
         return session_steps::discover(session, distribution, plan);
     }
-    session_active::refused(session, 10)
+    session_active::refused(session, Refusal::Room)
 }
 
 // ---- a call that is lent a slice too short
 
-// The number of a call that adds no dimension.
-fn short_refusal(session: Session, history: &[u64], plans: &[u64], pool: &[u64]) -> u8
+// Why a call that adds no dimension is turned down.
+fn short_refusal(session: Session, history: &[u64], plans: &[u64], pool: &[u64]) -> Refusal
     requires { SessionOk (state session [] [] [] []) × (bad_history history.now ≡ false) }
     ensures { (cs ns : List ℕ) (d : Distribution) (plan : ℕ) → discovers (state session cs plans.now ns pool.now) plan ≡ false
         → long_enough (state session cs plans.now ns pool.now) ≡ false
-        → sample_refusal (state session cs plans.now ns pool.now) d plan history.now ≡ some result }
+        → sample_refusal (state session cs plans.now ns pool.now) d plan history.now ≡ Some result }
 {
     let config = session.config;
     let size = config.population_size;
@@ -60,16 +59,16 @@ fn short_refusal(session: Session, history: &[u64], plans: &[u64], pool: &[u64])
     let n = progress.n_plans;
     let phase = session.phase;
     let Phase::Active = phase else {
-        return 10;
+        return Refusal::Room;
     };
     let n_waiting = progress.n_waiting;
     if pool.len() < n_waiting * PLAN_WORDS {
-        return 10;
+        return Refusal::Room;
     }
     if session_records::evaluated(history, plans, n, size) {
         return session_breeding::bred_refusal(session, history, plans, pool);
     }
-    10
+    Refusal::Room
 }
 
 // ---- the call
@@ -103,7 +102,7 @@ fn answered(
         return sample_discovering(session, distribution, plan, history, long);
     }
     if session_records::bad_history(history) {
-        return session_active::refused(session, 7);
+        return session_active::refused(session, Refusal::Count);
     }
     if long {
         return match phase {
@@ -115,8 +114,8 @@ fn answered(
             ),
         };
     }
-    let number = short_refusal(session, history, plans, pool);
-    session_active::refused(session, number)
+    let refusal = short_refusal(session, history, plans, pool);
+    session_active::refused(session, refusal)
 }
 
 // A plan asks for its next setting; the answer, or the number of the refusal that the call meets. `history` has the evaluated plans; the other slices are lent

@@ -3,11 +3,13 @@ use Prim.Native.Nat.{ℕ, ◌*◌, ◌≤◌, ◌<◌}
 use mathlib.Core.Path.{◌≡◌, refl, sym, ap, ◌∙◌, subst}
 use mathlib.Core.Bool.{Bool, true, false}
 use mathlib.Core.List.{List, [], ◌∷◌}
-use mathlib.Core.Option.{Option, none, some}
+use Rattle.std.specs.Prelude.{Option, None, Some}
 use lib.Ieee.{Float}
 use lib.ListN.{length}
 use Rattle.list_laws.proofs.Bools.{and_not_left, and_not, and_no, past}
 use borrow.Author.Tests.{le-leb, lt-leb}
+use Rattle.model.specs.declared.Refusal.{Refusal}
+use Rattle.model.specs.declared.Refusal.TheVariants as why
 use Rattle.model.specs.declared.Distribution.{Distribution}
 use Rattle.model.specs.declared.Phase.TheVariants.{Discovery, Active}
 use Rattle.model.specs.declared.Sampled.{Sampled}
@@ -26,23 +28,23 @@ use Rattle.session_breeding.specs.Breeding.{Gatherable, BredExit, bred_exit, bre
 use Rattle.session_active.specs.Exits.{refused_with}
 
 module _ (st : State) (d : Distribution) (plan : ℕ) (history : List ℕ) where
-  abbrev refusal : Option ℕ
+  abbrev refusal : Option Refusal
   refusal = sample_refusal st d plan history
 
   -- refused, with all as it was
-  pub leaves_refused : (n : ℕ) (u : Session) (after pool : List ℕ) (r : Sampled) → r ≡ refused_with n u → state u after st.plans st.next_dims pool ≡ st → refusal ≡ some n
+  pub leaves_refused : (n : Refusal) (u : Session) (after pool : List ℕ) (r : Sampled) → r ≡ refused_with n u → state u after st.plans st.next_dims pool ≡ st → refusal ≡ Some n
       → exit r after st.plans st.next_dims pool ≡ sample_of st d plan history
   unfolding sample_of
   leaves_refused n u after pool r h f e =
       ap (λ (x : Sampled). exit x after st.plans st.next_dims pool) h ∙ ap (λ (x : State). record { answer = (refused_with n u).outcome; after = x }) f
-      ∙ ap (λ (o : Option ℕ). sample_by o st (accepted st d plan history)) (sym e)
+      ∙ ap (λ (o : Option Refusal). sample_by o st (accepted st d plan history)) (sym e)
 
-  pub leaves_accepted : (x : SampleExit) (a : Answered) → x ≡ settled a → refusal ≡ none → a ≡ accepted st d plan history → x ≡ sample_of st d plan history
+  pub leaves_accepted : (x : SampleExit) (a : Answered) → x ≡ settled a → refusal ≡ None → a ≡ accepted st d plan history → x ≡ sample_of st d plan history
   unfolding sample_of
-  leaves_accepted x a h e f = h ∙ ap settled f ∙ ap (λ (o : Option ℕ). sample_by o st (accepted st d plan history)) (sym e)
+  leaves_accepted x a h e f = h ∙ ap settled f ∙ ap (λ (o : Option Refusal). sample_by o st (accepted st d plan history)) (sym e)
 
   -- answered by a candidate of the state that the call goes on from
-  pub leaves_taken : (x : SampleExit) (y z : State) → x ≡ settled (sample_from_candidate y plan) → y ≡ z → refusal ≡ none
+  pub leaves_taken : (x : SampleExit) (y z : State) → x ≡ settled (sample_from_candidate y plan) → y ≡ z → refusal ≡ None
       → sample_from_candidate z plan ≡ accepted st d plan history → x ≡ sample_of st d plan history
   leaves_taken x y z h k e f = leaves_accepted x (sample_from_candidate z plan) (h ∙ ap (λ (w : State). settled (sample_from_candidate w plan)) k) e f
 
@@ -67,9 +69,9 @@ module _ (st : State) (d : Distribution) (plan : ℕ) (history : List ℕ) where
 
   -- ---- a slice is too short
 
-  pub short-bred : (n : ℕ) → breeds st history ≡ true → long_enough st ≡ false → bad_history history ≡ false
-      → short_refusal (state st.session [] st.plans [] st.pool) history ≡ some n → refusal ≡ some n
-  short-bred n b l few e = short-refusal st d plan history (active_good st d plan (breeds_active st history b)) few b l ∙ bred_checks-same st [] [] history (check 10 true ∷ []) ∙ e
+  pub short-bred : (n : Refusal) → breeds st history ≡ true → long_enough st ≡ false → bad_history history ≡ false
+      → short_refusal (state st.session [] st.plans [] st.pool) history ≡ Some n → refusal ≡ Some n
+  short-bred n b l few e = short-refusal st d plan history (active_good st d plan (breeds_active st history b)) few b l ∙ bred_checks-same st [] [] history (check why.Room true ∷ []) ∙ e
 
 -- ---- tests of the state, as code makes them
 
@@ -148,7 +150,7 @@ module _ (st : State) where
   ready_bred history u after pool r e = renewed_ready u _ _ _ _ _ r.dims r.some (ap (λ (x : State). x.session) e)
 
 -- what breeding's answer tells: its refusal, and the state after it
-pub breed_tells : (st : State) (history : List ℕ) (o p q : Option ℕ) (x : State) → bred_exit q x ≡ breed_by o st history → q ≡ p → (o ≡ p) × (x ≡ bred_to p st history)
+pub breed_tells : (st : State) (history : List ℕ) (o p q : Option Refusal) (x : State) → bred_exit q x ≡ breed_by o st history → q ≡ p → (o ≡ p) × (x ≡ bred_to p st history)
 breed_tells st history o p q x e f =
     let h : o ≡ p = sym (ap (λ (b : BredExit). b.refusal) e) ∙ f in
-    (h, ap (λ (b : BredExit). b.after) e ∙ ap (λ (z : Option ℕ). bred_to z st history) h)
+    (h, ap (λ (b : BredExit). b.after) e ∙ ap (λ (z : Option Refusal). bred_to z st history) h)

@@ -1,8 +1,8 @@
 -- What the parts of a session call answer, in the words of its definition.
-use Rattle.std.specs.Prelude.{ℕ, ◌≡◌, true, false, List}
+use Rattle.std.specs.Prelude.{ℕ, ◌≡◌, true, false, List, Err}
+use Rattle.model.specs.declared.Refusal.{Refusal}
 use Rattle.model.specs.declared.Distribution.{Distribution}
 use Rattle.model.specs.declared.Sampled.{Sampled}
-use Rattle.model.specs.declared.Sampling.TheVariants as sampling
 use Rattle.model.specs.declared.Session.{Session}
 use Rattle.model.specs.Session.{State, long_enough}
 use Rattle.model.specs.Refusal.{bad_history}
@@ -10,8 +10,8 @@ use Rattle.model.specs.Calls.{SampleExit, sample_of}
 use Rattle.model.specs.Property.{SessionOk}
 
 -- a refusal leaves the session as it was
-abbrev pub refused_with : ℕ → Session → Sampled
-refused_with n s = record { outcome = sampling.Refused n; session = s }
+abbrev pub refused_with : Refusal → Session → Sampled
+refused_with r s = record { outcome = Err r; session = s }
 
 -- ---- a call that adds no dimension
 

@@ -9,14 +9,16 @@ ghost use Rattle.model.specs.declared.Phase.TheVariants as phase;
 ghost use Rattle.session_steps.specs.Exits.{exit};
 ghost use Rattle.session_active.specs.Exits.{refused_with, Called, Answers};
 
-use model::{Outcome, SIZE_WORDS, Sampled, Sampling, Session};
+use model::{Refusal, SIZE_WORDS, Sampled, Session};
 
 // A refusal leaves the session as it was.
-pub fn refused(session: Session, number: u8) -> Sampled
-    ensures { result ≡ refused_with number session }
+pub fn refused(session: Session, refusal: Refusal) -> Sampled
+    ensures { result ≡ refused_with refusal session }
 {
-    let outcome = Sampling::Refused(number);
-    Sampled { outcome, session }
+    Sampled {
+        outcome: Err(refusal),
+        session,
+    }
 }
 
 // A call that breeds: the plan takes the first candidate of the new generation.
@@ -39,8 +41,8 @@ fn sample_bred(
     let outcome = bred.outcome;
     let session = bred.session;
     match outcome {
-        Outcome::Refused(number) => refused(session, number),
-        Outcome::Kept(_) => {
+        Err(refusal) => refused(session, refusal),
+        Ok(_) => {
             session_steps::sample_from_candidate(session, plan, candidates, plans, next_dims)
         }
     }
@@ -68,7 +70,7 @@ pub fn sample_active(
         return sample_bred(session, plan, history, candidates, plans, next_dims, pool);
     }
     if session_records::full(plans, n, plan) {
-        return refused(session, 11);
+        return refused(session, Refusal::Generation);
     }
     session_steps::sample_from_candidate(session, plan, candidates, plans, next_dims)
 }

@@ -1,12 +1,13 @@
 -- Breeding from its parts: what the step answers is what the session becomes, and the pool's words are the plans bred from.
-use Rattle.std.proofs.Common.{◌≡◌, ℕ, ◌+◌, ◌*◌, ◌<◌, ◌≤◌, false, List, [], ◌++◌, length, get_or, take, drop, replicate, sym, refl, ap, ◌∙◌, subst, ap₂, ⊎_elim, le_trans, le_refl, le-add_right, mul-le-mul_right, arith, length-append, take-append-drop, length-take-le}
-use mathlib.Core.Option.{Option, none, some}
+use Rattle.std.proofs.Common.{◌≡◌, ℕ, ◌+◌, ◌*◌, ◌<◌, ◌≤◌, false, List, [], ◌++◌, length, get_or, take, drop, replicate, sym, refl, ap, ◌∙◌, subst, ap₂, ⊎_elim, le_trans, le_refl, le-add_right, mul-le-mul_right, arith, length-append, take-append-drop, length-take-le, Option, None, Some, Result}
 use lib.Ieee.{Float, nan}
 use lib.ListN.{length-replicate}
 use lib.Seq.{sets}
 use Rattle.list_laws.proofs.Built.{join_below-same, over-take, over-at, over-front, over_run, over-length}
 use Rattle.list_laws.proofs.Checks.{then_last, good_length, pool-plan}
 use Rattle.list_laws.proofs.Members.{get_d_in}
+use Rattle.model.specs.declared.Refusal.TheVariants as why
+use Rattle.model.specs.declared.Refusal.{Refusal}
 use Rattle.model.specs.declared.Edition.{Edition}
 use Rattle.model.specs.declared.Selection.{Selection}
 use Rattle.model.specs.declared.Session.{Session}
@@ -14,18 +15,16 @@ use Rattle.model.specs.Edition.{waiting_of}
 use Rattle.model.specs.Lists.{list_below, over}
 use Rattle.model.specs.Real.{bits}
 use Rattle.model.specs.Plan.{plan_at, plan_count, plan_words, max_objectives}
-use Rattle.model.specs.Reference.{or_else}
+use Rattle.std.specs.Prelude.{unwrap_or}
 use Rattle.model.specs.Association.{Request, objectives}
 use Rattle.model.specs.Kept.{Selected, selected}
 use Rattle.model.specs.Window.{max_window, own_words, last_of, ideal_after}
 use Rattle.model.specs.Demand3.{Demand3}
 use Rattle.model.specs.Setting.{Operators, Generation, generation, words_of}
-use Rattle.model.specs.Session.{State, state, given, long_enough, numbers_of, children_of, kept_words, block_of, bred_from, bred_session, breed, request_of, ideal_left, operators_of, most_words, pool_room, memory_at, memory_in, memory_after, start_ideal, max_words}
+use Rattle.model.specs.Session.{State, state, long_enough, numbers_of, children_of, kept_words, block_of, bred_from, bred_session, breed, request_of, ideal_left, operators_of, most_words, pool_room, memory_at, memory_in, memory_after, start_ideal, max_words}
 use Rattle.model.specs.Refusal.{Room, step_refusal, max_size, max_pool}
-use Rattle.model.specs.Calls.{Lent, StepExit, room_of, step_accepted}
+use Rattle.model.specs.Calls.{Lent, StepExit, room_of, step_accepted, refused_by}
 use Rattle.model.specs.Property.{SessionOk}
-use Rattle.refusals.specs.declared.Check.{Check}
-use Rattle.refusals.specs.Checked.{checked}
 use Rattle.demand3_laws.specs.Facts.{Accepted}
 use Rattle.demand3_laws.proofs.Passed.{some-objectives}
 use Rattle.demand3_laws.proofs.Accepted.{demand3}
@@ -41,7 +40,7 @@ use Rattle.session_breeding.specs.Breeding.{Stepped, stepped, taken_of, lent_wit
 
 -- the step by equal operators
 module _ (o p : Operators) (r : Request) (e : o ≡ p) where
-  pub refusal-by : (room : Room) (n : ℕ) → step_refusal p r room n ≡ none → step_refusal o r room n ≡ none
+  pub refusal-by : (room : Room) (n : ℕ) → step_refusal p r room n ≡ None → step_refusal o r room n ≡ None
   refusal-by room n f = ap (λ x. step_refusal x r room n) e ∙ f
 
   pub taken_by : (x : StepExit) (at : Lent) (words : List ℕ) → x ≡ step_accepted o r at words → taken_of x ≡ taken_of (step_accepted p r at words)
@@ -81,7 +80,7 @@ module _ (s : Session) (words : List ℕ) (room pool candidates : ℕ) (p : Pois
   abbrev request : Request
   request = request_from s words
 
-  pub step-good : step_refusal (operators_of s) request (room_of (lent_with blank unlined)) candidates ≡ none
+  pub step-good : step_refusal (operators_of s) request (room_of (lent_with blank unlined)) candidates ≡ None
   step-good =
       step-refusal s words p.ok.config p.ok.dimensions p.enough p.most (room_of (lent_with blank unlined)) candidates
       (omega (arith, length-replicate {A = ℕ} max_size 0)) (omega (arith, length-replicate {A = ℕ} max_size 0)) (omega (arith, length-replicate {A = ℕ} max_pool 0))
@@ -122,7 +121,7 @@ module _ (s : Session) (words : List ℕ) (room pool candidates : ℕ) (p : Pois
   few-objectives = (some-objectives request.marks accepted.directions).1
 
   pub few-remembered : s.progress.n_remembered < max_window
-  few-remembered = omega (arith, p.remembered, window-few (given s.config.window) p.ok.config.window)
+  few-remembered = omega (arith, p.remembered, window-few s.config.window p.ok.config.window)
 
   -- the lines tell what is left of the ideal
   pub told : (for_lines : ℕ) → for_lines ≡ max_pool → Told s words for_lines
@@ -149,12 +148,12 @@ module _ (s : Session) (words : List ℕ) (room pool candidates : ℕ) (p : Pois
 
     -- chosen is the ideal that the selection hands out, own and left what `left_of` makes of it, pl₁ the pool with those that wait and pl' that with what is remembered
     pub bred_is : (u : Session) (chosen own left : List Float) (pl₁ pl' : List ℕ) → length ideal ≡ s.config.n_obj → chosen ≡ ideal ++ drop s.config.n_obj s.ideal_point
-        → left ≡ ideal_by (given s.config.window) s chosen words lines → own ≡ own_by (given s.config.window) s chosen words lines → pl₁ ≡ over (kept_words words kept waits) pl
+        → left ≡ ideal_by s.config.window s chosen words lines → own ≡ own_by s.config.window s chosen words lines → pl₁ ≡ over (kept_words words kept waits) pl
         → pl' ≡ sets pl₁ (memory_at s.config) (last_of (most_words s.config) (memory_in s pl₁ ++ list_below (λ j. bits (get_or own j nan)) s.config.n_obj))
         → u ≡ bred_session s r.rng.s left → state u cs' [] [] pl' ≡ bred_on s words cs pl
     unfolding step_accepted memory_after
     bred_is u chosen own left pl₁ pl' h i a b k f l =
-        let o = given s.config.window in
+        let o = s.config.window in
         let front : pl₁ ≡ over (kept_words words bred.selection.kept waits) pl =
         k ∙ ap (λ (x : List ℕ). over x pl) (ap (λ (x : List ℕ). kept_words words x waits) kept_is ∙ kept_same words bred.selection.kept blank waits waits-listed) in
         let memory : memory_in s pl₁ ≡ memory_in s pl =
@@ -237,20 +236,20 @@ module _ (s : Session) (history ps pool : List ℕ) (g : Gatherable s history ps
     -- ---- its refusal
 
     -- as code has it, of the session that it makes
-    pub started-by : (c : Check) (u : Session) → u ≡ started → checked c ≡ word_refusal u joined → checked c ≡ word_refusal started joined
+    pub started-by : (c : Result Unit Refusal) (u : Session) → u ≡ started → refused_by c ≡ word_refusal u joined → refused_by c ≡ word_refusal started joined
     started-by c u e f = f ∙ ap (λ (x : Session). word_refusal x joined) e
 
-    module _ (c : Check) (e : checked c ≡ word_refusal started joined) where
-      check_is : checked c ≡ breed_refusal bare history
+    module _ (c : Result Unit Refusal) (e : refused_by c ≡ word_refusal started joined) where
+      check_is : refused_by c ≡ breed_refusal bare history
       check_is = e ∙ ap (word_refusal started) joined_is
 
       -- 10 comes after 8 and 9
-      pub short_is : (k : Check) → c ≡ k → short_refusal bare history ≡ some (or_else (checked k) 10)
-      short_is k f = then_last _ _ _ refl ∙ ap (λ (o : Option ℕ). some (or_else o 10)) (sym check_is ∙ ap (λ (x : Check). checked x) f)
+      pub short_is : (k : Result Unit Refusal) → c ≡ k → short_refusal bare history ≡ Some (unwrap_or (refused_by k) why.Room)
+      short_is k f = then_last _ _ _ refl ∙ ap (λ (o : Option Refusal). Some (unwrap_or o why.Room)) (sym check_is ∙ ap (λ (x : Result Unit Refusal). refused_by x) f)
 
-      pub refused_is : (k : Check) (o : Option ℕ) (cs ns : List ℕ) → c ≡ k → checked k ≡ o → breed_refusal (state s cs ps ns pool) history ≡ o
+      pub refused_is : (k : Result Unit Refusal) (o : Option Refusal) (cs ns : List ℕ) → c ≡ k → refused_by k ≡ o → breed_refusal (state s cs ps ns pool) history ≡ o
       unfolding bred_from
-      refused_is k o cs ns f h = sym check_is ∙ ap (λ (x : Check). checked x) f ∙ h
+      refused_is k o cs ns f h = sym check_is ∙ ap (λ (x : Result Unit Refusal). refused_by x) f ∙ h
 
     -- ---- the pool, with the children put behind those that wait
 
@@ -282,7 +281,7 @@ module _ (s : Session) (history ps pool : List ℕ) (g : Gatherable s history ps
         front_fits = omega (arith, behind-fits, pool-same)
 
         -- no refusal applies: the generation may be bred
-        pub poised : (c : Check) (for_room candidates : ℕ) → checked c ≡ word_refusal started joined → checked c ≡ none → max_size * plan_words ≤ for_room → max_words ≤ candidates
+        pub poised : (c : Result Unit Refusal) (for_room candidates : ℕ) → refused_by c ≡ word_refusal started joined → refused_by c ≡ None → max_size * plan_words ≤ for_room → max_words ≤ candidates
             → Poised started (take (many * plan_words + n) pool') for_room (length pool') candidates
         poised c for_room candidates e f room_fits words-fit =
             subst (λ (x : List ℕ). Poised started x for_room (length pool') candidates) (sym pool-front)
@@ -304,9 +303,9 @@ module _ (s : Session) (history ps pool : List ℕ) (g : Gatherable s history ps
             ap (λ (x : List ℕ). last_of (most_words s.config) (x ++ own_words (request_of bare history)))
             (ap (memory_in s) pool_is ∙ memory_same s joined pool (omega (arith, joined-fits, joined_length)))
 
-        ideal-left : (sel : Selected) → over (ideal_after (given s.config.window) (request_of bare history) sel) (start_ideal s pool) ≡ ideal_left bare history sel
+        ideal-left : (sel : Selected) → over (ideal_after s.config.window (request_of bare history) sel) (start_ideal s pool) ≡ ideal_left bare history sel
         unfolding start_ideal
-        ideal-left sel = left-same (given s.config.window) s pool (request_of bare history) sel (request-objectives bare history bare-ok)
+        ideal-left sel = left-same s.config.window s pool (request_of bare history) sel (request-objectives bare history bare-ok)
 
         pub breed_is : (cs ns cs' pool'' : List ℕ) (u : Session) → state u cs' [] [] pool'' ≡ bred_on started (take (many * plan_words + n) pool') cs pool'
             → state u cs' ps ns pool'' ≡ breed (state s cs ps ns pool) history
@@ -323,5 +322,5 @@ module _ (s : Session) (history ps pool : List ℕ) (g : Gatherable s history ps
 
 -- ---- by its refusal
 
-pub breed-answer : (st after : State) (history : List ℕ) (o : Option ℕ) → breed_refusal st history ≡ o → bred_exit o after ≡ breed_by o st history → bred_exit o after ≡ breed_of st history
-breed-answer st after history o e f = f ∙ ap (λ (x : Option ℕ). breed_by x st history) (sym e)
+pub breed-answer : (st after : State) (history : List ℕ) (o : Option Refusal) → breed_refusal st history ≡ o → bred_exit o after ≡ breed_by o st history → bred_exit o after ≡ breed_of st history
+breed-answer st after history o e f = f ∙ ap (λ (x : Option Refusal). breed_by x st history) (sym e)

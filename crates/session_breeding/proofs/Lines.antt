@@ -1,7 +1,6 @@
 -- What a generation leaves of the ideal (document 02, M-109): the plans that its lines tell are those that shape the scale, so the least over them is the
 -- definition's, and so is what is remembered.
-use Rattle.std.proofs.Common.{◌≡◌, ℕ, ◌+◌, ◌-◌, ◌*◌, ◌<◌, ◌≤◌, Bool, true, false, cond, not, ◌||◌, List, [], ◌++◌, length, get_or, take, drop, replicate, sym, refl, ap, ◌∙◌, true≢false, zero-mul, arith, length-take, length-take-le, get_or-take, ltb-false, eq-eqb, ne_eqb}
-use mathlib.Core.Option.{Option, none, some}
+use Rattle.std.proofs.Common.{◌≡◌, ℕ, ◌+◌, ◌-◌, ◌*◌, ◌<◌, ◌≤◌, Bool, true, false, cond, not, ◌||◌, List, [], ◌++◌, length, get_or, take, drop, replicate, sym, refl, ap, ◌∙◌, true≢false, zero-mul, arith, length-take, length-take-le, get_or-take, ltb-false, eq-eqb, ne_eqb, Option, None, Some}
 use lib.Ieee.{Float, nan}
 use lib.ListN.{length-replicate, get_or-replicate}
 use lib.Seq.{drop-length}
@@ -12,8 +11,6 @@ use Rattle.list_laws.proofs.Kept.{keep_below-same}
 use Rattle.list_laws.proofs.Members.{get_d_in}
 use Rattle.list_laws.proofs.Runs.{over-past}
 use Rattle.list_laws.proofs.Tests.{any_below-at, any_below_nowhere}
-use Rattle.model.specs.declared.OptionUsize.{OptionUsize}
-use Rattle.model.specs.declared.OptionUsize.TheVariants as opt_usize
 use Rattle.model.specs.declared.Session.{Session}
 use Rattle.model.specs.Lists.{any_below, list_below, over}
 use Rattle.model.specs.Real.{bits, infinity}
@@ -23,7 +20,7 @@ use Rattle.model.specs.Kept.{Selected, is_split, by_split, selected, selected_sp
 use Rattle.model.specs.Refusal.{max_size, max_lines, bad_divisions, outside_divisions}
 use Rattle.model.specs.Property.{SessionOk}
 use Rattle.model.specs.Window.{max_window, least_remembered, most_remembered, own_part, own_words, last_of, ideal_after}
-use Rattle.model.specs.Session.{state, given, memory_at, memory_in, start_by}
+use Rattle.model.specs.Session.{state, memory_at, memory_in, start_by}
 use Rattle.niching_laws.proofs.Association.{line_of-inside}
 use Rattle.demand3_laws.specs.Facts.{Accepted}
 use Rattle.association_laws.proofs.Shapers.{in_shapers}
@@ -107,8 +104,8 @@ module _ (s : Session) (words : List ℕ) (accepted : Accepted (request_from s w
   pub ideal_is : (o : Option ℕ) (ideal chosen : List Float) → length ideal ≡ m → ideal ≡ sel.ideal → chosen ≡ ideal ++ drop m s.ideal_point
       → ideal_by o s chosen words lines ≡ over (ideal_after o r sel) s.ideal_point
   unfolding ideal_of
-  ideal_is none ideal chosen long e f = f ∙ ap (λ (k : ℕ). ideal ++ drop k s.ideal_point) (sym long) ∙ ap (λ (x : List Float). over x s.ideal_point) e
-  ideal_is (some w) ideal chosen long e f =
+  ideal_is None ideal chosen long e f = f ∙ ap (λ (k : ℕ). ideal ++ drop k s.ideal_point) (sym long) ∙ ap (λ (x : List Float). over x s.ideal_point) e
+  ideal_is (Some w) ideal chosen long e f =
       ap (λ (x : List Float). over x s.ideal_point)
       (list_below-same _ _ (objectives r) (λ j h. least_is (get_or s.ideal_point j nan) j
       ∙ ap (λ (b : Float). least_from b (λ p. value_of r p j) (shapers r)) (sym (get_or-take m s.ideal_point j nan (omega (arith, h, same))))))
@@ -132,9 +129,9 @@ module _ (s : Session) (words : List ℕ) (accepted : Accepted (request_from s w
   -- what is remembered, by the window: without one nothing, whatever stands for the own part
   pub memory_is : (o : Option ℕ) (chosen : List Float) (memory : List ℕ) → objectives r ≤ max_objectives
       → last_of (most_remembered o * m) (memory ++ list_below (λ j. bits (get_or (own_by o s chosen words lines) j nan)) m) ≡ last_of (most_remembered o * m) (memory ++ own_words r)
-  memory_is none chosen memory few =
+  memory_is None chosen memory few =
       last_none (memory ++ list_below (λ j. bits (get_or chosen j nan)) m) ∙ sym (last_none (memory ++ own_words r))
-  memory_is (some w) chosen memory few = ap (λ (x : List ℕ). last_of (most_remembered (some w) * m) (memory ++ x)) (own_is few)
+  memory_is (Some w) chosen memory few = ap (λ (x : List ℕ). last_of (most_remembered (Some w) * m) (memory ++ x)) (own_is few)
 
 -- ---- what stands behind the plans' room stays
 
@@ -145,8 +142,8 @@ memory_same s front pool h = list_below-same _ _ _ (λ i l. over-past front pool
 
 pub left-same : (o : Option ℕ) (s : Session) (pool : List ℕ) (r : Request) (sel : Selected) → objectives r ≡ s.config.n_obj
     → over (ideal_after o r sel) (start_by o s pool) ≡ over (ideal_after o r sel) s.ideal_point
-left-same none s pool r sel e = refl
-left-same (some w) s pool r sel e =
+left-same None s pool r sel e = refl
+left-same (Some w) s pool r sel e =
     let start = list_below (least_remembered pool (memory_at s.config) s.config.n_obj s.progress.n_remembered) s.config.n_obj in
     ap (λ (x : List Float). list_below (ideal_of r) (objectives r) ++ x)
     (over-drop start s.ideal_point (length (list_below (ideal_of r) (objectives r)))
@@ -165,21 +162,21 @@ put_ready s words n t ideal h =
     )
 
 module _ (s : Session) (words lines : List ℕ) (chosen : List Float) where
-  abbrev ideal-of : OptionUsize → List Float
-  ideal-of o = ideal_by (given o) s chosen words lines
+  abbrev ideal-of : Option ℕ → List Float
+  ideal-of o = ideal_by o s chosen words lines
 
-  abbrev own_of : OptionUsize → List Float
-  own_of o = own_by (given o) s chosen words lines
+  abbrev own_of : Option ℕ → List Float
+  own_of o = own_by o s chosen words lines
 
-  pub left_with : (w : ℕ) (ideal own : List Float) → s.config.window ≡ opt_usize.Some w → ideal ≡ least_on s words lines s.ideal_point
+  pub left_with : (w : ℕ) (ideal own : List Float) → s.config.window ≡ Some w → ideal ≡ least_on s words lines s.ideal_point
       → own ≡ least_on s words lines (replicate max_objectives infinity) → (ideal ≡ ideal-of s.config.window) × (own ≡ own_of s.config.window)
   left_with w ideal own e f g = (f ∙ sym (ap ideal-of e), g ∙ sym (ap own_of e))
 
-pub left_without : (s : Session) (chosen : List Float) (words lines : List ℕ) → s.config.window ≡ opt_usize.None
-    → (chosen ≡ ideal_by (given s.config.window) s chosen words lines) × (chosen ≡ own_by (given s.config.window) s chosen words lines)
+pub left_without : (s : Session) (chosen : List Float) (words lines : List ℕ) → s.config.window ≡ None
+    → (chosen ≡ ideal_by s.config.window s chosen words lines) × (chosen ≡ own_by s.config.window s chosen words lines)
 left_without s chosen words lines e = (
-  sym (ap (λ (o : OptionUsize). ideal_by (given o) s chosen words lines) e),
-  sym (ap (λ (o : OptionUsize). own_by (given o) s chosen words lines) e),
+  sym (ap (λ (o : Option ℕ). ideal_by o s chosen words lines) e),
+  sym (ap (λ (o : Option ℕ). own_by o s chosen words lines) e),
 )
 
 -- ---- a session that may be started from
@@ -189,6 +186,6 @@ pub slid_ready : (s : Session) → SessionOk (state s [] [] [] [])
 slid_ready s ok = (
   ok.config.at_most,
   objectives-few s.config ok.config,
-  omega (arith, ok.remembered, window-few (given s.config.window) ok.config.window),
+  omega (arith, ok.remembered, window-few s.config.window ok.config.window),
   omega (arith, good-ideal-length s.config.n_obj (take s.config.n_obj s.ideal_point) ok.ideal, length-take s.config.n_obj s.ideal_point),
 )

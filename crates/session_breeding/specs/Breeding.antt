@@ -1,8 +1,8 @@
 -- What breeding asks and answers, in the words of the calls' definitions.
-use Rattle.std.specs.Prelude.{◌≡◌, ℕ, ◌*◌, ◌<◌, ◌≤◌, true, List, [], length, take, replicate, slice_index, slice_index_or, Float}
-use Rattle.std.proofs.Math.Option.{Option, none, some}
+use Rattle.std.specs.Prelude.{◌≡◌, ℕ, ◌*◌, ◌<◌, ◌≤◌, true, List, [], length, take, replicate, slice_index, slice_index_or, Float, Option, None, Some}
 use Rattle.std.specs.Float.{nan}
 use Rattle.std.proofs.lemmas.List.Edits.{sets}
+use Rattle.model.specs.declared.Refusal.{Refusal}
 use Rattle.model.specs.declared.Edition.{Edition}
 use Rattle.model.specs.declared.Selection.{Selection}
 use Rattle.model.specs.declared.Session.{Session}
@@ -13,7 +13,7 @@ use Rattle.model.specs.Plan.{plan_at, plan_count, plan_words, max_objectives}
 use Rattle.model.specs.Window.{most_remembered, ideal_after}
 use Rattle.model.specs.Association.{Request}
 use Rattle.model.specs.Setting.{generation, words_of}
-use Rattle.model.specs.Session.{State, state, given, pool_room, memory_at, memory_after, operators_of, stands_in, kept_words, bred_session, breed, max_words}
+use Rattle.model.specs.Session.{State, state, pool_room, memory_at, memory_after, operators_of, stands_in, kept_words, bred_session, breed, max_words}
 use Rattle.model.specs.Refusal.{max_size, max_pool}
 use Rattle.model.specs.Calls.{Lent, StepExit, lent, word_request, step_accepted}
 use Rattle.model.specs.Property.{SessionOk}
@@ -63,12 +63,12 @@ abbrev pub least_on : Session → List ℕ → List ℕ → List Float → List 
 least_on s words lines ideal = over (list_below (λ j. least_in (marks_of s) words lines (slice_index_or ideal j nan) j) (length (marks_of s))) ideal
 
 abbrev pub ideal_by : Option ℕ → Session → List Float → List ℕ → List ℕ → List Float
-ideal_by none s chosen words lines = chosen
-ideal_by (some w) s chosen words lines = least_on s words lines s.ideal_point
+ideal_by None s chosen words lines = chosen
+ideal_by (Some w) s chosen words lines = least_on s words lines s.ideal_point
 
 abbrev pub own_by : Option ℕ → Session → List Float → List ℕ → List ℕ → List Float
-own_by none s chosen words lines = chosen
-own_by (some w) s chosen words lines = least_on s words lines (replicate max_objectives infinity)
+own_by None s chosen words lines = chosen
+own_by (Some w) s chosen words lines = least_on s words lines (replicate max_objectives infinity)
 
 -- ---- the plans that wait
 
@@ -84,8 +84,8 @@ pub record Keeping (edition : Edition) (size : ℕ) (kept words : List ℕ) (for
 -- no refusal applies to them, they are as many as a session breeds from, and there is room
 pub record Poised (s : Session) (words : List ℕ) (for_room for_pool for_candidates : ℕ) : Type 0 where
   pub ok : Sound s
-  pub remembered : s.progress.n_remembered ≤ most_remembered (given s.config.window)
-  pub accepted : word_refusal s words ≡ none
+  pub remembered : s.progress.n_remembered ≤ most_remembered s.config.window
+  pub accepted : word_refusal s words ≡ None
   pub enough : s.config.population_size ≤ plan_count words
   pub most : plan_count words ≤ most_plans s.config.edition
   pub room : max_size * plan_words ≤ for_room
@@ -97,7 +97,7 @@ abbrev pub bred_on : Session → List ℕ → List ℕ → List ℕ → State
 bred_on s words candidates pool =
     let r = request_from s words in
     let g = generation (operators_of s) r in
-    state (bred_session s g.state (over (ideal_after (given s.config.window) r g.selection) s.ideal_point)) (over (words_of g.offspring) candidates) [] []
+    state (bred_session s g.state (over (ideal_after s.config.window r g.selection) s.ideal_point)) (over (words_of g.offspring) candidates) [] []
     (sets (over (kept_words words g.selection.kept (waiting_of s.config.edition s.config.population_size)) pool) (memory_at s.config) (memory_after s pool r))
 
 -- ---- breeding
@@ -110,18 +110,18 @@ pub record Gatherable (s : Session) (history plans pool : List ℕ) : Type 0 whe
   pub stand : all_below (stands_in history plans) s.config.population_size ≡ true
 
 pub record BredExit : Type 0 where
-  pub refusal : Option ℕ
+  pub refusal : Option Refusal
   pub after : State
 
-abbrev pub bred_exit : Option ℕ → State → BredExit
+abbrev pub bred_exit : Option Refusal → State → BredExit
 bred_exit o st = record { refusal = o; after = st }
 
 -- the state that it leaves, by its refusal
-abbrev pub bred_to : Option ℕ → State → List ℕ → State
-bred_to none st history = breed st history
-bred_to (some n) st history = st
+abbrev pub bred_to : Option Refusal → State → List ℕ → State
+bred_to None st history = breed st history
+bred_to (Some n) st history = st
 
-abbrev pub breed_by : Option ℕ → State → List ℕ → BredExit
+abbrev pub breed_by : Option Refusal → State → List ℕ → BredExit
 breed_by o st history = bred_exit o (bred_to o st history)
 
 abbrev pub breed_of : State → List ℕ → BredExit

@@ -3,11 +3,10 @@
 
 #![tactic(auto)]
 
-ghost use Rattle.std.specs.Prelude.{◌≡◌, ℕ, ◌*◌, ◌≤◌, List, [], length, take};
-ghost use Rattle.std.proofs.Math.Option.{none, some};
+ghost use Rattle.std.specs.Prelude.{◌≡◌, ℕ, ◌*◌, ◌≤◌, List, [], length, take, None, Some};
 ghost use Rattle.model.specs.Edition.{waiting_of};
 ghost use Rattle.model.specs.Lists.{over};
-ghost use Rattle.model.specs.Session.{state, given, remembered_after, bred_session, operators_of, kept_words, max_words, pool_room};
+ghost use Rattle.model.specs.Session.{state, remembered_after, bred_session, operators_of, kept_words, max_words, pool_room};
 ghost use Rattle.model.specs.Window.{max_window};
 ghost use Rattle.model.specs.Setting.{operators_in};
 ghost use Rattle.model.specs.Plan.{plan_words};
@@ -17,10 +16,9 @@ ghost use Rattle.session_laws.specs.Refused.{short_refusal};
 ghost use Rattle.session_breeding.specs.Breeding.{stepped, step_request, step_on, lent_with, Told, ideal_by, own_by, Poised, Keeping, Gatherable, bred_on, bred_exit, breed_of};
 
 use model::{
-    Edition, MAX_OBJECTIVES, MAX_POOL, MAX_SIZE, Operators, OptionUsize, Outcome, PLAN_WORDS, Rng,
-    SIZE_WORDS, Selection, Session,
+    Edition, MAX_OBJECTIVES, MAX_POOL, MAX_SIZE, Operators, PLAN_WORDS, Refusal, Rng, SIZE_WORDS,
+    Selection, Session,
 };
-use refusals::Check;
 
 // What a session breeds with.
 fn operators_of(session: Session) -> Operators
@@ -48,7 +46,7 @@ fn step(
     candidates: &mut [u64],
 ) -> Selection
     requires n_obj_in_bounds { session.config.n_obj ≤ length session.config.directions }
-    requires candidates_value { step_refusal (operators_of session) (step_request session pool.now ideal.old) (room_of (lent_with kept.old lines.old)) (length candidates.old) ≡ none }
+    requires candidates_value { step_refusal (operators_of session) (step_request session pool.now ideal.old) (room_of (lent_with kept.old lines.old)) (length candidates.old) ≡ None }
     ensures { stepped result ideal.new kept.new lines.new candidates.new
         ≡ step_on session pool.now ideal.old kept.old lines.old candidates.old }
 {
@@ -82,19 +80,11 @@ fn remembered_after(session: Session) -> usize
     requires { session.progress.n_remembered ≤ max_window }
     ensures { result ≡ remembered_after session }
 {
-    let config = session.config;
-    let window = config.window;
-    let progress = session.progress;
-    let more = progress.n_remembered + 1;
-    let most = session_window::most_remembered(window);
-    if most < more {
-        return most;
-    }
-    more
+    (session.progress.n_remembered + 1).min(session_window::most_remembered(session.config.window))
 }
 
 // The session after breeding: its candidates are new, no plan has come, and the kept plans wait where the edition has it so.
-fn bred_session(session: Session, rng: Rng, ideal_point: [f64; 8]) -> Session
+fn bred_session(session: Session, rng: Rng, ideal_point: [f64; MAX_OBJECTIVES]) -> Session
     requires { session.progress.n_remembered ≤ max_window }
     ensures { result ≡ bred_session session rng.s ideal_point }
 {
@@ -130,20 +120,20 @@ fn let_wait(
 // What a generation leaves of the ideal: the session's, and its own part.
 #[derive(Clone, Copy)]
 pub struct Left {
-    pub ideal: [f64; 8],
-    pub own: [f64; 8],
+    pub ideal: [f64; MAX_OBJECTIVES],
+    pub own: [f64; MAX_OBJECTIVES],
 }
 
 // With a window, the least of what the selection started from and of the plans that its lines tell, split or not, and the least of these alone; without one, the
 // ideal that the selection hands out, and nothing of its own.
-fn left_of(session: Session, chosen: [f64; 8], pool: &[u64], lines: &[usize]) -> Left
+fn left_of(session: Session, chosen: [f64; MAX_OBJECTIVES], pool: &[u64], lines: &[usize]) -> Left
     requires { Told session pool.now (length lines.now) }
-    ensures { (result.ideal ≡ ideal_by (given session.config.window) session chosen pool.now lines.now)
-        × (result.own ≡ own_by (given session.config.window) session chosen pool.now lines.now) }
+    ensures { (result.ideal ≡ ideal_by session.config.window session chosen pool.now lines.now)
+        × (result.own ≡ own_by session.config.window session chosen pool.now lines.now) }
 {
     let config = session.config;
     let window = config.window;
-    let OptionUsize::Some(_) = window else {
+    let Some(_) = window else {
         return Left {
             ideal: chosen,
             own: chosen,
@@ -200,7 +190,7 @@ fn bred_on(
 // What breeding answers: the refusal that it meets, with the session as it was, or the session after it.
 #[derive(Clone, Copy)]
 pub struct Bred {
-    pub outcome: Outcome,
+    pub outcome: Result<usize, Refusal>,
     pub session: Session,
 }
 
@@ -228,25 +218,25 @@ pub fn breed(
     let started = session_window::slid(session, pool);
     let check = session_pool_checks::joined_refusal(started, &pool[..at], &room[..n]);
     match check {
-        Check::Refused(number) => Bred {
-            outcome: Outcome::Refused(number),
+        Err(refusal) => Bred {
+            outcome: Err(refusal),
             session,
         },
-        Check::Good => {
+        Ok(()) => {
             words::put(&room[..n], at, pool);
             let session = bred_on(started, at + n, room, pool, candidates);
             Bred {
-                outcome: Outcome::Kept(size),
+                outcome: Ok(size),
                 session,
             }
         }
     }
 }
 
-// The number of a call that would breed, were a slice not too short: 8 or 9 for the plans bred from, or else 10.
-pub fn bred_refusal(session: Session, history: &[u64], plans: &[u64], pool: &[u64]) -> u8
+// Why a call that would breed is turned down, a slice being too short: 8 or 9 for the plans bred from, or else 10.
+pub fn bred_refusal(session: Session, history: &[u64], plans: &[u64], pool: &[u64]) -> Refusal
     requires { Gatherable session history.now plans.now pool.now }
-    ensures { short_refusal (state session [] plans.now [] pool.now) history.now ≡ some result }
+    ensures { short_refusal (state session [] plans.now [] pool.now) history.now ≡ Some result }
 {
     let config = session.config;
     let size = config.population_size;
@@ -258,7 +248,7 @@ pub fn bred_refusal(session: Session, history: &[u64], plans: &[u64], pool: &[u6
     let started = session_window::slid(session, pool);
     let check = session_pool_checks::joined_refusal(started, &pool[..at], &room[..n]);
     match check {
-        Check::Refused(number) => number,
-        Check::Good => 10,
+        Err(refusal) => refusal,
+        Ok(()) => Refusal::Room,
     }
 }

@@ -10,8 +10,8 @@ ghost use Rattle.model.specs.Property.{SessionOk};
 ghost use Rattle.session_calls.specs.Usable.{usable_by};
 
 use model::{
-    Distribution, MAX_COME, MAX_FIRST_POOL, MAX_WORDS, Opened, Opening, OptionUsize, PLAN_WORDS,
-    Sampled, Sampling, Session,
+    Distribution, MAX_COME, MAX_FIRST_POOL, MAX_WORDS, Opened, PLAN_WORDS, Refusal, Sampled,
+    Session,
 };
 use session_words::SESSION_WORDS;
 
@@ -31,33 +31,17 @@ pub const OVERLONG: usize = 4097 * PLAN_WORDS;
 
 pub type History = [u64; OVERLONG];
 
-// Whether a number is given, as a C name takes it: 0 for no.
-fn given(x: OptionUsize) -> u8 {
-    match x {
-        OptionUsize::None => 0,
-        OptionUsize::Some(_) => 1,
-    }
-}
-
-// The number; any where none is given.
-fn number_of(x: OptionUsize) -> usize {
-    match x {
-        OptionUsize::None => 0,
-        OptionUsize::Some(n) => n,
-    }
-}
-
 // An opening of edition 2 for 2, and else of edition 1.
 pub fn opened(
     edition: u64,
     directions: &[u8],
     seed: u64,
-    size: OptionUsize,
-    divisions: OptionUsize,
+    size: Option<usize>,
+    divisions: Option<usize>,
     probability: f64,
     crossover_eta: f64,
     mutation_eta: f64,
-    window: OptionUsize,
+    window: Option<usize>,
 ) -> Opened
     ensures { usable_by result.outcome result.session }
 {
@@ -66,37 +50,21 @@ pub fn opened(
         edition,
         directions,
         seed,
-        given(size),
-        number_of(size),
-        given(divisions),
-        number_of(divisions),
+        u8::from(size.is_some()),
+        size.unwrap_or(0),
+        u8::from(divisions.is_some()),
+        divisions.unwrap_or(0),
         probability,
         crossover_eta,
         mutation_eta,
-        given(window),
-        number_of(window),
+        u8::from(window.is_some()),
+        window.unwrap_or(0),
         &mut words,
     );
-    let session = session_words::session_of_words(&words);
-    if code == 0 {
-        return Opened {
-            outcome: Opening::Ready,
-            session,
-        };
-    }
-    let number = c_calls::refusal(code);
     Opened {
-        outcome: Opening::Refused(number),
-        session,
+        outcome: c_calls::answered(code),
+        session: session_words::session_of_words(&words),
     }
-}
-
-// What a call answers: the setting of a kind and a word, or the refusal.
-fn outcome_of(code: u64, kind: u64, value: u64) -> Sampling {
-    if code == 0 {
-        return Sampling::Setting(settings::of_word(kind, value));
-    }
-    Sampling::Refused(c_calls::refusal(code))
 }
 
 // A call on the first n records of a history.
@@ -115,7 +83,6 @@ pub fn sampled(
     requires n_bound { (n ≤ 4097) × (4097 * plan_words ≤ length history.now) }
     ensures { SessionOk (state result.session candidates.new plans.new next_dims.new pool.new) }
 {
-    let used = n * PLAN_WORDS;
     let mut words = [0u64; SESSION_WORDS];
     session_encoding::words_of_session(session, &mut words);
     let dimension = session_encoding::dimension_words(distribution);
@@ -125,7 +92,7 @@ pub fn sampled(
         &mut words,
         &dimension,
         plan,
-        &history[..used],
+        &history[..n * PLAN_WORDS],
         candidates,
         plans,
         next_dims,
@@ -133,12 +100,13 @@ pub fn sampled(
         &mut kind,
         &mut value,
     );
-    let outcome = outcome_of(code, kind, value);
-    let session = session_words::session_of_words(&words);
-    Sampled { outcome, session }
+    Sampled {
+        outcome: c_calls::answered(code).map(|()| settings::of_word(kind, value)),
+        session: session_words::session_of_words(&words),
+    }
 }
 
-// The call made so many times, the plan's number rising by one; the last answer.
+// The call made so many times, the plan's number rising by one; the last answer. Where none is made, what is answered tells nothing.
 pub fn repeated(
     session: Session,
     distribution: Distribution,
@@ -156,17 +124,14 @@ pub fn repeated(
     ensures { SessionOk (state result.session candidates.new plans.new next_dims.new pool.new) }
 {
     let mut last = Sampled {
-        outcome: Sampling::Refused(0),
+        outcome: Err(Refusal::NotHeld),
         session,
     };
-    let mut number = plan;
-    let mut i: u64 = 0;
-    while i < times {
-        let s = last.session;
+    for i in 0..times {
         last = sampled(
-            s,
+            last.session,
             distribution,
-            number,
+            std::num::wrapping_add_u64(plan, i),
             history,
             n,
             candidates,
@@ -174,8 +139,6 @@ pub fn repeated(
             next_dims,
             pool,
         );
-        number = std::num::wrapping_add_u64(number, 1);
-        i += 1;
     }
     last
 }

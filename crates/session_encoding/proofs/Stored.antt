@@ -1,4 +1,8 @@
 -- A session is read back from its words, and a dimension from its own.
+use Rattle.std.specs.Prelude.{Option, None, Some}
+use Rattle.std.specs.Bool.{then_some}
+use Rattle.std.specs.Option.{unwrap_or}
+use lib.IntN.{ℤ}
 use Prim.Native.Nat.{ℕ, ◌+◌, ◌*◌, ◌%◌, ◌<◌}
 use mathlib.Core.Path.{◌≡◌, refl, sym, ap, ap₂, ◌∙◌}
 use mathlib.Core.Bool.{Bool, true, false}
@@ -18,14 +22,6 @@ use Rattle.model.specs.declared.Edition.TheVariants.{First, Second}
 use Rattle.model.specs.Edition.{edition_number, edition_of}
 use Rattle.model.specs.declared.Distribution.{Distribution}
 use Rattle.model.specs.declared.Distribution.TheVariants as dist
-use Rattle.model.specs.declared.OptionF64.{OptionF64}
-use Rattle.model.specs.declared.OptionF64.TheVariants as opt_f64
-use Rattle.model.specs.declared.OptionI64.{OptionI64}
-use Rattle.model.specs.declared.OptionI64.TheVariants as opt_i64
-use Rattle.model.specs.declared.OptionU64.{OptionU64}
-use Rattle.model.specs.declared.OptionU64.TheVariants as opt_u64
-use Rattle.model.specs.declared.OptionUsize.{OptionUsize}
-use Rattle.model.specs.declared.OptionUsize.TheVariants as opt_usize
 use Rattle.model.specs.declared.Phase.{Phase}
 use Rattle.model.specs.declared.Phase.TheVariants.{Discovery, Active}
 use Rattle.model.specs.declared.Session.{Session}
@@ -33,9 +29,9 @@ use Rattle.model.specs.Lists.{one, list_below, join_below, over}
 use Rattle.model.specs.Real.{real, bits}
 use Rattle.model.specs.Session.{dimension_of}
 use Rattle.model.specs.Plan.{max_objectives}
-use Rattle.model.specs.Setting.{max_dims, no_dimension}
+use Rattle.model.specs.Setting.{max_dims, no_dimension, int_of_word, word_of_int}
 use Rattle.settings.proofs.InBounds.{Held, HeldStepF64}
-use Rattle.session_words.specs.Coding.{marked, has_step_f64, step_word_f64, has_step_i64, step_word_i64, dimension_width, dimension_words, step_f64, step_i64, dimension_at, info_at, dimensions_at, head_width, phase_word, phase_of, has_first, first_word, first_of, has_window, window_word, window_of, config_words, state_words, ideal_words, session_words, marks_at, ideal_at, config_at, session_of}
+use Rattle.session_words.specs.Coding.{marked, mark_of, word_or_none, dimension_width, dimension_words, dimension_at, info_at, dimensions_at, head_width, phase_word, phase_of, config_words, state_words, ideal_words, session_words, marks_at, ideal_at, config_at, session_of}
 use Rattle.session_words.proofs.Parts.{float_is, int_is, dimension_same, config-same, session-same}
 use Rattle.session_encoding.proofs.Laid.{dimension_length}
 use Rattle.list_laws.proofs.Rows.{join_below-front}
@@ -62,20 +58,20 @@ marked-back : (b : Bool) → b ≡ marked (one b)
 marked-back true = refl
 marked-back false = refl
 
-step_f64-back : (o : OptionF64) → HeldStepF64 o → o ≡ step_f64 (has_step_f64 o) (step_word_f64 o)
-step_f64-back opt_f64.None h = refl
-step_f64-back (opt_f64.Some x) h = ap opt_f64.Some (sym (of_bits-to_bits binary64 x h))
+step_f64-back : (o : Option Float) → HeldStepF64 o → o ≡ then_some (marked (mark_of o)) (real (word_or_none bits o))
+step_f64-back None h = refl
+step_f64-back (Some x) h = ap Some (sym (of_bits-to_bits binary64 x h))
 
-step_i64-back : (o : OptionI64) → o ≡ step_i64 (has_step_i64 o) (step_word_i64 o)
-step_i64-back opt_i64.None = refl
-step_i64-back (opt_i64.Some n) = ap opt_i64.Some (sym (int_of_word-of n))
+step_i64-back : (o : Option ℤ) → o ≡ then_some (marked (mark_of o)) (int_of_word (word_or_none word_of_int o))
+step_i64-back None = refl
+step_i64-back (Some n) = ap Some (sym (int_of_word-of n))
 
 dimension_back : (x : Distribution) → Held x → x ≡ dimension_at (dimension_words x) 0
 dimension_back (dist.Float d) h =
-    float_is 0 _ _ (one d.log_scale) (has_step_f64 d.step) (step_word_f64 d.step) d.low d.high d.log_scale d.step refl (sym (of_bits-to_bits binary64 d.low h.0)) (sym (of_bits-to_bits binary64 d.high h.1))
+    float_is 0 _ _ (one d.log_scale) (mark_of d.step) (word_or_none bits d.step) d.low d.high d.log_scale d.step refl (sym (of_bits-to_bits binary64 d.low h.0)) (sym (of_bits-to_bits binary64 d.high h.1))
     (marked-back d.log_scale) (step_f64-back d.step h.2)
 dimension_back (dist.Int d) h =
-    int_is 1 _ _ (one d.log_scale) (has_step_i64 d.step) (step_word_i64 d.step) d.low d.high d.log_scale d.step refl (sym (int_of_word-of d.low)) (sym (int_of_word-of d.high)) (marked-back d.log_scale)
+    int_is 1 _ _ (one d.log_scale) (mark_of d.step) (word_or_none word_of_int d.step) d.low d.high d.log_scale d.step refl (sym (int_of_word-of d.low)) (sym (int_of_word-of d.high)) (marked-back d.log_scale)
     (step_i64-back d.step)
 dimension_back (dist.Categorical d) h = refl
 
@@ -96,13 +92,9 @@ edition-back : (e : Edition) → edition_of (edition_number e) ≡ e
 edition-back First = refl
 edition-back Second = refl
 
-first_back : (o : OptionU64) → first_of (has_first o) (first_word o) ≡ o
-first_back opt_u64.None = refl
-first_back (opt_u64.Some n) = refl
-
-window-back : (o : OptionUsize) → window_of (has_window o) (window_word o) ≡ o
-window-back opt_usize.None = refl
-window-back (opt_usize.Some w) = refl
+number-back : (o : Option ℕ) → then_some (marked (mark_of o)) (unwrap_or o 0) ≡ o
+number-back None = refl
+number-back (Some n) = refl
 
 -- ---- a session
 
@@ -157,10 +149,10 @@ module _ (s : Session) (old : List ℕ) (ok : Stored s) where
   config-back =
       config-same s.config _ _ (marks_at words) _ _ _ _ _ _ (edition-back s.config.edition) refl marks-back refl refl (of_bits-to_bits binary64 s.config.crossover_prob ok.config.probability)
       (of_bits-to_bits binary64 s.config.crossover_eta ok.config.crossover_eta_of) (of_bits-to_bits binary64 s.config.mutation_eta ok.config.mutation_eta_of)
-      (window-back s.config.window)
+      (number-back s.config.window)
 
   pub session-back : session_of words ≡ s
   unfolding session_of session_words config_words state_words ideal_words
   session-back =
-      session-same s (config_at words) _ _ _ (dimensions_at words head_width) (ideal_at words) _ config-back (phase-back s.phase) (first_back s.discovery_trial_id) refl
+      session-same s (config_at words) _ _ _ (dimensions_at words head_width) (ideal_at words) _ config-back (phase-back s.phase) (number-back s.discovery_trial_id) refl
       dimensions-back ideal-back refl

@@ -18,7 +18,7 @@ use Rattle.model.specs.Association.{Request, objectives}
 use Rattle.model.specs.Kept.{Selected, selected}
 use Rattle.model.specs.Demand3.{Demand3}
 use Rattle.model.specs.Setting.{Generation, generation, generation_of, words_of}
-use Rattle.model.specs.Session.{State, state, dimension_of, bred_session, breed, bred_by, bred_from, request_of, operators_of, kept_words, pool_after, ideal_left, waiting_count, block_of, numbers_of, given, pool_room, memory_at, memory_after}
+use Rattle.model.specs.Session.{State, state, dimension_of, bred_session, breed, bred_by, bred_from, request_of, operators_of, kept_words, pool_after, ideal_left, waiting_count, block_of, numbers_of, pool_room, memory_at, memory_after}
 use Rattle.model.specs.Refusal.{good_entry, good_ideal, good_plan, good_plans, breedable, bad_pool, bad_parents}
 use Rattle.model.specs.Property.{WaitingOk, LentOk, SessionOk}
 use Rattle.list_laws.proofs.Built.{over-take, over-long}
@@ -100,10 +100,10 @@ module _ (st : State) (history : List ℕ) (ok : SessionOk st) (b : Breeding st 
     breed-ideal =
         let m = st.session.config.n_obj in
         let sel = (generation (operators_of st.session) request).selection in
-        let ideal = ideal_after (given st.session.config.window) request sel in
+        let ideal = ideal_after st.session.config.window request sel in
         let good : good_ideal m ideal ≡ true =
         ap (λ (k : ℕ). good_ideal k ideal) (sym (request-objectives st history ok))
-        ∙ after-ideal (given st.session.config.window) request (request-accepted st history ok pool) sel selects in
+        ∙ after-ideal st.session.config.window request (request-accepted st history ok pool) sel selects in
         ap (good_ideal m) (over-take ideal st.session.ideal_point m (good-ideal-length m ideal good)) ∙ good
 
     -- the kept list meets demand 3

@@ -3,7 +3,7 @@ use Prim.Native.Nat.{ℕ, ◌≤◌}
 use mathlib.Core.Path.{◌≡◌, refl, ap, ◌∙◌, sym}
 use mathlib.Core.Bool.{true, false}
 use mathlib.Core.List.{List, [], ◌∷◌}
-use mathlib.Core.Option.{Option, none, some}
+use Rattle.std.specs.Prelude.{Option, None, Some, Result}
 use mathlib.Core.Logic.{inl}
 use native.Mathlib.Omega.{arith}
 use lib.Dec.{ltb}
@@ -15,19 +15,17 @@ use Rattle.list_laws.proofs.Tests.{all_in-every}
 use Rattle.list_laws.proofs.Built.{over-take, take-replicate}
 use Rattle.list_laws.proofs.Checks.{applies-at}
 use Rattle.demand3_laws.proofs.Passed.{some-objectives}
+use Rattle.model.specs.declared.Refusal.{Refusal}
 use Rattle.model.specs.Lists.{first_below, all_in, all_below}
 use Rattle.model.specs.Real.{infinity, unit}
 use Rattle.model.specs.Plan.{max_objectives}
 use Rattle.model.specs.Reference.{binomial, point_count, auto_divisions, divisions_of, population_size_of}
 use Rattle.model.specs.declared.Edition.{Edition}
-use Rattle.model.specs.declared.OptionUsize.{OptionUsize}
-use Rattle.model.specs.declared.OptionUsize.TheVariants as opt_usize
 use Rattle.model.specs.declared.Session.{Session}
-use Rattle.model.specs.Session.{state, given, opened, blank}
-use Rattle.model.specs.Calls.{open_by, open_of, Opens, opening_refused_by}
+use Rattle.model.specs.Session.{state, opened, blank}
+use Rattle.model.specs.Calls.{open_by, open_of, Opens, refused_by}
 use Rattle.model.specs.Refusal.{first_of, whole_eta, open_refusal, bad_directions, bad_session_size, bad_session_divisions, bad_given_divisions, bad_divisions, bad_operators, bad_window, measurable, good_ideal, max_size, max_lines, good_entry, bad_dimensions}
 use Rattle.model.specs.Property.{ConfigOk, SessionOk}
-use Rattle.model.specs.declared.Opening.{Opening}
 use Rattle.session_laws.proofs.Lists.{lent_empty}
 use Rattle.reference_laws.proofs.Divisions.{session-bad}
 
@@ -49,13 +47,13 @@ infinite-ideal m h =
 size-within : (m : ℕ) (size divisions : Option ℕ) → bad_session_size size ≡ false → ltb max_lines (point_count m (divisions_of m size divisions)) ≡ false
     → (4 ≤ population_size_of m size divisions) × (population_size_of m size divisions ≤ max_size)
 unfolding population_size_of
-size-within m none divisions e f = let h = ltb-false max_lines (point_count m (divisions_of m none divisions)) f in (omega arith, omega arith)
-size-within m (some size) divisions e f = let h = ltb-false max_size size e in (omega arith, omega arith)
+size-within m None divisions e f = let h = ltb-false max_lines (point_count m (divisions_of m None divisions)) f in (omega arith, omega arith)
+size-within m (Some size) divisions e f = let h = ltb-false max_size size e in (omega arith, omega arith)
 
 -- ---- opening
 
 module _ (edition : Edition) (marks : List ℕ) (seed : ℕ) (size divisions : Option ℕ) (probability crossover_eta_of mutation_eta_of : Float)
-    (window : OptionUsize) (accepted : open_refusal marks size divisions probability crossover_eta_of mutation_eta_of (given window) ≡ none) where
+    (window : Option ℕ) (accepted : open_refusal marks size divisions probability crossover_eta_of mutation_eta_of window ≡ None) where
   pub directions-good : bad_directions marks ≡ false
   unfolding open_refusal
   directions-good = applies-at _ 0 accepted
@@ -72,7 +70,7 @@ module _ (edition : Edition) (marks : List ℕ) (seed : ℕ) (size divisions : O
   unfolding open_refusal
   operators-good = applies-at _ 3 accepted
 
-  window-good : bad_window (given window) ≡ false
+  window-good : bad_window window ≡ false
   unfolding open_refusal
   window-good = applies-at _ 4 accepted
 
@@ -137,21 +135,21 @@ blank_ok candidates plans next_dims pool = record {
 
 -- ---- an answer tells the refusal, or that there is none
 
-pub opening_tells : (o : Option ℕ) (s : Session) (t : Opening) → (open_by o s).outcome ≡ t → o ≡ opening_refused_by t
-opening_tells none s t e = ap opening_refused_by e
-opening_tells (some n) s t e = ap opening_refused_by e
+pub opening_tells : (o : Option Refusal) (s : Session) (t : Result Unit Refusal) → (open_by o s).outcome ≡ t → o ≡ refused_by t
+opening_tells None s t e = ap refused_by e
+opening_tells (Some n) s t e = ap refused_by e
 
 -- the whole promise of `open`, of its definition
-pub opens : (edition : Edition) (directions : List ℕ) (seed : ℕ) (size divisions : OptionUsize) (probability crossover_eta_of mutation_eta_of : Float) (window : OptionUsize)
+pub opens : (edition : Edition) (directions : List ℕ) (seed : ℕ) (size divisions : Option ℕ) (probability crossover_eta_of mutation_eta_of : Float) (window : Option ℕ)
     → Opens edition directions seed size divisions probability crossover_eta_of mutation_eta_of window
     (open_of edition directions seed size divisions probability crossover_eta_of mutation_eta_of window)
 unfolding open_of
 opens edition directions seed size divisions probability crossover_eta_of mutation_eta_of window =
     record {
       whole = refl;
-      refused = sym (opening_tells (open_refusal directions (given size) (given divisions) probability crossover_eta_of mutation_eta_of (given window)) _ _ refl);
-      gives = λ candidates plans next_dims pool. by_option (open_refusal directions (given size) (given divisions) probability crossover_eta_of mutation_eta_of (given window))
-          (λ e. rw e (opened-ok edition directions seed (given size) (given divisions) probability crossover_eta_of mutation_eta_of window e candidates plans next_dims pool))
+      refused = sym (opening_tells (open_refusal directions size divisions probability crossover_eta_of mutation_eta_of window) _ _ refl);
+      gives = λ candidates plans next_dims pool. by_option (open_refusal directions size divisions probability crossover_eta_of mutation_eta_of window)
+          (λ e. rw e (opened-ok edition directions seed size divisions probability crossover_eta_of mutation_eta_of window e candidates plans next_dims pool))
           (λ n e. rw e (blank_ok candidates plans next_dims pool));
     }
 
@@ -161,10 +159,10 @@ opens edition directions seed size divisions probability crossover_eta_of mutati
 abbrev twenty : Float
 twenty = of_bits binary64 0x4034_0000_0000_0000
 
-defaults_accepted : open_refusal (0 ∷ 0 ∷ []) none none unit twenty twenty none ≡ none
+defaults_accepted : open_refusal (0 ∷ 0 ∷ []) None None unit twenty twenty None ≡ None
 unfolding open_refusal first_of bad_directions bad_session_divisions bad_operators whole_eta divisions_of auto_divisions point_count binomial first_below all_in
     eq le lt of_bits of_int to_unsigned
 defaults_accepted = refl
 
-pub some-session : (edition : Edition) → SessionOk (state (opened edition (0 ∷ 0 ∷ []) 0 none none unit twenty twenty opt_usize.None) [] [] [] [])
-some-session edition = opened-ok edition (0 ∷ 0 ∷ []) 0 none none unit twenty twenty opt_usize.None defaults_accepted [] [] [] []
+pub some-session : (edition : Edition) → SessionOk (state (opened edition (0 ∷ 0 ∷ []) 0 None None unit twenty twenty None) [] [] [] [])
+some-session edition = opened-ok edition (0 ∷ 0 ∷ []) 0 None None unit twenty twenty None defaults_accepted [] [] [] []

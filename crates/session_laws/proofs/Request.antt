@@ -4,7 +4,7 @@ use mathlib.Core.Path.{◌≡◌, refl, sym, ap, ap₂, subst, ◌∙◌}
 use mathlib.Core.Bool.{Bool, true, false, not, ◌&&◌}
 use mathlib.Core.List.{List, [], ◌∷◌, ◌++◌}
 use mathlib.Core.Logic.{◌⊎◌, inl, inr, ⊎_elim}
-use mathlib.Core.Option.{Option, none, some}
+use Rattle.std.specs.Prelude.{Option, None, Some}
 use native.Mathlib.Nat.{le_trans, le-add_right, mul-le-mul}
 use native.Mathlib.Omega.{arith}
 use lib.Dec.{eqb, leb}
@@ -17,6 +17,8 @@ use Rattle.list_laws.proofs.Tests.{all_below-each}
 use Rattle.list_laws.proofs.Checks.{passed_over, applies-first, after_two}
 use Rattle.session_pool_laws.proofs.Blocks.{joined-count, joined_numbers, take_numbers}
 use Rattle.session_pool_laws.proofs.Children.{comers_of, comers-few, comers-all, children-count, children_numbers, joined-distinct}
+use Rattle.model.specs.declared.Refusal.{Refusal}
+use Rattle.model.specs.declared.Refusal.TheVariants as why
 use Rattle.model.specs.declared.Distribution.{Distribution}
 use Rattle.model.specs.declared.Edition.{Edition}
 use Rattle.model.specs.declared.Session.{Session}
@@ -179,7 +181,7 @@ pub room-left : (n : ℕ) (b : Bool) → (leb max_come n && b) ≡ false → b �
 room-left n b e h = leb-false max_come n (and_fails_first _ _ e h)
 
 module _ (st : State) (d : Distribution) (plan : ℕ) (history : List ℕ) where
-  abbrev refusal : Option ℕ
+  abbrev refusal : Option Refusal
   refusal = sample_refusal st d plan history
 
   abbrev bad : Bool
@@ -189,27 +191,27 @@ module _ (st : State) (d : Distribution) (plan : ℕ) (history : List ℕ) where
   many = leb max_come st.session.progress.n_plans
 
   abbrev full : Check
-  full = check 11 (many && (is_new st plan && not (breeds st history)))
+  full = check why.Generation (many && (is_new st plan && not (breeds st history)))
 
   abbrev last : List Check
-  last = check 10 (not (long_enough st)) ∷ full ∷ []
+  last = check why.Room (not (long_enough st)) ∷ full ∷ []
 
-  pub refused_6 : discovers st plan ≡ true → bad ≡ true → refusal ≡ some 6
+  pub refused_6 : discovers st plan ≡ true → bad ≡ true → refusal ≡ Some why.Bounds
   unfolding sample_refusal
   refused_6 a e = applies-first _ _ (and_both _ _ a e)
 
-  pub refused_12 : (discovers st plan && bad) ≡ false → discovers st plan ≡ true → bad_next_step d ≡ true → refusal ≡ some 12
+  pub refused_12 : (discovers st plan && bad) ≡ false → discovers st plan ≡ true → bad_next_step d ≡ true → refusal ≡ Some why.Steps
   unfolding sample_refusal
   refused_12 good a e = passed_over _ _ good ∙ applies-first _ _ (and_both _ _ a e)
 
   module _ (good : Fit st d plan) where
-    pub refused_7 : bad_history history ≡ true → refusal ≡ some 7
+    pub refused_7 : bad_history history ≡ true → refusal ≡ Some why.Count
     unfolding sample_refusal
     refused_7 h = passed_over _ _ good.0 ∙ passed_over _ _ good.1 ∙ applies-first _ _ h
 
     module _ (few : bad_history history ≡ false) where
-      past_7 : refusal ≡ first_of (check 8 (breeds st history && bad_pool (request_of st history))
-          ∷ check 9 (breeds st history && bad_parents (operators_of st.session) (request_of st history)) ∷ last)
+      past_7 : refusal ≡ first_of (check why.Values (breeds st history && bad_pool (request_of st history))
+          ∷ check why.Parents (breeds st history && bad_parents (operators_of st.session) (request_of st history)) ∷ last)
       unfolding sample_refusal
       past_7 = passed_over _ _ good.0 ∙ passed_over _ _ good.1 ∙ passed_over _ _ few
 
@@ -218,30 +220,30 @@ module _ (st : State) (d : Distribution) (plan : ℕ) (history : List ℕ) where
         bred-left : (cs : List Check) → first_of last ≡ first_of cs → refusal ≡ first_of (bred_checks st history cs)
         bred-left cs e =
             past_7
-            ∙ ap (λ (x : Bool). first_of (check 8 (x && bad_pool (request_of st history)) ∷ check 9 (x && bad_parents (operators_of st.session) (request_of st history)) ∷ last)) b
+            ∙ ap (λ (x : Bool). first_of (check why.Values (x && bad_pool (request_of st history)) ∷ check why.Parents (x && bad_parents (operators_of st.session) (request_of st history)) ∷ last)) b
             ∙ after_two _ _ last cs e
 
         pub breed-refusal : long_enough st ≡ true → refusal ≡ breed_refusal st history
         breed-refusal l = bred-left [] (passed_over _ _ (ap not l) ∙ passed_over _ _ (and_no many _ (and_no (is_new st plan) _ (ap not b))))
 
         pub short-refusal : long_enough st ≡ false → refusal ≡ short_refusal st history
-        short-refusal l = bred-left (check 10 true ∷ []) (applies-first _ _ (ap not l) ∙ sym (applies-first _ _ refl))
+        short-refusal l = bred-left (check why.Room true ∷ []) (applies-first _ _ (ap not l) ∙ sym (applies-first _ _ refl))
 
       -- one that does not, by 10 or 11
       module _ (b : breeds st history ≡ false) where
         unbred_left : refusal ≡ first_of last
         unbred_left = past_7 ∙ passed_over _ _ (and_not _ _ b) ∙ passed_over _ _ (and_not _ _ b)
 
-        pub refused_10 : long_enough st ≡ false → refusal ≡ some 10
+        pub refused_10 : long_enough st ≡ false → refusal ≡ Some why.Room
         refused_10 l = unbred_left ∙ applies-first _ _ (ap not l)
 
         full-left : long_enough st ≡ true → refusal ≡ first_of (full ∷ [])
         full-left l = unbred_left ∙ passed_over _ _ (ap not l)
 
-        pub refused_11 : long_enough st ≡ true → (many && is_new st plan) ≡ true → refusal ≡ some 11
+        pub refused_11 : long_enough st ≡ true → (many && is_new st plan) ≡ true → refusal ≡ Some why.Generation
         refused_11 l h = full-left l ∙ applies-first full [] (and_both _ _ (and_left many _ h) (and_both _ _ (and_right many _ h) (ap not b)))
 
-        pub not-refused : long_enough st ≡ true → (is_new st plan ≡ true → st.session.progress.n_plans < max_come) → refusal ≡ none
+        pub not-refused : long_enough st ≡ true → (is_new st plan ≡ true → st.session.progress.n_plans < max_come) → refusal ≡ None
         unfolding first_of
         not-refused l h =
             full-left l

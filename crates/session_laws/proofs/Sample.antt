@@ -3,7 +3,8 @@ use Prim.Native.Nat.{ℕ, ◌<◌}
 use mathlib.Core.Path.{◌≡◌, refl, sym, ap, subst, ◌∙◌}
 use mathlib.Core.Bool.{Bool, true, false, cond, not, ◌||◌, or-true, true≢false, false≢true}
 use mathlib.Core.List.{List}
-use mathlib.Core.Option.{Option, none, some, some-ne-none}
+use Rattle.list_laws.proofs.Options.{some-ne-none}
+use Rattle.std.specs.Prelude.{Option, None, Some, Ok}
 use native.Mathlib.Nat.{le_refl}
 use native.Mathlib.Omega.{arith}
 use lib.ListN.{length}
@@ -14,17 +15,17 @@ use borrow.Author.Tests.{not-true}
 use Rattle.list_laws.proofs.Bools.{and_left, and_both, and_fails, by_bool, by_cond, by_option}
 use Rattle.demand3_laws.proofs.Passed.{sample_passed}
 use Rattle.demand3_laws.proofs.Calls.{sample_demand3}
+use Rattle.model.specs.declared.Refusal.{Refusal}
 use Rattle.model.specs.declared.Distribution.{Distribution}
 use Rattle.model.specs.declared.ParamValue.{ParamValue}
 use Rattle.model.specs.declared.Phase.{Phase}
 use Rattle.model.specs.declared.Phase.TheVariants.{Discovery, Active}
-use Rattle.model.specs.declared.Sampling.TheVariants as sampling
 use Rattle.model.specs.Kept.{selected}
 use Rattle.model.specs.Setting.{max_dims, valid_dimension, in_bounds, generation, words_of}
 use Rattle.model.specs.Session.{State, Answered, dimension_of, is_active, past_discovery, discovers, breeds, breed, bred_by, request_of, operators_of, activate, discover, is_new, sample_from_candidate, accepted, asked, waiting_count, block_of}
 use Rattle.model.specs.Refusal.{sample_refusal}
 use Rattle.model.specs.Property.{SessionOk}
-use Rattle.model.specs.Calls.{SampleExit, sample_by, sample_of, Bred, Samples, sampling_refused_by}
+use Rattle.model.specs.Calls.{SampleExit, sample_by, sample_of, Bred, Samples, refused_by}
 use Rattle.model.specs.contracts.Session as session
 use Rattle.settings.proofs.InBounds.{Held, sampled_in_bounds}
 use Rattle.settings.proofs.Valid.{few}
@@ -46,15 +47,15 @@ discovery_phase Discovery e = refl
 discovery_phase Active e = absurd (true≢false e)
 
 -- an answer tells the refusal, or that there is none
-told : (o : Option ℕ) (st : State) (a : Answered) → sampling_refused_by (sample_by o st a).answer ≡ o
-told none st a = refl
-told (some n) st a = refl
+told : (o : Option Refusal) (st : State) (a : Answered) → refused_by (sample_by o st a).answer ≡ o
+told None st a = refl
+told (Some n) st a = refl
 
 -- a setting is answered only where none applies, and is the accepted call's
-answered_in : (d : Distribution) (o : Option ℕ) (st : State) (a : Answered) → (o ≡ none → in_bounds d a.setting ≡ true)
-    → (v : ParamValue) → (sample_by o st a).answer ≡ sampling.Setting v → in_bounds d v ≡ true
-answered_in d none st a h v e = let same : ◌≡◌ {A = ParamValue} a.setting v = cc in ap (in_bounds d) (sym same) ∙ h refl
-answered_in d (some n) st a h v e = absurd (some-ne-none n (ap sampling_refused_by e))
+answered_in : (d : Distribution) (o : Option Refusal) (st : State) (a : Answered) → (o ≡ None → in_bounds d a.setting ≡ true)
+    → (v : ParamValue) → (sample_by o st a).answer ≡ Ok v → in_bounds d v ≡ true
+answered_in d None st a h v e = let same : ◌≡◌ {A = ParamValue} a.setting v = cc in ap (in_bounds d) (sym same) ∙ h refl
+answered_in d (Some n) st a h v e = absurd (some-ne-none n (ap refused_by e))
 
 -- ---- an accepted call
 
@@ -65,7 +66,7 @@ module _ (st : State) (d : Distribution) (plan : ℕ) (history : List ℕ) (ok :
   abbrev answers_from : Bool → Bool → State
   answers_from active bred = cond active (cond bred (breed st history) st) (activate st)
 
-  module _ (e : sample_refusal st d plan history ≡ none) where
+  module _ (e : sample_refusal st d plan history ≡ None) where
     lengths : Long st
     lengths = long st (sample_passed st d plan history e).slices
 
@@ -170,7 +171,7 @@ module _ (st : State) (d : Distribution) (plan : ℕ) (history : List ℕ) (ok :
     left-bred b =
         let active = breeds_active st history b in
         let left : State → State = λ x. (sample_from_candidate x plan).after in
-        ap (λ (o : Option ℕ). (sample_by o st (accepted st d plan history)).after) e
+        ap (λ (o : Option Refusal). (sample_by o st (accepted st d plan history)).after) e
         ∙ ap (λ (c : Bool). (cond c (discover st d plan) (sample_from_candidate (answers_from (is_active st.session) (breeds st history)) plan)).after) (active_discovers st plan active)
         ∙ ap (λ (x : Bool). left (answers_from x (breeds st history))) active ∙ ap (λ (x : Bool). left (answers_from true x)) b ∙ ap left (breed-kept st history ok (breeding st history b))
 
@@ -195,7 +196,7 @@ module _ (st : State) (d : Distribution) (plan : ℕ) (history : List ℕ) (ok :
   sample_ok = by_option (sample_refusal st d plan history) (λ e. rw e (accepted-ok e)) (λ n e. rw e ok)
 
   -- and its field `bounds`
-  pub sample_in : Held d → (v : ParamValue) → (sample_of st d plan history).answer ≡ sampling.Setting v → in_bounds (asked st d plan history) v ≡ true
+  pub sample_in : Held d → (v : ParamValue) → (sample_of st d plan history).answer ≡ Ok v → in_bounds (asked st d plan history) v ≡ true
   unfolding sample_of
   sample_in fit = answered_in (asked st d plan history) (sample_refusal st d plan history) st (accepted st d plan history) (λ e. accepted_in e fit)
 

@@ -1,4 +1,5 @@
 -- Each step of a call keeps the session property, where its condition holds.
+use Rattle.std.specs.Prelude.{Option, None, Some}
 use Prim.Native.Nat.{ℕ, ◌+◌, ◌-◌, ◌*◌, ◌≤◌, ◌<◌, max}
 use mathlib.Core.Path.{◌≡◌, refl, sym, ap, ◌∙◌, subst}
 use mathlib.Core.Bool.{true, false, true≢false, not}
@@ -19,11 +20,9 @@ use Rattle.model.specs.declared.Config.{Config}
 use Rattle.model.specs.declared.Session.{Session}
 use Rattle.model.specs.Edition.{waiting_of}
 use Rattle.model.specs.declared.DimensionInfo.{DimensionInfo}
-use Rattle.model.specs.declared.OptionU64.{OptionU64}
-use Rattle.model.specs.declared.OptionU64.TheVariants as opt_u64
 use Rattle.model.specs.Lists.{has, place_in, Distinct, over}
 use Rattle.model.specs.Setting.{valid_dimension, sample_random, sample_all, to_word, words_of, no_dimension, max_dims, WordsWithin, sample_candidates}
-use Rattle.model.specs.Session.{State, state, dimension_of, long_enough, max_come, max_words, discover, activate, overflow, enter, enlist, answer, plans_of, is_new, sample_from_candidate, discovers_for, with_rng, Answered, entered, renewed, pool_room, waiting_count, given}
+use Rattle.model.specs.Session.{State, state, dimension_of, long_enough, max_come, max_words, discover, activate, overflow, enter, enlist, answer, plans_of, is_new, sample_from_candidate, discovers_for, with_rng, Answered, entered, renewed, pool_room, waiting_count}
 use Rattle.model.specs.Window.{most_remembered}
 use Rattle.model.specs.Refusal.{good_ideal, bad_dimensions}
 use Rattle.model.specs.Property.{KnownBy, ConfigOk, ActiveOk, PhaseOk, WaitingOk, LentOk, SessionOk}
@@ -120,9 +119,9 @@ module _ (st : State) (d : Distribution) (plan : ℕ) (ok : SessionOk st) (disco
 -- ---- the end of discovery
 
 -- a plan that adds no dimension comes after one that did
-known : (first : OptionU64) (plan dims : ℕ) → discovers_for first plan ≡ false → KnownBy first dims → 1 ≤ dims
-known opt_u64.None plan dims e k = absurd (true≢false e)
-known (opt_u64.Some p) plan dims e k = k
+known : (first : Option ℕ) (plan dims : ℕ) → discovers_for first plan ≡ false → KnownBy first dims → 1 ≤ dims
+known None plan dims e k = absurd (true≢false e)
+known (Some p) plan dims e k = k
 
 pub some_dimension_lem : (st : State) (plan : ℕ) → SessionOk st → st.session.phase ≡ Discovery → discovers_for st.session.discovery_trial_id plan ≡ false
     → 1 ≤ st.session.progress.n_dims
@@ -135,7 +134,7 @@ pub renewed-ok : (st : State) (g : ℕ) (ideal : List Float) (waits memory numbe
     → WordsWithin (dimension_of st.session) st.session.progress.n_dims st.session.config.population_size (over words st.candidates)
     → (waits ≡ 0) ⊎ (waits ≡ waiting_of st.session.config.edition st.session.config.population_size)
     → WaitingOk (state (renewed st.session g ideal waits memory number) (over words st.candidates) st.plans st.next_dims pool)
-    → memory ≤ most_remembered (given st.session.config.window) → MemoryGood (renewed st.session g ideal waits memory number) pool
+    → memory ≤ most_remembered st.session.config.window → MemoryGood (renewed st.session g ideal waits memory number) pool
     → SessionOk (state (renewed st.session g ideal waits memory number) (over words st.candidates) st.plans st.next_dims pool)
 renewed-ok st g ideal waits memory number words pool ok some good settings many waiting few remembered = record {
   config = ok.config;
@@ -175,7 +174,7 @@ pub record Waiting (st : State) : Type 0 where
   pub candidates : st.session.progress.n_candidates ≡ max st.session.config.population_size (st.session.progress.n_plans + 1)
   pub room : st.session.progress.n_plans < max_come
   pub waits : (waiting_count st ≡ 0) ⊎ (waiting_count st ≡ waiting_of st.session.config.edition st.session.config.population_size)
-  pub remembered : st.session.progress.n_remembered ≤ most_remembered (given st.session.config.window)
+  pub remembered : st.session.progress.n_remembered ≤ most_remembered st.session.config.window
   pub ideal : good_ideal st.session.config.n_obj (take st.session.config.n_obj st.session.ideal_point) ≡ true
   pub lent : LentOk st
   pub long : Long st

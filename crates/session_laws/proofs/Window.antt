@@ -4,7 +4,7 @@ use Prim.Native.Nat.{ℕ, suc, ◌+◌, ◌-◌, ◌*◌, ◌≤◌, ◌<◌}
 use mathlib.Core.Path.{◌≡◌, refl, sym, ap, subst, ◌∙◌}
 use mathlib.Core.Bool.{Bool, true, false, not, ◌&&◌, ◌||◌}
 use mathlib.Core.List.{List, [], ◌∷◌, ◌++◌}
-use mathlib.Core.Option.{Option, none, some}
+use Rattle.std.specs.Prelude.{Option, None, Some}
 use native.Mathlib.Nat.{le_of_lt, le_trans, min-eq_left, min-eq_right, suc-mul, mul-le-mul_right}
 use native.Mathlib.Numerals.{add-one}
 use native.Mathlib.Omega.{arith}
@@ -29,7 +29,7 @@ use Rattle.model.specs.Plan.{plan_of, max_objectives}
 use Rattle.model.specs.Association.{Request, objectives, value_of, shapers, ideal_of}
 use Rattle.model.specs.Kept.{Selected, selected}
 use Rattle.model.specs.Window.{max_window, least_remembered, most_remembered, own_part, own_words, ideal_after}
-use Rattle.model.specs.Session.{state, start_by, start_ideal, given, most_words, memory_at, memory_in, memory_after, remembered_after}
+use Rattle.model.specs.Session.{state, start_by, start_ideal, most_words, memory_at, memory_in, memory_after, remembered_after}
 use Rattle.model.specs.Refusal.{bad_window, is_infinity, good_entry, good_ideal, bad_pool}
 use Rattle.model.specs.Property.{ConfigOk, SessionOk}
 use Rattle.association_laws.specs.Measurable.{Measurable}
@@ -63,7 +63,7 @@ module _ (s : Session) (pool : List ℕ) (r : Request) (same : objectives r ≡ 
   n = s.progress.n_remembered
 
   abbrev most : ℕ
-  most = most_remembered (given s.config.window)
+  most = most_remembered s.config.window
 
   abbrev joined : List ℕ
   joined = memory_in s pool ++ own_words r
@@ -172,14 +172,14 @@ module _ (r : Request) (word : ℕ → ℕ → ℕ) (same : (p : ℕ) → r.plan
 -- ---- the ideal afterwards is good too
 
 pub after-ideal : (o : Option ℕ) (r : Request) → Accepted r → (sel : Selected) → sel ≡ selected r → good_ideal (objectives r) (ideal_after o r sel) ≡ true
-after-ideal none r accepted sel e = ap (λ (x : Selected). good_ideal (objectives r) x.ideal) e ∙ selected-ideal r accepted
-after-ideal (some w) r accepted sel e = moved-good r accepted.pool accepted.rows
+after-ideal None r accepted sel e = ap (λ (x : Selected). good_ideal (objectives r) x.ideal) e ∙ selected-ideal r accepted
+after-ideal (Some w) r accepted sel e = moved-good r accepted.pool accepted.rows
 
 -- ---- what was opened bounds it
 
 pub window-few : (o : Option ℕ) → bad_window o ≡ false → most_remembered o < max_window
-window-few none e = omega arith
-window-few (some w) e = let h = leb-true w max_window (and_right (leb 1 w) _ (not-false _ e)) in omega (arith, h)
+window-few None e = omega arith
+window-few (Some w) e = let h = leb-true w max_window (and_right (leb 1 w) _ (not-false _ e)) in omega (arith, h)
 
 pub objectives-few : (c : Config) → ConfigOk c → c.n_obj ≤ max_objectives
 objectives-few c ok = omega (arith, length-take-le c.n_obj c.directions ok.objectives, (some-objectives _ ok.directions).1)
@@ -187,8 +187,8 @@ objectives-few c ok = omega (arith, length-take-le c.n_obj c.directions ok.objec
 -- ---- a session with the ideal that its selection starts from
 
 start-room : (o : Option ℕ) (s : Session) (pool : List ℕ) → s.config.n_obj ≤ length s.ideal_point → s.config.n_obj ≤ length (start_by o s pool)
-start-room none s pool h = h
-start-room (some w) s pool h =
+start-room None s pool h = h
+start-room (Some w) s pool h =
     le_trans h
     (over-long (list_below (least_remembered pool (memory_at s.config) s.config.n_obj s.progress.n_remembered) s.config.n_obj) s.ideal_point)
 
@@ -197,6 +197,6 @@ unfolding start_ideal
 slid-sound s pool cs ps ns other ok = record {
   config = ok.config;
   dimensions = ok.dimensions;
-  ideal = start-room (given s.config.window) s pool
+  ideal = start-room s.config.window s pool
       (omega (arith, good-ideal-length s.config.n_obj (take s.config.n_obj s.ideal_point) ok.ideal, length-take s.config.n_obj s.ideal_point));
 }

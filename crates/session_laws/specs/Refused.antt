@@ -1,6 +1,7 @@
 -- The refusals that are left of a session call which breeds.
-use Rattle.std.specs.Prelude.{ℕ, ◌≤◌, ◌≡◌, true, false, List, [], ◌∷◌, length, take}
-use Rattle.std.proofs.Math.Option.{Option}
+use Rattle.std.specs.Prelude.{ℕ, ◌≤◌, ◌≡◌, true, false, List, [], ◌∷◌, length, take, Option}
+use Rattle.model.specs.declared.Refusal.{Refusal}
+use Rattle.model.specs.declared.Refusal.TheVariants as why
 use Rattle.model.specs.declared.Session.{Session}
 use Rattle.model.specs.Association.{Request}
 use Rattle.model.specs.Session.{State, dimension_of, with_ideal, start_ideal, request_of, operators_of}
@@ -26,19 +27,19 @@ request_from s words =
 
 -- 8 and 9 for them, and what comes after them
 abbrev pub word_checks : Session → List ℕ → List Check → List Check
-word_checks s words cs = check 8 (bad_pool (request_from s words)) ∷ check 9 (bad_parents (operators_of s) (request_from s words)) ∷ cs
+word_checks s words cs = check why.Values (bad_pool (request_from s words)) ∷ check why.Parents (bad_parents (operators_of s) (request_from s words)) ∷ cs
 
-abbrev pub word_refusal : Session → List ℕ → Option ℕ
+abbrev pub word_refusal : Session → List ℕ → Option Refusal
 word_refusal s words = first_of (word_checks s words [])
 
 -- the same for the plans bred from
 abbrev pub bred_checks : State → List ℕ → List Check → List Check
-bred_checks st history cs = check 8 (bad_pool (request_of st history)) ∷ check 9 (bad_parents (operators_of st.session) (request_of st history)) ∷ cs
+bred_checks st history cs = check why.Values (bad_pool (request_of st history)) ∷ check why.Parents (bad_parents (operators_of st.session) (request_of st history)) ∷ cs
 
 -- nothing, where the lent slices are long enough
-abbrev pub breed_refusal : State → List ℕ → Option ℕ
+abbrev pub breed_refusal : State → List ℕ → Option Refusal
 breed_refusal st history = first_of (bred_checks st history [])
 
 -- and 10, where one is too short
-abbrev pub short_refusal : State → List ℕ → Option ℕ
-short_refusal st history = first_of (bred_checks st history (check 10 true ∷ []))
+abbrev pub short_refusal : State → List ℕ → Option Refusal
+short_refusal st history = first_of (bred_checks st history (check why.Room true ∷ []))

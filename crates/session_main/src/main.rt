@@ -10,39 +10,32 @@ ghost use Rattle.model.specs.Property.{SessionOk};
 
 use model::{
     CONSTRAINT_COUNT, CONSTRAINTS, CategoricalDistribution, DimensionInfo, Distribution, Edition,
-    FloatDistribution, MAX_COME, MAX_DIMS, MAX_WORDS, Opening, Operators, OptionF64, OptionUsize,
-    Outcome, PLAN_WORDS, ROW_LENGTH, Rng, Sampling, Session,
+    FloatDistribution, MAX_COME, MAX_DIMS, MAX_WORDS, Operators, PLAN_WORDS, ParamValue,
+    ROW_LENGTH, Refusal, Rng, Session,
 };
 use session_calls::{Candidates, History, NextDims, Numbers, OVERLONG, POOL_WORDS, Pool};
 
 // The plans that a pool has room for here.
 const POOL_PLANS: usize = POOL_WORDS / PLAN_WORDS;
 
-// A label and a number.
-fn number(rt: &impl Print, label: &[u8], n: u64) {
-    let _ = rt.write_all(label);
-    let _ = rt.print(n);
-}
-
 // Reals from 0 to 1.
 fn unit() -> Distribution {
-    let step = OptionF64::None;
     Distribution::Float(FloatDistribution {
         low: 0.0,
         high: 1.0,
         log_scale: false,
-        step,
+        step: None,
     })
 }
 
 // What a call answers; of a setting only that it is one.
-fn tell_answer(rt: &impl Print, outcome: Sampling) {
+fn tell_answer(rt: &impl Print, outcome: Result<ParamValue, Refusal>) {
     match outcome {
-        Sampling::Setting(_) => {
-            let _ = rt.write_all(b"a setting");
+        Ok(_) => {
+            let _ = print!(rt; "a setting");
         }
-        Sampling::Refused(n) => {
-            number(rt, b"refused ", n as u64);
+        Err(refusal) => {
+            let _ = print!(rt; "refused {}", u64::from(refusal));
         }
     }
 }
@@ -50,9 +43,9 @@ fn tell_answer(rt: &impl Print, outcome: Sampling) {
 // The generation and its plans.
 fn tell_state(rt: &impl Print, session: Session) {
     let progress = session.progress;
-    number(rt, b", generation ", progress.generation);
-    number(rt, b", plans ", progress.n_plans as u64);
-    let _ = rt.write_all(b"\n");
+    let _ = print!(rt; ", generation {}", progress.generation);
+    let _ = print!(rt; ", plans {}", progress.n_plans);
+    let _ = print!(rt; "\n");
 }
 
 // So many calls, the number rising by one, on a history of n records; the last is told.
@@ -72,63 +65,52 @@ fn ask(
     requires n_bound { n ≤ 4097 }
     ensures { SessionOk (state result candidates.new plans.new next_dims.new pool.new) }
 {
-    number(rt, b"plan ", plan);
-    number(rt, b", ", times);
-    let _ = rt.write_all(b" times: ");
+    let _ = print!(rt; "plan {plan}");
+    let _ = print!(rt; ", {times}");
+    let _ = print!(rt; " times: ");
     let d = unit();
     let r = session_calls::repeated(
         session, d, plan, times, history, n, candidates, plans, next_dims, pool,
     );
-    let outcome = r.outcome;
-    let session = r.session;
-    tell_answer(rt, outcome);
-    tell_state(rt, session);
-    session
+    tell_answer(rt, r.outcome);
+    tell_state(rt, r.session);
+    r.session
 }
 
 // ---- the plans that wait
 
 // A plan is one of the first n of a pool.
 fn waits(pool: &Pool, n: usize, plan: u64) -> bool {
-    let mut i: usize = 0;
-    while i < n {
+    for i in 0..n {
         if i < POOL_PLANS && pool[i * PLAN_WORDS] == plan {
             return true;
         }
-        i += 1;
     }
     false
 }
 
 // How many plans the next pool has: those that wait, and the first `size` plans of the generation that do not.
 fn joined(session: Session, plans: &Numbers, pool: &Pool) -> u64 {
-    let config = session.config;
-    let progress = session.progress;
-    let size = config.population_size;
-    let waiting = progress.n_waiting;
+    let waiting = session.progress.n_waiting;
     let mut count = waiting as u64;
-    let mut i: usize = 0;
-    while i < size {
+    for i in 0..session.config.population_size {
         if i < MAX_COME && !waits(pool, waiting, plans[i]) {
             count = std::num::wrapping_add_u64(count, 1);
         }
-        i += 1;
     }
     count
 }
 
 // The numbers of the plans that wait, behind how many plans the pool had that they were kept from.
 fn tell_waiting(rt: &impl Print, count: u64, n: usize, pool: &Pool) {
-    number(rt, b"of a pool of ", count);
-    let _ = rt.write_all(b" plans wait");
-    let mut i: usize = 0;
-    while i < n {
+    let _ = print!(rt; "of a pool of {count}");
+    let _ = print!(rt; " plans wait");
+    for i in 0..n {
         if i < POOL_PLANS {
-            number(rt, b" ", pool[i * PLAN_WORDS]);
+            let _ = print!(rt; " {}", pool[i * PLAN_WORDS]);
         }
-        i += 1;
     }
-    let _ = rt.write_all(b"\n");
+    let _ = print!(rt; "\n");
 }
 
 // The same, where a generation was bred and plans wait.
@@ -155,10 +137,8 @@ fn put_record(history: &mut History, i: usize, plan: u64)
 
 // The records of plans 1 to 11.
 fn put_records(history: &mut History) {
-    let mut i: usize = 0;
-    while i < 11 {
+    for i in 0..11 {
         put_record(history, i, i as u64 + 1);
-        i += 1;
     }
 }
 
@@ -219,9 +199,10 @@ fn asked_of(i: usize) -> Asking
     ensures { result.records ≤ 11 }
 {
     if i < 6 {
-        return asked_of_first(i);
+        asked_of_first(i)
+    } else {
+        asked_of_second(i)
     }
-    asked_of_second(i)
 }
 
 // The calls at a place of the table, and who waits where they bred.
@@ -260,8 +241,7 @@ fn fill(rt: &impl Print, session: Session, from: usize, to: usize)
     let mut pool = [0u64; POOL_WORDS];
     put_records(&mut history);
     let mut now = session;
-    let mut i: usize = from;
-    while i < to {
+    for i in from..to {
         now = told(
             rt,
             now,
@@ -272,7 +252,6 @@ fn fill(rt: &impl Print, session: Session, from: usize, to: usize)
             &mut next_dims,
             &mut pool,
         );
-        i += 1;
     }
 }
 
@@ -280,26 +259,22 @@ fn fill(rt: &impl Print, session: Session, from: usize, to: usize)
 fn sessions(rt: &impl Print, edition: u64, from: usize, to: usize)
     requires { from ≤ to }
 {
-    let directions = [0u8; 2];
-    let size = OptionUsize::Some(4);
-    let divisions = OptionUsize::Some(3);
-    let window = OptionUsize::None;
     let opened = session_calls::opened(
         edition,
-        &directions,
+        &[0; 2],
         5,
-        size,
-        divisions,
+        Some(4),
+        Some(3),
         1.0,
         30.0,
         20.0,
-        window,
+        None,
     );
-    let outcome = opened.outcome;
-    let session = opened.session;
-    match outcome {
-        Opening::Ready => fill(rt, session, from, to),
-        Opening::Refused(n) => number(rt, b"refused ", n as u64),
+    match opened.outcome {
+        Ok(()) => fill(rt, opened.session, from, to),
+        Err(refusal) => {
+            let _ = print!(rt; "refused {}", u64::from(refusal));
+        }
     }
 }
 
@@ -344,13 +319,16 @@ fn constrained(rt: &impl Print, bits: u64) {
         &mut lines,
         &mut offspring,
     );
-    let outcome = s.outcome;
-    number(rt, b"a constraint of bits ", bits);
-    match outcome {
-        Outcome::Kept(n) => number(rt, b": kept ", n as u64),
-        Outcome::Refused(n) => number(rt, b": refused ", n as u64),
+    let _ = print!(rt; "a constraint of bits {bits}");
+    match s.outcome {
+        Ok(n) => {
+            let _ = print!(rt; ": kept {n}");
+        }
+        Err(refusal) => {
+            let _ = print!(rt; ": refused {}", u64::from(refusal));
+        }
     }
-    let _ = rt.write_all(b"\n");
+    let _ = print!(rt; "\n");
 }
 
 // 2^1000 and the double after it.

@@ -3,9 +3,10 @@ use Prim.Native.Nat.{ℕ, ◌*◌, ◌≤◌}
 use mathlib.Core.Path.{◌≡◌, refl, sym, ap, ◌∙◌}
 use mathlib.Core.Bool.{Bool, true, false, not, ◌&&◌, false≢true, true≢false}
 use mathlib.Core.List.{List, [], ◌∷◌, ◌++◌}
-use mathlib.Core.Option.{none, some}
+use Rattle.std.specs.Prelude.{None, Some}
 use lib.ListN.{length, take}
 use Rattle.list_laws.proofs.Checks.{passed_over, applies-first}
+use Rattle.model.specs.declared.Refusal.TheVariants as why
 use Rattle.model.specs.declared.Session.{Session}
 use Rattle.model.specs.Lists.{all_below}
 use Rattle.model.specs.Plan.{Plan, plan_at, plan_count, plan_words, max_objectives}
@@ -95,12 +96,12 @@ module _ (s : Session) (words : List ℕ) where
   abbrev nine : Bool
   nine = bad_parents (operators_of s) (request_from s words)
 
-  pub refused_8 : (x : Bool) → x ≡ eight → x ≡ true → some 8 ≡ word_refusal s words
-  refused_8 x e f = sym (applies-first (check 8 eight) _ (sym e ∙ f))
+  pub refused_8 : (x : Bool) → x ≡ eight → x ≡ true → Some why.Values ≡ word_refusal s words
+  refused_8 x e f = sym (applies-first (check why.Values eight) _ (sym e ∙ f))
 
-  pub refused_9 : (x y : Bool) → x ≡ eight → x ≡ false → y ≡ nine → y ≡ true → some 9 ≡ word_refusal s words
-  refused_9 x y e f g h = sym (passed_over (check 8 eight) _ (sym e ∙ f) ∙ applies-first (check 9 nine) _ (sym g ∙ h))
+  pub refused_9 : (x y : Bool) → x ≡ eight → x ≡ false → y ≡ nine → y ≡ true → Some why.Parents ≡ word_refusal s words
+  refused_9 x y e f g h = sym (passed_over (check why.Values eight) _ (sym e ∙ f) ∙ applies-first (check why.Parents nine) _ (sym g ∙ h))
 
-  pub refused-not : (x y : Bool) → x ≡ eight → x ≡ false → y ≡ nine → y ≡ false → none ≡ word_refusal s words
+  pub refused-not : (x y : Bool) → x ≡ eight → x ≡ false → y ≡ nine → y ≡ false → None ≡ word_refusal s words
   unfolding first_of
-  refused-not x y e f g h = sym (passed_over (check 8 eight) (check 9 nine ∷ []) (sym e ∙ f) ∙ passed_over (check 9 nine) [] (sym g ∙ h))
+  refused-not x y e f g h = sym (passed_over (check why.Values eight) (check why.Parents nine ∷ []) (sym e ∙ f) ∙ passed_over (check why.Parents nine) [] (sym g ∙ h))

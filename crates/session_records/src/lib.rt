@@ -8,35 +8,24 @@ ghost use Rattle.std.proofs.lemmas.List.Edits.{sets};
 ghost use Rattle.model.specs.Lists.{all_below, has, over, place_in};
 ghost use Rattle.model.specs.Plan.{plan_count, plan_words, max_objectives};
 ghost use Rattle.model.specs.Window.{most_remembered, max_window};
-ghost use Rattle.model.specs.Session.{record_of, all_stand, stands_in, block_of, numbers_of, children_of, kept_words, adds_for, room_for, max_come, given};
+ghost use Rattle.model.specs.Session.{record_of, all_stand, stands_in, block_of, numbers_of, children_of, kept_words, adds_for, room_for, max_come};
 ghost use Rattle.model.specs.Refusal.{bad_next, bad_next_step, bad_history, max_size};
 ghost use Rattle.session_records.specs.Gathered.{child_for, Put, Gathered};
 
-use model::{Config, Distribution, MAX_COME, MAX_DIMS, MAX_WORDS, OptionU64, PLAN_WORDS, Phase};
+use model::{Config, Distribution, MAX_COME, MAX_DIMS, MAX_WORDS, PLAN_WORDS, Phase};
 
 // ---- the plans of a generation, and their records
-
-// The place of record j of n, counted from the end.
-fn from_end(n: usize, j: usize) -> usize
-    requires { j < n }
-    ensures { result ≡ n - 1 - j }
-{
-    let last = n - 1;
-    last - j
-}
 
 // The place of a plan number's last record in a history, or the number of records where it has none.
 fn record_of(history: &[u64], plan: u64) -> usize
     ensures { result ≡ record_of history.now plan }
 {
     let n = plans::plan_count(history);
-    let mut j = 0;
-    while j < n {
-        let k = from_end(n, j);
+    for j in 0..n {
+        let k = n - 1 - j;
         if history[k * PLAN_WORDS] == plan {
             return k;
         }
-        j += 1;
     }
     n
 }
@@ -45,19 +34,12 @@ fn record_of(history: &[u64], plan: u64) -> usize
 pub fn evaluated(history: &[u64], plans: &[u64], n_plans: usize, size: usize) -> bool
     ensures { result ≡ all_stand history.now plans.now n_plans size }
 {
-    if n_plans < size {
-        return false;
-    }
-    if plans.len() < size {
+    if n_plans < size || plans.len() < size {
         return false;
     }
     let n = plans::plan_count(history);
-    let mut i = 0;
-    while i < size {
-        let k = record_of(history, plans[i]);
-        if k < n {
-            i += 1;
-        } else {
+    for i in 0..size {
+        if n <= record_of(history, plans[i]) {
             return false;
         }
     }
@@ -69,12 +51,10 @@ fn waits(pool: &[u64], n: usize, plan: u64) -> bool
     requires { n * plan_words ≤ length pool.now }
     ensures { result ≡ has (numbers_of pool.now n) plan }
 {
-    let mut i = 0;
-    while i < n {
+    for i in 0..n {
         if pool[i * PLAN_WORDS] == plan {
             return true;
         }
-        i += 1;
     }
     false
 }
@@ -85,8 +65,7 @@ fn put_plan(from: &[u64], k: usize, at: usize, to: &mut [u64])
     ensures { to.new ≡ sets to.old at (block_of from.now k) }
 {
     let start = k * PLAN_WORDS;
-    let end = start + PLAN_WORDS;
-    words::put(&from[start..end], at, to);
+    words::put(&from[start..start + PLAN_WORDS], at, to);
 }
 
 // A plan's last record, from a place on, unless the plan waits; the place behind it.
@@ -124,10 +103,8 @@ pub fn gather(
     ensures { Gathered (children_of (numbers_of pool.now n_waiting) history.now plans.now size) to.old to.new result }
 {
     let mut at = 0;
-    let mut i = 0;
-    while i < size {
+    for i in 0..size {
         at = put_child(history, plans[i], pool, n_waiting, at, to);
-        i += 1;
     }
     at
 }
@@ -137,10 +114,8 @@ pub fn keep_plans(bred: &[u64], kept: &[usize], n: usize, to: &mut [u64])
     requires { (n ≤ length kept.now) × (n * plan_words ≤ length to.old) × ((i : ℕ) → i < n → get_or kept.now i 0 < plan_count bred.now) }
     ensures { to.new ≡ over (kept_words bred.now kept.now n) to.old }
 {
-    let mut i = 0;
-    while i < n {
+    for i in 0..n {
         put_plan(bred, kept[i], i * PLAN_WORDS, to);
-        i += 1;
     }
 }
 
@@ -149,12 +124,10 @@ pub fn place_in(plans: &[u64], n: usize, plan: u64) -> usize
     requires { n ≤ length plans.now }
     ensures { result ≡ place_in (take n plans.now) plan }
 {
-    let mut i = 0;
-    while i < n {
+    for i in 0..n {
         if plans[i] == plan {
             return i;
         }
-        i += 1;
     }
     n
 }
@@ -162,14 +135,14 @@ pub fn place_in(plans: &[u64], n: usize, plan: u64) -> usize
 // ---- what a call asks
 
 // The call adds a dimension: discovery still lasts, and the plan is the first that came.
-pub fn discovers(phase: Phase, first: OptionU64, plan: u64) -> bool
+pub fn discovers(phase: Phase, first: Option<u64>, plan: u64) -> bool
     ensures { result ≡ adds_for phase first plan }
 {
     match phase {
         Phase::Active => false,
         Phase::Discovery => match first {
-            OptionU64::None => true,
-            OptionU64::Some(number) => number == plan,
+            None => true,
+            Some(number) => number == plan,
         },
     }
 }
@@ -182,45 +155,29 @@ pub fn long_enough(
     next_dims: usize,
     pool: usize,
 ) -> bool
-    requires { (config.population_size ≤ max_size) × (config.n_obj ≤ max_objectives) × (most_remembered (given config.window) ≤ max_window) }
+    requires { (config.population_size ≤ max_size) × (config.n_obj ≤ max_objectives) × (most_remembered config.window ≤ max_window) }
     ensures { result ≡ room_for config candidates plans next_dims pool }
 {
-    if candidates < MAX_WORDS {
-        return false;
-    }
-    if plans < MAX_COME {
-        return false;
-    }
-    if next_dims < MAX_COME {
-        return false;
-    }
-    let window = config.window;
-    let at = session_window::memory_at(config);
-    let most = session_window::most_remembered(window);
-    at + most * config.n_obj <= pool
+    MAX_WORDS <= candidates
+        && MAX_COME <= plans
+        && MAX_COME <= next_dims
+        && session_window::memory_at(config)
+            + session_window::most_remembered(config.window) * config.n_obj
+            <= pool
 }
 
 // Refusal 6 for the dimension that a session of n dimensions would add.
 pub fn bad_dimension(n: usize, distribution: Distribution) -> bool
     ensures { result ≡ bad_next n distribution }
 {
-    if MAX_DIMS <= n {
-        return true;
-    }
-    if operator_checks::valid_bounds(distribution) {
-        return false;
-    }
-    true
+    MAX_DIMS <= n || !operator_checks::valid_bounds(distribution)
 }
 
 // Refusal 12 for it.
 pub fn bad_step(distribution: Distribution) -> bool
     ensures { result ≡ bad_next_step distribution }
 {
-    if operator_checks::valid_step(distribution) {
-        return false;
-    }
-    true
+    !operator_checks::valid_step(distribution)
 }
 
 // The most records of a history.
@@ -238,8 +195,5 @@ pub fn full(plans: &[u64], n: usize, plan: u64) -> bool
     requires { n ≤ length plans.now }
     ensures { result ≡ (leb max_come n && not (has (take n plans.now) plan)) }
 {
-    if n < MAX_COME {
-        return false;
-    }
-    n <= place_in(plans, n, plan)
+    MAX_COME <= n && n <= place_in(plans, n, plan)
 }

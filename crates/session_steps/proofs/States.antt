@@ -9,10 +9,10 @@ use lib.Dec.{leb}
 use lib.ListN.{length, get_or, set}
 use Rattle.list_laws.proofs.Rows.{row_within}
 use Rattle.list_laws.proofs.Below.{cond_lt, cond_le}
+use Rattle.std.specs.Prelude.{Ok}
 use Rattle.model.specs.declared.Distribution.{Distribution}
 use Rattle.model.specs.declared.ParamValue.{ParamValue}
 use Rattle.model.specs.declared.Session.{Session}
-use Rattle.model.specs.declared.Sampling.TheVariants as sampling
 use Rattle.model.specs.Lists.{over, place_in}
 use Rattle.model.specs.Draw.{Drawn, drawn}
 use Rattle.model.specs.Setting.{max_dims, kind_of_dimension, to_word, of_word, sample_random, sample_all, sample_candidates, words_of}
@@ -27,9 +27,9 @@ use Rattle.session_records.proofs.Records.{is_new-by}
 
 module _ (s : Session) (d : Distribution) (plan : ℕ) where
   pub discover_is : (v : ParamValue) (g : ℕ) (cs ps ns pool : List ℕ) → drawn v g ≡ sample_random d s.rng.s
-      → exit (record { outcome = sampling.Setting v; session = entered s d plan g }) cs ps ns pool ≡ settled (discover (state s cs ps ns pool) d plan)
+      → exit (record { outcome = Ok v; session = entered s d plan g }) cs ps ns pool ≡ settled (discover (state s cs ps ns pool) d plan)
   unfolding discover
-  discover_is v g cs ps ns pool e = ap (λ (x : Drawn ParamValue). exit (record { outcome = sampling.Setting x.value; session = entered s d plan x.state }) cs ps ns pool) e
+  discover_is v g cs ps ns pool e = ap (λ (x : Drawn ParamValue). exit (record { outcome = Ok x.value; session = entered s d plan x.state }) cs ps ns pool) e
 
 module _ (s : Session) where
   abbrev first_ones : Drawn (List (List ParamValue))
@@ -100,20 +100,20 @@ module _ (s : Session) (i : ℕ) (cs ps ns pool : List ℕ) where
   word = get_or cs (i * s.progress.n_dims + asked) 0
 
   pub answer-stored : (v : ParamValue) (k : ℕ) → asked < s.progress.n_dims → v ≡ of_word k word → k ≡ kind
-      → exit (record { outcome = sampling.Setting v; session = s }) cs ps (set ns i (asked + 1)) pool ≡ settled (answer (state s cs ps ns pool) i)
+      → exit (record { outcome = Ok v; session = s }) cs ps (set ns i (asked + 1)) pool ≡ settled (answer (state s cs ps ns pool) i)
   unfolding answer
   answer-stored v k h e f =
       rw (lt-ltb asked s.progress.n_dims h)
-      (ap (λ (x : ParamValue). exit (record { outcome = sampling.Setting x; session = s }) cs ps (set ns i (asked + 1)) pool) (e ∙ ap (λ (x : ℕ). of_word x word) f))
+      (ap (λ (x : ParamValue). exit (record { outcome = Ok x; session = s }) cs ps (set ns i (asked + 1)) pool) (e ∙ ap (λ (x : ℕ). of_word x word) f))
 
   pub answer-drawn : (v : ParamValue) (g : ℕ) (u : Session) → s.progress.n_dims ≤ asked
       → drawn v g ≡ sample_random (dimension_of s (s.progress.n_dims - 1)) s.rng.s → u ≡ with_rng s g
-      → exit (record { outcome = sampling.Setting v; session = u }) cs ps ns pool ≡ settled (answer (state s cs ps ns pool) i)
+      → exit (record { outcome = Ok v; session = u }) cs ps ns pool ≡ settled (answer (state s cs ps ns pool) i)
   unfolding answer
   answer-drawn v g u h e f =
       rw (le-ltb asked s.progress.n_dims h)
-      (ap (λ (x : Session). exit (record { outcome = sampling.Setting v; session = x }) cs ps ns pool) f
-      ∙ ap (λ (x : Drawn ParamValue). exit (record { outcome = sampling.Setting x.value; session = with_rng s x.state }) cs ps ns pool) e)
+      (ap (λ (x : Session). exit (record { outcome = Ok v; session = x }) cs ps ns pool) f
+      ∙ ap (λ (x : Drawn ParamValue). exit (record { outcome = Ok x.value; session = with_rng s x.state }) cs ps ns pool) e)
 
 -- ---- a plan by its number
 

@@ -10,9 +10,7 @@ ghost use Rattle.model.specs.Session.{dimension_of, with_rng, with_progress, ren
 ghost use Rattle.model.specs.Calls.{settled};
 ghost use Rattle.session_steps.specs.Exits.{exit, Ready};
 
-use model::{
-    DimensionInfo, Distribution, OptionU64, Phase, Progress, Rng, Sampled, Sampling, Session,
-};
+use model::{DimensionInfo, Distribution, MAX_OBJECTIVES, Phase, Progress, Rng, Sampled, Session};
 
 // ---- discovery
 
@@ -21,37 +19,27 @@ pub fn discover(session: Session, distribution: Distribution, plan: u64) -> Samp
     requires { (session.progress.n_dims < max_dims) × (valid_dimension distribution ≡ true) }
     ensures { (cs ps ns pool : List ℕ) → exit result cs ps ns pool ≡ settled (discover (state session cs ps ns pool) distribution plan) }
 {
-    let rng = session.rng;
-    let v = sampling::sample_random(distribution, rng);
-    let value = v.value;
-    let rng = v.rng;
+    let v = sampling::sample_random(distribution, session.rng);
     let before = session.progress;
     let n = before.n_dims;
     let mut dimensions = session.dimensions;
     dimensions[n] = DimensionInfo { distribution };
-    let config = session.config;
-    let phase = Phase::Discovery;
-    let discovery_trial_id = OptionU64::Some(plan);
-    let ideal_point = session.ideal_point;
     let progress = Progress {
         n_dims: n + 1,
-        n_candidates: before.n_candidates,
-        n_plans: before.n_plans,
-        n_waiting: before.n_waiting,
-        n_remembered: before.n_remembered,
-        generation: before.generation,
+        ..before
     };
     let session = Session {
-        config,
-        phase,
-        discovery_trial_id,
-        rng,
+        phase: Phase::Discovery,
+        discovery_trial_id: Some(plan),
+        rng: v.rng,
         dimensions,
-        ideal_point,
         progress,
+        ..session
     };
-    let outcome = Sampling::Setting(value);
-    Sampled { outcome, session }
+    Sampled {
+        outcome: Ok(v.value),
+        session,
+    }
 }
 
 // The session of a new generation, for which so many plans wait and so many generations are remembered: its candidates are as many as the size, and no plan has
@@ -59,34 +47,27 @@ pub fn discover(session: Session, distribution: Distribution, plan: u64) -> Samp
 pub fn renewed(
     session: Session,
     rng: Rng,
-    ideal_point: [f64; 8],
+    ideal_point: [f64; MAX_OBJECTIVES],
     n_waiting: usize,
     n_remembered: usize,
     generation: u64,
 ) -> Session
     ensures { result ≡ renewed session rng.s ideal_point n_waiting n_remembered generation }
 {
-    let config = session.config;
-    let before = session.progress;
     let progress = Progress {
-        n_dims: before.n_dims,
-        n_candidates: config.population_size,
+        n_dims: session.progress.n_dims,
+        n_candidates: session.config.population_size,
         n_plans: 0,
         n_waiting,
         n_remembered,
         generation,
     };
-    let phase = Phase::Active;
-    let discovery_trial_id = session.discovery_trial_id;
-    let dimensions = session.dimensions;
     Session {
-        config,
-        phase,
-        discovery_trial_id,
+        phase: Phase::Active,
         rng,
-        dimensions,
         ideal_point,
         progress,
+        ..session
     }
 }
 
@@ -96,18 +77,18 @@ pub fn activate(session: Session, candidates: &mut [u64]) -> Session
         × (session.config.population_size * session.progress.n_dims ≤ length candidates.old) }
     ensures { (ps ns pool : List ℕ) → state result candidates.new ps ns pool ≡ activate (state session candidates.old ps ns pool) }
 {
-    let config = session.config;
-    let size = config.population_size;
     let before = session.progress;
-    let n = before.n_dims;
-    let rng = session.rng;
-    let dimensions = session.dimensions;
-    let rng = candidates::sample_candidates(dimensions, n, size, rng, candidates);
-    let ideal_point = session.ideal_point;
+    let rng = candidates::sample_candidates(
+        session.dimensions,
+        before.n_dims,
+        session.config.population_size,
+        session.rng,
+        candidates,
+    );
     renewed(
         session,
         rng,
-        ideal_point,
+        session.ideal_point,
         before.n_waiting,
         before.n_remembered,
         before.generation,
@@ -119,17 +100,16 @@ pub fn activate(session: Session, candidates: &mut [u64]) -> Session
 fn with_rng(session: Session, rng: Rng) -> Session
     ensures { result ≡ with_rng session rng.s }
 {
-    let mut s = session;
-    s.rng = rng;
-    s
+    Session { rng, ..session }
 }
 
 fn with_progress(session: Session, progress: Progress) -> Session
     ensures { result ≡ with_progress session progress }
 {
-    let mut s = session;
-    s.progress = progress;
-    s
+    Session {
+        progress,
+        ..session
+    }
 }
 
 // A candidate more, drawn, where every candidate has its plan.
@@ -140,21 +120,13 @@ fn overflow(session: Session, candidates: &mut [u64]) -> Session
     let before = session.progress;
     let n = before.n_dims;
     let k = before.n_candidates;
-    let dimensions = session.dimensions;
-    let rng = session.rng;
-    let c = sampling::sample_all(dimensions, n, rng);
-    let params = c.params;
-    let rng = c.rng;
-    candidates::put_candidate(params, n, k * n, candidates);
+    let c = sampling::sample_all(session.dimensions, n, session.rng);
+    candidates::put_candidate(c.value, n, k * n, candidates);
     let progress = Progress {
-        n_dims: n,
         n_candidates: k + 1,
-        n_plans: before.n_plans,
-        n_waiting: before.n_waiting,
-        n_remembered: before.n_remembered,
-        generation: before.generation,
+        ..before
     };
-    with_progress(with_rng(session, rng), progress)
+    with_progress(with_rng(session, c.rng), progress)
 }
 
 // The plan is entered as the generation's next, at its first dimension.
@@ -168,12 +140,8 @@ fn enter(session: Session, plan: u64, plans: &mut [u64], next_dims: &mut [usize]
     plans[i] = plan;
     next_dims[i] = 0;
     let progress = Progress {
-        n_dims: before.n_dims,
-        n_candidates: before.n_candidates,
         n_plans: i + 1,
-        n_waiting: before.n_waiting,
-        n_remembered: before.n_remembered,
-        generation: before.generation,
+        ..before
     };
     with_progress(session, progress)
 }
@@ -211,23 +179,19 @@ fn answer(session: Session, i: usize, candidates: &[u64], next_dims: &mut [usize
     let dimensions = session.dimensions;
     let d = next_dims[i];
     if d < n {
-        let info = dimensions[d];
-        let distribution = info.distribution;
-        let kind = settings::kind_of_dimension(distribution);
+        let kind = settings::kind_of_dimension(dimensions[d].distribution);
         let value = settings::of_word(kind, candidates[i * n + d]);
         next_dims[i] = d + 1;
-        let outcome = Sampling::Setting(value);
-        return Sampled { outcome, session };
+        return Sampled {
+            outcome: Ok(value),
+            session,
+        };
     }
-    let info = dimensions[n - 1];
-    let distribution = info.distribution;
-    let rng = session.rng;
-    let v = sampling::sample_random(distribution, rng);
-    let value = v.value;
-    let rng = v.rng;
-    let outcome = Sampling::Setting(value);
-    let session = with_rng(session, rng);
-    Sampled { outcome, session }
+    let v = sampling::sample_random(dimensions[n - 1].distribution, session.rng);
+    Sampled {
+        outcome: Ok(v.value),
+        session: with_rng(session, v.rng),
+    }
 }
 
 // A plan is answered by its candidate; a new plan takes the next one.

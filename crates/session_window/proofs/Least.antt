@@ -1,43 +1,34 @@
 -- The least over the plans that count, plan by plan; the words remembered; and a session with the ideal that its selection starts from.
+use Rattle.std.specs.Prelude.{Option, is_some}
 use Prim.Native.Nat.{ℕ, ◌+◌, ◌-◌, ◌≤◌}
 use mathlib.Core.Path.{◌≡◌, refl, sym, ap, ap₂, ◌∙◌}
-use mathlib.Core.Bool.{Bool, true, false, cond, not, ◌||◌}
+use mathlib.Core.Bool.{true≢false, false≢true, Bool, true, false, not}
 use mathlib.Core.List.{List, ◌++◌}
 use native.Mathlib.Omega.{arith}
-use borrow.Author.Tests.{eq-eqb, ne_eqb}
 use lib.Dec.{eqb}
 use lib.Ieee.{Float, lt}
 use lib.ListN.{length, get_or, take, drop, length-drop, length-append}
-use lib.Seq.{sets, get_or-drop, drop-append-le, take_at}
+use lib.Seq.{get_or-take, length-take-le, sets, get_or-drop, drop-append-le, take_at}
 use Rattle.list_laws.proofs.Best.{among_more}
-use Rattle.list_laws.proofs.Bools.{by_bool}
+use Rattle.list_laws.proofs.Bools.{by_bool, by_option}
+use Rattle.list_laws.proofs.Tests.{all_in-below, all_below-same, all_below_any}
 use Rattle.list_laws.proofs.Built.{list_below-take, over-front, over_run}
 use Rattle.list_laws.proofs.Kept.{keep_below_no}
 use Rattle.model.specs.declared.Edition.{Edition}
 use Rattle.model.specs.declared.Edition.TheVariants.{First, Second}
-use Rattle.model.specs.declared.OptionUsize.{OptionUsize}
-use Rattle.model.specs.declared.OptionUsize.TheVariants as opt_usize
 use Rattle.model.specs.declared.Session.{Session}
 use Rattle.model.specs.Edition.{waiting_of}
-use Rattle.model.specs.Lists.{list_below, keep_below, over}
+use Rattle.model.specs.Lists.{all_in, all_below, any_below, list_below, keep_below, over}
 use Rattle.model.specs.Association.{least_from}
 use Rattle.model.specs.Kept.{without_line}
 use Rattle.model.specs.Window.{least_remembered, last_of}
-use Rattle.model.specs.Session.{given, memory_at, with_ideal, start_by, start_ideal}
+use Rattle.model.specs.Session.{memory_at, with_ideal, start_by, start_ideal}
 use Rattle.session_window.specs.Sources.{has_line, least_by}
 
 -- at most as many plans wait as the size
 pub waiting_few : (e : Edition) (size : ℕ) → waiting_of e size ≤ size
 waiting_few First size = omega arith
 waiting_few Second size = omega arith
-
--- ---- a value that counts, and one that does not
-
-pub least_taken : (t : Bool) (v x least : Float) → t ≡ true → x ≡ v → lt x least ≡ true → x ≡ least_by t v least
-least_taken t v x least e f h = f ∙ sym (ap (λ (b : Bool). least_by b v least) e ∙ ap (λ (b : Bool). cond b v least) (ap (λ (y : Float). lt y least) (sym f) ∙ h))
-
-pub least_kept : (t : Bool) (v x least : Float) → t ≡ true → x ≡ v → lt x least ≡ false → least ≡ least_by t v least
-least_kept t v x least e f h = sym (ap (λ (b : Bool). least_by b v least) e ∙ ap (λ (b : Bool). cond b v least) (ap (λ (y : Float). lt y least) (sym f) ∙ h))
 
 -- one plan more
 pub least_more : (b : Float) (f : ℕ → Float) (t : ℕ → Bool) (n : ℕ) (takes : Bool) (least r : Float) → takes ≡ t n → least ≡ least_from b f (keep_below t n)
@@ -48,17 +39,13 @@ least_more b f t n takes least r e g h = by_bool (t n)
 
 -- ---- lines
 
-pub no_line-here : (lines : List ℕ) (p : ℕ) → get_or lines p 0 ≡ without_line → has_line lines p ≡ false
-no_line-here lines p e = ap not (eq-eqb (get_or lines p 0) without_line e)
-
-pub line-here : (lines : List ℕ) (p : ℕ) → (get_or lines p 0 ≡ without_line → ⊥) → has_line lines p ≡ true
-line-here lines p e = ap not (ne_eqb (get_or lines p 0) without_line e)
-
-pub counts-not : (every : Bool) (line : ℕ) → every ≡ false → line ≡ without_line → false ≡ (every || not (eqb line without_line))
-counts-not every line e f = sym (ap (λ (b : Bool). b || not (eqb line without_line)) e ∙ ap not (eq-eqb line without_line f))
-
-pub counts_so : (every : Bool) (line : ℕ) → every ≡ false → (line ≡ without_line → ⊥) → true ≡ (every || not (eqb line without_line))
-counts_so every line e f = sym (ap (λ (b : Bool). b || not (eqb line without_line)) e ∙ ap not (ne_eqb line without_line f))
+-- that each of the first n lines is none says that none of n plans has one
+pub no_line-each : (lines : List ℕ) (n : ℕ) → n ≤ length lines → all_in (λ line. eqb line without_line) (take n lines) ≡ not (any_below (has_line lines) n)
+no_line-each lines n h =
+    all_in-below (λ line. eqb line without_line) 0 (take n lines)
+    ∙ ap (all_below (λ p. eqb (get_or (take n lines) p 0) without_line)) (length-take-le n lines h)
+    ∙ all_below-same _ (λ p. eqb (get_or lines p 0) without_line) n (λ p v. ap (λ line. eqb line without_line) (get_or-take n lines p 0 v))
+    ∙ all_below_any (λ p. eqb (get_or lines p 0) without_line) n
 
 -- ---- the words remembered, taken up
 
@@ -94,15 +81,20 @@ remembered_is pool a b m₀ m₁ m₂ last at at₀ held m from most most₀ p q
 
 -- ---- a session with the ideal that its selection starts from
 
-pub slid_without : (s : Session) (pool : List ℕ) → s.config.window ≡ opt_usize.None → s ≡ with_ideal s (start_ideal s pool)
+pub slid_without : (s : Session) (pool : List ℕ) → is_some s.config.window ≡ false → s ≡ with_ideal s (start_ideal s pool)
 unfolding start_ideal
-slid_without s pool e = sym (ap (λ (o : OptionUsize). with_ideal s (start_by (given o) s pool)) e)
+slid_without s pool h =
+    by_option s.config.window
+    (λ e. sym (ap (λ (o : Option ℕ). with_ideal s (start_by o s pool)) e))
+    (λ w e. absurd (true≢false (sym (ap is_some e) ∙ h)))
 
-pub slid_with : (s : Session) (pool : List ℕ) (w at : ℕ) (ideal : List Float) → s.config.window ≡ opt_usize.Some w → at ≡ memory_at s.config
+pub slid_with : (s : Session) (pool : List ℕ) (at : ℕ) (ideal : List Float) → is_some s.config.window ≡ true → at ≡ memory_at s.config
     → ideal ≡ over (list_below (least_remembered pool at s.config.n_obj s.progress.n_remembered) s.config.n_obj) s.ideal_point
     → with_ideal s ideal ≡ with_ideal s (start_ideal s pool)
 unfolding start_ideal
-slid_with s pool w at ideal e f g =
-    ap (with_ideal s)
+slid_with s pool at ideal h f g =
+    by_option s.config.window
+    (λ e. absurd (false≢true (sym (ap is_some e) ∙ h)))
+    (λ w e. ap (with_ideal s)
     (g ∙ ap (λ (k : ℕ). over (list_below (least_remembered pool k s.config.n_obj s.progress.n_remembered) s.config.n_obj) s.ideal_point) f
-    ∙ sym (ap (λ (o : OptionUsize). start_by (given o) s pool) e))
+    ∙ sym (ap (λ (o : Option ℕ). start_by o s pool) e)))

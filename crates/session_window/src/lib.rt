@@ -13,32 +13,22 @@ ghost use Rattle.model.specs.Row.{row_of};
 ghost use Rattle.model.specs.Association.{least_from};
 ghost use Rattle.model.specs.Kept.{without_line};
 ghost use Rattle.model.specs.Window.{most_remembered, max_window, part_at, least_remembered, last_of};
-ghost use Rattle.model.specs.Session.{given, memory_at, most_words, start_ideal, with_ideal};
+ghost use Rattle.model.specs.Session.{memory_at, most_words, start_ideal, with_ideal};
 ghost use Rattle.model.specs.Refusal.{max_size, max_pool};
 ghost use Rattle.session_window.specs.Sources.{has_line, counted, least_by, least_in};
 
-use model::{Config, NO_LINE, OptionUsize, PLAN_WORDS, Session, WINDOW_WORDS};
+use model::{Config, NO_LINE, PLAN_WORDS, Session, WINDOW_WORDS};
 
 // ---- how much is remembered, and where
 
 // How many past generations a session of a window remembers.
-pub fn most_remembered(window: OptionUsize) -> usize
-    ensures { result ≡ most_remembered (given window) }
+pub fn most_remembered(window: Option<usize>) -> usize
+    ensures { result ≡ most_remembered window }
 {
     match window {
-        OptionUsize::None => 0,
-        OptionUsize::Some(w) => past(w, 1),
+        None => 0,
+        Some(w) => w.saturating_sub(1),
     }
-}
-
-// What is left of n past k.
-fn past(n: usize, k: usize) -> usize
-    ensures { result ≡ n - k }
-{
-    if n < k {
-        return 0;
-    }
-    n - k
 }
 
 // Where the words remembered begin in the pool's slice: behind the room of the plans.
@@ -46,9 +36,8 @@ pub fn memory_at(config: Config) -> usize
     requires { config.population_size ≤ max_size }
     ensures { result ≡ memory_at config }
 {
-    let edition = config.edition;
     let size = config.population_size;
-    (editions::waiting_of(edition, size) + size) * PLAN_WORDS
+    (editions::waiting_of(config.edition, size) + size) * PLAN_WORDS
 }
 
 // ---- the ideal that a selection starts from
@@ -67,13 +56,11 @@ fn least_remembered(words: &[u64], at: usize, m: usize, n: usize, j: usize) -> f
     ensures { result ≡ least_remembered words.now at m n j }
 {
     let mut least = 1.0 / 0.0;
-    let mut g = 0;
-    while g < n {
+    for g in 0..n {
         let v = part_at(words, at, m, g, j);
         if v < least {
             least = v;
         }
-        g += 1;
     }
     least
 }
@@ -83,10 +70,8 @@ fn put_start(words: &[u64], at: usize, m: usize, n: usize, ideal: &mut [f64])
     requires { (at ≤ max_pool * plan_words) × (n ≤ max_window) × (m ≤ max_objectives) × (m ≤ length ideal.old) }
     ensures { ideal.new ≡ over (list_below (least_remembered words.now at m n) m) ideal.old }
 {
-    let mut j = 0;
-    while j < m {
+    for j in 0..m {
         ideal[j] = least_remembered(words, at, m, n, j);
-        j += 1;
     }
 }
 
@@ -97,23 +82,21 @@ pub fn slid(session: Session, pool: &[u64]) -> Session
     ensures { result ≡ with_ideal session (start_ideal session pool.now) }
 {
     let config = session.config;
-    let window = config.window;
-    let OptionUsize::Some(_) = window else {
+    if config.window.is_none() {
         return session;
-    };
-    let progress = session.progress;
-    let at = memory_at(config);
+    }
     let mut ideal_point = session.ideal_point;
     put_start(
         pool,
-        at,
+        memory_at(config),
         config.n_obj,
-        progress.n_remembered,
+        session.progress.n_remembered,
         &mut ideal_point,
     );
-    let mut s = session;
-    s.ideal_point = ideal_point;
-    s
+    Session {
+        ideal_point,
+        ..session
+    }
 }
 
 // ---- the own part of a generation
@@ -123,28 +106,7 @@ fn no_line(lines: &[usize], n: usize) -> bool
     requires { n ≤ length lines.now }
     ensures { result ≡ not (any_below (has_line lines.now) n) }
 {
-    let mut p = 0;
-    while p < n {
-        if lines[p] == NO_LINE {
-            p += 1;
-        } else {
-            return false;
-        }
-    }
-    true
-}
-
-// A plan of a line counts where it has one, or every plan does.
-fn counts(every: bool, line: usize) -> bool
-    ensures { result ≡ (every || not (eqb line without_line)) }
-{
-    if every {
-        return true;
-    }
-    if line == NO_LINE {
-        return false;
-    }
-    true
+    lines[..n].iter().all(|&line| line == NO_LINE)
 }
 
 // The smaller of the least so far and plan p's value at objective j, where the plan counts.
@@ -152,13 +114,11 @@ fn least_with(pool: &[u64], directions: &[u8], p: usize, j: usize, takes: bool, 
     requires { (p < plan_count pool.now) × (j < length directions.now) × (j < max_objectives) × (j < (plan_at pool.now p).row_length) }
     ensures { result ≡ least_by takes (row_of directions.now (plan_at pool.now p) j) least }
 {
-    if takes {
-        let v = plan_rows::row_value(pool, directions, p, j);
-        if v < least {
-            return v;
-        }
+    if !takes {
+        return least;
     }
-    least
+    let v = plan_rows::row_value(pool, directions, p, j);
+    if v < least { v } else { least }
 }
 
 // The smaller of `start` and the least at objective j of the plans that count.
@@ -177,11 +137,9 @@ fn least_value(
 {
     let n = plans::plan_count(pool);
     let mut least = start;
-    let mut p = 0;
-    while p < n {
-        let takes = counts(every, lines[p]);
+    for p in 0..n {
+        let takes = every || lines[p] != NO_LINE;
         least = least_with(pool, directions, p, j, takes, least);
-        p += 1;
     }
     least
 }
@@ -196,11 +154,8 @@ pub fn put_least(pool: &[u64], directions: &[u8], lines: &[usize], ideal: &mut [
     let n = plans::plan_count(pool);
     let m = directions.len();
     let every = no_line(lines, n);
-    let mut j = 0;
-    while j < m {
-        let start = ideal[j];
-        ideal[j] = least_value(pool, directions, lines, every, j, start);
-        j += 1;
+    for j in 0..m {
+        ideal[j] = least_value(pool, directions, lines, every, j, ideal[j]);
     }
 }
 
@@ -211,30 +166,26 @@ fn put_bits(reals: &[f64], n: usize, at: usize, to: &mut [u64])
     requires { (n ≤ length reals.now) × (at + n ≤ length to.old) }
     ensures { to.new ≡ sets to.old at (list_below (λ j. bits (get_or reals.now j nan)) n) }
 {
-    let mut j = 0;
-    while j < n {
+    for j in 0..n {
         to[at + j] = real::word_of_real(reals[j]);
-        j += 1;
     }
 }
 
 // The own part of a generation, the first m of some reals, is put behind the n that are remembered, and the oldest is forgotten where there are too many.
 pub fn remember(config: Config, n: usize, own: &[f64], pool: &mut [u64])
     requires { (config.population_size ≤ max_size) × (config.n_obj ≤ max_objectives) × (config.n_obj ≤ length own.now) × (n < max_window)
-        × (n ≤ most_remembered (given config.window)) × (memory_at config + most_words config ≤ length pool.old) }
+        × (n ≤ most_remembered config.window) × (memory_at config + most_words config ≤ length pool.old) }
     ensures { pool.new ≡ sets pool.old (memory_at config) (last_of (most_words config)
         (list_below (λ i. get_or pool.old (memory_at config + i) 0) (n * config.n_obj) ++ list_below (λ j. bits (get_or own.now j nan)) config.n_obj)) }
 {
     let m = config.n_obj;
-    let window = config.window;
     let at = memory_at(config);
     let held = n * m;
-    let behind = at + held;
     let mut memory = [0u64; WINDOW_WORDS];
-    words::put(&pool[at..behind], 0, &mut memory);
+    words::put(&pool[at..at + held], 0, &mut memory);
     put_bits(own, m, held, &mut memory);
     let end = held + m;
-    let most = most_remembered(window) * m;
-    let from = past(end, most);
+    let most = most_remembered(config.window) * m;
+    let from = end.saturating_sub(most);
     words::put(&memory[from..end], at, pool);
 }

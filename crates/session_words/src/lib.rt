@@ -7,12 +7,11 @@ ghost use Rattle.std.specs.Prelude.{◌≡◌, ◌%◌, ◌≤◌, get_or};
 ghost use Rattle.std.specs.Float.{binary64};
 ghost use Rattle.std.specs.Float.Ieee.{of_bits};
 ghost use Rattle.model.specs.Lists.{one};
-ghost use Rattle.session_words.specs.Coding.{marked, step_f64, step_i64, distribution_of, dimension_at, dimensions_at, head_width, session_width, phase_of, first_of, window_of, marks_at, ideal_at, config_at, progress_at, session_of};
+ghost use Rattle.session_words.specs.Coding.{marked, distribution_of, dimension_at, dimensions_at, head_width, session_width, phase_of, marks_at, ideal_at, config_at, progress_at, session_of};
 
 use model::{
     CategoricalDistribution, Config, DimensionInfo, Distribution, FloatDistribution,
-    IntDistribution, MAX_DIMS, MAX_OBJECTIVES, OptionF64, OptionI64, OptionU64, OptionUsize, Phase,
-    Progress, Rng, Session,
+    IntDistribution, MAX_DIMS, MAX_OBJECTIVES, Phase, Progress, Rng, Session,
 };
 use words::word_at;
 
@@ -86,41 +85,17 @@ fn mark_at(words: &[u64], i: usize) -> u8
 fn marked(w: u64) -> bool
     ensures { result ≡ marked w }
 {
-    if w == 0 {
-        return false;
-    }
-    true
+    w != 0
 }
 
 // A yes or no as a word, 1 or 0.
 pub fn mark(b: bool) -> u64
     ensures { result ≡ one b }
 {
-    if b {
-        return 1;
-    }
-    0
+    u64::from(b)
 }
 
 // ---- a dimension
-
-fn step_f64(has: u64, w: u64) -> OptionF64
-    ensures { result ≡ step_f64 has w }
-{
-    if has == 0 {
-        return OptionF64::None;
-    }
-    OptionF64::Some(real::real_of_word(w))
-}
-
-fn step_i64(has: u64, w: u64) -> OptionI64
-    ensures { result ≡ step_i64 has w }
-{
-    if has == 0 {
-        return OptionI64::None;
-    }
-    OptionI64::Some(real::int_of_word(w))
-}
 
 // The dimension of a kind (0 Float, 1 Int, else Categorical) that words stand for.
 pub fn distribution_of(
@@ -134,31 +109,24 @@ pub fn distribution_of(
     ensures { result ≡ distribution_of kind low high log has_step step }
 {
     let log_scale = marked(log);
-    if kind == 0 {
-        let step = step_f64(has_step, step);
-        let low = real::real_of_word(low);
-        let high = real::real_of_word(high);
-        return Distribution::Float(FloatDistribution {
-            low,
-            high,
+    let has_step = marked(has_step);
+    match kind {
+        0 => Distribution::Float(FloatDistribution {
+            low: real::real_of_word(low),
+            high: real::real_of_word(high),
             log_scale,
-            step,
-        });
-    }
-    if kind == 1 {
-        let step = step_i64(has_step, step);
-        let low = real::int_of_word(low);
-        let high = real::int_of_word(high);
-        return Distribution::Int(IntDistribution {
-            low,
-            high,
+            step: has_step.then_some(real::real_of_word(step)),
+        }),
+        1 => Distribution::Int(IntDistribution {
+            low: real::int_of_word(low),
+            high: real::int_of_word(high),
             log_scale,
-            step,
-        });
+            step: has_step.then_some(real::int_of_word(step)),
+        }),
+        _ => Distribution::Categorical(CategoricalDistribution {
+            n_choices: low as usize,
+        }),
     }
-    Distribution::Categorical(CategoricalDistribution {
-        n_choices: low as usize,
-    })
 }
 
 // The dimension whose six words begin at a place.
@@ -181,11 +149,9 @@ pub fn dimensions_of_words(words: &[u64], from: usize) -> [DimensionInfo; MAX_DI
     ensures { result ≡ dimensions_at words.now from }
 {
     let mut dims = settings::blank_dimensions();
-    let mut d = 0;
-    while d < MAX_DIMS {
+    for d in 0..MAX_DIMS {
         let distribution = dimension_of_words(words, from + d * DIMENSION_WORDS);
         dims[d] = DimensionInfo { distribution };
-        d += 1;
     }
     dims
 }
@@ -196,37 +162,18 @@ fn phase_of(w: u64) -> Phase
     ensures { result ≡ phase_of w }
 {
     if w == 0 {
-        return Phase::Discovery;
+        Phase::Discovery
+    } else {
+        Phase::Active
     }
-    Phase::Active
-}
-
-fn first_of(has: u64, w: u64) -> OptionU64
-    ensures { result ≡ first_of has w }
-{
-    if has == 0 {
-        return OptionU64::None;
-    }
-    OptionU64::Some(w)
-}
-
-fn window_of(has: u64, w: usize) -> OptionUsize
-    ensures { result ≡ window_of has w }
-{
-    if has == 0 {
-        return OptionUsize::None;
-    }
-    OptionUsize::Some(w)
 }
 
 fn marks_at(words: &[u64]) -> [u8; MAX_OBJECTIVES]
     ensures { result ≡ marks_at words.now }
 {
     let mut marks = [0u8; MAX_OBJECTIVES];
-    let mut i = 0;
-    while i < MAX_OBJECTIVES {
+    for i in 0..MAX_OBJECTIVES {
         marks[i] = mark_at(words, DIRECTIONS_AT + i);
-        i += 1;
     }
     marks
 }
@@ -235,10 +182,8 @@ fn ideal_at(words: &[u64]) -> [f64; MAX_OBJECTIVES]
     ensures { result ≡ ideal_at words.now }
 {
     let mut ideal = [0.0; MAX_OBJECTIVES];
-    let mut i = 0;
-    while i < MAX_OBJECTIVES {
+    for i in 0..MAX_OBJECTIVES {
         ideal[i] = real_at(words, IDEAL_AT + i);
-        i += 1;
     }
     ideal
 }
@@ -246,70 +191,48 @@ fn ideal_at(words: &[u64]) -> [f64; MAX_OBJECTIVES]
 fn config_at(words: &[u64]) -> Config
     ensures { result ≡ config_at words.now }
 {
-    let n_obj = word_at(words, OBJECTIVES_AT) as usize;
-    let directions = marks_at(words);
-    let divisions = word_at(words, DIVISIONS_AT) as usize;
-    let population_size = word_at(words, SIZE_AT) as usize;
-    let crossover_prob = real_at(words, CROSSOVER_PROB_AT);
-    let crossover_eta = real_at(words, CROSSOVER_ETA_AT);
-    let mutation_eta = real_at(words, MUTATION_ETA_AT);
-    let edition = editions::edition_of(word_at(words, EDITION_AT));
-    let has = word_at(words, HAS_WINDOW_AT);
-    let w = word_at(words, WINDOW_AT) as usize;
-    let window = window_of(has, w);
+    let has_window = marked(word_at(words, HAS_WINDOW_AT));
     Config {
-        edition,
-        n_obj,
-        directions,
-        divisions,
-        population_size,
-        crossover_prob,
-        crossover_eta,
-        mutation_eta,
-        window,
+        edition: editions::edition_of(word_at(words, EDITION_AT)),
+        n_obj: word_at(words, OBJECTIVES_AT) as usize,
+        directions: marks_at(words),
+        divisions: word_at(words, DIVISIONS_AT) as usize,
+        population_size: word_at(words, SIZE_AT) as usize,
+        crossover_prob: real_at(words, CROSSOVER_PROB_AT),
+        crossover_eta: real_at(words, CROSSOVER_ETA_AT),
+        mutation_eta: real_at(words, MUTATION_ETA_AT),
+        window: has_window.then_some(word_at(words, WINDOW_AT) as usize),
     }
 }
 
 fn progress_at(words: &[u64]) -> Progress
     ensures { result ≡ progress_at words.now }
 {
-    let n_dims = word_at(words, DIMS_AT) as usize;
-    let n_candidates = word_at(words, CANDIDATES_AT) as usize;
-    let n_plans = word_at(words, PLANS_AT) as usize;
-    let n_waiting = word_at(words, WAITING_AT) as usize;
-    let n_remembered = word_at(words, REMEMBERED_AT) as usize;
-    let generation = word_at(words, GENERATION_AT);
     Progress {
-        n_dims,
-        n_candidates,
-        n_plans,
-        n_waiting,
-        n_remembered,
-        generation,
+        n_dims: word_at(words, DIMS_AT) as usize,
+        n_candidates: word_at(words, CANDIDATES_AT) as usize,
+        n_plans: word_at(words, PLANS_AT) as usize,
+        n_waiting: word_at(words, WAITING_AT) as usize,
+        n_remembered: word_at(words, REMEMBERED_AT) as usize,
+        generation: word_at(words, GENERATION_AT),
     }
 }
 
 // The session that words stand for. Any words stand for some session.
+#[tactic(auto, unfolding(crate::specs::Coding::session_of))]
 pub fn session_of_words(words: &[u64]) -> Session
     ensures { result ≡ session_of words.now }
 {
-    let config = config_at(words);
-    let phase = phase_of(word_at(words, PHASE_AT));
-    let has = word_at(words, HAS_FIRST_AT);
-    let discovery_trial_id = first_of(has, word_at(words, FIRST_AT));
-    let rng = Rng {
-        s: word_at(words, RNG_AT),
-    };
-    let dimensions = dimensions_of_words(words, HEAD_WORDS);
-    let ideal_point = ideal_at(words);
-    let progress = progress_at(words);
+    let has_first = marked(word_at(words, HAS_FIRST_AT));
     Session {
-        config,
-        phase,
-        discovery_trial_id,
-        rng,
-        dimensions,
-        ideal_point,
-        progress,
+        config: config_at(words),
+        phase: phase_of(word_at(words, PHASE_AT)),
+        discovery_trial_id: has_first.then_some(word_at(words, FIRST_AT)),
+        rng: Rng {
+            s: word_at(words, RNG_AT),
+        },
+        dimensions: dimensions_of_words(words, HEAD_WORDS),
+        ideal_point: ideal_at(words),
+        progress: progress_at(words),
     }
 }

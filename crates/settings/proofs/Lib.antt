@@ -1,5 +1,4 @@
 pub mod Signed
-pub mod Words
 pub mod Valid
 pub mod Stepped
 pub mod OnStep

@@ -1,4 +1,5 @@
 -- A Float on a step: where refusals 6 and 12 do not apply, the greatest k is a whole number of at most 2^53, and the value of each k up to it lies within the bounds.
+use Rattle.std.specs.Prelude.{Some}
 use mathlib.Core.Path.{◌≡◌, refl, sym, ap, subst}
 use mathlib.Core.Logic.{inl, inr}
 use mathlib.Core.Bool.{true, false, not, ◌&&◌}
@@ -25,9 +26,7 @@ use Rattle.float_laws.proofs.FromZero.{sub_number}
 use Rattle.real_laws.proofs.Nan.{rise}
 use Rattle.real_laws.proofs.Clamped.{clamp-within}
 use Rattle.rng_util.specs.Span.{Spanned}
-use Rattle.model.specs.declared.OptionF64.TheVariants as opt_f64
-use Rattle.model.specs.Real as real
-use Rattle.model.specs.Real.{◌⊕◌, ◌⊗◌, ◌⊘◌, of_whole, within, clamp, infinity}
+use Rattle.model.specs.Real.{of_whole, within, infinity}
 use Rattle.model.specs.Setting.{steps_of, last_step, on_step, valid_float_step, max_bound}
 
 -- what is asked of the bounds and the step
@@ -55,7 +54,7 @@ below-infinity (inf true) h k = absurd h
 below-infinity (inf false) h k = absurd k
 below-infinity (fin s m e) h k = tt
 
-pub step-test : (low high step : Float) → valid_float_step low high (opt_f64.Some step) ≡ true → StepTest low high step
+pub step-test : (low high step : Float) → valid_float_step low high (Some step) ≡ true → StepTest low high step
 unfolding valid_float_step of_bits
 step-test low high step h =
     let a = lt nought step in

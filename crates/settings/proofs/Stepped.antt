@@ -1,4 +1,5 @@
 -- An Int drawn with a step: low + k × step stays within low..high, so nothing on the way leaves 64 bits.
+use Rattle.std.specs.Prelude.{Some}
 use mathlib.Core.Path.{◌≡◌, sym, ap, ◌∙◌}
 use Prim.Native.Nat.{ℕ, ◌+◌, ◌*◌, ◌/◌, ◌%◌, ◌^◌, ◌<◌, ◌≤◌}
 use native.Mathlib.Nat.{mod-lt, div-mul-le_self, div-le_self, mul-le-mul_right, le_trans, zero-add, add-zero}
@@ -8,7 +9,6 @@ use lib.IntN.{ℤ, pos, nat_abs, ◌+ℤ◌, ◌-ℤ◌, ◌*ℤ◌}
 use lib.Signed.{non_neg, quot_z, ◌≤ℤ◌, pos-nat_abs}
 use mir.Syntax.{w64}
 use mir.Val.{SFits, Fits}
-use Rattle.model.specs.declared.OptionI64.TheVariants as opt_i64
 use Rattle.model.specs.Draw.{drawn, draw_word, draw_i64}
 use Rattle.model.specs.Setting.{sample_int}
 use Rattle.list_laws.proofs.Draws.{drawn-by}
@@ -76,7 +76,7 @@ module _ (low high step : ℤ) (q : Stepping low high step) where
     rise-fits = record { fits = omega (arith, rise_le, span_below) }
 
   -- the definition's value
-  pub stepped_is : (s w t : ℕ) → drawn w t ≡ draw_word s → drawn (low +ℤ pos (rise low high step w)) t ≡ sample_int low high (opt_i64.Some step) s
+  pub stepped_is : (s w t : ℕ) → drawn w t ≡ draw_word s → drawn (low +ℤ pos (rise low high step w)) t ≡ sample_int low high (Some step) s
   unfolding sample_int draw_i64
   stepped_is s w t e =
       drawn-by (λ (v : ℕ). low +ℤ pos (rise low high step v)) e

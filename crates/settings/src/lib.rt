@@ -8,36 +8,19 @@ ghost use Rattle.model.specs.Setting.{kind_of, kind_of_dimension, max_dims, in_b
 ghost use Rattle.model.specs.Session.{blank_dimension};
 ghost use Rattle.settings.specs.Candidate.{blank_slot};
 
-use model::{CategoricalDistribution, DimensionInfo, Distribution, MAX_DIMS, ParamValue, Rng};
+use model::{CategoricalDistribution, DimensionInfo, Distribution, MAX_DIMS, ParamValue};
 
-// A setting as a place of a candidate holds it.
+// A setting as a place of a candidate holds it: of a candidate the first n places count, n being the number of dimensions.
 #[derive(Clone, Copy)]
 pub struct Slot {
     pub value: ParamValue,
-}
-
-// What a draw answers: its value, and the generator moved on.
-#[derive(Clone, Copy)]
-pub struct DrawnValue {
-    pub value: ParamValue,
-    pub rng: Rng,
-}
-
-// Of a candidate the first n places count, n being the number of dimensions.
-#[derive(Clone, Copy)]
-pub struct DrawnCandidate {
-    pub params: [Slot; MAX_DIMS],
-    pub rng: Rng,
 }
 
 // n lies within low..=high.
 fn whole_within(low: i64, high: i64, n: i64) -> bool
     ensures { result ≡ (le_z low n && le_z n high) }
 {
-    if low <= n {
-        return n <= high;
-    }
-    false
+    low <= n && n <= high
 }
 
 // The number of a dimension's kind: 0 Float, 1 Int, 2 Categorical.
@@ -67,22 +50,11 @@ pub fn kind_of(v: ParamValue) -> u64
 pub fn in_bounds(d: Distribution, v: ParamValue) -> bool
     ensures { result ≡ in_bounds d v }
 {
-    match d {
-        Distribution::Float(f) => match v {
-            ParamValue::Float(x) => real::real_within(f.low, f.high, x),
-            ParamValue::Int(_) => false,
-            ParamValue::Categorical(_) => false,
-        },
-        Distribution::Int(i) => match v {
-            ParamValue::Float(_) => false,
-            ParamValue::Int(n) => whole_within(i.low, i.high, n),
-            ParamValue::Categorical(_) => false,
-        },
-        Distribution::Categorical(k) => match v {
-            ParamValue::Float(_) => false,
-            ParamValue::Int(_) => false,
-            ParamValue::Categorical(c) => c < k.n_choices,
-        },
+    match (d, v) {
+        (Distribution::Float(f), ParamValue::Float(x)) => real::real_within(f.low, f.high, x),
+        (Distribution::Int(i), ParamValue::Int(n)) => whole_within(i.low, i.high, n),
+        (Distribution::Categorical(k), ParamValue::Categorical(c)) => c < k.n_choices,
+        _ => false,
     }
 }
 
@@ -101,13 +73,11 @@ pub fn to_word(v: ParamValue) -> u64
 pub fn of_word(kind: u64, w: u64) -> ParamValue
     ensures { result ≡ of_word kind w }
 {
-    if kind == 0 {
-        return ParamValue::Float(real::real_of_word(w));
+    match kind {
+        0 => ParamValue::Float(real::real_of_word(w)),
+        1 => ParamValue::Int(real::int_of_word(w)),
+        _ => ParamValue::Categorical(w as usize),
     }
-    if kind == 1 {
-        return ParamValue::Int(real::int_of_word(w));
-    }
-    ParamValue::Categorical(w as usize)
 }
 
 // A candidate none of whose places is filled yet.

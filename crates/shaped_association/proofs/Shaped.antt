@@ -6,7 +6,7 @@ use mathlib.Core.List.{List}
 use native.Mathlib.Omega.{arith}
 use lib.Ieee.{Float, nan}
 use lib.ListN.{length, get_or}
-use Rattle.model.specs.Lists.{keep_below, list_below, over}
+use Rattle.model.specs.Lists.{keep_below, over}
 use Rattle.model.specs.Real.{infinity}
 use Rattle.model.specs.Association.{Request, value_of, shapes, shapers, association, line_of}
 use Rattle.model.specs.Kept.{without_line, line_mark}

@@ -31,12 +31,12 @@ pub fn associate_marked(
         → LinesIn r table.now n_lines m → n_lines ≡ line_count r
         → Lined r n m ideal.old ideal.new lines.old lines.new distances.new }
 {
-    let mut places: [usize; MAX_POOL] = [0; MAX_POOL];
+    let mut places = [0; MAX_POOL];
     let k = shaper_rows::list_marked(marks, n, &mut places);
-    let mut own_rows: [f64; MAX_ROW_VALUES] = [0.0; MAX_ROW_VALUES];
+    let mut own_rows = [0.0; MAX_ROW_VALUES];
     shaper_rows::gather_rows(rows, m, &places, k, &mut own_rows);
-    let mut own_lines: [usize; MAX_POOL] = [0; MAX_POOL];
-    let mut own_distances: [f64; MAX_POOL] = [0.0; MAX_POOL];
+    let mut own_lines = [0; MAX_POOL];
+    let mut own_distances = [0.0; MAX_POOL];
     association::associate(
         edition,
         &own_rows,

@@ -4,7 +4,6 @@ use Rattle.std.specs.Float.{nan}
 use Rattle.model.specs.Lists.{keep_below, list_below, over}
 use Rattle.model.specs.Real.{infinity}
 use Rattle.model.specs.Kept.{without_line}
-use Rattle.front_laws.specs.Flat.{row_at}
 use Rattle.shapers.specs.Marked.{marked}
 
 -- the places of the marked plans among the first n, and how many come before plan p

@@ -16,19 +16,17 @@ ghost use Rattle.shaper_rows.specs.Gathered.{places_of, earlier, Spreads};
 use model::NO_LINE;
 
 // The places of the marked plans among the first n, and how many there are.
-#[tactic(auto, using(crate::proofs::Ranks::earlier_none, crate::proofs::Ranks::earlier_more, crate::proofs::Ranks::places_none, crate::proofs::Ranks::places_yes, crate::proofs::Ranks::places_no, crate::proofs::list_marked::Statement::statement))]
+#[tactic(auto, using(crate::proofs::Ranks::earlier_none, crate::proofs::Ranks::earlier_more, crate::proofs::Ranks::places_none, crate::proofs::Ranks::places_yes, crate::proofs::Ranks::places_no))]
 pub fn list_marked(marks: &[bool], n: usize, places: &mut [usize]) -> usize
     requires { (n ≤ length marks.now) × (n ≤ length places.old) }
     ensures { (result ≡ earlier marks.now n) × (places.new ≡ over (places_of marks.now n) places.old) }
 {
     let mut k = 0;
-    let mut p = 0;
-    while p < n {
+    for p in 0..n {
         if marks[p] {
             places[k] = p;
             k += 1;
         }
-        p += 1;
     }
     k
 }
@@ -40,11 +38,7 @@ fn gather_row(rows: &[f64], p: usize, m: usize, i: usize, out: &mut [f64])
 {
     let start = p * m;
     let at = i * m;
-    let mut j = 0;
-    while j < m {
-        out[at + j] = rows[start + j];
-        j += 1;
-    }
+    out[at..at + m].copy_from_slice(&rows[start..start + m]);
 }
 
 // The rows at the first k of some places, one after the other.
@@ -53,36 +47,9 @@ pub fn gather_rows(rows: &[f64], m: usize, places: &[usize], k: usize, out: &mut
     ensures { out.new
         ≡ over (flat_rows (λ i. row_at rows.now m (get_or places.now i 0)) k m) out.old }
 {
-    let mut i = 0;
-    while i < k {
-        let p = places[i];
-        gather_row(rows, p, m, i, out);
-        i += 1;
+    for i in 0..k {
+        gather_row(rows, places[i], m, i, out);
     }
-}
-
-// A plan's line, the i-th of those listed, or that it has none.
-fn line_or_none(shapes: bool, from: &[usize], i: usize) -> usize
-    requires { shapes ≡ true → i < length from.now }
-    ensures { result ≡ cond shapes (get_or from.now i 0) without_line }
-{
-    if shapes { from[i] } else { NO_LINE }
-}
-
-// Its distance, infinity where it has no line.
-fn distance_or_none(shapes: bool, from: &[f64], i: usize) -> f64
-    requires { shapes ≡ true → i < length from.now }
-    ensures { result ≡ cond shapes (get_or from.now i nan) infinity }
-{
-    if shapes { from[i] } else { 1.0 / 0.0 }
-}
-
-// One more where a plan is marked.
-fn count_one(shapes: bool, i: usize, n: usize) -> usize
-    requires { i < n }
-    ensures { result ≡ i + one shapes }
-{
-    if shapes { i + 1 } else { i }
 }
 
 // Lines and distances of the marked plans, back at their places among n; a plan that is not marked has no line.
@@ -100,12 +67,14 @@ pub fn spread(
         distances.old distances.new }
 {
     let mut i = 0;
-    let mut p = 0;
-    while p < n {
-        let shapes = marks[p];
-        lines[p] = line_or_none(shapes, from_lines, i);
-        distances[p] = distance_or_none(shapes, from_distances, i);
-        i = count_one(shapes, i, n);
-        p += 1;
+    for p in 0..n {
+        if marks[p] {
+            lines[p] = from_lines[i];
+            distances[p] = from_distances[i];
+            i += 1;
+        } else {
+            lines[p] = NO_LINE;
+            distances[p] = 1.0 / 0.0;
+        }
     }
 }

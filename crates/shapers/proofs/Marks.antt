@@ -1,16 +1,16 @@
 -- Laws of the marks: by what the test of the split front answers, those of the feasible plans stand, or every plan is marked.
 use Prim.Native.Nat.{ℕ, ◌+◌, ◌-◌, ◌<◌}
-use mathlib.Core.Path.{◌≡◌, ap, sym, ◌∙◌}
+use mathlib.Core.Path.{◌≡◌, ap, ap₂, sym, ◌∙◌}
 use mathlib.Core.Bool.{Bool, true, false, ◌&&◌}
 use mathlib.Core.List.{List, ◌++◌}
 use native.Mathlib.Omega.{arith}
-use lib.ListN.{length, get_or, drop}
+use lib.ListN.{length, get_or, drop, replicate}
 use Rattle.model.specs.declared.Edition.{Edition}
 use Rattle.model.specs.Edition.{passes_over}
 use Rattle.model.specs.Lists.{list_below, over}
-use Rattle.list_laws.proofs.Built.{list_below-length, over_below, over-drop}
+use Rattle.list_laws.proofs.Built.{repeated, list_below-length, over_below, over-drop}
 use Rattle.list_laws.proofs.Tests.{all_below-same}
-use Rattle.shapers.specs.Marked.{marked, all_between, only_feasible, shapes_by}
+use Rattle.shapers.specs.Marked.{marked, only_feasible, shapes_by}
 
 -- where the edition passes over, the split front decides
 pub by_front : (e : Edition) {b c r : Bool} → b ≡ passes_over e → b ≡ true → r ≡ c → r ≡ (passes_over e && c)
@@ -19,6 +19,10 @@ by_front e {b} {c} h t k = k ∙ ap (λ x. x && c) (sym t ∙ h)
 -- and else not
 pub by-edition : (e : Edition) (c : Bool) {b : Bool} → b ≡ passes_over e → b ≡ false → false ≡ (passes_over e && c)
 by-edition e c h t = ap (λ x. x && c) (sym t ∙ h)
+
+-- the first n marks are set
+pub filled_front : (n : ℕ) (part marks : List Bool) → part ≡ replicate n true → part ++ drop n marks ≡ over (list_below (λ (p : ℕ). true) n) marks
+filled_front n part marks h = ap₂ (λ a k. a ++ drop k marks) (h ∙ sym (repeated true n)) (sym (list_below-length (λ (p : ℕ). true) n))
 
 -- whether each of n plans is feasible, f, is marked
 module _ (e : Edition) (f : ℕ → Bool) (n whole end : ℕ) (order : List ℕ) (inside : (i : ℕ) → i < end → get_or order i 0 < n)

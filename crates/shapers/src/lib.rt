@@ -15,13 +15,8 @@ fn all_marked(marks: &[bool], order: &[usize], whole: usize, end: usize) -> bool
     requires { (whole ≤ end) × (end ≤ length order.now) × ((i : ℕ) → i < end → get_or order.now i 0 < length marks.now) }
     ensures { result ≡ all_between (marked marks.now) order.now whole end }
 {
-    let n = end - whole;
-    let mut k = 0;
-    while k < n {
-        let p = order[whole + k];
-        if marks[p] {
-            k += 1;
-        } else {
+    for &p in &order[whole..end] {
+        if !marks[p] {
             return false;
         }
     }
@@ -40,22 +35,7 @@ fn feasible_only(
     requires { (whole ≤ end) × (end ≤ length order.now) × ((i : ℕ) → i < end → get_or order.now i 0 < length feasible.now) }
     ensures { result ≡ only_feasible edition (marked feasible.now) order.now whole end }
 {
-    if editions::passes_over(edition) {
-        return all_marked(feasible, order, whole, end);
-    }
-    false
-}
-
-// Marks each of n plans.
-fn mark_all(n: usize, marks: &mut [bool])
-    requires { n ≤ length marks.old }
-    ensures { marks.new ≡ over (list_below (λ p. true) n) marks.old }
-{
-    let mut p = 0;
-    while p < n {
-        marks[p] = true;
-        p += 1;
-    }
+    editions::passes_over(edition) && all_marked(feasible, order, whole, end)
 }
 
 // Marks those of n plans that shape the scale: the feasible ones alone, or all. The split front is the order's from place `whole` up to place `end`.
@@ -74,10 +54,9 @@ pub fn mark_shapers(
         ≡ over (list_below (shapes_by (only_feasible edition (feasible_in pool.now) order.now whole end) (feasible_in pool.now)) n)
         marks.old }
 {
-    let mut violations: [f64; MAX_POOL] = [0.0; MAX_POOL];
+    let mut violations = [0.0; MAX_POOL];
     plan_rows::fill_constraints(pool, n, marks, &mut violations);
-    if feasible_only(edition, marks, order, whole, end) {
-        return;
+    if !feasible_only(edition, marks, order, whole, end) {
+        marks[..n].fill(true);
     }
-    mark_all(n, marks);
 }

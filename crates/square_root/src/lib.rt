@@ -13,7 +13,7 @@ ghost use Rattle.model.specs.Numbers.{near_root, rooted, sqrt_of};
 fn root_digit(take: u64, more: u64) -> u64
     ensures { result ≡ cond (leb take more) 1 0 }
 {
-    if take <= more { 1 } else { 0 }
+    u64::from(take <= more)
 }
 
 // The whole number nearest to the square root of a * 2 ^ 52, by the digits of the root from the
@@ -26,15 +26,13 @@ fn near_root(a: u64) -> u64
     let mut rest = a << 10;
     let mut rem: u64 = 0;
     let mut root: u64 = 0;
-    let mut i: u64 = 0;
-    while i < 53 {
+    for _i in 0..53u64 {
         let more = (rem << 2) + (rest >> 62);
         let take = (root << 2) + 1;
         let one = root_digit(take, more);
-        rest = rest << 2;
+        rest <<= 2;
         rem = more - one * take;
         root = (root << 1) + one;
-        i += 1;
     }
     if root < rem { root + 1 } else { root }
 }

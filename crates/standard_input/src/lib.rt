@@ -17,6 +17,7 @@ pub fn read_input(rt: &(impl Input + Eprint), buffer: &mut [u8]) -> usize
 {
     let mut input = rt.reader();
     let mut done = 0;
+    // a while: the place moves by what each read puts there
     while done < buffer.len() {
         match input.read(&mut buffer[done..]) {
             Ok(0) => return done,

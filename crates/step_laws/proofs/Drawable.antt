@@ -1,4 +1,5 @@
 -- What is drawn on a step or moved to one is a value that could be drawn, and lies within its bounds.
+use Rattle.std.specs.Prelude.{Option, Some}
 use mathlib.Core.Path.{◌≡◌, refl, sym, ap, subst, ◌∙◌}
 use mathlib.Core.Bool.{Bool, true}
 use Prim.Native.Nat.{ℕ, suc, ◌+◌, ◌%◌, ◌≤◌}
@@ -12,8 +13,6 @@ use Rattle.list_laws.proofs.Bools.{T_true}
 use Rattle.rng_util.proofs.Draws.{draw_i64-within}
 use Rattle.model.specs.declared.Distribution.TheVariants as dist
 use Rattle.model.specs.declared.FloatDistribution.{FloatDistribution}
-use Rattle.model.specs.declared.OptionF64.{OptionF64}
-use Rattle.model.specs.declared.OptionF64.TheVariants as opt_f64
 use Rattle.model.specs.declared.ParamValue.TheVariants as value
 use Rattle.model.specs.Draw.{draw_word, draw_i64}
 use Rattle.model.specs.Setting.{valid_dimension, in_bounds, last_step, on_step, nearest_step, sample_float, sample_random, move_float, move_setting}
@@ -28,7 +27,7 @@ from_zero low high step x (pos k) h l e = record { k = k; upto = l; value = e }
 from_zero low high step x (negsuc k) h l e = absurd h.le
 
 module _ (low high step : Float) (q : FloatStep low high step) where
-  drawn_so : (s : ℕ) → Drawable low high step (sample_float low high (opt_f64.Some step) s).value
+  drawn_so : (s : ℕ) → Drawable low high step (sample_float low high (Some step) s).value
   unfolding sample_float
   drawn_so s =
       let w = draw_i64-within (pos 0) (last_step low high step) s (record { sfits = omega arith }) (last_fits low high step q) (last_spanned low high step q) in
@@ -41,7 +40,7 @@ module _ (low high step : Float) (q : FloatStep low high step) where
       ap pos (zero-add (w % nat_abs (pos n -ℤ pos 0 +ℤ pos 1)) ∙ ap (λ (m : ℕ). w % m) e ∙ mod-eq_of_lt (omega arith))
 
   each_so : (s : ℕ) → pos (draw_word s).value ≤ℤ last_step low high step
-      → (sample_float low high (opt_f64.Some step) s).value ≡ on_step low high step (pos (draw_word s).value)
+      → (sample_float low high (Some step) s).value ≡ on_step low high step (pos (draw_word s).value)
   unfolding sample_float draw_i64
   each_so s h =
       let n = last_is low high step q in
@@ -49,30 +48,30 @@ module _ (low high step : Float) (q : FloatStep low high step) where
       let l : w ≤ n.0 = leb→le w n.0 (subst (λ (z : ℤ). pos w ≤ℤ z) n.2 h).le in
       ap (on_step low high step) (ap (λ (z : ℤ). pos 0 +ℤ pos (w % nat_abs (z -ℤ pos 0 +ℤ pos 1))) n.2 ∙ word_so n.0 w l)
 
-  moved_so : (v : Float) → Drawable low high step (move_float low high (opt_f64.Some step) v)
+  moved_so : (v : Float) → Drawable low high step (move_float low high (Some step) v)
   unfolding move_float
   moved_so v = let k = nearest-upto low high step v q in from_zero low high step _ (nearest_step low high step v) (le_z_yes k.0) (le_z_yes k.1) refl
 
 -- THE THEOREM, for a dimension
-on_steps : (low high step : Float) (log : Bool) → FloatStep low high step → Held (dist.Float (record { low = low; high = high; log_scale = log; step = opt_f64.Some step }))
-    → valid_dimension (dist.Float (record { low = low; high = high; log_scale = log; step = opt_f64.Some step })) ≡ true
-    → OnSteps (record { low = low; high = high; log_scale = log; step = opt_f64.Some step }) step
+on_steps : (low high step : Float) (log : Bool) → FloatStep low high step → Held (dist.Float (record { low = low; high = high; log_scale = log; step = Some step }))
+    → valid_dimension (dist.Float (record { low = low; high = high; log_scale = log; step = Some step })) ≡ true
+    → OnSteps (record { low = low; high = high; log_scale = log; step = Some step }) step
 unfolding sample_random move_setting in_bounds
 on_steps low high step log q h v = record {
   drawn = drawn_so low high step q;
   each = λ s l. ap value.Float (each_so low high step q s l);
   moved = moved_so low high step q;
-  drawn_passes = λ s. sampled_in_bounds (dist.Float (record { low = low; high = high; log_scale = log; step = opt_f64.Some step })) s h v;
+  drawn_passes = λ s. sampled_in_bounds (dist.Float (record { low = low; high = high; log_scale = log; step = Some step })) s h v;
   moved_passes = λ x. T_true _ (stepped_in low high step x q);
 }
 
-with_step : (d : FloatDistribution) (o : OptionF64) → d.step ≡ o → d ≡ record { low = d.low; high = d.high; log_scale = d.log_scale; step = o }
-with_step d o e = ap (λ (x : OptionF64). record { low = d.low; high = d.high; log_scale = d.log_scale; step = x }) e
+with_step : (d : FloatDistribution) (o : Option Float) → d.step ≡ o → d ≡ record { low = d.low; high = d.high; log_scale = d.log_scale; step = o }
+with_step d o e = ap (λ (x : Option Float). record { low = d.low; high = d.high; log_scale = d.log_scale; step = x }) e
 
 pub all-on_steps : AllOnSteps
 all-on_steps d step e h v =
-    let f : FloatDistribution = record { low = d.low; high = d.high; log_scale = d.log_scale; step = opt_f64.Some step } in
-    let g = with_step d (opt_f64.Some step) e in
+    let f : FloatDistribution = record { low = d.low; high = d.high; log_scale = d.log_scale; step = Some step } in
+    let g = with_step d (Some step) e in
     let held : Held (dist.Float f) = subst (λ (x : FloatDistribution). Held (dist.Float x)) g h in
     let valid : valid_dimension (dist.Float f) ≡ true = subst (λ (x : FloatDistribution). valid_dimension (dist.Float x) ≡ true) g v in
     subst (λ (x : FloatDistribution). OnSteps x step) (sym g) (on_steps d.low d.high step d.log_scale (float_step f held valid) held valid)

@@ -1,4 +1,5 @@
 -- What is moved to a step lies within its bounds.
+use Rattle.std.specs.Prelude.{Option, None, Some}
 use mathlib.Core.Path.{◌≡◌}
 use mathlib.Core.Bool.{true}
 use lib.Dec.{T}
@@ -8,8 +9,6 @@ use lib.Ieee.{Float, binary64, fits}
 use Rattle.list_laws.proofs.Bools.{T_true, true_T, and_t}
 use Rattle.model.specs.declared.Distribution.{Distribution}
 use Rattle.model.specs.declared.Distribution.TheVariants as dist
-use Rattle.model.specs.declared.OptionF64.{OptionF64}
-use Rattle.model.specs.declared.OptionF64.TheVariants as opt_f64
 use Rattle.model.specs.declared.ParamValue.{ParamValue}
 use Rattle.model.specs.declared.ParamValue.TheVariants as value
 use Rattle.model.specs.Real.{◌⊖◌, ◌⊘◌, within}
@@ -25,19 +24,19 @@ nearest-upto low high step v q =
     (to_int-within (pos 0) (last_step low high step) ((v ⊖ low) ⊘ step) (last_spanned low high step q).0)
 
 -- so its value lies within the bounds, wherever it was moved from
-pub stepped_in : (low high step v : Float) → FloatStep low high step → T (within low high (move_float low high (opt_f64.Some step) v))
+pub stepped_in : (low high step v : Float) → FloatStep low high step → T (within low high (move_float low high (Some step) v))
 unfolding move_float
 stepped_in low high step v q = let k = nearest-upto low high step v q in on-step_in low high step q (nearest_step low high step v) (le_z_yes k.0) (le_z_yes k.1)
 
-float_moved : (low high : Float) (o : OptionF64) (v : Float) → StepOk low high o → within low high v ≡ true → within low high (move_float low high o v) ≡ true
+float_moved : (low high : Float) (o : Option Float) (v : Float) → StepOk low high o → within low high v ≡ true → within low high (move_float low high o v) ≡ true
 unfolding move_float
-float_moved low high opt_f64.None v q h = h
-float_moved low high (opt_f64.Some step) v q h = T_true _ (stepped_in low high step v q)
+float_moved low high None v q h = h
+float_moved low high (Some step) v q h = T_true _ (stepped_in low high step v q)
 
-float_held : (low high : Float) (o : OptionF64) (v : Float) → T (fits binary64 low) → T (fits binary64 high) → T (fits binary64 v) → T (fits binary64 (move_float low high o v))
+float_held : (low high : Float) (o : Option Float) (v : Float) → T (fits binary64 low) → T (fits binary64 high) → T (fits binary64 v) → T (fits binary64 (move_float low high o v))
 unfolding move_float
-float_held low high opt_f64.None v l h f = f
-float_held low high (opt_f64.Some step) v l h f = on-step-fits low high step (nearest_step low high step v) l h
+float_held low high None v l h f = f
+float_held low high (Some step) v l h f = on-step-fits low high step (nearest_step low high step v) l h
 
 -- THE THEOREM
 pub moved-in_bounds : (d : Distribution) (v : ParamValue) → Held d → valid_dimension d ≡ true → Fit d v → Fit d (move_setting d v)

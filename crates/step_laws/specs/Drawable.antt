@@ -1,9 +1,8 @@
 -- Document 02, M-103: what a Float of a dimension with a step can be drawn as.
-use Rattle.std.specs.Prelude.{ℕ, ◌≡◌, true, pos, ◌≤ℤ◌, Float}
+use Rattle.std.specs.Prelude.{ℕ, ◌≡◌, true, pos, ◌≤ℤ◌, Float, Some}
 use Rattle.model.specs.declared.Distribution.{Distribution}
 use Rattle.model.specs.declared.Distribution.TheVariants as dist
 use Rattle.model.specs.declared.FloatDistribution.{FloatDistribution}
-use Rattle.model.specs.declared.OptionF64.TheVariants as opt_f64
 use Rattle.model.specs.declared.ParamValue.{ParamValue}
 use Rattle.model.specs.declared.ParamValue.TheVariants as value
 use Rattle.model.specs.Draw.{draw_word}
@@ -35,4 +34,4 @@ pub record OnSteps (d : FloatDistribution) (step : Float) : Type 0 where
 
 -- for every one
 abbrev pub AllOnSteps : Type 0
-AllOnSteps = (d : FloatDistribution) (step : Float) → d.step ≡ opt_f64.Some step → Held (dist.Float d) → valid_dimension (dist.Float d) ≡ true → OnSteps d step
+AllOnSteps = (d : FloatDistribution) (step : Float) → d.step ≡ Some step → Held (dist.Float d) → valid_dimension (dist.Float d) ≡ true → OnSteps d step

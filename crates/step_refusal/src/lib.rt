@@ -4,12 +4,10 @@
 
 ghost use Rattle.std.specs.Prelude.{◌≡◌, ◌≤◌};
 ghost use Rattle.model.specs.Refusal.{max_size, step_refusal, step_too_short};
-ghost use Rattle.model.specs.Calls.{word_request};
+ghost use Rattle.model.specs.Calls.{word_request, refused_by};
 ghost use Rattle.model.specs.Setting.{max_dims, operators_in};
-ghost use Rattle.refusals.specs.Checked.{checked};
 
-use model::{Edition, Operators, Rng};
-use refusals::Check;
+use model::{Edition, Operators, Refusal, Rng};
 
 // Refusal 10: a lent slice is shorter than the answer that it is for. A pool of one asks for room for the offspring only.
 fn no_step_room(
@@ -49,48 +47,48 @@ pub fn refusal(
     fronts: usize,
     lines: usize,
     offspring: usize,
-) -> Check
-    ensures { checked result ≡ step_refusal (operators_in operators)
+) -> Result<(), Refusal>
+    ensures { refused_by result ≡ step_refusal (operators_in operators)
         (word_request edition pool.now directions.now divisions size rng ideal.now)
         (record { kept = kept; rules = rules; fronts = fronts; lines = lines }) offspring }
 {
     if plans::bad_directions(directions) {
-        return Check::Refused(2);
+        return Err(Refusal::Directions);
     }
     if plans::bad_size(size) {
-        return Check::Refused(3);
+        return Err(Refusal::Size);
     }
     let m = directions.len();
     if divisions::bad_divisions(m, divisions) {
-        return Check::Refused(4);
+        return Err(Refusal::Divisions);
     }
     if operator_checks::bad_operators(
         operators.crossover_prob,
         operators.crossover_eta,
         operators.mutation_eta,
     ) {
-        return Check::Refused(5);
+        return Err(Refusal::Operators);
     }
     let dims = operators.dimensions;
     let n_dims = operators.n_dims;
     if operator_checks::bad_bounds(dims, n_dims) {
-        return Check::Refused(6);
+        return Err(Refusal::Bounds);
     }
     if operator_checks::bad_steps(dims, n_dims) {
-        return Check::Refused(12);
+        return Err(Refusal::Steps);
     }
     let n = plans::plan_count(pool);
     if plans::bad_count(edition, n) {
-        return Check::Refused(7);
+        return Err(Refusal::Count);
     }
     if plans::bad_pool(pool, m, ideal) {
-        return Check::Refused(8);
+        return Err(Refusal::Values);
     }
     if parent_checks::bad_parents(pool, dims, n_dims) {
-        return Check::Refused(9);
+        return Err(Refusal::Parents);
     }
     if no_step_room(size, n, n_dims, kept, rules, fronts, lines, offspring) {
-        return Check::Refused(10);
+        return Err(Refusal::Room);
     }
-    Check::Good
+    Ok(())
 }

@@ -8,7 +8,7 @@ ghost use Rattle.model.specs.Lists.{list_below, over};
 ghost use Rattle.model.specs.Setting.{max_dims, dimensions_of, last_step, on_step, nearest_step, move_float, move_setting};
 ghost use Rattle.stepping.specs.Moved.{moved_word};
 
-use model::{DimensionInfo, Distribution, MAX_DIMS, OptionF64, ParamValue};
+use model::{DimensionInfo, Distribution, MAX_DIMS, ParamValue};
 
 // The greatest k: floor((high - low) / step).
 pub fn last_step(low: f64, high: f64, step: f64) -> i64
@@ -31,21 +31,21 @@ fn nearest_step(low: f64, high: f64, step: f64, v: f64) -> i64
     let last = last_step(low, high, step);
     let k = real::int_of_real(real::round((v - low) / step));
     if k < 0 {
-        return 0;
+        0
+    } else if last < k {
+        last
+    } else {
+        k
     }
-    if last < k {
-        return last;
-    }
-    k
 }
 
 #[tactic(auto, using(settings::proofs::Signed::back, crate::proofs::move_float::Statement::statement), unfolding(model::specs::Setting::move_float))]
-fn move_float(low: f64, high: f64, step: OptionF64, v: f64) -> f64
+fn move_float(low: f64, high: f64, step: Option<f64>, v: f64) -> f64
     ensures { result ≡ move_float low high step v }
 {
     match step {
-        OptionF64::None => v,
-        OptionF64::Some(by) => on_step(low, high, by, nearest_step(low, high, by, v)),
+        None => v,
+        Some(by) => on_step(low, high, by, nearest_step(low, high, by, v)),
     }
 }
 
@@ -54,17 +54,11 @@ fn move_float(low: f64, high: f64, step: OptionF64, v: f64) -> f64
 fn move_setting(d: Distribution, v: ParamValue) -> ParamValue
     ensures { result ≡ move_setting d v }
 {
-    match d {
-        Distribution::Float(f) => match v {
-            ParamValue::Float(x) => {
-                let step = f.step;
-                ParamValue::Float(move_float(f.low, f.high, step, x))
-            }
-            ParamValue::Int(_) => v,
-            ParamValue::Categorical(_) => v,
-        },
-        Distribution::Int(_) => v,
-        Distribution::Categorical(_) => v,
+    match (d, v) {
+        (Distribution::Float(f), ParamValue::Float(x)) => {
+            ParamValue::Float(move_float(f.low, f.high, f.step, x))
+        }
+        _ => v,
     }
 }
 
@@ -81,12 +75,7 @@ pub fn move_all(dims: [DimensionInfo; MAX_DIMS], n: usize, count: usize, words: 
     ensures { words.new
         ≡ over (list_below (λ j. moved_word (dimensions_of dims (j % n)) (get_or words.old j 0)) (count * n)) words.old }
 {
-    let total = count * n;
-    let mut j = 0;
-    while j < total {
-        let info = dims[j % n];
-        let d = info.distribution;
-        words[j] = move_word(d, words[j]);
-        j += 1;
+    for j in 0..count * n {
+        words[j] = move_word(dims[j % n].distribution, words[j]);
     }
 }

@@ -1,4 +1,5 @@
 -- A value that code is given or holds is one that its type has: `Is R x vs`, which a proof finds at `c.good`. Of dimensions this says that their numbers are held.
+use Rattle.std.specs.Prelude.{Option, None, Some, Float, ℤ}
 use Prim.Native.Nat.{ℕ, zero, suc, ◌<◌}
 use mathlib.Core.Path.{◌≡◌, sym, ◌∙◌}
 use mathlib.Core.List.{List, [], ◌∷◌, map}
@@ -12,17 +13,13 @@ use denote.Laws.{Is}
 use denote.Array.{each}
 use denote.Struct.Declared as struct
 use denote.Enum.Declared as enum
+use denote.Builtin.{f64, i64}
+use Rattle.std.specs.contracts.option.Option as option
 use Rattle.list_laws.proofs.Bools.{true_T}
-use Rattle.model.specs.contracts.OptionF64 as step-f64
-use Rattle.model.specs.contracts.OptionI64 as step-i64
 use Rattle.model.specs.contracts.Distribution as distribution
 use Rattle.model.specs.contracts.DimensionInfo as info
 use Rattle.model.specs.contracts.Operators as operators
 use Rattle.model.specs.contracts.Session as session
-use Rattle.model.specs.declared.OptionF64.{OptionF64}
-use Rattle.model.specs.declared.OptionF64.TheVariants as opt_f64
-use Rattle.model.specs.declared.OptionI64.{OptionI64}
-use Rattle.model.specs.declared.OptionI64.TheVariants as opt_i64
 use Rattle.model.specs.declared.Distribution.{Distribution}
 use Rattle.model.specs.declared.Distribution.TheVariants as dist
 use Rattle.model.specs.declared.DimensionInfo.{DimensionInfo}
@@ -34,13 +31,13 @@ use Rattle.settings.proofs.InBounds.{Held, HeldStepI64, HeldStepF64}
 
 -- ---- a dimension
 
-step_f64-held : (o : OptionF64) (vs : List Val) → Is (enum.row step-f64.the_type) o vs → HeldStepF64 o
-step_f64-held opt_f64.None vs p = tt
-step_f64-held (opt_f64.Some x) vs p = true_T _ p.1.1.1.1.0.1
+step_f64-held : (o : Option Float) (vs : List Val) → Is (enum.row (option.the_type f64)) o vs → HeldStepF64 o
+step_f64-held None vs p = tt
+step_f64-held (Some x) vs p = true_T _ p.1.1.1.1.0.1
 
-step_i64-held : (o : OptionI64) (vs : List Val) → Is (enum.row step-i64.the_type) o vs → HeldStepI64 o
-step_i64-held opt_i64.None vs p = tt
-step_i64-held (opt_i64.Some n) vs p = record { sfits = p.1.1.1.1.0.1 }
+step_i64-held : (o : Option ℤ) (vs : List Val) → Is (enum.row (option.the_type i64)) o vs → HeldStepI64 o
+step_i64-held None vs p = tt
+step_i64-held (Some n) vs p = record { sfits = p.1.1.1.1.0.1 }
 
 pub dimension_held : (d : Distribution) (vs : List Val) → Is (enum.row distribution.the_type) d vs → Held d
 dimension_held (dist.Float d) vs p =

@@ -6,20 +6,12 @@
 ghost use Rattle.std.specs.Prelude.{◌≡◌, true};
 ghost use Rattle.model.specs.Draw.{drawn};
 ghost use Rattle.model.specs.Setting.{valid_dimension, exponent_of, pair, clamp_int, to_int, cross_float, cross_int, cross_categorical};
-ghost use Rattle.model.specs.Setting.{cross_floats, cross_ints, cross_one, mutate_float, mutate_int, mutate_categorical, mutate_one, mutate_maybe};
+ghost use Rattle.model.specs.Setting.{cross_floats, cross_ints, cross_one, mutate_float, mutate_int, mutate_one, mutate_maybe};
 ghost use Rattle.model.specs.Refusal.{whole_eta};
 ghost use Rattle.model.specs.declared.Distribution.TheVariants as dist;
 
 use model::{Distribution, FloatDistribution, IntDistribution, ParamValue, Rng};
-use settings::DrawnValue;
-
-// Two children, and the generator moved on.
-#[derive(Clone, Copy)]
-pub struct DrawnPair {
-    pub first: ParamValue,
-    pub second: ParamValue,
-    pub rng: Rng,
-}
+use rng_util::{Drawn, DrawnPair};
 
 // The exponent of an eta.
 pub fn exponent_of(eta: f64) -> u64
@@ -31,19 +23,22 @@ pub fn exponent_of(eta: f64) -> u64
 
 // ---- crossover
 
-fn cross_float(d: FloatDistribution, p: f64, q: f64, k: u64, rng: Rng) -> DrawnPair
+fn cross_float(d: FloatDistribution, p: f64, q: f64, k: u64, rng: Rng) -> DrawnPair<ParamValue>
     ensures { drawn (pair result.first result.second) result.rng.s ≡ cross_float d p q k rng.s }
 {
     if real_variation::close(p, q) {
-        let first = ParamValue::Float(p);
-        let second = ParamValue::Float(q);
-        return DrawnPair { first, second, rng };
+        return DrawnPair {
+            first: ParamValue::Float(p),
+            second: ParamValue::Float(q),
+            rng,
+        };
     }
     let c = real_variation::sbx_crossover_f64(p, q, d.low, d.high, k, rng);
-    let first = ParamValue::Float(c.first);
-    let second = ParamValue::Float(c.second);
-    let rng = c.rng;
-    DrawnPair { first, second, rng }
+    DrawnPair {
+        first: ParamValue::Float(c.first),
+        second: ParamValue::Float(c.second),
+        rng: c.rng,
+    }
 }
 
 // n held within low..=high.
@@ -51,12 +46,12 @@ fn clamp_int(low: i64, high: i64, n: i64) -> i64
     ensures { result ≡ clamp_int low high n }
 {
     if n < low {
-        return low;
+        low
+    } else if high < n {
+        high
+    } else {
+        n
     }
-    if high < n {
-        return high;
-    }
-    n
 }
 
 // A real as a whole number of low..=high: rounded, and held within the bounds.
@@ -66,188 +61,141 @@ fn to_int(low: i64, high: i64, x: f64) -> i64
     clamp_int(low, high, real::int_of_real(real::round(x)))
 }
 
-fn cross_int(d: IntDistribution, p: i64, q: i64, k: u64, rng: Rng) -> DrawnPair
+fn cross_int(d: IntDistribution, p: i64, q: i64, k: u64, rng: Rng) -> DrawnPair<ParamValue>
     ensures { drawn (pair result.first result.second) result.rng.s ≡ cross_int d p q k rng.s }
 {
     if p == q {
-        let first = ParamValue::Int(p);
-        let second = ParamValue::Int(q);
-        return DrawnPair { first, second, rng };
-    }
-    let low = d.low;
-    let high = d.high;
-    let a = real::real_of_int(p);
-    let b = real::real_of_int(q);
-    let c = real_variation::sbx_crossover_f64(
-        a,
-        b,
-        real::real_of_int(low),
-        real::real_of_int(high),
-        k,
-        rng,
-    );
-    let first = ParamValue::Int(to_int(low, high, c.first));
-    let second = ParamValue::Int(to_int(low, high, c.second));
-    let rng = c.rng;
-    DrawnPair { first, second, rng }
-}
-
-// Two choices change places where the draw is below one half.
-fn cross_categorical(p: usize, q: usize, rng: Rng) -> DrawnPair
-    ensures { drawn (pair result.first result.second) result.rng.s ≡ cross_categorical p q rng.s }
-{
-    let d = rng_util::f64_range(rng, 0.0, 1.0);
-    let u = d.value;
-    let rng = d.rng;
-    let a = ParamValue::Categorical(p);
-    let b = ParamValue::Categorical(q);
-    if u < 0.5 {
         return DrawnPair {
-            first: b,
-            second: a,
+            first: ParamValue::Int(p),
+            second: ParamValue::Int(q),
             rng,
         };
     }
-    DrawnPair {
-        first: a,
-        second: b,
+    let c = real_variation::sbx_crossover_f64(
+        real::real_of_int(p),
+        real::real_of_int(q),
+        real::real_of_int(d.low),
+        real::real_of_int(d.high),
+        k,
         rng,
+    );
+    DrawnPair {
+        first: ParamValue::Int(to_int(d.low, d.high, c.first)),
+        second: ParamValue::Int(to_int(d.low, d.high, c.second)),
+        rng: c.rng,
     }
 }
 
-// Two settings that stand as they are, without a draw.
-fn as_they_are(a: ParamValue, b: ParamValue, rng: Rng) -> DrawnPair
-    ensures { drawn (pair result.first result.second) result.rng.s ≡ drawn (pair a b) rng.s }
+// Two choices change places where the draw is below one half.
+fn cross_categorical(p: usize, q: usize, rng: Rng) -> DrawnPair<ParamValue>
+    ensures { drawn (pair result.first result.second) result.rng.s ≡ cross_categorical p q rng.s }
 {
-    DrawnPair {
-        first: a,
-        second: b,
-        rng,
-    }
-}
-
-fn cross_floats(d: Distribution, p: f64, q: f64, k: u64, rng: Rng) -> DrawnPair
-    ensures { drawn (pair result.first result.second) result.rng.s ≡ cross_floats d p q k rng.s }
-{
-    match d {
-        Distribution::Float(f) => cross_float(f, p, q, k, rng),
-        Distribution::Int(_) => as_they_are(ParamValue::Float(p), ParamValue::Float(q), rng),
-        Distribution::Categorical(_) => {
-            as_they_are(ParamValue::Float(p), ParamValue::Float(q), rng)
+    let u = rng_util::f64_range(rng, 0.0, 1.0);
+    let a = ParamValue::Categorical(p);
+    let b = ParamValue::Categorical(q);
+    if u.value < 0.5 {
+        DrawnPair {
+            first: b,
+            second: a,
+            rng: u.rng,
+        }
+    } else {
+        DrawnPair {
+            first: a,
+            second: b,
+            rng: u.rng,
         }
     }
 }
 
-fn cross_ints(d: Distribution, p: i64, q: i64, k: u64, rng: Rng) -> DrawnPair
-    ensures { drawn (pair result.first result.second) result.rng.s ≡ cross_ints d p q k rng.s }
+fn cross_floats(d: Distribution, p: f64, q: f64, k: u64, rng: Rng) -> DrawnPair<ParamValue>
+    ensures { drawn (pair result.first result.second) result.rng.s ≡ cross_floats d p q k rng.s }
 {
     match d {
-        Distribution::Float(_) => as_they_are(ParamValue::Int(p), ParamValue::Int(q), rng),
-        Distribution::Int(i) => cross_int(i, p, q, k, rng),
-        Distribution::Categorical(_) => as_they_are(ParamValue::Int(p), ParamValue::Int(q), rng),
+        Distribution::Float(f) => cross_float(f, p, q, k, rng),
+        _ => DrawnPair {
+            first: ParamValue::Float(p),
+            second: ParamValue::Float(q),
+            rng,
+        },
     }
 }
 
-// The children's settings in one dimension, by cases on the parents'.
-pub fn cross_one(d: Distribution, a: ParamValue, b: ParamValue, k: u64, rng: Rng) -> DrawnPair
+fn cross_ints(d: Distribution, p: i64, q: i64, k: u64, rng: Rng) -> DrawnPair<ParamValue>
+    ensures { drawn (pair result.first result.second) result.rng.s ≡ cross_ints d p q k rng.s }
+{
+    match d {
+        Distribution::Int(i) => cross_int(i, p, q, k, rng),
+        _ => DrawnPair {
+            first: ParamValue::Int(p),
+            second: ParamValue::Int(q),
+            rng,
+        },
+    }
+}
+
+// The children's settings in one dimension, by cases on the parents'. Settings of another kind than the dimension's stand as they are, without a draw.
+pub fn cross_one(
+    d: Distribution,
+    a: ParamValue,
+    b: ParamValue,
+    k: u64,
+    rng: Rng,
+) -> DrawnPair<ParamValue>
     ensures { drawn (pair result.first result.second) result.rng.s ≡ cross_one d a b k rng.s }
 {
-    match a {
-        ParamValue::Float(p) => match b {
-            ParamValue::Float(q) => cross_floats(d, p, q, k, rng),
-            ParamValue::Int(_) => as_they_are(a, b, rng),
-            ParamValue::Categorical(_) => as_they_are(a, b, rng),
-        },
-        ParamValue::Int(p) => match b {
-            ParamValue::Float(_) => as_they_are(a, b, rng),
-            ParamValue::Int(q) => cross_ints(d, p, q, k, rng),
-            ParamValue::Categorical(_) => as_they_are(a, b, rng),
-        },
-        ParamValue::Categorical(p) => match b {
-            ParamValue::Float(_) => as_they_are(a, b, rng),
-            ParamValue::Int(_) => as_they_are(a, b, rng),
-            ParamValue::Categorical(q) => cross_categorical(p, q, rng),
+    match (a, b) {
+        (ParamValue::Float(p), ParamValue::Float(q)) => cross_floats(d, p, q, k, rng),
+        (ParamValue::Int(p), ParamValue::Int(q)) => cross_ints(d, p, q, k, rng),
+        (ParamValue::Categorical(p), ParamValue::Categorical(q)) => cross_categorical(p, q, rng),
+        _ => DrawnPair {
+            first: a,
+            second: b,
+            rng,
         },
     }
 }
 
 // ---- mutation
 
-// A setting that stands as it is, without a draw.
-fn unmoved(v: ParamValue, rng: Rng) -> DrawnValue
-    ensures { drawn result.value result.rng.s ≡ drawn v rng.s }
-{
-    DrawnValue { value: v, rng }
-}
-
-fn move_float(d: FloatDistribution, x: f64, k: u64, rng: Rng) -> DrawnValue
+fn move_float(d: FloatDistribution, x: f64, k: u64, rng: Rng) -> Drawn<ParamValue>
     ensures { drawn result.value result.rng.s ≡ mutate_float (dist.Float d) x k rng.s }
 {
     let y = real_variation::polynomial_mutation_f64(x, d.low, d.high, k, rng);
-    let value = ParamValue::Float(y.value);
-    let rng = y.rng;
-    DrawnValue { value, rng }
+    Drawn {
+        value: ParamValue::Float(y.value),
+        rng: y.rng,
+    }
 }
 
-fn move_int(d: IntDistribution, n: i64, k: u64, rng: Rng) -> DrawnValue
+fn move_int(d: IntDistribution, n: i64, k: u64, rng: Rng) -> Drawn<ParamValue>
     ensures { drawn result.value result.rng.s ≡ mutate_int (dist.Int d) n k rng.s }
 {
-    let low = d.low;
-    let high = d.high;
-    let x = real::real_of_int(n);
     let y = real_variation::polynomial_mutation_f64(
-        x,
-        real::real_of_int(low),
-        real::real_of_int(high),
+        real::real_of_int(n),
+        real::real_of_int(d.low),
+        real::real_of_int(d.high),
         k,
         rng,
     );
-    let value = ParamValue::Int(to_int(low, high, y.value));
-    let rng = y.rng;
-    DrawnValue { value, rng }
-}
-
-fn mutate_float(d: Distribution, x: f64, k: u64, rng: Rng) -> DrawnValue
-    ensures { drawn result.value result.rng.s ≡ mutate_float d x k rng.s }
-{
-    match d {
-        Distribution::Float(f) => move_float(f, x, k, rng),
-        Distribution::Int(_) => unmoved(ParamValue::Float(x), rng),
-        Distribution::Categorical(_) => unmoved(ParamValue::Float(x), rng),
+    Drawn {
+        value: ParamValue::Int(to_int(d.low, d.high, y.value)),
+        rng: y.rng,
     }
 }
 
-fn mutate_int(d: Distribution, n: i64, k: u64, rng: Rng) -> DrawnValue
-    ensures { drawn result.value result.rng.s ≡ mutate_int d n k rng.s }
-{
-    match d {
-        Distribution::Float(_) => unmoved(ParamValue::Int(n), rng),
-        Distribution::Int(i) => move_int(i, n, k, rng),
-        Distribution::Categorical(_) => unmoved(ParamValue::Int(n), rng),
-    }
-}
-
-// A choice is drawn anew.
-fn mutate_categorical(d: Distribution, c: usize, rng: Rng) -> DrawnValue
-    requires { valid_dimension d ≡ true }
-    ensures { drawn result.value result.rng.s ≡ mutate_categorical d c rng.s }
-{
-    match d {
-        Distribution::Float(_) => unmoved(ParamValue::Categorical(c), rng),
-        Distribution::Int(_) => unmoved(ParamValue::Categorical(c), rng),
-        Distribution::Categorical(_) => sampling::sample_random(d, rng),
-    }
-}
-
-// A setting mutated, by cases on it.
-fn mutate_one(d: Distribution, v: ParamValue, k: u64, rng: Rng) -> DrawnValue
+// A setting mutated, by cases on its dimension and on it: a choice is drawn anew, and a setting that is not of the dimension's kind stands as it is, without a draw.
+fn mutate_one(d: Distribution, v: ParamValue, k: u64, rng: Rng) -> Drawn<ParamValue>
     requires { valid_dimension d ≡ true }
     ensures { drawn result.value result.rng.s ≡ mutate_one d v k rng.s }
 {
-    match v {
-        ParamValue::Float(x) => mutate_float(d, x, k, rng),
-        ParamValue::Int(n) => mutate_int(d, n, k, rng),
-        ParamValue::Categorical(c) => mutate_categorical(d, c, rng),
+    match (d, v) {
+        (Distribution::Float(f), ParamValue::Float(x)) => move_float(f, x, k, rng),
+        (Distribution::Int(i), ParamValue::Int(n)) => move_int(i, n, k, rng),
+        (Distribution::Categorical(_), ParamValue::Categorical(_)) => {
+            sampling::sample_random(d, rng)
+        }
+        _ => Drawn { value: v, rng },
     }
 }
 
@@ -258,18 +206,17 @@ pub fn mutate_maybe(
     v: ParamValue,
     k: u64,
     rng: Rng,
-) -> DrawnValue
+) -> Drawn<ParamValue>
     requires { valid_dimension d ≡ true }
     ensures { drawn result.value result.rng.s ≡ mutate_maybe probability d v k rng.s }
 {
     let x = rng_util::f64_range(rng, 0.0, 1.0);
-    let u = x.value;
-    let after = x.rng;
-    if u >= probability {
-        return DrawnValue {
+    if x.value >= probability {
+        Drawn {
             value: v,
-            rng: after,
-        };
+            rng: x.rng,
+        }
+    } else {
+        mutate_one(d, v, k, x.rng)
     }
-    mutate_one(d, v, k, after)
 }

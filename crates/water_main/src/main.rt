@@ -5,38 +5,25 @@
 
 ghost use Rattle.std.specs.Prelude.{◌≤◌, length};
 
-use model::Priced;
-
-fn text(rt: &impl Print, t: &[u8]) {
-    let _ = rt.write_all(t);
-}
-
-// A label and a number.
-fn number(rt: &impl Print, label: &[u8], n: u64) {
-    let _ = rt.write_all(label);
-    let _ = rt.print(n);
-}
+use model::Refusal;
 
 // What a call answers.
-fn answered(rt: &impl Print, answer: Priced) {
+fn answered(rt: &impl Print, answer: Result<u64, Refusal>) {
     match answer {
-        Priced::Total(n) => {
-            number(rt, b"total ", n);
+        Ok(n) => {
+            let _ = print!(rt; "total {n}");
         }
-        Priced::Refused(n) => {
-            number(rt, b"refused ", n as u64);
+        Err(refusal) => {
+            let _ = print!(rt; "refused {}", u64::from(refusal));
         }
     }
 }
 
 // All that a call leaves, on a line: the answer, and the slice for the costs.
-fn tell(rt: &impl Print, answer: Priced, costs: &[u64; 4]) {
+fn tell(rt: &impl Print, answer: Result<u64, Refusal>, costs: &[u64; 4]) {
     answered(rt, answer);
-    number(rt, b", costs ", costs[0]);
-    number(rt, b" ", costs[1]);
-    number(rt, b" ", costs[2]);
-    number(rt, b" ", costs[3]);
-    text(rt, b"\n");
+    let [a, b, c, d] = *costs;
+    let _ = println!(rt; ", costs {a} {b} {c} {d}");
 }
 
 // A call with room for four costs.
@@ -125,12 +112,12 @@ fn longest(rt: &impl Print) {
         rt,
         water::price_water(&[1, 2], &[0, 100], &kept[..1024], &mut costs),
     );
-    text(rt, b"\n");
+    let _ = print!(rt; "\n");
     answered(
         rt,
         water::price_water(&[1, 2], &[0, 100], &kept, &mut costs),
     );
-    text(rt, b"\n");
+    let _ = print!(rt; "\n");
 }
 
 fn main(rt: HostRuntime) {

@@ -4,7 +4,8 @@ use Prim.Native.Nat.{ℕ, suc, ◌+◌, ◌-◌, ◌*◌, ◌≤◌, ◌<◌, mi
 use mathlib.Core.Path.{◌≡◌, refl, sym, ap, ap₂, subst, ◌∙◌}
 use mathlib.Core.Bool.{true, false}
 use mathlib.Core.List.{List, [], ◌∷◌, ◌++◌, append-nil}
-use mathlib.Core.Option.{Option, none, some, some-ne-none}
+use Rattle.list_laws.proofs.Options.{some-ne-none}
+use Rattle.std.specs.Prelude.{Option, None, Some, Ok}
 use native.Mathlib.Nat.{zero-mul}
 use native.Mathlib.Omega.{arith}
 use borrow.Author.Tests.{leb-true, not-false}
@@ -15,13 +16,11 @@ use Rattle.list_laws.proofs.Best.{best_same}
 use Rattle.list_laws.proofs.Bools.{and_left, and_fails, by_bool}
 use Rattle.list_laws.proofs.Built.{list_below_none, list_below-length, list_below-at, list_below-same, over-take, over_below, over-long, take-replicate, repeated}
 use Rattle.list_laws.proofs.Rows.{row_lt}
+use Rattle.model.specs.declared.Refusal.{Refusal}
 use Rattle.model.specs.declared.Config.{Config}
 use Rattle.model.specs.declared.Distribution.{Distribution}
 use Rattle.model.specs.declared.Edition.{Edition}
 use Rattle.model.specs.declared.Opened.{Opened}
-use Rattle.model.specs.declared.Opening.TheVariants as opening
-use Rattle.model.specs.declared.OptionUsize.{OptionUsize}
-use Rattle.model.specs.declared.OptionUsize.TheVariants as opt_usize
 use Rattle.model.specs.declared.Session.{Session}
 use Rattle.model.specs.Lists.{best_from, list_below, over}
 use Rattle.model.specs.Real.{real, infinity}
@@ -31,10 +30,10 @@ use Rattle.model.specs.Association.{Request, objectives, value_of, shapers, leas
 use Rattle.model.specs.Kept.{Selected}
 use Rattle.model.specs.Setting.{generation}
 use Rattle.model.specs.Window.{most_remembered, own_words, last_of, least_remembered, ideal_after}
-use Rattle.model.specs.Session.{State, state, given, opened, is_active, discovers, discover, activate, breeds, breed, bred_from, request_of, operators_of, sample_from_candidate, accepted, kept_words, memory_at, memory_in, memory_after, remembered_after, start_by, start_ideal}
+use Rattle.model.specs.Session.{State, state, opened, is_active, discovers, discover, activate, breeds, breed, bred_from, request_of, operators_of, sample_from_candidate, accepted, kept_words, memory_at, memory_in, memory_after, remembered_after, start_by, start_ideal}
 use Rattle.model.specs.Refusal.{open_refusal, sample_refusal, bad_pool, bad_window}
 use Rattle.model.specs.Property.{SessionOk}
-use Rattle.model.specs.Calls.{open_by, open_of, opening_refused_by, SampleExit, sample_by, sample_of}
+use Rattle.model.specs.Calls.{open_by, open_of, refused_by, SampleExit, sample_by, sample_of}
 use Rattle.demand3_laws.proofs.Passed.{some-objectives, sample_passed}
 use Rattle.demand3_laws.proofs.Calls.{request-objectives, request-accepted}
 use Rattle.session_laws.proofs.Request.{breeds_active, active_discovers}
@@ -47,7 +46,7 @@ use Rattle.window_laws.proofs.Parts.{last-length, last-all, last_snoc, last-last
 -- ---- what ties a state to the pools bred from
 
 pub record Kept (w : ℕ) (pools : List Request) (st : State) : Type 0 where
-  pub window : st.session.config.window ≡ opt_usize.Some w
+  pub window : st.session.config.window ≡ Some w
   pub fine : AllFine st.session.config.n_obj pools
   pub count : st.session.progress.n_remembered ≡ length (last_of (w - 1) pools)
   pub memory : memory_in st.session st.pool ≡ parts_of (last_of (w - 1) pools)
@@ -106,7 +105,7 @@ module _ (w : ℕ) (pools : List Request) (st : State) (history : List ℕ) (k :
   few = (some-objectives r.marks (request-accepted st history ok pool).directions).1
 
   at_least : 1 ≤ w
-  at_least = leb-true 1 w (and_left _ _ (not-false _ (ap (λ (o : OptionUsize). bad_window (given o)) (sym k.window) ∙ ok.config.window)))
+  at_least = leb-true 1 w (and_left _ _ (not-false _ (ap (λ (o : Option ℕ). bad_window o) (sym k.window) ∙ ok.config.window)))
 
   within : last_of w (pools ++ (r ∷ [])) ≡ before ++ (r ∷ [])
   within = let e : w ≡ suc (w - 1) = omega (arith, at_least) in ap (λ (n : ℕ). last_of n (pools ++ (r ∷ []))) e ∙ last_snoc (w - 1) pools r
@@ -132,8 +131,8 @@ module _ (w : ℕ) (pools : List Request) (st : State) (history : List ℕ) (k :
   start_is : (j : ℕ) → j < m → get_or r.ideal j nan ≡ least_over infinity before j
   unfolding start_ideal
   start_is j l =
-      get_or-take m (start_ideal s st.pool) j nan l ∙ ap (λ (o : OptionUsize). get_or (start_by (given o) s st.pool) j nan) k.window
-      ∙ over_below (least_remembered st.pool (memory_at s.config) m s.progress.n_remembered) m (start_by (some w) s st.pool) s.ideal_point j nan refl l ∙ started j l
+      get_or-take m (start_ideal s st.pool) j nan l ∙ ap (λ (o : Option ℕ). get_or (start_by o s st.pool) j nan) k.window
+      ∙ over_below (least_remembered st.pool (memory_at s.config) m s.progress.n_remembered) m (start_by (Some w) s st.pool) s.ideal_point j nan refl l ∙ started j l
 
   -- THE IDEAL THAT THE SELECTION USES: "the least value per objective over the pools of the last w generations, the present one included"
   pub ideal_used : (j : ℕ) → j < m → ideal_of r j ≡ least_over infinity (last_of w (pools ++ (r ∷ []))) j
@@ -143,22 +142,22 @@ module _ (w : ℕ) (pools : List Request) (st : State) (history : List ℕ) (k :
       ∙ sym (ap (λ (rs : List Request). least_over infinity rs j) within)
 
   -- what the session has afterwards
-  ideal-left : (sel : Selected) → take m (over (ideal_after (given s.config.window) r sel) s.ideal_point) ≡ list_below (least_over infinity (last_of w (pools ++ (r ∷ [])))) m
+  ideal-left : (sel : Selected) → take m (over (ideal_after s.config.window r sel) s.ideal_point) ≡ list_below (least_over infinity (last_of w (pools ++ (r ∷ [])))) m
   ideal-left sel =
-      ap (λ (o : OptionUsize). take m (over (ideal_after (given o) r sel) s.ideal_point)) k.window
+      ap (λ (o : Option ℕ). take m (over (ideal_after o r sel) s.ideal_point)) k.window
       ∙ over-take (list_below (ideal_of r) (objectives r)) s.ideal_point m (list_below-length (ideal_of r) (objectives r) ∙ same)
       ∙ ap (list_below (ideal_of r)) same ∙ list_below-same (ideal_of r) _ m ideal_used
 
   memory_left : memory_after s st.pool r ≡ parts_of (last_of (w - 1) (pools ++ (r ∷ [])))
   unfolding memory_after
   memory_left =
-      ap (λ (o : OptionUsize). last_of (most_remembered (given o) * m) (memory_in s st.pool ++ own_words r)) k.window
+      ap (λ (o : Option ℕ). last_of (most_remembered o * m) (memory_in s st.pool ++ own_words r)) k.window
       ∙ ap (λ (x : List ℕ). last_of ((w - 1) * m) (x ++ own_words r)) k.memory ∙ ap (last_of ((w - 1) * m)) (sym (parts_snoc before r))
       ∙ sym (parts_last m (w - 1) (before ++ (r ∷ [])) (fine_snoc m before r fine_before fine_now)) ∙ ap parts_of (last-last (w - 1) pools r)
 
   count_left : remembered_after s ≡ length (last_of (w - 1) (pools ++ (r ∷ [])))
   count_left =
-      ap (λ (o : OptionUsize). min (s.progress.n_remembered + 1) (most_remembered (given o))) k.window
+      ap (λ (o : Option ℕ). min (s.progress.n_remembered + 1) (most_remembered o)) k.window
       ∙ omega (arith, k.count, last-length (w - 1) pools, last-length (w - 1) (pools ++ (r ∷ [])), length-append pools (r ∷ []))
 
   pub kept-bred : Kept w (pools ++ (r ∷ [])) (breed st history)
@@ -196,7 +195,7 @@ module _ (w : ℕ) (pools : List Request) (st : State) (d : Distribution) (plan 
       (λ a. rw (e, a, b) (sampled st pools k))
       (λ a. rw (e, a) (sampled (activate st) pools (kept_on w pools st _ k (activate_leaves st)))))
 
-  bred : sample_refusal st d plan history ≡ none → breeds st history ≡ true → Kept w (pools ++ (request_of st history ∷ [])) (accepted st d plan history).after
+  bred : sample_refusal st d plan history ≡ None → breeds st history ≡ true → Kept w (pools ++ (request_of st history ∷ [])) (accepted st d plan history).after
   unfolding accepted
   bred e b =
       let a = breeds_active st history b in
@@ -205,11 +204,11 @@ module _ (w : ℕ) (pools : List Request) (st : State) (d : Distribution) (plan 
       (sampled (breed st history) (pools ++ (request_of st history ∷ []))
       (kept-bred w pools st history k ok (long st p.slices) (and_fails (breeds st history) _ p.pool b)))
 
-  goes : (o : Option ℕ) → sample_refusal st d plan history ≡ o → Kept w (pools ++ pool_by o st history) (sample_by o st (accepted st d plan history)).after
-  goes none e = by_bool (breeds st history)
+  goes : (o : Option Refusal) → sample_refusal st d plan history ≡ o → Kept w (pools ++ pool_by o st history) (sample_by o st (accepted st d plan history)).after
+  goes None e = by_bool (breeds st history)
       (λ b. rw b (bred e b))
       (λ b. rw b (subst (λ (rs : List Request). Kept w rs (accepted st d plan history).after) (sym (append-nil pools)) (unbred b)))
-  goes (some n) e = subst (λ (rs : List Request). Kept w rs st) (sym (append-nil pools)) k
+  goes (Some n) e = subst (λ (rs : List Request). Kept w rs st) (sym (append-nil pools)) k
 
   pub kept-called : Kept w (pools ++ pool_of st d plan history) (sample_of st d plan history).after
   unfolding sample_of
@@ -219,7 +218,7 @@ module _ (w : ℕ) (pools : List Request) (st : State) (d : Distribution) (plan 
 
 module _ (edition : Edition) (marks : List ℕ) (seed : ℕ) (size divisions : Option ℕ) (probability crossover_eta_of mutation_eta_of : Float) (w : ℕ) (cs ps ns pool : List ℕ) where
   abbrev first : State
-  first = state (opened edition marks seed size divisions probability crossover_eta_of mutation_eta_of (opt_usize.Some w)) cs ps ns pool
+  first = state (opened edition marks seed size divisions probability crossover_eta_of mutation_eta_of (Some w)) cs ps ns pool
 
   pub kept-opened : SessionOk first → Kept w [] first
   unfolding opened least_over
@@ -242,19 +241,19 @@ pub record Stands (w : ℕ) (pools : List Request) (st : State) : Type 0 where
   pub kept : Kept w pools st
 
 -- an opening that is ready answers the session that is opened
-ready : (o : Option ℕ) (s : Session) (r : Opened) → r ≡ open_by o s → r.outcome ≡ opening.Ready → r.session ≡ s
-ready none s r e f = ap (λ (x : Opened). x.session) e
-ready (some n) s r e f = absurd (some-ne-none n (ap opening_refused_by (sym (ap (λ (x : Opened). x.outcome) e) ∙ f)))
+ready : (o : Option Refusal) (s : Session) (r : Opened) → r ≡ open_by o s → r.outcome ≡ (Ok tt) → r.session ≡ s
+ready None s r e f = ap (λ (x : Opened). x.session) e
+ready (Some n) s r e f = absurd (some-ne-none n (ap refused_by (sym (ap (λ (x : Opened). x.outcome) e) ∙ f)))
 
 pub stands : {w : ℕ} {pools : List Request} {st : State} → Run w pools st → Stands w pools st
 unfolding open_of
 stands {w} (begun {edition} {directions} {seed} {size} {divisions} {probability} {crossover_eta_of} {mutation_eta_of} {r} opens is-ready cs ps ns pool) =
-    let s = ready (open_refusal directions (given size) (given divisions) probability crossover_eta_of mutation_eta_of (some w)) _ r opens.whole is-ready in
+    let s = ready (open_refusal directions size divisions probability crossover_eta_of mutation_eta_of (Some w)) _ r opens.whole is-ready in
     let ok = opens.gives cs ps ns pool in
     record {
       ok = ok;
       kept = subst (λ (x : Session). Kept w [] (state x cs ps ns pool)) (sym s)
-          (kept-opened edition directions seed (given size) (given divisions) probability crossover_eta_of mutation_eta_of w cs ps ns pool (subst (λ (x : Session). SessionOk (state x cs ps ns pool)) s ok));
+          (kept-opened edition directions seed size divisions probability crossover_eta_of mutation_eta_of w cs ps ns pool (subst (λ (x : Session). SessionOk (state x cs ps ns pool)) s ok));
     }
 stands {w} (called {pools} {st} {d} {plan} {history} {exit} run samples) =
     let before = stands run in
@@ -275,7 +274,7 @@ whole_run {w} {pools} {st} run h =
     window-ideal run ∙ ap (λ (rs : List Request). list_below (least_over infinity rs) st.session.config.n_obj) (last-all w pools h)
 
 -- "The ideal used is then the least .. over the pools of the last w generations, the present one included": by the selection of a call that breeds
-pub used_ideal : {w : ℕ} {pools : List Request} {st : State} → Run w pools st → (d : Distribution) (plan : ℕ) (history : List ℕ) → sample_refusal st d plan history ≡ none
+pub used_ideal : {w : ℕ} {pools : List Request} {st : State} → Run w pools st → (d : Distribution) (plan : ℕ) (history : List ℕ) → sample_refusal st d plan history ≡ None
     → breeds st history ≡ true → (j : ℕ) → j < st.session.config.n_obj
     → ideal_of (request_of st history) j ≡ least_over infinity (last_of w (pools ++ (request_of st history ∷ []))) j
 used_ideal {w} {pools} {st} run d plan history e b j l =

@@ -9,27 +9,21 @@ ghost use Rattle.std.proofs.lemmas.List.Edits.{sets};
 pub fn wide(n: u8) -> u64
     ensures { result ≡ n }
 {
-    n as u64
+    u64::from(n)
 }
 
 // A word of a slice; past its end, 0.
 pub fn word_at(words: &[u64], i: usize) -> u64
     ensures { result ≡ get_or words.now i 0 }
 {
-    if i < words.len() {
-        return words[i];
-    }
-    0
+    words.get(i).copied().unwrap_or(0)
 }
 
 // Words put into a slice from a place on.
+#[tactic(auto, using(crate::proofs::Copied::copied_part))]
 pub fn put(block: &[u64], at: usize, words: &mut [u64])
     requires { at + length block.now ≤ length words.old }
     ensures { words.new ≡ sets words.old at block.now }
 {
-    let mut j = 0;
-    while j < block.len() {
-        words[at + j] = block[j];
-        j += 1;
-    }
+    words[at..at + block.len()].copy_from_slice(block);
 }

@@ -17,39 +17,39 @@ array-share-prefix-text c =
     let k = c in
     let u = c in
     let a = u.args in
-    within a.file.now a.out.now _ _ u.convert-converted.ensures k.in-Written.n k.in-Written.is
+    within a.file.now a.out.now _ _ u.convert-converted.ensures k.in-Ok.n k.in-Ok.is
 
 slice-aggregate-hand-out : tie.Need-slice_bounds-hand_out-end
 slice-aggregate-hand-out c =
     let k = c in
     let u = c in
     let a = u.args in
-    sym (length-take-le k.in-Written.n u.convert-converted.new.out
-    (within a.file.now a.out.now _ _ u.convert-converted.ensures k.in-Written.n k.in-Written.is))
+    sym (length-take-le k.in-Ok.n u.convert-converted.new.out
+    (within a.file.now a.out.now _ _ u.convert-converted.ensures k.in-Ok.n k.in-Ok.is))
 
 hand-out-requires : tie.Need-hand_out-requires
 hand-out-requires c κs = search rules
 
-enum-known-converted-2 : tie.Need-enum_known-converted-in-Refused-1
+enum-known-converted-2 : tie.Need-enum_known-converted-in-Err-1
 enum-known-converted-2 c = search rules
 
 same_length : tie.Need-shape_of-out
 same_length c = search rules
 
-returns : tie.Need-returns-in-Written
+returns : tie.Need-returns-in-Ok
 returns c =
     let h = c in
     let k = c in
     let u = c in
     let a = u.args in
-    into_written a.file.now a.out.now _ _ u.convert-converted.ensures k.in-Written.n k.in-Written.is _ h.hand_out.ensures
+    into_written a.file.now a.out.now _ _ u.convert-converted.ensures k.in-Ok.n k.in-Ok.is _ h.hand_out.ensures
 
-returns-2 : tie.Need-returns-in-Refused
+returns-2 : tie.Need-returns-in-Err
 returns-2 c =
     let k = c in
     let u = c in
     let a = u.args in
-    into_refused a.file.now a.out.now _ _ u.convert-converted.ensures k.in-Refused.number k.in-Refused.is
+    into_refused a.file.now a.out.now _ _ u.convert-converted.ensures k.in-Err.refusal k.in-Err.is
 
 pub convert_into_spec : {M : Type 1} → statement M
 convert_into_spec =

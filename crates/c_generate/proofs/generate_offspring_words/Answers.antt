@@ -17,4 +17,4 @@ returns c =
     (step_exit f.result f.new.ideal (lent f.new.kept f.new.rules f.new.fronts f.new.lines) f.new.offspring))
     c.edition_of.ensures f.ensures in
     let e = ap (λ x. operators x (dimension_count a.dimensions.now) a.crossover_prob a.crossover_eta a.mutation_eta) c.dimensions_of_words-infos.ensures in
-    step_coded _ _ _ _ _ _ _ _ _ e promised c.count.ensures c.code.ensures
+    step_coded _ _ _ _ _ _ _ _ _ e promised c.value_or.ensures c.code.ensures

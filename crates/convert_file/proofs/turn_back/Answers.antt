@@ -1,48 +1,37 @@
--- `turn_back`: by how far the reader gets, and then by what the first edition can hold
+-- by how far the reader gets, and then by what the first edition can hold
+use Rattle.std.proofs.lemmas.Bool.{not-true, not-false}
 use Rattle.convert_file.proofs.Wholes.{back_long, back_no_head, back-no_plans, back_runs_on, back-not_plain, back-inner, back-over, back-held}
 use Rattle.convert_file.proofs.turn_back.Goals as goal
+use Rattle.convert_file.proofs.turn_back.Goals.{then-not-plans-via-then-not-plans, then-not-plans-via-else-not-plans+then-head-eq-SECOND, then-not-plans-via-else-not-plans+else-head-eq-SECOND+then-to-gt-MAX_FILE}
 
 pub returns-then-file-gt-MAX_FILE : goal.returns-then-file-gt-MAX_FILE
-returns-then-file-gt-MAX_FILE c =
-    back_long _ c.if-file-gt-MAX_FILE.true
+returns-then-file-gt-MAX_FILE c = back_long _ c.if-file-gt-MAX_FILE.true
 
 pub returns-in_default : goal.returns-in_default
-returns-in_default c =
-    let a = c.args in
-    back_no_head a.file.now c.if-file-gt-MAX_FILE.false a.out.now _ _ _ c.copy_head.ensures c.in_default.is
+returns-in_default c = back_no_head c.args.file.now c.if-file-gt-MAX_FILE.false c.in_default.ensures
 
 pub returns-in_default-plain_plans : goal.returns-in_default-plain_plans
 returns-in_default-plain_plans c =
-    let a = c.args in
-    back-no_plans a.file.now c.if-file-gt-MAX_FILE.false a.out.now _ _ _ c.copy_head.ensures c.in-Good.m c.in-Good.count c.in-Good.at c.in-Good.is _ _ _
-    c.plain_plans.ensures c.in_default-plain_plans.is
+    back-no_plans c.args.file.now c.if-file-gt-MAX_FILE.false c.args.out.now _ _ _ c.in-Some.ensures c.in_default-plain_plans.ensures
 
-pub returns-then-end-file : goal.returns-then-end-file
-returns-then-end-file c =
-    let a = c.args in
-    back_runs_on a.file.now c.if-file-gt-MAX_FILE.false a.out.now _ _ _ c.copy_head.ensures c.in-Good.m c.in-Good.count c.in-Good.at c.in-Good.is _ _ _
-    c.plain_plans.ensures c.in-At.end c.in-At.held c.in-At.is c.if-end-file.true
+pub returns-then-plans-file : goal.returns-then-plans-file
+returns-then-plans-file c =
+    back_runs_on c.args.file.now c.if-file-gt-MAX_FILE.false c.args.out.now _ _ _ c.in-Some.ensures _ _ _ c.in-Some-plain_plans.ensures c.if-plans-file.true
 
-pub returns-then-not-held : goal.returns-then-not-held
-returns-then-not-held c =
-    let a = c.args in
-    back-not_plain a.file.now c.if-file-gt-MAX_FILE.false a.out.now _ _ _ c.copy_head.ensures c.in-Good.m c.in-Good.count c.in-Good.at c.in-Good.is _ _ _
-    c.plain_plans.ensures c.in-At.end c.in-At.held c.in-At.is c.if-end-file.false c.if-not-held.true
-
-pub returns-then-m-eq-SECOND : goal.returns-then-m-eq-SECOND
-returns-then-m-eq-SECOND c =
-    let a = c.args in
-    back-inner a.file.now c.if-file-gt-MAX_FILE.false a.out.now _ _ _ c.copy_head.ensures c.in-Good.m c.in-Good.count c.in-Good.at c.in-Good.is _ _ _
-    c.plain_plans.ensures c.in-At.end c.in-At.held c.in-At.is c.if-end-file.false c.if-m-eq-SECOND.true
-
-pub returns-then-to-gt-MAX_FILE : goal.returns-then-to-gt-MAX_FILE
-returns-then-to-gt-MAX_FILE c =
-    let a = c.args in
-    back-over a.file.now c.if-file-gt-MAX_FILE.false a.out.now _ _ _ c.copy_head.ensures c.in-Good.m c.in-Good.count c.in-Good.at c.in-Good.is _ _ _
-    c.plain_plans.ensures c.in-At.end c.in-At.held c.in-At.is c.if-end-file.false c.requires c.if-to-gt-MAX_FILE.true
+pub returns-then-not-plans : goal.returns-then-not-plans
+returns-then-not-plans c =
+    let short = c.if-file-gt-MAX_FILE.false in
+    let head = c.in-Some.ensures in
+    let plans = c.in-Some-plain_plans.ensures in
+    let all = c.if-plans-file.false in
+    elim c.then-not-plans.branch [
+      | then-not-plans-via-then-not-plans w ↦ back-not_plain c.args.file.now short c.args.out.now _ _ _ head _ _ _ plans all (not-true _ w.if-not-plans.true)
+      | then-not-plans-via-else-not-plans+then-head-eq-SECOND w ↦ back-inner c.args.file.now short c.args.out.now _ _ _ head _ _ _ plans all w.if-head-eq-SECOND.true
+      | then-not-plans-via-else-not-plans+else-head-eq-SECOND+then-to-gt-MAX_FILE w ↦
+          back-over c.args.file.now short c.args.out.now _ _ _ head _ _ _ plans all c.requires w.if-to-gt-MAX_FILE.true
+    ]
 
 pub returns : goal.returns
 returns c =
-    let a = c.args in
-    back-held a.file.now c.if-file-gt-MAX_FILE.false a.out.now _ _ _ c.copy_head.ensures c.in-Good.m c.in-Good.count c.in-Good.at c.in-Good.is _ _ _
-    c.plain_plans.ensures c.in-At.end c.in-At.held c.in-At.is c.if-end-file.false c.requires c.if-not-held.false c.if-m-eq-SECOND.false c.if-to-gt-MAX_FILE.false
+    back-held c.args.file.now c.if-file-gt-MAX_FILE.false c.args.out.now _ _ _ c.in-Some.ensures _ _ _ c.in-Some-plain_plans.ensures c.if-plans-file.false
+    c.requires (not-false _ c.if-not-plans.false) c.if-head-eq-SECOND.false c.if-to-gt-MAX_FILE.false

@@ -1,12 +1,7 @@
-use Prim.Native.Nat.{◌-◌, ◌≤◌}
-use mathlib.Core.Path.{◌≡◌}
-use lib.ListN.{length}
+-- as many numbers as the loop has turned are copied so far, read up to p
 use Rattle.model.specs.PoolFile.{number, many}
 use Rattle.convert_rows.specs.Copied.{Copied}
 use Rattle.convert_rows.proofs.copy_numbers.Given as goal
 
-abbrev pub invariant-loop-i : goal.invariant-loop-i
-invariant-loop-i l = (l.i ≤ l.n) × (length l.out ≡ length l.initial.out) × Copied (many l.i number) (λ l. l) l.file l.at l.initial.out l.initial.to l.out l.to l.p
-
-abbrev pub decreases-loop-i : goal.decreases-loop-i
-decreases-loop-i l = l.n - l.i
+abbrev pub invariant-loop : goal.invariant-loop
+invariant-loop l = Copied (many l.counter number) (λ n. n) l.file l.at l.initial.out l.initial.to l.out l.to l.p

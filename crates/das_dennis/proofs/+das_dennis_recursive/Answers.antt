@@ -1,10 +1,9 @@
 -- The part that comes next has room behind `at`; the deeper call writes it there.
-use Rattle.std.proofs.Common.{ℕ, ◌+◌, ◌-◌, ◌<◌, ◌≤◌, ◌≡◌, refl, sym, ap, ◌∙◌, List, [], ◌∷◌, ◌++◌, length, take, drop, set, length-append, length-drop, arith}
+use Rattle.std.proofs.Common.{ℕ, ◌+◌, ◌-◌, ◌<◌, ◌≤◌, ◌≡◌, refl, sym, ap, ◌∙◌, List, length, take, drop, length-append, length-drop, arith}
 use borrow.Rule.Slice.PartMut.{mid_of, same_len_mid}
 use lib.Ieee.{Float}
 use lib.Seq.{length-take-le}
 use Rattle.model.specs.Lists.{join_below, over}
-use Rattle.model.specs.Reference.{ratio}
 use Rattle.reference_laws.specs.Rows.{rows_from}
 use Rattle.list_laws.proofs.Built.{join_below-more, written_behind}
 use Rattle.list_laws.proofs.Rows.{join_below-room}

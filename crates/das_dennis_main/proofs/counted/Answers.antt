@@ -13,7 +13,7 @@ pub das_dennis-lines-requires-clause-m_in_bounds :
 das_dennis-lines-requires-clause-m_in_bounds g c =
     let w = fits c.args.m c.args.h (omega arith) c.bad_divisions.ensures c.if-bad_divisions.false in w.2
 
-pub point_count-requires : goal.point_count-requires
-point_count-requires g c =
+pub point_count-count-requires : goal.point_count-count-requires
+point_count-count-requires g c =
     let w = fits c.args.m c.args.h (omega arith) c.bad_divisions.ensures c.if-bad_divisions.false in
     (omega arith, omega arith, w.1)

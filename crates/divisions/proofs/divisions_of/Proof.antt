@@ -1,7 +1,6 @@
 -- `divisions_of`.
 use mathlib.Core.Path.{ap, ◌∙◌}
 use Rattle.model.specs.Reference.{or_else, auto_divisions, divisions_of}
-use Rattle.model.specs.Session.{given}
 use borrow.Author.Rules.{rules}
 use Rattle.divisions.proofs.divisions_of.Statement.{statement}
 use Rattle.divisions.proofs.divisions_of.Tie as tie
@@ -20,7 +19,7 @@ unfolding divisions_of
 returns c =
     let a = c.args in
     c.or_else-2.ensures
-    ∙ ap (or_else (given a.divisions)) (c.auto_divisions-automatic.ensures ∙ ap (auto_divisions a.m) c.or_else.ensures)
+    ∙ ap (or_else a.divisions) (c.auto_divisions-automatic.ensures ∙ ap (auto_divisions a.m) c.or_else.ensures)
 
 pub divisions_of_spec : {M : Type 1} → statement M
 divisions_of_spec =

@@ -2,7 +2,6 @@
 use mathlib.Core.Path.{◌≡◌, ap, ◌∙◌}
 use native.Mathlib.Omega.{arith}
 use Rattle.model.specs.Reference.{or_else, point_count, divisions_of}
-use Rattle.model.specs.Session.{given}
 use Rattle.reference_laws.proofs.Divisions.{session_allowed, population_small, population_large}
 use borrow.Author.Rules.{rules}
 use Rattle.divisions.proofs.population_size.Statement.{statement}
@@ -22,10 +21,10 @@ or-else-requires c κs = tt
 -- the size given, or else the point count
 sized : (c : tie.After-or_else-n) →
     let a = c.args in
-    c.or_else-n.result ≡ or_else (given a.size) (point_count a.m (divisions_of a.m (given a.size) (given a.divisions)))
+    c.or_else-n.result ≡ or_else a.size (point_count a.m (divisions_of a.m a.size a.divisions))
 sized c =
     let a = c.args in
-    c.or_else-n.ensures ∙ ap (or_else (given a.size)) (c.point_count.ensures ∙ ap (point_count a.m) c.divisions_of.ensures)
+    c.or_else-n.ensures ∙ ap (or_else a.size) (c.point_count.ensures ∙ ap (point_count a.m) c.divisions_of.ensures)
 
 returns : tie.Need-returns-then-n-lt4
 returns c = population_small _ _ _ _ (sized c.before) c.if-n-lt4.true

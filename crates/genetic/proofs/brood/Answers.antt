@@ -1,7 +1,6 @@
 -- The steps of the definition, one after the other.
 use Prim.Native.Nat.{ℕ}
 use lib.ListN.{get_or}
-use borrow.Author.Rules.{rules}
 use Rattle.settings.proofs.Valid.{few}
 use Rattle.list_laws.proofs.Rows.{row_within}
 use Rattle.model.specs.Setting.{operators_in}

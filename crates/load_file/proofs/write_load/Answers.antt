@@ -6,7 +6,7 @@ use Rattle.load_file.proofs.Filing.{filed}
 use Rattle.load_file.proofs.write_load.Goals as goal
 
 pub returns-in_default : goal.returns-in_default
-returns-in_default c = refused_1 _ _ (c.read_load-asking.ensures ∙ ap asked c.in_default.is)
+returns-in_default c = refused_1 _ _ (c.read_load.ensures ∙ ap asked c.in_default.is)
 
 pub returns : goal.returns
-returns c = filed _ _ _ _ (c.read_load-asking.ensures ∙ ap asked c.in-Good.is) c.hand_load.ensures
+returns c = filed _ _ _ _ (c.read_load.ensures ∙ ap asked c.in-Some.is) c.hand_load.ensures

@@ -1,9 +1,7 @@
 -- the first `at` open places are filled, and the arrays hold what that leaves
-use Prim.Native.Nat.{◌-◌, ◌≤◌}
-use mathlib.Core.Path.{◌≡◌, refl, ap, sym, ◌∙◌}
-use lib.ListN.{take}
+use mathlib.Core.Path.{◌≡◌, ap, ◌∙◌}
 use Rattle.model.specs.Kept.{mark_of}
-use Rattle.niching_array_laws.proofs.Selecting.{Selecting, selecting_first, selecting_ready, selecting_more, before-lines, front-counts, given, enough-members, no_counts, before-length, selecting_done}
+use Rattle.niching_array_laws.proofs.Selecting.{selecting_first, selecting_ready, selecting_more, before-lines, front-counts, given, enough-members, no_counts, selecting_done}
 use native.Mathlib.Omega.{arith}
 use Rattle.niching.proofs.niching_select.Goals as goal
 
@@ -17,25 +15,22 @@ pub loop-at-init : goal.loop-at-init
 loop-at-init c =
     let b = c.count_lines in
     let f = c.count_waiting in
-    (omega arith, selecting_first _ _ _ _ _ _ _ _ _ _ b.ensures f.ensures b.auto.counts f.auto.waits)
+    selecting_first _ _ _ _ _ _ _ _ _ _ b.ensures f.ensures b.auto.counts f.auto.waits
 
 pub pick-d-requires : goal.pick-d-requires
 pick-d-requires c =
     let l = c.loop-at in
     let h = c.requires in
-    selecting_ready l.invariant.1 (given h) (enough-members h l.at c.loop-at-test.true)
+    selecting_ready l.invariant (given h) (enough-members h l.at c.loop-at-test.true)
 
 pub loop-at-preserved : goal.loop-at-preserved
 loop-at-preserved c =
     let h = c.requires in
-    let rule = c.rule_of-rule in (
-      omega (arith, c.loop-at-test.true),
-      selecting_more c.loop-at.invariant.1 (given h) (omega (arith, c.loop-at-test.true, h.room)) (omega (arith, c.loop-at-test.true, h.room_for_rules))
-          c.pick-d.ensures (c.mark.ensures ∙ ap mark_of rule.ensures),
-    )
+    let u = c.loop-at-test.true in
+    selecting_more c.loop-at.invariant (given h) (omega (arith, h.room)) (omega (arith, h.room_for_rules)) c.pick-d.ensures (c.mark.ensures ∙ ap mark_of c.rule_of-rule.ensures)
 
 pub returns : goal.returns
 returns c =
     let l = c.loop-at in
     let e : l.at ≡ c.args.open = omega arith in
-    selecting_done _ e l.invariant.1
+    selecting_done _ e l.invariant

@@ -1,6 +1,5 @@
 -- a line is drawn, a member of it chosen, and the three arrays are moved on
 use mathlib.Core.Path.{refl}
-use lib.ListN.{length-set}
 use Rattle.niching_array_laws.proofs.Picking.{ready_awaits, ready_open, open_some, member-waited, member-line, picked-at, found_at}
 use Rattle.niching_array_laws.proofs.Numbering.{stands-more}
 use native.Mathlib.Omega.{arith}

@@ -8,16 +8,16 @@ pub select-requires : goal.select-requires
 select-requires c =
     let a = c.args in
     limits-kept a.edition a.pool.now a.directions.now a.divisions a.size a.rng a.ideal.now (lent a.kept.now a.rules.now a.fronts.now a.lines.now)
-    c.refusal-check.ensures c.in-Good.is
+    c.refusal-check.ensures c.in-Ok.is
 
-pub returns-in-Refused : goal.returns-in-Refused
-returns-in-Refused c =
+pub returns-in-Err : goal.returns-in-Err
+returns-in-Err c =
     let a = c.args in
     refused a.edition a.pool.now a.directions.now a.divisions a.size a.rng a.ideal.now (lent a.kept.now a.rules.now a.fronts.now a.lines.now)
-    c.refusal-check.ensures _ c.in-Refused.is
+    c.refusal-check.ensures _ c.in-Err.is
 
-pub returns-in-Good : goal.returns-in-Good
-returns-in-Good c =
+pub returns-in-Ok : goal.returns-in-Ok
+returns-in-Ok c =
     let a = c.args in
     selected_so a.edition a.pool.now a.directions.now a.divisions a.size a.rng a.ideal.now (lent a.kept.now a.rules.now a.fronts.now a.lines.now)
-    c.refusal-check.ensures c.in-Good.is _ c.select.ensures
+    c.refusal-check.ensures c.in-Ok.is _ c.select.ensures

@@ -1,7 +1,6 @@
 -- where every plan counts as feasible the constraint rule compares rows
 use mathlib.Core.Bool.{true, false}
 use native.Mathlib.Omega.{arith}
-use borrow.Author.Rules.{rules}
 use lib.ListN.{replicate, get_or-replicate}
 use Rattle.model.specs.Refusal.{max_pool}
 use Rattle.front_laws.proofs.Flat.{flat_beats-rows}

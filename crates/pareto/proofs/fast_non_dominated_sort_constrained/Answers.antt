@@ -1,14 +1,12 @@
 -- the order holds the first k + 1 fronts, the counts and ranks are those of round k, and `ends` has the ends of the fronts before
-use Prim.Native.Nat.{◌-◌, ◌≤◌, ◌<◌}
+use Prim.Native.Nat.{◌≤◌, ◌<◌}
 use mathlib.Core.Path.{◌≡◌, refl, ◌∙◌}
 use native.Mathlib.Numerals.{add-one}
 use native.Mathlib.Omega.{arith}
-use borrow.Author.Rules.{rules}
 use lib.ListN.{length}
 use Rattle.model.specs.Refusal.{max_pool}
-use Rattle.front_laws.specs.Flat.{flat_beats}
 use Rattle.front_laws.proofs.Flat.{flat_beats_strict}
-use Rattle.front_laws.proofs.Sorting.{Sorting, sorting_first, first_rest, sorting_within, order-size, ranks-size, ends-size, sorting_ready, sorting_more, sorting_done}
+use Rattle.front_laws.proofs.Sorting.{sorting_first, first_rest, sorting_within, ends-size, sorting_ready, sorting_more, sorting_done}
 use Rattle.pareto.proofs.fast_non_dominated_sort_constrained.Goals as goal
 
 pub loop-start-init : goal.loop-start-init

@@ -1,13 +1,8 @@
-use Prim.Native.Nat.{◌-◌, ◌≤◌, ◌<◌}
-use mathlib.Core.Path.{◌≡◌, refl, ◌∙◌}
-use native.Mathlib.Numerals.{add-one}
-use native.Mathlib.Omega.{arith}
-use borrow.Author.Rules.{rules}
+use Prim.Native.Nat.{◌-◌}
+use mathlib.Core.Path.{◌≡◌}
 use lib.ListN.{length}
-use Rattle.model.specs.Refusal.{max_pool}
 use Rattle.front_laws.specs.Flat.{flat_beats}
-use Rattle.front_laws.proofs.Flat.{flat_beats_strict}
-use Rattle.front_laws.proofs.Sorting.{Sorting, sorting_first, first_rest, sorting_within, order-size, ranks-size, ends-size, sorting_ready, sorting_more, sorting_done}
+use Rattle.front_laws.proofs.Sorting.{Sorting}
 use Rattle.pareto.proofs.fast_non_dominated_sort_constrained.Given as goal
 
 abbrev pub invariant-loop-start : goal.invariant-loop-start

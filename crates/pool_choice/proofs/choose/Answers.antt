@@ -12,24 +12,24 @@ use Rattle.pool_choice.proofs.choose.Goals as goal
 pub returns-then-opens_second : goal.returns-then-opens_second
 returns-then-opens_second c =
     let a = c.args in
-    broken-second a.file.now c.parse_pool-parsed.new.directions c.parse_pool-parsed.new.pool c.parse_pool-parsed.result c.parse_pool-parsed.ensures c.in_default.is a.out.now
+    broken-second a.file.now c.parse_pool.new.directions c.parse_pool.new.pool c.in_default.ensures a.out.now
     (sym c.opens_second.ensures ∙ c.if-opens_second.true)
 
 pub returns-in_default : goal.returns-in_default
 returns-in_default c =
     let a = c.args in
-    broken-first a.file.now c.parse_pool-parsed.new.directions c.parse_pool-parsed.new.pool c.parse_pool-parsed.result c.parse_pool-parsed.ensures c.in_default.is a.out.now
+    broken-first a.file.now c.parse_pool.new.directions c.parse_pool.new.pool c.in_default.ensures a.out.now
     (sym c.opens_second.ensures ∙ c.if-opens_second.false)
 
 pub returns-then-header : goal.returns-then-header
 returns-then-header c =
     let a = c.args in
-    many-objectives a.file.now c.parse_pool-parsed.new.directions c.parse_pool-parsed.new.pool c.parse_pool-parsed.result c.parse_pool-parsed.ensures c.in-Good.header
-    c.in-Good.is a.out.now c.if-header.true
+    many-objectives a.file.now c.parse_pool.new.directions c.parse_pool.new.pool c.in-Some.header c.in-Some.ensures
+    a.out.now c.if-header.true
 
 pub returns : goal.returns
 returns c =
-    let words-length-here : length c.parse_pool-parsed.new.pool ≡ most_plans First * plan_words = c.parse_pool-parsed.auto.pool ∙ length-replicate {A = ℕ} (most_plans First * plan_words) 0 in
+    let words-length-here : length c.parse_pool.new.pool ≡ most_plans First * plan_words = c.parse_pool.auto.pool ∙ length-replicate {A = ℕ} (most_plans First * plan_words) 0 in
     let a = c.args in
-    chosen-words a.file.now c.parse_pool-parsed.new.directions c.parse_pool-parsed.new.pool c.parse_pool-parsed.result c.parse_pool-parsed.ensures c.in-Good.header
-    c.in-Good.is a.out.now c.if-header.false (le_of_eq (sym words-length-here)) _ c.plans_stored-words.ensures.1 c.plans_stored-words.ensures.2 _ c.choose_words.ensures
+    chosen-words a.file.now c.parse_pool.new.directions c.parse_pool.new.pool c.in-Some.header c.in-Some.ensures
+    a.out.now c.if-header.false (le_of_eq (sym words-length-here)) _ c.plans_stored-words.ensures.1 c.plans_stored-words.ensures.2 _ c.choose_words.ensures

@@ -44,7 +44,7 @@ slice_bounds-kept-end c =
     let f = c.nsga3_select-selection in
     let p : Selects (asked a.pool.now a.directions.now a.divisions a.size a.rng (replicate (length a.directions.now) infinity)) zeros (left f.result f.new.ideal f.new.kept f.new.rules f.new.fronts f.new.lines) =
     subst (λ (i : List Float). Selects (asked a.pool.now a.directions.now a.divisions a.size a.rng i) zeros (left f.result f.new.ideal f.new.kept f.new.rules f.new.fronts f.new.lines)) (ideal-start (length a.directions.now) c.requires) f.ensures in
-    let few : c.in-Kept.n ≤ max_size = few-kept p roomed refl c.in-Kept.is in
+    let few : c.in-Ok.n ≤ max_size = few-kept p roomed refl c.in-Ok.is in
     omega (arith, few)
 
 pub slice_bounds-put_listing-end : goal.slice_bounds-put_listing-end
@@ -53,7 +53,7 @@ slice_bounds-put_listing-end c =
     let f = c.nsga3_select-selection in
     let p : Selects (asked a.pool.now a.directions.now a.divisions a.size a.rng (replicate (length a.directions.now) infinity)) zeros (left f.result f.new.ideal f.new.kept f.new.rules f.new.fronts f.new.lines) =
     subst (λ (i : List Float). Selects (asked a.pool.now a.directions.now a.divisions a.size a.rng i) zeros (left f.result f.new.ideal f.new.kept f.new.rules f.new.fronts f.new.lines)) (ideal-start (length a.directions.now) c.requires) f.ensures in
-    let few : c.in-Kept.n ≤ max_size = few-kept p roomed refl c.in-Kept.is in
+    let few : c.in-Ok.n ≤ max_size = few-kept p roomed refl c.in-Ok.is in
     sym (length-take-le _ c.nsga3_select-selection.new.kept (omega (arith, few, c.nsga3_select-selection.auto.kept)))
 
 pub put_listing-requires-clause-count_bound : goal.put_listing-requires-clause-count_bound
@@ -62,7 +62,7 @@ put_listing-requires-clause-count_bound c =
     let f = c.nsga3_select-selection in
     let p : Selects (asked a.pool.now a.directions.now a.divisions a.size a.rng (replicate (length a.directions.now) infinity)) zeros (left f.result f.new.ideal f.new.kept f.new.rules f.new.fronts f.new.lines) =
     subst (λ (i : List Float). Selects (asked a.pool.now a.directions.now a.divisions a.size a.rng i) zeros (left f.result f.new.ideal f.new.kept f.new.rules f.new.fronts f.new.lines)) (ideal-start (length a.directions.now) c.requires) f.ensures in
-    let few = few-plans p roomed refl c.in-Kept.is in (
+    let few = few-plans p roomed refl c.in-Ok.is in (
       omega (arith, few, c.plan_count.ensures),
       omega (arith, few, c.plan_count.ensures, c.nsga3_select-selection.auto.fronts),
       omega (arith, few, c.plan_count.ensures, c.nsga3_select-selection.auto.lines),
@@ -74,22 +74,22 @@ put_listing-requires-clause-lines_len_bound c =
     let f = c.nsga3_select-selection in
     let p : Selects (asked a.pool.now a.directions.now a.divisions a.size a.rng (replicate (length a.directions.now) infinity)) zeros (left f.result f.new.ideal f.new.kept f.new.rules f.new.fronts f.new.lines) =
     subst (λ (i : List Float). Selects (asked a.pool.now a.directions.now a.divisions a.size a.rng i) zeros (left f.result f.new.ideal f.new.kept f.new.rules f.new.fronts f.new.lines)) (ideal-start (length a.directions.now) c.requires) f.ensures in
-    let few = few-plans p roomed refl c.in-Kept.is in rw c.plan_count.ensures (text-short p roomed refl c.in-Kept.is)
+    let few = few-plans p roomed refl c.in-Ok.is in rw c.plan_count.ensures (text-short p roomed refl c.in-Ok.is)
 
-pub returns-in-Refused : goal.returns-in-Refused
-returns-in-Refused c =
+pub returns-in-Err : goal.returns-in-Err
+returns-in-Err c =
     let a = c.args in
     let f = c.nsga3_select-selection in
     let p : Selects (asked a.pool.now a.directions.now a.divisions a.size a.rng (replicate (length a.directions.now) infinity)) zeros (left f.result f.new.ideal f.new.kept f.new.rules f.new.fronts f.new.lines) =
     subst (λ (i : List Float). Selects (asked a.pool.now a.directions.now a.divisions a.size a.rng i) zeros (left f.result f.new.ideal f.new.kept f.new.rules f.new.fronts f.new.lines)) (ideal-start (length a.directions.now) c.requires) f.ensures in
-    refused-exit p roomed c.in-Refused.number c.args.out.now c.in-Refused.is
+    refused-exit p roomed c.in-Err.refusal c.args.out.now c.in-Err.is
 
-pub returns-in-Kept : goal.returns-in-Kept
-returns-in-Kept c =
+pub returns-in-Ok : goal.returns-in-Ok
+returns-in-Ok c =
     let a = c.args in
     let f = c.nsga3_select-selection in
     let p : Selects (asked a.pool.now a.directions.now a.divisions a.size a.rng (replicate (length a.directions.now) infinity)) zeros (left f.result f.new.ideal f.new.kept f.new.rules f.new.fronts f.new.lines) =
     subst (λ (i : List Float). Selects (asked a.pool.now a.directions.now a.divisions a.size a.rng i) zeros (left f.result f.new.ideal f.new.kept f.new.rules f.new.fronts f.new.lines)) (ideal-start (length a.directions.now) c.requires) f.ensures in
     let out = c.args.out.now in
-    let text = listing_text c.plan_count.result (listed (take c.in-Kept.n f.new.kept) f.new.fronts f.new.lines) in
-    ◌∙◌ {b = text_exit text out} c.put_listing.ensures (listed-exit p roomed refl c.in-Kept.is out c.plan_count.result c.plan_count.ensures)
+    let text = listing_text c.plan_count.result (listed (take c.in-Ok.n f.new.kept) f.new.fronts f.new.lines) in
+    ◌∙◌ {b = text_exit text out} c.put_listing.ensures (listed-exit p roomed refl c.in-Ok.is out c.plan_count.result c.plan_count.ensures)

@@ -1,6 +1,5 @@
 -- `parse_pool`: what the file's own edition answers.
-use Rattle.std.proofs.Common.{sym, ap, ◌∙◌, subst, Bool}
-use mathlib.Core.Option.{Option}
+use Rattle.std.proofs.Common.{sym, ap, ◌∙◌, subst, Bool, Option}
 use Rattle.model.specs.PoolFile.{PoolFile}
 use Rattle.pool_file.specs.Parsing.{parse_in, PoolOfIs}
 use Rattle.pool_file.proofs.Editions.{parse_in_lem}

@@ -18,6 +18,6 @@ pub put_number-requires : goal.put_number-requires
 put_number-requires c =
     rw (line-some c.args.l c.if-l-eq-NO_LINE.false) at c.requires
 
-pub returns : goal.returns
-returns c =
+pub returns-else-l-eq-NO_LINE : goal.returns-else-l-eq-NO_LINE
+returns-else-l-eq-NO_LINE c =
     put_as _ _ _ _ _ _ (ap (λ (t : List _). ended t 32) (sym (line-some c.args.l c.if-l-eq-NO_LINE.false))) c.put_number.ensures

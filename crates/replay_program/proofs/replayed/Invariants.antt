@@ -1,9 +1,6 @@
--- `replayed`: each case ends further on.
-use Rattle.std.proofs.Common.{length, ◌-◌, ◌≤◌}
+-- each turn leaves less of the text
+use Rattle.std.proofs.Common.{length}
 use Rattle.replay_program.proofs.replayed.Given as goal
 
-abbrev pub invariant-loop-at : goal.invariant-loop-at
-invariant-loop-at l = l.at ≤ length l.bytes
-
-abbrev pub decreases-loop-at : goal.decreases-loop-at
-decreases-loop-at l = length l.bytes - l.at
+abbrev pub decreases-loop-rest : goal.decreases-loop-rest
+decreases-loop-rest l = length l.rest

@@ -1,6 +1,7 @@
 -- each way is as the definition has it
 use mathlib.Core.Path.{◌≡◌, refl, sym, ap, ◌∙◌}
 use mathlib.Core.Bool.{false, not}
+use Rattle.model.specs.declared.Refusal.TheVariants as why
 use Rattle.list_laws.proofs.Bools.{and_not, and_fails}
 use Rattle.model.specs.declared.Phase.{Phase}
 use Rattle.model.specs.Session.{State, state, past_discovery}
@@ -23,7 +24,7 @@ returns-then-bad_history c =
     let a = c.args in
     let st = before-here in
     let o = adds-by st a.plan false (sym c.discovers.ensures ∙ c.if-discovers.false) in
-    leaves_refused st a.distribution a.plan a.history.now 7 a.session a.candidates.now a.pool.now _ c.refused.ensures refl
+    leaves_refused st a.distribution a.plan a.history.now why.Count a.session a.candidates.now a.pool.now _ c.refused.ensures refl
     (refused_7 st a.distribution a.plan a.history.now (and_not _ _ o, and_not _ _ o) (sym c.bad_history.ensures ∙ c.if-bad_history.true))
 
 pub sample_first-requires : goal.sample_first-requires
@@ -41,8 +42,8 @@ sample_active-requires c =
     let called-here : Called before-here c.args.history.now = record { ok = c.requires; room = long-by before-here _ c.long_enough-long.ensures ∙ c.if-long.true; few = few-here } in
     (called-here, c.in-Active.is)
 
-pub short_refusal-number-requires : goal.short_refusal-number-requires
-short_refusal-number-requires c =
+pub short_refusal-refusal-requires : goal.short_refusal-refusal-requires
+short_refusal-refusal-requires c =
     let before-here : State = state c.args.session c.args.candidates.now c.args.plans.now c.args.next_dims.now c.args.pool.now in
     let few-here : bad_history c.args.history.now ≡ false = sym c.bad_history.ensures ∙ c.if-bad_history.false in
     (without_slices before-here c.requires, few-here)
@@ -53,6 +54,6 @@ returns c =
     let a = c.args in
     let st = before-here in
     leaves_refused st a.distribution a.plan a.history.now _ a.session a.candidates.now a.pool.now _ c.refused-2.ensures refl
-    (c.short_refusal-number.ensures a.candidates.now a.next_dims.now a.distribution a.plan
+    (c.short_refusal-refusal.ensures a.candidates.now a.next_dims.now a.distribution a.plan
     (adds-by st a.plan false (sym c.discovers.ensures ∙ c.if-discovers.false))
     (long-by st _ c.long_enough-long.ensures ∙ c.if-long.false))

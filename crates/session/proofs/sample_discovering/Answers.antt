@@ -3,6 +3,7 @@ use mathlib.Core.Bool.{true, false}
 use mathlib.Core.Path.{◌≡◌, refl, sym, ◌∙◌}
 use mathlib.Core.List.{List}
 use Prim.Native.Nat.{ℕ}
+use Rattle.model.specs.declared.Refusal.TheVariants as why
 use Rattle.list_laws.proofs.Bools.{and_no}
 use Rattle.model.specs.declared.Distribution.{Distribution}
 use Rattle.model.specs.declared.Session.{Session}
@@ -20,21 +21,21 @@ pub returns-then-bad_dimension : goal.returns-then-bad_dimension
 returns-then-bad_dimension c cs ps ns pool l =
     let a = c.args in
     let st = state a.session cs ps ns pool in
-    leaves_refused st _ _ _ 6 a.session cs pool _ c.refused.ensures refl
+    leaves_refused st _ _ _ why.Bounds a.session cs pool _ c.refused.ensures refl
     (refused_6 st _ _ _ (adds-by st _ true c.requires.0) (sym c.bad_dimension.ensures ∙ c.if-bad_dimension.true))
 
 pub returns-then-bad_step : goal.returns-then-bad_step
 returns-then-bad_step c cs ps ns pool l =
     let a = c.args in
     let st = state a.session cs ps ns pool in
-    leaves_refused st _ _ _ 12 a.session cs pool _ c.refused-then-bad_step.ensures refl
+    leaves_refused st _ _ _ why.Steps a.session cs pool _ c.refused-then-bad_step.ensures refl
     (refused_12 st _ _ _ (and_no (discovers st a.plan) _ (sym c.bad_dimension.ensures ∙ c.if-bad_dimension.false)) (adds-by st _ true c.requires.0) (sym c.bad_step.ensures ∙ c.if-bad_step.true))
 
 pub returns-then-bad_history : goal.returns-then-bad_history
 returns-then-bad_history c cs ps ns pool l =
     let a = c.args in
     let st = state a.session cs ps ns pool in
-    leaves_refused st _ _ _ 7 a.session cs pool _ c.refused-then-bad_history.ensures refl
+    leaves_refused st _ _ _ why.Count a.session cs pool _ c.refused-then-bad_history.ensures refl
     (refused_7 st _ _ _ (both_fit a.session a.distribution a.plan cs ps ns pool (sym c.bad_dimension.ensures ∙ c.if-bad_dimension.false) (sym c.bad_step.ensures ∙ c.if-bad_step.false)) (sym c.bad_history.ensures ∙ c.if-bad_history.true))
 
 pub discover-requires : goal.discover-requires
@@ -56,6 +57,6 @@ pub returns : goal.returns
 returns c cs ps ns pool l =
     let a = c.args in
     let st = state a.session cs ps ns pool in
-    leaves_refused st _ _ _ 10 a.session cs pool _ c.refused-2.ensures refl
+    leaves_refused st _ _ _ why.Room a.session cs pool _ c.refused-2.ensures refl
     (refused_10 st _ _ _ (both_fit a.session a.distribution a.plan cs ps ns pool (sym c.bad_dimension.ensures ∙ c.if-bad_dimension.false) (sym c.bad_step.ensures ∙ c.if-bad_step.false)) (sym c.bad_history.ensures ∙ c.if-bad_history.false) (adds_unbred st _ a.plan c.requires.0)
     (l ∙ c.if-long.false))

@@ -3,6 +3,7 @@ use Prim.Native.Nat.{◌*◌, ◌≤◌}
 use lib.ListN.{length}
 use mathlib.Core.Path.{refl, sym, ap, ◌∙◌}
 use mathlib.Core.Bool.{true, false}
+use Rattle.model.specs.declared.Refusal.TheVariants as why
 use Rattle.model.specs.declared.Phase.TheVariants.{Active}
 use Rattle.model.specs.Session.{State, state, past_discovery, waiting_count}
 use Rattle.model.specs.Plan.{plan_words}
@@ -32,7 +33,7 @@ returns-then-full c d =
     let i = ap past_discovery c.requires.1 in
     let held : waiting_count st * plan_words ≤ length a.pool.now = waits-held st c.requires.0.ok (long st c.requires.0.room).pool in
     let b = breeds-by st a.history.now _ false i held c.evaluated.ensures c.if-evaluated.false in
-    leaves_refused st d a.plan a.history.now 11 a.session a.candidates.now a.pool.now _ c.refused.ensures refl
+    leaves_refused st d a.plan a.history.now why.Generation a.session a.candidates.now a.pool.now _ c.refused.ensures refl
     (refused_11 st d a.plan a.history.now (active_good st d a.plan i) c.requires.0.few b c.requires.0.room (sym c.full.ensures ∙ c.if-full.true))
 
 pub sample_from_candidate-requires : goal.sample_from_candidate-requires

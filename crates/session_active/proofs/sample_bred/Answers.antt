@@ -1,7 +1,7 @@
 -- breeding's answer tells whether the call was refused
 use mathlib.Core.Path.{◌≡◌, ap, ◌∙◌}
 use lib.ListN.{length}
-use mathlib.Core.Option.{none, some}
+use Rattle.std.specs.Prelude.{None, Some}
 use Rattle.model.specs.Session.{State, state}
 use Rattle.model.specs.Calls.{refused_by}
 use Rattle.session_breeding.proofs.Breeding.{blank-room}
@@ -26,28 +26,28 @@ sample_from_candidate-requires c =
     let st : State = state c.args.session c.args.candidates.now c.args.plans.now c.args.next_dims.now c.args.pool.now in
     let l = long st c.requires.0.room in
     let b = c.breed-bred in
-    let k = breed_tells st a.history.now (breed_refusal st a.history.now) none _ _ (b.ensures a.next_dims.now) (ap refused_by c.in-Kept.is) in
+    let k = breed_tells st a.history.now (breed_refusal st a.history.now) None _ _ (b.ensures a.next_dims.now) (ap refused_by c.in-Ok.is) in
     let r = ready_bred st a.history.now _ _ _
     (ready_active st c.requires.0.ok (active_phase _ (breeds_active st a.history.now c.requires.1))) k.1 in
     let same : length b.new.candidates ≡ length a.candidates.now = b.auto.candidates in
     (r.0, omega (arith, r.1), omega (arith, l.words), l.plans, l.next, λ new. omega (arith, r.1))
 
-pub returns-in-Refused : goal.returns-in-Refused
-returns-in-Refused c d =
+pub returns-in-Err : goal.returns-in-Err
+returns-in-Err c d =
     let a = c.args in
     let st : State = state c.args.session c.args.candidates.now c.args.plans.now c.args.next_dims.now c.args.pool.now in
     let i = breeds_active st a.history.now c.requires.1 in
     let b = c.breed-bred in
-    let k = breed_tells st a.history.now (breed_refusal st a.history.now) (some c.in-Refused.number) _ _ (b.ensures a.next_dims.now) (ap refused_by c.in-Refused.is) in
-    leaves_refused st d a.plan a.history.now c.in-Refused.number _ _ _ _ c.refused.ensures k.1
+    let k = breed_tells st a.history.now (breed_refusal st a.history.now) (Some c.in-Err.refusal) _ _ (b.ensures a.next_dims.now) (ap refused_by c.in-Err.is) in
+    leaves_refused st d a.plan a.history.now c.in-Err.refusal _ _ _ _ c.refused.ensures k.1
     (breed-refusal st d a.plan a.history.now (active_good st d a.plan i) c.requires.0.few c.requires.1 c.requires.0.room ∙ k.0)
 
-pub returns-in-Kept : goal.returns-in-Kept
-returns-in-Kept c d =
+pub returns-in-Ok : goal.returns-in-Ok
+returns-in-Ok c d =
     let a = c.args in
     let st : State = state c.args.session c.args.candidates.now c.args.plans.now c.args.next_dims.now c.args.pool.now in
     let b = c.breed-bred in
-    let k = breed_tells st a.history.now (breed_refusal st a.history.now) none _ _ (b.ensures a.next_dims.now) (ap refused_by c.in-Kept.is) in
+    let k = breed_tells st a.history.now (breed_refusal st a.history.now) None _ _ (b.ensures a.next_dims.now) (ap refused_by c.in-Ok.is) in
     let i = breeds_active st a.history.now c.requires.1 in
     leaves_taken st d a.plan a.history.now _ _ _ (c.sample_from_candidate.ensures _) k.1
     (breed-refusal st d a.plan a.history.now (active_good st d a.plan i) c.requires.0.few c.requires.1 c.requires.0.room ∙ k.0)

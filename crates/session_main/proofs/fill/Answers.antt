@@ -2,4 +2,4 @@
 use Rattle.session_main.proofs.fill.Goals as goal
 
 pub loop-i-init : goal.loop-i-init
-loop-i-init g c = (c.requires.from_le_to, c.requires.session_ok _ _ _ _)
+loop-i-init g c = c.requires.session_ok _ _ _ _

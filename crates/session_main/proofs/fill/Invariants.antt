@@ -1,11 +1,7 @@
 -- `fill`: each call leaves the session property.
-use Rattle.std.proofs.Common.{◌-◌, ◌≤◌}
 use Rattle.model.specs.Session.{state}
 use Rattle.model.specs.Property.{SessionOk}
 use Rattle.session_main.proofs.fill.Given as goal
 
 abbrev pub invariant-loop-i : goal.invariant-loop-i
-invariant-loop-i g l = (l.i ≤ l.to) × SessionOk (state l.now l.candidates l.plans l.next_dims l.pool)
-
-abbrev pub decreases-loop-i : goal.decreases-loop-i
-decreases-loop-i g l = l.to - l.i
+invariant-loop-i g l = SessionOk (state l.now l.candidates l.plans l.next_dims l.pool)

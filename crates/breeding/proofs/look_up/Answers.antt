@@ -1,0 +1,9 @@
+use Rattle.std.proofs.Common.{refl, sym, arith}
+use Rattle.list_laws.proofs.Built.{over_none, over-set}
+use Rattle.breeding.proofs.look_up.Goals as goal
+
+pub loop-i-init : goal.loop-i-init
+loop-i-init c = sym (over_none _ _)
+
+pub loop-i-preserved : goal.loop-i-preserved
+loop-i-preserved c = over-set _ _ _ c.loop-i.i _ (omega arith) c.loop-i.invariant refl

@@ -1,0 +1,17 @@
+use Rattle.std.proofs.Common.{ap, sym, arith, get_or}
+use lib.Ieee.{nan}
+use Rattle.model.specs.Real.{◌⊕◌, ◌⊖◌, ◌⊗◌}
+use Rattle.model.specs.Numbers.{square}
+use Rattle.list_laws.proofs.Built.{over_none, over-set}
+use Rattle.list_laws.proofs.Runs.{over-next}
+use Rattle.association_laws.specs.Flat.{from}
+use Rattle.columns.proofs.add_squares.Goals as goal
+
+pub loop-b-init : goal.loop-b-init
+loop-b-init c = sym (over_none _ _)
+
+pub loop-b-preserved : goal.loop-b-preserved
+loop-b-preserved c =
+    let l = c.loop-b in
+    let a = c.args in
+    over-set _ _ _ _ _ (omega arith) l.invariant (ap (λ s. s ⊕ square (from a.x.now a.at l.b ⊖ (get_or a.t.now l.b nan ⊗ a.r))) (over-next _ _ _ _ nan l.invariant))

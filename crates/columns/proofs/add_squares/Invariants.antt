@@ -1,0 +1,8 @@
+-- the plans before b have one square more
+use Rattle.std.proofs.Common.{◌≡◌}
+use Rattle.model.specs.Lists.{list_below, over}
+use Rattle.columns.specs.Block.{square_more}
+use Rattle.columns.proofs.add_squares.Given as goal
+
+abbrev pub invariant-loop-b : goal.invariant-loop-b
+invariant-loop-b l = l.sums ≡ over (list_below (square_more l.initial.sums l.x l.at l.r l.t) l.b) l.initial.sums

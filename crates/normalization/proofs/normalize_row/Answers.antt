@@ -1,0 +1,9 @@
+use Rattle.std.proofs.Common.{refl}
+use Rattle.list_laws.proofs.Runs.{run_none, run_more}
+use Rattle.normalization.proofs.normalize_row.Goals as goal
+
+pub loop-j-init : goal.loop-j-init
+loop-j-init c = run_none _ _ _
+
+pub loop-j-preserved : goal.loop-j-preserved
+loop-j-preserved c = run_more _ _ _ _ _ _ c.loop-j.invariant refl

@@ -1,0 +1,7 @@
+-- each call leaves the session property
+use Rattle.model.specs.Session.{state}
+use Rattle.model.specs.Property.{SessionOk}
+use Rattle.session_calls.proofs.repeated.Given as goal
+
+abbrev pub invariant-loop-i : goal.invariant-loop-i
+invariant-loop-i l = SessionOk (state l.last.session l.candidates l.plans l.next_dims l.pool)

@@ -1,9 +1,0 @@
--- `tell_waiting`: a plan a turn.
-use Rattle.std.proofs.Common.{◌-◌, ◌≤◌}
-use Rattle.session_main.proofs.tell_waiting.Given as goal
-
-abbrev pub invariant-loop-i : goal.invariant-loop-i
-invariant-loop-i g l = l.i ≤ l.n
-
-abbrev pub decreases-loop-i : goal.decreases-loop-i
-decreases-loop-i g l = l.n - l.i
