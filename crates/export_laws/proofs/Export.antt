@@ -13,12 +13,11 @@ use Rattle.model.specs.Refusal.{select_refusal}
 use Rattle.model.specs.Setting.{Operators}
 use Rattle.model.specs.Calls.{Lent, room_of, refused_by, handed_out, SelectExit, Selects, select_of, select_accepted, StepExit, Steps, ChooseExit, Tells, Chooses, value_or}
 use Rattle.niching_laws.proofs.KeptLength.{kept-length}
-use Rattle.export_laws.specs.Coded.{SelectsWords, StepsWords, ListsWords, code_number, refusal_of, code_of, selected_as, selected, stepped_as, stepped, listed_as, listed}
-use Rattle.export_laws.proofs.Refusals.{told}
+use Rattle.export_laws.specs.Coded.{SelectsWords, StepsWords, ListsWords, code_number, code_of, selected_as, selected, stepped_as, stepped, listed_as, listed}
 
 -- the number that is told of an answer is that of the call's refusal
-pub number-told : (n : ℕ) (given refusal : Option Refusal) → n ≡ code_number given → given ≡ refusal → refusal_of n ≡ refusal
-number-told n given refusal h e = ap refusal_of (h ∙ ap code_number e) ∙ told refusal
+pub number-told : (n : ℕ) (given refusal : Option Refusal) → n ≡ code_number given → given ≡ refusal → n ≡ code_number refusal
+number-told n given refusal h e = h ∙ ap code_number e
 
 -- what an answer hands out that is no refusal is as long as the answer says
 handed : (q : Request) (o : Result ℕ Refusal) (before : ℕ) (kept : List ℕ) → refused_by o ≡ None → Demand3 q (handed_out o kept) → Demand3 q (take (value_or o before) kept)

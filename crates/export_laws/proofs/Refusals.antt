@@ -32,3 +32,21 @@ told (Some why.NotHeld) = refl
 -- no refusal has the number 0
 pub above : (r : Refusal) → number_of r ≡ 0 → ⊥
 above r e = none-ne-some r (sym (ap refusal_of e) ∙ told (Some r))
+
+-- ---- what a promise's field `refused` says, of the number c that is answered and the refusal r: it is 0 exactly where nothing is refused, else the refusal's
+
+-- it is read back as the refusal
+pub reads_back : (c : ℕ) (r : Option Refusal) → c ≡ code_number r → refusal_of c ≡ r
+reads_back c r h = ap refusal_of h ∙ told r
+
+pub none_at_zero : (c : ℕ) (r : Option Refusal) → c ≡ code_number r → c ≡ 0 → r ≡ None
+none_at_zero c r h z = sym (reads_back c r h) ∙ ap refusal_of z
+
+pub zero_at_none : (c : ℕ) (r : Option Refusal) → c ≡ code_number r → r ≡ None → c ≡ 0
+zero_at_none c r h e = cc
+
+pub number_at_refusal : (c : ℕ) (r : Option Refusal) (refused : Refusal) → c ≡ code_number r → r ≡ Some refused → c ≡ number_of refused
+number_at_refusal c r refused h e = cc
+
+pub refusal_at_number : (c : ℕ) (r : Option Refusal) (refused : Refusal) → c ≡ code_number r → c ≡ number_of refused → r ≡ Some refused
+refusal_at_number c r refused h n = sym (reads_back c r h) ∙ ap refusal_of n ∙ told (Some refused)

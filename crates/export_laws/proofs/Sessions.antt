@@ -28,8 +28,8 @@ use Rattle.model.specs.Calls.{refused_by, open_of, Opens, refused_by, SampleExit
 use Rattle.session_words.specs.Coding.{dimension_width, session_width, session_words, session_of, dimension_at}
 use Rattle.list_laws.proofs.Below.{cond_lt, cond_le}
 use Rattle.list_laws.proofs.Checks.{passed_over, applies-first}
-use Rattle.export_laws.specs.Coded.{code_number, refusal_of, or_refusal, written, opened_by, open_words_refusal, OpensWords, SampledWords, sampled_words, sampled_by, sampled_exit, sampled_after, lacks_words, word_checks, word_refusal, sample_words_refusal, sample_words, SamplesWords}
-use Rattle.export_laws.proofs.Refusals.{above, told}
+use Rattle.export_laws.specs.Coded.{code_number, or_refusal, written, opened_by, open_words_refusal, OpensWords, SampledWords, sampled_words, sampled_by, sampled_exit, sampled_after, lacks_words, word_checks, word_refusal, sample_words_refusal, sample_words, SamplesWords}
+use Rattle.export_laws.proofs.Refusals.{above}
 
 -- ---- opening
 
@@ -67,7 +67,7 @@ module _ (n : ℕ) (edition : Edition) (marks : List ℕ) (seed : ℕ) (s t u v 
       let never : number_of refused ≡ 0 → ⊥ = above refused in
       record {
         whole = ap (λ x. written x entry) h ∙ coded (Err refused) e;
-        refused = ap refusal_of h ∙ told (Some refused) ∙ in_words (Err refused) e;
+        refused = h ∙ ap code_number (in_words (Err refused) e);
         holds = λ z. absurd (never (sym h ∙ z));
         gives = λ z. absurd (never (sym h ∙ z));
       }
@@ -76,7 +76,7 @@ module _ (n : ℕ) (edition : Edition) (marks : List ℕ) (seed : ℕ) (s t u v 
   open_short k e h told_room =
       record {
         whole = ap (λ x. written x entry) told_room ∙ sym (cond_lt (length entry) session_width _ _ h) ∙ coded (Ok tt) e;
-        refused = ap refusal_of told_room ∙ sym (applies-first (check why.Room (ltb (length entry) session_width)) [] (lt-ltb (length entry) session_width h)) ∙ in_words (Ok tt) e;
+        refused = told_room ∙ ap code_number (sym (applies-first (check why.Room (ltb (length entry) session_width)) [] (lt-ltb (length entry) session_width h)) ∙ in_words (Ok tt) e);
         holds = λ z. absurd (above why.Room (sym told_room ∙ z));
         gives = λ z. absurd (above why.Room (sym told_room ∙ z));
       }
@@ -88,7 +88,7 @@ module _ (n : ℕ) (edition : Edition) (marks : List ℕ) (seed : ℕ) (s t u v 
       record {
         whole = ap (written 0) x
             ∙ sym (cond_le (length entry) session_width _ _ h) ∙ coded (Ok tt) e;
-        refused = sym (passed_over (check why.Room (ltb (length entry) session_width)) [] (le-ltb (length entry) session_width h)) ∙ in_words (Ok tt) e;
+        refused = ap code_number (sym (passed_over (check why.Room (ltb (length entry) session_width)) [] (le-ltb (length entry) session_width h)) ∙ in_words (Ok tt) e);
         holds = λ z. b ∙ ap (λ (x : Opened). x.session) promise.whole;
         gives = λ z cs ps ns pool. subst (λ y. SessionOk (state y cs ps ns pool)) (sym b) (promise.gives cs ps ns pool);
       }
@@ -132,13 +132,12 @@ module _ (ws ds : List ℕ) (plan : ℕ) (history cs ps ns pool : List ℕ) (k v
   lacking s = lacks_words s.phase s.discovery_trial_id plan (length ds)
 
   -- the number that is told is that of the refusal
-  tells : (exit : SampledWords) → exit ≡ sample_words ws ds plan history cs ps ns pool k v → refusal_of exit.code ≡ sample_words_refusal ws ds plan history cs ps ns pool
+  tells : (exit : SampledWords) → exit ≡ sample_words ws ds plan history cs ps ns pool k v → exit.code ≡ code_number (sample_words_refusal ws ds plan history cs ps ns pool)
   unfolding sample_words sample_words_refusal sample_of
   tells exit e =
       let words = word_refusal ws ds plan history in
       let call = sample_refusal before (dimension_at ds 0) plan history in
-      ap (λ (x : SampledWords). refusal_of x.code) e ∙ ap refusal_of (number-after words call (accepted before (dimension_at ds 0) plan history) before k v ws)
-      ∙ told (or_refusal words call)
+      ap (λ (x : SampledWords). x.code) e ∙ number-after words call (accepted before (dimension_at ds 0) plan history) before k v ws
 
   -- where the words are refused, all stays as it was
   turned_down : (n : Refusal) → word_refusal ws ds plan history ≡ Some n → sampled_words (number_of n) k v ws before ≡ sample_words ws ds plan history cs ps ns pool k v

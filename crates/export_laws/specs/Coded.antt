@@ -35,7 +35,8 @@ reasons =
     why.Form ∷ why.Directions ∷ why.Size ∷ why.Divisions ∷ why.Operators ∷ why.Bounds ∷ why.Count ∷ why.Values ∷ why.Parents
     ∷ why.Room ∷ why.Generation ∷ why.Steps ∷ why.Load ∷ why.Window ∷ why.Bands ∷ why.Litres ∷ why.SecondForm ∷ why.NotHeld ∷ []
 
--- what a number says: 0 that nothing is refused, any other the refusal that has it
+-- the refusal that a number is read back as: 0 as none, and so is one past the last refusal's. A promise's field `refused` is therefore an equation of numbers
+-- (`code_number`), in which 0 alone is that of none
 abbrev pub refusal_of : ℕ → Option Refusal
 refusal_of zero = None
 refusal_of (suc n) = slice_get reasons n
@@ -66,7 +67,7 @@ selected e = selected_as (code_of e.answer.outcome) e
 -- THE PROMISE of `locustdomino_select`. The list that it hands out is the first `size` entries of `kept`, and its rules are those of `rules`
 pub record SelectsWords (r : Request) (entry : Lent) (exit : Selected) : Type 0 where
   pub whole : exit ≡ selected (select_of r entry)
-  pub refused : refusal_of exit.code ≡ select_refusal r (room_of entry)
+  pub refused : exit.code ≡ code_number (select_refusal r (room_of entry))
   pub demand3 : select_refusal r (room_of entry) ≡ None → r.size ≤ r.count → Demand3 r (take r.size exit.slices.kept)
   pub ruled : select_refusal r (room_of entry) ≡ None → Ruled r (take r.size exit.slices.kept) (take r.size exit.slices.rules)
 
@@ -95,7 +96,7 @@ stepped old e = stepped_as (code_of e.answer.outcome) (value_or e.answer.outcome
 -- and its rules are those of `rules`; it selects from a pool of two plans on, and hands out no setting outside its bounds
 pub record StepsWords (o : Operators) (r : Request) (entry : Lent) (offspring : List ℕ) (old : ℕ) (exit : Stepped) : Type 0 where
   pub whole : exit ≡ stepped old (step_of o r entry offspring)
-  pub refused : refusal_of exit.code ≡ step_refusal o r (room_of entry) (length offspring)
+  pub refused : exit.code ≡ code_number (step_refusal o r (room_of entry) (length offspring))
   pub demand3 : step_refusal o r (room_of entry) (length offspring) ≡ None → 2 ≤ r.count → r.size ≤ r.count
       → Demand3 r (take exit.kept exit.slices.kept)
   pub ruled : step_refusal o r (room_of entry) (length offspring) ≡ None → 2 ≤ r.count
@@ -138,7 +139,7 @@ open_words_refusal marks size divisions probability crossover_eta_of mutation_et
 pub record OpensWords (edition : ℕ) (directions : List ℕ) (seed : ℕ) (size divisions : Option ℕ) (probability crossover_eta_of mutation_eta_of : Float) (window : Option ℕ) (entry : List ℕ) (code : ℕ) (exit : List ℕ) : Type 0 where
   pub whole : written code exit
       ≡ opened_by (open_of (edition_of edition) directions seed size divisions probability crossover_eta_of mutation_eta_of window).outcome (open_of (edition_of edition) directions seed size divisions probability crossover_eta_of mutation_eta_of window).session entry
-  pub refused : refusal_of code ≡ open_words_refusal directions size divisions probability crossover_eta_of mutation_eta_of window (length entry)
+  pub refused : code ≡ code_number (open_words_refusal directions size divisions probability crossover_eta_of mutation_eta_of window (length entry))
   pub holds : code ≡ 0 → session_of exit ≡ (open_of (edition_of edition) directions seed size divisions probability crossover_eta_of mutation_eta_of window).session
   pub gives : code ≡ 0 → (candidates plans next_dims pool : List ℕ) → SessionOk (state (session_of exit) candidates plans next_dims pool)
 
@@ -201,7 +202,7 @@ sample_words ws ds plan history cs ps ns pool k v =
 -- Where it breeds, its list is selection's; and a setting that it answers is of its dimension's kind and within its bounds
 pub record SamplesWords (ws ds : List ℕ) (plan : ℕ) (history cs ps ns pool : List ℕ) (k v : ℕ) (exit : SampledWords) : Type 0 where
   pub whole : exit ≡ sample_words ws ds plan history cs ps ns pool k v
-  pub refused : refusal_of exit.code ≡ sample_words_refusal ws ds plan history cs ps ns pool
+  pub refused : exit.code ≡ code_number (sample_words_refusal ws ds plan history cs ps ns pool)
   pub keeps : session_width ≤ length ws → SessionOk exit.after
   pub demand3 : exit.code ≡ 0 → breeds (state (session_of ws) cs ps ns pool) history ≡ true → Bred (state (session_of ws) cs ps ns pool) plan history exit.after
   pub bounds : exit.code ≡ 0 → in_bounds (asked (state (session_of ws) cs ps ns pool) (dimension_at ds 0) plan history) (of_word exit.kind exit.value) ≡ true
@@ -222,7 +223,7 @@ listed old e = listed_as (code_of e.answer) (value_or e.answer old) e
 -- THE PROMISE of `locustdomino_choose`; `old` is the number that `length` had. The text that it hands out is the first `length` bytes of `out`
 pub record ListsWords (bytes entry : List ℕ) (old : ℕ) (exit : Listed) : Type 0 where
   pub whole : exit ≡ listed old (choose_of bytes entry)
-  pub refused : refusal_of exit.code ≡ choose_refusal bytes (length entry)
+  pub refused : exit.code ≡ code_number (choose_refusal bytes (length entry))
   pub listing : choose_refusal bytes (length entry) ≡ None → (f : PoolFile) → parse bytes ≡ Some f
       → take exit.length exit.out ≡ file_text f
   pub demand3 : choose_refusal bytes (length entry) ≡ None → (f : PoolFile) → parse bytes ≡ Some f → f.size ≤ f.count
