@@ -1,5 +1,5 @@
 -- One pass over the block adds one term to each plan's sum; what the passes make together.
-use Prim.Native.Nat.{ℕ, ◌+◌, ◌<◌}
+use Prim.Native.Nat.{ℕ, ◌+◌, ◌*◌, ◌≤◌, ◌<◌}
 use mathlib.Core.Path.{◌≡◌, ap, sym, ◌∙◌}
 use mathlib.Core.Bool.{false}
 use mathlib.Core.List.{List}
@@ -10,6 +10,7 @@ use Rattle.model.specs.Lists.{list_below, over}
 use Rattle.model.specs.Real.{◌⊕◌, ◌⊘◌, sum_to}
 use Rattle.model.specs.Association.{dot, off_squares, squares_of, small_norm}
 use Rattle.list_laws.proofs.Built.{over_below}
+use Rattle.list_laws.proofs.Rows.{row_within}
 use Rattle.float_laws.proofs.Sums.{sum_none, sum_more}
 use Rattle.association_laws.proofs.Search.{squares_long}
 use Rattle.columns.specs.Block.{plan_at, quotient, Each, Empty, Dots, OffSquares, LineSquares}
@@ -38,3 +39,10 @@ next f j n s e h = sum_more f j s h ∙ ap (sum_to f) e
 
 pub four-more : (f : ℕ → Float) (j : ℕ) (s : Float) → s ≡ sum_to f j → s ⊕ f j ⊕ f (j + 1) ⊕ f (j + 2) ⊕ f (j + 3) ≡ sum_to f (j + 4)
 four-more f j s e = next f (j + 3) (j + 4) _ (omega arith) (next f (j + 2) (j + 3) _ (omega arith) (next f (j + 1) (j + 2) _ (omega arith) (sum_more f j s e)))
+
+-- four columns lie within the block
+pub four_columns : (j len size : ℕ) → (j + 1 + 1 + 1 + 1) * len ≤ size
+    → (j * len + len ≤ size) × ((j + 1) * len + len ≤ size) × ((j + 1 + 1) * len + len ≤ size) × ((j + 1 + 1 + 1) * len + len ≤ size)
+four_columns j len size h =
+    let n = j + 1 + 1 + 1 + 1 in
+    (row_within j n len size (omega arith) h, row_within (j + 1) n len size (omega arith) h, row_within (j + 1 + 1) n len size (omega arith) h, row_within (j + 1 + 1 + 1) n len size (omega arith) h)
