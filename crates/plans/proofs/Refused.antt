@@ -9,12 +9,12 @@ use borrow.Author.Tests.{lt-leb, le-leb, leb-false, eq-eqb, ne_eqb}
 use mathlib.Core.Logic.{⊎_elim}
 use Rattle.std.proofs.lemmas.Bool.Decides.{eqb_tells, leb_tells}
 use lib.Dec.{eqb, leb}
-use lib.Ieee.{Float}
+use lib.Ieee.{Float, nan}
 use lib.ListN.{length, get_or}
 use Rattle.model.specs.Lists.{all_below, all_in, list_below}
 use Rattle.model.specs.Plan.{plan_of, plan_from, max_objectives, max_constraints}
 use Rattle.model.specs.Real.{real}
-use Rattle.model.specs.Refusal.{bad_directions, measurable, good_ideal, good_plan}
+use Rattle.model.specs.Refusal.{bad_directions, measurable, good_entry, good_ideal, good_plan}
 use Rattle.list_laws.proofs.Bools.{and_no}
 use Rattle.list_laws.proofs.Built.{list_below-same}
 use Rattle.list_laws.proofs.Tests.{all_below-same, all_below_any, all_in-below, all_in-list_below}
@@ -65,6 +65,11 @@ directions_chain marks r h k chain =
 pub ideal-length : (m : ℕ) (ideal : List Float) → (length ideal ≡ m → ⊥) → good_ideal m ideal ≡ false
 unfolding good_ideal
 ideal-length m ideal h = rw (ne_eqb (length ideal) m h)
+
+pub ideal_entries : (m : ℕ) (ideal : List Float) → length ideal ≡ m
+    → good_ideal m ideal ≡ all_below (λ k. good_entry (get_or ideal k nan)) (length ideal)
+unfolding good_ideal
+ideal_entries m ideal e = rw (eq-eqb (length ideal) m e) (all_in-below good_entry nan ideal)
 
 -- ---- a plan of words
 
