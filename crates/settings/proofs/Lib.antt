@@ -1,4 +1,5 @@
 pub mod Signed
+pub mod Words
 pub mod Valid
 pub mod Stepped
 pub mod OnStep
