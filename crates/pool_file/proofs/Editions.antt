@@ -1,16 +1,27 @@
 -- THE POOL OF A FILE IS READ BY ITS EDITION: what the second edition's form is read into, its numbers and settings passed over, is what its reader of plans reads.
-use Prim.Native.Nat.{ℕ}
+use Prim.Native.Nat.{ℕ, ◌<◌}
 use mathlib.Core.Path.{◌≡◌, refl, sym, ap, ◌∙◌}
 use mathlib.Core.Bool.{true, false}
 use mathlib.Core.List.{List, [], ◌∷◌, map}
+use native.Mathlib.Omega.{arith}
 use Rattle.std.specs.Prelude.{Option, None, Some}
-use lib.Dec.{leb}
-use lib.ListN.{length, drop}
+use lib.Dec.{eqb, leb}
+use lib.ListN.{length, get_or, drop}
 use Rattle.model.specs.PoolFile.{Parsed, File, Numbered, pure, onward, number, many, measured, numbered, file_by, pool_file, parse_by, parse, wholly, if_none_left, max_file, opens_second, second_file, is_passed_over, pool_of}
 use Rattle.list_laws.proofs.Bools.{by_bool, by_option}
 use Rattle.pool_number.proofs.Options.{many-map}
 use Rattle.pool_editions.specs.Editions.{plan_second, plan_in}
 use Rattle.pool_file.specs.Parsing.{file_in, parse_in}
+
+-- ---- the edition by the first byte
+
+pub opens_none : (bytes : List ℕ) → length bytes ≡ 0 → false ≡ opens_second bytes
+opens_none [] h = refl
+opens_none (b ∷ bytes) h = absurd (omega arith)
+
+pub opens_first : (bytes : List ℕ) → 0 < length bytes → eqb (get_or bytes 0 0) 64 ≡ opens_second bytes
+opens_first [] h = absurd (omega arith)
+opens_first (b ∷ bytes) h = refl
 
 -- ---- what is passed over
 

@@ -30,9 +30,9 @@ pub struct Header {
 
 // The header and the place after it.
 #[derive(Clone, Copy)]
-struct Heading {
-    header: Header,
-    next: usize,
+pub struct Heading {
+    pub header: Header,
+    pub next: usize,
 }
 
 // A mark as a byte: 0 and 1 as they are, 2 for every other.
