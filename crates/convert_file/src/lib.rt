@@ -17,10 +17,10 @@ const SECOND: u64 = 64;
 
 // The numbers of objectives and of plans, and the place after what stands before the plans.
 #[derive(Clone, Copy)]
-struct Head {
-    m: u64,
-    count: u64,
-    next: usize,
+pub struct Head {
+    pub m: u64,
+    pub count: u64,
+    pub next: usize,
 }
 
 // Copies the five numbers that a file begins with, and stores them. The place after them, or None where bytes break the form or end early.
