@@ -1,9 +1,11 @@
 -- The refusals of an opening, one after the other.
-use Prim.Native.Nat.{ℕ}
+use Prim.Native.Nat.{ℕ, ◌≤◌, ◌<◌}
 use mathlib.Core.Path.{◌≡◌, sym, ap, ap₂, ◌∙◌, subst}
-use mathlib.Core.Bool.{true, false}
+use mathlib.Core.Bool.{Bool, true, false, not, ◌&&◌}
 use mathlib.Core.List.{List, []}
-use Rattle.std.specs.Prelude.{Option, Result, Ok, Err}
+use Rattle.std.specs.Prelude.{Option, Some, Result, Ok, Err}
+use borrow.Author.Tests.{le-leb, lt-leb, le-ltb, lt-ltb}
+use lib.Dec.{leb, ltb}
 use lib.Ieee.{Float}
 use lib.ListN.{length, replicate}
 use Rattle.model.specs.declared.Refusal.{Refusal}
@@ -16,7 +18,9 @@ use Rattle.model.specs.Plan.{max_objectives}
 use Rattle.model.specs.Reference.{divisions_of, population_size_of}
 use Rattle.model.specs.Session.{blank, opened, start}
 use Rattle.model.specs.Calls.{open_by, open_of, Opens, refused_by}
+use Rattle.list_laws.proofs.Below.{by_lt}
 use Rattle.list_laws.proofs.Checks.{passed_over, applies-first}
+use Rattle.model.specs.Window.{max_window}
 use Rattle.session_laws.proofs.Opened.{opening_tells, opens}
 use Rattle.model.specs.Refusal.{first_of, open_refusal, bad_directions, bad_session_size, bad_session_divisions, bad_operators, bad_window}
 use Rattle.session_opening.specs.Opening.{opening_by}
@@ -56,6 +60,16 @@ module _ (marks : List ℕ) (size divisions : Option ℕ) (probability crossover
           pub ready : bad_window window ≡ false → (Ok tt) ≡ answer
           unfolding first_of
           ready e = ap opening_by (sym (none_applies e))
+
+-- ---- a window that is given
+
+pub window-low : (w : ℕ) → w < 1 → true ≡ bad_window (Some w)
+window-low w h = sym (ap (λ (b : Bool). not (b && leb w max_window)) (lt-leb 1 w h))
+
+pub window_high : (w : ℕ) → 1 ≤ w → ltb max_window w ≡ bad_window (Some w)
+window_high w h = by_lt max_window w
+    (λ l. lt-ltb max_window w l ∙ sym (ap₂ (λ (a b : Bool). not (a && b)) (le-leb 1 w h) (lt-leb w max_window l)))
+    (λ l. le-ltb max_window w l ∙ sym (ap₂ (λ (a b : Bool). not (a && b)) (le-leb 1 w h) (le-leb w max_window l)))
 
 -- ---- the promise, by the answer
 
