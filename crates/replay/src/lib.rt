@@ -3,7 +3,7 @@
 
 #![tactic(auto)]
 
-ghost use Rattle.std.specs.Prelude.{◌≡◌, true, ◌<◌, ◌≤◌, length, IfSome};
+ghost use Rattle.std.specs.Prelude.{◌≡◌, ◌+◌, ◌*◌, ◌%◌, ◌^◌, ◌<◌, ◌≤◌, ◌&&◌, min, true, eqb, length, is_some, IfSome, slice_index, slice_set};
 ghost use Rattle.replay.specs.Post.{Shorter};
 ghost use Rattle.replay.specs.Verdicts.{SameFirst, Compares, Judges, tallied};
 
@@ -12,32 +12,47 @@ use std::fmt;
 // How many numbers a line has room for; the longest of the stored lines has 7,859.
 pub const ROOM: usize = 8192;
 
-// A line's numbers, of which the first `len` count. A line that is given more than it has room for counts them all the same, so that it is like no other.
-#[derive(Drop)]
+// As many numbers as a line has room for.
+pub type Words = [u64; ROOM];
+
+// A line's numbers, of which the first `len` count. A line that is given more than it has room for counts one more than that, so that it is like no other.
+#[derive(Clone, Copy)]
 pub struct Line {
-    pub words: [u64; ROOM],
+    pub words: Words,
     pub len: usize,
+    pub ghost in_room: { len ≤ 8193 },
 }
 
 impl Line {
     // A line without numbers.
-    pub fn new() -> Line {
+    pub fn new() -> Line
+        ensures { result.len ≡ 0 }
+    {
         Line {
             words: [0; ROOM],
             len: 0,
         }
     }
 
-    pub fn clear(&mut self) {
+    // Takes all numbers away.
+    pub fn clear(&mut self)
+        ensures { self.new.len ≡ 0 }
+    {
         self.len = 0;
     }
 
-    // Adds a number.
-    pub fn put(&mut self, w: u64) {
+    // Adds a number; one that there is no room for is counted and not kept.
+    pub fn put(&mut self, w: u64)
+        ensures added { self.old.len < 8192 → self.new.words ≡ slice_set self.old.words self.old.len w }
+        ensures full { 8192 ≤ self.old.len → self.new.words ≡ self.old.words }
+        ensures counted { self.new.len ≡ min (self.old.len + 1) 8193 }
+    {
         if self.len < ROOM {
             self.words[self.len] = w;
+            self.len += 1;
+        } else {
+            self.len = ROOM + 1;
         }
-        self.len = self.len.saturating_add(1);
     }
 
     pub fn put_count(&mut self, n: usize) {
@@ -49,7 +64,9 @@ impl Line {
     }
 
     // The number at a place; 0 where there is none.
-    pub fn word(&self, i: usize) -> u64 {
+    pub fn word(&self, i: usize) -> u64
+        ensures { result ≡ slice_index self.now.words i }
+    {
         if i < ROOM { self.words[i] } else { 0 }
     }
 
@@ -82,16 +99,20 @@ fn with_digit(n: u64, digit: u8) -> Option<u64> {
     n.checked_mul(10)?.checked_add(u64::from(digit))
 }
 
-// A line that is read number by number; past its end there are zeros.
+// A line that is read number by number; past its end there are zeros. The place ROOM + 1 stands for any past the room of a line.
 #[derive(Clone, Copy)]
 pub struct Reader<'a> {
-    line: &'a Line,
-    at: usize,
+    pub line: &'a Line,
+    pub at: usize,
+    pub ghost in_room: { at ≤ 8193 },
 }
 
 impl<'a> Reader<'a> {
     // The next number.
-    pub fn word(&mut self) -> u64 {
+    pub fn word(&mut self) -> u64
+        ensures next { result ≡ slice_index self.old.line.now.words self.old.at }
+        ensures passed { self.new.at ≡ min (self.old.at + 1) 8193 }
+    {
         let w = self.line.word(self.at);
         self.skip(1);
         w
@@ -113,8 +134,10 @@ impl<'a> Reader<'a> {
         real::real_of_word(self.word())
     }
 
-    pub fn skip(&mut self, k: usize) {
-        self.at = self.at.saturating_add(k);
+    pub fn skip(&mut self, k: usize)
+        ensures { self.new.at ≡ min (self.old.at + k) 8193 }
+    {
+        self.at = self.at.saturating_add(k).min(ROOM + 1);
     }
 
     // The next n numbers; none past the room of a line.
@@ -129,7 +152,9 @@ impl<'a> Reader<'a> {
     }
 
     // None unless every number was read, and no more.
-    pub fn end(&self) -> Option<()> {
+    pub fn end(&self) -> Option<()>
+        ensures { is_some result ≡ eqb self.now.at self.now.line.now.len }
+    {
         if self.at == self.line.len {
             Some(())
         } else {
@@ -139,7 +164,9 @@ impl<'a> Reader<'a> {
 }
 
 // A digest starts at 0 and goes on by a word: times 6364136223846793005 plus the word, modulo 2^64.
-pub fn digested(digest: u64, word: u64) -> u64 {
+pub fn digested(digest: u64, word: u64) -> u64
+    ensures { result ≡ (digest * 6364136223846793005 + word) % 2 ^ 64 }
+{
     digest.wrapping_mul(6364136223846793005).wrapping_add(word)
 }
 
@@ -163,7 +190,7 @@ pub enum Verdict {
 }
 
 // Whether two lines begin with the same n numbers.
-fn same(a: &[u64; ROOM], b: &[u64; ROOM], n: usize) -> bool
+fn same(a: &Words, b: &Words, n: usize) -> bool
     requires { n ≤ 8192 }
     ensures { SameFirst n a.now b.now result }
 {
@@ -189,12 +216,12 @@ fn compared(given: &Line, ours: &Line) -> Verdict
     }
 }
 
-// The verdict on a case: whether both its lines are numbers and nothing else, the answer line, and the numbers worked out.
-pub fn judged(whole: bool, given: &Line, ours: &Line) -> Verdict
-    requires { whole ≡ true → given.now.len ≤ 8192 }
-    ensures { Judges whole given.now.len given.now.words ours.now.len ours.now.words result }
+// The verdict on a case: whether its input line is numbers and nothing else, whether its answer line is, the answer line, and the numbers worked out.
+pub fn judged(named: bool, numbers: bool, given: &Line, ours: &Line) -> Verdict
+    requires { (named && numbers) ≡ true → given.now.len ≤ 8192 }
+    ensures { Judges (named && numbers) given.now.len given.now.words ours.now.len ours.now.words result }
 {
-    if whole {
+    if named && numbers {
         compared(given, ours)
     } else {
         Verdict::Broken
@@ -210,7 +237,9 @@ pub struct Tally {
 }
 
 impl Tally {
-    pub fn new() -> Tally {
+    pub fn new() -> Tally
+        ensures { result ≡ record { agree = 0; differ = 0; passed_over = 0; broken = 0 } }
+    {
         Tally {
             agree: 0,
             differ: 0,

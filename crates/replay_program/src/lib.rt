@@ -79,12 +79,12 @@ fn case(text: &[u8], stored: &[u8]) -> (usize, Verdict)
     let mut given = Line::new();
     let mut ours = Line::new();
     let named = input.read(text).is_some();
-    let whole = given.read(stored).is_some() && named;
+    let numbers = given.read(stored).is_some();
     let record = if named { record_of(input.word(0)) } else { 15 };
-    if !whole || answer(&input, &mut ours).is_none() {
+    if !(named && numbers) || answer(&input, &mut ours).is_none() {
         ours.clear();
     }
-    (record, replay::judged(whole, &given, &ours))
+    (record, replay::judged(named, numbers, &given, &ours))
 }
 
 // A tally for each record, of every case of a text.
