@@ -2,7 +2,8 @@
 
 #![tactic(auto)]
 
-ghost use Rattle.std.specs.Prelude.{◌≡◌, ◌+◌, ◌*◌, ◌≤◌, eqb, is_ok};
+ghost use Rattle.std.specs.Prelude.{◌≡◌, ◌+◌, ◌*◌, ◌<◌, ◌≤◌, ◌⊎◌, eqb, is_ok, IfErr};
+ghost use Rattle.model.specs.Refusal.{number_of};
 ghost use Rattle.model.specs.Setting.{max_dims};
 ghost use Rattle.session_words.specs.Coding.{dimension_width};
 
@@ -12,9 +13,11 @@ use session_words::DIMENSION_WORDS;
 // The words of one dimension more than is accepted.
 const OVERFULL: usize = (MAX_DIMS + 1) * DIMENSION_WORDS;
 
-// What a number says that a C name answers: 0 that nothing is refused, any other the refusal that has it. No other number comes.
+// What a number says that a C name answers: 0 that nothing is refused, any other the refusal that has it; one that no refusal has, which none answers, is told
+// as the form.
 pub fn answered(code: u64) -> Result<(), Refusal>
-    ensures { is_ok result ≡ eqb code 0 }
+    ensures ready { is_ok result ≡ eqb code 0 }
+    ensures refused { IfErr result (λ refusal. (number_of refusal ≡ code) ⊎ ((18 < code) × (refusal ≡ Refusal.Form))) }
 {
     if code == 0 {
         return Ok(());
