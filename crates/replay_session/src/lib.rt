@@ -89,7 +89,8 @@ fn sampled_of(
 }
 
 // Slices of their own are lent: candidates and next dimensions each one place short and full of sevens, the generation's plan numbers, and the pool's words but
-// the last that it asks room for. Where any of them is not left as it was, the answer is 99, which is no refusal.
+// the last that it asks room for. Where any of them is not left as it was, the answer is a refusal that no session call gives, so that the line counts as
+// differing.
 fn tried_short(session: Session, asked: Asked, history: &History, lent: &Lent) -> Sampled
     requires session_ok { (cs ps ns pool : List ℕ) → long_enough (state session cs ps ns pool) ≡ false → SessionOk (state session cs ps ns pool) }
     requires held_bound { asked.held ≤ 4097 }
@@ -117,7 +118,6 @@ fn tried_short(session: Session, asked: Asked, history: &History, lent: &Lent) -
         return r;
     }
     let session = r.session;
-    // no session call answers it, so that the line counts as differing
     Sampled {
         outcome: Err(Refusal::NotHeld),
         session,
@@ -303,12 +303,7 @@ fn answer_call(
         lent.next_dims,
         lent.pool,
     );
-    let answer = if asked.times == 0 {
-        None
-    } else {
-        Some(r.outcome)
-    };
-    put_answer(out, answer, &r.session, asked.full, lent);
+    put_answer(out, r.outcome, &r.session, asked.full, lent);
     r.session
 }
 

@@ -3,15 +3,15 @@
 
 #![tactic(auto)]
 
-ghost use Rattle.std.specs.Prelude.{◌*◌, ◌≤◌, length};
+ghost use Rattle.std.specs.Prelude.{◌≡◌, ◌*◌, ◌≤◌, eqb, is_none, length};
 ghost use Rattle.model.specs.Plan.{plan_words};
 ghost use Rattle.model.specs.Session.{state};
 ghost use Rattle.model.specs.Property.{SessionOk};
 ghost use Rattle.session_calls.specs.Usable.{usable_by};
 
 use model::{
-    Distribution, MAX_COME, MAX_FIRST_POOL, MAX_WORDS, Opened, PLAN_WORDS, Refusal, Sampled,
-    Session,
+    Distribution, MAX_COME, MAX_FIRST_POOL, MAX_WORDS, Opened, PLAN_WORDS, ParamValue, Refusal,
+    Sampled, Session,
 };
 use session_words::SESSION_WORDS;
 
@@ -106,7 +106,14 @@ pub fn sampled(
     }
 }
 
-// The call made so many times, the plan's number rising by one; the last answer. Where none is made, what is answered tells nothing.
+// What calls made one after the other leave: the last one's answer, none where none was made, and the session.
+#[derive(Clone, Copy)]
+pub struct Called {
+    pub outcome: Option<Result<ParamValue, Refusal>>,
+    pub session: Session,
+}
+
+// The call made so many times, the plan's number rising by one.
 pub fn repeated(
     session: Session,
     distribution: Distribution,
@@ -118,17 +125,18 @@ pub fn repeated(
     plans: &mut Numbers,
     next_dims: &mut NextDims,
     pool: &mut Pool,
-) -> Sampled
+) -> Called
     requires session_ok { SessionOk (state session candidates.old plans.old next_dims.old pool.old) }
     requires n_bound { n ≤ 4097 }
-    ensures { SessionOk (state result.session candidates.new plans.new next_dims.new pool.new) }
+    ensures usable { SessionOk (state result.session candidates.new plans.new next_dims.new pool.new) }
+    ensures made { is_none result.outcome ≡ eqb times 0 }
 {
-    let mut last = Sampled {
-        outcome: Err(Refusal::NotHeld),
+    let mut last = Called {
+        outcome: None,
         session,
     };
     for i in 0..times {
-        last = sampled(
+        let answer = sampled(
             last.session,
             distribution,
             std::num::wrapping_add_u64(plan, i),
@@ -139,6 +147,10 @@ pub fn repeated(
             next_dims,
             pool,
         );
+        last = Called {
+            outcome: Some(answer.outcome),
+            session: answer.session,
+        };
     }
     last
 }

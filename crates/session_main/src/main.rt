@@ -72,7 +72,9 @@ fn ask(
     let r = session_calls::repeated(
         session, d, plan, times, history, n, candidates, plans, next_dims, pool,
     );
-    tell_answer(rt, r.outcome);
+    if let Some(outcome) = r.outcome {
+        tell_answer(rt, outcome);
+    }
     tell_state(rt, r.session);
     r.session
 }
