@@ -12,17 +12,20 @@ ghost use Rattle.load_file.specs.Filed.{filed_exit};
 use load_numbers::Load;
 use model::{MAX_FILE, Refusal};
 
+// Counts that `choose` would turn down, or a file that is too long.
+const BAD_LOAD: Refusal = Refusal::Load;
+
 // The file of a load, which is made whole in `text` before a byte of it is handed out.
 fn hand_load(load: Load, text: &mut [u8], out: &mut [u8]) -> Result<usize, Refusal>
     requires { length text.old ≡ max_file }
     ensures { exit result out.new ≡ filed_exit (load_from load) out.old }
 {
     if load_checks::bad_counts(load) {
-        return Err(Refusal::Load);
+        return Err(BAD_LOAD);
     }
     let n = load_text::write_text(load, text);
     if MAX_FILE < n {
-        return Err(Refusal::Load);
+        return Err(BAD_LOAD);
     }
     pool_handing::hand_out(&text[..n], out)
 }
