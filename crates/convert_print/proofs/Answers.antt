@@ -12,6 +12,7 @@ use Rattle.model.specs.Lists.{over}
 use Rattle.model.specs.PoolFile.{refused_text, max_file}
 use Rattle.model.specs.Calls.{ChooseExit, choose_by, printed_by, refused_by, handed_out}
 use Rattle.model.specs.Convert.{converted_text, convert_refusal, convert_of, convert_printed, Twins, Converts}
+use Rattle.pool_laws.proofs.Lengths.{refused-short}
 use Rattle.convert_print.specs.Printing.{Prints}
 
 prints : (bytes out after : List ℕ) (r : ℕ) → r ≡ length (convert_printed bytes) → after ≡ over (convert_printed bytes) out
@@ -54,3 +55,7 @@ module _ (bytes out : List ℕ) (x : ChooseExit) (p : Converts bytes out x) wher
   pub refused : (n : Refusal) → x.answer ≡ Err n → (k : ℕ) → k ≡ number_of n → (after : List ℕ) (r : ℕ) → r ≡ length (refused_text k) → after ≡ over (refused_text k) x.out
       → Prints bytes out after r
   refused n h k e after r c a = refused-so n h after r (c ∙ ap (λ (j : ℕ). length (refused_text j)) e) (a ∙ ap (λ (j : ℕ). over (refused_text j) x.out) e)
+
+-- a refusal's text has room
+pub refusal-room : (n room : ℕ) → room ≡ max_file → n < 256 → length (refused_text n) ≤ room
+refusal-room n room full h = let s = refused-short n (omega arith) in omega arith

@@ -12,6 +12,7 @@ use Rattle.model.specs.Lists.{over}
 use Rattle.model.specs.PoolFile.{refused_text, max_file}
 use Rattle.model.specs.Calls.{ChooseExit, choose_by, printed_by, refused_by, handed_out}
 use Rattle.model.specs.Load.{Load, parse_load, text_of_load, load_refusal, load_of, load_printed, Holds, Loads}
+use Rattle.pool_laws.proofs.Lengths.{refused-short}
 use Rattle.load_print.specs.Printing.{Prints}
 
 prints : (bytes out after : List ℕ) (r : ℕ) → r ≡ length (load_printed bytes) → after ≡ over (load_printed bytes) out
@@ -60,3 +61,7 @@ module _ (bytes out : List ℕ) (x : ChooseExit) (p : Loads bytes out x) (full :
   pub refused : (n : Refusal) → x.answer ≡ Err n → (k : ℕ) → k ≡ number_of n → (after : List ℕ) (r : ℕ) → r ≡ length (refused_text k) → after ≡ over (refused_text k) x.out
       → Prints bytes out after r
   refused n h k e after r c a = refused-so n h after r (c ∙ ap (λ (j : ℕ). length (refused_text j)) e) (a ∙ ap (λ (j : ℕ). over (refused_text j) x.out) e)
+
+-- a refusal's text has room
+pub refusal-room : (n room : ℕ) → room ≡ max_file → n < 256 → length (refused_text n) ≤ room
+refusal-room n room full h = let s = refused-short n (omega arith) in omega arith

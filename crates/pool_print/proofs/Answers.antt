@@ -11,6 +11,7 @@ use Rattle.model.specs.Lists.{over}
 use Rattle.model.specs.PoolFile.{PoolFile, parse, refused_text}
 use Rattle.model.specs.Refusal.{number_of, choose_refusal}
 use Rattle.model.specs.Calls.{ChooseExit, text_of, choose_by, choose_of, printed_by, printed, max_text, Tells, Chooses, refused_by, handed_out}
+use Rattle.pool_laws.proofs.Lengths.{refused-short}
 use Rattle.pool_print.specs.Printing.{Prints}
 
 prints : (file out after : List ℕ) (r : ℕ) → r ≡ length (printed file) → after ≡ over (printed file) out
@@ -61,3 +62,7 @@ module _ (file out : List ℕ) (x : ChooseExit) (p : Chooses file out x) (full :
   pub refused : (n : Refusal) → x.answer ≡ Err n → (k : ℕ) → k ≡ number_of n → (after : List ℕ) (r : ℕ) → r ≡ length (refused_text k) → after ≡ over (refused_text k) x.out
       → Prints file out after r
   refused n h k e after r c a = refused-so n h after r (c ∙ ap (λ (j : ℕ). length (refused_text j)) e) (a ∙ ap (λ (j : ℕ). over (refused_text j) x.out) e)
+
+-- a refusal's text has room
+pub refusal-room : (n : ℕ) → n < 256 → length (refused_text n) ≤ max_text
+refusal-room n h = let s = refused-short n (omega arith) in omega arith
