@@ -2,9 +2,10 @@
 use Rattle.std.specs.Prelude.{Option, is_some}
 use Prim.Native.Nat.{ℕ, ◌+◌, ◌-◌, ◌≤◌}
 use mathlib.Core.Path.{◌≡◌, refl, sym, ap, ap₂, ◌∙◌}
-use mathlib.Core.Bool.{true≢false, false≢true, Bool, true, false, not}
+use mathlib.Core.Bool.{true≢false, false≢true, Bool, true, false, cond, not, ◌||◌}
 use mathlib.Core.List.{List, ◌++◌}
 use native.Mathlib.Omega.{arith}
+use borrow.Author.Tests.{eq-eqb, ne_eqb}
 use lib.Dec.{eqb}
 use lib.Ieee.{Float, lt}
 use lib.ListN.{length, get_or, take, drop, length-drop, length-append}
@@ -30,6 +31,14 @@ pub waiting_few : (e : Edition) (size : ℕ) → waiting_of e size ≤ size
 waiting_few First size = omega arith
 waiting_few Second size = omega arith
 
+-- ---- a value that counts, and one that does not
+
+pub least_taken : (t : Bool) (v x least : Float) → t ≡ true → x ≡ v → lt x least ≡ true → x ≡ least_by t v least
+least_taken t v x least e f h = f ∙ sym (ap (λ (b : Bool). least_by b v least) e ∙ ap (λ (b : Bool). cond b v least) (ap (λ (y : Float). lt y least) (sym f) ∙ h))
+
+pub least_kept : (t : Bool) (v x least : Float) → t ≡ true → x ≡ v → lt x least ≡ false → least ≡ least_by t v least
+least_kept t v x least e f h = sym (ap (λ (b : Bool). least_by b v least) e ∙ ap (λ (b : Bool). cond b v least) (ap (λ (y : Float). lt y least) (sym f) ∙ h))
+
 -- one plan more
 pub least_more : (b : Float) (f : ℕ → Float) (t : ℕ → Bool) (n : ℕ) (takes : Bool) (least r : Float) → takes ≡ t n → least ≡ least_from b f (keep_below t n)
     → r ≡ least_by takes (f n) least → r ≡ least_from b f (keep_below t (n + 1))
@@ -38,6 +47,18 @@ least_more b f t n takes least r e g h = by_bool (t n)
     (λ y. h ∙ ap (λ (c : Bool). least_by c (f n) least) (e ∙ y) ∙ g ∙ ap (least_from b f) (sym (keep_below_no t n y)))
 
 -- ---- lines
+
+pub no_line-here : (lines : List ℕ) (p : ℕ) → get_or lines p 0 ≡ without_line → has_line lines p ≡ false
+no_line-here lines p e = ap not (eq-eqb (get_or lines p 0) without_line e)
+
+pub line-here : (lines : List ℕ) (p : ℕ) → (get_or lines p 0 ≡ without_line → ⊥) → has_line lines p ≡ true
+line-here lines p e = ap not (ne_eqb (get_or lines p 0) without_line e)
+
+pub counts-not : (every : Bool) (line : ℕ) → every ≡ false → line ≡ without_line → false ≡ (every || not (eqb line without_line))
+counts-not every line e f = sym (ap (λ (b : Bool). b || not (eqb line without_line)) e ∙ ap not (eq-eqb line without_line f))
+
+pub counts_so : (every : Bool) (line : ℕ) → every ≡ false → (line ≡ without_line → ⊥) → true ≡ (every || not (eqb line without_line))
+counts_so every line e f = sym (ap (λ (b : Bool). b || not (eqb line without_line)) e ∙ ap not (ne_eqb line without_line f))
 
 -- that each of the first n lines is none says that none of n plans has one
 pub no_line-each : (lines : List ℕ) (n : ℕ) → n ≤ length lines → all_in (λ line. eqb line without_line) (take n lines) ≡ not (any_below (has_line lines) n)
