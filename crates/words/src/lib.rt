@@ -20,10 +20,11 @@ pub fn word_at(words: &[u64], i: usize) -> u64
 }
 
 // Words put into a slice from a place on.
-#[tactic(auto, using(crate::proofs::Copied::copied_part))]
 pub fn put(block: &[u64], at: usize, words: &mut [u64])
     requires { at + length block.now ≤ length words.old }
     ensures { words.new ≡ sets words.old at block.now }
 {
-    words[at..at + block.len()].copy_from_slice(block);
+    for j in 0..block.len() {
+        words[at + j] = block[j];
+    }
 }
