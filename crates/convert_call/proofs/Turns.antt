@@ -1,9 +1,9 @@
 -- From what a turned file tells to the promise of `convert`.
-use Prim.Native.Nat.{ℕ, ◌≤◌, ◌<◌}
-use mathlib.Core.Path.{◌≡◌, refl, ap, ap₂, sym, subst, ◌∙◌}
+use Prim.Native.Nat.{ℕ, ◌≤◌}
+use mathlib.Core.Path.{◌≡◌, ap, sym, subst, ◌∙◌}
 use mathlib.Core.Bool.{true, false}
 use mathlib.Core.List.{List}
-use Rattle.std.specs.Prelude.{Option, None, Some, Result, Ok, Err}
+use Rattle.std.specs.Prelude.{Option, Result, Ok, Err}
 use native.Mathlib.Omega.{arith}
 use borrow.Author.Tests.{le-ltb}
 use lib.ListN.{length, take}
@@ -11,7 +11,6 @@ use Rattle.model.specs.declared.Refusal.{Refusal}
 use Rattle.model.specs.PoolFile.{rows, file_by, max_file, parse_by, second_file, opens_second}
 use Rattle.model.specs.Calls.{ChooseExit, choose_by}
 use Rattle.model.specs.Convert.{forwards_text, forwards_refusal, backwards_text, backwards_refusal, converted_text, convert_refusal, convert_of, Converts}
-use Rattle.pool_form.specs.Form.{Whole}
 use Rattle.pool_laws.specs.Choice.{exit, text_exit}
 use Rattle.convert_file.specs.Files.{TurnedIs}
 use Rattle.convert_laws.proofs.Converts.{converts}

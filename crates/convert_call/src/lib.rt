@@ -12,6 +12,7 @@ use convert_file::{turn_back, turn_on};
 use model::{MAX_FILE, Refusal};
 
 // A file turned back where it opens as the second edition, and else forwards.
+#[tactic(auto, using(crate::proofs::Turns::opens_back, crate::proofs::Turns::opens_on))]
 fn turn(file: &[u8], text: &mut [u8]) -> Result<usize, Refusal>
     requires { length text.old ≡ max_file }
     ensures { TurnedIs (convert_refusal file.now) (converted_text file.now) text.new result }
